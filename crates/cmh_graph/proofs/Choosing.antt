@@ -1,0 +1,231 @@
+-- The chosen path.
+use Rattle.std.proofs.Common.{◌≡◌, ℕ, zero, suc, ◌<◌, ◌≤◌, ◌+◌, Bool, true, false, cond, ◌⊎◌, inl, inr, List, [], ◌∷◌, map, length, get_or, refl, sym, ◌∙◌, ap, subst, arith}
+use Rattle.std.specs.Prelude.{Contains, flat_map, find, fold, Some, None, Option, is_some, unwrap_or, option_and_then}
+use Rattle.std.specs.List.{reduce, range_with_len}
+use Rattle.std.specs.Ordering.{nat_cmp, is_lt}
+use Rattle.std.specs.Cmp.Lexicographic.{slice_cmp}
+use Rattle.std.proofs.lemmas.List.Elements.{Contains-append_left, Contains-append_right, Contains-append_cases}
+use Rattle.std.proofs.lemmas.List.MinMax.{IsFirstBest-from_best_of, ranks_by}
+use Rattle.std.proofs.lemmas.Cmp.{nat_list_cmp_total}
+use Rattle.cmh_graph.specs.ChosenPath.{distance_of, chosen_path, lesser, IsChosenPath, ChosenPathLaw, NoPathLaw}
+use Rattle.cmh_graph.specs.Graph.{IsWithinGraph, Graph, process_count, is_awake, dependencies_of, indices}
+use Rattle.cmh_graph.specs.Path.{Leads, IsPath, Reaches, paths_to, is_nonempty}
+use native.Mathlib.Decide.{dec_lt}
+use Rattle.std.proofs.lemmas.List.{get_or_default}
+use Rattle.std.specs.FinMap.{slice_cmp-IsAntisymmetric, nat_cmp-IsAntisymmetric}
+use Rattle.std.specs.declared.cmp.Ordering.{Ordering}
+use Rattle.std.specs.declared.cmp.Ordering.TheVariants.{Less, Equal, Greater}
+use Rattle.std.specs.Ordering.{ordering_reverse}
+use Rattle.cmh_graph.proofs.Reaching.{Simple, simple, length_apart, within, listed, contains_index, is_some_find, cons_contains, contains_cons, depends, dependency}
+
+-- ---- what is listed
+
+flat_map_contains : (f : ℕ → List (List ℕ)) (xs : List ℕ) (r : ℕ) (path : List ℕ) → Contains xs r → Contains (f r) path → Contains (flat_map f xs) path
+flat_map_contains f [] r path c d = absurd (omega (arith, c.1))
+flat_map_contains f (x ∷ xs) r path c d =
+    elim (cons_contains x xs r c) [
+      | inl e ↦ Contains-append_left (f x) (flat_map f xs) path (subst (λ y. Contains (f y) path) (sym e) d)
+      | inr k ↦ Contains-append_right (f x) (flat_map f xs) path (flat_map_contains f xs r path k d)
+    ]
+
+contains_flat_map : (f : ℕ → List (List ℕ)) (xs : List ℕ) (path : List ℕ) → Contains (flat_map f xs) path → (r : ℕ) × Contains xs r × Contains (f r) path
+contains_flat_map f [] path c = absurd (omega (arith, c.1))
+contains_flat_map f (x ∷ xs) path c =
+    elim (Contains-append_cases (f x) (flat_map f xs) path c) [
+      | inl d ↦ (x, (zero, omega arith, refl), d)
+      | inr d ↦ let w = contains_flat_map f xs path d in (w.0, contains_cons x xs w.0 w.1, w.2)
+    ]
+
+map_contains : (p : ℕ) (xss : List (List ℕ)) (xs : List ℕ) → Contains xss xs → Contains (map (λ path. p ∷ path) xss) (p ∷ xs)
+map_contains p [] xs c = absurd (omega (arith, c.1))
+map_contains p (ys ∷ yss) xs c =
+    elim (cons_contains ys yss xs c) [
+      | inl e ↦ (zero, omega arith, ap (λ z. p ∷ z) e)
+      | inr d ↦ contains_cons (p ∷ ys) (map (λ path. p ∷ path) yss) (p ∷ xs) (map_contains p yss xs d)
+    ]
+
+contains_map : (p : ℕ) (xss : List (List ℕ)) (path : List ℕ) → Contains (map (λ path. p ∷ path) xss) path → (xs : List ℕ) × Contains xss xs × (p ∷ xs ≡ path)
+contains_map p [] path c = absurd (omega (arith, c.1))
+contains_map p (ys ∷ yss) path c =
+    elim (cons_contains (p ∷ ys) (map (λ path. p ∷ path) yss) path c) [
+      | inl e ↦ (ys, (zero, omega arith, refl), e)
+      | inr d ↦ let w = contains_map p yss path d in (w.0, contains_cons ys yss w.0 w.1, w.2)
+    ]
+
+-- a path of n dependencies from p to a process that passes the test
+pub record IsListed (g : Graph) (test : ℕ → Bool) (n p : ℕ) (path : List ℕ) : Type 0 where
+  pub rest : List ℕ
+  pub goal : ℕ
+  pub is : p ∷ rest ≡ path
+  pub size : length rest ≡ n
+  pub leads : Leads g p rest goal
+  pub passes : test goal ≡ true
+
+start_by : (g : Graph) (test : ℕ → Bool) (p : ℕ) (path : List ℕ) (b : Bool) → test p ≡ b → Contains (cond b ((p ∷ []) ∷ []) []) path → IsListed g test 0 p path
+start_by g test p path true e c =
+    elim (cons_contains (p ∷ []) [] path c) [
+      | inl s ↦ record { rest = []; goal = p; is = s; size = refl; leads = refl; passes = e }
+      | inr d ↦ absurd (omega (arith, d.1))
+    ]
+start_by g test p path false e c = absurd (omega (arith, c.1))
+
+listed_is : (g : Graph) (test : ℕ → Bool) (n p : ℕ) (path : List ℕ) → Contains (paths_to g test n p) path → IsListed g test n p path
+listed_is g test zero p path c = start_by g test p path (test p) refl c
+listed_is g test (suc n) p path c =
+    let w = contains_flat_map (λ r. map (λ path. p ∷ path) (paths_to g test n r)) (dependencies_of g p) path c in
+    let v = contains_map p (paths_to g test n w.0) path w.2 in
+    let l = listed_is g test n w.0 v.0 v.1 in
+    record { rest = w.0 ∷ l.rest; goal = l.goal; is = ap (λ z. p ∷ z) l.is ∙ v.2; size = ap suc l.size; leads = (depends g p w.0 w.1, l.leads); passes = l.passes }
+
+start_listed : (p : ℕ) (b : Bool) → b ≡ true → Contains (cond b ((p ∷ []) ∷ []) []) (p ∷ [])
+start_listed p true e = (zero, omega arith, refl)
+start_listed p false e = absurd cc
+
+is_listed : (g : Graph) (test : ℕ → Bool) (p : ℕ) (rest : List ℕ) (q : ℕ) → Leads g p rest q → test q ≡ true → Contains (paths_to g test (length rest) p) (p ∷ rest)
+is_listed g test p [] q l t = start_listed p (test p) (ap test l ∙ t)
+is_listed g test p (r ∷ rest) q l t =
+    flat_map_contains (λ r. map (λ path. p ∷ path) (paths_to g test (length rest) r)) (dependencies_of g p) r (p ∷ r ∷ rest) (dependency g p r l.0)
+    (map_contains p (paths_to g test (length rest) r) (r ∷ rest) (is_listed g test r rest q l.1 t))
+
+-- ---- the first number that passes
+
+at_or_past : (a m : ℕ) → a ≤ m → (a ≡ m) ⊎ (a + 1 ≤ m)
+at_or_past a m l = elim (dec_lt a m) [ yes h ↦ inr (omega (arith, h)) | no h ↦ inl (omega (arith, h, l)) ]
+
+first_by : (t : ℕ → Bool) (a k n : ℕ) (b : Bool) → t a ≡ b → (find t (range_with_len (a + 1) k) ≡ Some n → (t n ≡ true) × ((m : ℕ) → a + 1 ≤ m → m < n → t m ≡ false)) → cond b (Some a) (find t (range_with_len (a + 1) k)) ≡ Some n → (t n ≡ true) × ((m : ℕ) → a ≤ m → m < n → t m ≡ false)
+first_by t a k n true e h s =
+    let same : a ≡ n = ap (λ o. unwrap_or o 0) s in
+    (subst (λ z. t z ≡ true) same e, λ m l u. absurd (omega (arith, same, l, u)))
+first_by t a k n false e h s =
+    let w = h s in
+    (w.0, λ m l u. elim (at_or_past a m l) [ inl same ↦ subst (λ z. t z ≡ false) same e | inr more ↦ w.1 m more u ])
+
+first : (t : ℕ → Bool) (a k n : ℕ) → find t (range_with_len a k) ≡ Some n → (t n ≡ true) × ((m : ℕ) → a ≤ m → m < n → t m ≡ false)
+first t a zero n e = absurd cc
+first t a (suc k) n e = first_by t a k n (t a) refl (λ s. first t (a + 1) k n s) e
+
+-- ---- the least list
+
+least : (x : List ℕ) (xs : List (List ℕ)) → Contains (x ∷ xs) (fold lesser x xs) × ((y : List ℕ) → Contains (x ∷ xs) y → is_lt (slice_cmp nat_cmp y (fold lesser x xs)) ≡ false)
+least x xs =
+    let w = IsFirstBest-from_best_of (ranks_by nat_list_cmp_total (λ (z : List ℕ). z)) x xs in
+    let at : get_or (x ∷ xs) w.0 x ≡ fold lesser x xs = w.2 in (
+      (w.0, w.1.0, get_or_default (x ∷ xs) w.0 (fold lesser x xs) x w.1.0 ∙ at),
+      λ y c. subst (λ z. is_lt (slice_cmp nat_cmp y z) ≡ false) at
+          (subst (λ z. is_lt (slice_cmp nat_cmp z (get_or (x ∷ xs) w.0 x)) ≡ false) (get_or_default (x ∷ xs) c.0 x y c.1 ∙ c.2) (w.1.1 c.0 x c.1)),
+    )
+
+contains_nonempty : (xss : List (List ℕ)) (xs : List ℕ) → Contains xss xs → is_nonempty xss ≡ true
+contains_nonempty [] xs c = absurd (omega (arith, c.1))
+contains_nonempty (x ∷ xss) xs c = refl
+
+least_of : (xss : List (List ℕ)) (path : List ℕ) → reduce lesser xss ≡ Some path → Contains xss path × ((y : List ℕ) → Contains xss y → is_lt (slice_cmp nat_cmp y path) ≡ false)
+least_of [] path e = absurd cc
+least_of (x ∷ xs) path e =
+    let same : fold lesser x xs ≡ path = ap (λ o. unwrap_or o path) e in
+    subst (λ z. Contains (x ∷ xs) z × ((y : List ℕ) → Contains (x ∷ xs) y → is_lt (slice_cmp nat_cmp y z) ≡ false)) same (least x xs)
+
+-- ---- the law
+
+length_is : (g : Graph) (p n : ℕ) (path : List ℕ) (l : IsListed g (is_awake g) n p path) → length path ≡ suc n
+length_is g p n path l = ap length (sym l.is) ∙ ap suc l.size
+
+chosen_at : (g : Graph) (p n : ℕ) (path : List ℕ) → distance_of g p ≡ Some n → reduce lesser (paths_to g (is_awake g) n p) ≡ Some path → IsChosenPath g p path
+unfolding distance_of
+chosen_at g p n path e r =
+    let f = first (λ m. is_nonempty (paths_to g (is_awake g) m p)) 0 (process_count g) n e in
+    let m = least_of (paths_to g (is_awake g) n p) path r in
+    let l = listed_is g (is_awake g) n p path m.0 in
+    let size = length_is g p n path l in
+    record {
+      awake = (l.goal, l.passes, subst (λ z. IsPath g p l.goal z) l.is (refl, l.leads));
+      shortest = λ other o. not_shorter g p n path other o.0 f.1 size o.1 o.2;
+      least = λ other o same. m.1 other (at_same g p n path other o.0 size o.1 o.2 same);
+    }
+  where
+    not_shorter : (g : Graph) (p n : ℕ) (path other : List ℕ) (q : ℕ) → ((m : ℕ) → 0 ≤ m → m < n → is_nonempty (paths_to g (is_awake g) m p) ≡ false) → length path ≡ suc n → is_awake g q ≡ true → IsPath g p q other → length path ≤ length other
+    not_shorter g p n path [] q f size a w = absurd w
+    not_shorter g p n path (x ∷ rest) q f size a w =
+        elim (dec_lt (length rest) n) [
+          | yes h ↦ let z : true ≡ false = sym (listed g (is_awake g) p rest q w.1 a) ∙ f (length rest) (omega arith) h in absurd cc
+          | no h ↦ omega (arith, h, size)
+        ]
+
+    at_same : (g : Graph) (p n : ℕ) (path other : List ℕ) (q : ℕ) → length path ≡ suc n → is_awake g q ≡ true → IsPath g p q other → length other ≡ length path → Contains (paths_to g (is_awake g) n p) other
+    at_same g p n path [] q size a w same = absurd w
+    at_same g p n path (x ∷ rest) q size a w same =
+        let is : length rest ≡ n = omega (arith, same, size) in
+        subst (λ m. Contains (paths_to g (is_awake g) m p) (x ∷ rest)) is
+        (subst (λ y. Contains (paths_to g (is_awake g) (length rest) p) (y ∷ rest)) (sym w.0) (is_listed g (is_awake g) p rest q w.1 a))
+
+chosen_by : (g : Graph) (p : ℕ) (path : List ℕ) (o : Option ℕ) → distance_of g p ≡ o → option_and_then (λ n. reduce lesser (paths_to g (is_awake g) n p)) o ≡ Some path → IsChosenPath g p path
+chosen_by g p path (Some n) e r = chosen_at g p n path e r
+chosen_by g p path None e r = absurd cc
+
+chosen_is : (g : Graph) (p : ℕ) (path : List ℕ) → chosen_path g p ≡ Some path → IsChosenPath g p path
+unfolding chosen_path
+chosen_is g p path e = chosen_by g p path (distance_of g p) refl e
+
+-- ---- and it is there
+
+reduce_some : (xss : List (List ℕ)) → is_nonempty xss ≡ true → (path : List ℕ) × (reduce lesser xss ≡ Some path)
+reduce_some [] e = absurd cc
+reduce_some (x ∷ xs) e = (fold lesser x xs, refl)
+
+some_chosen_by : (g : Graph) (p : ℕ) (o : Option ℕ) → distance_of g p ≡ o → is_some o ≡ true → (path : List ℕ) × (option_and_then (λ n. reduce lesser (paths_to g (is_awake g) n p)) o ≡ Some path)
+unfolding distance_of
+some_chosen_by g p (Some n) e s = reduce_some (paths_to g (is_awake g) n p) (first (λ m. is_nonempty (paths_to g (is_awake g) m p)) 0 (process_count g) n e).0
+some_chosen_by g p None e s = absurd cc
+
+has_distance : (g : Graph) → IsWithinGraph g → (p q : ℕ) → p < process_count g → (rest : List ℕ) → Leads g p rest q → is_awake g q ≡ true → is_some (distance_of g p) ≡ true
+unfolding distance_of Simple
+has_distance g w p q i rest l a =
+    let s = simple g p rest q l in
+    let short : length (p ∷ s.0) ≤ process_count g = length_apart (process_count g) (p ∷ s.0) (within g w p s.0 q i s.1) s.2 in
+    is_some_find (λ n. is_nonempty (paths_to g (is_awake g) n p)) (indices g) (length s.0)
+    (contains_index (process_count g) (length s.0) (omega (arith, short)))
+    (listed g (is_awake g) p s.0 q s.1 a)
+
+some_chosen : (g : Graph) → IsWithinGraph g → (p q : ℕ) (path : List ℕ) → p < process_count g → is_awake g q ≡ true → IsPath g p q path → (other : List ℕ) × (chosen_path g p ≡ Some other)
+unfolding chosen_path
+some_chosen g w p q [] i a h = absurd h
+some_chosen g w p q (x ∷ rest) i a h = some_chosen_by g p (distance_of g p) refl (has_distance g w p q i rest h.1 a)
+
+neither_less : (o r : Ordering) → o ≡ ordering_reverse r → is_lt o ≡ false → is_lt r ≡ false → o ≡ Equal
+neither_less Less r e a b = absurd cc
+neither_less Equal r e a b = refl
+neither_less Greater Less e a b = absurd cc
+neither_less Greater Equal e a b = cc
+neither_less Greater Greater e a b = cc
+
+one_chosen : (g : Graph) (p : ℕ) (path other : List ℕ) → IsChosenPath g p path → IsChosenPath g p other → path ≡ other
+one_chosen g p path other c d =
+    let one = c.shortest other d.awake in
+    let two = d.shortest path c.awake in
+    let same : length path ≡ length other = omega (arith, one, two) in
+    slice_cmp-IsAntisymmetric nat_cmp-IsAntisymmetric path other
+    (neither_less (slice_cmp nat_cmp path other) (slice_cmp nat_cmp other path) (nat_list_cmp_total.antisymm path other)
+    (d.least path c.awake same)
+    (c.least other d.awake (sym same)))
+
+is_chosen : (g : Graph) (p : ℕ) (path : List ℕ) → IsWithinGraph g → p < process_count g → IsChosenPath g p path → chosen_path g p ≡ Some path
+is_chosen g p path w i c =
+    let s = some_chosen g w p c.awake.0 path i c.awake.1 c.awake.2 in
+    s.1 ∙ ap (λ z. Some z) (one_chosen g p s.0 path (chosen_is g p s.0 s.1) c)
+
+pub chosen_path_law : ChosenPathLaw
+chosen_path_law = λ g p path w i. (λ e. chosen_is g p path e, λ c. is_chosen g p path w i c)
+
+none_then : (g : Graph) (p q : ℕ) → IsWithinGraph g → p < process_count g → chosen_path g p ≡ None → Reaches g p q → (b : Bool) → is_awake g q ≡ b → b ≡ false
+none_then g p q w i e r true a = let z = some_chosen g w p q r.0 i a r.1 in let bad : None ≡ Some z.0 = sym e ∙ z.1 in absurd cc
+none_then g p q w i e r false a = refl
+
+then_none : (g : Graph) (p : ℕ) (o : Option (List ℕ)) → chosen_path g p ≡ o → ((q : ℕ) → Reaches g p q → is_awake g q ≡ false) → o ≡ None
+then_none g p None e h = refl
+then_none g p (Some path) e h =
+    let c = chosen_is g p path e in
+    let bad : true ≡ false = sym c.awake.1 ∙ h c.awake.0 (path, c.awake.2) in
+    absurd cc
+
+pub no_path_law : NoPathLaw
+no_path_law = λ g p w i. (λ e q r. none_then g p q w i e r (is_awake g q) refl, λ h. then_none g p (chosen_path g p) refl h)

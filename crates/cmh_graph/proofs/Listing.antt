@@ -1,0 +1,36 @@
+-- Lists of indices that grow by one.
+use Rattle.std.proofs.Common.{◌≡◌, ℕ, ◌+◌, ◌<◌, Bool, true, false, cond, List, [], ◌∷◌, ◌++◌, map, length, get_or, refl, sym, ◌∙◌, ap, append-nil, arith}
+use Rattle.std.specs.Prelude.{filter}
+use Rattle.std.specs.List.{range_with_len}
+use Rattle.std.proofs.lemmas.List.Elements.{filter-append}
+use Rattle.std.proofs.lemmas.List.{length-map}
+use Rattle.std.proofs.lemmas.List.FromFn.{map-range_with_len_more, length-range_with_len, get_or-map-range_with_len}
+use Rattle.cmh_graph.specs.Graph.{Graph, process_count, indices}
+
+map_same : (xs : List ℕ) → map (λ x. x) xs ≡ xs
+map_same [] = refl
+map_same (x ∷ xs) = λ i. x ∷ map_same xs i
+
+indices_more : (n : ℕ) → range_with_len 0 (n + 1) ≡ range_with_len 0 n ++ n ∷ []
+indices_more n =
+    sym (map_same (range_with_len 0 (n + 1)))
+    ∙ map-range_with_len_more (λ x. x) 0 n n (omega arith)
+    ∙ ap (λ xs. xs ++ n ∷ []) (map_same (range_with_len 0 n))
+
+pub filter_indices_more : (p : ℕ → Bool) (n : ℕ) → filter p (range_with_len 0 (n + 1)) ≡ filter p (range_with_len 0 n) ++ cond (p n) (n ∷ []) []
+filter_indices_more p n = rw (indices_more n) (filter-append p (range_with_len 0 n) (n ∷ []))
+
+pub filter_indices_kept : (p : ℕ → Bool) (n : ℕ) → p n ≡ true → filter p (range_with_len 0 (n + 1)) ≡ filter p (range_with_len 0 n) ++ n ∷ []
+filter_indices_kept p n e = rw (filter_indices_more p n, e) refl
+
+pub filter_indices_passed : (p : ℕ → Bool) (n : ℕ) → p n ≡ false → filter p (range_with_len 0 (n + 1)) ≡ filter p (range_with_len 0 n)
+filter_indices_passed p n e = rw (filter_indices_more p n, e) (append-nil (filter p (range_with_len 0 n)))
+
+-- ---- a list made by index
+
+pub length-by_index : {X : Type 0} (g : Graph) (f : ℕ → X) → length (map f (indices g)) ≡ process_count g
+length-by_index g f = length-map (indices g) f ∙ length-range_with_len 0 (process_count g)
+
+-- what a list made by index has at a place
+pub by_index : {X : Type 0} (g : Graph) (f : ℕ → X) (xs : List X) (p : ℕ) (d : X) → xs ≡ map f (indices g) → p < process_count g → get_or xs p d ≡ f p
+by_index g f xs p d e l = ap (λ ys. get_or ys p d) e ∙ get_or-map-range_with_len f 0 (process_count g) p p d l (omega arith)

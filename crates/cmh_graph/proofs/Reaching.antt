@@ -1,0 +1,267 @@
+-- What the tests of paths say.
+use Rattle.std.proofs.Common.{get_or, ◌≡◌, ℕ, zero, suc, ◌<◌, ◌≤◌, Bool, true, false, cond, ◌||◌, ◌⊎◌, inl, inr, List, [], ◌∷◌, ◌++◌, map, length, refl, sym, ◌∙◌, ap, subst, arith, eqb, eqb-true, eq-eqb}
+use Rattle.std.proofs.lemmas.Bool.{eqb-false}
+use Rattle.std.specs.Prelude.{Contains, flat_map, find, is_some, Some, Option, ⊤}
+use Rattle.std.specs.List.{list_any, range_with_len}
+use Rattle.std.proofs.lemmas.List.FromFn.{length-range_with_len, get_or-range_with_len}
+use Rattle.std.proofs.lemmas.List.{get_or_default}
+use Rattle.cmh_graph.specs.Graph.{IsWithinGraph, Graph, process_count, dependents_of, dependencies_of, is_idle, Depends, indices}
+use Rattle.cmh_graph.specs.Path.{Leads, Reaches, paths_to, is_nonempty, reaches, ReachLaw}
+
+-- ---- lists
+
+pub cons_contains : {X : Type 0} (x : X) (xs : List X) (y : X) → Contains (x ∷ xs) y → (x ≡ y) ⊎ Contains xs y
+cons_contains x xs y (zero, l, e) = inl e
+cons_contains x xs y (suc k, l, e) = inr (k, omega arith, e)
+
+pub contains_cons : {X : Type 0} (x : X) (xs : List X) (y : X) → Contains xs y → Contains (x ∷ xs) y
+contains_cons x xs y (k, l, e) = (suc k, omega arith, e)
+
+nonempty_append : (xs ys : List (List ℕ)) → is_nonempty (xs ++ ys) ≡ true → (is_nonempty xs ≡ true) ⊎ (is_nonempty ys ≡ true)
+nonempty_append [] ys e = inr e
+nonempty_append (x ∷ xs) ys e = inl refl
+
+append_nonempty_left : (xs ys : List (List ℕ)) → is_nonempty xs ≡ true → is_nonempty (xs ++ ys) ≡ true
+append_nonempty_left [] ys e = cc
+append_nonempty_left (x ∷ xs) ys e = refl
+
+append_nonempty_right : (xs ys : List (List ℕ)) → is_nonempty ys ≡ true → is_nonempty (xs ++ ys) ≡ true
+append_nonempty_right [] ys e = e
+append_nonempty_right (x ∷ xs) ys e = refl
+
+nonempty_map : (f : List ℕ → List ℕ) (xs : List (List ℕ)) → is_nonempty (map f xs) ≡ true → is_nonempty xs ≡ true
+nonempty_map f [] e = e
+nonempty_map f (x ∷ xs) e = refl
+
+map_nonempty : (f : List ℕ → List ℕ) (xs : List (List ℕ)) → is_nonempty xs ≡ true → is_nonempty (map f xs) ≡ true
+map_nonempty f [] e = e
+map_nonempty f (x ∷ xs) e = refl
+
+nonempty_flat_map : (f : ℕ → List (List ℕ)) (xs : List ℕ) → is_nonempty (flat_map f xs) ≡ true → (r : ℕ) × Contains xs r × (is_nonempty (f r) ≡ true)
+nonempty_flat_map f [] e = cc
+nonempty_flat_map f (x ∷ xs) e =
+    elim (nonempty_append (f x) (flat_map f xs) e) [
+      | inl h ↦ (x, (zero, omega arith, refl), h)
+      | inr h ↦ let w = nonempty_flat_map f xs h in (w.0, contains_cons x xs w.0 w.1, w.2)
+    ]
+
+flat_map_nonempty : (f : ℕ → List (List ℕ)) (xs : List ℕ) (r : ℕ) → Contains xs r → is_nonempty (f r) ≡ true → is_nonempty (flat_map f xs) ≡ true
+flat_map_nonempty f [] r (k, l, e) h = absurd (omega arith)
+flat_map_nonempty f (x ∷ xs) r c h =
+    elim (cons_contains x xs r c) [
+      | inl e ↦ append_nonempty_left (f x) (flat_map f xs) (subst (λ y. is_nonempty (f y) ≡ true) (sym e) h)
+      | inr d ↦ append_nonempty_right (f x) (flat_map f xs) (flat_map_nonempty f xs r d h)
+    ]
+
+-- ---- dependencies
+
+depends_by : (g : Graph) (p r : ℕ) (b : Bool) → is_idle g p ≡ b → Contains (cond b (dependents_of g p) []) r → Depends g p r
+depends_by g p r true e c = (e, c)
+depends_by g p r false e (k, l, c) = absurd (omega arith)
+
+pub depends : (g : Graph) (p r : ℕ) → Contains (dependencies_of g p) r → Depends g p r
+depends g p r c = depends_by g p r (is_idle g p) refl c
+
+dependencies_by : (xs : List ℕ) (r : ℕ) (b : Bool) → b ≡ true → Contains xs r → Contains (cond b xs []) r
+dependencies_by xs r true e c = c
+dependencies_by xs r false e c = cc
+
+pub dependency : (g : Graph) (p r : ℕ) → Depends g p r → Contains (dependencies_of g p) r
+dependency g p r d = dependencies_by (dependents_of g p) r (is_idle g p) d.0 d.1
+
+-- ---- listed paths are paths
+
+unfoldable pub Walk : Graph → (ℕ → Bool) → ℕ → Type 0
+Walk g test p = (q : ℕ) × (test q ≡ true) × (rest : List ℕ) × Leads g p rest q
+
+start_by : (test : ℕ → Bool) (p : ℕ) (b : Bool) → is_nonempty (cond b ((p ∷ []) ∷ []) []) ≡ true → b ≡ true
+start_by test p true e = refl
+start_by test p false e = e
+
+pub walk : (g : Graph) (test : ℕ → Bool) (n p : ℕ) → is_nonempty (paths_to g test n p) ≡ true → Walk g test p
+unfolding Walk
+walk g test zero p e = (p, start_by test p (test p) e, [], refl)
+walk g test (suc n) p e =
+    let w = nonempty_flat_map (λ r. map (λ path. p ∷ path) (paths_to g test n r)) (dependencies_of g p) e in
+    let v = walk g test n w.0 (nonempty_map (λ path. p ∷ path) (paths_to g test n w.0) w.2) in
+    (v.0, v.1, w.0 ∷ v.2, (depends g p w.0 w.1, v.3))
+
+start_nonempty : (p : ℕ) (b : Bool) → b ≡ true → is_nonempty (cond b ((p ∷ []) ∷ []) []) ≡ true
+start_nonempty p true e = refl
+start_nonempty p false e = e
+
+-- ---- paths are listed
+
+pub listed : (g : Graph) (test : ℕ → Bool) (p : ℕ) (rest : List ℕ) (q : ℕ) → Leads g p rest q → test q ≡ true → is_nonempty (paths_to g test (length rest) p) ≡ true
+listed g test p [] q e t = start_nonempty p (test p) (ap test e ∙ t)
+listed g test p (r ∷ rest) q l t =
+    flat_map_nonempty (λ r. map (λ path. p ∷ path) (paths_to g test (length rest) r)) (dependencies_of g p) r (dependency g p r l.0)
+    (map_nonempty (λ path. p ∷ path) (paths_to g test (length rest) r) (listed g test r rest q l.1 t))
+
+-- ---- a path without repeats
+
+has : ℕ → List ℕ → Bool
+has x xs = list_any (λ y. eqb x y) xs
+
+abbrev pub Apart : List ℕ → Type 0
+Apart [] = ⊤
+Apart (x ∷ xs) = (list_any (λ y. eqb x y) xs ≡ false) × Apart xs
+
+unfoldable pub Simple : Graph → ℕ → ℕ → Type 0
+Simple g p q = (rest : List ℕ) × Leads g p rest q × Apart (p ∷ rest)
+
+suffix : (g : Graph) (p r : ℕ) (rest : List ℕ) (q : ℕ) → Leads g r rest q → Apart (r ∷ rest) → (b : Bool) → eqb p r ≡ b → list_any (λ y. eqb p y) (r ∷ rest) ≡ true → Simple g p q
+unfolding Simple
+suffix g p r rest q l a true e h =
+    let same : p ≡ r = eqb-true p r e in
+    subst (λ x. (rest' : List ℕ) × Leads g x rest' q × Apart (x ∷ rest')) (sym same) (rest, l, a)
+suffix g p r [] q l a false e h = let z : false ≡ true = rw e at h in cc
+suffix g p r (s ∷ rest) q l a false e h =
+    let z : list_any (λ y. eqb p y) (s ∷ rest) ≡ true = rw e at h in
+    suffix g p s rest q l.1 a.1 (eqb p s) refl z
+
+simple_by : (g : Graph) (p r : ℕ) (rest : List ℕ) (q : ℕ) → Depends g p r → Leads g r rest q → Apart (r ∷ rest) → (b : Bool) → list_any (λ y. eqb p y) (r ∷ rest) ≡ b → Simple g p q
+unfolding Simple
+simple_by g p r rest q d l a true h = unfold Simple in suffix g p r rest q l a (eqb p r) refl h
+simple_by g p r rest q d l a false h = (r ∷ rest, (d, l), (h, a))
+
+pub simple : (g : Graph) (p : ℕ) (rest : List ℕ) (q : ℕ) → Leads g p rest q → Simple g p q
+unfolding Simple
+simple g p [] q e = ([], e, (refl, tt))
+simple g p (r ∷ rest) q l =
+    let s = simple g r rest q l.1 in
+    simple_by g p r s.0 q l.0 s.1 s.2 (list_any (λ y. eqb p y) (r ∷ s.0)) refl
+
+-- ---- a list without repeats of numbers below n is no longer than n
+
+abbrev pub AllBelow : ℕ → List ℕ → Type 0
+AllBelow n [] = ⊤
+AllBelow n (x ∷ xs) = (x < n) × AllBelow n xs
+
+without : ℕ → List ℕ → List ℕ
+without m [] = []
+without m (x ∷ xs) = cond (eqb m x) xs (x ∷ without m xs)
+
+length_without_by : (m x : ℕ) (xs ys : List ℕ) (b : Bool) → length xs ≤ suc (length ys) → length (x ∷ xs) ≤ suc (length (cond b xs (x ∷ ys)))
+length_without_by m x xs ys true h = omega arith
+length_without_by m x xs ys false h = omega arith
+
+length_without : (m : ℕ) (xs : List ℕ) → length xs ≤ suc (length (without m xs))
+unfolding without
+length_without m [] = omega arith
+length_without m (x ∷ xs) = length_without_by m x xs (without m xs) (eqb m x) (length_without m xs)
+
+or_false : (a b : Bool) → (a || b) ≡ false → (a ≡ false) × (b ≡ false)
+or_false true b e = absurd cc
+or_false false b e = (refl, e)
+
+any_without_by : (t : ℕ → Bool) (x : ℕ) (xs ys : List ℕ) (b : Bool) → t x ≡ false → list_any t xs ≡ false → list_any t ys ≡ false → list_any t (cond b xs (x ∷ ys)) ≡ false
+any_without_by t x xs ys true e f h = f
+any_without_by t x xs ys false e f h = rw (e, h) refl
+
+any_without : (t : ℕ → Bool) (m : ℕ) (xs : List ℕ) → list_any t xs ≡ false → list_any t (without m xs) ≡ false
+unfolding without
+any_without t m [] e = refl
+any_without t m (x ∷ xs) e =
+    let both = or_false (t x) (list_any t xs) e in
+    any_without_by t x xs (without m xs) (eqb m x) both.0 both.1 (any_without t m xs both.1)
+
+apart_without_by : (x : ℕ) (xs ys : List ℕ) (b : Bool) → Apart xs → list_any (λ y. eqb x y) ys ≡ false → Apart ys → Apart (cond b xs (x ∷ ys))
+apart_without_by x xs ys true a e h = a
+apart_without_by x xs ys false a e h = (e, h)
+
+apart_without : (m : ℕ) (xs : List ℕ) → Apart xs → Apart (without m xs)
+unfolding without
+apart_without m [] a = tt
+apart_without m (x ∷ xs) a =
+    apart_without_by x xs (without m xs) (eqb m x) a.1 (any_without (λ y. eqb x y) m xs a.0) (apart_without m xs a.1)
+
+below_unless : (m : ℕ) (xs : List ℕ) → AllBelow (suc m) xs → list_any (λ y. eqb m y) xs ≡ false → AllBelow m xs
+below_unless m [] b e = tt
+below_unless m (x ∷ xs) b e =
+    let both = or_false (eqb m x) (list_any (λ y. eqb m y) xs) e in
+    let other = eqb-false m x both.0 in
+    let strict : x < m = omega (arith, b.0, other) in
+    (strict, below_unless m xs b.1 both.1)
+
+below_without_by : (m x : ℕ) (xs ys : List ℕ) (b : Bool) → eqb m x ≡ b → x < suc m → AllBelow (suc m) xs → list_any (λ y. eqb x y) xs ≡ false → AllBelow m ys → AllBelow m (cond b xs (x ∷ ys))
+below_without_by m x xs ys true e l h f t = below_unless m xs h (subst (λ z. list_any (λ y. eqb z y) xs ≡ false) (sym (eqb-true m x e)) f)
+below_without_by m x xs ys false e l h f t =
+    let other = eqb-false m x e in
+    let strict : x < m = omega (arith, l, other) in
+    (strict, t)
+
+below_without : (m : ℕ) (xs : List ℕ) → AllBelow (suc m) xs → Apart xs → AllBelow m (without m xs)
+unfolding without
+below_without m [] b a = tt
+below_without m (x ∷ xs) b a = below_without_by m x xs (without m xs) (eqb m x) refl b.0 b.1 a.0 (below_without m xs b.1 a.1)
+
+pub length_apart : (n : ℕ) (xs : List ℕ) → AllBelow n xs → Apart xs → length xs ≤ n
+length_apart zero [] b a = omega arith
+length_apart zero (x ∷ xs) b a = absurd (omega (arith, b.0))
+length_apart (suc m) xs b a =
+    omega (arith, length_without m xs, length_apart m (without m xs) (below_without m xs b a) (apart_without m xs a))
+
+-- ---- a path stays within the graph
+
+pub depends_within : (g : Graph) → IsWithinGraph g → (p r : ℕ) → p < process_count g → Depends g p r → r < process_count g
+depends_within g w p r i d =
+    let c = d.1 in
+    let same : get_or (dependents_of g p) c.0 0 ≡ r = get_or_default (dependents_of g p) c.0 0 r c.1 ∙ c.2 in
+    subst (λ y. y < process_count g) same (w p c.0 (i, c.1))
+
+pub within : (g : Graph) → IsWithinGraph g → (p : ℕ) (rest : List ℕ) (q : ℕ) → p < process_count g → Leads g p rest q → AllBelow (process_count g) (p ∷ rest)
+within g w p [] q i l = (i, tt)
+within g w p (r ∷ rest) q i l = (i, within g w r rest q (depends_within g w p r i l.0) l.1)
+
+-- ---- the test of a search
+
+is_some_find_by : (x : ℕ) (o : Option ℕ) (b : Bool) → (b ≡ true) ⊎ (is_some o ≡ true) → is_some (cond b (Some x) o) ≡ true
+is_some_find_by x o true h = refl
+is_some_find_by x o false (inl e) = cc
+is_some_find_by x o false (inr e) = e
+
+pub is_some_find : (t : ℕ → Bool) (xs : List ℕ) (x : ℕ) → Contains xs x → t x ≡ true → is_some (find t xs) ≡ true
+is_some_find t [] x c e = absurd (omega (arith, c.1))
+is_some_find t (y ∷ ys) x c e =
+    is_some_find_by y (find t ys) (t y)
+    (elim (cons_contains y ys x c) [
+      | inl s ↦ inl (ap t s ∙ e)
+      | inr d ↦ inr (is_some_find t ys x d e)
+    ])
+
+found_by : (t : ℕ → Bool) (x : ℕ) (xs : List ℕ) (b : Bool) → t x ≡ b → ((is_some (find t xs) ≡ true) → (n : ℕ) × (t n ≡ true)) → is_some (cond b (Some x) (find t xs)) ≡ true → (n : ℕ) × (t n ≡ true)
+found_by t x xs true e h s = (x, e)
+found_by t x xs false e h s = h s
+
+pub found : (t : ℕ → Bool) (xs : List ℕ) → is_some (find t xs) ≡ true → (n : ℕ) × (t n ≡ true)
+found t [] e = absurd cc
+found t (x ∷ xs) e = found_by t x xs (t x) refl (λ s. found t xs s) e
+
+pub contains_index : (n k : ℕ) → k < n → Contains (range_with_len 0 n) k
+contains_index n k l = (k, rw length-range_with_len l, get_or-range_with_len 0 n k k l ∙ omega arith)
+
+-- ---- the law
+
+pub reaches_then : (g : Graph) (p q : ℕ) → reaches g p q ≡ true → Reaches g p q
+unfolding reaches Walk
+reaches_then g p q e =
+    let n = found (λ n. is_nonempty (paths_to g (λ r. eqb r q) n p)) (indices g) e in
+    let w = walk g (λ r. eqb r q) n.0 p n.1 in
+    (p ∷ w.2, (refl, subst (λ z. Leads g p w.2 z) (eqb-true w.0 q w.1) w.3))
+
+leads_reaches : (g : Graph) (p q : ℕ) → IsWithinGraph g → p < process_count g → (rest : List ℕ) → Leads g p rest q → reaches g p q ≡ true
+unfolding reaches Simple
+leads_reaches g p q w i rest l =
+    let s = simple g p rest q l in
+    let short : length (p ∷ s.0) ≤ process_count g = length_apart (process_count g) (p ∷ s.0) (within g w p s.0 q i s.1) s.2 in
+    is_some_find (λ n. is_nonempty (paths_to g (λ r. eqb r q) n p)) (indices g) (length s.0)
+    (contains_index (process_count g) (length s.0) (omega (arith, short)))
+    (listed g (λ r. eqb r q) p s.0 q s.1 (eq-eqb q q refl))
+
+pub then_reaches : (g : Graph) (p q : ℕ) → IsWithinGraph g → p < process_count g → Reaches g p q → reaches g p q ≡ true
+then_reaches g p q w i ([], e) = absurd e
+then_reaches g p q w i (x ∷ rest, (e, l)) = leads_reaches g p q w i rest l
+
+pub reach_law : ReachLaw
+reach_law = λ g p q w i. (λ e. reaches_then g p q e, λ r. then_reaches g p q w i r)

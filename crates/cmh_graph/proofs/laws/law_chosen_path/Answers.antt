@@ -1,0 +1,5 @@
+use Rattle.cmh_graph.proofs.Choosing.{chosen_path_law}
+use Rattle.cmh_graph.proofs.laws.law_chosen_path.Goals as goal
+
+pub returns : goal.returns
+returns c = chosen_path_law

@@ -1,0 +1,42 @@
+-- The chosen path from a process to an awake one.
+use Rattle.std.specs.Prelude.{◌≡◌, ℕ, ◌<◌, ◌≤◌, ◌↔◌, false, List, length, IsTrue, IsFalse, Option, Some, None, option_and_then}
+use Rattle.std.specs.List.{reduce}
+use Rattle.std.specs.Ordering.{nat_cmp, ord_min, is_lt}
+use Rattle.std.specs.Cmp.Lexicographic.{slice_cmp}
+use Rattle.cmh_graph.specs.Graph.{Graph, is_awake, process_count, IsWithinGraph}
+use Rattle.cmh_graph.specs.Path.{IsPath, Reaches, paths_to, steps_to}
+
+-- the least number of dependencies from p to an awake process
+unfoldable pub distance_of : Graph → ℕ → Option ℕ
+distance_of g p = steps_to g (is_awake g) p
+
+-- the lesser of two lists, as words stand in a dictionary
+abbrev pub lesser : List ℕ → List ℕ → List ℕ
+lesser = ord_min (slice_cmp nat_cmp)
+
+-- of the shortest paths from p to an awake process, the least list
+unfoldable pub chosen_path : Graph → ℕ → Option (List ℕ)
+chosen_path g p =
+    option_and_then (λ n. reduce lesser (paths_to g (is_awake g) n p)) (distance_of g p)
+
+-- a path from p to an awake process
+abbrev pub IsWayOut : Graph → ℕ → List ℕ → Type 0
+IsWayOut g p path = (q : ℕ) × IsTrue (is_awake g q) × IsPath g p q path
+
+-- The same in words: a path to an awake process, such that no other one is shorter, nor as long
+-- and less.
+pub record IsChosenPath (g : Graph) (p : ℕ) (path : List ℕ) : Type 0 where
+  pub awake : IsWayOut g p path
+  pub shortest : (other : List ℕ) → IsWayOut g p other → length path ≤ length other
+  pub least : (other : List ℕ) → IsWayOut g p other → length other ≡ length path
+      → is_lt (slice_cmp nat_cmp other path) ≡ false
+
+-- the chosen path is the one that its words say
+abbrev pub ChosenPathLaw : Type 0
+ChosenPathLaw = (g : Graph) (p : ℕ) (path : List ℕ) → IsWithinGraph g → p < process_count g
+    → (chosen_path g p ≡ Some path) ↔ IsChosenPath g p path
+
+-- and there is none just where p reaches no awake process
+abbrev pub NoPathLaw : Type 0
+NoPathLaw = (g : Graph) (p : ℕ) → IsWithinGraph g → p < process_count g
+    → (chosen_path g p ≡ None) ↔ ((q : ℕ) → Reaches g p q → IsFalse (is_awake g q))

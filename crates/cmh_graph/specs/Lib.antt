@@ -1,0 +1,6 @@
+pub mod Build
+pub mod ChosenPath
+pub mod Core
+pub mod Graph
+pub mod Path
+pub mod Verdict

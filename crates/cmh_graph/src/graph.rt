@@ -1,0 +1,117 @@
+//! The wait graph.
+
+ghost use Rattle.std.specs.Prelude.{◌≡◌, ◌⊎◌, ◌<◌, ◌↔◌, map, [], IfOk, IfErr, IsTrue};
+ghost use Rattle.cmh_graph.specs.Graph.{indices, process_count, is_idle, is_awake, site_of, name_of, dependents_of, idle_list};
+ghost use Rattle.cmh_graph.specs.Build.{graph_of, IsWellFormed, IsFirstFault};
+
+use crate::{GraphFault, Part, State};
+use std::alloc::Global;
+use std::marker::Model;
+
+/// A wait graph: who waits for whom, and which messages are in transit. Processes are named by
+/// their places in the dump, from 0.
+#[derive(Drop)]
+pub struct WaitGraph {
+    parts: Vec<Part>,
+    in_transit: Vec<(u32, u32)>,
+    awake: Vec<bool>,
+}
+
+impl Model for WaitGraph {
+    ghost use Rattle.std.specs.Prelude.{◌≡◌, map};
+    ghost use Rattle.cmh_graph.specs.Graph.{Graph, indices, is_awake};
+    ghost use Rattle.cmh_graph.specs.Build.{graph_of, IsWellFormed};
+
+    ghost Value = { Graph };
+
+    ghost view = { λ w. graph_of w.parts.items w.in_transit.items };
+
+    ghost invariant = { λ w. let g = graph_of w.parts.items w.in_transit.items in
+        IsWellFormed g × (w.awake.items ≡ map (is_awake g) (indices g)) };
+}
+
+impl WaitGraph {
+    /// The graph of the parts, with no message in transit.
+    pub fn build(alloc: Global, parts: Vec<Part>) -> Result<WaitGraph, GraphFault>
+        ensures ok { IfOk result (λ g. (g ≡ graph_of parts.items []) × IsWellFormed g) }
+        ensures fault { IfErr result (λ e.
+            (e ≡ GraphFault.Memory) ⊎ IsFirstFault (graph_of parts.items []) e) }
+    {
+        WaitGraph::build_with(alloc, parts, &[])
+    }
+
+    /// The graph of the parts, with messages in transit, each by its sender and its receiver. A
+    /// message may be there more than once. Neither names nor sites are judged.
+    pub fn build_with(
+        alloc: Global,
+        parts: Vec<Part>,
+        in_transit: &[(u32, u32)],
+    ) -> Result<WaitGraph, GraphFault>
+        ensures ok { IfOk result (λ g. (g ≡ graph_of parts.items in_transit.now) × IsWellFormed g) }
+        ensures fault { IfErr result (λ e.
+            (e ≡ GraphFault.Memory) ⊎ IsFirstFault (graph_of parts.items in_transit.now) e) }
+    {
+        Err(GraphFault::Memory)
+    }
+
+    /// How many processes there are.
+    pub fn len(&self) -> u32
+        ensures count { result ≡ process_count self.now }
+        ensures well_formed { IsWellFormed self.now }
+    {
+        self.parts.len() as u32
+    }
+
+    /// Whether there is no process.
+    pub fn is_empty(&self) -> bool
+        ensures { IsTrue result ↔ (process_count self.now ≡ 0) }
+    {
+        self.parts.is_empty()
+    }
+
+    pub fn is_idle(&self, p: u32) -> bool
+        requires { p < process_count self.now }
+        ensures { result ≡ is_idle self.now p }
+    {
+        matches!(self.parts[p as usize].state, State::Idle)
+    }
+
+    /// Whether the process can still send: it is active, or a message is in transit to it from a
+    /// member of its dependent set.
+    pub fn is_awake(&self, p: u32) -> bool
+        requires { p < process_count self.now }
+        ensures { result ≡ is_awake self.now p }
+    {
+        self.awake[p as usize]
+    }
+
+    pub fn site(&self, p: u32) -> u32
+        requires { p < process_count self.now }
+        ensures { result ≡ site_of self.now p }
+    {
+        self.parts[p as usize].site
+    }
+
+    /// The dependent set, in the order given.
+    pub fn dependents(&self, p: u32) -> &[u32]
+        requires { p < process_count self.now }
+        ensures { result.now ≡ dependents_of self.now p }
+    {
+        &self.parts[p as usize].dependents
+    }
+
+    pub fn name(&self, p: u32) -> &str
+        requires { p < process_count self.now }
+        ensures { result.now ≡ name_of self.now p }
+    {
+        &self.parts[p as usize].name
+    }
+
+    /// The idle processes, by rising index.
+    pub fn idle_list(&self, alloc: Global) -> Result<Vec<u32>, GraphFault>
+        ensures ok { IfOk result (λ list. list.items ≡ idle_list self.now) }
+        ensures memory { IfErr result (λ e. e ≡ GraphFault.Memory) }
+    {
+        Err(GraphFault::Memory)
+    }
+}

@@ -1,0 +1,32 @@
+//! The wait graph of a stalled message-passing program, and what it says of deadlock.
+//!
+//! A blocked process goes on as soon as any one process of its dependent set sends to it. That is
+//! the communication model of K. M. Chandy, J. Misra and L. M. Haas, "Distributed Deadlock
+//! Detection", ACM TOCS 1(2), 1983.
+#![tactic(auto)]
+
+mod distance;
+mod fault;
+mod graph;
+mod laws;
+mod part;
+mod reach;
+mod verdict;
+
+pub use fault::GraphFault;
+pub use graph::WaitGraph;
+pub use laws::{
+    law_chosen_path, law_closed_set, law_core, law_no_path, law_reach, law_verdict,
+    law_well_formed,
+};
+pub use part::{Part, State};
+pub use verdict::Verdict;
+
+/// The most processes that a graph may have.
+pub const MAX_PROCESSES: usize = 4_096;
+
+/// The most entries that all dependent sets may have together.
+pub const MAX_DEPENDENCIES: usize = 65_536;
+
+/// The most messages that may be in transit.
+pub const MAX_IN_TRANSIT: usize = 4_096;
