@@ -108,10 +108,17 @@ impl WaitGraph {
     }
 
     /// The idle processes, by rising index.
+    #[tactic(auto, using(crate::proofs::Listing::filter_indices_kept, crate::proofs::Listing::filter_indices_passed))]
     pub fn idle_list(&self, alloc: Global) -> Result<Vec<u32>, GraphFault>
         ensures ok { IfOk result (λ list. list.items ≡ idle_list self.now) }
         ensures memory { IfErr result (λ e. e ≡ GraphFault.Memory) }
     {
-        Err(GraphFault::Memory)
+        let mut list = Vec::new(alloc);
+        for p in 0..self.len() {
+            if self.is_idle(p) {
+                list.push(p)?;
+            }
+        }
+        Ok(list)
     }
 }
