@@ -16,6 +16,7 @@ use Rattle.std.specs.FinMap.{slice_cmp-IsAntisymmetric, nat_cmp-IsAntisymmetric}
 use Rattle.std.specs.declared.cmp.Ordering.{Ordering}
 use Rattle.std.specs.declared.cmp.Ordering.TheVariants.{Less, Equal, Greater}
 use Rattle.std.specs.Ordering.{ordering_reverse}
+use Rattle.cmh_graph.proofs.Stepping.{first, has_steps}
 use Rattle.cmh_graph.proofs.Reaching.{Simple, simple, length_apart, within, listed, contains_index, is_some_find, cons_contains, contains_cons, depends, dependency}
 
 -- ---- what is listed
@@ -86,23 +87,6 @@ is_listed g test p [] q l t = start_listed p (test p) (ap test l ∙ t)
 is_listed g test p (r ∷ rest) q l t =
     flat_map_contains (λ r. map (λ path. p ∷ path) (paths_to g test (length rest) r)) (dependencies_of g p) r (p ∷ r ∷ rest) (dependency g p r l.0)
     (map_contains p (paths_to g test (length rest) r) (r ∷ rest) (is_listed g test r rest q l.1 t))
-
--- ---- the first number that passes
-
-at_or_past : (a m : ℕ) → a ≤ m → (a ≡ m) ⊎ (a + 1 ≤ m)
-at_or_past a m l = elim (dec_lt a m) [ yes h ↦ inr (omega (arith, h)) | no h ↦ inl (omega (arith, h, l)) ]
-
-first_by : (t : ℕ → Bool) (a k n : ℕ) (b : Bool) → t a ≡ b → (find t (range_with_len (a + 1) k) ≡ Some n → (t n ≡ true) × ((m : ℕ) → a + 1 ≤ m → m < n → t m ≡ false)) → cond b (Some a) (find t (range_with_len (a + 1) k)) ≡ Some n → (t n ≡ true) × ((m : ℕ) → a ≤ m → m < n → t m ≡ false)
-first_by t a k n true e h s =
-    let same : a ≡ n = ap (λ o. unwrap_or o 0) s in
-    (subst (λ z. t z ≡ true) same e, λ m l u. absurd (omega (arith, same, l, u)))
-first_by t a k n false e h s =
-    let w = h s in
-    (w.0, λ m l u. elim (at_or_past a m l) [ inl same ↦ subst (λ z. t z ≡ false) same e | inr more ↦ w.1 m more u ])
-
-first : (t : ℕ → Bool) (a k n : ℕ) → find t (range_with_len a k) ≡ Some n → (t n ≡ true) × ((m : ℕ) → a ≤ m → m < n → t m ≡ false)
-first t a zero n e = absurd cc
-first t a (suc k) n e = first_by t a k n (t a) refl (λ s. first t (a + 1) k n s) e
 
 -- ---- the least list
 
@@ -178,13 +162,8 @@ some_chosen_by g p (Some n) e s = reduce_some (paths_to g (is_awake g) n p) (fir
 some_chosen_by g p None e s = absurd cc
 
 has_distance : (g : Graph) → IsWithinGraph g → (p q : ℕ) → p < process_count g → (rest : List ℕ) → Leads g p rest q → is_awake g q ≡ true → is_some (distance_of g p) ≡ true
-unfolding distance_of Simple
-has_distance g w p q i rest l a =
-    let s = simple g p rest q l in
-    let short : length (p ∷ s.0) ≤ process_count g = length_apart (process_count g) (p ∷ s.0) (within g w p s.0 q i s.1) s.2 in
-    is_some_find (λ n. is_nonempty (paths_to g (is_awake g) n p)) (indices g) (length s.0)
-    (contains_index (process_count g) (length s.0) (omega (arith, short)))
-    (listed g (is_awake g) p s.0 q s.1 a)
+unfolding distance_of
+has_distance g w p q i rest l a = has_steps g (is_awake g) w p q i rest l a
 
 some_chosen : (g : Graph) → IsWithinGraph g → (p q : ℕ) (path : List ℕ) → p < process_count g → is_awake g q ≡ true → IsPath g p q path → (other : List ℕ) × (chosen_path g p ≡ Some other)
 unfolding chosen_path

@@ -4,7 +4,7 @@ use Rattle.std.specs.Prelude.{filter}
 use Rattle.std.specs.List.{range_with_len}
 use Rattle.std.proofs.lemmas.List.Elements.{filter-append}
 use Rattle.std.proofs.lemmas.List.{length-map}
-use Rattle.std.proofs.lemmas.List.FromFn.{map-range_with_len_more, length-range_with_len, get_or-map-range_with_len}
+use Rattle.std.proofs.lemmas.List.FromFn.{map-range_with_len_more, length-range_with_len, get_or-map-range_with_len, fill_by_all}
 use Rattle.cmh_graph.specs.Graph.{Graph, process_count, indices}
 
 map_same : (xs : List ℕ) → map (λ x. x) xs ≡ xs
@@ -34,3 +34,8 @@ length-by_index g f = length-map (indices g) f ∙ length-range_with_len 0 (proc
 -- what a list made by index has at a place
 pub by_index : {X : Type 0} (g : Graph) (f : ℕ → X) (xs : List X) (p : ℕ) (d : X) → xs ≡ map f (indices g) → p < process_count g → get_or xs p d ≡ f p
 by_index g f xs p d e l = ap (λ ys. get_or ys p d) e ∙ get_or-map-range_with_len f 0 (process_count g) p p d l (omega arith)
+
+-- two lists made by index are one where the functions agree within the graph
+pub by_index_agree : {X : Type 0} (g : Graph) (f h : ℕ → X) (d : X) → ((p : ℕ) → p < process_count g → f p ≡ h p) → map f (indices g) ≡ map h (indices g)
+by_index_agree g f h d e =
+    fill_by_all h (map f (indices g)) (process_count g) d (length-by_index g f) (λ k l. by_index g f (map f (indices g)) k d refl l ∙ e k l)

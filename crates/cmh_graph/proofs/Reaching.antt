@@ -29,15 +29,15 @@ append_nonempty_right : (xs ys : List (List ℕ)) → is_nonempty ys ≡ true �
 append_nonempty_right [] ys e = e
 append_nonempty_right (x ∷ xs) ys e = refl
 
-nonempty_map : (f : List ℕ → List ℕ) (xs : List (List ℕ)) → is_nonempty (map f xs) ≡ true → is_nonempty xs ≡ true
+pub nonempty_map : (f : List ℕ → List ℕ) (xs : List (List ℕ)) → is_nonempty (map f xs) ≡ true → is_nonempty xs ≡ true
 nonempty_map f [] e = e
 nonempty_map f (x ∷ xs) e = refl
 
-map_nonempty : (f : List ℕ → List ℕ) (xs : List (List ℕ)) → is_nonempty xs ≡ true → is_nonempty (map f xs) ≡ true
+pub map_nonempty : (f : List ℕ → List ℕ) (xs : List (List ℕ)) → is_nonempty xs ≡ true → is_nonempty (map f xs) ≡ true
 map_nonempty f [] e = e
 map_nonempty f (x ∷ xs) e = refl
 
-nonempty_flat_map : (f : ℕ → List (List ℕ)) (xs : List ℕ) → is_nonempty (flat_map f xs) ≡ true → (r : ℕ) × Contains xs r × (is_nonempty (f r) ≡ true)
+pub nonempty_flat_map : (f : ℕ → List (List ℕ)) (xs : List ℕ) → is_nonempty (flat_map f xs) ≡ true → (r : ℕ) × Contains xs r × (is_nonempty (f r) ≡ true)
 nonempty_flat_map f [] e = cc
 nonempty_flat_map f (x ∷ xs) e =
     elim (nonempty_append (f x) (flat_map f xs) e) [
@@ -45,7 +45,7 @@ nonempty_flat_map f (x ∷ xs) e =
       | inr h ↦ let w = nonempty_flat_map f xs h in (w.0, contains_cons x xs w.0 w.1, w.2)
     ]
 
-flat_map_nonempty : (f : ℕ → List (List ℕ)) (xs : List ℕ) (r : ℕ) → Contains xs r → is_nonempty (f r) ≡ true → is_nonempty (flat_map f xs) ≡ true
+pub flat_map_nonempty : (f : ℕ → List (List ℕ)) (xs : List ℕ) (r : ℕ) → Contains xs r → is_nonempty (f r) ≡ true → is_nonempty (flat_map f xs) ≡ true
 flat_map_nonempty f [] r (k, l, e) h = absurd (omega arith)
 flat_map_nonempty f (x ∷ xs) r c h =
     elim (cons_contains x xs r c) [
@@ -74,7 +74,7 @@ dependency g p r d = dependencies_by (dependents_of g p) r (is_idle g p) d.0 d.1
 unfoldable pub Walk : Graph → (ℕ → Bool) → ℕ → Type 0
 Walk g test p = (q : ℕ) × (test q ≡ true) × (rest : List ℕ) × Leads g p rest q
 
-start_by : (test : ℕ → Bool) (p : ℕ) (b : Bool) → is_nonempty (cond b ((p ∷ []) ∷ []) []) ≡ true → b ≡ true
+pub start_by : (test : ℕ → Bool) (p : ℕ) (b : Bool) → is_nonempty (cond b ((p ∷ []) ∷ []) []) ≡ true → b ≡ true
 start_by test p true e = refl
 start_by test p false e = e
 
@@ -86,7 +86,7 @@ walk g test (suc n) p e =
     let v = walk g test n w.0 (nonempty_map (λ path. p ∷ path) (paths_to g test n w.0) w.2) in
     (v.0, v.1, w.0 ∷ v.2, (depends g p w.0 w.1, v.3))
 
-start_nonempty : (p : ℕ) (b : Bool) → b ≡ true → is_nonempty (cond b ((p ∷ []) ∷ []) []) ≡ true
+pub start_nonempty : (p : ℕ) (b : Bool) → b ≡ true → is_nonempty (cond b ((p ∷ []) ∷ []) []) ≡ true
 start_nonempty p true e = refl
 start_nonempty p false e = e
 

@@ -3,4 +3,5 @@ pub mod ChosenPath
 pub mod Core
 pub mod Graph
 pub mod Path
+pub mod Search
 pub mod Verdict

@@ -85,6 +85,14 @@ impl WaitGraph {
         self.awake[p as usize]
     }
 
+    /// For each process whether it is awake.
+    pub(crate) fn awake(&self) -> &[bool]
+        ensures marks { result.now ≡ map (is_awake self.now) (indices self.now) }
+        ensures well_formed { IsWellFormed self.now }
+    {
+        &self.awake
+    }
+
     pub fn site(&self, p: u32) -> u32
         requires { p < process_count self.now }
         ensures { result ≡ site_of self.now p }

@@ -11,13 +11,13 @@ mod graph;
 mod laws;
 mod part;
 mod reach;
+mod search;
 mod verdict;
 
 pub use fault::GraphFault;
 pub use graph::WaitGraph;
 pub use laws::{
-    law_chosen_path, law_closed_set, law_core, law_no_path, law_reach, law_verdict,
-    law_well_formed,
+    law_chosen_path, law_closed_set, law_core, law_no_path, law_reach, law_verdict, law_well_formed,
 };
 pub use part::{Part, State};
 pub use verdict::Verdict;

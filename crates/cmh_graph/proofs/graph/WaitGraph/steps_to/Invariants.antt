@@ -1,0 +1,6 @@
+use Rattle.cmh_graph.specs.Search.{is_marked, ArePredecessors}
+use Rattle.cmh_graph.proofs.Stepping.{StepsUpTo}
+use Rattle.cmh_graph.proofs.graph.WaitGraph.steps_to.Given as goal
+
+abbrev pub invariant-loop-distance : goal.invariant-loop-distance
+invariant-loop-distance l = StepsUpTo l.self (is_marked l.marks) l.distance l.steps.items l.level.items

@@ -1,0 +1,47 @@
+-- What the searches over a graph keep, and what they make.
+use Rattle.std.specs.Prelude.{◌≡◌, ◌⊎◌, ℕ, Bool, false, List, [], map, length, slice_index_or, Contains, IsSome, Option, Some, None}
+use Rattle.std.specs.Global.{Vec}
+use Rattle.cmh_graph.specs.Graph.{Graph, Depends, process_count}
+
+-- whether the place is marked; none is past the end
+abbrev pub is_marked : List Bool → ℕ → Bool
+is_marked marks p = slice_index_or marks p false
+
+-- the list at that place; past the end it is empty
+abbrev pub list_at : List (Vec ℕ) → ℕ → List ℕ
+list_at lists r = slice_index_or (map (λ v. v.items) lists) r []
+
+-- the number at that place, where there is one
+abbrev pub number_at : List (Option ℕ) → ℕ → Option ℕ
+number_at numbers p = slice_index_or numbers p None
+
+-- p has joined the list of each of these places, and nothing else has changed
+pub record JoinsEach (p : ℕ) (places : List ℕ) (old new : List (Vec ℕ)) : Type 0 where
+  pub size : length new ≡ length old
+  pub kept : (r q : ℕ) → Contains (list_at old r) q → Contains (list_at new r) q
+  pub joined : (r : ℕ) → Contains places r → Contains (list_at new r) p
+  pub only : (r q : ℕ) → Contains (list_at new r) q
+      → Contains (list_at old r) q ⊎ ((q ≡ p) × Contains places r)
+
+-- p is on the list of r just where it depends on r
+pub record ArePredecessors (g : Graph) (lists : List (Vec ℕ)) : Type 0 where
+  pub size : length lists ≡ process_count g
+  pub sound : (p r : ℕ) → Contains (list_at lists r) p → Depends g p r
+  pub complete : (p r : ℕ) → Depends g p r → Contains (list_at lists r) p
+
+-- the list of a member of the level has p
+abbrev pub IsNamedBy : List (Vec ℕ) → List ℕ → ℕ → Type 0
+IsNamedBy lists level p = (q : ℕ) × Contains level q × Contains (list_at lists q) p
+
+-- Each named place that had no number has this one now, and has joined the list of places.
+-- Nothing else has changed.
+pub record Numbers (IsNamed : ℕ → Type 0) (n : ℕ) (old new : List (Option ℕ))
+    (before after : List ℕ) : Type 0 where
+  pub size : length new ≡ length old
+  pub kept : (p d : ℕ) → number_at old p ≡ Some d → number_at new p ≡ Some d
+  pub named : (p : ℕ) → IsNamed p → IsSome (number_at new p)
+  pub made : (p d : ℕ) → number_at old p ≡ None → number_at new p ≡ Some d
+      → (d ≡ n) × IsNamed p × Contains after p
+  pub stays : (p : ℕ) → Contains before p → Contains after p
+  pub only : (p : ℕ) → Contains after p
+      → Contains before p ⊎ ((number_at old p ≡ None) × (number_at new p ≡ Some n))

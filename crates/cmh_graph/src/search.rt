@@ -1,0 +1,130 @@
+//! Searches along dependencies.
+
+ghost use Rattle.std.specs.Prelude.{◌≡◌, ◌<◌, ◌^◌, ℕ, [], map, length, filter, if◌then◌else◌, All, Contains, IfOk, OnOk, Some, None};
+ghost use Rattle.std.specs.List.{range_with_len};
+ghost use Rattle.cmh_graph.specs.Graph.{indices, process_count};
+ghost use Rattle.cmh_graph.specs.Path.{steps_to};
+ghost use Rattle.cmh_graph.specs.Search.{is_marked, list_at, JoinsEach, ArePredecessors, IsNamedBy, Numbers};
+
+use crate::WaitGraph;
+use std::alloc::{AllocError, Global};
+
+impl WaitGraph {
+    /// For each process the least number of dependencies to a marked one, where there is one. It
+    /// goes against the dependencies, from each distance to the next.
+    pub(crate) fn steps_to(
+        &self,
+        alloc: Global,
+        marks: &[bool],
+    ) -> Result<Vec<Option<u32>>, AllocError>
+        requires { length marks.now ≡ process_count self.now }
+        ensures { IfOk result (λ steps.
+            steps.items ≡ map (steps_to self.now (is_marked marks.now)) (indices self.now)) }
+    {
+        let count = self.len();
+        let predecessors = self.predecessors(alloc)?;
+        let mut steps = first_steps(alloc, marks)?;
+        let mut level = marked(alloc, marks)?;
+        for distance in 0..count {
+            level = next_level(alloc, &predecessors, &level, distance + 1, &mut steps)?;
+        }
+        Ok(steps)
+    }
+
+    /// For each process those that depend on it.
+    fn predecessors(&self, alloc: Global) -> Result<Vec<Vec<u32>>, AllocError>
+        ensures { IfOk result (λ lists. ArePredecessors self.now lists.items) }
+    {
+        let mut lists = empty_lists(alloc, self.len())?;
+        for p in 0..self.len() {
+            join_each(p, self.dependents(p), &mut lists)?;
+        }
+        Ok(lists)
+    }
+}
+
+/// The marked places, by rising index.
+#[tactic(auto, using(crate::proofs::Listing::filter_indices_kept, crate::proofs::Listing::filter_indices_passed))]
+pub(crate) fn marked(alloc: Global, marks: &[bool]) -> Result<Vec<u32>, AllocError>
+    requires { length marks.now < 2 ^ 32 }
+    ensures { IfOk result (λ list.
+        list.items ≡ filter (is_marked marks.now) (range_with_len 0 (length marks.now))) }
+{
+    let mut list = Vec::new(alloc);
+    for p in 0..marks.len() {
+        if marks[p] {
+            list.push(p as u32)?;
+        }
+    }
+    Ok(list)
+}
+
+/// None to go for a marked process, and no number yet for any other.
+fn first_steps(alloc: Global, marks: &[bool]) -> Result<Vec<Option<u32>>, AllocError>
+    ensures { IfOk result (λ steps.
+        steps.items ≡ map (λ mark. if mark then Some 0 else None) marks.now) }
+{
+    marks.iter().map(|mark| mark.then_some(0)).collect(alloc)
+}
+
+fn empty_lists(alloc: Global, count: u32) -> Result<Vec<Vec<u32>>, AllocError>
+    ensures size { IfOk result (λ lists. length lists.items ≡ count) }
+    ensures empty { IfOk result (λ lists. (r : ℕ) → list_at lists.items r ≡ []) }
+{
+    let mut lists = Vec::new(alloc);
+    for _ in 0..count {
+        lists.push(Vec::new(alloc))?;
+    }
+    Ok(lists)
+}
+
+/// Adds `p` to the list of each of these places.
+fn join_each(p: u32, places: &[u32], lists: &mut [Vec<u32>]) -> Result<(), AllocError>
+    requires { All (λ r. r < length lists.old) places.now }
+    ensures { OnOk result (JoinsEach p places.now lists.old lists.new) }
+{
+    for r in places {
+        lists[*r as usize].push(p)?;
+    }
+    Ok(())
+}
+
+/// Gives `distance` to each process of the list that has none, and adds it to the next level.
+fn number_each(
+    list: &[u32],
+    distance: u32,
+    distances: &mut [Option<u32>],
+    next: &mut Vec<u32>,
+) -> Result<(), AllocError>
+    requires { All (λ p. p < length distances.old) list.now }
+    ensures { OnOk result (Numbers (Contains list.now) distance
+        distances.old distances.new next.old.items next.new.items) }
+{
+    for p in list {
+        if distances[*p as usize].is_none() {
+            distances[*p as usize] = Some(distance);
+            next.push(*p)?;
+        }
+    }
+    Ok(())
+}
+
+/// The processes without a distance that the lists of the level have. They get this one.
+fn next_level(
+    alloc: Global,
+    lists: &[Vec<u32>],
+    level: &[u32],
+    distance: u32,
+    distances: &mut [Option<u32>],
+) -> Result<Vec<u32>, AllocError>
+    requires listed { All (λ q. q < length lists.now) level.now }
+    requires within { (q : ℕ) → All (λ p. p < length distances.old) (list_at lists.now q) }
+    ensures { IfOk result (λ next. Numbers (IsNamedBy lists.now level.now) distance
+        distances.old distances.new [] next.items) }
+{
+    let mut next = Vec::new(alloc);
+    for q in level {
+        number_each(&lists[*q as usize], distance, distances, &mut next)?;
+    }
+    Ok(next)
+}
