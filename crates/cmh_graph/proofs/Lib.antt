@@ -1,6 +1,7 @@
 pub mod Building
 pub mod Choosing
 pub mod Cores
+pub mod Distances
 pub mod Listing
 pub mod Reaching
 pub mod Searching

@@ -116,7 +116,7 @@ not_true false e = refl
 not_false : (b : Bool) → b ≡ false → not b ≡ true
 not_false b e = rw e refl
 
-test_then : (g : Graph) (p : ℕ) → IsWithinGraph g → is_deadlocked g p ≡ true → IsDeadlocked g p
+pub test_then : (g : Graph) (p : ℕ) → IsWithinGraph g → is_deadlocked g p ≡ true → IsDeadlocked g p
 unfolding is_deadlocked
 test_then g p w e =
     let both = and_true (is_idle g p) (list_all (λ q. not (is_awake g q)) (reach_of g p)) e in
@@ -127,7 +127,7 @@ test_then g p w e =
           (contains_filter (reaches g p) (indices g) q (contains_index (process_count g) q (reached_within g w p q i r)) (then_reaches g p q w i r))),
     )
 
-then_test : (g : Graph) (p : ℕ) → IsDeadlocked g p → is_deadlocked g p ≡ true
+pub then_test : (g : Graph) (p : ℕ) → IsDeadlocked g p → is_deadlocked g p ≡ true
 unfolding is_deadlocked
 then_test g p d =
     rw (d.0, all_pass (λ q. not (is_awake g q)) (reaches g p) (indices g) (λ q m. not_false (is_awake g q) (d.1 q (reaches_then g p q m)))) refl

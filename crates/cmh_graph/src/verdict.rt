@@ -22,6 +22,13 @@ impl WaitGraph {
         ensures ok { IfOk result (λ list. list.items ≡ verdicts self.now) }
         ensures memory { IfErr result (λ e. e ≡ GraphFault.Memory) }
     {
-        Err(GraphFault::Memory)
+        let distances = self.distances(alloc)?;
+        let mut verdicts = Vec::new(alloc);
+        for p in 0..self.len() {
+            let is_free = distances[p as usize].is_some();
+            let verdict = if is_free { Verdict::Free } else { Verdict::Deadlocked };
+            verdicts.push(verdict)?;
+        }
+        Ok(verdicts)
     }
 }

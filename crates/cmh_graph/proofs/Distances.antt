@@ -1,0 +1,68 @@
+-- What a distance tells.
+use Rattle.std.proofs.Common.{◌≡◌, ℕ, ◌<◌, Bool, true, false, cond, inl, inr, List, [], ◌∷◌, map, get_or, refl, sym, ◌∙◌, ap}
+use Rattle.std.specs.Prelude.{Some, None, Option, is_some}
+use Rattle.std.proofs.lemmas.Bool.{cases_Bool}
+use Rattle.cmh_graph.specs.declared.verdict.Verdict.{Verdict}
+use Rattle.cmh_graph.specs.declared.verdict.Verdict.TheVariants.{Deadlocked, Free}
+use Rattle.cmh_graph.specs.ChosenPath.{distance_of}
+use Rattle.cmh_graph.specs.Graph.{Graph, IsWithinGraph, indices, is_awake, process_count}
+use Rattle.cmh_graph.specs.Path.{Reaches}
+use Rattle.cmh_graph.specs.Verdict.{IsDeadlocked, is_deadlocked, verdict}
+use Rattle.cmh_graph.proofs.Listing.{by_index}
+use Rattle.cmh_graph.proofs.Reaching.{Walk, walk}
+use Rattle.cmh_graph.proofs.Searching.{numbered}
+use Rattle.cmh_graph.proofs.Stepping.{near, has_steps, steps_none}
+use Rattle.cmh_graph.proofs.Verdicts.{asleep_is_idle, test_then, then_test}
+
+-- a process with a distance reaches an awake one
+pub reaches_awake : (g : Graph) (p n : ℕ) → distance_of g p ≡ Some n → (q : ℕ) × (is_awake g q ≡ true) × Reaches g p q
+unfolding distance_of Walk
+reaches_awake g p n e =
+    let w = walk g (is_awake g) n p (near g (is_awake g) p n e) in
+    (w.0, w.1, (p ∷ w.2, (refl, w.3)))
+
+-- and a process that reaches an awake one has a distance
+pub distance_if_awake : (g : Graph) → IsWithinGraph g → (p q : ℕ) → p < process_count g → Reaches g p q → is_awake g q ≡ true → is_some (distance_of g p) ≡ true
+unfolding distance_of
+distance_if_awake g w p q i ([], l) a = absurd l
+distance_if_awake g w p q i (x ∷ rest, (e, l)) a = has_steps g (is_awake g) w p q i rest l a
+
+no_distance_asleep : (g : Graph) → IsWithinGraph g → (p q : ℕ) → p < process_count g → is_some (distance_of g p) ≡ false → Reaches g p q → is_awake g q ≡ false
+no_distance_asleep g w p q i e r = elim (cases_Bool (is_awake g q)) [
+  | inl a ↦ let bad : true ≡ false = sym (distance_if_awake g w p q i r a) ∙ e in absurd cc
+  | inr a ↦ a
+]
+
+-- a process without a distance is deadlocked
+deadlocked_by_distance : (g : Graph) → IsWithinGraph g → (p : ℕ) → p < process_count g → is_some (distance_of g p) ≡ false → is_deadlocked g p ≡ true
+deadlocked_by_distance g w p i e =
+    then_test g p (
+      asleep_is_idle g p (no_distance_asleep g w p p i e (p ∷ [], (refl, refl))),
+      λ q r. no_distance_asleep g w p q i e r,
+    )
+
+-- and one with a distance is not
+free_by_distance : (g : Graph) → IsWithinGraph g → (p : ℕ) → is_some (distance_of g p) ≡ true → is_deadlocked g p ≡ false
+free_by_distance g w p e =
+    elim (cases_Bool (is_deadlocked g p)) [
+      | inl d ↦
+          let n = numbered (distance_of g p) e in
+          let r = reaches_awake g p n.0 n.1 in
+          let bad : true ≡ false = sym r.1 ∙ (test_then g p w d).1 r.0 r.2 in
+          absurd cc
+      | inr d ↦ d
+    ]
+
+-- so the distance decides the verdict
+pub verdict_by_distance : (g : Graph) → IsWithinGraph g → (p : ℕ) → p < process_count g → verdict g p ≡ cond (is_some (distance_of g p)) Free Deadlocked
+verdict_by_distance g w p i =
+    elim (cases_Bool (is_some (distance_of g p))) [
+      | inl e ↦ rw (free_by_distance g w p e, e) refl
+      | inr e ↦ rw (deadlocked_by_distance g w p i e, e) refl
+    ]
+
+-- the same, by what was read of a list of all distances
+pub verdict_read : (g : Graph) → IsWithinGraph g → (p : ℕ) → p < process_count g → (distances : List (Option ℕ)) (distance : Option ℕ) → distances ≡ map (distance_of g) (indices g) → distance ≡ get_or distances p distance → (b : Bool) → b ≡ is_some distance → cond b Free Deadlocked ≡ verdict g p
+verdict_read g w p i distances distance e f b s =
+    let at = f ∙ by_index g (distance_of g) distances p distance e i in
+    ap (λ t. cond t Free Deadlocked) (s ∙ ap is_some at) ∙ sym (verdict_by_distance g w p i)
