@@ -1,0 +1,17 @@
+-- The sink took the front of the text, and a sink that had failed before took nothing.
+use Rattle.std.proofs.Common.{◌≡◌, ◌-◌, ◌≤◌, ◌++◌, length, take, true}
+use Rattle.std.specs.Io.KnownBytes.{Appends}
+use Rattle.cmh_stream.proofs.put.put_all.Given as goal
+
+abbrev pub invariant-loop-written : goal.invariant-loop-written
+invariant-loop-written g l = record {
+  within : l.written ≤ length l.bytes;
+  taken : g.S.Sink.taken l.sink ≡ g.S.Sink.taken l.initial.sink ++ take l.written l.bytes;
+  known : Appends (g.S.Sink.contents l.initial.sink) (g.S.Sink.contents l.sink)
+      (take l.written l.bytes);
+  failed : g.S.Sink.has_failed l.initial.sink ≡ true
+      → (l.written ≡ 0) × (g.S.Sink.has_failed l.sink ≡ true);
+}
+
+abbrev pub decreases-loop-written : goal.decreases-loop-written
+decreases-loop-written g l = length l.bytes - l.written

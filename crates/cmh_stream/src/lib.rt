@@ -1,0 +1,19 @@
+//! The devices at the two ends of a program: a source gives its bytes, and a sink takes its answer.
+#![tactic(auto)]
+
+mod put;
+mod read_of;
+mod sink;
+mod source;
+mod stopped;
+mod tape;
+#[cfg(test)]
+mod tests;
+mod write_of;
+
+pub use put::{WriteFault, put_all};
+pub use read_of::ReadOf;
+pub use sink::Sink;
+pub use source::Source;
+pub use stopped::Stopped;
+pub use write_of::WriteOf;

@@ -1,0 +1,31 @@
+//! The bytes that went by. They exist only in proofs.
+
+ghost use Rattle.std.specs.Prelude.{◌≡◌, ℕ, List, [], ◌++◌};
+ghost use Rattle.std.specs.Coded.{coded_list, coded_ℕ};
+ghost use Rattle.std.specs.Borrow.{ftrue};
+
+use std::marker::Model;
+
+// It has no bytes of its own, and its methods do nothing when they run.
+#[derive(Drop)]
+pub(crate) struct Tape {
+    ghost bytes: { List ℕ } by { coded_list coded_ℕ },
+}
+
+impl Model for Tape {
+    ghost also_owns = { λ _. ftrue };
+}
+
+impl Tape {
+    pub(crate) fn new() -> Tape
+        ensures { result.bytes ≡ [] }
+    {
+        Tape {}
+    }
+
+    pub(crate) fn then(&self, _bytes: &[u8]) -> Tape
+        ensures { result.bytes ≡ self.now.bytes ++ _bytes.now }
+    {
+        Tape {}
+    }
+}

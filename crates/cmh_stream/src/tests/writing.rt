@@ -1,0 +1,130 @@
+//! What goes into sinks.
+
+use super::memory::Page;
+use crate::{Sink, Stopped, WriteFault, WriteOf, put_all};
+use std::io;
+use std::io::{ErrorKind, Write};
+
+const TEXT: &[u8] = b"eleven byte";
+
+/// A writer that takes up to three bytes at a time and `room` bytes in all, and may fail to flush.
+#[derive(Drop)]
+struct Narrow {
+    bytes: Vec<u8>,
+    room: usize,
+    fails_full: bool,
+    fails_flush: bool,
+}
+
+impl Write for Narrow {
+    fn write(&mut self, buf: &[u8]) -> io::Result<usize> {
+        let room = self.room.saturating_sub(self.bytes.len());
+        if room == 0 && self.fails_full {
+            return Err(io::Error::from(ErrorKind::Interrupted));
+        }
+        let count = buf.len().min(room).min(3);
+        self.bytes.extend_from_slice(&buf[..count])?;
+        Ok(count)
+    }
+
+    fn flush(&mut self) -> io::Result<()> {
+        if self.fails_flush {
+            return Err(io::Error::from(ErrorKind::Other));
+        }
+        Ok(())
+    }
+}
+
+fn narrow_writer(rt: HostRuntime, room: usize) -> Narrow {
+    Narrow {
+        bytes: Vec::new(rt.alloc()),
+        room,
+        fails_full: false,
+        fails_flush: false,
+    }
+}
+
+#[test]
+fn a_narrow_writer_gets_it_all(rt: HostRuntime) {
+    let mut writer = narrow_writer(rt, 100);
+    let mut sink = WriteOf::new(&mut writer);
+    assert_eq!(rt; put_all(&mut sink, TEXT), Ok(()));
+    assert_eq!(rt; put_all(&mut sink, b""), Ok(()));
+    assert!(rt; !sink.failed());
+    assert_eq!(rt; writer.bytes.as_slice(), TEXT);
+}
+
+#[test]
+fn a_vector_gets_it_all(rt: HostRuntime) {
+    let mut bytes = Vec::new(rt.alloc());
+    let mut sink = WriteOf::new(&mut bytes);
+    assert_eq!(rt; sink.put(b"ten "), Ok(4));
+    assert_eq!(rt; put_all(&mut sink, TEXT), Ok(()));
+    assert_eq!(rt; bytes.as_slice(), b"ten eleven byte".as_slice());
+}
+
+#[test]
+fn a_full_writer_stops(rt: HostRuntime) {
+    for fails_full in [false, true] {
+        let mut writer = Narrow {
+            fails_full,
+            ..narrow_writer(rt, 7)
+        };
+        let mut sink = WriteOf::new(&mut writer);
+        assert_eq!(rt; put_all(&mut sink, TEXT), Err(WriteFault { written: 7 }));
+        assert!(rt; sink.failed());
+        assert_eq!(rt; sink.put(b"x"), Err(Stopped));
+        assert_eq!(rt; sink.finish(), Err(Stopped));
+        assert_eq!(rt; put_all(&mut sink, TEXT), Err(WriteFault { written: 0 }));
+        assert_eq!(rt; writer.bytes.as_slice(), b"eleven ".as_slice());
+    }
+}
+
+#[test]
+fn no_bytes_for_a_failing_writer(rt: HostRuntime) {
+    let mut writer = Narrow {
+        fails_full: true,
+        ..narrow_writer(rt, 0)
+    };
+    let mut sink = WriteOf::new(&mut writer);
+    assert_eq!(rt; sink.put(b""), Err(Stopped));
+    assert!(rt; sink.failed());
+}
+
+#[test]
+fn a_flush_that_fails(rt: HostRuntime) {
+    let mut writer = Narrow {
+        fails_flush: true,
+        ..narrow_writer(rt, 100)
+    };
+    let mut sink = WriteOf::new(&mut writer);
+    assert_eq!(rt;
+        put_all(&mut sink, TEXT),
+        Err(WriteFault {
+            written: TEXT.len()
+        })
+    );
+    assert!(rt; sink.failed());
+    assert_eq!(rt; sink.put(b"x"), Err(Stopped));
+}
+
+#[test]
+fn a_sink_of_ones_own(rt: HostRuntime) {
+    let mut page = Page::new(Vec::new(rt.alloc()), 8);
+    assert_eq!(rt; put_all(&mut page, b"seven b"), Ok(()));
+    assert_eq!(rt; put_all(&mut page, TEXT), Err(WriteFault { written: 1 }));
+    assert!(rt; page.failed());
+    assert_eq!(rt; page.finish(), Err(Stopped));
+    assert_eq!(rt; page.bytes(), b"seven be".as_slice());
+}
+
+#[test]
+fn faults_have_texts(rt: HostRuntime) -> Result<(), std::alloc::AllocError> {
+    let fault = WriteFault { written: 7 };
+    let text = format!(in rt.alloc(); "{fault}; {Stopped}")?;
+    assert_eq!(rt;
+        text.as_str(),
+        "writing failed after 7 bytes; the device has failed"
+    );
+    Ok(())
+}
