@@ -1,6 +1,7 @@
 //! A whole text for a sink.
 
-ghost use Rattle.std.specs.Prelude.{◌≡◌, ◌≤◌, ◌++◌, length, take, true, false, IfErr, IsErrAnd, MatchResult, OnOk, OnErr};
+ghost use Rattle.std.specs.Prelude.{◌≡◌, ◌≤◌, ◌++◌, length, take, true, false, IfErr, IsErrAnd, MatchResult, OnOk, OnErr, Some, codes};
+ghost use Rattle.std.specs.Fmt.{decimal};
 ghost use Rattle.std.specs.Io.KnownBytes.{Appends};
 
 use crate::Sink;
@@ -14,6 +15,8 @@ pub struct WriteFault {
 }
 
 impl fmt::Display for WriteFault {
+    ghost output = { λ e. Some (codes "writing failed after " ++ decimal e.written ++ codes " bytes") };
+
     fn fmt<W: fmt::Write>(&self, f: &mut fmt::Formatter<W>) -> fmt::Result {
         write!(f, "writing failed after {} bytes", self.written)
     }

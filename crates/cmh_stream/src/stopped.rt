@@ -1,5 +1,7 @@
 //! What a device answers once it has failed.
 
+ghost use Rattle.std.specs.Prelude.{Some, codes};
+
 use std::error::Error;
 use std::fmt;
 
@@ -8,6 +10,8 @@ use std::fmt;
 pub struct Stopped;
 
 impl fmt::Display for Stopped {
+    ghost output = { λ _. Some (codes "the device has failed") };
+
     fn fmt<W: fmt::Write>(&self, f: &mut fmt::Formatter<W>) -> fmt::Result {
         write!(f, "the device has failed")
     }
