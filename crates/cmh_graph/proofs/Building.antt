@@ -1,11 +1,17 @@
--- Well formed is without a fault.
-use Rattle.std.proofs.Common.{◌≡◌, ℕ, zero, suc, false, ◌<◌, ◌≤◌, inl, inr, List, [], ◌∷◌, length, get_or, refl, subst, arith}
+-- Well formed is without a fault, and which fault is the first.
+use Rattle.std.proofs.Common.{◌≡◌, ℕ, zero, suc, false, ◌<◌, ◌≤◌, ◌⊎◌, inl, inr, List, [], ◌∷◌, length, get_or, refl, sym, subst, arith}
+use Rattle.std.specs.Prelude.{IsFalse}
+use Rattle.std.specs.Cmp.{nat_cmp_is}
+use Rattle.std.specs.Cmp.Lexicographic.{slice_cmp}
+use Rattle.std.specs.Ordering.{is_lt, nat_cmp}
+use Rattle.std.specs.declared.cmp.Ordering.TheVariants.{Equal, Greater}
 use native.Mathlib.Decide.{dec_lt}
 use Rattle.cmh_graph.specs.declared.TheConstants.{MAX_PROCESSES, MAX_DEPENDENCIES, MAX_IN_TRANSIT}
 use Rattle.cmh_graph.specs.declared.fault.GraphFault.{GraphFault}
 use Rattle.cmh_graph.specs.declared.fault.GraphFault.TheVariants.{TooManyProcesses, TooManyDependencies, DependentOutOfRange, RepeatedDependent, ActiveWithDependents, TooManyInTransit, TransitOutOfRange, Memory}
-use Rattle.cmh_graph.specs.Build.{entry_count, message_at, Has, IsWellFormed, WellFormedLaw}
-use Rattle.cmh_graph.specs.Graph.{Process, Graph, process_count, dependents_of, is_idle, nobody, entry}
+use Rattle.cmh_graph.specs.Build.{comes_before, entry_count, message_at, Has, IsFirstFault, IsWellFormed, WellFormedLaw}
+use Rattle.cmh_graph.specs.Graph.{Process, Graph, process_count, dependents_of, is_idle, nobody, entry, IsWithinGraph}
+use Rattle.cmh_graph.specs.Judge.{IsFirst, IsFirstEntry}
 
 empty_by : (g : Graph) (i : ℕ) (ds : List ℕ) → dependents_of g i ≡ ds → is_idle g i ≡ false → ((fault : GraphFault) → Has g fault → ⊥) → ds ≡ []
 empty_by g i [] e a h = refl
@@ -50,3 +56,140 @@ no_fault g w Memory h = h
 
 pub well_formed_law : WellFormedLaw
 well_formed_law = λ g. (λ w fault h. no_fault g w fault h, λ h. without_fault g h)
+
+-- ---- the first fault
+
+cmp_same : (k : ℕ) → nat_cmp k k ≡ Equal
+cmp_same k = sym (nat_cmp_is k k Equal refl)
+
+not_below : (b j : ℕ) → j ≤ b → is_lt (slice_cmp nat_cmp (b ∷ []) (j ∷ [])) ≡ false
+not_below b j l =
+    elim (dec_lt j b) [
+      | yes h ↦ rw (sym (nat_cmp_is b j Greater h)) refl
+      | no h ↦ let same : b ≡ j = omega (arith, h, l) in rw (sym (nat_cmp_is b j Equal same)) refl
+    ]
+
+-- faults of one kind with one index go by it
+one_first : (k i a : ℕ) → i ≤ a → is_lt (slice_cmp nat_cmp (k ∷ a ∷ []) (k ∷ i ∷ [])) ≡ false
+one_first k i a l = rw (cmp_same k) (not_below a i l)
+
+-- and those with two go by these
+pair_first : (k i j a b : ℕ) → (i < a) ⊎ ((i ≡ a) × (j ≤ b)) → is_lt (slice_cmp nat_cmp (k ∷ a ∷ b ∷ []) (k ∷ i ∷ j ∷ [])) ≡ false
+pair_first k i j a b (inl h) = rw (cmp_same k, sym (nat_cmp_is a i Greater h)) refl
+pair_first k i j a b (inr h) = rw (cmp_same k, sym (nat_cmp_is a i Equal (sym h.0))) (not_below b j h.1)
+
+first_processes_by : (g : Graph) → MAX_PROCESSES < process_count g → (other : GraphFault) → Has g other → IsFalse (comes_before other TooManyProcesses)
+first_processes_by g f TooManyProcesses h = refl
+first_processes_by g f TooManyDependencies h = refl
+first_processes_by g f (DependentOutOfRange a b) h = refl
+first_processes_by g f (RepeatedDependent a b) h = refl
+first_processes_by g f (ActiveWithDependents a) h = refl
+first_processes_by g f TooManyInTransit h = refl
+first_processes_by g f (TransitOutOfRange a) h = refl
+first_processes_by g f Memory h = absurd h
+
+-- too many processes come first
+pub first_processes : (g : Graph) → MAX_PROCESSES < process_count g → IsFirstFault g TooManyProcesses
+first_processes g f = record { had = f; first = first_processes_by g f }
+
+first_dependencies_by : (g : Graph) → process_count g ≤ MAX_PROCESSES → MAX_DEPENDENCIES < entry_count g → (other : GraphFault) → Has g other → IsFalse (comes_before other TooManyDependencies)
+first_dependencies_by g np f TooManyProcesses h = absurd (omega (arith, np, h))
+first_dependencies_by g np f TooManyDependencies h = refl
+first_dependencies_by g np f (DependentOutOfRange a b) h = refl
+first_dependencies_by g np f (RepeatedDependent a b) h = refl
+first_dependencies_by g np f (ActiveWithDependents a) h = refl
+first_dependencies_by g np f TooManyInTransit h = refl
+first_dependencies_by g np f (TransitOutOfRange a) h = refl
+first_dependencies_by g np f Memory h = absurd h
+
+-- then too many dependencies
+pub first_dependencies : (g : Graph) → process_count g ≤ MAX_PROCESSES → MAX_DEPENDENCIES < entry_count g → IsFirstFault g TooManyDependencies
+first_dependencies g np f = record { had = f; first = first_dependencies_by g np f }
+
+first_out_of_range_by : (g : Graph) (i j : ℕ) → process_count g ≤ MAX_PROCESSES → entry_count g ≤ MAX_DEPENDENCIES → IsFirstEntry (λ i j. Has g (DependentOutOfRange i j)) i j → (other : GraphFault) → Has g other → IsFalse (comes_before other (DependentOutOfRange i j))
+first_out_of_range_by g i j np nd f TooManyProcesses h = absurd (omega (arith, np, h))
+first_out_of_range_by g i j np nd f TooManyDependencies h = absurd (omega (arith, nd, h))
+first_out_of_range_by g i j np nd f (DependentOutOfRange a b) h = pair_first 3 i j a b (f.first a b h)
+first_out_of_range_by g i j np nd f (RepeatedDependent a b) h = refl
+first_out_of_range_by g i j np nd f (ActiveWithDependents a) h = refl
+first_out_of_range_by g i j np nd f TooManyInTransit h = refl
+first_out_of_range_by g i j np nd f (TransitOutOfRange a) h = refl
+first_out_of_range_by g i j np nd f Memory h = absurd h
+
+-- then the first dependent out of range
+pub first_out_of_range : (g : Graph) (i j : ℕ) → process_count g ≤ MAX_PROCESSES → entry_count g ≤ MAX_DEPENDENCIES → IsFirstEntry (λ i j. Has g (DependentOutOfRange i j)) i j → IsFirstFault g (DependentOutOfRange i j)
+first_out_of_range g i j np nd f = record { had = f.holds; first = first_out_of_range_by g i j np nd f }
+
+first_repeat_by : (g : Graph) (i j : ℕ) → process_count g ≤ MAX_PROCESSES → entry_count g ≤ MAX_DEPENDENCIES → IsWithinGraph g → IsFirstEntry (λ i j. Has g (RepeatedDependent i j)) i j → (other : GraphFault) → Has g other → IsFalse (comes_before other (RepeatedDependent i j))
+first_repeat_by g i j np nd nr f TooManyProcesses h = absurd (omega (arith, np, h))
+first_repeat_by g i j np nd nr f TooManyDependencies h = absurd (omega (arith, nd, h))
+first_repeat_by g i j np nd nr f (DependentOutOfRange a b) h = absurd (let l = nr a b h.0 in omega (arith, l, h.1))
+first_repeat_by g i j np nd nr f (RepeatedDependent a b) h = pair_first 4 i j a b (f.first a b h)
+first_repeat_by g i j np nd nr f (ActiveWithDependents a) h = refl
+first_repeat_by g i j np nd nr f TooManyInTransit h = refl
+first_repeat_by g i j np nd nr f (TransitOutOfRange a) h = refl
+first_repeat_by g i j np nd nr f Memory h = absurd h
+
+-- then the first repeat
+pub first_repeat : (g : Graph) (i j : ℕ) → process_count g ≤ MAX_PROCESSES → entry_count g ≤ MAX_DEPENDENCIES → IsWithinGraph g → IsFirstEntry (λ i j. Has g (RepeatedDependent i j)) i j → IsFirstFault g (RepeatedDependent i j)
+first_repeat g i j np nd nr f = record { had = f.holds; first = first_repeat_by g i j np nd nr f }
+
+first_active_by : (g : Graph) (i : ℕ) → process_count g ≤ MAX_PROCESSES → entry_count g ≤ MAX_DEPENDENCIES → IsWithinGraph g → ((i j : ℕ) → Has g (RepeatedDependent i j) → ⊥) → IsFirst (λ i. Has g (ActiveWithDependents i)) i → (other : GraphFault) → Has g other → IsFalse (comes_before other (ActiveWithDependents i))
+first_active_by g i np nd nr ne f TooManyProcesses h = absurd (omega (arith, np, h))
+first_active_by g i np nd nr ne f TooManyDependencies h = absurd (omega (arith, nd, h))
+first_active_by g i np nd nr ne f (DependentOutOfRange a b) h = absurd (let l = nr a b h.0 in omega (arith, l, h.1))
+first_active_by g i np nd nr ne f (RepeatedDependent a b) h = absurd (ne a b h)
+first_active_by g i np nd nr ne f (ActiveWithDependents a) h = one_first 5 i a (f.first a h)
+first_active_by g i np nd nr ne f TooManyInTransit h = refl
+first_active_by g i np nd nr ne f (TransitOutOfRange a) h = refl
+first_active_by g i np nd nr ne f Memory h = absurd h
+
+-- then the first active process with dependents
+pub first_active : (g : Graph) (i : ℕ) → process_count g ≤ MAX_PROCESSES → entry_count g ≤ MAX_DEPENDENCIES → IsWithinGraph g → ((i j : ℕ) → Has g (RepeatedDependent i j) → ⊥) → IsFirst (λ i. Has g (ActiveWithDependents i)) i → IsFirstFault g (ActiveWithDependents i)
+first_active g i np nd nr ne f = record { had = f.holds; first = first_active_by g i np nd nr ne f }
+
+first_in_transit_by : (g : Graph) → process_count g ≤ MAX_PROCESSES → entry_count g ≤ MAX_DEPENDENCIES → IsWithinGraph g → ((i j : ℕ) → Has g (RepeatedDependent i j) → ⊥) → ((i : ℕ) → Has g (ActiveWithDependents i) → ⊥) → MAX_IN_TRANSIT < length g.in_transit → (other : GraphFault) → Has g other → IsFalse (comes_before other TooManyInTransit)
+first_in_transit_by g np nd nr ne na f TooManyProcesses h = absurd (omega (arith, np, h))
+first_in_transit_by g np nd nr ne na f TooManyDependencies h = absurd (omega (arith, nd, h))
+first_in_transit_by g np nd nr ne na f (DependentOutOfRange a b) h = absurd (let l = nr a b h.0 in omega (arith, l, h.1))
+first_in_transit_by g np nd nr ne na f (RepeatedDependent a b) h = absurd (ne a b h)
+first_in_transit_by g np nd nr ne na f (ActiveWithDependents a) h = absurd (na a h)
+first_in_transit_by g np nd nr ne na f TooManyInTransit h = refl
+first_in_transit_by g np nd nr ne na f (TransitOutOfRange a) h = refl
+first_in_transit_by g np nd nr ne na f Memory h = absurd h
+
+-- then too many messages
+pub first_in_transit : (g : Graph) → process_count g ≤ MAX_PROCESSES → entry_count g ≤ MAX_DEPENDENCIES → IsWithinGraph g → ((i j : ℕ) → Has g (RepeatedDependent i j) → ⊥) → ((i : ℕ) → Has g (ActiveWithDependents i) → ⊥) → MAX_IN_TRANSIT < length g.in_transit → IsFirstFault g TooManyInTransit
+first_in_transit g np nd nr ne na f = record { had = f; first = first_in_transit_by g np nd nr ne na f }
+
+first_transit_by : (g : Graph) (i : ℕ) → process_count g ≤ MAX_PROCESSES → entry_count g ≤ MAX_DEPENDENCIES → IsWithinGraph g → ((i j : ℕ) → Has g (RepeatedDependent i j) → ⊥) → ((i : ℕ) → Has g (ActiveWithDependents i) → ⊥) → length g.in_transit ≤ MAX_IN_TRANSIT → IsFirst (λ i. Has g (TransitOutOfRange i)) i → (other : GraphFault) → Has g other → IsFalse (comes_before other (TransitOutOfRange i))
+first_transit_by g i np nd nr ne na nt f TooManyProcesses h = absurd (omega (arith, np, h))
+first_transit_by g i np nd nr ne na nt f TooManyDependencies h = absurd (omega (arith, nd, h))
+first_transit_by g i np nd nr ne na nt f (DependentOutOfRange a b) h = absurd (let l = nr a b h.0 in omega (arith, l, h.1))
+first_transit_by g i np nd nr ne na nt f (RepeatedDependent a b) h = absurd (ne a b h)
+first_transit_by g i np nd nr ne na nt f (ActiveWithDependents a) h = absurd (na a h)
+first_transit_by g i np nd nr ne na nt f TooManyInTransit h = absurd (omega (arith, nt, h))
+first_transit_by g i np nd nr ne na nt f (TransitOutOfRange a) h = one_first 7 i a (f.first a h)
+first_transit_by g i np nd nr ne na nt f Memory h = absurd h
+
+-- then the first message out of range
+pub first_transit : (g : Graph) (i : ℕ) → process_count g ≤ MAX_PROCESSES → entry_count g ≤ MAX_DEPENDENCIES → IsWithinGraph g → ((i j : ℕ) → Has g (RepeatedDependent i j) → ⊥) → ((i : ℕ) → Has g (ActiveWithDependents i) → ⊥) → length g.in_transit ≤ MAX_IN_TRANSIT → IsFirst (λ i. Has g (TransitOutOfRange i)) i → IsFirstFault g (TransitOutOfRange i)
+first_transit g i np nd nr ne na nt f = record { had = f.holds; first = first_transit_by g i np nd nr ne na nt f }
+
+transit_none : (g : Graph) → ((i : ℕ) → i < length g.in_transit → ((message_at g i).0 < process_count g) × ((message_at g i).1 < process_count g)) → (i : ℕ) → Has g (TransitOutOfRange i) → ⊥
+transit_none g n i (l, inl h) = let b = n i l in omega (arith, b.0, h)
+transit_none g n i (l, inr h) = let b = n i l in omega (arith, b.1, h)
+
+-- a graph without any of these is well formed
+pub well_formed_then : (g : Graph) → process_count g ≤ MAX_PROCESSES → entry_count g ≤ MAX_DEPENDENCIES → IsWithinGraph g → ((i j : ℕ) → Has g (RepeatedDependent i j) → ⊥) → ((i : ℕ) → Has g (ActiveWithDependents i) → ⊥) → length g.in_transit ≤ MAX_IN_TRANSIT → ((i : ℕ) → i < length g.in_transit → ((message_at g i).0 < process_count g) × ((message_at g i).1 < process_count g)) → IsWellFormed g
+well_formed_then g np nd nr ne na nt n = without_fault g (none_of g np nd nr ne na nt n)
+  where
+    none_of : (g : Graph) → process_count g ≤ MAX_PROCESSES → entry_count g ≤ MAX_DEPENDENCIES → IsWithinGraph g → ((i j : ℕ) → Has g (RepeatedDependent i j) → ⊥) → ((i : ℕ) → Has g (ActiveWithDependents i) → ⊥) → length g.in_transit ≤ MAX_IN_TRANSIT → ((i : ℕ) → i < length g.in_transit → ((message_at g i).0 < process_count g) × ((message_at g i).1 < process_count g)) → (fault : GraphFault) → Has g fault → ⊥
+    none_of g np nd nr ne na nt n TooManyProcesses h = omega (arith, np, h)
+    none_of g np nd nr ne na nt n TooManyDependencies h = omega (arith, nd, h)
+    none_of g np nd nr ne na nt n (DependentOutOfRange a b) h = let l = nr a b h.0 in omega (arith, l, h.1)
+    none_of g np nd nr ne na nt n (RepeatedDependent a b) h = ne a b h
+    none_of g np nd nr ne na nt n (ActiveWithDependents a) h = na a h
+    none_of g np nd nr ne na nt n TooManyInTransit h = omega (arith, nt, h)
+    none_of g np nd nr ne na nt n (TransitOutOfRange a) h = transit_none g n a h
+    none_of g np nd nr ne na nt n Memory h = h

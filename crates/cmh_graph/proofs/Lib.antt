@@ -2,8 +2,10 @@ pub mod Building
 pub mod Choosing
 pub mod Cores
 pub mod Distances
+pub mod Judging
 pub mod Listing
 pub mod Reaching
 pub mod Searching
 pub mod Stepping
 pub mod Verdicts
+pub mod Waking

@@ -7,7 +7,7 @@ use Rattle.std.proofs.lemmas.List.{get_or-map, get_or_default, get_or_past, map-
 use Rattle.std.proofs.lemmas.List.Elements.{Contains-append_left, Contains-append_right, Contains-append_cases, Contains-push, Contains-push_cases}
 use Rattle.cmh_graph.specs.Build.{IsWellFormed}
 use Rattle.cmh_graph.specs.Graph.{Graph, Depends, dependents_of, is_idle, process_count}
-use Rattle.cmh_graph.specs.Search.{ArePredecessors, list_at, number_at, JoinsEach, IsNamedBy, Numbers}
+use Rattle.cmh_graph.specs.Search.{ArePredecessors, is_marked, list_at, number_at, JoinsEach, IsNamedBy, Numbers}
 use Rattle.cmh_graph.proofs.Reaching.{cons_contains}
 use Rattle.cmh_graph.proofs.Verdicts.{idle_within}
 
@@ -28,6 +28,12 @@ taken_stays xs i q l c = subst (λ ys. Contains ys q) (sym (take_more xs i 0 l))
 -- and the element is there
 pub taken_last : (xs : List ℕ) (i q : ℕ) → i < length xs → q ≡ get_or xs i 0 → Contains (take (i + 1) xs) q
 taken_last xs i q l e = subst (λ ys. Contains ys q) (sym (take_more xs i 0 l)) (subst (λ z. Contains (take i xs ++ get_or xs i 0 ∷ []) z) (sym e) (Contains-push (take i xs) (get_or xs i 0)))
+
+-- ---- marks
+
+-- whether a place is marked, by what a read of the place gave
+pub marked_read : (marks : List Bool) (p : ℕ) (b : Bool) → p < length marks → b ≡ get_or marks p b → is_marked marks p ≡ b
+marked_read marks p b l e = sym (e ∙ get_or_default marks p b false l)
 
 -- ---- lists at places
 

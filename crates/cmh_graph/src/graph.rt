@@ -1,11 +1,12 @@
 //! The wait graph.
 
-ghost use Rattle.std.specs.Prelude.{◌≡◌, ◌⊎◌, ◌<◌, ◌↔◌, map, [], IfOk, IfErr, IsTrue};
-ghost use Rattle.cmh_graph.specs.Graph.{indices, process_count, is_idle, is_awake, site_of, name_of, dependents_of, idle_list};
+ghost use Rattle.std.specs.Prelude.{◌≡◌, ◌⊎◌, ◌<◌, ◌↔◌, map, [], IfOk, IfErr, IsTrue, not};
+ghost use Rattle.cmh_graph.specs.Graph.{indices, process_count, is_idle, is_idle_state, is_awake, site_of, name_of, dependents_of, idle_list};
 ghost use Rattle.cmh_graph.specs.Build.{graph_of, IsWellFormed, IsFirstFault};
 
+use crate::judge::judge;
 use crate::{GraphFault, Part, State};
-use std::alloc::Global;
+use std::alloc::{AllocError, Global};
 use std::marker::Model;
 
 /// A wait graph: who waits for whom, and which messages are in transit. Processes are named by
@@ -51,7 +52,14 @@ impl WaitGraph {
         ensures fault { IfErr result (λ e.
             (e ≡ GraphFault.Memory) ⊎ IsFirstFault (graph_of parts.items in_transit.now) e) }
     {
-        Err(GraphFault::Memory)
+        judge(alloc, &parts, in_transit)?;
+        let awake = awake_marks(alloc, &parts, in_transit)?;
+        let in_transit = Vec::from_slice(alloc, in_transit)?;
+        Ok(WaitGraph {
+            parts,
+            in_transit,
+            awake,
+        })
     }
 
     /// How many processes there are.
@@ -129,4 +137,34 @@ impl WaitGraph {
         }
         Ok(list)
     }
+}
+
+/// For each part whether its process is awake.
+fn awake_marks(
+    alloc: Global,
+    parts: &[Part],
+    in_transit: &[(u32, u32)],
+) -> Result<Vec<bool>, AllocError>
+    requires { IsWellFormed (graph_of parts.now in_transit.now) }
+    ensures { IfOk result (λ marks. let g = graph_of parts.now in_transit.now in
+        marks.items ≡ map (is_awake g) (indices g)) }
+{
+    let mut marks = active_marks(alloc, parts)?;
+    for (sender, receiver) in in_transit {
+        if parts[*receiver as usize].dependents.contains(sender) {
+            marks[*receiver as usize] = true;
+        }
+    }
+    Ok(marks)
+}
+
+/// For each part whether it is active.
+fn active_marks(alloc: Global, parts: &[Part]) -> Result<Vec<bool>, AllocError>
+    ensures { IfOk result (λ marks.
+        marks.items ≡ map (λ part. not (is_idle_state part.state)) parts.now) }
+{
+    parts
+        .iter()
+        .map(|part| matches!(part.state, State::Active))
+        .collect(alloc)
 }

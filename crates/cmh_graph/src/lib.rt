@@ -8,6 +8,7 @@
 mod distance;
 mod fault;
 mod graph;
+mod judge;
 mod laws;
 mod part;
 mod reach;

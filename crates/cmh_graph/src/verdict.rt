@@ -26,7 +26,11 @@ impl WaitGraph {
         let mut verdicts = Vec::new(alloc);
         for p in 0..self.len() {
             let is_free = distances[p as usize].is_some();
-            let verdict = if is_free { Verdict::Free } else { Verdict::Deadlocked };
+            let verdict = if is_free {
+                Verdict::Free
+            } else {
+                Verdict::Deadlocked
+            };
             verdicts.push(verdict)?;
         }
         Ok(verdicts)

@@ -16,11 +16,11 @@ index-requires c =
 pub loop-p-preserved : goal.loop-p-preserved
 loop-p-preserved c =
     let verdict_is : c.if-is_free.verdict ≡ verdict c.args.self.now c.loop-p.p =
-        elim c.if-is_free.branch [
-          | then-is_free w ↦ w.verdict-is ∙ ap (λ b. cond b Free Deadlocked) (sym w.if-is_free.true)
-          | else-is_free w ↦ w.verdict-is ∙ ap (λ b. cond b Free Deadlocked) (sym w.if-is_free.false)
-        ]
-        ∙ verdict_read c.args.self.now c.len-p-end.ensures.well_formed.within c.loop-p.p (omega (arith, c.loop-p-test.true, c.len-p-end.ensures.count)) _ _ c.in_ok-distances.ensures.ok c.index.ensures _ c.is_some-is_free.ensures
+    elim c.if-is_free.branch [
+      | then-is_free w ↦ w.verdict-is ∙ ap (λ b. cond b Free Deadlocked) (sym w.if-is_free.true)
+      | else-is_free w ↦ w.verdict-is ∙ ap (λ b. cond b Free Deadlocked) (sym w.if-is_free.false)
+    ]
+    ∙ verdict_read c.args.self.now c.len-p-end.ensures.well_formed.within c.loop-p.p (omega (arith, c.loop-p-test.true, c.len-p-end.ensures.count)) _ _ c.in_ok-distances.ensures.ok c.index.ensures _ c.is_some-is_free.ensures
     in
     c.in_ok-push.ensures.items
     ∙ (λ i. c.loop-p.invariant i ++ verdict_is i ∷ [])

@@ -1,0 +1,8 @@
+use Rattle.cmh_graph.proofs.Waking.{awake_end, awake_start}
+use Rattle.cmh_graph.proofs.graph.awake_marks.Goals as goal
+
+pub loop-sender-init : goal.loop-sender-init
+loop-sender-init c = awake_start _ _ _ c.in_ok-marks.ensures
+
+pub returns : goal.returns
+returns c = awake_end _ _ _ c.loop-sender-test.false c.loop-sender.invariant

@@ -1,0 +1,150 @@
+//! Whether parts and messages in transit make a wait graph, and if not, which fault comes first.
+
+ghost use Rattle.std.specs.Prelude.{◌≡◌, ◌⊎◌, ◌<◌, ◌≤◌, ◌↔◌, ℕ, [], length, slice_index_or, All, IfOk, IfErr, IfNone, IfSome, IsTrue, OnOk};
+ghost use Rattle.cmh_graph.specs.declared.fault.GraphFault.TheVariants.{DependentOutOfRange, RepeatedDependent, ActiveWithDependents};
+ghost use Rattle.cmh_graph.specs.Graph.{IsWithinGraph};
+ghost use Rattle.cmh_graph.specs.Build.{entry_count, graph_of, Has, IsFirstFault, IsWellFormed};
+ghost use Rattle.cmh_graph.specs.Judge.{IsAtLeast, IsFirst, IsFirstEntry, IsRepeat};
+
+use crate::{GraphFault, MAX_DEPENDENCIES, MAX_IN_TRANSIT, MAX_PROCESSES, Part, State};
+use std::alloc::{AllocError, Global};
+
+/// Finds the first fault, kind by kind.
+pub(crate) fn judge(
+    alloc: Global,
+    parts: &[Part],
+    in_transit: &[(u32, u32)],
+) -> Result<(), GraphFault>
+    ensures ok { OnOk result (IsWellFormed (graph_of parts.now in_transit.now)) }
+    ensures fault { IfErr result (λ e.
+        (e ≡ GraphFault.Memory) ⊎ IsFirstFault (graph_of parts.now in_transit.now) e) }
+{
+    if parts.len() > MAX_PROCESSES {
+        return Err(GraphFault::TooManyProcesses);
+    }
+    if has_too_many_entries(parts) {
+        return Err(GraphFault::TooManyDependencies);
+    }
+    if let Some((i, j)) = out_of_range(parts) {
+        return Err(GraphFault::DependentOutOfRange(i, j));
+    }
+    if let Some((i, j)) = repeated(alloc, parts)? {
+        return Err(GraphFault::RepeatedDependent(i, j));
+    }
+    if let Some(i) = active_with_dependents(parts) {
+        return Err(GraphFault::ActiveWithDependents(i));
+    }
+    if in_transit.len() > MAX_IN_TRANSIT {
+        return Err(GraphFault::TooManyInTransit);
+    }
+    match transit_out_of_range(in_transit, parts.len()) {
+        Some(i) => Err(GraphFault::TransitOutOfRange(i)),
+        None => Ok(()),
+    }
+}
+
+/// Whether the dependent sets have more than `MAX_DEPENDENCIES` entries together.
+fn has_too_many_entries(parts: &[Part]) -> bool
+    ensures { IsTrue result ↔ (MAX_DEPENDENCIES < entry_count (graph_of parts.now [])) }
+{
+    let mut room = MAX_DEPENDENCIES;
+    for part in parts {
+        if part.dependents.len() > room {
+            return true;
+        }
+        room -= part.dependents.len();
+    }
+    false
+}
+
+/// The first entry that names no part, by the places of the part and of the entry.
+fn out_of_range(parts: &[Part]) -> Option<(usize, usize)>
+    ensures some { IfSome result (λ at. IsFirstEntry
+        (λ i j. Has (graph_of parts.now []) (DependentOutOfRange i j)) at.0 at.1) }
+    ensures none { IfNone result (IsWithinGraph (graph_of parts.now [])) }
+{
+    for (i, part) in parts.iter().enumerate() {
+        if let Some(j) = first_at_least(parts.len(), &part.dependents) {
+            return Some((i, j));
+        }
+    }
+    None
+}
+
+/// The first entry that is `bound` or more.
+fn first_at_least(bound: usize, list: &[u32]) -> Option<usize>
+    ensures some { IfSome result (IsFirst (IsAtLeast bound list.now)) }
+    ensures none { IfNone result ((j : ℕ) → IsAtLeast bound list.now j → ⊥) }
+{
+    for (j, entry) in list.iter().enumerate() {
+        if *entry as usize >= bound {
+            return Some(j);
+        }
+    }
+    None
+}
+
+/// The first entry that equals an earlier one of its part, by the places of the part and of the
+/// entry.
+fn repeated(alloc: Global, parts: &[Part]) -> Result<Option<(usize, usize)>, AllocError>
+    requires { IsWithinGraph (graph_of parts.now []) }
+    ensures some { IfOk result (λ found. IfSome found (λ at. IsFirstEntry
+        (λ i j. Has (graph_of parts.now []) (RepeatedDependent i j)) at.0 at.1)) }
+    ensures none { IfOk result (λ found. IfNone found
+        ((i j : ℕ) → Has (graph_of parts.now []) (RepeatedDependent i j) → ⊥)) }
+{
+    for (i, part) in parts.iter().enumerate() {
+        if let Some(j) = first_repeat(alloc, parts.len(), &part.dependents)? {
+            return Ok(Some((i, j)));
+        }
+    }
+    Ok(None)
+}
+
+/// The first entry that equals an earlier one, of a list of places below `count`.
+fn first_repeat(alloc: Global, count: usize, list: &[u32]) -> Result<Option<usize>, AllocError>
+    requires { All (λ r. r < count) list.now }
+    ensures some { IfOk result (λ found. IfSome found (IsFirst (IsRepeat list.now))) }
+    ensures none { IfOk result (λ found. IfNone found ((j : ℕ) → IsRepeat list.now j → ⊥)) }
+{
+    let mut seen = vec![in alloc; false; count]?;
+    for (j, entry) in list.iter().enumerate() {
+        if seen[*entry as usize] {
+            return Ok(Some(j));
+        }
+        seen[*entry as usize] = true;
+    }
+    Ok(None)
+}
+
+/// The first part that is active and has dependents.
+fn active_with_dependents(parts: &[Part]) -> Option<usize>
+    ensures some { IfSome result (IsFirst
+        (λ i. Has (graph_of parts.now []) (ActiveWithDependents i))) }
+    ensures none { IfNone result
+        ((i : ℕ) → Has (graph_of parts.now []) (ActiveWithDependents i) → ⊥) }
+{
+    for (i, part) in parts.iter().enumerate() {
+        if matches!(part.state, State::Active) && !part.dependents.is_empty() {
+            return Some(i);
+        }
+    }
+    None
+}
+
+/// The first message whose sender or receiver is `count` or more.
+fn transit_out_of_range(in_transit: &[(u32, u32)], count: usize) -> Option<usize>
+    ensures some { IfSome result (IsFirst (λ i. (i < length in_transit.now)
+        × ((count ≤ (slice_index_or in_transit.now i (0, 0)).0)
+        ⊎ (count ≤ (slice_index_or in_transit.now i (0, 0)).1)))) }
+    ensures none { IfNone result ((i : ℕ) → i < length in_transit.now
+        → ((slice_index_or in_transit.now i (0, 0)).0 < count)
+        × ((slice_index_or in_transit.now i (0, 0)).1 < count)) }
+{
+    for (i, (sender, receiver)) in in_transit.iter().enumerate() {
+        if *sender as usize >= count || *receiver as usize >= count {
+            return Some(i);
+        }
+    }
+    None
+}
