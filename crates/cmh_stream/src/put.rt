@@ -8,9 +8,10 @@ use crate::Sink;
 use std::error::Error;
 use std::fmt;
 
-/// A sink has failed before it handed on a whole text. It had taken this many bytes of it.
+/// A sink has failed before it handed on a whole text.
 #[derive(Clone, Copy, Debug, PartialEq, Eq)]
 pub struct WriteFault {
+    /// How many bytes of the text it had taken, from the front.
     pub written: usize,
 }
 

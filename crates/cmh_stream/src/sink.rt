@@ -7,8 +7,8 @@ use crate::Stopped;
 
 /// A device that takes bytes, or fails.
 ///
-/// What it took, whether it is finished and whether it has failed follow from its answers alone,
-/// so that an implementor can claim none of them.
+/// A caller can tell from the answers alone which bytes it took, whether it is finished and whether
+/// it has failed: an implementor has no say in it.
 pub trait Sink {
     // The bytes that it took so far.
     ghost taken: { Self → List ℕ };

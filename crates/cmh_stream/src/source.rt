@@ -7,8 +7,8 @@ use crate::Stopped;
 
 /// A device that gives bytes up to its end, or until it fails.
 ///
-/// What it gave, whether it has ended and whether it has failed follow from its answers alone, so
-/// that an implementor can claim none of them.
+/// A caller can tell from the answers alone which bytes it gave, whether it has ended and whether
+/// it has failed: an implementor has no say in it.
 pub trait Source {
     // The bytes that it gave so far.
     ghost given: { Self → List ℕ };
