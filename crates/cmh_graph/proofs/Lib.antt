@@ -6,6 +6,7 @@ pub mod Judging
 pub mod Listing
 pub mod Reaching
 pub mod Searching
+pub mod Spreading
 pub mod Stepping
 pub mod Verdicts
 pub mod Waking

@@ -1,11 +1,12 @@
 -- Lists of indices that grow by one.
-use Rattle.std.proofs.Common.{◌≡◌, ℕ, ◌+◌, ◌<◌, Bool, true, false, cond, List, [], ◌∷◌, ◌++◌, map, length, get_or, refl, sym, ◌∙◌, ap, append-nil, arith}
-use Rattle.std.specs.Prelude.{filter}
+use Rattle.std.proofs.Common.{◌≡◌, ℕ, zero, ◌+◌, ◌<◌, Bool, true, false, cond, List, [], ◌∷◌, ◌++◌, map, length, get_or, refl, sym, ◌∙◌, ap, append-nil, arith}
+use Rattle.std.specs.Prelude.{Contains, filter}
 use Rattle.std.specs.List.{range_with_len}
 use Rattle.std.proofs.lemmas.List.Elements.{filter-append}
 use Rattle.std.proofs.lemmas.List.{length-map}
 use Rattle.std.proofs.lemmas.List.FromFn.{map-range_with_len_more, length-range_with_len, get_or-map-range_with_len, fill_by_all}
 use Rattle.cmh_graph.specs.Graph.{Graph, process_count, indices}
+use Rattle.cmh_graph.proofs.Reaching.{contains_cons}
 
 map_same : (xs : List ℕ) → map (λ x. x) xs ≡ xs
 map_same [] = refl
@@ -39,3 +40,12 @@ by_index g f xs p d e l = ap (λ ys. get_or ys p d) e ∙ get_or-map-range_with_
 pub by_index_agree : {X : Type 0} (g : Graph) (f h : ℕ → X) (d : X) → ((p : ℕ) → p < process_count g → f p ≡ h p) → map f (indices g) ≡ map h (indices g)
 by_index_agree g f h d e =
     fill_by_all h (map f (indices g)) (process_count g) d (length-by_index g f) (λ k l. by_index g f (map f (indices g)) k d refl l ∙ e k l)
+
+-- ---- filters
+
+-- tests that agree on a list keep the same of it
+pub filter_agree_on : (f h : ℕ → Bool) (xs : List ℕ) → ((x : ℕ) → Contains xs x → f x ≡ h x) → filter f xs ≡ filter h xs
+filter_agree_on f h [] e = refl
+filter_agree_on f h (x ∷ xs) e =
+    let rest = filter_agree_on f h xs (λ y c. e y (contains_cons x xs y c)) in
+    λ i. cond (e x (zero, omega arith, refl) i) (x ∷ rest i) (rest i)

@@ -241,6 +241,12 @@ found t (x ∷ xs) e = found_by t x xs (t x) refl (λ s. found t xs s) e
 pub contains_index : (n k : ℕ) → k < n → Contains (range_with_len 0 n) k
 contains_index n k l = (k, rw length-range_with_len l, get_or-range_with_len 0 n k k l ∙ omega arith)
 
+-- an index that stands in the list of the first n is below n
+pub index_within : (n k : ℕ) → Contains (range_with_len 0 n) k → k < n
+index_within n k (j, l, e) =
+    let below : j < n = omega (arith, l, length-range_with_len 0 n) in
+    omega (arith, below, get_or-range_with_len 0 n j k below, e)
+
 -- ---- the law
 
 pub reaches_then : (g : Graph) (p q : ℕ) → reaches g p q ≡ true → Reaches g p q

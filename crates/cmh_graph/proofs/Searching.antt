@@ -1,13 +1,14 @@
 -- Lists that places join, and numbers that places are given.
-use Rattle.std.proofs.Common.{◌≡◌, ◌≢◌, Bool, true, false, ℕ, zero, suc, ◌+◌, ◌<◌, ◌≤◌, ◌⊎◌, inl, inr, List, [], ◌∷◌, ◌++◌, map, take, length, get_or, set, refl, sym, ◌∙◌, ap, subst, arith}
+use Rattle.std.proofs.Common.{◌≡◌, ◌≢◌, Bool, true, false, not, cond, ℕ, zero, suc, ◌+◌, ◌<◌, ◌≤◌, ◌⊎◌, inl, inr, List, [], ◌∷◌, ◌++◌, map, take, length, get_or, set, refl, sym, ◌∙◌, ap, subst, arith}
 use Rattle.std.specs.Prelude.{Contains, Option, Some, None, is_some, IsSome}
 use Rattle.std.specs.Global.{Vec}
 use Rattle.std.proofs.lemmas.Bool.{cases_eq, cases_lt}
-use Rattle.std.proofs.lemmas.List.{get_or-map, get_or_default, get_or_past, map-set, get_or-set_same, get_or-set_other, length-set, length-map, take_more}
+use Rattle.std.proofs.lemmas.List.{length_push, get_or-map, get_or_default, get_or_past, map-set, get_or-set_same, get_or-set_other, length-set, length-map, take_more}
 use Rattle.std.proofs.lemmas.List.Elements.{Contains-append_left, Contains-append_right, Contains-append_cases, Contains-push, Contains-push_cases}
+use Rattle.std.proofs.lemmas.List.Sums.{sum_by-set}
 use Rattle.cmh_graph.specs.Build.{IsWellFormed}
 use Rattle.cmh_graph.specs.Graph.{Graph, Depends, dependents_of, is_idle, process_count}
-use Rattle.cmh_graph.specs.Search.{ArePredecessors, is_marked, list_at, number_at, JoinsEach, IsNamedBy, Numbers}
+use Rattle.cmh_graph.specs.Search.{ArePredecessors, is_marked, list_at, number_at, unmarked_count, JoinsEach, IsNamedBy, MarksEach, Numbers}
 use Rattle.cmh_graph.proofs.Reaching.{cons_contains}
 use Rattle.cmh_graph.proofs.Verdicts.{idle_within}
 
@@ -34,6 +35,75 @@ taken_last xs i q l e = subst (λ ys. Contains ys q) (sym (take_more xs i 0 l)) 
 -- whether a place is marked, by what a read of the place gave
 pub marked_read : (marks : List Bool) (p : ℕ) (b : Bool) → p < length marks → b ≡ get_or marks p b → is_marked marks p ≡ b
 marked_read marks p b l e = sym (e ∙ get_or_default marks p b false l)
+
+-- a mark makes one unmarked place fewer
+count_marked : (marks : List Bool) (p : ℕ) → p < length marks → is_marked marks p ≡ false → unmarked_count (set marks p true) + 1 ≡ unmarked_count marks
+count_marked marks p l e =
+    let change = sum_by-set (λ mark. cond {A = ℕ} (not mark) 1 0) marks p true false l in
+    let was = ap (λ b. cond {A = ℕ} (not b) 1 0) e in
+    omega (arith, change, was)
+
+-- and keeps the others
+mark_keeps : (marks : List Bool) (x p : ℕ) → x < length marks → is_marked marks p ≡ true → is_marked (set marks x true) p ≡ true
+mark_keeps marks x p l e = elim (cases_eq p x) [
+  | inl h ↦ ap (is_marked (set marks x true)) h ∙ get_or-set_same marks x true false l
+  | inr h ↦ get_or-set_other marks x p true false h ∙ e
+]
+
+-- one place more of a list, that is marked already
+pub marks_kept_more : (i : ℕ) (list : List ℕ) (old marks new : List Bool) (before xs after : List ℕ) → i < length list → MarksEach (take i list) old marks before xs → is_marked marks (get_or list i 0) ≡ true → new ≡ marks → after ≡ xs → MarksEach (take (i + 1) list) old new before after
+marks_kept_more i list old marks new before xs after l h k e f =
+    subst (λ m. MarksEach (take (i + 1) list) old m before after) (sym e)
+    (subst (λ zs. MarksEach (take (i + 1) list) old marks before zs) (sym f) (kept i list old marks before xs l h k))
+  where
+    kept : (i : ℕ) (list : List ℕ) (old marks : List Bool) (before xs : List ℕ) → i < length list → MarksEach (take i list) old marks before xs → is_marked marks (get_or list i 0) ≡ true → MarksEach (take (i + 1) list) old marks before xs
+    kept i list old marks before xs l h k = record {
+      size = h.size;
+      kept = h.kept;
+      marked = λ p c. elim (taken_more list i p l c) [
+        | inl d ↦ h.marked p d
+        | inr e ↦ ap (is_marked marks) e ∙ k
+      ];
+      made = λ p m. elim (h.made p m) [
+        | inl o ↦ inl o
+        | inr o ↦ inr (taken_stays list i p l o.0, o.1)
+      ];
+      stays = h.stays;
+      only = h.only;
+      count = h.count;
+    }
+
+-- one place more of a list, that is marked now
+pub marks_more : (i : ℕ) (list : List ℕ) (old marks new : List Bool) (before xs after : List ℕ) → i < length list → MarksEach (take i list) old marks before xs → get_or list i 0 < length marks → is_marked marks (get_or list i 0) ≡ false → new ≡ set marks (get_or list i 0) true → after ≡ xs ++ get_or list i 0 ∷ [] → MarksEach (take (i + 1) list) old new before after
+marks_more i list old marks new before xs after l h m k e f =
+    subst (λ z. MarksEach (take (i + 1) list) old z before after) (sym e)
+    (subst (λ zs. MarksEach (take (i + 1) list) old (set marks (get_or list i 0) true) before zs) (sym f) (more i list old marks before xs l h m k))
+  where
+    more : (i : ℕ) (list : List ℕ) (old marks : List Bool) (before xs : List ℕ) → i < length list → MarksEach (take i list) old marks before xs → get_or list i 0 < length marks → is_marked marks (get_or list i 0) ≡ false → MarksEach (take (i + 1) list) old (set marks (get_or list i 0) true) before (xs ++ get_or list i 0 ∷ [])
+    more i list old marks before xs l h m k =
+        let x = get_or list i 0 in
+        let here : is_marked (set marks x true) x ≡ true = get_or-set_same marks x true false m in
+        record {
+          size = length-set marks x true ∙ h.size;
+          kept = λ p o. mark_keeps marks x p m (h.kept p o);
+          marked = λ p c. elim (taken_more list i p l c) [
+            | inl d ↦ mark_keeps marks x p m (h.marked p d)
+            | inr e ↦ ap (is_marked (set marks x true)) e ∙ here
+          ];
+          made = λ p n. elim (cases_eq p x) [
+            | inl e ↦ inr (taken_last list i p l e, subst (λ z. Contains (xs ++ x ∷ []) z) (sym e) (Contains-push xs x))
+            | inr e ↦ elim (h.made p (sym (get_or-set_other marks x p true false e) ∙ n)) [
+              | inl o ↦ inl o
+              | inr o ↦ inr (taken_stays list i p l o.0, Contains-append_left xs (x ∷ []) p o.1)
+            ]
+          ];
+          stays = λ p c. Contains-append_left xs (x ∷ []) p (h.stays p c);
+          only = λ p c. elim (Contains-push_cases xs x p c) [
+            | inl d ↦ elim (h.only p d) [ inl o ↦ inl o | inr o ↦ inr (mark_keeps marks x p m o) ]
+            | inr e ↦ inr (ap (is_marked (set marks x true)) (sym e) ∙ here)
+          ];
+          count = omega (arith, h.count, count_marked marks x m k, length_push xs x);
+        }
 
 -- ---- lists at places
 

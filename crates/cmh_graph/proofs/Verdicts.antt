@@ -29,7 +29,7 @@ leads_more : (g : Graph) (p : ℕ) (rest : List ℕ) (q r : ℕ) → Leads g p r
 leads_more g p [] q r e d = (r ∷ [], (subst (λ z. Depends g z r) (sym e) d, refl))
 leads_more g p (s ∷ rest) q r l d = let m = leads_more g s rest q r l.1 d in (s ∷ m.0, (l.0, m.1))
 
-reaches_more : (g : Graph) (p q r : ℕ) → Reaches g p q → Depends g q r → Reaches g p r
+pub reaches_more : (g : Graph) (p q r : ℕ) → Reaches g p q → Depends g q r → Reaches g p r
 reaches_more g p q r ([], e) d = absurd e
 reaches_more g p q r (x ∷ rest, (e, l)) d = let m = leads_more g p rest q r l d in (p ∷ m.0, (refl, m.1))
 

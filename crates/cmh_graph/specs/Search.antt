@@ -1,5 +1,5 @@
 -- What the searches over a graph keep, and what they make.
-use Rattle.std.specs.Prelude.{◌≡◌, ◌⊎◌, ℕ, Bool, false, List, [], map, length, slice_index_or, Contains, IsSome, Option, Some, None}
+use Rattle.std.specs.Prelude.{◌≡◌, ◌⊎◌, ◌+◌, ℕ, Bool, false, not, count_by, List, [], map, length, slice_index_or, Contains, IsSome, IsTrue, Option, Some, None}
 use Rattle.std.specs.Global.{Vec}
 use Rattle.cmh_graph.specs.Graph.{Graph, Depends, process_count}
 
@@ -45,3 +45,19 @@ pub record Numbers (IsNamed : ℕ → Type 0) (n : ℕ) (old new : List (Option 
   pub stays : (p : ℕ) → Contains before p → Contains after p
   pub only : (p : ℕ) → Contains after p
       → Contains before p ⊎ ((number_at old p ≡ None) × (number_at new p ≡ Some n))
+
+-- how many places aren't marked
+abbrev pub unmarked_count : List Bool → ℕ
+unmarked_count marks = count_by (λ mark. not mark) marks
+
+-- Each place of the list is marked now, and those that weren't have become pending. Nothing else
+-- has changed.
+pub record MarksEach (list : List ℕ) (old new : List Bool) (before after : List ℕ) : Type 0 where
+  pub size : length new ≡ length old
+  pub kept : (p : ℕ) → IsTrue (is_marked old p) → IsTrue (is_marked new p)
+  pub marked : (p : ℕ) → Contains list p → IsTrue (is_marked new p)
+  pub made : (p : ℕ) → IsTrue (is_marked new p)
+      → IsTrue (is_marked old p) ⊎ (Contains list p × Contains after p)
+  pub stays : (p : ℕ) → Contains before p → Contains after p
+  pub only : (p : ℕ) → Contains after p → Contains before p ⊎ IsTrue (is_marked new p)
+  pub count : unmarked_count new + length after ≡ unmarked_count old + length before

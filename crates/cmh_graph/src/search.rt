@@ -1,15 +1,31 @@
 //! Searches along dependencies.
 
-ghost use Rattle.std.specs.Prelude.{◌≡◌, ◌<◌, ◌^◌, ℕ, [], map, length, filter, if◌then◌else◌, All, Contains, IfOk, OnOk, Some, None};
+ghost use Rattle.std.specs.Prelude.{◌≡◌, ◌==◌, ◌<◌, ◌≤◌, ◌^◌, ℕ, [], map, length, filter, if◌then◌else◌, All, Contains, IfOk, OnOk, Some, None};
 ghost use Rattle.std.specs.List.{range_with_len};
 ghost use Rattle.cmh_graph.specs.Graph.{indices, process_count};
-ghost use Rattle.cmh_graph.specs.Path.{steps_to};
-ghost use Rattle.cmh_graph.specs.Search.{is_marked, list_at, JoinsEach, ArePredecessors, IsNamedBy, Numbers};
+ghost use Rattle.cmh_graph.specs.Path.{reaches, steps_to};
+ghost use Rattle.cmh_graph.specs.Search.{is_marked, list_at, JoinsEach, ArePredecessors, IsNamedBy, MarksEach, Numbers};
 
-use crate::WaitGraph;
+use crate::{MAX_PROCESSES, WaitGraph};
 use std::alloc::{AllocError, Global};
 
 impl WaitGraph {
+    /// For each process whether `p` reaches it. The search goes along the dependencies.
+    pub(crate) fn reached_from(&self, alloc: Global, p: u32) -> Result<Vec<bool>, AllocError>
+        requires { p < process_count self.now }
+        ensures marks { IfOk result (λ marks.
+            marks.items ≡ map (reaches self.now p) (indices self.now)) }
+        ensures few { process_count self.now ≤ MAX_PROCESSES }
+    {
+        let mut marks = mark_alone(alloc, self.len(), p)?;
+        let mut pending = Vec::new(alloc);
+        pending.push(p)?;
+        while let Some(q) = pending.pop() {
+            mark_each(self.dependents(q), &mut marks, &mut pending)?;
+        }
+        Ok(marks)
+    }
+
     /// For each process the least number of dependencies to a marked one, where there is one. It
     /// goes against the dependencies, from each distance to the next.
     pub(crate) fn steps_to(
@@ -57,6 +73,32 @@ pub(crate) fn marked(alloc: Global, marks: &[bool]) -> Result<Vec<u32>, AllocErr
         }
     }
     Ok(list)
+}
+
+/// Marks one place of so many.
+pub(crate) fn mark_alone(alloc: Global, count: u32, p: u32) -> Result<Vec<bool>, AllocError>
+    requires { p < count }
+    ensures size { IfOk result (λ marks. length marks.items ≡ count) }
+    ensures alone { IfOk result (λ marks. (q : ℕ) → is_marked marks.items q ≡ (q == p)) }
+{
+    let mut marks = vec![in alloc; false; count as usize]?;
+    marks[p as usize] = true;
+    Ok(marks)
+}
+
+/// Marks each process of the list. Those that were not marked become pending.
+fn mark_each(list: &[u32], marks: &mut [bool], pending: &mut Vec<u32>) -> Result<(), AllocError>
+    requires { All (λ p. p < length marks.old) list.now }
+    ensures { OnOk result (MarksEach list.now
+        marks.old marks.new pending.old.items pending.new.items) }
+{
+    for p in list {
+        if !marks[*p as usize] {
+            marks[*p as usize] = true;
+            pending.push(*p)?;
+        }
+    }
+    Ok(())
 }
 
 /// None to go for a marked process, and no number yet for any other.

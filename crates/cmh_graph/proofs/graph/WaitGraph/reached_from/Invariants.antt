@@ -1,0 +1,10 @@
+use Rattle.std.proofs.Common.{◌+◌, length}
+use Rattle.cmh_graph.specs.Search.{unmarked_count}
+use Rattle.cmh_graph.proofs.Spreading.{SpreadsFrom}
+use Rattle.cmh_graph.proofs.graph.WaitGraph.reached_from.Given as goal
+
+abbrev pub invariant-loop-q : goal.invariant-loop-q
+invariant-loop-q l = SpreadsFrom l.self l.p l.marks.items l.pending.items
+
+abbrev pub decreases-loop-q : goal.decreases-loop-q
+decreases-loop-q l = unmarked_count l.marks.items + length l.pending.items
