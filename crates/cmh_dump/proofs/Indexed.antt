@@ -1,0 +1,82 @@
+-- Names put into an index one after the other.
+use Rattle.std.proofs.Common.{◌≡◌, ℕ, zero, suc, ◌+◌, ◌<◌, List, [], ◌∷◌, ◌++◌, Bool, true, false, not, ◌||◌, cond, Option, Some, None, map, take, length, get_or, nat_lt, refl, sym, ap, ◌∙◌, arith, Bor, below_more, subst, Result, Err}
+use Rattle.std.specs.Prelude.{bytes_eq, slice_get, unwrap_or}
+use Rattle.std.specs.List.{list_any, position_or_len}
+use Rattle.std.proofs.lemmas.Option.{slice_get-get_or, slice_get-map}
+use Rattle.std.proofs.lemmas.List.{length-map}
+use Rattle.cmh_dump.specs.Name.{is_among, place_of, nth, repeats}
+use Rattle.cmh_dump.specs.Texts.{texts}
+use Rattle.cmh_dump.specs.Index.{IsFirstRepeat, AreApart, TellsRepeat, first_repeat}
+use Rattle.cmh_dump.specs.declared.index.IndexFault.{IndexFault}
+use Rattle.cmh_dump.specs.declared.index.IndexFault.TheVariants.{Repeated}
+use Rattle.cmh_dump.proofs.Faults.{none_found, least_found}
+use Rattle.cmh_dump.proofs.Keys.{any_of_texts}
+use Rattle.cmh_dump.proofs.Taken.{take-next, texts-append}
+
+abbrev pub same_text : Bor (List ℕ) → Bor (List ℕ) → Bool
+same_text a b = bytes_eq a.now b.now
+
+at_texts : (names : List (Bor (List ℕ))) (i : ℕ) (d : Bor (List ℕ)) → i < length names → slice_get (texts names) i ≡ Some (get_or names i d).now
+at_texts [] i d lt = absurd (omega arith)
+at_texts (x ∷ xs) zero d lt = refl
+at_texts (x ∷ xs) (suc i) d lt = at_texts xs i d (omega arith)
+
+pub length-texts : (names : List (Bor (List ℕ))) → length (texts names) ≡ length names
+length-texts [] = refl
+length-texts (x ∷ xs) = ap suc (length-texts xs)
+
+repeat_is : (names keys : List (Bor (List ℕ))) (i : ℕ) (d : Bor (List ℕ)) → i < length names → texts keys ≡ take i (texts names) → list_any (same_text (get_or names i d)) keys ≡ repeats (texts names) i
+repeat_is names keys i d lt h =
+    let name = (get_or names i d).now in
+    any_of_texts (bytes_eq name) keys ∙ ap (list_any (bytes_eq name)) h ∙ ap (λ (o : Option (List ℕ)). is_among (take i (texts names)) (unwrap_or o [])) (sym (at_texts names i d lt))
+
+double_not : (b : Bool) → not (not b) ≡ b
+double_not true = refl
+double_not false = refl
+
+pub repeated : (names keys : List (Bor (List ℕ))) (i : ℕ) (d : Bor (List ℕ)) (is_new : Bool) → i < length names → texts keys ≡ take i (texts names) → is_new ≡ not (list_any (same_text (get_or names i d)) keys) → is_new ≡ false → (i < length (texts names)) × (repeats (texts names) i ≡ true)
+repeated names keys i d is_new lt h added old =
+    (let l = length-texts names in omega arith, sym (repeat_is names keys i d lt h) ∙ sym (double_not _) ∙ ap not (sym added ∙ old))
+
+pub not_repeated : (names keys : List (Bor (List ℕ))) (i : ℕ) (d : Bor (List ℕ)) (is_new : Bool) → i < length names → texts keys ≡ take i (texts names) → is_new ≡ not (list_any (same_text (get_or names i d)) keys) → is_new ≡ true → ((k : ℕ) → k < i → repeats (texts names) k ≡ false)
+    → (texts (cond (list_any (same_text (get_or names i d)) keys) keys (keys ++ get_or names i d ∷ [])) ≡ take (i + 1) (texts names)) × ((k : ℕ) → k < i + 1 → repeats (texts names) k ≡ false)
+not_repeated names keys i d is_new lt h added new before =
+    let absent : list_any (same_text (get_or names i d)) keys ≡ false = sym (double_not _) ∙ ap not (sym added ∙ new) in
+    let next : suc i ≡ i + 1 = omega arith in (
+      ap (λ b. texts (cond b keys (keys ++ get_or names i d ∷ []))) absent ∙ texts-append keys (get_or names i d ∷ []) ∙ ap (λ ts. ts ++ (get_or names i d).now ∷ []) h ∙ sym (take-next (texts names) i _ (at_texts names i d lt)) ∙ ap (λ n. take n (texts names)) next,
+      below_more _ _ before (sym (repeat_is names keys i d lt h) ∙ absent),
+    )
+
+position-texts : (name : List ℕ) (keys : List (Bor (List ℕ))) → position_or_len (λ k. bytes_eq name k.now) keys ≡ position_or_len (bytes_eq name) (texts keys)
+position-texts name [] = refl
+position-texts name (k ∷ ks) = ap (λ n. cond (not (bytes_eq name k.now)) (1 + n) 0) (position-texts name ks)
+
+shifted : (a b : ℕ) → nat_lt (1 + a) (suc b) ≡ nat_lt a b
+shifted a b = grind arith
+
+first_is : (b : ℕ) → nat_lt 0 (suc b) ≡ true
+first_is b = grind arith
+
+pub among : (name : List ℕ) (names : List (List ℕ)) → nat_lt (place_of names name) (length names) ≡ is_among names name
+among name [] = refl
+among name (x ∷ xs) = by (bytes_eq name x) (among name xs)
+  where
+    by : (b : Bool) → nat_lt (place_of xs name) (length xs) ≡ is_among xs name → nat_lt (cond (not b) (1 + place_of xs name) 0) (suc (length xs)) ≡ (b || is_among xs name)
+    by true e = first_is (length xs)
+    by false e = shifted (place_of xs name) (length xs) ∙ e
+
+pub place_is : (name : List ℕ) (keys : List (Bor (List ℕ))) → cond (nat_lt (position_or_len (λ k. bytes_eq name k.now) keys) (length keys)) (Some (position_or_len (λ k. bytes_eq name k.now) keys)) None ≡ cond (is_among (texts keys) name) (Some (place_of (texts keys) name)) None
+place_is name keys =
+    (λ i. cond (nat_lt (position-texts name keys i) (sym (length-texts keys) i)) (Some (position-texts name keys i)) None) ∙ ap (λ b. cond b (Some (place_of (texts keys) name)) None) (among name (texts keys))
+
+-- where no name repeats, no place of a repeat is found
+pub no_repeat : (names : List (List ℕ)) → AreApart names → None ≡ first_repeat names
+no_repeat names apart = sym (none_found (repeats names) (length names) apart)
+
+-- the first repeat is found
+pub repeat_found : (names : List (List ℕ)) (i : ℕ) → IsFirstRepeat names i → Some i ≡ first_repeat names
+repeat_found names i r = sym (least_found (repeats names) (length names) i r.within r.before r.repeated)
+
+-- what the index says of the name that repeats one, where a `match` found which error it is
+pub repeat_of : (all : List (List ℕ)) (e : IndexFault) (i : ℕ) → e ≡ Repeated i → TellsRepeat all e → IsFirstRepeat all i
+repeat_of all e i is h = subst (TellsRepeat all) is h

@@ -1,0 +1,63 @@
+-- Loops over rows: what is left of them decides.
+use Rattle.std.proofs.Common.{◌≡◌, ℕ, zero, suc, ◌+◌, ◌<◌, ◌≤◌, List, [], ◌∷◌, Bool, true, false, Option, Some, None, length, get_or, drop, nat_lt, refl, sym, ap, ◌∙◌, arith, add-one, drop-cons}
+use Rattle.std.specs.Prelude.{option_map, sum_by}
+use Rattle.std.specs.Option.{option_or}
+use Rattle.std.proofs.lemmas.Bool.{lt-ltb, le-ltb}
+use Rattle.std.proofs.lemmas.List.Sums.{sum_by-cons}
+use Rattle.cmh_dump.specs.Read.{first_pair}
+
+-- the rows that are left begin with the next one
+pub drop_next : {Y : Type 0} (ys : List Y) (i : ℕ) (y : Y) → i < length ys → y ≡ get_or ys i y → drop i ys ≡ y ∷ drop (i + 1) ys
+drop_next ys i y lt is = rw add-one (drop-cons ys i y lt ∙ ap (λ z. z ∷ drop (suc i) ys) (sym is))
+
+-- nothing is left at the end
+pub drop_all : {Y : Type 0} (ys : List Y) (i : ℕ) → length ys ≤ i → drop i ys ≡ []
+drop_all [] zero le = refl
+drop_all [] (suc i) le = refl
+drop_all (y ∷ ys) zero le = absurd (omega (arith, le))
+drop_all (y ∷ ys) (suc i) le = drop_all ys i (omega (arith, le))
+
+module _ {Y : Type 0} (search : Y → Option ℕ) (ys : List Y) where
+  -- what the search finds in the rows that are left is what it finds
+  abbrev pub LeftDecides : ℕ → Type 0
+  LeftDecides i = first_pair search 0 ys ≡ first_pair search i (drop i ys)
+
+  -- where the search answers, that is the first pair
+  pub pair_found : (i j : ℕ) (y : Y) → i < length ys → y ≡ get_or ys i y → search y ≡ Some j → LeftDecides i → Some (i, j) ≡ first_pair search 0 ys
+  pair_found i j y lt is found left =
+      sym (left ∙ ap (first_pair search i) (drop_next ys i y lt is) ∙ ap (λ o. option_or (option_map (λ k. (i, k)) o) (first_pair search (i + 1) (drop (i + 1) ys))) found)
+
+  -- a row at which the search answers nothing is passed over
+  pub pair_passed : (i : ℕ) (y : Y) → i < length ys → y ≡ get_or ys i y → search y ≡ None → LeftDecides i → LeftDecides (i + 1)
+  pair_passed i y lt is none left =
+      left ∙ ap (first_pair search i) (drop_next ys i y lt is) ∙ ap (λ o. option_or (option_map (λ k. (i, k)) o) (first_pair search (i + 1) (drop (i + 1) ys))) none
+
+  -- at the end there is none
+  pub no_pair : (i : ℕ) → length ys ≤ i → LeftDecides i → None ≡ first_pair search 0 ys
+  no_pair i le left = sym (left ∙ ap (first_pair search i) (drop_all ys i le))
+
+module _ {Y : Type 0} (size : Y → ℕ) (ys : List Y) where
+  -- the room that is left of a limit, with what is still to come
+  abbrev pub RoomIsLeft : ℕ → ℕ → ℕ → Type 0
+  RoomIsLeft most room i = sum_by size ys + room ≡ most + sum_by size (drop i ys)
+
+  next_total : (i : ℕ) (y : Y) → i < length ys → y ≡ get_or ys i y → sum_by size (drop i ys) ≡ size y + sum_by size (drop (i + 1) ys)
+  next_total i y lt is = ap (sum_by size) (drop_next ys i y lt is) ∙ sum_by-cons size y (drop (i + 1) ys)
+
+  -- an entry that is larger than the room takes the total past the limit
+  pub room_exceeded : (most room i : ℕ) (y : Y) → i < length ys → y ≡ get_or ys i y → room < size y → RoomIsLeft most room i → true ≡ nat_lt most (sum_by size ys)
+  room_exceeded most room i y lt is more left =
+      let next = next_total i y lt is in
+      sym (lt-ltb most (sum_by size ys) (omega (arith, next, left, more)))
+
+  -- an entry takes its size off the room
+  pub room_taken : (most room rest i : ℕ) (y : Y) → i < length ys → y ≡ get_or ys i y → rest + size y ≡ room → RoomIsLeft most room i → RoomIsLeft most rest (i + 1)
+  room_taken most room rest i y lt is same left =
+      let next = next_total i y lt is in
+      omega (arith, next, left, same)
+
+  -- at the end the total is within the limit
+  pub room_enough : (most room i : ℕ) → length ys ≤ i → RoomIsLeft most room i → false ≡ nat_lt most (sum_by size ys)
+  room_enough most room i le left =
+      let none = ap (sum_by size) (drop_all ys i le) in
+      sym (le-ltb most (sum_by size ys) (omega (arith, none, left)))

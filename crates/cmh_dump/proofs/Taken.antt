@@ -1,0 +1,40 @@
+-- Reading the names of an array one after the other.
+use Rattle.std.proofs.Common.{◌≡◌, ℕ, zero, suc, ◌+◌, ◌<◌, ◌≤◌, List, [], ◌∷◌, ◌++◌, Bool, true, false, cond, Option, Some, None, map, take, refl, sym, ap, ◌∙◌, arith, Bor, below_more, length, get_or}
+use Rattle.std.specs.Prelude.{slice_get, unwrap_or}
+use Rattle.cmh_dump.specs.Texts.{texts}
+
+pub take-next : {X : Type 0} (xs : List X) (i : ℕ) (x : X) → slice_get xs i ≡ Some x → take (suc i) xs ≡ take i xs ++ x ∷ []
+take-next [] i x e = absurd cc
+take-next (y ∷ ys) zero x e = ap (λ o. unwrap_or o y ∷ []) e
+take-next (y ∷ ys) (suc i) x e = ap (λ zs. y ∷ zs) (take-next ys i x e)
+
+pub texts-append : (xs ys : List (Bor (List ℕ))) → texts (xs ++ ys) ≡ texts xs ++ texts ys
+texts-append [] ys = refl
+texts-append (x ∷ xs) ys = ap (λ zs. x.now ∷ zs) (texts-append xs ys)
+
+-- the element at a place, as a list reads it and as the check says it
+pub at_place : {X Y : Type 0} (f : X → Y) (xs : List X) (i : ℕ) (x : X) → i < length xs → x ≡ get_or xs i x → slice_get (map f xs) i ≡ Some (f x)
+at_place f [] i x lt e = absurd (omega arith)
+at_place f (y ∷ ys) zero x lt e = ap (λ z. Some (f z)) (sym e)
+at_place f (y ∷ ys) (suc i) x lt e = at_place f ys i x (omega arith) e
+
+-- no element stands past the end
+pub get-past : {X : Type 0} (xs : List X) (i : ℕ) → length xs ≤ i → slice_get xs i ≡ None
+get-past [] i le = refl
+get-past (x ∷ xs) zero le = absurd (omega (arith, le))
+get-past (x ∷ xs) (suc i) le = get-past xs i (omega (arith, le))
+
+map-last : {X Y : Type 0} (f : X → Y) (xs : List X) (x : X) → map f (xs ++ x ∷ []) ≡ map f xs ++ f x ∷ []
+map-last f [] x = refl
+map-last f (y ∷ ys) x = ap (λ zs. f y ∷ zs) (map-last f ys x)
+
+get-at : {X : Type 0} (xs : List X) (i : ℕ) (x : X) → i < length xs → x ≡ get_or xs i x → slice_get xs i ≡ Some x
+get-at [] i x lt e = absurd (omega arith)
+get-at (y ∷ ys) zero x lt e = ap Some (sym e)
+get-at (y ∷ ys) (suc i) x lt e = get-at ys i x (omega arith) e
+
+-- one element more, as a function makes it
+pub map-next : {X Y : Type 0} (f : X → Y) (xs : List X) (i : ℕ) (x : X) → i < length xs → x ≡ get_or xs i x → map f (take (i + 1) xs) ≡ map f (take i xs) ++ f x ∷ []
+map-next f xs i x lt e =
+    let next : i + 1 ≡ suc i = omega arith in
+    ap (λ n. map f (take n xs)) next ∙ ap (map f) (take-next xs i x (get-at xs i x lt e)) ∙ map-last f (take i xs) x

@@ -1,0 +1,73 @@
+-- The tree of bytes, and the entries and texts of its arrays, from what the reader says of them.
+use Rattle.std.proofs.Common.{◌≡◌, ℕ, List, [], ◌∷◌, ◌&&◌, map, length, get_or, nat_lt, eqb, Bool, true, false, cond, Option, Some, None, refl, sym, ap, ◌∙◌}
+use Rattle.std.specs.Str.{IsUtf8, is_utf8}
+use Rattle.std.proofs.lemmas.Str.{IsUtf8-from_is_utf8, is_utf8-from_IsUtf8}
+use Rattle.std.specs.Prelude.{option_map, unwrap_or, slice_get, is_some}
+use Rattle.std.specs.List.{list_all}
+use Rattle.std.proofs.lemmas.Bool.{ltb-true, ltb-false}
+use Rattle.std.proofs.lemmas.List.{length-map}
+use Rattle.serde_json.specs.Data.{Data, Items}
+use Rattle.serde_json.specs.Find.{as_array, as_str}
+use Rattle.serde_json.specs.View.{items_of}
+use Rattle.serde_json.specs.Read.{read}
+use Rattle.cmh_dump.specs.Dump.{tree_of}
+use Rattle.cmh_dump.specs.Tree.{list_of, entries_of, text_of, texts_of}
+use Rattle.cmh_dump.specs.Entry.{is_pair}
+use Rattle.cmh_dump.specs.Name.{nth}
+use Rattle.cmh_dump.proofs.Taken.{at_place, get-past}
+
+pub tree_is : (bytes : List ℕ) (d : Data) → IsUtf8 bytes → read bytes ≡ Some d → tree_of bytes ≡ Some d
+tree_is bytes d utf8 e = ap (λ b. cond b (read bytes) None) (is_utf8-from_IsUtf8 bytes utf8) ∙ e
+
+pub no_tree : (bytes : List ℕ) → (IsUtf8 bytes → read bytes ≡ None) → tree_of bytes ≡ None
+no_tree bytes refused = by (is_utf8 bytes) refl
+  where
+    by : (b : Bool) → is_utf8 bytes ≡ b → tree_of bytes ≡ None
+    by true e = ap (λ b. cond b (read bytes) None) e ∙ refused (IsUtf8-from_is_utf8 bytes e)
+    by false e = ap (λ b. cond b (read bytes) None) e
+
+list_of-items_of : (ds : List Data) → list_of (items_of ds) ≡ ds
+list_of-items_of [] = refl
+list_of-items_of (d ∷ ds) = ap (λ es. d ∷ es) (list_of-items_of ds)
+
+-- the entries of an array are the items that the reader gives
+pub entries_of_items : (d : Data) (ds : List Data) → Some (items_of ds) ≡ as_array d → ds ≡ entries_of d
+entries_of_items d ds e =
+    sym (list_of-items_of ds) ∙ ap (λ (o : Option Items). unwrap_or (option_map list_of o) []) e
+
+-- two functions one after the other
+pub map-map : {X Y Z : Type 0} (g : Y → Z) (f : X → Y) (xs : List X) → map (λ x. g (f x)) xs ≡ map g (map f xs)
+map-map g f [] = refl
+map-map g f (x ∷ xs) = ap (λ ys. g (f x) ∷ ys) (map-map g f xs)
+
+-- the texts of values are those of the entries that they are seen as
+pub texts_of_views : {V : Type 0} (view : V → Data) (vs : List V) (d : Data) → map view vs ≡ entries_of d → map (λ v. text_of (view v)) vs ≡ map text_of (entries_of d)
+texts_of_views view vs d e = map-map text_of view vs ∙ ap (map text_of) e
+
+-- a test of what a function makes of each element
+pub all-map : {X Y : Type 0} (test : Y → Bool) (f : X → Y) (xs : List X) → list_all (λ x. test (f x)) xs ≡ list_all test (map f xs)
+all-map test f [] = refl
+all-map test f (x ∷ xs) = ap (λ b. test (f x) && b) (all-map test f xs)
+
+-- a test of the texts of values is one of the texts of the entries
+pub all_of_views : {V : Type 0} (test : List ℕ → Bool) (view : V → Data) (vs : List V) (d : Data) → map view vs ≡ entries_of d → list_all (λ v. test (text_of (view v))) vs ≡ list_all test (map text_of (entries_of d))
+all_of_views test view vs d e =
+    all-map test (λ v. text_of (view v)) vs ∙ ap (list_all test) (texts_of_views view vs d e)
+
+-- the text at a place of an array
+pub text_at_place : {V : Type 0} (view : V → Data) (vs : List V) (d : Data) (i : ℕ) (v : V) → map view vs ≡ entries_of d → true ≡ nat_lt i (length vs) → v ≡ get_or vs i v → text_of (view v) ≡ nth (texts_of d) i []
+text_at_place view vs d i v e within is =
+    sym (ap (λ (o : Option (List ℕ)). unwrap_or o [])
+    (ap (λ ts. slice_get ts i) (sym (texts_of_views view vs d e)) ∙ at_place (λ w. text_of (view w)) vs i v (ltb-true i (length vs) (sym within)) is))
+
+-- past the end of an array there is no text
+pub text_past : {V : Type 0} (view : V → Data) (vs : List V) (d : Data) (i : ℕ) → map view vs ≡ entries_of d → false ≡ nat_lt i (length vs) → [] ≡ nth (texts_of d) i []
+text_past view vs d i e past =
+    sym (ap (λ (o : Option (List ℕ)). unwrap_or o [])
+    (ap (λ ts. slice_get ts i) (sym (texts_of_views view vs d e)) ∙ get-past (map (λ w. text_of (view w)) vs) i (rw length-map (ltb-false i (length vs) (sym past)))))
+
+-- an array of two texts
+pub is_pair_of : {V : Type 0} (view : V → Data) (vs : List V) (d : Data) → map view vs ≡ entries_of d → length vs ≡ 2 → list_all (λ v. is_some (as_str (view v))) vs ≡ is_pair d
+is_pair_of view vs d e two =
+    all-map (λ x. is_some (as_str x)) view vs ∙ ap (list_all (λ x. is_some (as_str x))) e
+    ∙ sym (ap (λ n. eqb n 2 && list_all (λ x. is_some (as_str x)) (entries_of d)) (ap length (sym e) ∙ length-map vs view ∙ two))

@@ -1,0 +1,5 @@
+use Rattle.cmh_dump.proofs.FirstFaults.{no_fault_law}
+use Rattle.cmh_dump.proofs.laws.law_no_fault.Goals as goal
+
+pub returns : goal.returns
+returns c = no_fault_law

@@ -1,0 +1,8 @@
+use Rattle.std.proofs.Common.{◌≡◌, map, take}
+use Rattle.serde_json.specs.View.{view}
+use Rattle.cmh_dump.specs.Read.{places_in_pair}
+use Rattle.cmh_dump.specs.Texts.{texts}
+use Rattle.cmh_dump.proofs.transit.places_of.Given as goal
+
+abbrev pub invariant-loop-message : goal.invariant-loop-message
+invariant-loop-message l = l.places.items ≡ map (λ m. places_in_pair (texts l.names.keys) (view m)) (take l.message-index l.messages)

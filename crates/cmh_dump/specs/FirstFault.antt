@@ -1,0 +1,127 @@
+-- Which fault of a dump is the first, and what the laws of dumps say.
+use Rattle.std.specs.Prelude.{◌≡◌, ◌↔◌, ℕ, ◌<◌, Bool, List, [], ◌∷◌, length, Some, None, Ok, Err, IsTrue, IsFalse, ⊤}
+use Rattle.std.specs.Ordering.{nat_cmp, is_lt}
+use Rattle.std.specs.Cmp.Lexicographic.{slice_cmp}
+use Rattle.serde_json.specs.Data.{Data}
+use Rattle.cmh_graph.specs.Graph.{Graph}
+use Rattle.cmh_graph.specs.Build.{IsWellFormed}
+use Rattle.cmh_dump.specs.declared.TheConstants.{MAX_BYTES}
+use Rattle.cmh_dump.specs.declared.fault.DumpFault.{DumpFault}
+use Rattle.cmh_dump.specs.declared.fault.DumpFault.TheVariants.{Memory, ReadFault, TooLong, NotJson, BadTop, BadVersion, BadSites, RepeatedSite, TooManySites, TooManyProcesses, BadProcess, RepeatedProcess, UnknownSite, UnknownDependent, RepeatedDependent, ActiveWithDependents, TooManyDependencies, TooManyInTransit, BadInTransit, UnknownInTransit}
+use Rattle.cmh_dump.specs.Entry.{sites, processes, transits, entry}
+use Rattle.cmh_dump.specs.Dump.{holds, graph_of, dump_of_tree, tree_of, dump}
+
+-- ---- the faults that a tree has, and those that bytes have
+
+abbrev pub HasSite : Data → ℕ → Type 0
+HasSite d i = i < length (sites d)
+
+abbrev pub HasProcess : Data → ℕ → Type 0
+HasProcess d i = i < length (processes d)
+
+abbrev pub HasDependent : Data → ℕ → ℕ → Type 0
+HasDependent d i j = HasProcess d i × (j < length (entry d i).dependents)
+
+abbrev pub HasTransit : Data → ℕ → Type 0
+HasTransit d i = i < length (transits d)
+
+-- the fault speaks of what stands in the tree; those of reading never do
+abbrev pub IsOfTree : Data → DumpFault → Type 0
+IsOfTree d Memory = ⊥
+IsOfTree d ReadFault = ⊥
+IsOfTree d TooLong = ⊥
+IsOfTree d NotJson = ⊥
+IsOfTree d BadTop = ⊤
+IsOfTree d BadVersion = ⊤
+IsOfTree d (BadSites i) = HasSite d i
+IsOfTree d (RepeatedSite i) = HasSite d i
+IsOfTree d TooManySites = ⊤
+IsOfTree d TooManyProcesses = ⊤
+IsOfTree d (BadProcess i) = HasProcess d i
+IsOfTree d (RepeatedProcess i) = HasProcess d i
+IsOfTree d (UnknownSite i) = HasProcess d i
+IsOfTree d (UnknownDependent i j) = HasDependent d i j
+IsOfTree d (RepeatedDependent i j) = HasDependent d i j
+IsOfTree d (ActiveWithDependents i) = HasProcess d i
+IsOfTree d TooManyDependencies = ⊤
+IsOfTree d TooManyInTransit = ⊤
+IsOfTree d (BadInTransit i) = HasTransit d i
+IsOfTree d (UnknownInTransit i) = HasTransit d i
+
+-- the tree has the fault
+abbrev pub Has : Data → DumpFault → Type 0
+Has d fault = IsOfTree d fault × IsTrue (holds d fault)
+
+-- the bytes have the fault: they are too many, they are no tree, or their tree has it
+abbrev pub BytesHave : List ℕ → DumpFault → Type 0
+BytesHave bytes TooLong = MAX_BYTES < length bytes
+BytesHave bytes NotJson = tree_of bytes ≡ None
+BytesHave bytes fault = (d : Data) × (tree_of bytes ≡ Some d) × Has d fault
+
+-- ---- their order
+
+-- the number of the fault's kind, and its places
+abbrev pub rank : DumpFault → List ℕ
+rank Memory = 1 ∷ []
+rank ReadFault = 2 ∷ []
+rank TooLong = 3 ∷ []
+rank NotJson = 4 ∷ []
+rank BadTop = 5 ∷ []
+rank BadVersion = 6 ∷ []
+rank (BadSites i) = 7 ∷ i ∷ []
+rank (RepeatedSite i) = 8 ∷ i ∷ []
+rank TooManySites = 9 ∷ []
+rank TooManyProcesses = 10 ∷ []
+rank (BadProcess i) = 11 ∷ i ∷ []
+rank (RepeatedProcess i) = 12 ∷ i ∷ []
+rank (UnknownSite i) = 13 ∷ i ∷ []
+rank (UnknownDependent i j) = 14 ∷ i ∷ j ∷ []
+rank (RepeatedDependent i j) = 15 ∷ i ∷ j ∷ []
+rank (ActiveWithDependents i) = 16 ∷ i ∷ []
+rank TooManyDependencies = 17 ∷ []
+rank TooManyInTransit = 18 ∷ []
+rank (BadInTransit i) = 19 ∷ i ∷ []
+rank (UnknownInTransit i) = 20 ∷ i ∷ []
+
+-- faults go by the number of their kind, then by the first place, then by the second
+abbrev pub comes_before : DumpFault → DumpFault → Bool
+comes_before e f = is_lt (slice_cmp nat_cmp (rank e) (rank f))
+
+-- it is one of these faults, and none of them comes before it
+pub record IsFirstFault (These : DumpFault → Type 0) (fault : DumpFault) : Type 0 where
+  pub had : These fault
+  pub first : (other : DumpFault) → These other → IsFalse (comes_before other fault)
+
+-- there is no such fault
+abbrev pub AreNone : (DumpFault → Type 0) → Type 0
+AreNone These = (fault : DumpFault) → These fault → ⊥
+
+-- ---- the laws
+
+-- a tree is refused for the first fault that it has
+abbrev pub TreeFaultLaw : Type 0
+TreeFaultLaw = (d : Data) (fault : DumpFault)
+    → (dump_of_tree d ≡ Err fault) ↔ IsFirstFault (Has d) fault
+
+-- a tree without a fault, and no other, means a graph, and that is the one of its names
+abbrev pub TreeGraphLaw : Type 0
+TreeGraphLaw = (d : Data) (g : Graph)
+    → (dump_of_tree d ≡ Ok g) ↔ (AreNone (Has d) × (g ≡ graph_of d))
+
+-- bytes are refused for the first fault that they have
+abbrev pub FirstFaultLaw : Type 0
+FirstFaultLaw = (bytes : List ℕ) (fault : DumpFault)
+    → (dump bytes ≡ Err fault) ↔ IsFirstFault (BytesHave bytes) fault
+
+-- g is the graph of the tree of the bytes
+abbrev pub IsGraphOf : List ℕ → Graph → Type 0
+IsGraphOf bytes g = (d : Data) × (tree_of bytes ≡ Some d) × (g ≡ graph_of d)
+
+-- bytes without a fault, and no others, mean a graph, and that is the one of their tree
+abbrev pub NoFaultLaw : Type 0
+NoFaultLaw = (bytes : List ℕ) (g : Graph)
+    → (dump bytes ≡ Ok g) ↔ (AreNone (BytesHave bytes) × IsGraphOf bytes g)
+
+-- what bytes mean is a graph that can be built
+abbrev pub WellFormedLaw : Type 0
+WellFormedLaw = (bytes : List ℕ) (g : Graph) → dump bytes ≡ Ok g → IsWellFormed g

@@ -1,0 +1,9 @@
+pub mod Dump
+pub mod Entry
+pub mod FirstFault
+pub mod Index
+pub mod Name
+pub mod Read
+pub mod Source
+pub mod Texts
+pub mod Tree

@@ -1,0 +1,74 @@
+-- What is read of a dump before it becomes a graph, and what each stage of reading answers.
+use Rattle.std.specs.Prelude.{◌≡◌, ◌≢◌, ℕ, ◌+◌, List, [], ◌∷◌, map, Option, Some, None, option_map, Result, Ok, Err}
+use Rattle.std.specs.Option.{option_or}
+use Rattle.serde_json.specs.Data.{Data}
+use Rattle.cmh_graph.specs.Graph.{Process}
+use Rattle.cmh_dump.specs.declared.entry.Entry as declared
+use Rattle.cmh_dump.specs.declared.fault.DumpFault.{DumpFault}
+use Rattle.cmh_dump.specs.declared.fault.DumpFault.TheVariants.{Memory, BadTop, BadVersion, BadSites, RepeatedSite, TooManySites, TooManyProcesses, BadProcess, RepeatedProcess, UnknownSite, UnknownDependent, RepeatedDependent, ActiveWithDependents, TooManyDependencies, TooManyInTransit, BadInTransit, UnknownInTransit}
+use Rattle.cmh_dump.specs.Dump.{holds, first_of, each_site, each_process, each_dependent, each_transit}
+use Rattle.cmh_dump.specs.Entry.{Entry}
+use Rattle.cmh_dump.specs.Name.{place_of, nth}
+use Rattle.cmh_dump.specs.Texts.{texts}
+use Rattle.cmh_dump.specs.Tree.{texts_of}
+
+-- a process as it is written, without where it lies in memory
+abbrev pub entry_view : declared.Entry → Entry
+entry_view e = record {
+  name = e.name.now;
+  site = e.site.now;
+  state = e.state;
+  dependents = texts e.dependents.items;
+}
+
+-- the first row at which the search answers, and its answer, where the rows are counted from i
+abbrev pub first_pair : {Y : Type 0} → (Y → Option ℕ) → ℕ → List Y → Option (ℕ × ℕ)
+first_pair search i [] = None
+first_pair search i (y ∷ ys) =
+    option_or (option_map (λ j. (i, j)) (search y)) (first_pair search (i + 1) ys)
+
+-- the places of a message's sender and receiver among the names of the processes
+abbrev pub places_in_pair : List (List ℕ) → Data → ℕ × ℕ
+places_in_pair names t = (place_of names (nth (texts_of t) 0 []), place_of names (nth (texts_of t) 1 []))
+
+-- a process by indices, from the names of the sites and of the processes
+abbrev pub process_by : List (List ℕ) → List (List ℕ) → Entry → Process
+process_by sites names e = record {
+  name = e.name;
+  site = place_of sites e.site;
+  state = e.state;
+  dependents = map (place_of names) e.dependents;
+}
+
+-- ---- stages
+
+-- A stage judges some kinds of faults: at Ok none of them holds, and the fault answered is the
+-- first that does, want of memory apart.
+abbrev pub Judges : {T : Type 0} → Data → List (List DumpFault) → Result T DumpFault → Type 0
+Judges d kinds (Ok x) = first_of (holds d) kinds ≡ None
+Judges d kinds (Err e) = e ≢ Memory → first_of (holds d) kinds ≡ Some e
+
+abbrev pub top_faults : Data → List (List DumpFault)
+top_faults d = (BadTop ∷ []) ∷ (BadVersion ∷ []) ∷ []
+
+abbrev pub site_faults : Data → List (List DumpFault)
+site_faults d = each_site d BadSites ∷ each_site d RepeatedSite ∷ (TooManySites ∷ []) ∷ []
+
+abbrev pub process_faults : Data → List (List DumpFault)
+process_faults d = (TooManyProcesses ∷ []) ∷ each_process d BadProcess ∷ []
+
+abbrev pub name_faults : Data → List (List DumpFault)
+name_faults d = each_process d RepeatedProcess ∷ []
+
+abbrev pub entry_faults : Data → List (List DumpFault)
+entry_faults d =
+    each_process d UnknownSite
+    ∷ each_dependent d UnknownDependent
+    ∷ each_dependent d RepeatedDependent
+    ∷ each_process d ActiveWithDependents
+    ∷ (TooManyDependencies ∷ [])
+    ∷ []
+
+abbrev pub transit_faults : Data → List (List DumpFault)
+transit_faults d =
+    (TooManyInTransit ∷ []) ∷ each_transit d BadInTransit ∷ each_transit d UnknownInTransit ∷ []

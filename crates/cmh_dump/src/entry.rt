@@ -1,0 +1,107 @@
+//! Processes as they are written: all by names.
+
+ghost use Rattle.std.specs.Prelude.{◌≡◌, not, map, position, IfOk};
+ghost use Rattle.serde_json.specs.View.{view};
+ghost use Rattle.cmh_dump.specs.Entry.{is_active as is_active_lem, is_idle as is_idle_lem, is_process as is_process_lem, has_dependents as has_dependents_lem, entry_of as entry_of_lem};
+ghost use Rattle.cmh_dump.specs.Read.{entry_view};
+ghost use Rattle.cmh_dump.specs.Texts.{texts};
+
+use crate::names::{are_names_at, is_name};
+use crate::tree::{has_array, has_keys, has_member, text_at, texts_at};
+use cmh_graph::State;
+use serde_json::Value;
+use std::alloc::{AllocError, Global};
+
+/// A process as it is written.
+#[derive(Drop)]
+pub(crate) struct Entry<'v> {
+    pub(crate) name: &'v str,
+    pub(crate) site: &'v str,
+    pub(crate) state: State,
+    pub(crate) dependents: Vec<&'v str>,
+}
+
+fn is_active(process: &Value) -> bool
+    ensures { result ≡ is_active_lem (view process.now) }
+{
+    text_at(process, "state") == "active"
+}
+
+fn is_idle(process: &Value) -> bool
+    ensures { result ≡ is_idle_lem (view process.now) }
+{
+    text_at(process, "state") == "idle"
+}
+
+/// An active process may leave its dependents out.
+fn has_dependents(process: &Value) -> bool
+    ensures { result ≡ has_dependents_lem (view process.now) }
+{
+    if has_member(process, "dependents") {
+        has_array(process, "dependents")
+    } else {
+        is_active(process)
+    }
+}
+
+/// The process as it is written, without a look at what is wrong with it.
+pub(crate) fn entry_of<'v>(alloc: Global, process: &'v Value) -> Result<Entry<'v>, AllocError>
+    ensures { IfOk result (λ e. entry_view e ≡ entry_of_lem (view process.now)) }
+{
+    let dependents = texts_at(alloc, process, "dependents")?;
+    let state = if is_active(process) { State::Active } else { State::Idle };
+    Ok(Entry {
+        name: text_at(process, "name"),
+        site: text_at(process, "site"),
+        state,
+        dependents,
+    })
+}
+
+/// The processes as they are written.
+pub(crate) fn entries_of<'v>(
+    alloc: Global,
+    processes: &'v [Value],
+) -> Result<Vec<Entry<'v>>, AllocError>
+    ensures { IfOk result (λ v.
+        map entry_view v.items ≡ map (λ p. entry_of_lem (view p)) processes.now) }
+{
+    let mut entries = Vec::new(alloc);
+    for process in processes {
+        entries.push(entry_of(alloc, process)?)?;
+    }
+    Ok(entries)
+}
+
+/// The names of the processes.
+pub(crate) fn names_of<'v>(
+    alloc: Global,
+    entries: &[Entry<'v>],
+) -> Result<Vec<&'v str>, AllocError>
+    ensures { IfOk result (λ v. texts v.items ≡ map (λ e. (entry_view e).name) entries.now) }
+{
+    let mut names = Vec::new(alloc);
+    for entry in entries {
+        names.push(entry.name)?;
+    }
+    Ok(names)
+}
+
+/// The process is written as it has to be, whatever the others are.
+fn is_process(process: &Value) -> bool
+    ensures { result ≡ is_process_lem (view process.now) }
+{
+    has_keys(process, &["name", "site", "state"], &["dependents"])
+        && is_name(text_at(process, "name"))
+        && is_name(text_at(process, "site"))
+        && (is_active(process) || is_idle(process))
+        && has_dependents(process)
+        && are_names_at(process, "dependents")
+}
+
+/// The place of the first process that is not written as it has to be.
+pub(crate) fn first_bad_process(processes: &[Value]) -> Option<usize>
+    ensures { result ≡ position (λ p. not (is_process_lem (view p))) processes.now }
+{
+    processes.iter().position(|process| !is_process(process))
+}

@@ -1,0 +1,217 @@
+//! The stages in which a tree is judged, each over some kinds of faults.
+
+ghost use Rattle.std.specs.Prelude.{◌≡◌, ◌≤◌, ◌&&◌, not, [], map, sum_by, length, position, nat_lt, vec_len, IfOk};
+ghost use Rattle.serde_json.specs.Data.{Data};
+ghost use Rattle.serde_json.specs.View.{view};
+ghost use Rattle.cmh_dump.specs.Dump.{is_top as is_top_lem, top_keys};
+ghost use Rattle.cmh_dump.specs.Entry.{is_version as is_version_lem, sites as sites_lem, entries as entries_lem, names as names_lem, is_active_state};
+ghost use Rattle.cmh_dump.specs.Index.{first_repeat as first_repeat_lem};
+ghost use Rattle.cmh_dump.specs.Name.{is_among};
+ghost use Rattle.cmh_dump.specs.Read.{Judges, entry_view, first_pair, top_faults, site_faults, process_faults, name_faults, entry_faults};
+ghost use Rattle.cmh_dump.specs.Texts.{texts};
+ghost use Rattle.cmh_dump.specs.Tree.{has_keys as has_keys_lem};
+
+use crate::entry::{Entry, entries_of, first_bad_process, names_of};
+use crate::index::{IndexFault, first_repeat, first_unknown, index_of, is_known};
+use crate::names::first_bad_name;
+use crate::tree::{entries_at, has_array, has_keys, is_number_at, texts_at};
+use crate::{DumpFault, MAX_SITES};
+use cmh_graph::{MAX_DEPENDENCIES, MAX_PROCESSES, State};
+use indexmap::IndexSet;
+use serde_json::Value;
+use std::alloc::{AllocError, Global};
+
+fn is_version(tree: &Value, number: u64) -> bool
+    ensures { result ≡ is_version_lem number (view tree.now) }
+{
+    is_number_at(tree, "version", number)
+}
+
+/// Version 2 has one key more.
+fn has_top_keys(tree: &Value) -> bool
+    ensures { result ≡ has_keys_lem (top_keys (view tree.now)) [] (view tree.now) }
+{
+    if is_version(tree, 2) {
+        has_keys(tree, &["version", "sites", "processes", "in_transit"], &[])
+    } else {
+        has_keys(tree, &["version", "sites", "processes"], &[])
+    }
+}
+
+fn is_top(tree: &Value) -> bool
+    ensures { result ≡ is_top_lem (view tree.now) }
+{
+    has_top_keys(tree)
+        && has_array(tree, "sites")
+        && has_array(tree, "processes")
+        && (!is_version(tree, 2) || has_array(tree, "in_transit"))
+}
+
+/// Judges the keys at the top and the version.
+pub(crate) fn judge_top(tree: &Value) -> Result<(), DumpFault>
+    ensures { Judges (view tree.now) (top_faults (view tree.now)) result }
+{
+    if !is_top(tree) {
+        return Err(DumpFault::BadTop);
+    }
+    if !is_version(tree, 1) && !is_version(tree, 2) {
+        return Err(DumpFault::BadVersion);
+    }
+    Ok(())
+}
+
+/// The sites by their places. All are judged before they are counted.
+pub(crate) fn read_sites<'v>(
+    alloc: Global,
+    tree: &'v Value,
+) -> Result<IndexSet<&'v str>, DumpFault>
+    ensures judges { Judges (view tree.now) (site_faults (view tree.now)) result }
+    ensures read { IfOk result (λ index. texts index.keys ≡ sites_lem (view tree.now)) }
+    ensures few { IfOk result (λ index. length (texts index.keys) ≤ MAX_SITES) }
+{
+    let sites = texts_at(alloc, tree, "sites")?;
+    if let Some(i) = first_bad_name(&sites) {
+        return Err(DumpFault::BadSites(i));
+    }
+    let index = match index_of(alloc, &sites) {
+        Ok(index) => index,
+        Err(IndexFault::Memory) => return Err(DumpFault::Memory),
+        Err(IndexFault::Repeated(i)) => return Err(DumpFault::RepeatedSite(i)),
+    };
+    if sites.len() > MAX_SITES {
+        return Err(DumpFault::TooManySites);
+    }
+    Ok(index)
+}
+
+/// The processes as they are written, each judged without the others.
+pub(crate) fn read_processes<'v>(
+    alloc: Global,
+    tree: &'v Value,
+) -> Result<Vec<Entry<'v>>, DumpFault>
+    ensures judges { Judges (view tree.now) (process_faults (view tree.now)) result }
+    ensures read { IfOk result (λ v. map entry_view v.items ≡ entries_lem (view tree.now)) }
+    ensures few { IfOk result (λ v. vec_len v ≤ MAX_PROCESSES) }
+{
+    let processes = entries_at(tree, "processes");
+    if processes.len() > MAX_PROCESSES {
+        return Err(DumpFault::TooManyProcesses);
+    }
+    if let Some(i) = first_bad_process(processes) {
+        return Err(DumpFault::BadProcess(i));
+    }
+    Ok(entries_of(alloc, processes)?)
+}
+
+/// The names of the processes by their places.
+pub(crate) fn index_names<'v>(
+    alloc: Global,
+    entries: &[Entry<'v>],
+) -> Result<IndexSet<&'v str>, DumpFault>
+    ensures judges { (d : Data) → map entry_view entries.now ≡ entries_lem d
+        → Judges d (name_faults d) result }
+    ensures read { IfOk result (λ index.
+        texts index.keys ≡ map (λ e. (entry_view e).name) entries.now) }
+{
+    let names = names_of(alloc, entries)?;
+    match index_of(alloc, &names) {
+        Ok(index) => Ok(index),
+        Err(IndexFault::Memory) => Err(DumpFault::Memory),
+        Err(IndexFault::Repeated(i)) => Err(DumpFault::RepeatedProcess(i)),
+    }
+}
+
+/// The place of the first process whose site is not among the sites.
+fn first_unknown_site(entries: &[Entry<'_>], sites: &IndexSet<&str>) -> Option<usize>
+    ensures { result ≡ position (λ e. not (is_among (texts sites.now.keys) e.site.now)) entries.now }
+{
+    entries
+        .iter()
+        .position(|entry| !is_known(sites, entry.site))
+}
+
+/// The first process with a dependent that names no process, and the place of that dependent.
+fn first_unknown_dependent(
+    entries: &[Entry<'_>],
+    names: &IndexSet<&str>,
+) -> Option<(usize, usize)>
+    ensures { result ≡ first_pair
+        (λ e. position (λ name. not (is_among (texts names.now.keys) name.now)) e.dependents.items)
+        0 entries.now }
+{
+    for (i, entry) in entries.iter().enumerate() {
+        if let Some(j) = first_unknown(names, &entry.dependents) {
+            return Some((i, j));
+        }
+    }
+    None
+}
+
+/// The first process with a dependent that equals an earlier one, and the place of that dependent.
+fn first_repeated_dependent(
+    alloc: Global,
+    entries: &[Entry<'_>],
+) -> Result<Option<(usize, usize)>, AllocError>
+    ensures { IfOk result (λ o.
+        o ≡ first_pair (λ e. first_repeat_lem (texts e.dependents.items)) 0 entries.now) }
+{
+    for (i, entry) in entries.iter().enumerate() {
+        if let Some(j) = first_repeat(alloc, &entry.dependents)? {
+            return Ok(Some((i, j)));
+        }
+    }
+    Ok(None)
+}
+
+/// The place of the first active process with dependents.
+fn first_active_with_dependents(entries: &[Entry<'_>]) -> Option<usize>
+    ensures { result ≡ position
+        (λ e. is_active_state e.state && nat_lt 0 (length e.dependents.items)) entries.now }
+{
+    entries
+        .iter()
+        .position(|entry| matches!(entry.state, State::Active) && !entry.dependents.is_empty())
+}
+
+fn has_too_many_dependents(entries: &[Entry<'_>]) -> bool
+    ensures { result ≡ nat_lt MAX_DEPENDENCIES
+        (sum_by (λ e. length e.dependents.items) entries.now) }
+{
+    let mut room = MAX_DEPENDENCIES;
+    for entry in entries {
+        if entry.dependents.len() > room {
+            return true;
+        }
+        room -= entry.dependents.len();
+    }
+    false
+}
+
+/// Judges the processes beside the sites and one another.
+pub(crate) fn judge_entries(
+    alloc: Global,
+    entries: &[Entry<'_>],
+    sites: &IndexSet<&str>,
+    names: &IndexSet<&str>,
+) -> Result<(), DumpFault>
+    ensures { (d : Data) → map entry_view entries.now ≡ entries_lem d
+        → texts sites.now.keys ≡ sites_lem d → texts names.now.keys ≡ names_lem d
+        → Judges d (entry_faults d) result }
+{
+    if let Some(i) = first_unknown_site(entries, sites) {
+        return Err(DumpFault::UnknownSite(i));
+    }
+    if let Some((i, j)) = first_unknown_dependent(entries, names) {
+        return Err(DumpFault::UnknownDependent(i, j));
+    }
+    if let Some((i, j)) = first_repeated_dependent(alloc, entries)? {
+        return Err(DumpFault::RepeatedDependent(i, j));
+    }
+    if let Some(i) = first_active_with_dependents(entries) {
+        return Err(DumpFault::ActiveWithDependents(i));
+    }
+    if has_too_many_dependents(entries) {
+        return Err(DumpFault::TooManyDependencies);
+    }
+    Ok(())
+}

@@ -1,0 +1,60 @@
+//! Names of sites and processes.
+
+ghost use Rattle.std.specs.Prelude.{◌≡◌, not, position};
+ghost use Rattle.std.specs.List.{list_all};
+ghost use Rattle.cmh_dump.specs.Name.{is_name as is_name_lem, is_name_byte as is_name_byte_lem, is_letter_or_digit as is_letter_or_digit_lem};
+ghost use Rattle.cmh_dump.specs.Tree.{text_of, texts_of, at_key};
+ghost use Rattle.serde_json.specs.View.{view};
+
+use crate::tree::{entries_at, text_in};
+use serde_json::Value;
+
+fn is_letter_or_digit(byte: u8) -> bool
+    ensures { result ≡ is_letter_or_digit_lem byte }
+{
+    byte.is_ascii_alphanumeric()
+}
+
+fn is_name_byte(byte: u8) -> bool
+    ensures { result ≡ is_name_byte_lem byte }
+{
+    is_letter_or_digit(byte) || matches!(byte, b'_' | b'-' | b'.' | b':' | b'/')
+}
+
+fn all_name_bytes(bytes: &[u8]) -> bool
+    ensures { result ≡ list_all is_name_byte_lem bytes.now }
+{
+    bytes.iter().all(|byte| is_name_byte(*byte))
+}
+
+/// A name has 1 to 64 bytes: ASCII letters, digits and `_ - . : /`. The first is a letter or a digit.
+pub(crate) fn is_name(text: &str) -> bool
+    ensures { result ≡ is_name_lem text.now }
+{
+    let bytes = text.as_bytes();
+    if bytes.is_empty() || bytes.len() > 64 {
+        return false;
+    }
+    is_letter_or_digit(bytes[0]) && all_name_bytes(bytes)
+}
+
+/// All values are names.
+fn are_names_in(values: &[Value]) -> bool
+    ensures { result ≡ list_all (λ value. is_name_lem (text_of (view value))) values.now }
+{
+    values.iter().all(|value| is_name(text_in(value)))
+}
+
+/// All entries of the array at a key are names.
+pub(crate) fn are_names_at(value: &Value, key: &str) -> bool
+    ensures { result ≡ list_all is_name_lem (texts_of (at_key key.now (view value.now))) }
+{
+    are_names_in(entries_at(value, key))
+}
+
+/// The place of the first text that is no name.
+pub(crate) fn first_bad_name(texts: &[&str]) -> Option<usize>
+    ensures { result ≡ position (λ text. not (is_name_lem text.now)) texts.now }
+{
+    texts.iter().position(|text| !is_name(text))
+}

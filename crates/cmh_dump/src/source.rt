@@ -1,0 +1,44 @@
+//! All the bytes of a source.
+
+ghost use Rattle.std.specs.Prelude.{◌≡◌, ◌≤◌, ◌+◌, ◌++◌, length, vec_len, true, IfOk, IsErrOf};
+ghost use Rattle.cmh_dump.specs.Source.{GaveAtMost, IsOfReading};
+
+use crate::{DumpFault, MAX_BYTES};
+use cmh_stream::Source;
+use std::alloc::Global;
+
+/// The bytes that the source gives up to its end. At most one byte more than a dump may have is
+/// taken, whatever is answered, and what was taken stays taken.
+///
+/// # Errors
+///
+/// `Memory`, `ReadFault` where the source has failed, and `TooLong` where it gave more than
+/// `MAX_BYTES` bytes.
+pub fn read_all<S: Source>(alloc: Global, source: &mut S) -> Result<Vec<u8>, DumpFault>
+    ensures given { IfOk result (λ v. S.given source.new ≡ S.given source.old ++ v.items) }
+    ensures whole { IfOk result (λ v. S.has_ended source.new ≡ true) }
+    ensures short { IfOk result (λ v. vec_len v ≤ MAX_BYTES) }
+
+    ensures read_fault { IsErrOf result DumpFault.ReadFault → S.has_failed source.new ≡ true }
+    ensures too_long { IsErrOf result DumpFault.TooLong
+        → length (S.given source.new) ≡ length (S.given source.old) + (MAX_BYTES + 1) }
+    ensures only { IsOfReading result }
+
+    ensures taken { GaveAtMost (MAX_BYTES + 1) (S.given source.old) (S.given source.new) }
+{
+    let mut bytes = Vec::new(alloc);
+    let mut chunk = [0u8; 4096];
+    while bytes.len() <= MAX_BYTES {
+        let room = (MAX_BYTES + 1 - bytes.len()).min(chunk.len());
+        let Ok(count) = source.fill(&mut chunk[..room]) else {
+            return Err(DumpFault::ReadFault);
+        };
+        if count == 0 {
+            return Ok(bytes);
+        }
+        if bytes.extend_from_slice(&chunk[..count]).is_err() {
+            return Err(DumpFault::Memory);
+        }
+    }
+    Err(DumpFault::TooLong)
+}

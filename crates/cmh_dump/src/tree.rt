@@ -1,0 +1,158 @@
+//! The tree of a dump, and what stands at its places. A place that isn't there, or has another
+//! kind, reads as empty.
+
+ghost use Rattle.std.specs.Prelude.{◌≡◌, ◌≢◌, ◌||◌, Some, None, IfOk, IfErr, map, bytes_eq, string_bytes};
+ghost use Rattle.std.specs.List.{list_all, list_any};
+ghost use Rattle.std.specs.BTreeMap.{keys};
+ghost use Rattle.serde_json.specs.View.{view};
+ghost use Rattle.cmh_dump.specs.Dump.{tree_of as tree_of_lem};
+ghost use Rattle.cmh_dump.specs.Tree.{text_of, texts_of, entries_of, at_key, has_key, has_keys as has_keys_lem, is_array, natural_of, is_number};
+ghost use Rattle.cmh_dump.specs.Texts.{texts};
+
+use crate::DumpFault;
+use serde_json::{Map, Value};
+use std::alloc::{AllocError, Global};
+
+/// The tree of the bytes.
+#[tactic(auto, using(crate::proofs::Trees::tree_is, crate::proofs::Trees::no_tree))]
+pub(crate) fn tree_of(alloc: Global, bytes: &[u8]) -> Result<Value, DumpFault>
+    ensures ok { IfOk result (λ v. tree_of_lem bytes.now ≡ Some (view v)) }
+    ensures err { IfErr result (λ e. e ≢ DumpFault.Memory
+        → (e ≡ DumpFault.NotJson) × (tree_of_lem bytes.now ≡ None)) }
+{
+    match Value::from_slice(alloc, bytes) {
+        Ok(value) => Ok(value),
+        Err(e) => {
+            if e.is_memory() {
+                Err(DumpFault::Memory)
+            } else {
+                Err(DumpFault::NotJson)
+            }
+        }
+    }
+}
+
+/// The text.
+pub(crate) fn text_in(value: &Value) -> &str
+    ensures { result.now ≡ text_of (view value.now) }
+{
+    value.as_str().unwrap_or("")
+}
+
+/// The text at a key.
+pub(crate) fn text_at<'v>(value: &'v Value, key: &str) -> &'v str
+    ensures { result.now ≡ text_of (at_key key.now (view value.now)) }
+{
+    match value.get(key) {
+        Some(member) => text_in(member),
+        None => "",
+    }
+}
+
+/// The entries of an array.
+#[tactic(auto, using(crate::proofs::Trees::entries_of_items))]
+pub(crate) fn entries_in(value: &Value) -> &[Value]
+    ensures { map view result.now ≡ entries_of (view value.now) }
+{
+    match value.as_array() {
+        Some(entries) => entries,
+        None => &[],
+    }
+}
+
+/// The entries of the array at a key.
+pub(crate) fn entries_at<'v>(value: &'v Value, key: &str) -> &'v [Value]
+    ensures { map view result.now ≡ entries_of (at_key key.now (view value.now)) }
+{
+    match value.get(key) {
+        Some(member) => entries_in(member),
+        None => &[],
+    }
+}
+
+/// The values as texts.
+fn texts_in<'v>(alloc: Global, values: &'v [Value]) -> Result<Vec<&'v str>, AllocError>
+    ensures { IfOk result (λ v. texts v.items ≡ map (λ value. text_of (view value)) values.now) }
+{
+    let mut texts = Vec::new(alloc);
+    for value in values {
+        texts.push(text_in(value))?;
+    }
+    Ok(texts)
+}
+
+/// The entries of the array at a key as texts.
+pub(crate) fn texts_at<'v>(
+    alloc: Global,
+    value: &'v Value,
+    key: &str,
+) -> Result<Vec<&'v str>, AllocError>
+    ensures { IfOk result (λ v. texts v.items ≡ texts_of (at_key key.now (view value.now))) }
+{
+    texts_in(alloc, entries_at(value, key))
+}
+
+pub(crate) fn has_array(value: &Value, key: &str) -> bool
+    ensures { result ≡ is_array (at_key key.now (view value.now)) }
+{
+    match value.get(key) {
+        Some(member) => member.is_array(),
+        None => false,
+    }
+}
+
+pub(crate) fn has_member(value: &Value, key: &str) -> bool
+    ensures { result ≡ has_key key.now (view value.now) }
+{
+    value.get(key).is_some()
+}
+
+/// The number at a key is this one.
+pub(crate) fn is_number_at(value: &Value, key: &str, number: u64) -> bool
+    ensures { result ≡ is_number number (natural_of (at_key key.now (view value.now))) }
+{
+    match value.get(key).and_then(Value::as_u64) {
+        Some(found) => found == number,
+        None => false,
+    }
+}
+
+fn has_each(value: &Value, words: &[&str]) -> bool
+    ensures { result ≡ list_all (λ k. has_key k.now (view value.now)) words.now }
+{
+    words.iter().all(|word| value.get(*word).is_some())
+}
+
+fn is_one_of(key: &str, words: &[&str]) -> bool
+    ensures { result ≡ list_any (λ k. bytes_eq key.now k.now) words.now }
+{
+    words.iter().any(|word| key == *word)
+}
+
+fn is_allowed(key: &str, needed: &[&str], allowed: &[&str]) -> bool
+    ensures { result ≡ (list_any (λ k. bytes_eq key.now k.now) needed.now
+        || list_any (λ k. bytes_eq key.now k.now) allowed.now) }
+{
+    is_one_of(key, needed) || is_one_of(key, allowed)
+}
+
+fn has_only(members: &Map<String, Value>, needed: &[&str], allowed: &[&str]) -> bool
+    ensures { result ≡ list_all (λ key.
+        list_any (λ k. bytes_eq (string_bytes key) k.now) needed.now
+        || list_any (λ k. bytes_eq (string_bytes key) k.now) allowed.now) (keys members.now) }
+{
+    members
+        .keys()
+        .all(|key| is_allowed(key.as_str(), needed, allowed))
+}
+
+/// It is an object that has each of the first keys, maybe some of the second, and no others.
+#[tactic(auto, using(crate::proofs::Keys::not_object, crate::proofs::Keys::object_keys))]
+pub(crate) fn has_keys(value: &Value, needed: &[&str], allowed: &[&str]) -> bool
+    ensures { result ≡ has_keys_lem (texts needed.now) (texts allowed.now) (view value.now) }
+{
+    let Some(members) = value.as_object() else {
+        return false;
+    };
+    has_each(value, needed) && has_only(members, needed, allowed)
+}
