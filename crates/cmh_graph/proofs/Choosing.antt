@@ -1,23 +1,28 @@
 -- The chosen path.
-use Rattle.std.proofs.Common.{◌≡◌, ℕ, zero, suc, ◌<◌, ◌≤◌, ◌+◌, Bool, true, false, cond, ◌⊎◌, inl, inr, List, [], ◌∷◌, map, length, get_or, refl, sym, ◌∙◌, ap, subst, arith}
-use Rattle.std.specs.Prelude.{Contains, flat_map, find, fold, Some, None, Option, is_some, unwrap_or, option_and_then}
+use Rattle.std.proofs.Common.{◌≡◌, ℕ, zero, suc, ◌<◌, ◌≤◌, ◌+◌, Bool, true, false, cond, ◌⊎◌, inl, inr, List, [], ◌∷◌, ◌++◌, append_assoc, map, length, get_or, refl, sym, ◌∙◌, ap, subst, arith}
+use Rattle.std.specs.Prelude.{Contains, flat_map, find, fold, Some, None, Option, is_some, IsSome, unwrap_or, option_and_then}
 use Rattle.std.specs.List.{reduce, range_with_len}
 use Rattle.std.specs.Ordering.{nat_cmp, is_lt}
+use Rattle.std.specs.Cmp.{nat_cmp_is}
 use Rattle.std.specs.Cmp.Lexicographic.{slice_cmp}
 use Rattle.std.proofs.lemmas.List.Elements.{Contains-append_left, Contains-append_right, Contains-append_cases}
 use Rattle.std.proofs.lemmas.List.MinMax.{IsFirstBest-from_best_of, ranks_by}
 use Rattle.std.proofs.lemmas.Cmp.{nat_list_cmp_total}
-use Rattle.cmh_graph.specs.ChosenPath.{distance_of, chosen_path, lesser, IsChosenPath, ChosenPathLaw, NoPathLaw}
-use Rattle.cmh_graph.specs.Graph.{IsWithinGraph, Graph, process_count, is_awake, dependencies_of, indices}
+use Rattle.cmh_graph.specs.Build.{IsWellFormed}
+use Rattle.cmh_graph.specs.ChosenPath.{distance_of, chosen_path, lesser, IsChosenPath, IsWayOut, ChosenPathLaw, NoPathLaw}
+use Rattle.cmh_graph.specs.Graph.{Depends, IsWithinGraph, Graph, process_count, is_awake, dependencies_of, dependents_of, indices}
 use Rattle.cmh_graph.specs.Path.{Leads, IsPath, Reaches, paths_to, is_nonempty}
+use Rattle.cmh_graph.specs.Search.{IsLeastAt, number_at}
+use Rattle.cmh_graph.proofs.Listing.{by_index}
+use Rattle.cmh_graph.proofs.Searching.{waits}
 use native.Mathlib.Decide.{dec_lt}
 use Rattle.std.proofs.lemmas.List.{get_or_default}
 use Rattle.std.specs.FinMap.{slice_cmp-IsAntisymmetric, nat_cmp-IsAntisymmetric}
 use Rattle.std.specs.declared.cmp.Ordering.{Ordering}
 use Rattle.std.specs.declared.cmp.Ordering.TheVariants.{Less, Equal, Greater}
 use Rattle.std.specs.Ordering.{ordering_reverse}
-use Rattle.cmh_graph.proofs.Stepping.{first, has_steps}
-use Rattle.cmh_graph.proofs.Reaching.{Simple, simple, length_apart, within, listed, contains_index, is_some_find, cons_contains, contains_cons, depends, dependency}
+use Rattle.cmh_graph.proofs.Stepping.{first, has_steps, near, near_then, passes_itself, steps_back, steps_on}
+use Rattle.cmh_graph.proofs.Reaching.{Simple, simple, length_apart, within, listed, contains_index, is_some_find, cons_contains, contains_cons, depends, depends_within, dependency}
 
 -- ---- what is listed
 
@@ -208,3 +213,147 @@ then_none g p (Some path) e h =
 
 pub no_path_law : NoPathLaw
 no_path_law = λ g p w i. (λ e q r. none_then g p q w i e r (is_awake g q) refl, λ h. then_none g p (chosen_path g p) refl h)
+
+-- ---- a step of the chosen path
+
+-- it is one longer than the distance
+chosen_length : (g : Graph) (p n : ℕ) (path : List ℕ) → distance_of g p ≡ Some n → IsChosenPath g p path → length path ≡ suc n
+unfolding distance_of
+chosen_length g p n path e c =
+    let s = reduce_some (paths_to g (is_awake g) n p) (near g (is_awake g) p n e) in
+    let m = least_of (paths_to g (is_awake g) n p) s.0 s.1 in
+    ap length (one_chosen g p path s.0 c (unfold distance_of in chosen_at g p n s.0 e s.1)) ∙ length_is g p n s.0 (listed_is g (is_awake g) n p s.0 m.0)
+
+-- every way out is at least as long
+way_out_length : (g : Graph) (p n : ℕ) (other : List ℕ) → distance_of g p ≡ Some n → IsWayOut g p other → suc n ≤ length other
+unfolding distance_of
+way_out_length g p n [] e o = absurd o.2
+way_out_length g p n (x ∷ rest) e o =
+    elim (dec_lt (length rest) n) [
+      | yes h ↦
+          let none = (first (λ m. is_nonempty (paths_to g (is_awake g) m p)) 0 (process_count g) n e).1 (length rest) (omega arith) h in
+          let bad : true ≡ false = sym (listed g (is_awake g) p rest o.0 o.2.1 o.1) ∙ none in
+          absurd cc
+      | no h ↦ omega (arith, h)
+    ]
+
+-- an awake process is its own chosen path
+pub chosen_alone : (g : Graph) (p : ℕ) → distance_of g p ≡ Some 0 → IsChosenPath g p (p ∷ [])
+unfolding distance_of
+chosen_alone g p e = record {
+  awake = (p, passes_itself g (is_awake g) p e, (refl, refl));
+  shortest = λ other o. way_out_length g p 0 other e o;
+  least = λ other o same. alone g p other o.0 o.2 same;
+}
+  where
+    alone : (g : Graph) (p : ℕ) (other : List ℕ) (q : ℕ) → IsPath g p q other → length other ≡ 1 → is_lt (slice_cmp nat_cmp other (p ∷ [])) ≡ false
+    alone g p [] q w same = absurd w
+    alone g p (x ∷ []) q w same = rw (sym (nat_cmp_is x p Equal w.0)) refl
+    alone g p (x ∷ y ∷ rest) q w same = absurd (omega (arith, same))
+
+-- a dependency that starts an equally long way out is one nearer
+next_distance : (g : Graph) (p s n : ℕ) (tail : List ℕ) (q : ℕ) → IsWithinGraph g → p < process_count g → distance_of g p ≡ Some (suc n) → Depends g p s → Leads g s tail q → is_awake g q ≡ true → length tail ≡ n → distance_of g s ≡ Some n
+unfolding distance_of
+next_distance g p s n tail q w i e d l a size =
+    let k = near_then g (is_awake g) w s (length tail) (depends_within g w p s i d) (listed g (is_awake g) s tail q l a) in
+    let on = steps_on g (is_awake g) w p s k.0 i d k.2 in
+    let far : on.0 ≡ suc n = ap (λ o. unwrap_or o 0) (sym on.2 ∙ e) in
+    let is : k.0 ≡ n = omega (arith, far, on.1, k.1, size) in
+    k.2 ∙ ap (λ m. Some m) is
+
+later_than : (s x : ℕ) (tail rest : List ℕ) → x ≤ s → (s ≡ x → is_lt (slice_cmp nat_cmp (s ∷ tail) (x ∷ rest)) ≡ false) → is_lt (slice_cmp nat_cmp (s ∷ tail) (x ∷ rest)) ≡ false
+later_than s x tail rest l h =
+    elim (dec_lt x s) [
+      | yes k ↦ rw (sym (nat_cmp_is s x Greater k)) refl
+      | no k ↦ h (omega (arith, k, l))
+    ]
+
+-- The chosen path goes on with the least of the nearer dependencies, by its chosen path.
+pub chosen_more : (g : Graph) (p r n : ℕ) (path : List ℕ) → IsWithinGraph g → p < process_count g → distance_of g p ≡ Some (suc n) → Depends g p r → distance_of g r ≡ Some n → ((s : ℕ) → Depends g p s → distance_of g s ≡ Some n → r ≤ s) → IsChosenPath g r path → IsChosenPath g p (p ∷ path)
+chosen_more g p r n [] w i e d f least c = absurd c.awake.2
+chosen_more g p r n (x ∷ rest) w i e d f least c =
+    let size = chosen_length g r n (x ∷ rest) f c in
+    let q = c.awake.0 in
+    let is : x ≡ r = c.awake.2.0 in
+    record {
+      awake = (q, c.awake.1, (refl, (subst (λ z. Depends g p z) (sym is) d, subst (λ z. Leads g z rest q) (sym is) c.awake.2.1)));
+      shortest = λ other o. omega (arith, way_out_length g p (suc n) other e o, size);
+      least = λ other o same. not_less g p r n x rest other o.0 w i e least c size is o.1 o.2 same;
+    }
+  where
+    not_less : (g : Graph) (p r n x : ℕ) (rest other : List ℕ) (q : ℕ) → IsWithinGraph g → p < process_count g → distance_of g p ≡ Some (suc n) → ((s : ℕ) → Depends g p s → distance_of g s ≡ Some n → r ≤ s) → IsChosenPath g r (x ∷ rest) → length (x ∷ rest) ≡ suc n → x ≡ r → is_awake g q ≡ true → IsPath g p q other → length other ≡ length (p ∷ x ∷ rest) → is_lt (slice_cmp nat_cmp other (p ∷ x ∷ rest)) ≡ false
+    not_less g p r n x rest [] q w i e least c size is a o same = absurd o
+    not_less g p r n x rest (y ∷ []) q w i e least c size is a o same = absurd (omega (arith, same))
+    not_less g p r n x rest (y ∷ s ∷ tail) q w i e least c size is a o same =
+        let short : length tail ≡ n = omega (arith, same, size) in
+        let d : Depends g p s = o.1.0 in
+        let near = next_distance g p s n tail q w i e d o.1.1 a short in
+        let after : x ≤ s = omega (arith, least s d near, is) in
+        rw (sym (nat_cmp_is y p Equal o.0))
+        (later_than s x tail rest after (λ h.
+        c.least (s ∷ tail) (q, a, (h ∙ is, subst (λ z. Leads g z tail q) (h ∙ is) o.1.1)) (omega (arith, short, size))))
+
+-- ---- the path so far
+
+-- The path so far ends with the last process, which is at this distance, and each chosen path
+-- from there completes it.
+pub record LeadsOn (g : Graph) (p n : ℕ) (path : List ℕ) (last : ℕ) : Type 0 where
+  pub within : last < process_count g
+  pub distance : distance_of g last ≡ Some n
+  pub front : List ℕ
+  pub is : path ≡ front ++ last ∷ []
+  pub completes : (rest : List ℕ) → IsChosenPath g last rest → IsChosenPath g p (front ++ rest)
+
+-- what a list of all distances has at a place
+pub distance_read : (g : Graph) (distances : List (Option ℕ)) (q : ℕ) → distances ≡ map (distance_of g) (indices g) → q < process_count g → number_at distances q ≡ distance_of g q
+distance_read g distances q e l = by_index g (distance_of g) distances q None e l
+
+-- at first the path is p alone
+pub leads_start : (g : Graph) (p n : ℕ) (path : List ℕ) (distances : List (Option ℕ)) (o : Option ℕ) → p < process_count g → distances ≡ map (distance_of g) (indices g) → o ≡ get_or distances p o → o ≡ Some n → path ≡ [] ++ p ∷ [] → LeadsOn g p n path p
+leads_start g p n path distances o i e f s is = record {
+  within = i;
+  distance = sym (by_index g (distance_of g) distances p o e i) ∙ sym f ∙ s;
+  front = [];
+  is = is;
+  completes = λ rest c. c;
+}
+
+-- a dependency of the last process is nearer, so some member of its dependent set is
+pub nearest_some : (g : Graph) (p n m last : ℕ) (path row : List ℕ) (distances : List (Option ℕ)) (o : Option ℕ) → IsWellFormed g → LeadsOn g p n path last → n ≡ suc m → row ≡ dependents_of g last → distances ≡ map (distance_of g) (indices g) → IsLeastAt m row distances o → IsSome o
+unfolding distance_of
+nearest_some g p n m last path row distances (Some r) w h e f a least = refl
+nearest_some g p n m last path row distances None w h e f a least =
+    let back = steps_back g (is_awake g) w.within last m h.within (h.distance ∙ ap (λ k. Some k) e) in
+    let here = depends_within g w.within last back.0 h.within back.1 in
+    absurd (least back.0 (subst (λ xs. Contains xs back.0) (sym f) back.1.1) ((unfold distance_of in distance_read g distances back.0 a here) ∙ back.2))
+
+-- the least of these is next
+pub leads_on : (g : Graph) (p n m last r : ℕ) (path row : List ℕ) (distances : List (Option ℕ)) → IsWellFormed g → LeadsOn g p n path last → n ≡ suc m → row ≡ dependents_of g last → distances ≡ map (distance_of g) (indices g) → IsLeastAt m row distances (Some r) → LeadsOn g p m (path ++ r ∷ []) r
+leads_on g p n m last r path row distances w h e f a least =
+    let depends_on = λ (s : ℕ) (c : Contains row s). waits g last s w (subst (λ xs. Contains xs s) f c) in
+    let here = depends_within g w.within last r h.within (depends_on r least.0) in
+    let at = sym (distance_read g distances r a here) ∙ least.1 in
+    record {
+      within = here;
+      distance = at;
+      front = path;
+      is = refl;
+      completes = λ rest c.
+          subst (λ xs. IsChosenPath g p xs) (sym (append_assoc h.front (last ∷ []) rest) ∙ ap (λ xs. xs ++ rest) (sym h.is))
+          (h.completes (last ∷ rest)
+          (chosen_more g last r m rest w.within h.within (h.distance ∙ ap (λ k. Some k) e) (depends_on r least.0) at
+          (λ s d near. least.2 s (subst (λ xs. Contains xs s) (sym f) d.1) (distance_read g distances s a (depends_within g w.within last s h.within d) ∙ near))
+          c));
+    }
+
+-- at an awake process the path is done
+pub leads_end : (g : Graph) (p n last : ℕ) (path : List ℕ) → IsWithinGraph g → p < process_count g → LeadsOn g p n path last → n ≤ 0 → Some path ≡ chosen_path g p
+leads_end g p n last path w i h none =
+    let zero_left : n ≡ 0 = omega (arith, none) in
+    sym (is_chosen g p path w i (subst (λ xs. IsChosenPath g p xs) (sym h.is) (h.completes (last ∷ []) (chosen_alone g last (h.distance ∙ ap (λ k. Some k) zero_left)))))
+
+-- without a distance there is none
+pub chosen_none : (g : Graph) (p : ℕ) (distances : List (Option ℕ)) (o : Option ℕ) → p < process_count g → distances ≡ map (distance_of g) (indices g) → o ≡ get_or distances p o → o ≡ None → None ≡ chosen_path g p
+unfolding chosen_path
+chosen_none g p distances o i e f s =
+    sym (ap (λ d. option_and_then (λ n. reduce lesser (paths_to g (is_awake g) n p)) d) (sym (by_index g (distance_of g) distances p o e i) ∙ sym f ∙ s))

@@ -1,6 +1,7 @@
 -- Lists that places join, and numbers that places are given.
-use Rattle.std.proofs.Common.{◌≡◌, ◌≢◌, Bool, true, false, not, cond, ℕ, zero, suc, ◌+◌, ◌<◌, ◌≤◌, ◌⊎◌, inl, inr, List, [], ◌∷◌, ◌++◌, map, take, length, get_or, set, refl, sym, ◌∙◌, ap, subst, arith}
-use Rattle.std.specs.Prelude.{Contains, Option, Some, None, is_some, IsSome}
+use Rattle.std.proofs.Common.{◌≡◌, ◌≢◌, Bool, true, false, not, cond, ℕ, zero, suc, ◌+◌, ◌<◌, ◌≤◌, ◌⊎◌, ◌↔◌, inl, inr, List, [], ◌∷◌, ◌++◌, map, take, length, get_or, set, refl, sym, ◌∙◌, ap, subst, arith, eqb, eqb-true, eq-eqb}
+use Rattle.std.specs.Prelude.{Contains, MatchOption, Option, Some, None, is_some, IsSome}
+use Rattle.std.specs.Option.{option_eq}
 use Rattle.std.specs.Global.{Vec}
 use Rattle.std.proofs.lemmas.Bool.{cases_eq, cases_lt}
 use Rattle.std.proofs.lemmas.List.{length_push, get_or-map, get_or_default, get_or_past, map-set, get_or-set_same, get_or-set_other, length-set, length-map, take_more}
@@ -8,7 +9,7 @@ use Rattle.std.proofs.lemmas.List.Elements.{Contains-append_left, Contains-appen
 use Rattle.std.proofs.lemmas.List.Sums.{sum_by-set}
 use Rattle.cmh_graph.specs.Build.{IsWellFormed}
 use Rattle.cmh_graph.specs.Graph.{Graph, Depends, dependents_of, is_idle, process_count}
-use Rattle.cmh_graph.specs.Search.{ArePredecessors, is_marked, list_at, number_at, unmarked_count, JoinsEach, IsNamedBy, MarksEach, Numbers}
+use Rattle.cmh_graph.specs.Search.{ArePredecessors, is_marked, list_at, number_at, unmarked_count, JoinsEach, IsLeastAt, IsNamedBy, MarksEach, Numbers}
 use Rattle.cmh_graph.proofs.Reaching.{cons_contains}
 use Rattle.cmh_graph.proofs.Verdicts.{idle_within}
 
@@ -364,3 +365,65 @@ level_more lists level n i a b c x y z l =
     ])
     (λ p (q, k, m). (q, taken_stays level i q l k, m))
     (λ p k. (get_or level i 0, taken_last level i (get_or level i 0) l refl, k))
+
+-- ---- the least place with a number
+
+-- an answer of a test of equality is right
+numbered_by_test : (o : Option ℕ) (n : ℕ) → true ≡ option_eq eqb o (Some n) → o ≡ Some n
+numbered_by_test (Some d) n e = ap (λ m. Some m) (eqb-true d n (sym e))
+numbered_by_test None n e = absurd cc
+
+unnumbered_by_test : (o : Option ℕ) (n : ℕ) → false ≡ option_eq eqb o (Some n) → o ≢ Some n
+unnumbered_by_test o n e f = let bad : true ≡ false = sym (eq-eqb n n refl) ∙ sym (ap (λ p. option_eq eqb p (Some n)) f) ∙ sym e in absurd cc
+
+-- one member more, that has the number and is below the least so far
+pub least_more : (n i : ℕ) (list : List ℕ) (numbers : List (Option ℕ)) (least new : Option ℕ) → i < length list → IsLeastAt n (take i list) numbers least → MatchOption least (true ≡ true) (λ r. (true ≡ true) ↔ (get_or list i 0 < r)) → true ≡ option_eq eqb (number_at numbers (get_or list i 0)) (Some n) → new ≡ Some (get_or list i 0) → IsLeastAt n (take (i + 1) list) numbers new
+least_more n i list numbers least new l h below e f =
+    subst (λ o. IsLeastAt n (take (i + 1) list) numbers o) (sym f) (
+      taken_last list i (get_or list i 0) l refl,
+      numbered_by_test (number_at numbers (get_or list i 0)) n e,
+      λ q c s. elim (taken_more list i q l c) [
+        | inl d ↦ lesser n i list numbers least q h below d s
+        | inr same ↦ omega (arith, same)
+      ],
+    )
+  where
+    lesser : (n i : ℕ) (list : List ℕ) (numbers : List (Option ℕ)) (least : Option ℕ) (q : ℕ) → IsLeastAt n (take i list) numbers least → MatchOption least (true ≡ true) (λ r. (true ≡ true) ↔ (get_or list i 0 < r)) → Contains (take i list) q → number_at numbers q ≡ Some n → get_or list i 0 ≤ q
+    lesser n i list numbers None q h below c s = absurd (h q c s)
+    lesser n i list numbers (Some r) q h below c s = omega (arith, h.2 q c s, below.0 refl)
+
+-- one member more, that is not below the least so far
+pub least_above : (n i : ℕ) (list : List ℕ) (numbers : List (Option ℕ)) (least new : Option ℕ) → i < length list → IsLeastAt n (take i list) numbers least → MatchOption least (false ≡ true) (λ r. (false ≡ true) ↔ (get_or list i 0 < r)) → new ≡ least → IsLeastAt n (take (i + 1) list) numbers new
+least_above n i list numbers least new l h above e = subst (λ o. IsLeastAt n (take (i + 1) list) numbers o) (sym e) (stays n i list numbers least l h above)
+  where
+    stays : (n i : ℕ) (list : List ℕ) (numbers : List (Option ℕ)) (least : Option ℕ) → i < length list → IsLeastAt n (take i list) numbers least → MatchOption least (false ≡ true) (λ r. (false ≡ true) ↔ (get_or list i 0 < r)) → IsLeastAt n (take (i + 1) list) numbers least
+    stays n i list numbers None l h above = absurd cc
+    stays n i list numbers (Some r) l h above = (
+      taken_stays list i r l h.0,
+      h.1,
+      λ q c s. elim (taken_more list i q l c) [
+        | inl d ↦ h.2 q d s
+        | inr same ↦ elim (cases_lt q r) [
+          | inl k ↦ let bad = above.1 (subst (λ z. z < r) same k) in absurd cc
+          | inr k ↦ k
+        ]
+      ],
+    )
+
+-- one member more, that has another number
+pub least_other : (n i : ℕ) (list : List ℕ) (numbers : List (Option ℕ)) (least new : Option ℕ) → i < length list → IsLeastAt n (take i list) numbers least → false ≡ option_eq eqb (number_at numbers (get_or list i 0)) (Some n) → new ≡ least → IsLeastAt n (take (i + 1) list) numbers new
+least_other n i list numbers least new l h e f = subst (λ o. IsLeastAt n (take (i + 1) list) numbers o) (sym f) (stays n i list numbers least l h (unnumbered_by_test (number_at numbers (get_or list i 0)) n e))
+  where
+    stays : (n i : ℕ) (list : List ℕ) (numbers : List (Option ℕ)) (least : Option ℕ) → i < length list → IsLeastAt n (take i list) numbers least → number_at numbers (get_or list i 0) ≢ Some n → IsLeastAt n (take (i + 1) list) numbers least
+    stays n i list numbers None l h other = λ q c s. elim (taken_more list i q l c) [
+      | inl d ↦ h q d s
+      | inr same ↦ other (ap (number_at numbers) (sym same) ∙ s)
+    ]
+    stays n i list numbers (Some r) l h other = (
+      taken_stays list i r l h.0,
+      h.1,
+      λ q c s. elim (taken_more list i q l c) [
+        | inl d ↦ h.2 q d s
+        | inr same ↦ absurd (other (ap (number_at numbers) (sym same) ∙ s))
+      ],
+    )

@@ -60,7 +60,7 @@ has_steps g test w p q i rest l a =
     (listed g test p s.0 q s.1 a)
 
 -- it is at most the length of each path
-near_then : (g : Graph) (test : ℕ → Bool) → IsWithinGraph g → (p m : ℕ) → p < process_count g → is_nonempty (paths_to g test m p) ≡ true → (k : ℕ) × (k ≤ m) × (steps_to g test p ≡ Some k)
+pub near_then : (g : Graph) (test : ℕ → Bool) → IsWithinGraph g → (p m : ℕ) → p < process_count g → is_nonempty (paths_to g test m p) ≡ true → (k : ℕ) × (k ≤ m) × (steps_to g test p ≡ Some k)
 unfolding Walk
 near_then g test w p m i e =
     let v = walk g test m p e in

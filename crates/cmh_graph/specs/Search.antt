@@ -1,5 +1,5 @@
 -- What the searches over a graph keep, and what they make.
-use Rattle.std.specs.Prelude.{◌≡◌, ◌⊎◌, ◌+◌, ℕ, Bool, false, not, count_by, List, [], map, length, slice_index_or, Contains, IsSome, IsTrue, Option, Some, None}
+use Rattle.std.specs.Prelude.{◌≡◌, ◌≢◌, ◌≤◌, ◌⊎◌, ◌+◌, ℕ, Bool, false, not, count_by, List, [], map, length, slice_index_or, Contains, IsSome, IsTrue, Option, Some, None}
 use Rattle.std.specs.Global.{Vec}
 use Rattle.cmh_graph.specs.Graph.{Graph, Depends, process_count}
 
@@ -61,3 +61,10 @@ pub record MarksEach (list : List ℕ) (old new : List Bool) (before after : Lis
   pub stays : (p : ℕ) → Contains before p → Contains after p
   pub only : (p : ℕ) → Contains after p → Contains before p ⊎ IsTrue (is_marked new p)
   pub count : unmarked_count new + length after ≡ unmarked_count old + length before
+
+-- The least member of the list that has this number, or none where no member has it.
+abbrev pub IsLeastAt : ℕ → List ℕ → List (Option ℕ) → Option ℕ → Type 0
+IsLeastAt n list numbers None = (q : ℕ) → Contains list q → number_at numbers q ≢ Some n
+IsLeastAt n list numbers (Some least) =
+    Contains list least × (number_at numbers least ≡ Some n)
+    × ((q : ℕ) → Contains list q → number_at numbers q ≡ Some n → least ≤ q)

@@ -1,8 +1,9 @@
 //! How far processes are from an awake one, and by which path.
 
-ghost use Rattle.std.specs.Prelude.{◌≡◌, ◌<◌, map, option_map, IfOk, IfErr};
+ghost use Rattle.std.specs.Prelude.{◌≡◌, ◌<◌, map, length, option_map, All, IfOk, IfErr, IsTrue, MatchOption, ◌↔◌};
 ghost use Rattle.cmh_graph.specs.Graph.{indices, process_count};
 ghost use Rattle.cmh_graph.specs.ChosenPath.{distance_of, chosen_path};
+ghost use Rattle.cmh_graph.specs.Search.{IsLeastAt};
 
 use crate::{GraphFault, WaitGraph};
 use std::alloc::Global;
@@ -27,6 +28,38 @@ impl WaitGraph {
             option_map (λ v. v.items) path ≡ chosen_path self.now p) }
         ensures memory { IfErr result (λ e. e ≡ GraphFault.Memory) }
     {
-        Err(GraphFault::Memory)
+        let distances = self.steps_to(alloc, self.awake())?;
+        let Some(distance) = distances[p as usize] else {
+            return Ok(None);
+        };
+        let mut path = Vec::new(alloc);
+        path.push(p)?;
+        let mut last = p;
+        for nearer in (0..distance).rev() {
+            last = least_at(nearer, self.dependents(last), &distances).unwrap();
+            path.push(last)?;
+        }
+        Ok(Some(path))
     }
+}
+
+/// The least process of the list that is at this distance.
+fn least_at(distance: u32, list: &[u32], distances: &[Option<u32>]) -> Option<u32>
+    requires { All (λ q. q < length distances.now) list.now }
+    ensures { IsLeastAt distance list.now distances.now result }
+{
+    let mut least: Option<u32> = None;
+    for q in list {
+        if is_below(*q, least) && distances[*q as usize] == Some(distance) {
+            least = Some(*q);
+        }
+    }
+    least
+}
+
+/// Whether `q` is below the other number, if there is one.
+fn is_below(q: u32, other: Option<u32>) -> bool
+    ensures { MatchOption other (IsTrue result) (λ r. IsTrue result ↔ (q < r)) }
+{
+    other.is_none_or(|r| q < r)
 }
