@@ -74,7 +74,7 @@ one_first : (k i a : ℕ) → i ≤ a → is_lt (slice_cmp nat_cmp (k ∷ a ∷ 
 one_first k i a l = rw (cmp_same k) (not_below a i l)
 
 -- and those with two go by these
-pair_first : (k i j a b : ℕ) → (i < a) ⊎ ((i ≡ a) × (j ≤ b)) → is_lt (slice_cmp nat_cmp (k ∷ a ∷ b ∷ []) (k ∷ i ∷ j ∷ [])) ≡ false
+pub pair_first : (k i j a b : ℕ) → (i < a) ⊎ ((i ≡ a) × (j ≤ b)) → is_lt (slice_cmp nat_cmp (k ∷ a ∷ b ∷ []) (k ∷ i ∷ j ∷ [])) ≡ false
 pair_first k i j a b (inl h) = rw (cmp_same k, sym (nat_cmp_is a i Greater h)) refl
 pair_first k i j a b (inr h) = rw (cmp_same k, sym (nat_cmp_is a i Equal (sym h.0))) (not_below b j h.1)
 

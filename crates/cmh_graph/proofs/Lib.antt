@@ -2,6 +2,7 @@ pub mod Building
 pub mod Choosing
 pub mod Cores
 pub mod Distances
+pub mod Examples
 pub mod Judging
 pub mod Listing
 pub mod Reaching

@@ -13,6 +13,8 @@ mod laws;
 mod part;
 mod reach;
 mod search;
+#[cfg(test)]
+mod tests;
 mod verdict;
 
 pub use fault::GraphFault;

@@ -1,0 +1,200 @@
+//! Worked graphs. Expected values are from the rules, by hand.
+
+use crate::{GraphFault, MAX_IN_TRANSIT, MAX_PROCESSES, Part, State, Verdict, WaitGraph};
+use std::alloc::{AllocError, Global};
+
+/// A process by its name, its site, its state and its dependents.
+type Row<'a> = (&'a str, u32, State, &'a [u32]);
+
+fn parts_of(alloc: Global, rows: &[Row]) -> Result<Vec<Part>, AllocError> {
+    let mut parts = Vec::new(alloc);
+    for (name, site, state, dependents) in rows {
+        let name = String::from_str(alloc, name)?;
+        let dependents = Vec::from_slice(alloc, dependents)?;
+        parts.push(Part { name, site: *site, state: *state, dependents })?;
+    }
+    Ok(parts)
+}
+
+fn graph_of(alloc: Global, rows: &[Row]) -> Result<WaitGraph, GraphFault> {
+    WaitGraph::build(alloc, parts_of(alloc, rows)?)
+}
+
+const TWO_IN_A_CYCLE: [Row; 2] = [
+    ("p", 0, State::Idle, &[1]),
+    ("q", 0, State::Idle, &[0]),
+];
+
+const CYCLE_AND_FOLLOWER: [Row; 3] = [
+    ("p", 0, State::Idle, &[1]),
+    ("q", 0, State::Idle, &[0]),
+    ("r", 1, State::Idle, &[0]),
+];
+
+#[test]
+fn cycle_and_follower(rt: HostRuntime) -> Result<(), GraphFault> {
+    let alloc = rt.alloc();
+    let graph = graph_of(alloc, &CYCLE_AND_FOLLOWER)?;
+    assert_eq!(rt; graph.len(), 3);
+    assert!(rt; !graph.is_empty());
+    assert_eq!(rt; graph.name(2), "r");
+    assert_eq!(rt; graph.site(2), 1);
+    assert_eq!(rt; graph.dependents(2), [0].as_slice());
+    assert!(rt; graph.is_idle(2));
+    assert!(rt; !graph.is_awake(2));
+    assert_eq!(rt; graph.idle_list(alloc)?.as_slice(), [0, 1, 2].as_slice());
+    assert_eq!(rt; graph.verdicts_plain(alloc)?.as_slice(), [Verdict::Deadlocked; 3].as_slice());
+    assert_eq!(rt; graph.reach_of(alloc, 2)?.as_slice(), [0, 1, 2].as_slice());
+    assert_eq!(rt; graph.core_of(alloc, 2)?.as_slice(), [2].as_slice());
+    assert!(rt; graph.chosen_path(alloc, 2)?.is_none());
+    assert_eq!(rt; graph.distances(alloc)?.as_slice(), [None; 3].as_slice());
+    Ok(())
+}
+
+#[test]
+fn two_shortest_paths(rt: HostRuntime) -> Result<(), GraphFault> {
+    let alloc = rt.alloc();
+    let graph = graph_of(
+        alloc,
+        &[
+            ("p", 0, State::Idle, &[2, 1]),
+            ("a", 0, State::Idle, &[3]),
+            ("b", 0, State::Idle, &[3]),
+            ("z", 0, State::Active, &[]),
+        ],
+    )?;
+    assert_eq!(rt; graph.len(), 4);
+    let distances = [Some(2), Some(1), Some(1), Some(0)];
+    assert_eq!(rt; graph.distances(alloc)?.as_slice(), distances.as_slice());
+    let path = graph.chosen_path(alloc, 0)?.expect(&rt, "a path");
+    assert_eq!(rt; path.as_slice(), [0, 1, 3].as_slice());
+    let path = graph.chosen_path(alloc, 3)?.expect(&rt, "a path");
+    assert_eq!(rt; path.as_slice(), [3].as_slice());
+    assert_eq!(rt; graph.verdicts_plain(alloc)?.as_slice(), [Verdict::Free; 4].as_slice());
+    Ok(())
+}
+
+#[test]
+fn empty(rt: HostRuntime) -> Result<(), GraphFault> {
+    let alloc = rt.alloc();
+    let graph = graph_of(alloc, &[])?;
+    assert_eq!(rt; graph.len(), 0);
+    assert!(rt; graph.is_empty());
+    assert!(rt; graph.idle_list(alloc)?.is_empty());
+    assert!(rt; graph.verdicts_plain(alloc)?.is_empty());
+    assert!(rt; graph.distances(alloc)?.is_empty());
+    Ok(())
+}
+
+#[test]
+fn refused_parts(rt: HostRuntime) {
+    let alloc = rt.alloc();
+    let table: [(&[Row], GraphFault); 7] = [
+        (&[("p", 0, State::Idle, &[5])], GraphFault::DependentOutOfRange(0, 0)),
+        (&[("p", 0, State::Idle, &[0, 0])], GraphFault::RepeatedDependent(0, 1)),
+        (&[("p", 0, State::Active, &[0])], GraphFault::ActiveWithDependents(0)),
+        // the first of several
+        (
+            &[("p", 0, State::Idle, &[0, 0]), ("q", 0, State::Idle, &[2])],
+            GraphFault::DependentOutOfRange(1, 0),
+        ),
+        (
+            &[("p", 0, State::Active, &[1]), ("q", 0, State::Idle, &[0, 1, 0, 1])],
+            GraphFault::RepeatedDependent(1, 2),
+        ),
+        (
+            &[("p", 0, State::Idle, &[0, 3, 2]), ("q", 0, State::Idle, &[2])],
+            GraphFault::DependentOutOfRange(0, 1),
+        ),
+        (
+            &[("p", 0, State::Active, &[1]), ("q", 0, State::Active, &[0])],
+            GraphFault::ActiveWithDependents(0),
+        ),
+    ];
+    for (rows, fault) in table {
+        assert!(rt; graph_of(alloc, rows).err() == Some(fault), "wants {fault}");
+    }
+}
+
+#[test]
+fn in_transit(rt: HostRuntime) -> Result<(), GraphFault> {
+    let alloc = rt.alloc();
+    let table: [(&[Row], (u32, u32), &[bool]); 3] = [
+        (&TWO_IN_A_CYCLE, (1, 0), &[true, false]),
+        // q is no dependent of r
+        (&CYCLE_AND_FOLLOWER, (1, 2), &[false, false, false]),
+        (&CYCLE_AND_FOLLOWER, (0, 2), &[false, false, true]),
+    ];
+    for (rows, message, awake) in table {
+        let graph = WaitGraph::build_with(alloc, parts_of(alloc, rows)?, &[message])?;
+        for p in 0..graph.len() {
+            assert!(rt; awake.get(p as usize) == Some(&graph.is_awake(p)));
+        }
+    }
+    Ok(())
+}
+
+#[test]
+fn refused_messages(rt: HostRuntime) -> Result<(), GraphFault> {
+    let alloc = rt.alloc();
+    let mut messages = vec![in alloc; (0, 0); MAX_IN_TRANSIT]?;
+    let parts = parts_of(alloc, &TWO_IN_A_CYCLE)?;
+    let graph = WaitGraph::build_with(alloc, parts, &messages)?;
+    for p in 0..graph.len() {
+        assert!(rt; !graph.is_awake(p));
+    }
+    messages.push((0, 0))?;
+    let table: [(&[(u32, u32)], GraphFault); 3] = [
+        (&messages, GraphFault::TooManyInTransit),
+        (&[(0, 2)], GraphFault::TransitOutOfRange(0)),
+        (&[(0, 1), (2, 0), (0, 2)], GraphFault::TransitOutOfRange(1)),
+    ];
+    for (messages, fault) in table {
+        let parts = parts_of(alloc, &TWO_IN_A_CYCLE)?;
+        let refused = WaitGraph::build_with(alloc, parts, messages).err();
+        assert!(rt; refused == Some(fault), "wants {fault}");
+    }
+    Ok(())
+}
+
+/// So many idle processes, each with these dependents.
+fn alike(alloc: Global, count: usize, dependents: &[u32]) -> Result<Vec<Part>, AllocError> {
+    let mut parts = Vec::new(alloc);
+    for _ in 0..count {
+        let name = String::from_str(alloc, "p")?;
+        let dependents = Vec::from_slice(alloc, dependents)?;
+        parts.push(Part { name, site: 0, state: State::Idle, dependents })?;
+    }
+    Ok(parts)
+}
+
+#[test]
+fn most_processes(rt: HostRuntime) -> Result<(), GraphFault> {
+    let alloc = rt.alloc();
+    let graph = WaitGraph::build(alloc, alike(alloc, MAX_PROCESSES, &[])?)?;
+    assert_eq!(rt; graph.idle_list(alloc)?.len(), MAX_PROCESSES);
+    let verdicts = graph.verdicts_plain(alloc)?;
+    assert_eq!(rt; verdicts.len(), MAX_PROCESSES);
+    assert!(rt; verdicts.iter().all(|verdict| *verdict == Verdict::Deadlocked));
+    let refused = WaitGraph::build(alloc, alike(alloc, MAX_PROCESSES + 1, &[])?).err();
+    assert!(rt; refused == Some(GraphFault::TooManyProcesses));
+    Ok(())
+}
+
+#[test]
+fn most_dependencies(rt: HostRuntime) -> Result<(), GraphFault> {
+    let alloc = rt.alloc();
+    let mut everybody = Vec::new(alloc);
+    for p in 0..256 {
+        everybody.push(p)?;
+    }
+    let graph = WaitGraph::build(alloc, alike(alloc, 256, &everybody)?)?;
+    for p in 0..graph.len() {
+        assert!(rt; graph.core_of(alloc, p)?.as_slice() == everybody.as_slice());
+    }
+    let mut parts = alike(alloc, 256, &everybody)?;
+    parts.extend(alike(alloc, 1, &[0])?)?;
+    let refused = WaitGraph::build(alloc, parts).err();
+    assert!(rt; refused == Some(GraphFault::TooManyDependencies));
+    Ok(())
+}
