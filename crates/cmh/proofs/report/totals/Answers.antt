@@ -1,0 +1,10 @@
+use Rattle.std.proofs.Common.{◌≡◌, length, ap, arith}
+use Rattle.cmh_graph.specs.Graph.{idle_list}
+use Rattle.cmh.proofs.Counts.{active_and_idle, totals_by_counts}
+use Rattle.cmh.proofs.report.totals.Goals as goal
+
+pub returns : goal.returns
+returns c =
+    let waiting : length c.args.idle.now ≡ length (idle_list c.args.graph.now) = ap length c.requires.waiting in
+    let same = totals_by_counts c.args.graph.now _ _ _ _ c.len-all.ensures.count waiting (omega (arith, active_and_idle)) c.count_deadlocked.ensures in
+    rw (← same) c.counts.ensures

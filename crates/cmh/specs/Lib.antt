@@ -1,0 +1,4 @@
+pub mod Analyse
+pub mod Report
+pub mod Status
+pub mod Verdict

@@ -1,0 +1,33 @@
+//! The statuses with which the program ends.
+
+ghost use Rattle.std.specs.Prelude.{◌≡◌};
+ghost use Rattle.cmh.specs.Status.{status_of as status_of_lem};
+
+use crate::fault::AppFault;
+use cmh_dump::DumpFault;
+
+/// No process is deadlocked, or what was asked for is printed.
+pub(crate) const FREE: u8 = 0;
+
+/// The dump is refused.
+pub(crate) const REFUSED: u8 = 1;
+
+/// The words of the command line are refused.
+pub(crate) const MISUSED: u8 = 2;
+
+/// Some process is deadlocked.
+pub(crate) const DEADLOCKED: u8 = 3;
+
+/// Memory was refused, or a device has failed.
+pub(crate) const FAILED: u8 = 4;
+
+/// The status after a fault.
+pub(crate) fn status_of(fault: &AppFault) -> u8
+    ensures { result ≡ status_of_lem fault.now }
+{
+    match fault {
+        AppFault::Dump(DumpFault::Memory | DumpFault::ReadFault) => FAILED,
+        AppFault::Dump(_) => REFUSED,
+        AppFault::Report(_) | AppFault::WriteFault(_) => FAILED,
+    }
+}

@@ -1,0 +1,225 @@
+//! The whole program over streams in memory.
+
+mod cases;
+mod devices;
+
+use crate::serve::serve;
+use cases::CASES;
+use cmh_stream::{ReadOf, WriteOf};
+use devices::{Cut, Page};
+use std::io::Read;
+
+const TWO_IN_A_CYCLE: &str = r#"{"version":1,"sites":["a"],"processes":[
+    {"name":"p","site":"a","state":"idle","dependents":["q"]},
+    {"name":"q","site":"a","state":"idle","dependents":["p"]}]}"#;
+
+const TWO_IN_A_CYCLE_TEXT: &str =
+    "processes 2 active 0 idle 2 deadlocked 2\ndeadlocked p\ndeadlocked q\n";
+
+const ONE_FREE_ONE_STUCK: &str = r#"{"version":1,"sites":["a"],"processes":[
+    {"name":"p","site":"a","state":"idle","dependents":["q","r"]},
+    {"name":"q","site":"a","state":"idle","dependents":["q"]},
+    {"name":"r","site":"a","state":"active"}]}"#;
+
+const TWO_SHORTEST_PATHS: &str = r#"{"version":1,"sites":["a"],"processes":[
+    {"name":"p","site":"a","state":"idle","dependents":["b","a"]},
+    {"name":"a","site":"a","state":"idle","dependents":["z"]},
+    {"name":"b","site":"a","state":"idle","dependents":["z"]},
+    {"name":"z","site":"a","state":"active"}]}"#;
+
+const EMPTY: &str = r#"{"version":1,"sites":[],"processes":[]}"#;
+
+const ANALYSE: [&str; 2] = ["cmh", "analyse"];
+
+/// What a run of the program leaves behind.
+#[derive(Drop)]
+struct Outcome {
+    status: u8,
+    out: Page,
+    err: Page,
+}
+
+fn page(rt: HostRuntime, room: usize) -> Page {
+    Page {
+        bytes: Vec::new(rt.alloc()),
+        room,
+        fails_flush: false,
+    }
+}
+
+/// Runs the program on a reader, with pages for its output.
+fn run_on<R: Read + Drop>(
+    rt: HostRuntime,
+    words: &[&str],
+    reader: R,
+    pages: (Page, Page),
+) -> Outcome {
+    let (mut out, mut err) = pages;
+    let status = serve(
+        &rt,
+        words,
+        &mut ReadOf::new(reader),
+        &mut WriteOf::new(&mut out),
+        &mut WriteOf::new(&mut err),
+    );
+    Outcome { status, out, err }
+}
+
+/// Runs the program on a dump, with as much room for its output as it needs.
+fn run(rt: HostRuntime, words: &[&str], dump: &str) -> Outcome {
+    let pages = (page(rt, 10_000), page(rt, 10_000));
+    run_on(rt, words, dump.as_bytes(), pages)
+}
+
+fn is(page: &Page, text: &str) -> bool {
+    page.bytes.as_slice() == text.as_bytes()
+}
+
+fn has(page: &Page, text: &str) -> bool {
+    str::from_utf8(&page.bytes).is_ok_and(|all| all.contains(text))
+}
+
+#[test]
+fn verdicts(rt: HostRuntime) {
+    let rows = [
+        (TWO_IN_A_CYCLE, TWO_IN_A_CYCLE_TEXT, 3),
+        (
+            ONE_FREE_ONE_STUCK,
+            "processes 3 active 1 idle 2 deadlocked 1\nfree p\ndeadlocked q\n",
+            3,
+        ),
+        (
+            TWO_SHORTEST_PATHS,
+            "processes 4 active 1 idle 3 deadlocked 0\nfree p\nfree a\nfree b\n",
+            0,
+        ),
+        (EMPTY, "processes 0 active 0 idle 0 deadlocked 0\n", 0),
+    ];
+    for (dump, text, status) in rows {
+        let ran = run(rt, &ANALYSE, dump);
+        assert!(rt; is(&ran.out, text), "{text}");
+        assert!(rt; is(&ran.err, ""), "{text}");
+        assert_eq!(rt; ran.status, status, "{text}");
+    }
+}
+
+#[test]
+fn verdicts_of_another_program(rt: HostRuntime) {
+    for (dump, text, status) in CASES {
+        let ran = run(rt, &ANALYSE, dump);
+        assert!(rt; is(&ran.out, text), "{text}");
+        assert!(rt; is(&ran.err, ""), "{text}");
+        assert_eq!(rt; ran.status, status, "{text}");
+    }
+}
+
+#[test]
+fn refused_dumps(rt: HostRuntime) {
+    let rows = [
+        ("", "cmh: dump: not JSON\n"),
+        ("{\"version\":1", "cmh: dump: not JSON\n"),
+        ("[]", "cmh: dump: bad top\n"),
+        (
+            r#"{"version":3,"sites":[],"processes":[]}"#,
+            "cmh: dump: bad version\n",
+        ),
+    ];
+    for (dump, line) in rows {
+        let ran = run(rt, &ANALYSE, dump);
+        assert!(rt; is(&ran.out, ""), "{line}");
+        assert!(rt; is(&ran.err, line), "{line}");
+        assert_eq!(rt; ran.status, 1, "{line}");
+    }
+}
+
+#[test]
+fn refused_words(rt: HostRuntime) {
+    let rows: [&[&str]; 4] = [
+        &["cmh"],
+        &["cmh", "analyze"],
+        &["cmh", "analyse", "--nope"],
+        &["cmh", "analyse", "dump.json"],
+    ];
+    for words in rows {
+        let ran = run(rt, words, TWO_IN_A_CYCLE);
+        assert!(rt; is(&ran.out, ""));
+        assert!(rt; has(&ran.err, "Usage: cmh"));
+        assert_eq!(rt; ran.status, 2);
+    }
+}
+
+#[test]
+fn help_and_version(rt: HostRuntime) {
+    let rows: [(&[&str], &str); 3] = [
+        (&["cmh", "--help"], "analyse"),
+        (&["cmh", "analyse", "--help"], "Usage: cmh analyse"),
+        (&["cmh", "--version"], "cmh "),
+    ];
+    for (words, text) in rows {
+        let ran = run(rt, words, TWO_IN_A_CYCLE);
+        assert!(rt; has(&ran.out, text), "{text}");
+        assert!(rt; is(&ran.err, ""), "{text}");
+        assert_eq!(rt; ran.status, 0, "{text}");
+    }
+}
+
+#[test]
+fn a_failing_source(rt: HostRuntime) {
+    let reader = Cut {
+        bytes: &TWO_IN_A_CYCLE.as_bytes()[..20],
+    };
+    let ran = run_on(rt, &ANALYSE, reader, (page(rt, 100), page(rt, 100)));
+    assert!(rt; is(&ran.out, ""));
+    assert!(rt; is(&ran.err, "cmh: dump: read fault\n"));
+    assert_eq!(rt; ran.status, 4);
+}
+
+#[test]
+fn a_failing_output(rt: HostRuntime) {
+    let unflushed = Page {
+        fails_flush: true,
+        ..page(rt, 100)
+    };
+    let rows = [
+        (
+            page(rt, 10),
+            "processes ",
+            "cmh: write fault after 10 bytes\n",
+        ),
+        (
+            unflushed,
+            TWO_IN_A_CYCLE_TEXT,
+            "cmh: write fault after 67 bytes\n",
+        ),
+    ];
+    for (out, text, line) in rows {
+        let dump = TWO_IN_A_CYCLE.as_bytes();
+        let ran = run_on(rt, &ANALYSE, dump, (out, page(rt, 100)));
+        assert!(rt; is(&ran.out, text), "{line}");
+        assert!(rt; is(&ran.err, line), "{line}");
+        assert_eq!(rt; ran.status, 4, "{line}");
+    }
+}
+
+#[test]
+fn help_that_is_refused(rt: HostRuntime) {
+    let dump = EMPTY.as_bytes();
+    let ran = run_on(rt, &["cmh", "--help"], dump, (page(rt, 0), page(rt, 100)));
+    assert!(rt; is(&ran.err, "cmh: write fault after 0 bytes\n"));
+    assert_eq!(rt; ran.status, 4);
+}
+
+#[test]
+fn faults_that_cannot_be_told(rt: HostRuntime) {
+    let rows: [(&[&str], &str, usize, u8); 3] = [
+        (&ANALYSE, "{", 100, 1),
+        (&["cmh", "--nope"], EMPTY, 100, 2),
+        (&ANALYSE, EMPTY, 10, 4),
+    ];
+    for (words, dump, room, status) in rows {
+        let pages = (page(rt, room), page(rt, 0));
+        let ran = run_on(rt, words, dump.as_bytes(), pages);
+        assert!(rt; is(&ran.err, ""));
+        assert_eq!(rt; ran.status, status);
+    }
+}
