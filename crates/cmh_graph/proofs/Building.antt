@@ -13,6 +13,7 @@ use Rattle.cmh_graph.specs.Build.{comes_before, entry_count, message_at, Has, Is
 use Rattle.cmh_graph.specs.Graph.{Process, Graph, process_count, dependents_of, is_idle, nobody, entry, IsWithinGraph}
 use Rattle.cmh_graph.specs.Judge.{IsFirst, IsFirstEntry}
 
+-- an active process without that fault has no dependents
 empty_by : (g : Graph) (i : ℕ) (ds : List ℕ) → dependents_of g i ≡ ds → is_idle g i ≡ false → ((fault : GraphFault) → Has g fault → ⊥) → ds ≡ []
 empty_by g i [] e a h = refl
 empty_by g i (d ∷ ds) e a h =
@@ -25,6 +26,7 @@ empty_by g i (d ∷ ds) e a h =
     has_row (p ∷ ps) zero l = omega arith
     has_row (p ∷ ps) (suc i) l = omega (arith, has_row ps i l)
 
+-- a graph without a fault is well formed
 without_fault : (g : Graph) → ((fault : GraphFault) → Has g fault → ⊥) → IsWellFormed g
 without_fault g h = record {
   processes = not_above (process_count g) MAX_PROCESSES (h TooManyProcesses);
@@ -43,6 +45,7 @@ without_fault g h = record {
     not_from : (n m : ℕ) → (m ≤ n → ⊥) → n < m
     not_from n m h = elim (dec_lt n m) [ yes l ↦ l | no l ↦ absurd (h (omega (arith, l))) ]
 
+-- a well-formed graph has no fault
 no_fault : (g : Graph) → IsWellFormed g → (fault : GraphFault) → Has g fault → ⊥
 no_fault g w TooManyProcesses h = omega (arith, w.processes, h)
 no_fault g w TooManyDependencies h = omega (arith, w.dependencies, h)
@@ -54,14 +57,17 @@ no_fault g w (TransitOutOfRange i) (l, inl h) = let b = w.sent_within i l in ome
 no_fault g w (TransitOutOfRange i) (l, inr h) = let b = w.received_within i l in omega (arith, b, h)
 no_fault g w Memory h = h
 
+-- well formed is without a fault
 pub well_formed_law : WellFormedLaw
 well_formed_law = λ g. (λ w fault h. no_fault g w fault h, λ h. without_fault g h)
 
 -- ---- the first fault
 
+-- a number compares as equal to itself
 cmp_same : (k : ℕ) → nat_cmp k k ≡ Equal
 cmp_same k = sym (nat_cmp_is k k Equal refl)
 
+-- a number that is no less than another does not come before it
 not_below : (b j : ℕ) → j ≤ b → is_lt (slice_cmp nat_cmp (b ∷ []) (j ∷ [])) ≡ false
 not_below b j l =
     elim (dec_lt j b) [
@@ -78,48 +84,7 @@ pub pair_first : (k i j a b : ℕ) → (i < a) ⊎ ((i ≡ a) × (j ≤ b)) → 
 pair_first k i j a b (inl h) = rw (cmp_same k, sym (nat_cmp_is a i Greater h)) refl
 pair_first k i j a b (inr h) = rw (cmp_same k, sym (nat_cmp_is a i Equal (sym h.0))) (not_below b j h.1)
 
-first_processes_by : (g : Graph) → MAX_PROCESSES < process_count g → (other : GraphFault) → Has g other → IsFalse (comes_before other TooManyProcesses)
-first_processes_by g f TooManyProcesses h = refl
-first_processes_by g f TooManyDependencies h = refl
-first_processes_by g f (DependentOutOfRange a b) h = refl
-first_processes_by g f (RepeatedDependent a b) h = refl
-first_processes_by g f (ActiveWithDependents a) h = refl
-first_processes_by g f TooManyInTransit h = refl
-first_processes_by g f (TransitOutOfRange a) h = refl
-first_processes_by g f Memory h = absurd h
-
--- too many processes come first
-pub first_processes : (g : Graph) → MAX_PROCESSES < process_count g → IsFirstFault g TooManyProcesses
-first_processes g f = record { had = f; first = first_processes_by g f }
-
-first_dependencies_by : (g : Graph) → process_count g ≤ MAX_PROCESSES → MAX_DEPENDENCIES < entry_count g → (other : GraphFault) → Has g other → IsFalse (comes_before other TooManyDependencies)
-first_dependencies_by g np f TooManyProcesses h = absurd (omega (arith, np, h))
-first_dependencies_by g np f TooManyDependencies h = refl
-first_dependencies_by g np f (DependentOutOfRange a b) h = refl
-first_dependencies_by g np f (RepeatedDependent a b) h = refl
-first_dependencies_by g np f (ActiveWithDependents a) h = refl
-first_dependencies_by g np f TooManyInTransit h = refl
-first_dependencies_by g np f (TransitOutOfRange a) h = refl
-first_dependencies_by g np f Memory h = absurd h
-
--- then too many dependencies
-pub first_dependencies : (g : Graph) → process_count g ≤ MAX_PROCESSES → MAX_DEPENDENCIES < entry_count g → IsFirstFault g TooManyDependencies
-first_dependencies g np f = record { had = f; first = first_dependencies_by g np f }
-
-first_out_of_range_by : (g : Graph) (i j : ℕ) → process_count g ≤ MAX_PROCESSES → entry_count g ≤ MAX_DEPENDENCIES → IsFirstEntry (λ i j. Has g (DependentOutOfRange i j)) i j → (other : GraphFault) → Has g other → IsFalse (comes_before other (DependentOutOfRange i j))
-first_out_of_range_by g i j np nd f TooManyProcesses h = absurd (omega (arith, np, h))
-first_out_of_range_by g i j np nd f TooManyDependencies h = absurd (omega (arith, nd, h))
-first_out_of_range_by g i j np nd f (DependentOutOfRange a b) h = pair_first 3 i j a b (f.first a b h)
-first_out_of_range_by g i j np nd f (RepeatedDependent a b) h = refl
-first_out_of_range_by g i j np nd f (ActiveWithDependents a) h = refl
-first_out_of_range_by g i j np nd f TooManyInTransit h = refl
-first_out_of_range_by g i j np nd f (TransitOutOfRange a) h = refl
-first_out_of_range_by g i j np nd f Memory h = absurd h
-
--- then the first dependent out of range
-pub first_out_of_range : (g : Graph) (i j : ℕ) → process_count g ≤ MAX_PROCESSES → entry_count g ≤ MAX_DEPENDENCIES → IsFirstEntry (λ i j. Has g (DependentOutOfRange i j)) i j → IsFirstFault g (DependentOutOfRange i j)
-first_out_of_range g i j np nd f = record { had = f.holds; first = first_out_of_range_by g i j np nd f }
-
+-- no fault that is left comes before the first repeat
 first_repeat_by : (g : Graph) (i j : ℕ) → process_count g ≤ MAX_PROCESSES → entry_count g ≤ MAX_DEPENDENCIES → IsWithinGraph g → IsFirstEntry (λ i j. Has g (RepeatedDependent i j)) i j → (other : GraphFault) → Has g other → IsFalse (comes_before other (RepeatedDependent i j))
 first_repeat_by g i j np nd nr f TooManyProcesses h = absurd (omega (arith, np, h))
 first_repeat_by g i j np nd nr f TooManyDependencies h = absurd (omega (arith, nd, h))
@@ -134,6 +99,7 @@ first_repeat_by g i j np nd nr f Memory h = absurd h
 pub first_repeat : (g : Graph) (i j : ℕ) → process_count g ≤ MAX_PROCESSES → entry_count g ≤ MAX_DEPENDENCIES → IsWithinGraph g → IsFirstEntry (λ i j. Has g (RepeatedDependent i j)) i j → IsFirstFault g (RepeatedDependent i j)
 first_repeat g i j np nd nr f = record { had = f.holds; first = first_repeat_by g i j np nd nr f }
 
+-- no fault that is left comes before the first active process with dependents
 first_active_by : (g : Graph) (i : ℕ) → process_count g ≤ MAX_PROCESSES → entry_count g ≤ MAX_DEPENDENCIES → IsWithinGraph g → ((i j : ℕ) → Has g (RepeatedDependent i j) → ⊥) → IsFirst (λ i. Has g (ActiveWithDependents i)) i → (other : GraphFault) → Has g other → IsFalse (comes_before other (ActiveWithDependents i))
 first_active_by g i np nd nr ne f TooManyProcesses h = absurd (omega (arith, np, h))
 first_active_by g i np nd nr ne f TooManyDependencies h = absurd (omega (arith, nd, h))
@@ -148,6 +114,7 @@ first_active_by g i np nd nr ne f Memory h = absurd h
 pub first_active : (g : Graph) (i : ℕ) → process_count g ≤ MAX_PROCESSES → entry_count g ≤ MAX_DEPENDENCIES → IsWithinGraph g → ((i j : ℕ) → Has g (RepeatedDependent i j) → ⊥) → IsFirst (λ i. Has g (ActiveWithDependents i)) i → IsFirstFault g (ActiveWithDependents i)
 first_active g i np nd nr ne f = record { had = f.holds; first = first_active_by g i np nd nr ne f }
 
+-- no fault that is left comes before too many messages
 first_in_transit_by : (g : Graph) → process_count g ≤ MAX_PROCESSES → entry_count g ≤ MAX_DEPENDENCIES → IsWithinGraph g → ((i j : ℕ) → Has g (RepeatedDependent i j) → ⊥) → ((i : ℕ) → Has g (ActiveWithDependents i) → ⊥) → MAX_IN_TRANSIT < length g.in_transit → (other : GraphFault) → Has g other → IsFalse (comes_before other TooManyInTransit)
 first_in_transit_by g np nd nr ne na f TooManyProcesses h = absurd (omega (arith, np, h))
 first_in_transit_by g np nd nr ne na f TooManyDependencies h = absurd (omega (arith, nd, h))
@@ -162,6 +129,7 @@ first_in_transit_by g np nd nr ne na f Memory h = absurd h
 pub first_in_transit : (g : Graph) → process_count g ≤ MAX_PROCESSES → entry_count g ≤ MAX_DEPENDENCIES → IsWithinGraph g → ((i j : ℕ) → Has g (RepeatedDependent i j) → ⊥) → ((i : ℕ) → Has g (ActiveWithDependents i) → ⊥) → MAX_IN_TRANSIT < length g.in_transit → IsFirstFault g TooManyInTransit
 first_in_transit g np nd nr ne na f = record { had = f; first = first_in_transit_by g np nd nr ne na f }
 
+-- no fault that is left comes before the first message out of range
 first_transit_by : (g : Graph) (i : ℕ) → process_count g ≤ MAX_PROCESSES → entry_count g ≤ MAX_DEPENDENCIES → IsWithinGraph g → ((i j : ℕ) → Has g (RepeatedDependent i j) → ⊥) → ((i : ℕ) → Has g (ActiveWithDependents i) → ⊥) → length g.in_transit ≤ MAX_IN_TRANSIT → IsFirst (λ i. Has g (TransitOutOfRange i)) i → (other : GraphFault) → Has g other → IsFalse (comes_before other (TransitOutOfRange i))
 first_transit_by g i np nd nr ne na nt f TooManyProcesses h = absurd (omega (arith, np, h))
 first_transit_by g i np nd nr ne na nt f TooManyDependencies h = absurd (omega (arith, nd, h))
@@ -176,6 +144,7 @@ first_transit_by g i np nd nr ne na nt f Memory h = absurd h
 pub first_transit : (g : Graph) (i : ℕ) → process_count g ≤ MAX_PROCESSES → entry_count g ≤ MAX_DEPENDENCIES → IsWithinGraph g → ((i j : ℕ) → Has g (RepeatedDependent i j) → ⊥) → ((i : ℕ) → Has g (ActiveWithDependents i) → ⊥) → length g.in_transit ≤ MAX_IN_TRANSIT → IsFirst (λ i. Has g (TransitOutOfRange i)) i → IsFirstFault g (TransitOutOfRange i)
 first_transit g i np nd nr ne na nt f = record { had = f.holds; first = first_transit_by g i np nd nr ne na nt f }
 
+-- messages within the graph are not out of range
 transit_none : (g : Graph) → ((i : ℕ) → i < length g.in_transit → ((message_at g i).0 < process_count g) × ((message_at g i).1 < process_count g)) → (i : ℕ) → Has g (TransitOutOfRange i) → ⊥
 transit_none g n i (l, inl h) = let b = n i l in omega (arith, b.0, h)
 transit_none g n i (l, inr h) = let b = n i l in omega (arith, b.1, h)

@@ -1,7 +1,7 @@
 -- The chosen path.
-use Rattle.std.proofs.Common.{◌≡◌, ℕ, zero, suc, ◌<◌, ◌≤◌, ◌+◌, Bool, true, false, cond, ◌⊎◌, inl, inr, List, [], ◌∷◌, ◌++◌, append_assoc, map, length, get_or, refl, sym, ◌∙◌, ap, subst, arith}
-use Rattle.std.specs.Prelude.{Contains, flat_map, find, fold, Some, None, Option, is_some, IsSome, unwrap_or, option_and_then}
-use Rattle.std.specs.List.{reduce, range_with_len}
+use Rattle.std.proofs.Common.{◌≡◌, ℕ, zero, suc, ◌<◌, ◌≤◌, Bool, true, false, cond, inl, inr, List, [], ◌∷◌, ◌++◌, append_assoc, map, length, get_or, refl, sym, ◌∙◌, ap, subst, arith}
+use Rattle.std.specs.Prelude.{Contains, flat_map, fold, Some, None, Option, is_some, IsSome, unwrap_or, option_and_then}
+use Rattle.std.specs.List.{reduce}
 use Rattle.std.specs.Ordering.{nat_cmp, is_lt}
 use Rattle.std.specs.Cmp.{nat_cmp_is}
 use Rattle.std.specs.Cmp.Lexicographic.{slice_cmp}
@@ -22,10 +22,11 @@ use Rattle.std.specs.declared.cmp.Ordering.{Ordering}
 use Rattle.std.specs.declared.cmp.Ordering.TheVariants.{Less, Equal, Greater}
 use Rattle.std.specs.Ordering.{ordering_reverse}
 use Rattle.cmh_graph.proofs.Stepping.{first, has_steps, near, near_then, passes_itself, steps_back, steps_on}
-use Rattle.cmh_graph.proofs.Reaching.{Simple, simple, length_apart, within, listed, contains_index, is_some_find, cons_contains, contains_cons, depends, depends_within, dependency}
+use Rattle.cmh_graph.proofs.Reaching.{listed, cons_contains, contains_cons, depends, depends_within, dependency}
 
 -- ---- what is listed
 
+-- what the list of a member has, the joined lists have
 flat_map_contains : (f : ℕ → List (List ℕ)) (xs : List ℕ) (r : ℕ) (path : List ℕ) → Contains xs r → Contains (f r) path → Contains (flat_map f xs) path
 flat_map_contains f [] r path c d = absurd (omega (arith, c.1))
 flat_map_contains f (x ∷ xs) r path c d =
@@ -34,6 +35,7 @@ flat_map_contains f (x ∷ xs) r path c d =
       | inr k ↦ Contains-append_right (f x) (flat_map f xs) path (flat_map_contains f xs r path k d)
     ]
 
+-- what joined lists have, the list of a member has
 contains_flat_map : (f : ℕ → List (List ℕ)) (xs : List ℕ) (path : List ℕ) → Contains (flat_map f xs) path → (r : ℕ) × Contains xs r × Contains (f r) path
 contains_flat_map f [] path c = absurd (omega (arith, c.1))
 contains_flat_map f (x ∷ xs) path c =
@@ -42,6 +44,7 @@ contains_flat_map f (x ∷ xs) path c =
       | inr d ↦ let w = contains_flat_map f xs path d in (w.0, contains_cons x xs w.0 w.1, w.2)
     ]
 
+-- a path of the list stands in the list of paths that begin with p
 map_contains : (p : ℕ) (xss : List (List ℕ)) (xs : List ℕ) → Contains xss xs → Contains (map (λ path. p ∷ path) xss) (p ∷ xs)
 map_contains p [] xs c = absurd (omega (arith, c.1))
 map_contains p (ys ∷ yss) xs c =
@@ -50,6 +53,7 @@ map_contains p (ys ∷ yss) xs c =
       | inr d ↦ contains_cons (p ∷ ys) (map (λ path. p ∷ path) yss) (p ∷ xs) (map_contains p yss xs d)
     ]
 
+-- a path of that list begins with p and goes on by a path of the list
 contains_map : (p : ℕ) (xss : List (List ℕ)) (path : List ℕ) → Contains (map (λ path. p ∷ path) xss) path → (xs : List ℕ) × Contains xss xs × (p ∷ xs ≡ path)
 contains_map p [] path c = absurd (omega (arith, c.1))
 contains_map p (ys ∷ yss) path c =
@@ -67,6 +71,7 @@ pub record IsListed (g : Graph) (test : ℕ → Bool) (n p : ℕ) (path : List �
   pub leads : Leads g p rest goal
   pub passes : test goal ≡ true
 
+-- what is listed for no dependencies is the process alone, and it passes
 start_by : (g : Graph) (test : ℕ → Bool) (p : ℕ) (path : List ℕ) (b : Bool) → test p ≡ b → Contains (cond b ((p ∷ []) ∷ []) []) path → IsListed g test 0 p path
 start_by g test p path true e c =
     elim (cons_contains (p ∷ []) [] path c) [
@@ -75,6 +80,7 @@ start_by g test p path true e c =
     ]
 start_by g test p path false e c = absurd (omega (arith, c.1))
 
+-- what is listed is a path
 listed_is : (g : Graph) (test : ℕ → Bool) (n p : ℕ) (path : List ℕ) → Contains (paths_to g test n p) path → IsListed g test n p path
 listed_is g test zero p path c = start_by g test p path (test p) refl c
 listed_is g test (suc n) p path c =
@@ -83,10 +89,12 @@ listed_is g test (suc n) p path c =
     let l = listed_is g test n w.0 v.0 v.1 in
     record { rest = w.0 ∷ l.rest; goal = l.goal; is = ap (λ z. p ∷ z) l.is ∙ v.2; size = ap suc l.size; leads = (depends g p w.0 w.1, l.leads); passes = l.passes }
 
+-- a process that passes is listed alone
 start_listed : (p : ℕ) (b : Bool) → b ≡ true → Contains (cond b ((p ∷ []) ∷ []) []) (p ∷ [])
 start_listed p true e = (zero, omega arith, refl)
 start_listed p false e = absurd cc
 
+-- a path is listed
 is_listed : (g : Graph) (test : ℕ → Bool) (p : ℕ) (rest : List ℕ) (q : ℕ) → Leads g p rest q → test q ≡ true → Contains (paths_to g test (length rest) p) (p ∷ rest)
 is_listed g test p [] q l t = start_listed p (test p) (ap test l ∙ t)
 is_listed g test p (r ∷ rest) q l t =
@@ -95,6 +103,7 @@ is_listed g test p (r ∷ rest) q l t =
 
 -- ---- the least list
 
+-- a fold by the lesser gives a member of the list, and none is less
 least : (x : List ℕ) (xs : List (List ℕ)) → Contains (x ∷ xs) (fold lesser x xs) × ((y : List ℕ) → Contains (x ∷ xs) y → is_lt (slice_cmp nat_cmp y (fold lesser x xs)) ≡ false)
 least x xs =
     let w = IsFirstBest-from_best_of (ranks_by nat_list_cmp_total (λ (z : List ℕ). z)) x xs in
@@ -104,10 +113,7 @@ least x xs =
           (subst (λ z. is_lt (slice_cmp nat_cmp z (get_or (x ∷ xs) w.0 x)) ≡ false) (get_or_default (x ∷ xs) c.0 x y c.1 ∙ c.2) (w.1.1 c.0 x c.1)),
     )
 
-contains_nonempty : (xss : List (List ℕ)) (xs : List ℕ) → Contains xss xs → is_nonempty xss ≡ true
-contains_nonempty [] xs c = absurd (omega (arith, c.1))
-contains_nonempty (x ∷ xss) xs c = refl
-
+-- the least of a list is a member, and none is less
 least_of : (xss : List (List ℕ)) (path : List ℕ) → reduce lesser xss ≡ Some path → Contains xss path × ((y : List ℕ) → Contains xss y → is_lt (slice_cmp nat_cmp y path) ≡ false)
 least_of [] path e = absurd cc
 least_of (x ∷ xs) path e =
@@ -116,9 +122,11 @@ least_of (x ∷ xs) path e =
 
 -- ---- the law
 
+-- a listed path has one process more than dependencies
 length_is : (g : Graph) (p n : ℕ) (path : List ℕ) (l : IsListed g (is_awake g) n p path) → length path ≡ suc n
 length_is g p n path l = ap length (sym l.is) ∙ ap suc l.size
 
+-- the least path of the length of the distance is a chosen path in words
 chosen_at : (g : Graph) (p n : ℕ) (path : List ℕ) → distance_of g p ≡ Some n → reduce lesser (paths_to g (is_awake g) n p) ≡ Some path → IsChosenPath g p path
 unfolding distance_of
 chosen_at g p n path e r =
@@ -147,34 +155,41 @@ chosen_at g p n path e r =
         subst (λ m. Contains (paths_to g (is_awake g) m p) (x ∷ rest)) is
         (subst (λ y. Contains (paths_to g (is_awake g) (length rest) p) (y ∷ rest)) (sym w.0) (is_listed g (is_awake g) p rest q w.1 a))
 
+-- the same, whatever the distance is
 chosen_by : (g : Graph) (p : ℕ) (path : List ℕ) (o : Option ℕ) → distance_of g p ≡ o → option_and_then (λ n. reduce lesser (paths_to g (is_awake g) n p)) o ≡ Some path → IsChosenPath g p path
 chosen_by g p path (Some n) e r = chosen_at g p n path e r
 chosen_by g p path None e r = absurd cc
 
+-- the chosen path that is computed is a chosen path in words
 chosen_is : (g : Graph) (p : ℕ) (path : List ℕ) → chosen_path g p ≡ Some path → IsChosenPath g p path
 unfolding chosen_path
 chosen_is g p path e = chosen_by g p path (distance_of g p) refl e
 
 -- ---- and it is there
 
+-- a list that is not empty has a least member
 reduce_some : (xss : List (List ℕ)) → is_nonempty xss ≡ true → (path : List ℕ) × (reduce lesser xss ≡ Some path)
 reduce_some [] e = absurd cc
 reduce_some (x ∷ xs) e = (fold lesser x xs, refl)
 
+-- a process with a distance has a chosen path
 some_chosen_by : (g : Graph) (p : ℕ) (o : Option ℕ) → distance_of g p ≡ o → is_some o ≡ true → (path : List ℕ) × (option_and_then (λ n. reduce lesser (paths_to g (is_awake g) n p)) o ≡ Some path)
 unfolding distance_of
 some_chosen_by g p (Some n) e s = reduce_some (paths_to g (is_awake g) n p) (first (λ m. is_nonempty (paths_to g (is_awake g) m p)) 0 (process_count g) n e).0
 some_chosen_by g p None e s = absurd cc
 
+-- a process that is led to an awake one has a distance
 has_distance : (g : Graph) → IsWithinGraph g → (p q : ℕ) → p < process_count g → (rest : List ℕ) → Leads g p rest q → is_awake g q ≡ true → is_some (distance_of g p) ≡ true
 unfolding distance_of
 has_distance g w p q i rest l a = has_steps g (is_awake g) w p q i rest l a
 
+-- a process with a path to an awake one has a chosen path
 some_chosen : (g : Graph) → IsWithinGraph g → (p q : ℕ) (path : List ℕ) → p < process_count g → is_awake g q ≡ true → IsPath g p q path → (other : List ℕ) × (chosen_path g p ≡ Some other)
 unfolding chosen_path
 some_chosen g w p q [] i a h = absurd h
 some_chosen g w p q (x ∷ rest) i a h = some_chosen_by g p (distance_of g p) refl (has_distance g w p q i rest h.1 a)
 
+-- an order in which neither is less than the other is equality
 neither_less : (o r : Ordering) → o ≡ ordering_reverse r → is_lt o ≡ false → is_lt r ≡ false → o ≡ Equal
 neither_less Less r e a b = absurd cc
 neither_less Equal r e a b = refl
@@ -182,6 +197,7 @@ neither_less Greater Less e a b = absurd cc
 neither_less Greater Equal e a b = cc
 neither_less Greater Greater e a b = cc
 
+-- two chosen paths in words are one
 one_chosen : (g : Graph) (p : ℕ) (path other : List ℕ) → IsChosenPath g p path → IsChosenPath g p other → path ≡ other
 one_chosen g p path other c d =
     let one = c.shortest other d.awake in
@@ -192,18 +208,22 @@ one_chosen g p path other c d =
     (d.least path c.awake same)
     (c.least other d.awake (sym same)))
 
+-- a chosen path in words is the one that is computed
 is_chosen : (g : Graph) (p : ℕ) (path : List ℕ) → IsWithinGraph g → p < process_count g → IsChosenPath g p path → chosen_path g p ≡ Some path
 is_chosen g p path w i c =
     let s = some_chosen g w p c.awake.0 path i c.awake.1 c.awake.2 in
     s.1 ∙ ap (λ z. Some z) (one_chosen g p s.0 path (chosen_is g p s.0 s.1) c)
 
+-- the chosen path is the one that its words say
 pub chosen_path_law : ChosenPathLaw
 chosen_path_law = λ g p path w i. (λ e. chosen_is g p path e, λ c. is_chosen g p path w i c)
 
+-- without a chosen path no reached process is awake
 none_then : (g : Graph) (p q : ℕ) → IsWithinGraph g → p < process_count g → chosen_path g p ≡ None → Reaches g p q → (b : Bool) → is_awake g q ≡ b → b ≡ false
 none_then g p q w i e r true a = let z = some_chosen g w p q r.0 i a r.1 in let bad : None ≡ Some z.0 = sym e ∙ z.1 in absurd cc
 none_then g p q w i e r false a = refl
 
+-- where no reached process is awake there is no chosen path
 then_none : (g : Graph) (p : ℕ) (o : Option (List ℕ)) → chosen_path g p ≡ o → ((q : ℕ) → Reaches g p q → is_awake g q ≡ false) → o ≡ None
 then_none g p None e h = refl
 then_none g p (Some path) e h =
@@ -211,6 +231,7 @@ then_none g p (Some path) e h =
     let bad : true ≡ false = sym c.awake.1 ∙ h c.awake.0 (path, c.awake.2) in
     absurd cc
 
+-- there is no chosen path just where no reached process is awake
 pub no_path_law : NoPathLaw
 no_path_law = λ g p w i. (λ e q r. none_then g p q w i e r (is_awake g q) refl, λ h. then_none g p (chosen_path g p) refl h)
 
@@ -261,6 +282,7 @@ next_distance g p s n tail q w i e d l a size =
     let is : k.0 ≡ n = omega (arith, far, on.1, k.1, size) in
     k.2 ∙ ap (λ m. Some m) is
 
+-- a list that begins with no less a number is not less, if it isn't where these are equal
 later_than : (s x : ℕ) (tail rest : List ℕ) → x ≤ s → (s ≡ x → is_lt (slice_cmp nat_cmp (s ∷ tail) (x ∷ rest)) ≡ false) → is_lt (slice_cmp nat_cmp (s ∷ tail) (x ∷ rest)) ≡ false
 later_than s x tail rest l h =
     elim (dec_lt x s) [

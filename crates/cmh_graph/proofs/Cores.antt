@@ -1,16 +1,17 @@
 -- Cores.
-use Rattle.std.proofs.Common.{◌≡◌, Bool, cond, ℕ, ◌+◌, ◌<◌, List, [], ◌∷◌, ◌++◌, length, map, get_or, take, eqb, refl, sym, ◌∙◌, ap, subst}
+use Rattle.std.proofs.Common.{◌≡◌, Bool, cond, ℕ, ◌+◌, ◌<◌, List, [], ◌∷◌, ◌++◌, length, map, get_or, take, eqb, sym, ◌∙◌, ap, subst}
 use Rattle.std.specs.Prelude.{Contains, filter, is_some, Option}
 use Rattle.std.proofs.lemmas.List.Elements.{Contains-get_or, filter_more}
-use Rattle.cmh_graph.specs.Core.{core_of, CoreLaw}
+use Rattle.cmh_graph.specs.Core.{CoreLaw}
 use Rattle.cmh_graph.specs.Graph.{Graph, process_count, indices, IsWithinGraph}
-use Rattle.cmh_graph.specs.Path.{Reaches, reaches, reach_of, steps_to}
+use Rattle.cmh_graph.specs.Path.{reaches, reach_of, steps_to}
 use Rattle.cmh_graph.specs.Search.{is_marked}
 use Rattle.cmh_graph.proofs.Listing.{by_index}
 use Rattle.cmh_graph.proofs.Reaching.{index_within, reaches_then, then_reaches, contains_index}
 use Rattle.cmh_graph.proofs.Stepping.{steps_agree}
 use Rattle.cmh_graph.proofs.Verdicts.{contains_filter, reached_within, filter_contains}
 
+-- the core is what each reaches of the other
 pub core_law : CoreLaw
 core_law = λ g p q w i. (
   λ c. let outer = filter_contains (λ r. reaches g r p) (reach_of g p) q c in

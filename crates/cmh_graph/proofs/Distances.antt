@@ -1,17 +1,16 @@
 -- What a distance tells.
 use Rattle.std.proofs.Common.{◌≡◌, ℕ, ◌<◌, Bool, true, false, cond, inl, inr, List, [], ◌∷◌, map, get_or, refl, sym, ◌∙◌, ap}
-use Rattle.std.specs.Prelude.{Some, None, Option, is_some}
+use Rattle.std.specs.Prelude.{Some, Option, is_some}
 use Rattle.std.proofs.lemmas.Bool.{cases_Bool}
-use Rattle.cmh_graph.specs.declared.verdict.Verdict.{Verdict}
 use Rattle.cmh_graph.specs.declared.verdict.Verdict.TheVariants.{Deadlocked, Free}
 use Rattle.cmh_graph.specs.ChosenPath.{distance_of}
 use Rattle.cmh_graph.specs.Graph.{Graph, IsWithinGraph, indices, is_awake, process_count}
 use Rattle.cmh_graph.specs.Path.{Reaches}
-use Rattle.cmh_graph.specs.Verdict.{IsDeadlocked, is_deadlocked, verdict}
+use Rattle.cmh_graph.specs.Verdict.{is_deadlocked, verdict}
 use Rattle.cmh_graph.proofs.Listing.{by_index}
 use Rattle.cmh_graph.proofs.Reaching.{Walk, walk}
 use Rattle.cmh_graph.proofs.Searching.{numbered}
-use Rattle.cmh_graph.proofs.Stepping.{near, has_steps, steps_none}
+use Rattle.cmh_graph.proofs.Stepping.{near, has_steps}
 use Rattle.cmh_graph.proofs.Verdicts.{asleep_is_idle, test_then, then_test}
 
 -- a process with a distance reaches an awake one
@@ -27,6 +26,7 @@ unfolding distance_of
 distance_if_awake g w p q i ([], l) a = absurd l
 distance_if_awake g w p q i (x ∷ rest, (e, l)) a = has_steps g (is_awake g) w p q i rest l a
 
+-- what a process without a distance reaches is not awake
 no_distance_asleep : (g : Graph) → IsWithinGraph g → (p q : ℕ) → p < process_count g → is_some (distance_of g p) ≡ false → Reaches g p q → is_awake g q ≡ false
 no_distance_asleep g w p q i e r = elim (cases_Bool (is_awake g q)) [
   | inl a ↦ let bad : true ≡ false = sym (distance_if_awake g w p q i r a) ∙ e in absurd cc

@@ -136,6 +136,7 @@ verdicts_with_message_from_another = refl
 abbrev far : Graph
 far = graph (idle (codes "p") 0 (5 ∷ []) ∷ [])
 
+-- no fault of it comes before the dependent that is out of range
 none_before_far : (other : GraphFault) → Has far other → IsFalse (comes_before other (DependentOutOfRange 0 0))
 none_before_far TooManyProcesses h = absurd (omega (arith, h))
 none_before_far TooManyDependencies h = absurd (omega (arith, h))
@@ -147,6 +148,7 @@ none_before_far TooManyInTransit h = refl
 none_before_far (TransitOutOfRange i) h = refl
 none_before_far Memory h = absurd h
 
+-- that is its first fault
 far_is_refused : IsFirstFault far (DependentOutOfRange 0 0)
 far_is_refused = record { had = ((omega arith, omega arith), omega arith); first = none_before_far }
 

@@ -1,16 +1,16 @@
 -- Judging parts: first places, and the rows of a graph that is made of parts.
-use Rattle.std.proofs.Common.{◌≡◌, ℕ, zero, suc, Bool, true, false, ◌<◌, ◌≤◌, ◌+◌, ◌⊎◌, ◌↔◌, inl, inr, List, [], map, take, replicate, set, length, get_or, refl, sym, ◌∙◌, ap, subst, arith}
-use Rattle.std.specs.Prelude.{Contains, sum_by}
-use Rattle.std.proofs.lemmas.Bool.{cases_eq, cases_lt, cases_order}
-use Rattle.std.proofs.lemmas.List.{get_or-map, get_or-set_same, get_or-set_other, get_or-take, get_or_default, length-map, length-replicate, length-set, length-take}
+use Rattle.std.proofs.Common.{◌≡◌, ℕ, Bool, true, false, ◌<◌, ◌≤◌, ◌+◌, ◌⊎◌, ◌↔◌, inl, inr, List, [], map, take, set, length, get_or, refl, sym, ◌∙◌, ap, subst, arith, eqb, eqb-true, eq-eqb}
+use Rattle.std.specs.Prelude.{All, Contains}
+use Rattle.std.proofs.lemmas.Bool.{cases_eq, cases_lt, cases_order, ne_eqb}
+use Rattle.std.proofs.lemmas.List.{get_or-map, get_or-set_same, get_or-set_other, get_or-take, get_or_default, map-set, length-map, length-set, length-take}
 use Rattle.std.proofs.lemmas.List.Elements.{Contains-get_or}
-use Rattle.std.proofs.lemmas.List.Folds.{fold-map}
 use Rattle.cmh_graph.specs.declared.part.Part.{Part}
-use Rattle.cmh_graph.specs.declared.fault.GraphFault.TheVariants.{DependentOutOfRange, RepeatedDependent, ActiveWithDependents, TransitOutOfRange}
-use Rattle.cmh_graph.specs.Build.{process_of, graph_of, entry_count, Has}
-use Rattle.cmh_graph.specs.Graph.{Graph, process_count, dependents_of, is_idle, is_idle_state, nobody, IsWithinGraph}
+use Rattle.cmh_graph.specs.declared.fault.GraphFault.TheVariants.{DependentOutOfRange, RepeatedDependent, TransitOutOfRange}
+use Rattle.cmh_graph.specs.Build.{process_of, graph_of, Has}
+use Rattle.cmh_graph.specs.Graph.{process_count, dependents_of, is_idle, is_idle_state, nobody, IsWithinGraph}
 use Rattle.cmh_graph.specs.Judge.{IsAtLeast, IsFirst, IsFirstEntry, IsRepeat}
 use Rattle.cmh_graph.specs.Search.{is_marked}
+use Rattle.cmh_graph.proofs.Stepping.{marked_within}
 use Rattle.cmh_graph.proofs.Searching.{taken_last, taken_more, taken_stays}
 
 -- ---- first places
@@ -38,6 +38,7 @@ entries_more P i before here k j l h =
       | inr m ↦ let same : k ≡ i = omega (arith, m, l) in here j (subst (λ z. P z j) same h)
     ]
 
+-- what holds at an entry of i, and nowhere before, holds first there
 first_entry : (P : ℕ → ℕ → Type 0) (i j : ℕ) → ((k l : ℕ) → k < i → P k l → ⊥) → P i j → ((l : ℕ) → P i l → j ≤ l) → IsFirstEntry P i j
 first_entry P i j before h least = record {
   holds = h;
@@ -62,17 +63,9 @@ row_at parts t i part e l = ap (λ p. p.dependents.items) e ∙ sym (ap (λ p. p
 pub idle_at : (parts : List Part) (t : List (ℕ × ℕ)) (i : ℕ) (part : Part) → part ≡ get_or parts i part → i < length parts → is_idle_state part.state ≡ is_idle (graph_of parts t) i
 idle_at parts t i part e l = ap (λ p. is_idle_state p.state) e ∙ sym (ap (λ p. is_idle_state p.state) (get_or-map process_of parts i part nobody l))
 
--- the entries of the graph are those of the parts
-pub entry_count_is : (parts : List Part) (t : List (ℕ × ℕ)) → entry_count (graph_of parts t) ≡ sum_by (λ part. length part.dependents.items) parts
-entry_count_is parts t = fold-map (λ a p. a + length p.dependents) process_of 0 parts
-
 -- ---- entries out of range
 
-out_then : (parts : List Part) (i j : ℕ) (row : List ℕ) → row ≡ dependents_of (graph_of parts []) i → i < length parts → IsAtLeast (length parts) row j → Has (graph_of parts []) (DependentOutOfRange i j)
-out_then parts i j row same l a =
-    let b = subst (λ r. IsAtLeast (length parts) r j) same a in
-    ((omega (arith, l, as_many parts), b.0), omega (arith, b.1, as_many parts))
-
+-- an entry out of range is too large
 then_out : (parts : List Part) (i j : ℕ) (row : List ℕ) → row ≡ dependents_of (graph_of parts []) i → Has (graph_of parts []) (DependentOutOfRange i j) → IsAtLeast (length parts) row j
 then_out parts i j row same h = subst (λ r. IsAtLeast (length parts) r j) (sym same) (h.0.1, omega (arith, h.1, as_many parts))
 
@@ -80,18 +73,6 @@ then_out parts i j row same h = subst (λ r. IsAtLeast (length parts) r j) (sym 
 pub out_more : (parts : List Part) (i : ℕ) (row : List ℕ) → row ≡ dependents_of (graph_of parts []) i → ((k j : ℕ) → k < i → Has (graph_of parts []) (DependentOutOfRange k j) → ⊥) → ((j : ℕ) → IsAtLeast (length parts) row j → ⊥) → (k j : ℕ) → k < i + 1 → Has (graph_of parts []) (DependentOutOfRange k j) → ⊥
 out_more parts i row same before none =
     entries_more (λ k j. Has (graph_of parts []) (DependentOutOfRange k j)) i before (λ j h. none j (then_out parts i j row same h))
-
--- the first entry out of range of the first row that has one
-pub out_first : (parts : List Part) (i j : ℕ) (row : List ℕ) → row ≡ dependents_of (graph_of parts []) i → i < length parts → ((k j : ℕ) → k < i → Has (graph_of parts []) (DependentOutOfRange k j) → ⊥) → IsFirst (IsAtLeast (length parts) row) j → IsFirstEntry (λ k l. Has (graph_of parts []) (DependentOutOfRange k l)) i j
-out_first parts i j row same l before f =
-    first_entry (λ k l. Has (graph_of parts []) (DependentOutOfRange k l)) i j before (out_then parts i j row same l f.holds) (λ m h. f.first m (then_out parts i m row same h))
-
--- no row has an entry out of range
-pub out_none : (parts : List Part) (n : ℕ) → length parts ≤ n → ((k j : ℕ) → k < n → Has (graph_of parts []) (DependentOutOfRange k j) → ⊥) → IsWithinGraph (graph_of parts [])
-out_none parts n l before = λ i j h. elim (cases_lt (get_or (dependents_of (graph_of parts []) i) j 0) (process_count (graph_of parts []))) [
-  | inl m ↦ m
-  | inr m ↦ absurd (before i j (omega (arith, h.0, as_many parts, l)) (h, m))
-]
 
 -- ---- repeats
 
@@ -102,25 +83,38 @@ pub record SeenUpTo (n : ℕ) (list : List ℕ) (count : ℕ) (seen : List Bool)
   pub seen_is : (r : ℕ) → r < count → Contains (take n list) r → is_marked seen r ≡ true
   pub none : (j : ℕ) → j < n → IsRepeat list j → ⊥
 
-unmarked : (n r : ℕ) → is_marked (replicate n false) r ≡ false
-unmarked zero r = refl
-unmarked (suc n) zero = refl
-unmarked (suc n) (suc r) = unmarked n r
+-- which places have the stamp
+abbrev pub stamped : ℕ → List ℕ → List Bool
+stamped stamp stamps = map (λ s. eqb s stamp) stamps
 
--- at first nothing is marked
-pub seen_none : (list : List ℕ) (count : ℕ) (seen : List Bool) → seen ≡ replicate count false → SeenUpTo 0 list count seen
-seen_none list count seen e = record {
-  size = ap length e ∙ length-replicate count false;
-  marked = λ r m. let bad : true ≡ false = sym m ∙ ap (λ xs. is_marked xs r) e ∙ unmarked count r in absurd cc;
+-- where a stamp is written a place is marked
+pub stamped_written : (stamp : ℕ) (stamps : List ℕ) (r : ℕ) → stamped stamp (set stamps r stamp) ≡ set (stamped stamp stamps) r true
+stamped_written stamp stamps r =
+    map-set (λ s. eqb s stamp) stamps r stamp ∙ ap (λ b. set (stamped stamp stamps) r b) (eq-eqb stamp stamp refl)
+
+-- whether a place is marked, by its stamp
+pub stamped_read : (stamp : ℕ) (stamps : List ℕ) (r : ℕ) → r < length stamps → is_marked (stamped stamp stamps) r ≡ eqb (get_or stamps r 0) stamp
+stamped_read stamp stamps r l = get_or-map (λ s. eqb s stamp) stamps r 0 false l
+
+-- a fresh stamp is nowhere
+pub seen_none : (list : List ℕ) (stamp : ℕ) (stamps : List ℕ) → All (λ s. s < stamp) stamps → SeenUpTo 0 list (length stamps) (stamped stamp stamps)
+seen_none list stamp stamps fresh = record {
+  size = length-map stamps (λ s. eqb s stamp);
+  marked = λ r m.
+      let here : r < length stamps = omega (arith, marked_within (stamped stamp stamps) r m, length-map stamps (λ s. eqb s stamp)) in
+      let same = eqb-true (get_or stamps r 0) stamp (sym (stamped_read stamp stamps r here) ∙ m) in
+      absurd (omega (arith, same, fresh r 0 here));
   seen_is = λ r l c. absurd (omega (arith, c.1));
   none = λ j l h. absurd (omega (arith, l));
 }
 
+-- an entry is among those that were taken with it
 contains_taken : (list : List ℕ) (n k : ℕ) → k < n → k < length list → Contains (take n list) (get_or list k 0)
 contains_taken list n k l m =
     let size : k < length (take n list) = omega (arith, length-take n list, l, m) in
     subst (λ x. Contains (take n list) x) (get_or-take n list k 0 l) (Contains-get_or (take n list) k 0 size)
 
+-- what was taken stands at a place
 taken_at : (list : List ℕ) (n r : ℕ) → Contains (take n list) r → (k : ℕ) × (k < n) × (k < length list) × (get_or list k 0 ≡ r)
 taken_at list n r c =
     let l : c.0 < n = omega (arith, c.1, length-take n list) in
@@ -162,11 +156,27 @@ seen_more list n count seen l s m f =
       ];
     }
 
+-- a place that is stamped already is a repeat
+pub stamp_repeat : (list : List ℕ) (n stamp : ℕ) (stamps : List ℕ) → n < length list → get_or list n 0 < length stamps → SeenUpTo n list (length stamps) (stamped stamp stamps) → get_or stamps (get_or list n 0) 0 ≡ stamp → IsRepeat list n
+stamp_repeat list n stamp stamps l m s e =
+    seen_repeat list n (length stamps) (stamped stamp stamps) l s (stamped_read stamp stamps (get_or list n 0) m ∙ eq-eqb (get_or stamps (get_or list n 0) 0) stamp e)
+
+-- another is none, and is stamped next
+pub stamp_more : (list : List ℕ) (n stamp : ℕ) (stamps : List ℕ) → n < length list → get_or list n 0 < length stamps → SeenUpTo n list (length stamps) (stamped stamp stamps) → (get_or stamps (get_or list n 0) 0 ≡ stamp → ⊥) → SeenUpTo (n + 1) list (length (set stamps (get_or list n 0) stamp)) (stamped stamp (set stamps (get_or list n 0) stamp))
+stamp_more list n stamp stamps l m s e =
+    let x = get_or list n 0 in
+    let unmarked = stamped_read stamp stamps x m ∙ ne_eqb (get_or stamps x 0) stamp e in
+    subst (λ seen. SeenUpTo (n + 1) list (length (set stamps x stamp)) seen) (sym (stamped_written stamp stamps x))
+    (subst (λ k. SeenUpTo (n + 1) list k (set (stamped stamp stamps) x true)) (sym (length-set stamps x stamp))
+    (seen_more list n (length stamps) (stamped stamp stamps) l s m unmarked))
+
+-- a repeat of a row is a repeated dependent
 repeat_then : (parts : List Part) (i j : ℕ) (row : List ℕ) → row ≡ dependents_of (graph_of parts []) i → i < length parts → IsRepeat row j → Has (graph_of parts []) (RepeatedDependent i j)
 repeat_then parts i j row same l a =
     let b = subst (λ r. IsRepeat r j) same a in
     ((omega (arith, l, as_many parts), b.0), b.1, b.2, b.3)
 
+-- a repeated dependent is a repeat of its row
 then_repeat : (parts : List Part) (i j : ℕ) (row : List ℕ) → row ≡ dependents_of (graph_of parts []) i → Has (graph_of parts []) (RepeatedDependent i j) → IsRepeat row j
 then_repeat parts i j row same h = subst (λ r. IsRepeat r j) (sym same) (h.0.1, h.1, h.2, h.3)
 

@@ -8,27 +8,33 @@ use Rattle.std.proofs.lemmas.List.FromFn.{map-range_with_len_more, length-range_
 use Rattle.cmh_graph.specs.Graph.{Graph, process_count, indices}
 use Rattle.cmh_graph.proofs.Reaching.{contains_cons}
 
+-- a list mapped by nothing is the list
 map_same : (xs : List ℕ) → map (λ x. x) xs ≡ xs
 map_same [] = refl
 map_same (x ∷ xs) = λ i. x ∷ map_same xs i
 
+-- one index more is the next
 indices_more : (n : ℕ) → range_with_len 0 (n + 1) ≡ range_with_len 0 n ++ n ∷ []
 indices_more n =
     sym (map_same (range_with_len 0 (n + 1)))
     ∙ map-range_with_len_more (λ x. x) 0 n n (omega arith)
     ∙ ap (λ xs. xs ++ n ∷ []) (map_same (range_with_len 0 n))
 
+-- a filter of one index more keeps it where it passes
 pub filter_indices_more : (p : ℕ → Bool) (n : ℕ) → filter p (range_with_len 0 (n + 1)) ≡ filter p (range_with_len 0 n) ++ cond (p n) (n ∷ []) []
 filter_indices_more p n = rw (indices_more n) (filter-append p (range_with_len 0 n) (n ∷ []))
 
+-- it keeps an index that passes
 pub filter_indices_kept : (p : ℕ → Bool) (n : ℕ) → p n ≡ true → filter p (range_with_len 0 (n + 1)) ≡ filter p (range_with_len 0 n) ++ n ∷ []
 filter_indices_kept p n e = rw (filter_indices_more p n, e) refl
 
+-- and leaves out one that doesn't
 pub filter_indices_passed : (p : ℕ → Bool) (n : ℕ) → p n ≡ false → filter p (range_with_len 0 (n + 1)) ≡ filter p (range_with_len 0 n)
 filter_indices_passed p n e = rw (filter_indices_more p n, e) (append-nil (filter p (range_with_len 0 n)))
 
 -- ---- a list made by index
 
+-- a list made by index is as long as the graph
 pub length-by_index : {X : Type 0} (g : Graph) (f : ℕ → X) → length (map f (indices g)) ≡ process_count g
 length-by_index g f = length-map (indices g) f ∙ length-range_with_len 0 (process_count g)
 

@@ -10,33 +10,41 @@ use Rattle.cmh_graph.specs.Path.{Leads, Reaches, paths_to, is_nonempty, reaches,
 
 -- ---- lists
 
+-- a list has its head, or its rest has what it has
 pub cons_contains : {X : Type 0} (x : X) (xs : List X) (y : X) → Contains (x ∷ xs) y → (x ≡ y) ⊎ Contains xs y
 cons_contains x xs y (zero, l, e) = inl e
 cons_contains x xs y (suc k, l, e) = inr (k, omega arith, e)
 
+-- what the rest has, the list has
 pub contains_cons : {X : Type 0} (x : X) (xs : List X) (y : X) → Contains xs y → Contains (x ∷ xs) y
 contains_cons x xs y (k, l, e) = (suc k, omega arith, e)
 
+-- joined lists that are not empty have one that is not
 nonempty_append : (xs ys : List (List ℕ)) → is_nonempty (xs ++ ys) ≡ true → (is_nonempty xs ≡ true) ⊎ (is_nonempty ys ≡ true)
 nonempty_append [] ys e = inr e
 nonempty_append (x ∷ xs) ys e = inl refl
 
+-- joined to a list, one that is not empty stays so
 append_nonempty_left : (xs ys : List (List ℕ)) → is_nonempty xs ≡ true → is_nonempty (xs ++ ys) ≡ true
 append_nonempty_left [] ys e = cc
 append_nonempty_left (x ∷ xs) ys e = refl
 
+-- and from the other side
 append_nonempty_right : (xs ys : List (List ℕ)) → is_nonempty ys ≡ true → is_nonempty (xs ++ ys) ≡ true
 append_nonempty_right [] ys e = e
 append_nonempty_right (x ∷ xs) ys e = refl
 
+-- a list is not empty where its map is not
 pub nonempty_map : (f : List ℕ → List ℕ) (xs : List (List ℕ)) → is_nonempty (map f xs) ≡ true → is_nonempty xs ≡ true
 nonempty_map f [] e = e
 nonempty_map f (x ∷ xs) e = refl
 
+-- and the other way round
 pub map_nonempty : (f : List ℕ → List ℕ) (xs : List (List ℕ)) → is_nonempty xs ≡ true → is_nonempty (map f xs) ≡ true
 map_nonempty f [] e = e
 map_nonempty f (x ∷ xs) e = refl
 
+-- joined lists are not empty only where a member's list is not
 pub nonempty_flat_map : (f : ℕ → List (List ℕ)) (xs : List ℕ) → is_nonempty (flat_map f xs) ≡ true → (r : ℕ) × Contains xs r × (is_nonempty (f r) ≡ true)
 nonempty_flat_map f [] e = cc
 nonempty_flat_map f (x ∷ xs) e =
@@ -45,6 +53,7 @@ nonempty_flat_map f (x ∷ xs) e =
       | inr h ↦ let w = nonempty_flat_map f xs h in (w.0, contains_cons x xs w.0 w.1, w.2)
     ]
 
+-- and there they are not
 pub flat_map_nonempty : (f : ℕ → List (List ℕ)) (xs : List ℕ) (r : ℕ) → Contains xs r → is_nonempty (f r) ≡ true → is_nonempty (flat_map f xs) ≡ true
 flat_map_nonempty f [] r (k, l, e) h = absurd (omega arith)
 flat_map_nonempty f (x ∷ xs) r c h =
@@ -55,29 +64,36 @@ flat_map_nonempty f (x ∷ xs) r c h =
 
 -- ---- dependencies
 
+-- a dependency is idle and has the dependent
 depends_by : (g : Graph) (p r : ℕ) (b : Bool) → is_idle g p ≡ b → Contains (cond b (dependents_of g p) []) r → Depends g p r
 depends_by g p r true e c = (e, c)
 depends_by g p r false e (k, l, c) = absurd (omega arith)
 
+-- what is listed as a dependency is one
 pub depends : (g : Graph) (p r : ℕ) → Contains (dependencies_of g p) r → Depends g p r
 depends g p r c = depends_by g p r (is_idle g p) refl c
 
+-- an idle process lists its dependents
 dependencies_by : (xs : List ℕ) (r : ℕ) (b : Bool) → b ≡ true → Contains xs r → Contains (cond b xs []) r
 dependencies_by xs r true e c = c
 dependencies_by xs r false e c = cc
 
+-- a dependency is listed as one
 pub dependency : (g : Graph) (p r : ℕ) → Depends g p r → Contains (dependencies_of g p) r
 dependency g p r d = dependencies_by (dependents_of g p) r (is_idle g p) d.0 d.1
 
 -- ---- listed paths are paths
 
+-- p is led to a process that passes the test
 unfoldable pub Walk : Graph → (ℕ → Bool) → ℕ → Type 0
 Walk g test p = (q : ℕ) × (test q ≡ true) × (rest : List ℕ) × Leads g p rest q
 
+-- a process that is listed alone passes
 pub start_by : (test : ℕ → Bool) (p : ℕ) (b : Bool) → is_nonempty (cond b ((p ∷ []) ∷ []) []) ≡ true → b ≡ true
 start_by test p true e = refl
 start_by test p false e = e
 
+-- a listed path leads to a process that passes
 pub walk : (g : Graph) (test : ℕ → Bool) (n p : ℕ) → is_nonempty (paths_to g test n p) ≡ true → Walk g test p
 unfolding Walk
 walk g test zero p e = (p, start_by test p (test p) e, [], refl)
@@ -86,12 +102,14 @@ walk g test (suc n) p e =
     let v = walk g test n w.0 (nonempty_map (λ path. p ∷ path) (paths_to g test n w.0) w.2) in
     (v.0, v.1, w.0 ∷ v.2, (depends g p w.0 w.1, v.3))
 
+-- a process that passes is listed alone
 pub start_nonempty : (p : ℕ) (b : Bool) → b ≡ true → is_nonempty (cond b ((p ∷ []) ∷ []) []) ≡ true
 start_nonempty p true e = refl
 start_nonempty p false e = e
 
 -- ---- paths are listed
 
+-- a path is listed by its length
 pub listed : (g : Graph) (test : ℕ → Bool) (p : ℕ) (rest : List ℕ) (q : ℕ) → Leads g p rest q → test q ≡ true → is_nonempty (paths_to g test (length rest) p) ≡ true
 listed g test p [] q e t = start_nonempty p (test p) (ap test e ∙ t)
 listed g test p (r ∷ rest) q l t =
@@ -100,16 +118,20 @@ listed g test p (r ∷ rest) q l t =
 
 -- ---- a path without repeats
 
+-- x is in the list
 has : ℕ → List ℕ → Bool
 has x xs = list_any (λ y. eqb x y) xs
 
+-- no member of the list is there twice
 abbrev pub Apart : List ℕ → Type 0
 Apart [] = ⊤
 Apart (x ∷ xs) = (list_any (λ y. eqb x y) xs ≡ false) × Apart xs
 
+-- p is led to q without passing a process twice
 unfoldable pub Simple : Graph → ℕ → ℕ → Type 0
 Simple g p q = (rest : List ℕ) × Leads g p rest q × Apart (p ∷ rest)
 
+-- a path that comes back to p has a part from p that doesn't
 suffix : (g : Graph) (p r : ℕ) (rest : List ℕ) (q : ℕ) → Leads g r rest q → Apart (r ∷ rest) → (b : Bool) → eqb p r ≡ b → list_any (λ y. eqb p y) (r ∷ rest) ≡ true → Simple g p q
 unfolding Simple
 suffix g p r rest q l a true e h =
@@ -120,11 +142,13 @@ suffix g p r (s ∷ rest) q l a false e h =
     let z : list_any (λ y. eqb p y) (s ∷ rest) ≡ true = rw e at h in
     suffix g p s rest q l.1 a.1 (eqb p s) refl z
 
+-- a step before a simple path, which may come back to p
 simple_by : (g : Graph) (p r : ℕ) (rest : List ℕ) (q : ℕ) → Depends g p r → Leads g r rest q → Apart (r ∷ rest) → (b : Bool) → list_any (λ y. eqb p y) (r ∷ rest) ≡ b → Simple g p q
 unfolding Simple
 simple_by g p r rest q d l a true h = unfold Simple in suffix g p r rest q l a (eqb p r) refl h
 simple_by g p r rest q d l a false h = (r ∷ rest, (d, l), (h, a))
 
+-- where p is led to q there is a simple path
 pub simple : (g : Graph) (p : ℕ) (rest : List ℕ) (q : ℕ) → Leads g p rest q → Simple g p q
 unfolding Simple
 simple g p [] q e = ([], e, (refl, tt))
@@ -134,31 +158,38 @@ simple g p (r ∷ rest) q l =
 
 -- ---- a list without repeats of numbers below n is no longer than n
 
+-- each member is below n
 abbrev pub AllBelow : ℕ → List ℕ → Type 0
 AllBelow n [] = ⊤
 AllBelow n (x ∷ xs) = (x < n) × AllBelow n xs
 
+-- the list without the first m in it
 without : ℕ → List ℕ → List ℕ
 without m [] = []
 without m (x ∷ xs) = cond (eqb m x) xs (x ∷ without m xs)
 
+-- one member is left out at most, by cases
 length_without_by : (m x : ℕ) (xs ys : List ℕ) (b : Bool) → length xs ≤ suc (length ys) → length (x ∷ xs) ≤ suc (length (cond b xs (x ∷ ys)))
 length_without_by m x xs ys true h = omega arith
 length_without_by m x xs ys false h = omega arith
 
+-- one member is left out at most
 length_without : (m : ℕ) (xs : List ℕ) → length xs ≤ suc (length (without m xs))
 unfolding without
 length_without m [] = omega arith
 length_without m (x ∷ xs) = length_without_by m x xs (without m xs) (eqb m x) (length_without m xs)
 
+-- neither holds where an "or" doesn't
 or_false : (a b : Bool) → (a || b) ≡ false → (a ≡ false) × (b ≡ false)
 or_false true b e = absurd cc
 or_false false b e = (refl, e)
 
+-- what no member passes, none of the rest does, by cases
 any_without_by : (t : ℕ → Bool) (x : ℕ) (xs ys : List ℕ) (b : Bool) → t x ≡ false → list_any t xs ≡ false → list_any t ys ≡ false → list_any t (cond b xs (x ∷ ys)) ≡ false
 any_without_by t x xs ys true e f h = f
 any_without_by t x xs ys false e f h = rw (e, h) refl
 
+-- what no member passes, none of the rest does
 any_without : (t : ℕ → Bool) (m : ℕ) (xs : List ℕ) → list_any t xs ≡ false → list_any t (without m xs) ≡ false
 unfolding without
 any_without t m [] e = refl
@@ -166,16 +197,19 @@ any_without t m (x ∷ xs) e =
     let both = or_false (t x) (list_any t xs) e in
     any_without_by t x xs (without m xs) (eqb m x) both.0 both.1 (any_without t m xs both.1)
 
+-- members that are apart stay apart, by cases
 apart_without_by : (x : ℕ) (xs ys : List ℕ) (b : Bool) → Apart xs → list_any (λ y. eqb x y) ys ≡ false → Apart ys → Apart (cond b xs (x ∷ ys))
 apart_without_by x xs ys true a e h = a
 apart_without_by x xs ys false a e h = (e, h)
 
+-- members that are apart stay apart
 apart_without : (m : ℕ) (xs : List ℕ) → Apart xs → Apart (without m xs)
 unfolding without
 apart_without m [] a = tt
 apart_without m (x ∷ xs) a =
     apart_without_by x xs (without m xs) (eqb m x) a.1 (any_without (λ y. eqb x y) m xs a.0) (apart_without m xs a.1)
 
+-- members below m + 1 of which none is m are below m
 below_unless : (m : ℕ) (xs : List ℕ) → AllBelow (suc m) xs → list_any (λ y. eqb m y) xs ≡ false → AllBelow m xs
 below_unless m [] b e = tt
 below_unless m (x ∷ xs) b e =
@@ -184,6 +218,7 @@ below_unless m (x ∷ xs) b e =
     let strict : x < m = omega (arith, b.0, other) in
     (strict, below_unless m xs b.1 both.1)
 
+-- without m the members are below m, by cases
 below_without_by : (m x : ℕ) (xs ys : List ℕ) (b : Bool) → eqb m x ≡ b → x < suc m → AllBelow (suc m) xs → list_any (λ y. eqb x y) xs ≡ false → AllBelow m ys → AllBelow m (cond b xs (x ∷ ys))
 below_without_by m x xs ys true e l h f t = below_unless m xs h (subst (λ z. list_any (λ y. eqb z y) xs ≡ false) (sym (eqb-true m x e)) f)
 below_without_by m x xs ys false e l h f t =
@@ -191,11 +226,13 @@ below_without_by m x xs ys false e l h f t =
     let strict : x < m = omega (arith, l, other) in
     (strict, t)
 
+-- without m the members are below m
 below_without : (m : ℕ) (xs : List ℕ) → AllBelow (suc m) xs → Apart xs → AllBelow m (without m xs)
 unfolding without
 below_without m [] b a = tt
 below_without m (x ∷ xs) b a = below_without_by m x xs (without m xs) (eqb m x) refl b.0 b.1 a.0 (below_without m xs b.1 a.1)
 
+-- at most n numbers below n are apart
 pub length_apart : (n : ℕ) (xs : List ℕ) → AllBelow n xs → Apart xs → length xs ≤ n
 length_apart zero [] b a = omega arith
 length_apart zero (x ∷ xs) b a = absurd (omega (arith, b.0))
@@ -204,23 +241,27 @@ length_apart (suc m) xs b a =
 
 -- ---- a path stays within the graph
 
+-- a dependency of a process of the graph is one of the graph
 pub depends_within : (g : Graph) → IsWithinGraph g → (p r : ℕ) → p < process_count g → Depends g p r → r < process_count g
 depends_within g w p r i d =
     let c = d.1 in
     let same : get_or (dependents_of g p) c.0 0 ≡ r = get_or_default (dependents_of g p) c.0 0 r c.1 ∙ c.2 in
     subst (λ y. y < process_count g) same (w p c.0 (i, c.1))
 
+-- a path stays within the graph
 pub within : (g : Graph) → IsWithinGraph g → (p : ℕ) (rest : List ℕ) (q : ℕ) → p < process_count g → Leads g p rest q → AllBelow (process_count g) (p ∷ rest)
 within g w p [] q i l = (i, tt)
 within g w p (r ∷ rest) q i l = (i, within g w r rest q (depends_within g w p r i l.0) l.1)
 
 -- ---- the test of a search
 
+-- a search finds something where its head or its rest does
 is_some_find_by : (x : ℕ) (o : Option ℕ) (b : Bool) → (b ≡ true) ⊎ (is_some o ≡ true) → is_some (cond b (Some x) o) ≡ true
 is_some_find_by x o true h = refl
 is_some_find_by x o false (inl e) = cc
 is_some_find_by x o false (inr e) = e
 
+-- a search finds something where a member passes
 pub is_some_find : (t : ℕ → Bool) (xs : List ℕ) (x : ℕ) → Contains xs x → t x ≡ true → is_some (find t xs) ≡ true
 is_some_find t [] x c e = absurd (omega (arith, c.1))
 is_some_find t (y ∷ ys) x c e =
@@ -230,14 +271,17 @@ is_some_find t (y ∷ ys) x c e =
       | inr d ↦ inr (is_some_find t ys x d e)
     ])
 
+-- what a search finds passes, by cases
 found_by : (t : ℕ → Bool) (x : ℕ) (xs : List ℕ) (b : Bool) → t x ≡ b → ((is_some (find t xs) ≡ true) → (n : ℕ) × (t n ≡ true)) → is_some (cond b (Some x) (find t xs)) ≡ true → (n : ℕ) × (t n ≡ true)
 found_by t x xs true e h s = (x, e)
 found_by t x xs false e h s = h s
 
+-- what a search finds passes
 pub found : (t : ℕ → Bool) (xs : List ℕ) → is_some (find t xs) ≡ true → (n : ℕ) × (t n ≡ true)
 found t [] e = absurd cc
 found t (x ∷ xs) e = found_by t x xs (t x) refl (λ s. found t xs s) e
 
+-- the first n indices have each number below n
 pub contains_index : (n k : ℕ) → k < n → Contains (range_with_len 0 n) k
 contains_index n k l = (k, rw length-range_with_len l, get_or-range_with_len 0 n k k l ∙ omega arith)
 
@@ -249,6 +293,7 @@ index_within n k (j, l, e) =
 
 -- ---- the law
 
+-- where the test of reach holds there is a path
 pub reaches_then : (g : Graph) (p q : ℕ) → reaches g p q ≡ true → Reaches g p q
 unfolding reaches Walk
 reaches_then g p q e =
@@ -256,6 +301,7 @@ reaches_then g p q e =
     let w = walk g (λ r. eqb r q) n.0 p n.1 in
     (p ∷ w.2, (refl, subst (λ z. Leads g p w.2 z) (eqb-true w.0 q w.1) w.3))
 
+-- where p is led to q the test of reach holds
 leads_reaches : (g : Graph) (p q : ℕ) → IsWithinGraph g → p < process_count g → (rest : List ℕ) → Leads g p rest q → reaches g p q ≡ true
 unfolding reaches Simple
 leads_reaches g p q w i rest l =
@@ -265,9 +311,11 @@ leads_reaches g p q w i rest l =
     (contains_index (process_count g) (length s.0) (omega (arith, short)))
     (listed g (λ r. eqb r q) p s.0 q s.1 (eq-eqb q q refl))
 
+-- where there is a path the test of reach holds
 pub then_reaches : (g : Graph) (p q : ℕ) → IsWithinGraph g → p < process_count g → Reaches g p q → reaches g p q ≡ true
 then_reaches g p q w i ([], e) = absurd e
 then_reaches g p q w i (x ∷ rest, (e, l)) = leads_reaches g p q w i rest l
 
+-- the test of reach says what the relation says
 pub reach_law : ReachLaw
 reach_law = λ g p q w i. (λ e. reaches_then g p q e, λ r. then_reaches g p q w i r)

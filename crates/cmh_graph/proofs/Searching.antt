@@ -4,14 +4,13 @@ use Rattle.std.specs.Prelude.{Contains, MatchOption, Option, Some, None, is_some
 use Rattle.std.specs.Option.{option_eq}
 use Rattle.std.specs.Global.{Vec}
 use Rattle.std.proofs.lemmas.Bool.{cases_eq, cases_lt}
-use Rattle.std.proofs.lemmas.List.{length_push, get_or-map, get_or_default, get_or_past, map-set, get_or-set_same, get_or-set_other, length-set, length-map, take_more}
+use Rattle.std.proofs.lemmas.List.{length_push, get_or-map, get_or_default, map-set, get_or-set_same, get_or-set_other, length-set, length-map, take_more}
 use Rattle.std.proofs.lemmas.List.Elements.{Contains-append_left, Contains-append_right, Contains-append_cases, Contains-push, Contains-push_cases}
 use Rattle.std.proofs.lemmas.List.Sums.{sum_by-set}
 use Rattle.cmh_graph.specs.Build.{IsWellFormed}
 use Rattle.cmh_graph.specs.Graph.{Graph, Depends, dependents_of, is_idle, process_count}
-use Rattle.cmh_graph.specs.Search.{ArePredecessors, is_marked, list_at, number_at, unmarked_count, JoinsEach, IsLeastAt, IsNamedBy, MarksEach, Numbers}
+use Rattle.cmh_graph.specs.Search.{is_marked, list_at, number_at, unmarked_count, JoinsEach, IsLeastAt, IsNamedBy, MarksEach, Numbers}
 use Rattle.cmh_graph.proofs.Reaching.{cons_contains}
-use Rattle.cmh_graph.proofs.Verdicts.{idle_within}
 
 -- ---- a list that is one longer
 
@@ -32,10 +31,6 @@ pub taken_last : (xs : List ℕ) (i q : ℕ) → i < length xs → q ≡ get_or 
 taken_last xs i q l e = subst (λ ys. Contains ys q) (sym (take_more xs i 0 l)) (subst (λ z. Contains (take i xs ++ get_or xs i 0 ∷ []) z) (sym e) (Contains-push (take i xs) (get_or xs i 0)))
 
 -- ---- marks
-
--- whether a place is marked, by what a read of the place gave
-pub marked_read : (marks : List Bool) (p : ℕ) (b : Bool) → p < length marks → b ≡ get_or marks p b → is_marked marks p ≡ b
-marked_read marks p b l e = sym (e ∙ get_or_default marks p b false l)
 
 -- a mark makes one unmarked place fewer
 count_marked : (marks : List Bool) (p : ℕ) → p < length marks → is_marked marks p ≡ false → unmarked_count (set marks p true) + 1 ≡ unmarked_count marks
@@ -132,15 +127,6 @@ empty_more [] v h e (suc r) = refl
 empty_more (x ∷ xs) v h e zero = h zero
 empty_more (x ∷ xs) v h e (suc r) = empty_more xs v (λ q. h (suc q)) e r
 
--- p joins no list
-pub joins_none : (p : ℕ) (places : List ℕ) (lists : List (Vec ℕ)) → places ≡ [] → JoinsEach p places lists lists
-joins_none p places lists e = record {
-  size = refl;
-  kept = λ r q c. c;
-  joined = λ r c. let none : Contains {X = ℕ} [] r = subst (λ xs. Contains xs r) e c in absurd (omega (arith, none.1));
-  only = λ r q c. inl c;
-}
-
 -- p joins one list
 joins_one : (p r : ℕ) (lists : List (Vec ℕ)) (v w : Vec ℕ) → r < length lists → v ≡ get_or lists r v → w.items ≡ v.items ++ p ∷ [] → JoinsEach p (r ∷ []) lists (set lists r w)
 joins_one p r lists v w l e f =
@@ -201,14 +187,7 @@ pub record PredecessorsBelow (g : Graph) (n : ℕ) (lists : List (Vec ℕ)) : Ty
   pub sound : (p r : ℕ) → Contains (list_at lists r) p → Depends g p r
   pub complete : (p r : ℕ) → p < n → Depends g p r → Contains (list_at lists r) p
 
--- at first there is none
-pub predecessors_none : (g : Graph) (lists : List (Vec ℕ)) → length lists ≡ process_count g → ((r : ℕ) → list_at lists r ≡ []) → PredecessorsBelow g 0 lists
-predecessors_none g lists size empty = record {
-  size = size;
-  sound = λ p r c. let none : Contains {X = ℕ} [] p = subst (λ xs. Contains xs p) (empty r) c in absurd (omega (arith, none.1));
-  complete = λ p r l d. absurd (omega (arith, l));
-}
-
+-- in a well-formed graph a process with dependents is idle
 waits_by : (g : Graph) (p r : ℕ) (b : Bool) → IsWellFormed g → is_idle g p ≡ b → Contains (dependents_of g p) r → Depends g p r
 waits_by g p r true w e c = (e, c)
 waits_by g p r false w e c = let none : Contains {X = ℕ} [] r = subst (λ xs. Contains xs r) (w.waiting p e) c in absurd (omega (arith, none.1))
@@ -230,14 +209,6 @@ predecessors_more g n old new w h j = record {
     | inr k ↦ let same : p ≡ n = omega (arith, k, l) in
         subst (λ q. Contains (list_at new r) q) (sym same) (j.joined r (subst (λ q. Contains (dependents_of g q) r) same d.1))
   ];
-}
-
--- all have
-pub predecessors_end : (g : Graph) (n : ℕ) (lists : List (Vec ℕ)) → process_count g ≤ n → PredecessorsBelow g n lists → ArePredecessors g lists
-predecessors_end g n lists l h = record {
-  size = h.size;
-  sound = h.sound;
-  complete = λ p r d. h.complete p r (omega (arith, idle_within g p d.0, l)) d;
 }
 
 -- ---- numbers at places
@@ -262,17 +233,6 @@ numbered None e = absurd cc
 pub unnumbered : (o : Option ℕ) → is_some o ≡ false → o ≡ None
 unnumbered (Some d) e = absurd cc
 unnumbered None e = refl
-
--- nothing is named
-pub numbers_none : (P : ℕ → Type 0) (n : ℕ) (numbers : List (Option ℕ)) (xs : List ℕ) → ((p : ℕ) → P p → ⊥) → Numbers P n numbers numbers xs xs
-numbers_none P n numbers xs none = record {
-  size = refl;
-  kept = λ p d e. e;
-  named = λ p h. absurd (none p h);
-  made = λ p d e f. let z : None ≡ Some d = sym e ∙ f in absurd cc;
-  stays = λ p c. c;
-  only = λ p c. inl c;
-}
 
 -- one place is named, and has a number already
 numbers_kept : (n p : ℕ) (numbers : List (Option ℕ)) (xs : List ℕ) → IsSome (number_at numbers p) → Numbers (λ q. q ≡ p) n numbers numbers xs xs
@@ -373,6 +333,7 @@ numbered_by_test : (o : Option ℕ) (n : ℕ) → true ≡ option_eq eqb o (Some
 numbered_by_test (Some d) n e = ap (λ m. Some m) (eqb-true d n (sym e))
 numbered_by_test None n e = absurd cc
 
+-- and an answer against it too
 unnumbered_by_test : (o : Option ℕ) (n : ℕ) → false ≡ option_eq eqb o (Some n) → o ≢ Some n
 unnumbered_by_test o n e f = let bad : true ≡ false = sym (eq-eqb n n refl) ∙ sym (ap (λ p. option_eq eqb p (Some n)) f) ∙ sym e in absurd cc
 

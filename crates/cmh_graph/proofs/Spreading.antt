@@ -1,5 +1,5 @@
 -- The search along dependencies.
-use Rattle.std.proofs.Common.{◌≡◌, ℕ, ◌<◌, ◌+◌, Bool, true, false, ◌⊎◌, inl, inr, List, [], ◌∷◌, ◌++◌, map, length, get_or, refl, sym, ◌∙◌, ap, subst, arith, eqb, eqb-true, eq-eqb}
+use Rattle.std.proofs.Common.{◌≡◌, ℕ, ◌<◌, Bool, true, false, ◌⊎◌, inl, inr, List, [], ◌∷◌, ◌++◌, map, length, get_or, sym, ◌∙◌, ap, subst, arith}
 use Rattle.std.specs.Prelude.{Contains, filter}
 use Rattle.std.specs.List.{range_with_len}
 use Rattle.std.proofs.lemmas.Bool.{cases_Bool}
@@ -10,7 +10,7 @@ use Rattle.cmh_graph.specs.Graph.{Graph, Depends, dependents_of, indices, IsWith
 use Rattle.cmh_graph.specs.Path.{Leads, Reaches, reach_of, reaches}
 use Rattle.cmh_graph.specs.Search.{is_marked, MarksEach}
 use Rattle.cmh_graph.proofs.Listing.{by_index, filter_agree_on, length-by_index}
-use Rattle.cmh_graph.proofs.Reaching.{index_within, cons_contains, depends_within, reaches_then, then_reaches}
+use Rattle.cmh_graph.proofs.Reaching.{index_within, depends_within, reaches_then, then_reaches}
 use Rattle.cmh_graph.proofs.Searching.{waits}
 use Rattle.cmh_graph.proofs.Stepping.{marked_within}
 use Rattle.cmh_graph.proofs.Verdicts.{idle_within, reaches_more}
@@ -23,19 +23,6 @@ pub record SpreadsFrom (g : Graph) (p : ℕ) (marks : List Bool) (pending : List
   pub sound : (q : ℕ) → is_marked marks q ≡ true → Reaches g p q
   pub pending_marked : (q : ℕ) → Contains pending q → is_marked marks q ≡ true
   pub closed : (q : ℕ) → is_marked marks q ≡ true → Contains pending q ⊎ ((r : ℕ) → Depends g q r → is_marked marks r ≡ true)
-
--- at first p alone is marked, and pending
-pub spreads_start : (g : Graph) (p : ℕ) (marks : List Bool) (pending : List ℕ) → length marks ≡ process_count g → ((q : ℕ) → is_marked marks q ≡ eqb q p) → pending ≡ [] ++ p ∷ [] → SpreadsFrom g p marks pending
-spreads_start g p marks pending size alone e = record {
-  size = size;
-  start = alone p ∙ eq-eqb p p refl;
-  sound = λ q m. (p ∷ [], (refl, sym (eqb-true q p (sym (alone q) ∙ m))));
-  pending_marked = λ q c. elim (cons_contains p [] q (subst (λ xs. Contains xs q) e c)) [
-    | inl s ↦ alone q ∙ eq-eqb q p (sym s)
-    | inr d ↦ absurd (omega (arith, d.1))
-  ];
-  closed = λ q m. inl (subst (λ xs. Contains xs q) (sym e) (subst (λ z. Contains (p ∷ []) z) (sym (eqb-true q p (sym (alone q) ∙ m))) (Contains-push [] p)));
-}
 
 -- a pending process is one of the graph
 pub pending_within : (g : Graph) (p q : ℕ) (marks : List Bool) (pending rest : List ℕ) → SpreadsFrom g p marks pending → pending ≡ rest ++ q ∷ [] → q < process_count g
@@ -81,6 +68,7 @@ led_marked : (g : Graph) (marks : List Bool) → ((q : ℕ) → is_marked marks 
 led_marked g marks closed p [] q m e = ap (is_marked marks) (sym e) ∙ m
 led_marked g marks closed p (r ∷ rest) q m l = led_marked g marks closed r rest q (closed p m r l.0) l.1
 
+-- what p reaches is marked
 reached_marked : (g : Graph) (p : ℕ) (marks : List Bool) → SpreadsFrom g p marks [] → (q : ℕ) → Reaches g p q → is_marked marks q ≡ true
 reached_marked g p marks s q ([], e) = absurd e
 reached_marked g p marks s q (x ∷ rest, (e, l)) =

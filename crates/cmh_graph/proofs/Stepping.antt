@@ -18,9 +18,11 @@ use Rattle.cmh_graph.proofs.Verdicts.{contains_filter, filter_contains, idle_wit
 
 -- ---- the first number that passes
 
+-- a number from a on is a, or from a + 1 on
 at_or_past : (a m : ℕ) → a ≤ m → (a ≡ m) ⊎ (a + 1 ≤ m)
 at_or_past a m l = elim (dec_lt a m) [ yes h ↦ inr (omega (arith, h)) | no h ↦ inl (omega (arith, h, l)) ]
 
+-- what is found first passes, and none before it, by cases
 first_by : (t : ℕ → Bool) (a k n : ℕ) (b : Bool) → t a ≡ b → (find t (range_with_len (a + 1) k) ≡ Some n → (t n ≡ true) × ((m : ℕ) → a + 1 ≤ m → m < n → t m ≡ false)) → cond b (Some a) (find t (range_with_len (a + 1) k)) ≡ Some n → (t n ≡ true) × ((m : ℕ) → a ≤ m → m < n → t m ≡ false)
 first_by t a k n true e h s =
     let same : a ≡ n = ap (λ o. unwrap_or o 0) s in
@@ -34,6 +36,7 @@ pub first : (t : ℕ → Bool) (a k n : ℕ) → find t (range_with_len a k) ≡
 first t a zero n e = absurd cc
 first t a (suc k) n e = first_by t a k n (t a) refl (λ s. first t (a + 1) k n s) e
 
+-- what is found is one of the range, by cases
 found_within_by : (t : ℕ → Bool) (a k n : ℕ) (b : Bool) → (find t (range_with_len (a + 1) k) ≡ Some n → n < a + 1 + k) → cond b (Some a) (find t (range_with_len (a + 1) k)) ≡ Some n → n < a + suc k
 found_within_by t a k n true h s = let same : a ≡ n = ap (λ o. unwrap_or o 0) s in omega (arith, same)
 found_within_by t a k n false h s = omega (arith, h s)
@@ -113,10 +116,12 @@ passes_itself g test p e = start_by test p (test p) (near g test p 0 e)
 
 -- ---- tests that agree within the graph
 
+-- functions that agree on the members join the same lists
 flat_map_agree : (f h : ℕ → List (List ℕ)) (xs : List ℕ) → ((r : ℕ) → Contains xs r → f r ≡ h r) → flat_map f xs ≡ flat_map h xs
 flat_map_agree f h [] e = refl
 flat_map_agree f h (x ∷ xs) e = λ i. e x (zero, omega arith, refl) i ++ flat_map_agree f h xs (λ r c. e r (contains_cons x xs r c)) i
 
+-- tests that agree within the graph list the same paths
 paths_agree : (g : Graph) (t u : ℕ → Bool) → IsWithinGraph g → ((r : ℕ) → r < process_count g → t r ≡ u r) → (n p : ℕ) → p < process_count g → paths_to g t n p ≡ paths_to g u n p
 paths_agree g t u w e zero p i = ap (λ b. cond b ((p ∷ []) ∷ []) []) (e p i)
 paths_agree g t u w e (suc n) p i =
@@ -150,6 +155,7 @@ marked_within [] p e = absurd cc
 marked_within (b ∷ bs) zero e = omega arith
 marked_within (b ∷ bs) (suc p) e = omega (arith, marked_within bs p e)
 
+-- a number that stands where a mark does is 0
 zero_if_true : (b : Bool) (d : ℕ) → cond b (Some 0) None ≡ Some d → (b ≡ true) × (d ≡ 0)
 zero_if_true true d e = (refl, sym (ap (λ o. unwrap_or o 0) e))
 zero_if_true false d e = absurd cc
@@ -179,6 +185,7 @@ pub steps_start : (g : Graph) (marks : List Bool) (steps : List (Option ℕ)) (l
 steps_start g marks steps level w size e f =
     subst (λ xs. StepsUpTo g (is_marked marks) 0 xs level) (sym e) (subst (λ xs. StepsUpTo g (is_marked marks) 0 (map (λ b. cond b (Some 0) None) marks) xs) (sym f) (marked_start g marks w size))
 
+-- numbers are equal where they are there alike
 some_same : (a b : ℕ) → Some a ≡ Some b → a ≡ b
 some_same a b e = ap (λ o. unwrap_or o 0) e
 

@@ -7,6 +7,7 @@ use Rattle.cmh_graph.specs.Path.{Leads, Reaches, reaches, reach_of}
 use Rattle.cmh_graph.specs.Verdict.{IsDeadlocked, is_deadlocked, IsDeadlockedSet, VerdictLaw, ClosedSetLaw}
 use Rattle.cmh_graph.proofs.Reaching.{depends_within, cons_contains, contains_cons, reaches_then, then_reaches, contains_index}
 
+-- what is idle is one of the list
 idle_within_by : (ps : List Process) (p : ℕ) → is_idle_state (get_or ps p nobody).state ≡ true → p < length ps
 idle_within_by [] zero e = absurd cc
 idle_within_by [] (suc p) e = absurd cc
@@ -17,6 +18,7 @@ idle_within_by (x ∷ ps) (suc p) e = omega (arith, idle_within_by ps p e)
 pub idle_within : (g : Graph) (p : ℕ) → is_idle g p ≡ true → p < process_count g
 idle_within g p e = idle_within_by g.processes p e
 
+-- what is neither active nor woken is idle
 asleep_is_idle_by : (idle woken : Bool) → (not idle || woken) ≡ false → idle ≡ true
 asleep_is_idle_by true woken e = refl
 asleep_is_idle_by false woken e = absurd cc
@@ -25,32 +27,39 @@ asleep_is_idle_by false woken e = absurd cc
 pub asleep_is_idle : (g : Graph) (p : ℕ) → is_awake g p ≡ false → is_idle g p ≡ true
 asleep_is_idle g p e = asleep_is_idle_by (is_idle g p) (is_woken g p) e
 
+-- a path goes on by a dependency
 leads_more : (g : Graph) (p : ℕ) (rest : List ℕ) (q r : ℕ) → Leads g p rest q → Depends g q r → (longer : List ℕ) × Leads g p longer r
 leads_more g p [] q r e d = (r ∷ [], (subst (λ z. Depends g z r) (sym e) d, refl))
 leads_more g p (s ∷ rest) q r l d = let m = leads_more g s rest q r l.1 d in (s ∷ m.0, (l.0, m.1))
 
+-- what a process reaches depends on is reached
 pub reaches_more : (g : Graph) (p q r : ℕ) → Reaches g p q → Depends g q r → Reaches g p r
 reaches_more g p q r ([], e) d = absurd e
 reaches_more g p q r (x ∷ rest, (e, l)) d = let m = leads_more g p rest q r l d in (p ∷ m.0, (refl, m.1))
 
+-- a path ends within the graph
 leads_last : (g : Graph) → IsWithinGraph g → (p : ℕ) (rest : List ℕ) (q : ℕ) → p < process_count g → Leads g p rest q → q < process_count g
 leads_last g w p [] q i e = subst (λ z. z < process_count g) e i
 leads_last g w p (r ∷ rest) q i l = leads_last g w r rest q (depends_within g w p r i l.0) l.1
 
+-- what a process of the graph reaches is one of the graph
 pub reached_within : (g : Graph) → IsWithinGraph g → (p q : ℕ) → p < process_count g → Reaches g p q → q < process_count g
 reached_within g w p q i ([], e) = absurd e
 reached_within g w p q i (x ∷ rest, (e, l)) = leads_last g w p rest q i l
 
 -- ---- deadlocked sets
 
+-- a path from a member of a deadlocked set ends with a member
 member_along : (g : Graph) (member : ℕ → Bool) → IsDeadlockedSet g member → (p : ℕ) (rest : List ℕ) (q : ℕ) → member p ≡ true → Leads g p rest q → member q ≡ true
 member_along g member s p [] q m e = ap member (sym e) ∙ m
 member_along g member s p (r ∷ rest) q m l = member_along g member s r rest q (s.closed p r m l.0.1) l.1
 
+-- what a member of a deadlocked set reaches is a member
 member_reached : (g : Graph) (member : ℕ → Bool) → IsDeadlockedSet g member → (p q : ℕ) → member p ≡ true → Reaches g p q → member q ≡ true
 member_reached g member s p q m ([], e) = absurd e
 member_reached g member s p q m (x ∷ rest, (e, l)) = member_along g member s p rest q m l
 
+-- what a deadlocked process reaches is a deadlocked set
 reach_is_set : (g : Graph) (p : ℕ) → IsWithinGraph g → p < process_count g → IsDeadlocked g p → IsDeadlockedSet g (reaches g p)
 reach_is_set g p w i d = record {
   idle = λ q m. asleep_is_idle g q (d.1 q (reaches_then g p q m));
@@ -58,6 +67,7 @@ reach_is_set g p w i d = record {
   closed = λ q r m c. then_reaches g p r w i (reaches_more g p q r (reaches_then g p q m) (asleep_is_idle g q (d.1 q (reaches_then g p q m)), c));
 }
 
+-- deadlocked by paths is deadlocked by sets
 pub closed_set_law : ClosedSetLaw
 closed_set_law = λ g p w. (
   λ d. let i = idle_within g p d.0 in (reaches g p, then_reaches g p p w i (p ∷ [], (refl, refl)), reach_is_set g p w i d),
@@ -66,18 +76,21 @@ closed_set_law = λ g p w. (
 
 -- ---- the test
 
+-- a member that passes is kept, by cases
 contains_filter_by : (t : ℕ → Bool) (x : ℕ) (xs : List ℕ) (y : ℕ) (b : Bool) → t x ≡ b → t y ≡ true → (x ≡ y) ⊎ Contains (filter t xs) y → Contains (cond b (x ∷ filter t xs) (filter t xs)) y
 contains_filter_by t x xs y true e f (inl s) = (zero, omega arith, s)
 contains_filter_by t x xs y true e f (inr c) = contains_cons x (filter t xs) y c
 contains_filter_by t x xs y false e f (inl s) = let z : false ≡ true = sym e ∙ ap t s ∙ f in absurd cc
 contains_filter_by t x xs y false e f (inr c) = c
 
+-- a member that passes is kept
 pub contains_filter : (t : ℕ → Bool) (xs : List ℕ) (y : ℕ) → Contains xs y → t y ≡ true → Contains (filter t xs) y
 contains_filter t [] y c f = absurd (omega (arith, c.1))
 contains_filter t (x ∷ xs) y c f =
     contains_filter_by t x xs y (t x) refl f
     (elim (cons_contains x xs y c) [ inl s ↦ inl s | inr d ↦ inr (contains_filter t xs y d f) ])
 
+-- what is kept is a member and passes, by cases
 filter_contains_by : (t : ℕ → Bool) (x : ℕ) (xs : List ℕ) (y : ℕ) (b : Bool) → t x ≡ b → (Contains (filter t xs) y → Contains xs y × (t y ≡ true)) → Contains (cond b (x ∷ filter t xs) (filter t xs)) y → Contains (x ∷ xs) y × (t y ≡ true)
 filter_contains_by t x xs y true e h c =
     elim (cons_contains x (filter t xs) y c) [
@@ -91,31 +104,38 @@ pub filter_contains : (t : ℕ → Bool) (xs : List ℕ) (y : ℕ) → Contains 
 filter_contains t [] y c = absurd (omega (arith, c.1))
 filter_contains t (x ∷ xs) y c = filter_contains_by t x xs y (t x) refl (λ d. filter_contains t xs y d) c
 
+-- what is kept by a stronger test passes, by cases
 all_pass_by : (t u : ℕ → Bool) (x : ℕ) (xs : List ℕ) (b : Bool) → u x ≡ b → (u x ≡ true → t x ≡ true) → list_all t (filter u xs) ≡ true → list_all t (cond b (x ∷ filter u xs) (filter u xs)) ≡ true
 all_pass_by t u x xs true e h rest = rw (h e, rest) refl
 all_pass_by t u x xs false e h rest = rest
 
+-- what is kept by a stronger test passes
 all_pass : (t u : ℕ → Bool) (xs : List ℕ) → ((x : ℕ) → u x ≡ true → t x ≡ true) → list_all t (filter u xs) ≡ true
 all_pass t u [] h = refl
 all_pass t u (x ∷ xs) h = all_pass_by t u x xs (u x) refl (h x) (all_pass t u xs h)
 
+-- both hold where an "and" does
 and_true : (a b : Bool) → (a && b) ≡ true → (a ≡ true) × (b ≡ true)
 and_true true b e = (refl, e)
 and_true false b e = absurd cc
 
+-- each member passes where all do
 list_all_contains : (t : ℕ → Bool) (xs : List ℕ) (y : ℕ) → list_all t xs ≡ true → Contains xs y → t y ≡ true
 list_all_contains t [] y e c = absurd (omega (arith, c.1))
 list_all_contains t (x ∷ xs) y e c =
     let both = and_true (t x) (list_all t xs) e in
     elim (cons_contains x xs y c) [ inl s ↦ ap t (sym s) ∙ both.0 | inr d ↦ list_all_contains t xs y both.1 d ]
 
+-- what is not true is false
 not_true : (b : Bool) → not b ≡ true → b ≡ false
 not_true true e = absurd cc
 not_true false e = refl
 
+-- and what is false is not true
 not_false : (b : Bool) → b ≡ false → not b ≡ true
 not_false b e = rw e refl
 
+-- where the test of deadlock holds the process is deadlocked
 pub test_then : (g : Graph) (p : ℕ) → IsWithinGraph g → is_deadlocked g p ≡ true → IsDeadlocked g p
 unfolding is_deadlocked
 test_then g p w e =
@@ -127,10 +147,12 @@ test_then g p w e =
           (contains_filter (reaches g p) (indices g) q (contains_index (process_count g) q (reached_within g w p q i r)) (then_reaches g p q w i r))),
     )
 
+-- where the process is deadlocked the test holds
 pub then_test : (g : Graph) (p : ℕ) → IsDeadlocked g p → is_deadlocked g p ≡ true
 unfolding is_deadlocked
 then_test g p d =
     rw (d.0, all_pass (λ q. not (is_awake g q)) (reaches g p) (indices g) (λ q m. not_false (is_awake g q) (d.1 q (reaches_then g p q m)))) refl
 
+-- the test of deadlock says what the relation says
 pub verdict_law : VerdictLaw
 verdict_law = λ g p w. (λ e. test_then g p w e, λ d. then_test g p d)

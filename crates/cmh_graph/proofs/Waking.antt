@@ -1,9 +1,7 @@
 -- Which processes messages in transit wake.
-use Rattle.std.proofs.Common.{◌≡◌, ◌≢◌, ℕ, zero, suc, ◌<◌, ◌≤◌, ◌+◌, Bool, true, false, not, ◌&&◌, ◌||◌, inl, inr, List, [], ◌∷◌, map, take, set, length, get_or, refl, sym, ◌∙◌, ap, arith, eqb, eq-eqb}
+use Rattle.std.proofs.Common.{◌≡◌, ℕ, zero, suc, ◌<◌, ◌≤◌, Bool, true, false, not, ◌&&◌, ◌||◌, List, [], ◌∷◌, map, take, length, get_or, refl, sym, ◌∙◌, ap, arith, eqb}
 use Rattle.std.specs.List.{list_any}
-use Rattle.std.proofs.lemmas.Bool.{and_from, and_left, and_right, cases_eq, ne_eqb, or_right}
-use Rattle.std.proofs.lemmas.List.{get_or-set_same, get_or-set_other, length-map, length-set, take_all}
-use Rattle.std.proofs.lemmas.List.Folds.{list_any_more}
+use Rattle.std.proofs.lemmas.List.{length-map, take_all}
 use Rattle.std.proofs.lemmas.List.FromFn.{fill_by_all}
 use Rattle.cmh_graph.specs.declared.part.Part.{Part}
 use Rattle.cmh_graph.specs.Build.{graph_of}
@@ -20,10 +18,12 @@ pub record AwakeUpTo (g : Graph) (n : ℕ) (marks : List Bool) : Type 0 where
   pub size : length marks ≡ process_count g
   pub mark : (p : ℕ) → p < process_count g → is_marked marks p ≡ (not (is_idle g p) || list_any (wakes g p) (take n g.in_transit))
 
+-- an "or" with false is the other
 or_none : (a : Bool) → (a || false) ≡ a
 or_none true = refl
 or_none false = refl
 
+-- a part is marked where its process is active
 active_mark : (parts : List Part) (t : List (ℕ × ℕ)) (p : ℕ) → p < length parts → get_or (map (λ part. not (is_idle_state part.state)) parts) p false ≡ not (is_idle (graph_of parts t) p)
 active_mark [] t p l = absurd (omega (arith, l))
 active_mark (x ∷ parts) t zero l = refl

@@ -42,7 +42,8 @@ impl WaitGraph {
     }
 
     /// The graph of the parts, with messages in transit, each by its sender and its receiver. A
-    /// message may be there more than once. Neither names nor sites are judged.
+    /// message may be there more than once. Neither names nor sites are judged. It takes time linear
+    /// in parts, entries and, for each message, the dependents of its receiver.
     pub fn build_with(
         alloc: Global,
         parts: Vec<Part>,

@@ -85,7 +85,7 @@ fn first_at_least(bound: usize, list: &[u32]) -> Option<usize>
 }
 
 /// The first entry that equals an earlier one of its part, by the places of the part and of the
-/// entry.
+/// entry. Each process keeps the number of the last part that named it, counted from 1.
 fn repeated(alloc: Global, parts: &[Part]) -> Result<Option<(usize, usize)>, AllocError>
     requires { IsWithinGraph (graph_of parts.now []) }
     ensures some { IfOk result (λ found. IfSome found (λ at. IsFirstEntry
@@ -93,28 +93,30 @@ fn repeated(alloc: Global, parts: &[Part]) -> Result<Option<(usize, usize)>, All
     ensures none { IfOk result (λ found. IfNone found
         ((i j : ℕ) → Has (graph_of parts.now []) (RepeatedDependent i j) → ⊥)) }
 {
+    let mut last_named_by = vec![in alloc; 0; parts.len()]?;
     for (i, part) in parts.iter().enumerate() {
-        if let Some(j) = first_repeat(alloc, parts.len(), &part.dependents)? {
+        if let Some(j) = first_repeat(i + 1, &part.dependents, &mut last_named_by) {
             return Ok(Some((i, j)));
         }
     }
     Ok(None)
 }
 
-/// The first entry that equals an earlier one, of a list of places below `count`.
-fn first_repeat(alloc: Global, count: usize, list: &[u32]) -> Result<Option<usize>, AllocError>
-    requires { All (λ r. r < count) list.now }
-    ensures some { IfOk result (λ found. IfSome found (IsFirst (IsRepeat list.now))) }
-    ensures none { IfOk result (λ found. IfNone found ((j : ℕ) → IsRepeat list.now j → ⊥)) }
+/// The first entry that equals an earlier one. The places that the list names are stamped.
+fn first_repeat(stamp: usize, list: &[u32], stamps: &mut [usize]) -> Option<usize>
+    requires within { All (λ r. r < length stamps.old) list.now }
+    requires fresh { All (λ s. s < stamp) stamps.old }
+    ensures some { IfSome result (IsFirst (IsRepeat list.now)) }
+    ensures none { IfNone result ((j : ℕ) → IsRepeat list.now j → ⊥) }
+    ensures stamps { All (λ s. s ≤ stamp) stamps.new }
 {
-    let mut seen = vec![in alloc; false; count]?;
     for (j, entry) in list.iter().enumerate() {
-        if seen[*entry as usize] {
-            return Ok(Some(j));
+        if stamps[*entry as usize] == stamp {
+            return Some(j);
         }
-        seen[*entry as usize] = true;
+        stamps[*entry as usize] = stamp;
     }
-    Ok(None)
+    None
 }
 
 /// The first part that is active and has dependents.

@@ -11,7 +11,12 @@ fn parts_of(alloc: Global, rows: &[Row]) -> Result<Vec<Part>, AllocError> {
     for (name, site, state, dependents) in rows {
         let name = String::from_str(alloc, name)?;
         let dependents = Vec::from_slice(alloc, dependents)?;
-        parts.push(Part { name, site: *site, state: *state, dependents })?;
+        parts.push(Part {
+            name,
+            site: *site,
+            state: *state,
+            dependents,
+        })?;
     }
     Ok(parts)
 }
@@ -20,10 +25,7 @@ fn graph_of(alloc: Global, rows: &[Row]) -> Result<WaitGraph, GraphFault> {
     WaitGraph::build(alloc, parts_of(alloc, rows)?)
 }
 
-const TWO_IN_A_CYCLE: [Row; 2] = [
-    ("p", 0, State::Idle, &[1]),
-    ("q", 0, State::Idle, &[0]),
-];
+const TWO_IN_A_CYCLE: [Row; 2] = [("p", 0, State::Idle, &[1]), ("q", 0, State::Idle, &[0])];
 
 const CYCLE_AND_FOLLOWER: [Row; 3] = [
     ("p", 0, State::Idle, &[1]),
@@ -43,7 +45,10 @@ fn cycle_and_follower(rt: HostRuntime) -> Result<(), GraphFault> {
     assert!(rt; graph.is_idle(2));
     assert!(rt; !graph.is_awake(2));
     assert_eq!(rt; graph.idle_list(alloc)?.as_slice(), [0, 1, 2].as_slice());
-    assert_eq!(rt; graph.verdicts_plain(alloc)?.as_slice(), [Verdict::Deadlocked; 3].as_slice());
+    assert_eq!(rt;
+        graph.verdicts_plain(alloc)?.as_slice(),
+        [Verdict::Deadlocked; 3].as_slice()
+    );
     assert_eq!(rt; graph.reach_of(alloc, 2)?.as_slice(), [0, 1, 2].as_slice());
     assert_eq!(rt; graph.core_of(alloc, 2)?.as_slice(), [2].as_slice());
     assert!(rt; graph.chosen_path(alloc, 2)?.is_none());
@@ -70,7 +75,10 @@ fn two_shortest_paths(rt: HostRuntime) -> Result<(), GraphFault> {
     assert_eq!(rt; path.as_slice(), [0, 1, 3].as_slice());
     let path = graph.chosen_path(alloc, 3)?.expect(&rt, "a path");
     assert_eq!(rt; path.as_slice(), [3].as_slice());
-    assert_eq!(rt; graph.verdicts_plain(alloc)?.as_slice(), [Verdict::Free; 4].as_slice());
+    assert_eq!(rt;
+        graph.verdicts_plain(alloc)?.as_slice(),
+        [Verdict::Free; 4].as_slice()
+    );
     Ok(())
 }
 
@@ -90,20 +98,35 @@ fn empty(rt: HostRuntime) -> Result<(), GraphFault> {
 fn refused_parts(rt: HostRuntime) {
     let alloc = rt.alloc();
     let table: [(&[Row], GraphFault); 7] = [
-        (&[("p", 0, State::Idle, &[5])], GraphFault::DependentOutOfRange(0, 0)),
-        (&[("p", 0, State::Idle, &[0, 0])], GraphFault::RepeatedDependent(0, 1)),
-        (&[("p", 0, State::Active, &[0])], GraphFault::ActiveWithDependents(0)),
+        (
+            &[("p", 0, State::Idle, &[5])],
+            GraphFault::DependentOutOfRange(0, 0),
+        ),
+        (
+            &[("p", 0, State::Idle, &[0, 0])],
+            GraphFault::RepeatedDependent(0, 1),
+        ),
+        (
+            &[("p", 0, State::Active, &[0])],
+            GraphFault::ActiveWithDependents(0),
+        ),
         // the first of several
         (
             &[("p", 0, State::Idle, &[0, 0]), ("q", 0, State::Idle, &[2])],
             GraphFault::DependentOutOfRange(1, 0),
         ),
         (
-            &[("p", 0, State::Active, &[1]), ("q", 0, State::Idle, &[0, 1, 0, 1])],
+            &[
+                ("p", 0, State::Active, &[1]),
+                ("q", 0, State::Idle, &[0, 1, 0, 1]),
+            ],
             GraphFault::RepeatedDependent(1, 2),
         ),
         (
-            &[("p", 0, State::Idle, &[0, 3, 2]), ("q", 0, State::Idle, &[2])],
+            &[
+                ("p", 0, State::Idle, &[0, 3, 2]),
+                ("q", 0, State::Idle, &[2]),
+            ],
             GraphFault::DependentOutOfRange(0, 1),
         ),
         (
@@ -163,7 +186,12 @@ fn alike(alloc: Global, count: usize, dependents: &[u32]) -> Result<Vec<Part>, A
     for _ in 0..count {
         let name = String::from_str(alloc, "p")?;
         let dependents = Vec::from_slice(alloc, dependents)?;
-        parts.push(Part { name, site: 0, state: State::Idle, dependents })?;
+        parts.push(Part {
+            name,
+            site: 0,
+            state: State::Idle,
+            dependents,
+        })?;
     }
     Ok(parts)
 }
@@ -175,7 +203,11 @@ fn most_processes(rt: HostRuntime) -> Result<(), GraphFault> {
     assert_eq!(rt; graph.idle_list(alloc)?.len(), MAX_PROCESSES);
     let verdicts = graph.verdicts_plain(alloc)?;
     assert_eq!(rt; verdicts.len(), MAX_PROCESSES);
-    assert!(rt; verdicts.iter().all(|verdict| *verdict == Verdict::Deadlocked));
+    assert!(rt;
+        verdicts
+            .iter()
+            .all(|verdict| *verdict == Verdict::Deadlocked)
+    );
     let refused = WaitGraph::build(alloc, alike(alloc, MAX_PROCESSES + 1, &[])?).err();
     assert!(rt; refused == Some(GraphFault::TooManyProcesses));
     Ok(())

@@ -1,4 +1,4 @@
-use Rattle.std.proofs.Common.{◌≡◌, subst, take}
+use Rattle.std.proofs.Common.{subst}
 use Rattle.std.proofs.lemmas.List.{take_all}
 use Rattle.cmh_graph.specs.Search.{IsLeastAt}
 use Rattle.cmh_graph.proofs.Searching.{least_above, least_more, least_other}

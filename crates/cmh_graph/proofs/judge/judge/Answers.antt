@@ -1,9 +1,8 @@
-use Rattle.std.proofs.Common.{◌≡◌, ◌≤◌, ℕ, [], arith, inr, length, subst}
+use Rattle.std.proofs.Common.{◌≤◌, ℕ, [], arith, inr, length, subst}
 use Rattle.std.specs.Prelude.{IfNone, IfSome}
-use Rattle.cmh_graph.specs.declared.TheConstants.{MAX_DEPENDENCIES, MAX_IN_TRANSIT, MAX_PROCESSES}
+use Rattle.cmh_graph.specs.declared.TheConstants.{MAX_DEPENDENCIES, MAX_PROCESSES}
 use Rattle.cmh_graph.specs.declared.fault.GraphFault.TheVariants.{RepeatedDependent}
 use Rattle.cmh_graph.specs.Build.{entry_count, graph_of, Has}
-use Rattle.cmh_graph.specs.Graph.{process_count}
 use Rattle.cmh_graph.specs.Judge.{IsFirstEntry}
 use Rattle.cmh_graph.proofs.Building.{first_active, first_in_transit, first_repeat, first_transit, well_formed_then}
 use Rattle.cmh_graph.proofs.Judging.{as_many, few_entries, transit_first, transit_within}

@@ -1,4 +1,4 @@
-use Rattle.std.proofs.Common.{◌≡◌, ℕ, [], length, ◌++◌, ◌∷◌, sym, subst, ap, refl, arith, ◌∙◌}
+use Rattle.std.proofs.Common.{length, ap, arith, ◌∙◌}
 use Rattle.std.proofs.lemmas.List.{length_push}
 use Rattle.cmh_graph.specs.Search.{list_at}
 use Rattle.cmh_graph.proofs.Searching.{empty_more}

@@ -1,6 +1,5 @@
-use Rattle.std.proofs.Common.{◌≡◌, ◌∙◌, ◌<◌, ◌++◌, ◌∷◌, [], Bool, ap, append-nil, arith, get_or, length, subst, sym, take}
-use Rattle.std.specs.Prelude.{filter, is_some}
-use Rattle.cmh_graph.specs.Graph.{process_count}
+use Rattle.std.proofs.Common.{◌≡◌, ◌∙◌, ◌++◌, ◌∷◌, [], ap, append-nil, arith, get_or, length, sym, take}
+use Rattle.std.specs.Prelude.{filter}
 use Rattle.cmh_graph.specs.Path.{reaches, steps_to}
 use Rattle.cmh_graph.specs.Search.{is_marked}
 use Rattle.cmh_graph.proofs.Cores.{filtered_more, reach_within, reaches_back}

@@ -1,6 +1,6 @@
-use Rattle.std.proofs.Common.{◌≡◌, ◌<◌, length, sym, ◌∙◌, ap, subst, arith}
+use Rattle.std.proofs.Common.{◌<◌, length, sym, ◌∙◌, ap, subst, arith}
 use Rattle.cmh_graph.specs.Build.{graph_of}
-use Rattle.cmh_graph.specs.Graph.{Graph, process_count, is_awake}
+use Rattle.cmh_graph.specs.Graph.{process_count, is_awake}
 use Rattle.cmh_graph.proofs.Listing.{length-by_index, by_index}
 use Rattle.cmh_graph.proofs.graph.WaitGraph.is_awake.Goals as goal
 

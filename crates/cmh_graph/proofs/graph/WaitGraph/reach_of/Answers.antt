@@ -1,8 +1,5 @@
-use Rattle.std.proofs.Common.{◌≡◌, ◌∙◌, ap, arith, length, subst}
-use Rattle.std.specs.Prelude.{filter}
-use Rattle.std.specs.List.{range_with_len}
+use Rattle.std.proofs.Common.{◌∙◌, ap, arith, length}
 use Rattle.cmh_graph.specs.Path.{reaches}
-use Rattle.cmh_graph.specs.Search.{is_marked}
 use Rattle.cmh_graph.proofs.Listing.{length-by_index}
 use Rattle.cmh_graph.proofs.Spreading.{reach_listed}
 use Rattle.cmh_graph.proofs.graph.WaitGraph.reach_of.Goals as goal

@@ -1,8 +1,7 @@
-use Rattle.std.proofs.Common.{◌≡◌, ◌∙◌, [], arith, drop, length, subst, sym}
+use Rattle.std.proofs.Common.{◌∙◌, arith, drop, length, subst, sym}
 use Rattle.std.proofs.lemmas.List.{nil_from_length, take_at}
-use Rattle.cmh_graph.specs.Graph.{dependents_of}
 use Rattle.cmh_graph.specs.Search.{MarksEach}
-use Rattle.cmh_graph.proofs.Spreading.{dependents_within, pending_within, SpreadsFrom, spreads_end, spreads_more, spreads_start}
+use Rattle.cmh_graph.proofs.Spreading.{dependents_within, pending_within, SpreadsFrom, spreads_end, spreads_more}
 use Rattle.cmh_graph.proofs.graph.WaitGraph.reached_from.Goals as goal
 
 pub dependents-requires : goal.dependents-requires

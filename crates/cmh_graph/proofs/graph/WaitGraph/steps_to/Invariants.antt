@@ -1,4 +1,4 @@
-use Rattle.cmh_graph.specs.Search.{is_marked, ArePredecessors}
+use Rattle.cmh_graph.specs.Search.{is_marked}
 use Rattle.cmh_graph.proofs.Stepping.{StepsUpTo}
 use Rattle.cmh_graph.proofs.graph.WaitGraph.steps_to.Given as goal
 
