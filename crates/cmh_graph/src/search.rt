@@ -26,25 +26,25 @@ impl WaitGraph {
         Ok(marks)
     }
 
-    /// For each process the least number of dependencies to a marked one, where there is one. It
-    /// goes against the dependencies, from each distance to the next.
+    /// For each process the least number of dependencies to a marked one, where there is one. The
+    /// search goes against the dependencies, from each distance to the next.
     pub(crate) fn steps_to(
         &self,
         alloc: Global,
         marks: &[bool],
     ) -> Result<Vec<Option<u32>>, AllocError>
         requires { length marks.now ≡ process_count self.now }
-        ensures { IfOk result (λ steps.
-            steps.items ≡ map (steps_to self.now (is_marked marks.now)) (indices self.now)) }
+        ensures { IfOk result (λ distances.
+            distances.items ≡ map (steps_to self.now (is_marked marks.now)) (indices self.now)) }
     {
         let count = self.len();
         let predecessors = self.predecessors(alloc)?;
-        let mut steps = first_steps(alloc, marks)?;
+        let mut distances = first_distances(alloc, marks)?;
         let mut level = marked(alloc, marks)?;
         for distance in 0..count {
-            level = next_level(alloc, &predecessors, &level, distance + 1, &mut steps)?;
+            level = next_level(alloc, &predecessors, &level, distance + 1, &mut distances)?;
         }
-        Ok(steps)
+        Ok(distances)
     }
 
     /// For each process those that depend on it.
@@ -101,14 +101,15 @@ fn mark_each(list: &[u32], marks: &mut [bool], pending: &mut Vec<u32>) -> Result
     Ok(())
 }
 
-/// None to go for a marked process, and no number yet for any other.
-fn first_steps(alloc: Global, marks: &[bool]) -> Result<Vec<Option<u32>>, AllocError>
-    ensures { IfOk result (λ steps.
-        steps.items ≡ map (λ mark. if mark then Some 0 else None) marks.now) }
+/// The distance 0 for each marked process, and none yet for another.
+fn first_distances(alloc: Global, marks: &[bool]) -> Result<Vec<Option<u32>>, AllocError>
+    ensures { IfOk result (λ distances.
+        distances.items ≡ map (λ mark. if mark then Some 0 else None) marks.now) }
 {
     marks.iter().map(|mark| mark.then_some(0)).collect(alloc)
 }
 
+/// So many empty lists.
 fn empty_lists(alloc: Global, count: u32) -> Result<Vec<Vec<u32>>, AllocError>
     ensures size { IfOk result (λ lists. length lists.items ≡ count) }
     ensures empty { IfOk result (λ lists. (r : ℕ) → list_at lists.items r ≡ []) }

@@ -11,7 +11,7 @@ pub loop-distance-init : goal.loop-distance-init
 loop-distance-init c =
     let g = c.args.self.now in
     let marks = c.args.marks.now in
-    steps_start g marks _ _ c.len-count.ensures.well_formed.within c.requires c.in_ok-steps.ensures c.in_ok-level.ensures
+    steps_start g marks _ _ c.len-count.ensures.well_formed.within c.requires c.in_ok-distances.ensures c.in_ok-level.ensures
 
 pub next_level-requires-clause-listed : goal.next_level-requires-clause-listed
 next_level-requires-clause-listed c =
@@ -25,13 +25,13 @@ pub loop-distance-preserved : goal.loop-distance-preserved
 loop-distance-preserved c =
     let g = c.args.self.now in
     let test = is_marked c.args.marks.now in
-    let steps = c.loop-distance.steps in
+    let old = c.loop-distance.distances in
     let level = c.in_ok-level-2.level.items in
     let distance = c.loop-distance.distance in
     let lists = c.in_ok-predecessors.predecessors.items in
     let new = c.next_level.new.distances in
-    let written = take_at new (drop (length new) steps.items) steps.len (c.next_level.auto.distances ∙ c.deref_mut.ensures.len) in
-    let numbers = subst (λ old. Numbers (IsNamedBy lists c.loop-distance.level.items) (distance + 1) old new [] level) c.deref_mut.ensures.value
+    let written = take_at new (drop (length new) old.items) old.len (c.next_level.auto.distances ∙ c.deref_mut.ensures.len) in
+    let numbers = subst (λ ds. Numbers (IsNamedBy lists c.loop-distance.level.items) (distance + 1) ds new [] level) c.deref_mut.ensures.value
     (subst (λ ls. Numbers (IsNamedBy lists ls) (distance + 1) c.deref_mut.result.now new [] level) c.deref-in-loop-distance.ensures.value
     (subst (λ ls. Numbers (IsNamedBy ls c.deref-in-loop-distance.result.now) (distance + 1) c.deref_mut.result.now new [] level) c.deref.ensures.value c.in_ok-level-2.ensures)) in
     subst (λ xs. StepsUpTo g test (distance + 1) xs level) (sym written)
