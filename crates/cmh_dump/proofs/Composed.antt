@@ -82,10 +82,10 @@ module _ (d : Data) where
   pub graph_is : (parts : List Part) (messages : List (ℕ × ℕ)) (es : List declared.Entry) (site_names process_names : List (List ℕ)) → map entry_view es ≡ entries d → site_names ≡ sites d → process_names ≡ names d → map graph.process_of parts ≡ map (λ e. process_by site_names process_names (entry_view e)) es → messages ≡ map (transit_of d) (transits d) → graph.graph_of parts messages ≡ graph_of d
   graph_is parts messages es site_names process_names seen are_sites are_names made sent =
       let processes : map graph.process_of parts ≡ map (process_of d) (entries d) =
-          made
-          ∙ (λ i. map (λ e. process_by (are_sites i) (are_names i) (entry_view e)) es)
-          ∙ map-map (process_of d) entry_view es
-          ∙ ap (map (process_of d)) seen in
+      made
+      ∙ (λ i. map (λ e. process_by (are_sites i) (are_names i) (entry_view e)) es)
+      ∙ map-map (process_of d) entry_view es
+      ∙ ap (map (process_of d)) seen in
       λ i. record { processes = processes i; in_transit = sent i }
 
   -- the graph of a tree that passes all stages is refused for want of memory alone

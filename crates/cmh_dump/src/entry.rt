@@ -49,7 +49,11 @@ pub(crate) fn entry_of<'v>(alloc: Global, process: &'v Value) -> Result<Entry<'v
     ensures { IfOk result (λ e. entry_view e ≡ entry_of_lem (view process.now)) }
 {
     let dependents = texts_at(alloc, process, "dependents")?;
-    let state = if is_active(process) { State::Active } else { State::Idle };
+    let state = if is_active(process) {
+        State::Active
+    } else {
+        State::Idle
+    };
     Ok(Entry {
         name: text_at(process, "name"),
         site: text_at(process, "site"),
@@ -74,10 +78,7 @@ pub(crate) fn entries_of<'v>(
 }
 
 /// The names of the processes.
-pub(crate) fn names_of<'v>(
-    alloc: Global,
-    entries: &[Entry<'v>],
-) -> Result<Vec<&'v str>, AllocError>
+pub(crate) fn names_of<'v>(alloc: Global, entries: &[Entry<'v>]) -> Result<Vec<&'v str>, AllocError>
     ensures { IfOk result (λ v. texts v.items ≡ map (λ e. (entry_view e).name) entries.now) }
 {
     let mut names = Vec::new(alloc);

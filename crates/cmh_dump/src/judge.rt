@@ -61,10 +61,7 @@ pub(crate) fn judge_top(tree: &Value) -> Result<(), DumpFault>
 }
 
 /// The sites by their places. All are judged before they are counted.
-pub(crate) fn read_sites<'v>(
-    alloc: Global,
-    tree: &'v Value,
-) -> Result<IndexSet<&'v str>, DumpFault>
+pub(crate) fn read_sites<'v>(alloc: Global, tree: &'v Value) -> Result<IndexSet<&'v str>, DumpFault>
     ensures judges { Judges (view tree.now) (site_faults (view tree.now)) result }
     ensures read { IfOk result (λ index. texts index.keys ≡ sites_lem (view tree.now)) }
     ensures few { IfOk result (λ index. length (texts index.keys) ≤ MAX_SITES) }
@@ -131,10 +128,7 @@ fn first_unknown_site(entries: &[Entry<'_>], sites: &IndexSet<&str>) -> Option<u
 }
 
 /// The first process with a dependent that names no process, and the place of that dependent.
-fn first_unknown_dependent(
-    entries: &[Entry<'_>],
-    names: &IndexSet<&str>,
-) -> Option<(usize, usize)>
+fn first_unknown_dependent(entries: &[Entry<'_>], names: &IndexSet<&str>) -> Option<(usize, usize)>
     ensures { result ≡ first_pair
         (λ e. position (λ name. not (is_among (texts names.now.keys) name.now)) e.dependents.items)
         0 entries.now }
@@ -168,9 +162,8 @@ fn first_active_with_dependents(entries: &[Entry<'_>]) -> Option<usize>
     ensures { result ≡ position
         (λ e. is_active_state e.state && nat_lt 0 (length e.dependents.items)) entries.now }
 {
-    entries
-        .iter()
-        .position(|entry| matches!(entry.state, State::Active) && !entry.dependents.is_empty())
+    entries.iter().position(|entry| matches!(entry.state, State::Active)
+        && !entry.dependents.is_empty())
 }
 
 fn has_too_many_dependents(entries: &[Entry<'_>]) -> bool

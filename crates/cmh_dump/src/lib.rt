@@ -11,11 +11,13 @@ mod laws;
 mod names;
 mod parts;
 mod source;
+#[cfg(test)]
+mod tests;
 mod transit;
 mod tree;
 
-pub use dump::read_dump;
 pub use cmh_stream::{ReadOf, Source, Stopped};
+pub use dump::read_dump;
 pub use fault::DumpFault;
 pub use laws::{law_first_fault, law_no_fault, law_tree_fault, law_tree_graph, law_well_formed};
 pub use source::read_all;

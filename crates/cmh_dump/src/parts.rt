@@ -13,11 +13,7 @@ use indexmap::IndexSet;
 use std::alloc::{AllocError, Global};
 
 /// The places of the names.
-fn places_of(
-    alloc: Global,
-    index: &IndexSet<&str>,
-    names: &[&str],
-) -> Result<Vec<u32>, AllocError>
+fn places_of(alloc: Global, index: &IndexSet<&str>, names: &[&str]) -> Result<Vec<u32>, AllocError>
     requires { length (texts index.now.keys) < 2 ^ 32 }
     ensures { IfOk result (λ v.
         v.items ≡ map (λ name. place_of_lem (texts index.now.keys) name.now) names.now) }
@@ -62,7 +58,7 @@ pub(crate) fn parts_of(
     requires few_names { length (texts names.now.keys) < 2 ^ 32 }
     ensures { IfOk result (λ parts. map process_of_lem parts.items
         ≡ map (λ e. process_by (texts sites.now.keys) (texts names.now.keys) (entry_view e))
-            entries.now) }
+        entries.now) }
 {
     let mut parts = Vec::new(alloc);
     for entry in entries {

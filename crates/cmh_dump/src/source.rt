@@ -1,6 +1,7 @@
 //! All the bytes of a source.
 
-ghost use Rattle.std.specs.Prelude.{◌≡◌, ◌≤◌, ◌+◌, ◌++◌, length, vec_len, true, IfOk, IsErrOf};
+ghost use Rattle.std.specs.Io.KnownBytes.{Consumes, IsAtEnd};
+ghost use Rattle.std.specs.Prelude.{◌≡◌, ◌↔◌, ◌≤◌, ◌+◌, ◌++◌, length, vec_len, true, IfOk, OnOk, IsErrOf};
 ghost use Rattle.cmh_dump.specs.Source.{GaveAtMost, IsOfReading};
 
 use crate::{DumpFault, MAX_BYTES};
@@ -19,12 +20,16 @@ pub fn read_all<S: Source>(alloc: Global, source: &mut S) -> Result<Vec<u8>, Dum
     ensures whole { IfOk result (λ v. S.has_ended source.new ≡ true) }
     ensures short { IfOk result (λ v. vec_len v ≤ MAX_BYTES) }
 
-    ensures read_fault { IsErrOf result DumpFault.ReadFault → S.has_failed source.new ≡ true }
+    ensures read_fault { IsErrOf result DumpFault.ReadFault ↔ (S.has_failed source.new ≡ true) }
     ensures too_long { IsErrOf result DumpFault.TooLong
         → length (S.given source.new) ≡ length (S.given source.old) + (MAX_BYTES + 1) }
     ensures only { IsOfReading result }
 
     ensures taken { GaveAtMost (MAX_BYTES + 1) (S.given source.old) (S.given source.new) }
+
+    ensures known { IfOk result (λ v.
+        Consumes (S.remaining source.old) (S.remaining source.new) v.items) }
+    ensures at_end { OnOk result (IsAtEnd (S.remaining source.new)) }
 {
     let mut bytes = Vec::new(alloc);
     let mut chunk = [0u8; 4096];

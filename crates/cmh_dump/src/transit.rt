@@ -102,7 +102,7 @@ pub(crate) fn read_in_transit(
         → Judges (view tree.now) (transit_faults (view tree.now)) result }
     ensures read { texts names.now.keys ≡ names_lem (view tree.now)
         → IfOk result (λ v.
-            v.items ≡ map (transit_of_lem (view tree.now)) (transits (view tree.now))) }
+        v.items ≡ map (transit_of_lem (view tree.now)) (transits (view tree.now))) }
 {
     let messages = entries_at(tree, "in_transit");
     if messages.len() > MAX_IN_TRANSIT {

@@ -40,14 +40,13 @@ returns-in_err-in_transit-clause-err c =
 
 pub returns-in-Ok-clause-ok : goal.returns-in-Ok-clause-ok
 returns-in-Ok-clause-ok c =
-
     accepted (view c.args.tree.now) c.in-Ok.graph c.in_ok-judge_top.ensures c.in_ok-sites.ensures.judges c.in_ok-entries.ensures.judges (c.in_ok-names.ensures.judges (view c.args.tree.now) (ap (map entry_view) c.deref.ensures.value ∙ c.in_ok-entries.ensures.read)) (c.in_ok-judge_entries.ensures (view c.args.tree.now) (ap (map entry_view) c.deref-2.ensures.value ∙ c.in_ok-entries.ensures.read) c.in_ok-sites.ensures.read (c.in_ok-names.ensures.read ∙ names_seen (view c.args.tree.now) c.deref.result.now (ap (map entry_view) c.deref.ensures.value ∙ c.in_ok-entries.ensures.read))) (c.in_ok-in_transit.ensures.judges (c.in_ok-names.ensures.read ∙ names_seen (view c.args.tree.now) c.deref.result.now (ap (map entry_view) c.deref.ensures.value ∙ c.in_ok-entries.ensures.read))) (c.in-Ok.ensures.ok.0 ∙ (graph_is (view c.args.tree.now) c.in_ok-parts.parts.items c.deref-4.result.now c.deref-3.result.now (texts c.in_ok-sites.sites.keys) (texts c.in_ok-names.names.keys)
-        (ap (map entry_view) c.deref-3.ensures.value ∙ c.in_ok-entries.ensures.read) c.in_ok-sites.ensures.read (c.in_ok-names.ensures.read ∙ names_seen (view c.args.tree.now) c.deref.result.now (ap (map entry_view) c.deref.ensures.value ∙ c.in_ok-entries.ensures.read)) c.in_ok-parts.ensures
-        (c.deref-4.ensures.value ∙ c.in_ok-in_transit.ensures.read (c.in_ok-names.ensures.read ∙ names_seen (view c.args.tree.now) c.deref.result.now (ap (map entry_view) c.deref.ensures.value ∙ c.in_ok-entries.ensures.read)))))
+    (ap (map entry_view) c.deref-3.ensures.value ∙ c.in_ok-entries.ensures.read) c.in_ok-sites.ensures.read (c.in_ok-names.ensures.read ∙ names_seen (view c.args.tree.now) c.deref.result.now (ap (map entry_view) c.deref.ensures.value ∙ c.in_ok-entries.ensures.read)) c.in_ok-parts.ensures
+    (c.deref-4.ensures.value ∙ c.in_ok-in_transit.ensures.read (c.in_ok-names.ensures.read ∙ names_seen (view c.args.tree.now) c.deref.result.now (ap (map entry_view) c.deref.ensures.value ∙ c.in_ok-entries.ensures.read)))))
 
 pub prove-unreachable-requires : goal.prove-unreachable-requires
 prove-unreachable-requires c =
     let memory = (refused_for_memory_alone (view c.args.tree.now) _ c.in-Err.fault c.in_ok-judge_top.ensures c.in_ok-sites.ensures.judges c.in_ok-entries.ensures.judges (c.in_ok-names.ensures.judges (view c.args.tree.now) (ap (map entry_view) c.deref.ensures.value ∙ c.in_ok-entries.ensures.read)) (c.in_ok-judge_entries.ensures (view c.args.tree.now) (ap (map entry_view) c.deref-2.ensures.value ∙ c.in_ok-entries.ensures.read) c.in_ok-sites.ensures.read (c.in_ok-names.ensures.read ∙ names_seen (view c.args.tree.now) c.deref.result.now (ap (map entry_view) c.deref.ensures.value ∙ c.in_ok-entries.ensures.read))) (c.in_ok-in_transit.ensures.judges (c.in_ok-names.ensures.read ∙ names_seen (view c.args.tree.now) c.deref.result.now (ap (map entry_view) c.deref.ensures.value ∙ c.in_ok-entries.ensures.read))) (graph_is (view c.args.tree.now) c.in_ok-parts.parts.items c.deref-4.result.now c.deref-3.result.now (texts c.in_ok-sites.sites.keys) (texts c.in_ok-names.names.keys)
-        (ap (map entry_view) c.deref-3.ensures.value ∙ c.in_ok-entries.ensures.read) c.in_ok-sites.ensures.read (c.in_ok-names.ensures.read ∙ names_seen (view c.args.tree.now) c.deref.result.now (ap (map entry_view) c.deref.ensures.value ∙ c.in_ok-entries.ensures.read)) c.in_ok-parts.ensures
-        (c.deref-4.ensures.value ∙ c.in_ok-in_transit.ensures.read (c.in_ok-names.ensures.read ∙ names_seen (view c.args.tree.now) c.deref.result.now (ap (map entry_view) c.deref.ensures.value ∙ c.in_ok-entries.ensures.read)))) c.in-Err.ensures.fault) in
+    (ap (map entry_view) c.deref-3.ensures.value ∙ c.in_ok-entries.ensures.read) c.in_ok-sites.ensures.read (c.in_ok-names.ensures.read ∙ names_seen (view c.args.tree.now) c.deref.result.now (ap (map entry_view) c.deref.ensures.value ∙ c.in_ok-entries.ensures.read)) c.in_ok-parts.ensures
+    (c.deref-4.ensures.value ∙ c.in_ok-in_transit.ensures.read (c.in_ok-names.ensures.read ∙ names_seen (view c.args.tree.now) c.deref.result.now (ap (map entry_view) c.deref.ensures.value ∙ c.in_ok-entries.ensures.read)))) c.in-Err.ensures.fault) in
     elim c.match-matches.branch [ in-Memory w ↦ (cc) | in_default w ↦ w.in_default.not-Memory memory ]

@@ -1,0 +1,56 @@
+//! Reading of sources to their ends.
+
+use super::TWO_IN_A_CYCLE;
+use crate::{MAX_BYTES, ReadOf, read_all};
+use std::alloc::{AllocError, Global};
+use std::io;
+use std::io::{ErrorKind, Read};
+use std::test::Fail;
+
+/// A reader that fails after its bytes.
+#[derive(Drop)]
+struct Broken<'a> {
+    bytes: &'a [u8],
+}
+
+impl Read for Broken<'_> {
+    fn read(&mut self, buf: &mut [u8]) -> io::Result<usize> {
+        if self.bytes.is_empty() {
+            return Err(io::Error::from(ErrorKind::BrokenPipe));
+        }
+        self.bytes.read(buf)
+    }
+}
+
+/// How many bytes the reader gives, or the text of the fault.
+fn reading<R: Read + Drop>(alloc: Global, reader: R) -> Result<String, AllocError> {
+    match read_all(alloc, &mut ReadOf::new(reader)) {
+        Ok(bytes) => bytes.len().to_string(alloc),
+        Err(fault) => fault.to_string(alloc),
+    }
+}
+
+#[test]
+fn failing_sources(rt: HostRuntime) -> Result<(), Fail> {
+    let alloc = rt.alloc();
+    let dump = TWO_IN_A_CYCLE.as_bytes();
+    assert_eq!(rt; dump.len(), 157);
+    for len in 0..=157 {
+        let broken = Broken {
+            bytes: &dump[..len],
+        };
+        assert_eq!(rt; reading(alloc, broken)?.as_str(), "read fault", "at {len}");
+    }
+    assert_eq!(rt; reading(alloc, dump)?.as_str(), "157");
+    Ok(())
+}
+
+#[test]
+fn long_sources(rt: HostRuntime) -> Result<(), Fail> {
+    let alloc = rt.alloc();
+    let mut bytes = vec![in alloc; b' '; MAX_BYTES]?;
+    assert_eq!(rt; reading(alloc, bytes.as_slice())?.as_str(), "8388608");
+    bytes.push(b' ')?;
+    assert_eq!(rt; reading(alloc, bytes.as_slice())?.as_str(), "too long");
+    Ok(())
+}
