@@ -18,55 +18,58 @@ pub verdict_count : (g : Graph) → length (verdicts g) ≡ process_count g
 verdict_count g = length-map (indices g) (verdict g) ∙ length-range_with_len 0 (process_count g)
 
 -- a process's verdict stands at its place
-pub verdict_at : (g : Graph) (known : List Verdict) (p : ℕ) (d : Verdict) → known ≡ verdicts g → p < process_count g → get_or known p d ≡ verdict g p
+pub verdict_at : (g : Graph) (known : List Verdict) (p : ℕ) (d : Verdict)
+    → known ≡ verdicts g → p < process_count g → get_or known p d ≡ verdict g p
 verdict_at g known p d are l =
-    ap (λ vs. get_or vs p d) are ∙ get_or-map-range_with_len (verdict g) 0 (process_count g) p p d l (omega arith)
+    ap (λ vs. get_or vs p d) are
+    ∙ get_or-map-range_with_len (verdict g) 0 (process_count g) p p d l (omega arith)
+
+-- ---- deadlocked ones
+
+-- a process's verdict is deadlocked only where the test passes
+passes : (b : Bool) → (if b then Deadlocked else Free) ≡ Deadlocked → b ≡ true
+passes true e = refl
+passes false e = cc
+
+-- a process's verdict is free only where the test fails
+fails : (b : Bool) → (if b then Deadlocked else Free) ≡ Free → b ≡ false
+fails true e = cc
+fails false e = refl
+
+-- each process stands at its own index
+index_at : (g : Graph) (p : ℕ) → p < process_count g → get_or (indices g) p 0 ≡ p
+index_at g p l =
+    let same : get_or (indices g) p 0 ≡ 0 + p = get_or-range_with_len 0 (process_count g) p 0 l in
+    omega arith
 
 -- how many of the first n processes are deadlocked
 abbrev pub deadlocked_below : Graph → ℕ → ℕ
 deadlocked_below g n = count_by (is_deadlocked g) (take n (indices g))
 
-chosen_deadlocked : (b : Bool) → (if b then Deadlocked else Free) ≡ Deadlocked → b ≡ true
-chosen_deadlocked true e = refl
-chosen_deadlocked false e = cc
-
-chosen_free : (b : Bool) → (if b then Deadlocked else Free) ≡ Free → b ≡ false
-chosen_free true e = cc
-chosen_free false e = refl
-
--- a deadlocked process more
-pub deadlocked_more : (g : Graph) (n : ℕ) → n < process_count g → verdict g n ≡ Deadlocked → deadlocked_below g (n + 1) ≡ deadlocked_below g n + 1
+-- one deadlocked process more
+pub deadlocked_more : (g : Graph) (n : ℕ) → n < process_count g → verdict g n ≡ Deadlocked
+    → deadlocked_below g (n + 1) ≡ deadlocked_below g n + 1
 deadlocked_more g n l e =
     let within : n < length (indices g) = omega (arith, length-range_with_len 0 (process_count g)) in
-    let same : get_or (indices g) n 0 ≡ 0 + n = get_or-range_with_len 0 (process_count g) n 0 l in
-    let place : get_or (indices g) n 0 ≡ n = omega arith in
-    count_by_more_yes (is_deadlocked g) (indices g) n 0 within (ap (is_deadlocked g) place ∙ chosen_deadlocked (is_deadlocked g n) e)
+    count_by_more_yes (is_deadlocked g) (indices g) n 0 within
+    (ap (is_deadlocked g) (index_at g n l) ∙ passes (is_deadlocked g n) e)
 
--- a free process more
-pub free_more : (g : Graph) (n : ℕ) → n < process_count g → verdict g n ≡ Free → deadlocked_below g (n + 1) ≡ deadlocked_below g n
+-- one free process more
+pub free_more : (g : Graph) (n : ℕ) → n < process_count g → verdict g n ≡ Free
+    → deadlocked_below g (n + 1) ≡ deadlocked_below g n
 free_more g n l e =
     let within : n < length (indices g) = omega (arith, length-range_with_len 0 (process_count g)) in
-    let same : get_or (indices g) n 0 ≡ 0 + n = get_or-range_with_len 0 (process_count g) n 0 l in
-    let place : get_or (indices g) n 0 ≡ n = omega arith in
-    count_by_more_no (is_deadlocked g) (indices g) n 0 within (ap (is_deadlocked g) place ∙ chosen_free (is_deadlocked g n) e)
+    count_by_more_no (is_deadlocked g) (indices g) n 0 within
+    (ap (is_deadlocked g) (index_at g n l) ∙ fails (is_deadlocked g n) e)
 
--- active and idle ones are all
-pub active_and_idle : (g : Graph) → length (idle_list g) + active_count g ≡ process_count g
-active_and_idle g =
-    let active : length (filter (λ p. not (is_idle g p)) (indices g)) ≡ active_count g = length-filter _ (indices g) in
-    let both : length (idle_list g) + length (filter (λ p. not (is_idle g p)) (indices g)) ≡ length (indices g) =
-    length-filter_both (λ p. is_idle g p) (λ p. not (is_idle g p)) (λ _. refl) (indices g) in
-    let all : length (indices g) ≡ process_count g = length-range_with_len 0 (process_count g) in
-    omega arith
+-- the first n are all, where n reaches their number
+pub deadlocked_below_all : (g : Graph) (n : ℕ) → process_count g ≤ n
+    → deadlocked_below g n ≡ deadlocked_count g
+deadlocked_below_all g n l =
+    let all : length (indices g) ≤ n = omega (arith, length-range_with_len 0 (process_count g)) in
+    ap (count_by (is_deadlocked g)) (take_all n (indices g) all)
 
--- the first line has these counts
-pub totals_by_counts : (g : Graph) (all active idle deadlocked : ℕ) → all ≡ process_count g → idle ≡ length (idle_list g)
-    → idle + active ≡ all → deadlocked ≡ deadlocked_count g → counts_line all active idle deadlocked ≡ totals_line g
-unfolding totals_line
-totals_by_counts g all active idle deadlocked all_is idle_is both deadlocked_is =
-    let whole : length (idle_list g) + active_count g ≡ process_count g = active_and_idle g in
-    let active_is : active ≡ active_count g = omega arith in
-    rw (active_is, all_is, idle_is, deadlocked_is) refl
+-- ---- idle ones
 
 -- each place is below their number
 indices_below : (n : ℕ) → All (λ p. p < n) (range_with_len 0 n)
@@ -76,13 +79,27 @@ indices_below n k d l =
     omega arith
 
 -- the idle ones are processes of the graph
-pub idle_within : (g : Graph) (k : ℕ) → k < length (idle_list g) → get_or (idle_list g) k 0 < process_count g
+pub idle_within : (g : Graph) (k : ℕ) → k < length (idle_list g)
+    → get_or (idle_list g) k 0 < process_count g
 idle_within g k l =
+    let below = indices_below (process_count g) in
     All-get_or (λ p. p < process_count g) (idle_list g) k 0 l
-    (All-filter (λ p. is_idle g p) (λ p. p < process_count g) (indices g) (indices_below (process_count g)))
+    (All-filter (λ p. is_idle g p) (λ p. p < process_count g) (indices g) below)
 
--- the first n are all, where n reaches their number
-pub deadlocked_below_all : (g : Graph) (n : ℕ) → process_count g ≤ n → deadlocked_below g n ≡ deadlocked_count g
-deadlocked_below_all g n l =
-    let all : length (indices g) ≤ n = omega (arith, length-range_with_len 0 (process_count g)) in
-    ap (count_by (is_deadlocked g)) (take_all n (indices g) all)
+-- idle and active ones are all
+pub active_and_idle : (g : Graph) → length (idle_list g) + active_count g ≡ process_count g
+active_and_idle g =
+    let is_active : ℕ → Bool = λ p. not (is_idle g p) in
+    let active : length (filter is_active (indices g)) ≡ active_count g = length-filter _ (indices g) in
+    let both = length-filter_both (λ p. is_idle g p) is_active (λ _. refl) (indices g) in
+    omega (arith, active, both, length-range_with_len 0 (process_count g))
+
+-- the first line has these counts
+pub totals_by_counts : (g : Graph) (all active idle deadlocked : ℕ)
+    → all ≡ process_count g → idle ≡ length (idle_list g)
+    → idle + active ≡ all → deadlocked ≡ deadlocked_count g
+    → counts_line all active idle deadlocked ≡ totals_line g
+unfolding totals_line
+totals_by_counts g all active idle deadlocked all_is idle_is both deadlocked_is =
+    let active_is : active ≡ active_count g = omega (arith, active_and_idle g) in
+    rw (active_is, all_is, idle_is, deadlocked_is) refl

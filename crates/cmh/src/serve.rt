@@ -1,6 +1,6 @@
 //! The whole program as one call: words and streams in, a status out.
 
-ghost use Rattle.std.specs.Prelude.{◌≡◌, ◌≢◌, ◌⊎◌, ◌≤◌, ◌<◌, ℕ, true};
+ghost use Rattle.std.specs.Prelude.{◌≡◌, ◌≢◌, ◌⊎◌, ◌≤◌, ◌<◌, ◌++◌, ℕ, true};
 ghost use Rattle.cmh_dump.specs.declared.fault.DumpFault.{DumpFault};
 ghost use Rattle.cmh.specs.Analyse.{IsAnswer, IsRefused};
 ghost use Rattle.cmh.specs.declared.status.TheConstants.{FREE, REFUSED, MISUSED, DEADLOCKED};
@@ -49,7 +49,9 @@ fn analyse<S: Source, O: Sink, E: Sink>(
     err: &mut E,
 ) -> u8
     ensures bounded { result ≤ 4 }
-    ensures taken { result ≢ MISUSED }
+    ensures understood { result ≢ MISUSED }
+    ensures quiet { (result ≡ FREE) ⊎ (result ≡ DEADLOCKED)
+        → E.taken err.new ≡ E.taken err.old }
     ensures free { result ≡ FREE → IsAnswer
         (S.given source.old) (S.given source.new) (S.has_ended source.new)
         (O.taken out.old) (O.taken out.new) (O.is_finished out.new) 0 }
@@ -73,7 +75,9 @@ fn analyse<S: Source, O: Sink, E: Sink>(
 /// Writes a text that was asked for.
 fn show<O: Sink, E: Sink>(alloc: Global, text: &str, out: &mut O, err: &mut E) -> u8
     ensures shown { (result ≡ FREE) ⊎ (result ≡ FAILED) }
+    ensures text { result ≡ FREE → O.taken out.new ≡ O.taken out.old ++ text.now }
     ensures handed_on { result ≡ FREE → O.is_finished out.new ≡ true }
+    ensures quiet { result ≡ FREE → E.taken err.new ≡ E.taken err.old }
 {
     match put_all(out, text.as_bytes()) {
         Ok(()) => FREE,
@@ -97,6 +101,8 @@ pub fn serve<R: AllocGlobal, T: AsStr, S: Source, O: Sink, E: Sink>(
 ) -> u8
     ensures bounded { result ≤ 4 }
     ensures handed_on { result ≡ FREE → O.is_finished out.new ≡ true }
+    ensures quiet { (result ≡ FREE) ⊎ (result ≡ DEADLOCKED)
+        → E.taken err.new ≡ E.taken err.old }
 
     // `--help` and `--version` read nothing.
     ensures free { result ≡ FREE → (S.given source.new ≡ S.given source.old) ⊎ IsAnswer

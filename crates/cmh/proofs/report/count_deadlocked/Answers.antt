@@ -13,8 +13,10 @@ loop-p-preserved c =
     let there = verdict_at g c.args.known.now p Deadlocked c.requires within in
     elim c.match-known-p.branch [
       | in-Deadlocked w ↦
-          w.count-is ∙ ap (λ n. n + 1) c.loop-p.invariant ∙ sym (deadlocked_more g p within (sym there ∙ w.in-Deadlocked.is))
-      | in-Free w ↦ w.count-is ∙ c.loop-p.invariant ∙ sym (free_more g p within (sym there ∙ w.in-Free.is))
+          w.count-is ∙ ap (λ n. n + 1) c.loop-p.invariant
+          ∙ sym (deadlocked_more g p within (sym there ∙ w.in-Deadlocked.is))
+      | in-Free w ↦
+          w.count-is ∙ c.loop-p.invariant ∙ sym (free_more g p within (sym there ∙ w.in-Free.is))
     ]
 
 pub returns : goal.returns

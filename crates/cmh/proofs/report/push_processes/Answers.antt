@@ -15,6 +15,7 @@ loop-p-preserved c =
     let words = line_by_verdict g c.args.known.now p Deadlocked c.requires.known within in
     let first = string_bytes c.args.text.now in
     let i = c.loop-p.p-index in
+    let so_far = first ++ flat_map line (map (process_line g) (take i c.args.idle.now)) in
     rw (c.in_ok-push_process.ensures, c.loop-p.invariant, c.name.ensures)
-    (ap (λ (ws : List (List ℕ)). (first ++ flat_map line (map (process_line g) (take i c.args.idle.now))) ++ line ws) words
+    (ap (λ (ws : List (List ℕ)). so_far ++ line ws) words
     ∙ lines_more first (process_line g) c.args.idle.now i c.loop-p-test.true)

@@ -5,4 +5,5 @@ use Rattle.cmh.proofs.report.push_processes.Given as goal
 
 abbrev pub invariant-loop-p : goal.invariant-loop-p
 invariant-loop-p l =
-    string_bytes l.text ≡ string_bytes l.fn.text ++ flat_map line (map (process_line l.graph) (take l.p-index l.idle))
+    string_bytes l.text
+    ≡ string_bytes l.fn.text ++ flat_map line (map (process_line l.graph) (take l.p-index l.idle))

@@ -5,6 +5,9 @@ use Rattle.cmh.proofs.report.totals.Goals as goal
 
 pub returns : goal.returns
 returns c =
-    let waiting : length c.args.idle.now ≡ length (idle_list c.args.graph.now) = ap length c.requires.waiting in
-    let same = totals_by_counts c.args.graph.now _ _ _ _ c.len-all.ensures.count waiting (omega (arith, active_and_idle)) c.count_deadlocked.ensures in
+    let g = c.args.graph.now in
+    let waiting : length c.args.idle.now ≡ length (idle_list g) = ap length c.requires.waiting in
+    let same =
+    totals_by_counts g _ _ _ _ c.len-all.ensures.count waiting
+    (omega (arith, active_and_idle)) c.count_deadlocked.ensures in
     rw (← same) c.counts.ensures
