@@ -4,7 +4,7 @@ use Rattle.std.specs.Prelude.{Contains, MatchOption, Option, Some, None, is_some
 use Rattle.std.specs.Option.{option_eq}
 use Rattle.std.specs.Global.{Vec}
 use Rattle.std.proofs.lemmas.Bool.{cases_eq, cases_lt}
-use Rattle.std.proofs.lemmas.List.{length_push, get_or-map, get_or_default, map-set, get_or-set_same, get_or-set_other, length-set, length-map, take_more}
+use Rattle.std.proofs.lemmas.List.{length_push, get_or-map, map-set, get_or-set_same, get_or-set_other, length-set, length-map, take_more}
 use Rattle.std.proofs.lemmas.List.Elements.{Contains-append_left, Contains-append_right, Contains-append_cases, Contains-push, Contains-push_cases}
 use Rattle.std.proofs.lemmas.List.Sums.{sum_by-set}
 use Rattle.cmh_graph.specs.Build.{IsWellFormed}

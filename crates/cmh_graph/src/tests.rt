@@ -230,3 +230,34 @@ fn most_dependencies(rt: HostRuntime) -> Result<(), GraphFault> {
     assert!(rt; refused == Some(GraphFault::TooManyDependencies));
     Ok(())
 }
+
+#[test]
+fn fault_texts(rt: HostRuntime) -> Result<(), GraphFault> {
+    let alloc = rt.alloc();
+    let table = [
+        (GraphFault::TooManyProcesses, "too many processes"),
+        (GraphFault::TooManyDependencies, "too many dependencies"),
+        (
+            GraphFault::DependentOutOfRange(1, 20),
+            "dependent out of range 1 20",
+        ),
+        (
+            GraphFault::RepeatedDependent(3, 4),
+            "repeated dependent 3 4",
+        ),
+        (
+            GraphFault::ActiveWithDependents(5),
+            "active with dependents 5",
+        ),
+        (GraphFault::Memory, "out of memory"),
+        (GraphFault::TooManyInTransit, "too many in transit"),
+        (
+            GraphFault::TransitOutOfRange(6),
+            "in transit out of range 6",
+        ),
+    ];
+    for (fault, text) in table {
+        assert_eq!(rt; format!(in alloc; "{fault}")?.as_str(), text);
+    }
+    Ok(())
+}
