@@ -28,7 +28,26 @@ impl WaitGraph {
             option_map (λ v. v.items) path ≡ chosen_path self.now p) }
         ensures memory { IfErr result (λ e. e ≡ GraphFault.Memory) }
     {
-        let distances = self.steps_to(alloc, self.awake())?;
+        let distances = self.distances(alloc)?;
+        self.path_by(alloc, &distances, p)
+    }
+
+    /// The chosen path of `p`, as `chosen_path` gives it, by the distances of all processes. It
+    /// takes time linear in the dependencies of the processes on the path.
+    pub fn path_by(
+        &self,
+        alloc: Global,
+        distances: &[Option<u32>],
+        p: u32,
+    ) -> Result<Option<Vec<u32>>, GraphFault>
+        requires within { p < process_count self.now }
+        requires known { distances.now ≡ map (distance_of self.now) (indices self.now) }
+        ensures ok { IfOk result (λ path.
+            option_map (λ v. v.items) path ≡ chosen_path self.now p) }
+        ensures memory { IfErr result (λ e. e ≡ GraphFault.Memory) }
+    {
+        // A call that says that the graph is well formed: each step finds a nearer dependent.
+        let _ = self.len();
         let Some(distance) = distances[p as usize] else {
             return Ok(None);
         };
@@ -36,7 +55,7 @@ impl WaitGraph {
         path.push(p)?;
         let mut last = p;
         for nearer in (0..distance).rev() {
-            last = least_at(nearer, self.dependents(last), &distances).unwrap();
+            last = least_at(nearer, self.dependents(last), distances).unwrap();
             path.push(last)?;
         }
         Ok(Some(path))
