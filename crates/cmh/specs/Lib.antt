@@ -1,4 +1,1 @@
-pub mod Analyse
-pub mod Report
 pub mod Status
-pub mod Verdict

@@ -2,8 +2,8 @@
 use Rattle.std.specs.Prelude.{ℕ}
 use Rattle.cmh_dump.specs.declared.fault.DumpFault.{DumpFault}
 use Rattle.cmh_dump.specs.declared.fault.DumpFault.TheVariants.{Memory, ReadFault}
-use Rattle.cmh.specs.declared.fault.AppFault.{AppFault}
-use Rattle.cmh.specs.declared.fault.AppFault.TheVariants.{Dump, Report, WriteFault}
+use Rattle.cmh_report.specs.declared.fault.AppFault.{AppFault}
+use Rattle.cmh_report.specs.declared.fault.AppFault.TheVariants.{Dump, Report, WriteFault}
 use Rattle.cmh.specs.declared.status.TheConstants.{REFUSED, FAILED}
 
 -- want of memory and a failed source are no fault of the dump

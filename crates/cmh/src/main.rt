@@ -1,10 +1,7 @@
 //! cmh: which processes of a stalled message-passing program can never go on.
 #![tactic(auto)]
 
-mod analyse;
 mod command;
-mod fault;
-mod report;
 mod serve;
 mod status;
 #[cfg(test)]

@@ -2,13 +2,12 @@
 
 ghost use Rattle.std.specs.Prelude.{◌≡◌, ◌≢◌, ◌⊎◌, ◌≤◌, ◌<◌, ◌++◌, ℕ, true};
 ghost use Rattle.cmh_dump.specs.declared.fault.DumpFault.{DumpFault};
-ghost use Rattle.cmh.specs.Analyse.{IsAnswer, IsRefused};
+ghost use Rattle.cmh_report.specs.Analyse.{IsAnswer, IsRefused};
 ghost use Rattle.cmh.specs.declared.status.TheConstants.{FREE, REFUSED, MISUSED, DEADLOCKED};
 
-use crate::analyse::analyse_bytes;
 use crate::command::{Request, read_words};
-use crate::fault::AppFault;
 use crate::status::{DEADLOCKED, FAILED, FREE, MISUSED, status_of};
+use cmh_report::{AppFault, analyse_bytes};
 use cmh_stream::{Sink, Source, put_all};
 use std::alloc::Global;
 use std::convert::AsStr;

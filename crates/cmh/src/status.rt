@@ -3,8 +3,8 @@
 ghost use Rattle.std.specs.Prelude.{◌≡◌};
 ghost use Rattle.cmh.specs.Status.{status_of as status_of_lem};
 
-use crate::fault::AppFault;
 use cmh_dump::DumpFault;
+use cmh_report::AppFault;
 
 /// No process is deadlocked, or what was asked for is printed.
 pub(crate) const FREE: u8 = 0;

@@ -13,8 +13,11 @@ const TWO_IN_A_CYCLE: &str = r#"{"version":1,"sites":["a"],"processes":[
     {"name":"p","site":"a","state":"idle","dependents":["q"]},
     {"name":"q","site":"a","state":"idle","dependents":["p"]}]}"#;
 
-const TWO_IN_A_CYCLE_TEXT: &str =
-    "processes 2 active 0 idle 2 deadlocked 2\ndeadlocked p\ndeadlocked q\n";
+const TWO_IN_A_CYCLE_REPORT: &str = "processes 2 active 0 idle 2 deadlocked 2
+deadlocked p group 1
+deadlocked q group 1
+group 1 | p q | - | sites 1
+";
 
 const ONE_FREE_ONE_STUCK: &str = r#"{"version":1,"sites":["a"],"processes":[
     {"name":"p","site":"a","state":"idle","dependents":["q","r"]},
@@ -80,17 +83,25 @@ fn has(page: &Page, text: &str) -> bool {
 }
 
 #[test]
-fn verdicts(rt: HostRuntime) {
+fn reports(rt: HostRuntime) {
     let rows = [
-        (TWO_IN_A_CYCLE, TWO_IN_A_CYCLE_TEXT, 3),
+        (TWO_IN_A_CYCLE, TWO_IN_A_CYCLE_REPORT, 3),
         (
             ONE_FREE_ONE_STUCK,
-            "processes 3 active 1 idle 2 deadlocked 1\nfree p\ndeadlocked q\n",
+            "processes 3 active 1 idle 2 deadlocked 1
+free p path p r
+deadlocked q group 1
+group 1 | q | - | sites 1
+",
             3,
         ),
         (
             TWO_SHORTEST_PATHS,
-            "processes 4 active 1 idle 3 deadlocked 0\nfree p\nfree a\nfree b\n",
+            "processes 4 active 1 idle 3 deadlocked 0
+free p path p a z
+free a path a z
+free b path b z
+",
             0,
         ),
         (EMPTY, "processes 0 active 0 idle 0 deadlocked 0\n", 0),
@@ -104,7 +115,7 @@ fn verdicts(rt: HostRuntime) {
 }
 
 #[test]
-fn verdicts_of_another_program(rt: HostRuntime) {
+fn reports_of_another_program(rt: HostRuntime) {
     for (dump, text, status) in CASES {
         let ran = run(rt, &ANALYSE, dump);
         assert!(rt; is(&ran.out, text), "{text}");
@@ -178,7 +189,7 @@ fn a_failing_source(rt: HostRuntime) {
 fn a_failing_output(rt: HostRuntime) {
     let unflushed = Page {
         fails_flush: true,
-        ..page(rt, 100)
+        ..page(rt, 200)
     };
     let rows = [
         (
@@ -188,8 +199,8 @@ fn a_failing_output(rt: HostRuntime) {
         ),
         (
             unflushed,
-            TWO_IN_A_CYCLE_TEXT,
-            "cmh: write fault after 67 bytes\n",
+            TWO_IN_A_CYCLE_REPORT,
+            "cmh: write fault after 111 bytes\n",
         ),
     ];
     for (out, text, line) in rows {

@@ -1,4 +1,4 @@
-//! Dumps and verdicts that an independent program made: another language, another graph library.
+//! Dumps and reports that an independent program made: another language, another graph library.
 
 /// A dump, the text that it gives, and the status.
 pub const CASES: [(&str, &str, u8); 3] = [
@@ -13,9 +13,9 @@ pub const CASES: [(&str, &str, u8); 3] = [
 ]}
 "#,
         "processes 4 active 1 idle 3 deadlocked 0
-free Z.a
-free MU
-free SNW51QpmX.f:AXP_Vk3M5DIeBStJOx71C2T/pUs1dATpr7GeXO2Qoe1qhroYOg.z
+free Z.a path Z.a Clon
+free MU path MU Clon
+free SNW51QpmX.f:AXP_Vk3M5DIeBStJOx71C2T/pUs1dATpr7GeXO2Qoe1qhroYOg.z path SNW51QpmX.f:AXP_Vk3M5DIeBStJOx71C2T/pUs1dATpr7GeXO2Qoe1qhroYOg.z Clon
 ",
         0,
     ),
@@ -32,11 +32,13 @@ free SNW51QpmX.f:AXP_Vk3M5DIeBStJOx71C2T/pUs1dATpr7GeXO2Qoe1qhroYOg.z
 "sites":["d:jl","kr","c_k"]}
 "#,
         "processes 6 active 1 idle 5 deadlocked 2
-free 3UE
-free PwJ.
-deadlocked J
-free kYGr
-deadlocked dYOg
+free 3UE path 3UE hq
+free PwJ. path PwJ. 3UE hq
+deadlocked J group 1
+free kYGr path kYGr hq
+deadlocked dYOg group 2
+group 1 | J | - | sites 1
+group 2 | dYOg | - | sites 1
 ",
         3,
     ),
@@ -67,22 +69,27 @@ deadlocked dYOg
 "sites":["XO","0M5ZJfDHU"]}
 "#,
         "processes 20 active 4 idle 16 deadlocked 5
-free c
-free z
-free Cqung3ckUHG.c2XwQJ:4mFA1XvDRfaT675bOYZxJwDqsPSTvNeQS4trfaCbvoyzI
-free H
-deadlocked lR
-free co
-free m
-free POA
-free 8
-free o:
-free J0H1D6clfEhrNCO/83eA_j.Cf.0w_3cJpXI7tA8MhLOml8wLQ7:XbkhCIzo/RsVj
-free AGH1pC9ITq22idFapQlrca3KWkde05Z4EnCs5Bfbq7EX8y7tVxaK6V_K5rdkhZ.N
-deadlocked sI
-deadlocked WAy
-deadlocked UawH
-deadlocked khGm
+free c path c MV
+free z path z POA MV
+free Cqung3ckUHG.c2XwQJ:4mFA1XvDRfaT675bOYZxJwDqsPSTvNeQS4trfaCbvoyzI path Cqung3ckUHG.c2XwQJ:4mFA1XvDRfaT675bOYZxJwDqsPSTvNeQS4trfaCbvoyzI POA MV
+free H path H POA MV
+deadlocked lR group 1
+free co path co xeWt-EX9Q
+free m path m J0H1D6clfEhrNCO/83eA_j.Cf.0w_3cJpXI7tA8MhLOml8wLQ7:XbkhCIzo/RsVj xeWt-EX9Q
+free POA path POA MV
+free 8 path 8 o: MV
+free o: path o: MV
+free J0H1D6clfEhrNCO/83eA_j.Cf.0w_3cJpXI7tA8MhLOml8wLQ7:XbkhCIzo/RsVj path J0H1D6clfEhrNCO/83eA_j.Cf.0w_3cJpXI7tA8MhLOml8wLQ7:XbkhCIzo/RsVj xeWt-EX9Q
+free AGH1pC9ITq22idFapQlrca3KWkde05Z4EnCs5Bfbq7EX8y7tVxaK6V_K5rdkhZ.N path AGH1pC9ITq22idFapQlrca3KWkde05Z4EnCs5Bfbq7EX8y7tVxaK6V_K5rdkhZ.N xeWt-EX9Q
+deadlocked sI group 2
+deadlocked WAy group 3
+deadlocked UawH group 4
+deadlocked khGm group 5
+group 1 | lR | - | sites 1
+group 2 | sI | UawH khGm | sites 2
+group 3 | WAy | UawH khGm | sites 2
+group 4 | UawH | khGm | sites 2
+group 5 | khGm | - | sites 1
 ",
         3,
     ),

@@ -1,0 +1,4 @@
+pub mod Analyse
+pub mod Found
+pub mod Group
+pub mod Report

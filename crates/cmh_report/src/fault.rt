@@ -1,0 +1,73 @@
+//! Why an analysis gives no answer.
+
+ghost use Rattle.std.specs.Prelude.{◌≡◌};
+ghost use Rattle.cmh_report.specs.declared.fault.AppFault.TheVariants.{Dump, Report, WriteFault};
+ghost use Rattle.cmh_report.specs.declared.fault.ReportFault.TheVariants.{Memory};
+
+use cmh_dump::DumpFault;
+use cmh_graph::GraphFault;
+use std::alloc::AllocError;
+use thiserror::Error;
+
+/// Why a graph has no report.
+#[derive(Debug, Drop, Error)]
+pub enum ReportFault {
+    /// Memory was refused.
+    #[error("out of memory")]
+    Memory,
+}
+
+/// Why an analysis gives no answer.
+#[derive(Debug, Drop, Error)]
+pub enum AppFault {
+    /// The source gave no dump.
+    #[error("dump: {0}")]
+    Dump(DumpFault),
+    /// The graph has no report.
+    #[error("report: {0}")]
+    Report(ReportFault),
+    /// The sink has failed after it had taken this many bytes.
+    #[error("write fault after {0} bytes")]
+    WriteFault(usize),
+}
+
+impl From<AllocError> for ReportFault {
+    ghost from_gives = { λ _ e. e ≡ Memory };
+
+    fn from(_e: AllocError) -> ReportFault {
+        ReportFault::Memory
+    }
+}
+
+impl From<GraphFault> for ReportFault {
+    ghost from_gives = { λ _ e. e ≡ Memory };
+
+    /// Questions to a graph fail for want of memory alone.
+    fn from(_fault: GraphFault) -> ReportFault {
+        ReportFault::Memory
+    }
+}
+
+impl From<DumpFault> for AppFault {
+    ghost from_gives = { λ f e. e ≡ Dump f };
+
+    fn from(fault: DumpFault) -> AppFault {
+        AppFault::Dump(fault)
+    }
+}
+
+impl From<ReportFault> for AppFault {
+    ghost from_gives = { λ f e. e ≡ Report f };
+
+    fn from(fault: ReportFault) -> AppFault {
+        AppFault::Report(fault)
+    }
+}
+
+impl From<cmh_stream::WriteFault> for AppFault {
+    ghost from_gives = { λ f e. e ≡ WriteFault f.written };
+
+    fn from(fault: cmh_stream::WriteFault) -> AppFault {
+        AppFault::WriteFault(fault.written)
+    }
+}

@@ -1,0 +1,87 @@
+//! One group: its number, its members and how many sites they are on.
+
+ghost use Rattle.std.specs.Prelude.{◌≡◌, ◌<◌, length, filter, map, nat_eq, not, All, IfOk, IsTrue};
+ghost use Rattle.std.specs.HashSet.{IsFromIterResult};
+ghost use Rattle.cmh_graph.specs.Graph.{process_count, site_of};
+ghost use Rattle.cmh_report.specs.Found.{IsFoundOf, IsGroupOf};
+ghost use Rattle.cmh_report.specs.Group.{is_led_by};
+ghost use Rattle.cmh_report.specs.Report.{site_count};
+
+use crate::ReportFault;
+use crate::groups::{Found, is_led_by};
+use cmh_graph::WaitGraph;
+use std::alloc::{AllocError, Global};
+use std::collections::HashSet;
+
+/// What the line of a group says.
+#[derive(Drop)]
+pub(crate) struct Group {
+    pub(crate) number: u32,
+    pub(crate) core: Vec<u32>,
+    pub(crate) rest: Vec<u32>,
+    pub(crate) site_count: usize,
+}
+
+/// The group of a leader. The graph is searched once.
+pub(crate) fn group_of(
+    alloc: Global,
+    graph: &WaitGraph,
+    found: &Found,
+    leader: u32,
+) -> Result<Group, ReportFault>
+    requires within { leader < process_count graph.now }
+    requires found { IsFoundOf graph.now found.now }
+    requires leads { IsTrue (is_led_by found.now.leaders.items leader leader) }
+    ensures { IfOk result (IsGroupOf graph.now leader) }
+{
+    let reach = graph.reach_of(alloc, leader)?;
+    let (core, rest) = core_and_rest(alloc, &found.leaders, leader, &reach)?;
+    let site_count = count_sites(alloc, graph, &reach)?;
+    Ok(Group {
+        number: found.numbers[leader as usize],
+        core,
+        rest,
+        site_count,
+    })
+}
+
+/// The core and the rest of a group, by the processes that its leader reaches.
+fn core_and_rest(
+    alloc: Global,
+    leaders: &[Option<u32>],
+    leader: u32,
+    reach: &[u32],
+) -> Result<(Vec<u32>, Vec<u32>), AllocError>
+    requires { All (λ p. p < length leaders.now) reach.now }
+    ensures core { IfOk result (λ parts.
+        parts.0.items ≡ filter (is_led_by leaders.now leader) reach.now) }
+    ensures rest { IfOk result (λ parts.
+        parts.1.items ≡ filter (λ p. not (is_led_by leaders.now leader p)) reach.now) }
+{
+    let mut core = Vec::new(alloc);
+    let mut rest = Vec::new(alloc);
+    for p in reach {
+        if is_led_by(leaders, leader, *p) {
+            core.push(*p)?;
+        } else {
+            rest.push(*p)?;
+        }
+    }
+    Ok((core, rest))
+}
+
+/// How many different sites the processes are on.
+fn count_sites(alloc: Global, graph: &WaitGraph, list: &[u32]) -> Result<usize, AllocError>
+    requires { All (λ p. p < process_count graph.now) list.now }
+    ensures { IfOk result (λ count. count ≡ site_count graph.now list.now) }
+{
+    Ok(sites_of(alloc, graph, list)?.len())
+}
+
+/// The sites of the processes.
+fn sites_of(alloc: Global, graph: &WaitGraph, list: &[u32]) -> Result<HashSet<u32>, AllocError>
+    requires { All (λ p. p < process_count graph.now) list.now }
+    ensures { IfOk result (IsFromIterResult nat_eq (map (site_of graph.now) list.now)) }
+{
+    list.iter().map(|p| graph.site(*p)).collect(alloc)
+}

@@ -1,0 +1,81 @@
+//! The lines of the report, each appended to the text before it.
+
+ghost use Rattle.std.specs.Prelude.{◌≡◌, ◌++◌, ◌∷◌, [], ◌<◌, All, OnOk, codes, decimal, string_bytes};
+ghost use Rattle.cmh_graph.specs.Graph.{process_count};
+ghost use Rattle.cmh_report.specs.Report.{line, names, names_or_dash, spaced};
+
+use crate::group::Group;
+use cmh_graph::WaitGraph;
+use std::alloc::AllocError;
+
+/// Appends the name of each process after a space.
+fn push_names(text: &mut String, graph: &WaitGraph, list: &[u32]) -> Result<(), AllocError>
+    requires { All (λ p. p < process_count graph.now) list.now }
+    ensures { OnOk result (string_bytes text.new
+        ≡ string_bytes text.old ++ spaced (names graph.now list.now)) }
+{
+    for p in list {
+        text.push(' ')?;
+        text.push_str(graph.name(*p))?;
+    }
+    Ok(())
+}
+
+/// Appends the names, or a dash where there are none.
+fn push_names_or_dash(text: &mut String, graph: &WaitGraph, list: &[u32]) -> Result<(), AllocError>
+    requires { All (λ p. p < process_count graph.now) list.now }
+    ensures { OnOk result (string_bytes text.new
+        ≡ string_bytes text.old ++ spaced (names_or_dash graph.now list.now)) }
+{
+    if list.is_empty() {
+        return text.push_str(" -");
+    }
+    push_names(text, graph, list)
+}
+
+/// Appends the line of a deadlocked process.
+pub(crate) fn push_deadlocked(text: &mut String, name: &str, number: u32) -> Result<(), AllocError>
+    ensures { OnOk result (string_bytes text.new ≡ string_bytes text.old
+        ++ line (codes "deadlocked" ∷ name.now ∷ codes "group" ∷ decimal number ∷ [])) }
+{
+    write!(text, "deadlocked {name} group {number}\n")
+}
+
+/// Appends the line of a free process with this path.
+pub(crate) fn push_free(
+    text: &mut String,
+    graph: &WaitGraph,
+    name: &str,
+    path: &[u32],
+) -> Result<(), AllocError>
+    requires { All (λ p. p < process_count graph.now) path.now }
+    ensures { OnOk result (string_bytes text.new ≡ string_bytes text.old
+        ++ line (codes "free" ∷ name.now ∷ codes "path" ∷ names graph.now path.now)) }
+{
+    write!(text, "free {name} path")?;
+    push_names(text, graph, path)?;
+    text.push('\n')?;
+    Ok(())
+}
+
+/// Appends the line of a group.
+pub(crate) fn push_group(
+    text: &mut String,
+    graph: &WaitGraph,
+    group: &Group,
+) -> Result<(), AllocError>
+    requires core { All (λ p. p < process_count graph.now) group.now.core.items }
+    requires rest { All (λ p. p < process_count graph.now) group.now.rest.items }
+    ensures { OnOk result (string_bytes text.new ≡ string_bytes text.old
+        ++ line (codes "group" ∷ decimal group.now.number
+        ∷ codes "|" ∷ names graph.now group.now.core.items
+        ++ codes "|" ∷ names_or_dash graph.now group.now.rest.items
+        ++ codes "|" ∷ codes "sites" ∷ decimal group.now.site_count ∷ [])) }
+{
+    write!(text, "group {} |", group.number)?;
+    push_names(text, graph, &group.core)?;
+    text.push_str(" |")?;
+    push_names_or_dash(text, graph, &group.rest)?;
+    write!(text, " | sites {}\n", group.site_count)?;
+    Ok(())
+}
