@@ -1,5 +1,5 @@
 -- A tree that is judged stage by stage: its first fault, or the graph that it means.
-use Rattle.std.proofs.Common.{◌≡◌, ℕ, List, ◌++◌, ◌⊎◌, Option, Some, None, Result, Ok, Err, map, sym, ap, subst, ◌∙◌}
+use Rattle.std.proofs.Common.{◌≡◌, ℕ, List, ◌++◌, ◌⊎◌, Option, Some, None, Ok, Err, map, sym, ap, subst, ◌∙◌}
 use Rattle.serde_json.specs.Data.{Data}
 use Rattle.cmh_graph.specs.Build as graph
 use Rattle.cmh_graph.specs.Graph.{Graph}
@@ -20,10 +20,12 @@ module _ (d : Data) where
   abbrev pub Passes : List (List DumpFault) → Type 0
   Passes kinds = first_of (holds d) kinds ≡ None
 
+  -- the first fault in the order of the table refuses the tree
   refused : (f : DumpFault) → first_of (holds d) (in_order d) ≡ Some f → dump_of_tree d ≡ Err f
   unfolding dump_of_tree
   refused f h = ap (λ o. found o (graph_of d)) h
 
+  -- the kinds from those of a stage on, for each stage
   abbrev from_transits : List (List DumpFault)
   from_transits = transit_faults d
 
@@ -39,6 +41,7 @@ module _ (d : Data) where
   abbrev from_sites : List (List DumpFault)
   from_sites = site_faults d ++ from_processes
 
+  -- where no kind of the stages before holds, those from the next stage on decide
   past_top : (o : Option DumpFault) → Passes (top_faults d) → first_of (holds d) from_sites ≡ o → first_of (holds d) (in_order d) ≡ o
   past_top o t later = first_after (holds d) (top_faults d) from_sites t ∙ later
 

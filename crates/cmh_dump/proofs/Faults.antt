@@ -1,10 +1,11 @@
 -- The first fault of a list of faults by number.
-use Rattle.std.proofs.Common.{◌≡◌, ◌≢◌, ℕ, zero, suc, ◌+◌, ◌-◌, ◌<◌, ◌≤◌, List, [], ◌∷◌, ◌++◌, Bool, true, false, cond, Option, Some, None, refl, sym, ap, ◌∙◌, arith}
+use Rattle.std.proofs.Common.{◌≡◌, ℕ, zero, suc, ◌+◌, ◌-◌, ◌<◌, List, [], ◌∷◌, ◌++◌, Bool, true, false, cond, Some, None, refl, sym, ap, ◌∙◌, arith}
 use Rattle.std.specs.Prelude.{find, map}
 use Rattle.std.specs.Option.{option_or}
 use Rattle.cmh_dump.specs.Dump.{below}
 
 module _ {X : Type 0} (test : X → Bool) where
+  -- a search of two lists joined: what the first has, or what the second has
   pub find-append : (xs ys : List X) → find test (xs ++ ys) ≡ option_or (find test xs) (find test ys)
   find-append [] ys = refl
   find-append (x ∷ xs) ys = by (test x) (find-append xs ys)
@@ -13,6 +14,7 @@ module _ {X : Type 0} (test : X → Bool) where
       by true e = refl
       by false e = e
 
+  -- a function over two lists joined
   map-append : (f : ℕ → X) (ms ns : List ℕ) → map f (ms ++ ns) ≡ map f ms ++ map f ns
   map-append f [] ns = refl
   map-append f (m ∷ ms) ns = ap (λ xs. f m ∷ xs) (map-append f ms ns)
@@ -21,6 +23,7 @@ module _ {X : Type 0} (test : X → Bool) where
   last_of : (f : ℕ → X) (n : ℕ) → find test (map f (below (suc n))) ≡ option_or (find test (map f (below n))) (cond (test (f n)) (Some (f n)) None)
   last_of f n = ap (find test) (map-append f (below n) (n ∷ [])) ∙ find-append (map f (below n)) (f n ∷ [])
 
+  -- where none of those below n passes, none is found
   pub none_below : (f : ℕ → X) (n : ℕ) → ((k : ℕ) → k < n → test (f k) ≡ false) → find test (map f (below n)) ≡ None
   none_below f zero h = refl
   none_below f (suc n) h = last_of f n ∙ ap (λ o. option_or o (cond (test (f n)) (Some (f n)) None)) (none_below f n (λ k lt. h k (omega arith))) ∙ ap (λ b. cond b (Some (f n)) None) (h n (omega arith))
@@ -42,6 +45,7 @@ found_at test f n i lt before now =
     let e : suc i + (n - suc i) ≡ n = omega arith in
     ap (λ m. find test (map f (below m))) (sym e) ∙ found_below test f i (n - suc i) before now
 
+-- a function that changes nothing
 map-same : (xs : List ℕ) → map (λ x. x) xs ≡ xs
 map-same [] = refl
 map-same (x ∷ xs) = ap (λ ys. x ∷ ys) (map-same xs)

@@ -4,19 +4,20 @@ use Rattle.std.specs.Prelude.{find, position, flat_map, slice_get, option_map}
 use Rattle.std.specs.List.{range_with_len, position_from}
 use Rattle.std.specs.Option.{option_or}
 use Rattle.std.proofs.lemmas.Iterator.Adapters.{position_from-zero}
-use Rattle.std.proofs.lemmas.List.{length-map}
 use Rattle.cmh_dump.specs.Dump.{below}
 use Rattle.cmh_dump.specs.Read.{first_pair}
 use Rattle.cmh_dump.proofs.Faults.{find-append}
 
 -- ---- numbers below n
 
+-- a range with one number more ends with it
 range-last : (a n : ℕ) → range_with_len a (suc n) ≡ range_with_len a n ++ (a + n) ∷ []
 range-last a zero = ap (λ b. b ∷ []) (omega arith)
 range-last a (suc n) =
     let next : a + 1 + n ≡ a + suc n = omega arith in
     ap (λ ns. a ∷ ns) (range-last (a + 1) n) ∙ ap (λ b. a ∷ range_with_len (a + 1) n ++ b ∷ []) next
 
+-- the numbers below n are a range
 below-range : (n : ℕ) → below n ≡ range_with_len 0 n
 below-range zero = refl
 below-range (suc n) =
@@ -32,12 +33,14 @@ get-map f (x ∷ xs) (suc k) y e = get-map f xs k y e
 -- ---- one index
 
 module _ {X : Type 0} (test : X → Bool) where
+  -- one step of two searches that go together
   one_by : (b c : Bool) (x : X) (F : ℕ → X) (a : ℕ) (o : Option ℕ) (r : Option X) → b ≡ c → x ≡ F a → r ≡ option_map F o → cond b (Some x) r ≡ option_map F (cond c (Some a) o)
   one_by true true x F a o r e s h = ap Some s
   one_by true false x F a o r e s h = absurd cc
   one_by false true x F a o r e s h = absurd cc
   one_by false false x F a o r e s h = h
 
+  -- faults by number, from a on, are searched as the list is
   each_from : {Y : Type 0} (F : ℕ → X) (bad : Y → Bool) (ys : List Y) (a : ℕ) → ((k : ℕ) (y : Y) → slice_get ys k ≡ Some y → test (F (a + k)) ≡ bad y) → find test (map F (range_with_len a (length ys))) ≡ option_map F (position_from bad a ys)
   each_from F bad [] a h = refl
   each_from F bad (y ∷ ys) a h =
@@ -46,6 +49,7 @@ module _ {X : Type 0} (test : X → Bool) where
       (ap (λ b. test (F b)) here ∙ h 0 y refl) refl
       (each_from F bad ys (a + 1) (λ k z e. let next : a + 1 + k ≡ a + suc k = omega arith in ap (λ b. test (F b)) next ∙ h (suc k) z e))
 
+  -- the first fault of a kind stands where the list is first bad
   each_position : {Y : Type 0} (F : ℕ → X) (bad : Y → Bool) (ys : List Y) → ((k : ℕ) (y : Y) → slice_get ys k ≡ Some y → test (F k) ≡ bad y) → find test (map F (below (length ys))) ≡ option_map F (position bad ys)
   each_position F bad ys h =
       ap (λ ns. find test (map F ns)) (below-range (length ys))
@@ -60,10 +64,12 @@ module _ {X : Type 0} (test : X → Bool) where
 
   -- ---- two indices
 
+  -- the first of a row, or of later rows, by two numbers
   pair_by : (F : ℕ → ℕ → X) (a : ℕ) (o : Option ℕ) (later : Option (ℕ × ℕ)) → option_or (option_map (F a) o) (option_map (λ p. F p.0 p.1) later) ≡ option_map (λ p. F p.0 p.1) (option_or (option_map (λ j. (a, j)) o) later)
   pair_by F a None later = refl
   pair_by F a (Some j) later = refl
 
+  -- faults by two numbers, from row a on, are searched row by row
   pairs_from : {Y : Type 0} (F : ℕ → ℕ → X) (row : ℕ → List X) (search : Y → Option ℕ) (ys : List Y) (a : ℕ) → ((k : ℕ) (y : Y) → slice_get ys k ≡ Some y → find test (row (a + k)) ≡ option_map (F (a + k)) (search y)) → find test (flat_map row (range_with_len a (length ys))) ≡ option_map (λ p. F p.0 p.1) (first_pair search a ys)
   pairs_from F row search [] a h = refl
   pairs_from F row search (y ∷ ys) a h =

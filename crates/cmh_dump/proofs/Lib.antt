@@ -8,7 +8,6 @@ pub mod Judged
 pub mod Judging
 pub mod Keys
 pub mod Limits
-pub mod Lookups
 pub mod Members
 pub mod Order
 pub mod Pairs

@@ -38,30 +38,38 @@ process n =
     (member (codes "site") (string (codes "a"))
     (member (codes "state") (string (codes "idle")) no_members))))
 
+-- 4,096 sites are not too many
 most_sites : holds (tree (copies 4096 (string (codes "a"))) no_items) TooManySites ≡ false
 most_sites = refl
 
+-- 4,097 are
 too_many_sites : holds (tree (copies 4097 (string (codes "a"))) no_items) TooManySites ≡ true
 too_many_sites = refl
 
+-- 4,096 processes are judged one by one
 most_processes : dump_of_tree (tree no_items (copies 4096 null)) ≡ Err (BadProcess 0)
 unfolding dump_of_tree
 most_processes = refl
 
+-- 4,097 are not
 too_many_processes : dump_of_tree (tree no_items (copies 4097 null)) ≡ Err TooManyProcesses
 unfolding dump_of_tree
 too_many_processes = refl
 
+-- 65,536 dependents together are not too many
 most_dependencies : holds (tree no_items (item (process 32768) (item (process 32768) no_items))) TooManyDependencies ≡ false
 most_dependencies = refl
 
+-- 65,537 are
 too_many_dependencies : holds (tree no_items (item (process 32768) (item (process 32769) no_items))) TooManyDependencies ≡ true
 too_many_dependencies = refl
 
+-- 4,096 messages are judged one by one
 most_messages : dump_of_tree (tree_of_messages (copies 4096 null)) ≡ Err (BadInTransit 0)
 unfolding dump_of_tree
 most_messages = refl
 
+-- 4,097 are not
 too_many_messages : dump_of_tree (tree_of_messages (copies 4097 null)) ≡ Err TooManyInTransit
 unfolding dump_of_tree
 too_many_messages = refl

@@ -66,6 +66,7 @@ among_below_is f (suc n) x m = by (among_cases x (map f (below n)) (f n ∷ []) 
 
 -- ---- by two numbers, the second below a bound that the first sets
 
+-- the elements by one first number
 abbrev pub row : {X : Type 0} → (ℕ → ℕ → X) → (ℕ → ℕ) → ℕ → List X
 row f m i = map (f i) (below (m i))
 

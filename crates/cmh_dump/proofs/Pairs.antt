@@ -1,5 +1,5 @@
 -- Loops over rows: what is left of them decides.
-use Rattle.std.proofs.Common.{◌≡◌, ℕ, zero, suc, ◌+◌, ◌<◌, ◌≤◌, List, [], ◌∷◌, Bool, true, false, Option, Some, None, length, get_or, drop, nat_lt, refl, sym, ap, ◌∙◌, arith, add-one, drop-cons}
+use Rattle.std.proofs.Common.{◌≡◌, ℕ, zero, suc, ◌+◌, ◌<◌, ◌≤◌, List, [], ◌∷◌, true, false, Option, Some, None, length, get_or, drop, nat_lt, refl, sym, ap, ◌∙◌, arith, add-one, drop-cons}
 use Rattle.std.specs.Prelude.{option_map, sum_by}
 use Rattle.std.specs.Option.{option_or}
 use Rattle.std.proofs.lemmas.Bool.{lt-ltb, le-ltb}
@@ -41,6 +41,7 @@ module _ {Y : Type 0} (size : Y → ℕ) (ys : List Y) where
   abbrev pub RoomIsLeft : ℕ → ℕ → ℕ → Type 0
   RoomIsLeft most room i = sum_by size ys + room ≡ most + sum_by size (drop i ys)
 
+  -- the sizes that are left begin with the next one
   next_total : (i : ℕ) (y : Y) → i < length ys → y ≡ get_or ys i y → sum_by size (drop i ys) ≡ size y + sum_by size (drop (i + 1) ys)
   next_total i y lt is = ap (sum_by size) (drop_next ys i y lt is) ∙ sum_by-cons size y (drop (i + 1) ys)
 

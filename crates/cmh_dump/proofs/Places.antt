@@ -1,12 +1,13 @@
 -- Places of names.
-use Rattle.std.proofs.Common.{◌≡◌, ℕ, suc, ◌+◌, ◌<◌, List, [], ◌∷◌, Bool, true, false, not, ◌||◌, cond, length, get_or, sym, ap, ◌∙◌, arith}
-use Rattle.std.specs.Prelude.{bytes_eq}
+use Rattle.std.proofs.Common.{◌≡◌, ℕ, suc, ◌+◌, ◌<◌, List, [], ◌∷◌, Bool, true, false, not, ◌||◌, cond, Option, Some, None, length, get_or, refl, sym, ap, ◌∙◌, arith}
+use Rattle.std.specs.Prelude.{bytes_eq, unwrap_or}
 use Rattle.std.specs.List.{list_any, position_or_len}
-use Rattle.std.proofs.lemmas.List.Sums.{passes_at_first}
+use Rattle.std.proofs.lemmas.List.Sums.{passes_at_first, prefix_len-le-length}
 use Rattle.std.proofs.lemmas.Slice.Eq.{bytes_eq-Decides}
 use Rattle.std.proofs.lemmas.List.Folds.{list_any_at}
-use Rattle.std.proofs.lemmas.Bool.{false≢true}
+use Rattle.std.proofs.lemmas.Bool.{false≢true, ltb-false}
 use Rattle.cmh_dump.specs.Name.{is_among, place_of}
+use Rattle.cmh_dump.proofs.Indexed.{among}
 
 -- the first place of a list that passes a test is within it where one passes
 first_within : {X : Type 0} (test : X → Bool) (xs : List X) → list_any test xs ≡ true → position_or_len test xs < length xs
@@ -33,3 +34,30 @@ same_from_places names a b p q e = at_place_of names a p ∙ ap (λ k. get_or na
 pub differs : (names : List (List ℕ)) (name : List ℕ) (k : ℕ) → is_among names name ≡ false → k < length names → get_or names k [] ≡ name → ⊥
 differs names name k e l s =
     false≢true (sym e ∙ list_any_at (bytes_eq name) names k [] l ((bytes_eq-Decides name (get_or names k [])).1 (sym s)))
+
+-- ---- as an index answers them
+
+-- the place of a name, where it is among the names
+abbrev pub place_or_none : List (List ℕ) → List ℕ → Option ℕ
+place_or_none names name = cond (is_among names name) (Some (place_of names name)) None
+
+-- a place that is there, by whether the name is among the names
+some_by : (names : List (List ℕ)) (name : List ℕ) (i : ℕ) (b : Bool) → is_among names name ≡ b → Some i ≡ cond b (Some (place_of names name)) None → (i ≡ place_of names name) × (is_among names name ≡ true)
+some_by names name i true e h = (ap (λ o. unwrap_or o i) h, e)
+some_by names name i false e h = absurd cc
+
+-- a place that is found is that of the name, which is among the names
+pub place_is_some : (names : List (List ℕ)) (name : List ℕ) (i : ℕ) → Some i ≡ place_or_none names name → (i ≡ place_of names name) × (is_among names name ≡ true)
+place_is_some names name i h = some_by names name i (is_among names name) refl h
+
+-- no place, by whether the name is among the names
+none_by : (names : List (List ℕ)) (name : List ℕ) (b : Bool) → is_among names name ≡ b → None ≡ cond b (Some (place_of names name)) None → is_among names name ≡ false
+none_by names name true e h = absurd cc
+none_by names name false e h = e
+
+-- where no place is found, the place is past the end
+pub place_is_none : (names : List (List ℕ)) (name : List ℕ) → None ≡ place_or_none names name → place_of names name ≡ length names
+place_is_none names name h =
+    let past = ltb-false (place_of names name) (length names) (among name names ∙ none_by names name (is_among names name) refl h) in
+    let up_to = prefix_len-le-length (λ x. not (bytes_eq name x)) names in
+    omega (arith, past, up_to)

@@ -1,13 +1,15 @@
 -- Reading the names of an array one after the other.
-use Rattle.std.proofs.Common.{◌≡◌, ℕ, zero, suc, ◌+◌, ◌<◌, ◌≤◌, List, [], ◌∷◌, ◌++◌, Bool, true, false, cond, Option, Some, None, map, take, refl, sym, ap, ◌∙◌, arith, Bor, below_more, length, get_or}
+use Rattle.std.proofs.Common.{◌≡◌, ℕ, zero, suc, ◌+◌, ◌<◌, ◌≤◌, List, [], ◌∷◌, ◌++◌, Some, None, map, take, refl, sym, ap, ◌∙◌, arith, Bor, length, get_or}
 use Rattle.std.specs.Prelude.{slice_get, unwrap_or}
 use Rattle.cmh_dump.specs.Texts.{texts}
 
+-- one element more is taken
 pub take-next : {X : Type 0} (xs : List X) (i : ℕ) (x : X) → slice_get xs i ≡ Some x → take (suc i) xs ≡ take i xs ++ x ∷ []
 take-next [] i x e = absurd cc
 take-next (y ∷ ys) zero x e = ap (λ o. unwrap_or o y ∷ []) e
 take-next (y ∷ ys) (suc i) x e = ap (λ zs. y ∷ zs) (take-next ys i x e)
 
+-- the texts of two lists joined
 pub texts-append : (xs ys : List (Bor (List ℕ))) → texts (xs ++ ys) ≡ texts xs ++ texts ys
 texts-append [] ys = refl
 texts-append (x ∷ xs) ys = ap (λ zs. x.now ∷ zs) (texts-append xs ys)
@@ -24,10 +26,12 @@ get-past [] i le = refl
 get-past (x ∷ xs) zero le = absurd (omega (arith, le))
 get-past (x ∷ xs) (suc i) le = get-past xs i (omega (arith, le))
 
+-- a function over a list with one element more
 map-last : {X Y : Type 0} (f : X → Y) (xs : List X) (x : X) → map f (xs ++ x ∷ []) ≡ map f xs ++ f x ∷ []
 map-last f [] x = refl
 map-last f (y ∷ ys) x = ap (λ zs. f y ∷ zs) (map-last f ys x)
 
+-- the element at a place, without a function
 get-at : {X : Type 0} (xs : List X) (i : ℕ) (x : X) → i < length xs → x ≡ get_or xs i x → slice_get xs i ≡ Some x
 get-at [] i x lt e = absurd (omega arith)
 get-at (y ∷ ys) zero x lt e = ap Some (sym e)

@@ -16,9 +16,11 @@ use Rattle.cmh_dump.specs.Entry.{is_pair}
 use Rattle.cmh_dump.specs.Name.{nth}
 use Rattle.cmh_dump.proofs.Taken.{at_place, get-past}
 
+-- UTF-8 that reads as a tree has that tree
 pub tree_is : (bytes : List ℕ) (d : Data) → IsUtf8 bytes → read bytes ≡ Some d → tree_of bytes ≡ Some d
 tree_is bytes d utf8 e = ap (λ b. cond b (read bytes) None) (is_utf8-from_IsUtf8 bytes utf8) ∙ e
 
+-- bytes that are no UTF-8, or do not read, have no tree
 pub no_tree : (bytes : List ℕ) → (IsUtf8 bytes → read bytes ≡ None) → tree_of bytes ≡ None
 no_tree bytes refused = by (is_utf8 bytes) refl
   where
@@ -26,6 +28,7 @@ no_tree bytes refused = by (is_utf8 bytes) refl
     by true e = ap (λ b. cond b (read bytes) None) e ∙ refused (IsUtf8-from_is_utf8 bytes e)
     by false e = ap (λ b. cond b (read bytes) None) e
 
+-- a list as items and back
 list_of-items_of : (ds : List Data) → list_of (items_of ds) ≡ ds
 list_of-items_of [] = refl
 list_of-items_of (d ∷ ds) = ap (λ es. d ∷ es) (list_of-items_of ds)

@@ -1,5 +1,5 @@
 -- The graph of a tree without a fault is well formed.
-use Rattle.std.proofs.Common.{◌≡◌, ◌≢◌, ℕ, zero, suc, ◌<◌, ◌≤◌, List, [], ◌∷◌, true, false, ◌&&◌, ◌⊎◌, inl, inr, map, take, length, get_or, sum, None, Ok, refl, sym, ap, ◌∙◌, subst, arith}
+use Rattle.std.proofs.Common.{◌≡◌, ◌≢◌, ℕ, zero, suc, ◌<◌, ◌≤◌, List, [], ◌∷◌, true, false, ◌&&◌, ◌⊎◌, inl, inr, map, take, length, get_or, sum, None, refl, sym, ap, ◌∙◌, subst, arith}
 use Rattle.std.specs.Prelude.{nat_lt, ◌==◌}
 use Rattle.std.specs.List.{list_all}
 use Rattle.std.proofs.lemmas.Bool.{false_from_ne_true, ltb-false, not-false, and_parts, eqb-true, cases_lt}
@@ -21,11 +21,11 @@ use Rattle.cmh_dump.specs.declared.fault.DumpFault.TheVariants.{TooManyProcesses
 use Rattle.cmh_dump.specs.Name.{is_among, place_of, nth}
 use Rattle.cmh_dump.specs.Tree.{text_of, texts_of, entries_of}
 use Rattle.cmh_dump.specs.Entry.{processes, transits, Entry, nothing, entry_of, entries, entry, names, dependent, is_active_state, is_pair}
-use Rattle.cmh_dump.specs.Dump.{holds, in_order, first_of, process_of, transit_of, place_in_pair, graph_of, dependent_total, dump_of_tree}
+use Rattle.cmh_dump.specs.Dump.{holds, in_order, first_of, process_of, transit_of, place_in_pair, graph_of, dependent_total}
 use Rattle.cmh_dump.specs.FirstFault.{IsOfTree, Has, AreNone, HasDependent, HasTransit, WellFormedLaw}
 use Rattle.cmh_dump.proofs.Places.{place_within, same_from_places, differs}
 use Rattle.cmh_dump.proofs.Table.{none_holds}
-use Rattle.cmh_dump.proofs.FirstFaults.{bytes_have, tree_graph_law, no_fault_law}
+use Rattle.cmh_dump.proofs.FirstFaults.{bytes_have, no_fault_law}
 
 -- no fault of the tree holds
 abbrev pub IsClean : Data → Type 0
@@ -172,12 +172,6 @@ refused_for_memory g w e (inr f) = absurd ((graph_law g).0 w e f.had)
 -- a tree that has no fault is clean
 clean : (d : Data) → AreNone (Has d) → IsClean d
 clean d none fault t = false_from_ne_true (holds d fault) (λ h. none fault (t, h))
-
--- what a tree means is well formed
-pub tree_is_well_formed : (d : Data) (g : graph.Graph) → dump_of_tree d ≡ Ok g → IsWellFormed g
-tree_is_well_formed d g e =
-    let r = (tree_graph_law d g).0 e in
-    subst IsWellFormed (sym r.1) (clean_is_well_formed d (clean d r.0))
 
 -- what bytes mean is well formed
 pub well_formed_law : WellFormedLaw

@@ -29,7 +29,8 @@ first_pair search i (y ∷ ys) =
 
 -- the places of a message's sender and receiver among the names of the processes
 abbrev pub places_in_pair : List (List ℕ) → Data → ℕ × ℕ
-places_in_pair names t = (place_of names (nth (texts_of t) 0 []), place_of names (nth (texts_of t) 1 []))
+places_in_pair names t =
+    (place_of names (nth (texts_of t) 0 []), place_of names (nth (texts_of t) 1 []))
 
 -- a process by indices, from the names of the sites and of the processes
 abbrev pub process_by : List (List ℕ) → List (List ℕ) → Entry → Process

@@ -46,9 +46,6 @@ pub fn read_dump(alloc: Global, bytes: &[u8]) -> Result<WaitGraph, DumpFault>
     if bytes.len() > MAX_BYTES {
         return Err(DumpFault::TooLong);
     }
-    let tree = match tree_of(alloc, bytes) {
-        Ok(tree) => tree,
-        Err(e) => return Err(e),
-    };
+    let tree = tree_of(alloc, bytes)?;
     read_tree(alloc, &tree)
 }

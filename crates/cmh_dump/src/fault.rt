@@ -21,8 +21,8 @@ pub enum DumpFault {
     /// The bytes are no JSON text.
     #[error("not JSON")]
     NotJson,
-    /// The text is no object with just the keys of its version, of which `sites`, `processes` and, in
-    /// version 2, `in_transit` are arrays.
+    /// The text is no object with just the keys of its version, of which `sites`, `processes` and,
+    /// in version 2, `in_transit` are arrays.
     #[error("bad top")]
     BadTop,
     /// The version is neither 1 nor 2.

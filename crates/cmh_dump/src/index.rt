@@ -34,8 +34,7 @@ pub(crate) fn index_of<'v>(
 {
     let mut index = IndexSet::new(alloc);
     for (i, name) in names.iter().enumerate() {
-        let name = *name;
-        let (_, is_new) = index.insert_full(name)?;
+        let (_, is_new) = index.insert_full(*name)?;
         if !is_new {
             return Err(IndexFault::Repeated(i));
         }

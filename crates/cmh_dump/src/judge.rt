@@ -120,7 +120,8 @@ pub(crate) fn index_names<'v>(
 
 /// The place of the first process whose site is not among the sites.
 fn first_unknown_site(entries: &[Entry<'_>], sites: &IndexSet<&str>) -> Option<usize>
-    ensures { result ≡ position (λ e. not (is_among (texts sites.now.keys) e.site.now)) entries.now }
+    ensures { result ≡ position
+        (λ e. not (is_among (texts sites.now.keys) e.site.now)) entries.now }
 {
     entries
         .iter()

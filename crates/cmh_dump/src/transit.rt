@@ -41,7 +41,8 @@ fn first_bad_pair(messages: &[Value]) -> Option<usize>
 }
 
 fn are_known(names: &IndexSet<&str>, values: &[Value]) -> bool
-    ensures { result ≡ list_all (λ v. is_among (texts names.now.keys) (text_of (view v))) values.now }
+    ensures { result ≡ list_all
+        (λ v. is_among (texts names.now.keys) (text_of (view v))) values.now }
 {
     values.iter().all(|value| is_known(names, text_in(value)))
 }

@@ -22,13 +22,8 @@ pub(crate) fn tree_of(alloc: Global, bytes: &[u8]) -> Result<Value, DumpFault>
 {
     match Value::from_slice(alloc, bytes) {
         Ok(value) => Ok(value),
-        Err(e) => {
-            if e.is_memory() {
-                Err(DumpFault::Memory)
-            } else {
-                Err(DumpFault::NotJson)
-            }
-        }
+        Err(e) if e.is_memory() => Err(DumpFault::Memory),
+        Err(_) => Err(DumpFault::NotJson),
     }
 }
 
@@ -120,7 +115,7 @@ pub(crate) fn is_number_at(value: &Value, key: &str, number: u64) -> bool
 fn has_each(value: &Value, words: &[&str]) -> bool
     ensures { result ≡ list_all (λ k. has_key k.now (view value.now)) words.now }
 {
-    words.iter().all(|word| value.get(*word).is_some())
+    words.iter().all(|word| has_member(value, word))
 }
 
 fn is_one_of(key: &str, words: &[&str]) -> bool

@@ -1,6 +1,5 @@
-use Rattle.std.proofs.Common.{◌≡◌}
 use Rattle.cmh_dump.specs.Texts.{texts}
-use Rattle.cmh_dump.proofs.Indexed.{no_repeat, repeat_found, repeat_of}
+use Rattle.cmh_dump.proofs.Indexed.{no_repeat, repeat_found}
 use Rattle.cmh_dump.proofs.index.first_repeat.Goals as goal
 use Rattle.cmh_dump.proofs.index.first_repeat.Goals.{in-Ok, in-Err-Memory, in-Err-Repeated}
 

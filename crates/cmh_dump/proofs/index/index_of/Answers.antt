@@ -1,5 +1,4 @@
 use Rattle.std.proofs.Common.{[]}
-use Rattle.cmh_dump.specs.Texts.{texts}
 use Rattle.cmh_dump.proofs.Indexed.{repeated, not_repeated}
 use Rattle.cmh_dump.proofs.index.index_of.Goals as goal
 

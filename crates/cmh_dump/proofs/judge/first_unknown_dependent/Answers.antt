@@ -1,4 +1,4 @@
-use Rattle.std.proofs.Common.{◌≡◌, not, sym, ◌∙◌, ap}
+use Rattle.std.proofs.Common.{not, sym, ◌∙◌, ap}
 use Rattle.std.specs.Prelude.{position}
 use Rattle.cmh_dump.specs.Name.{is_among}
 use Rattle.cmh_dump.specs.Texts.{texts}

@@ -1,4 +1,4 @@
-use Rattle.std.proofs.Common.{◌≡◌, ap, ◌∙◌}
+use Rattle.std.proofs.Common.{ap, ◌∙◌}
 use Rattle.cmh_dump.specs.Texts.{texts}
 use Rattle.cmh_dump.proofs.Indexed.{repeat_of}
 use Rattle.cmh_dump.proofs.Judged.{names_seen, name_repeated, names_judged}

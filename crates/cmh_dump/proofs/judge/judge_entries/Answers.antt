@@ -1,4 +1,4 @@
-use Rattle.std.proofs.Common.{◌≡◌, sym, ◌∙◌}
+use Rattle.std.proofs.Common.{sym, ◌∙◌}
 use Rattle.cmh_dump.specs.Texts.{texts}
 use Rattle.cmh_dump.proofs.Judged.{site_unknown, dependent_unknown, dependent_repeated, active_waits, dependencies_many, entries_judged}
 use Rattle.cmh_dump.proofs.judge.judge_entries.Goals as goal

@@ -1,4 +1,4 @@
-use Rattle.std.proofs.Common.{◌≡◌, ℕ, ◌≤◌, ◌<◌, List, not, length, ap, sym, ◌∙◌, subst, arith}
+use Rattle.std.proofs.Common.{ℕ, ◌≤◌, ◌<◌, List, not, length, ap, sym, ◌∙◌, subst, arith}
 use Rattle.std.specs.Prelude.{position}
 use Rattle.serde_json.specs.View.{view}
 use Rattle.cmh_dump.specs.declared.TheConstants.{MAX_SITES}

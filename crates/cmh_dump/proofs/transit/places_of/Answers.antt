@@ -1,4 +1,4 @@
-use Rattle.std.proofs.Common.{◌≡◌, ◌∷◌, ◌++◌, [], ap, sym, ◌∙◌}
+use Rattle.std.proofs.Common.{◌∷◌, ◌++◌, [], ap, sym, ◌∙◌}
 use Rattle.serde_json.specs.View.{view}
 use Rattle.cmh_dump.specs.Name.{place_of}
 use Rattle.cmh_dump.specs.Read.{places_in_pair}

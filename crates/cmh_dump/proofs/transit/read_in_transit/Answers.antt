@@ -1,6 +1,5 @@
-use Rattle.std.proofs.Common.{◌≡◌, ◌≤◌, map, length, ap, sym, ◌∙◌, arith}
+use Rattle.std.proofs.Common.{map, ap, sym, ◌∙◌}
 use Rattle.serde_json.specs.View.{view}
-use Rattle.cmh_graph.specs.declared.TheConstants.{MAX_IN_TRANSIT}
 use Rattle.cmh_dump.specs.Read.{places_in_pair}
 use Rattle.cmh_dump.specs.Texts.{texts}
 use Rattle.cmh_dump.proofs.Judged.{transit_bad, transit_unknown, transits_judged}
