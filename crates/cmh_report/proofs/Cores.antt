@@ -15,6 +15,7 @@ use Rattle.cmh_graph.proofs.Listing.{filter_agree_on}
 use Rattle.cmh_graph.proofs.Reaching.{reaches_then, then_reaches, index_within}
 use Rattle.cmh_graph.proofs.Verdicts.{asleep_is_idle, filter_contains, idle_within, reaches_more, test_then, then_test}
 
+-- what lies along a path from a reached process is reached
 reaches_along : (g : Graph) (p q : ℕ) (rest : List ℕ) (r : ℕ) → Reaches g p q → Leads g q rest r → Reaches g p r
 reaches_along g p q [] r a e = subst (λ z. Reaches g p z) e a
 reaches_along g p q (s ∷ rest) r a l = reaches_along g p s rest r (reaches_more g p q s a l.0) l.1
@@ -100,6 +101,7 @@ leader_in_core g p w i =
     let some : 0 < length (core_of g p) = omega (arith, own.1) in
     (zero, some, get_or_default (core_of g p) 0 (leader_of g p) 0 some)
 
+-- places rise
 rising : (n : ℕ) → AllPairs (λ x y. x < y) (range_with_len 0 n)
 rising n i j d l k =
     let within : j < n = omega (arith, length-range_with_len 0 n) in
@@ -107,6 +109,7 @@ rising n i j d l k =
     let second : get_or (range_with_len 0 n) j d ≡ 0 + j = get_or-range_with_len 0 n j d within in
     omega arith
 
+-- the first of rising numbers is the least
 first_least : (xs : List ℕ) (q : ℕ) → AllPairs (λ x y. x < y) xs → Contains xs q → get_or xs 0 0 ≤ q
 first_least xs q pairs (zero, l, e) = omega (arith, get_or_default xs 0 q 0 l)
 first_least xs q pairs (suc k, l, e) =

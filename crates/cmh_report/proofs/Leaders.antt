@@ -23,6 +23,7 @@ leader_of_leader g p w e =
     let c = leader_in_core g p w i in
     (core_deadlocked g p (leader_of g p) w e c, sym (same_leader g p (leader_of g p) w i c))
 
+-- a bound raised by one lets in the bound alone
 below_by : (dead : Bool) (leader bound : ℕ) → (dead ≡ true → leader ≢ bound) → cond (dead && ltb leader bound) (Some leader) None ≡ cond (dead && ltb leader (bound + 1)) (Some leader) None
 below_by false leader bound h = refl
 below_by true leader bound h =
@@ -75,9 +76,11 @@ leads_more leader i members old list l k h = record {
 
 -- ---- all leaders
 
+-- a deadlocked process whose leader is below the bound has it
 below_yes : (dead : Bool) (leader bound : ℕ) → dead ≡ true → leader < bound → cond (dead && ltb leader bound) (Some leader) None ≡ Some leader
 below_yes dead leader bound e l = rw (e, lt-ltb leader bound l) refl
 
+-- one that has a leader has it below the bound
 below_some : (dead : Bool) (leader bound : ℕ) → is_some (cond {A = Option ℕ} (dead && ltb leader bound) (Some leader) None) ≡ true → leader < bound
 below_some false leader bound e = cc
 below_some true leader bound e = below_some_by (ltb leader bound) leader bound refl e
@@ -98,6 +101,7 @@ leaders_size g bound list are = ap length are ∙ length-by_index g (leader_belo
 pub leader_read : (g : Graph) (bound p : ℕ) (list : List (Option ℕ)) → AreLeadersBelow g bound list → p < process_count g → leader_at list p ≡ leader_below g bound p
 leader_read g bound p list are i = by_index g (leader_below g bound) list p None are i
 
+-- nobody is below zero
 none_below : (leader : ℕ) (b : Bool) → ltb leader 0 ≡ b → None ≡ cond {A = Option ℕ} b (Some leader) None
 none_below leader true e = absurd (omega (arith, ltb-true leader 0 e))
 none_below leader false e = refl
@@ -129,6 +133,7 @@ unfolding leader_below
 leaders_led g p list w i are e =
     leaders_kept g p list are (led_leads_nobody g p w (below_some (is_deadlocked g p) (leader_of g p) p (ap is_some (sym (leader_read g p p list are i)) ∙ e)))
 
+-- a leader that is no greater than p, and not below p, is p
 led_by_itself_by : (leader p : ℕ) (b : Bool) → ltb leader p ≡ b → leader ≤ p → cond {A = Option ℕ} b (Some leader) None ≡ None → leader ≡ p
 led_by_itself_by leader p true f l e = cc
 led_by_itself_by leader p false f l e = elim (cases_eq leader p) [
@@ -143,6 +148,7 @@ led_by_itself g p w e none =
     let i = deadlocked_within g p w e in
     led_by_itself_by (leader_of g p) p (ltb (leader_of g p) p) refl (leader_least g p p (in_own_core g p w i)) (rw e at none)
 
+-- a process is deadlocked and led by p, or it is not led by p
 cases_led : (g : Graph) (p q : ℕ) (b : Bool) → is_deadlocked g q ≡ b → ((b ≡ true) × (leader_of g q ≡ p)) ⊎ (b ≡ true → leader_of g q ≢ p)
 cases_led g p q false e = inr (λ f. cc)
 cases_led g p q true e = elim (cases_eq (leader_of g q) p) [ inl same ↦ inl (refl, same) | inr other ↦ inr (λ f. other) ]
@@ -180,6 +186,7 @@ leaders_all g bound list w l are =
 
 -- ---- the step of the search for leaders
 
+-- the word of a verdict is its test
 says_chosen : (b : Bool) → says_deadlocked (cond b Deadlocked Free) ≡ b
 says_chosen true = refl
 says_chosen false = refl
@@ -188,11 +195,13 @@ says_chosen false = refl
 pub says_at : (g : Graph) (known : List Verdict) (p : ℕ) → known ≡ verdicts g → p < process_count g → is_deadlocked_at known p ≡ is_deadlocked g p
 says_at g known p are i = ap says_deadlocked (verdict_at g known p Free are i) ∙ says_chosen (is_deadlocked g p)
 
+-- what a new leader passes
 new_leader_by : (dead : Bool) (o : Option ℕ) → (dead && is_none o) ≡ true → (dead ≡ true) × (o ≡ None)
 new_leader_by false o e = cc
 new_leader_by true (Some l) e = cc
 new_leader_by true None e = (refl, refl)
 
+-- what any other process fails
 no_leader_by : (dead : Bool) (o : Option ℕ) → (dead && is_none o) ≡ false → (dead ≡ false) ⊎ (is_some o ≡ true)
 no_leader_by false o e = inl refl
 no_leader_by true (Some l) e = inr refl

@@ -27,16 +27,19 @@ leaders_below g n = filter (leads_itself g) (range_with_len 0 n)
 
 -- ---- how many leaders there are up to a place
 
+-- the leaders up to p, among one process more
 kept_more : (t : ℕ → Bool) (p n : ℕ) (b : Bool) → t n ≡ b → count_by (λ q. leb q p) (filter t (range_with_len 0 (n + 1))) ≡ count_by (λ q. leb q p) (filter t (range_with_len 0 n)) + cond b (cond (leb n p) 1 0) 0
 kept_more t p n true e =
     ap (count_by (λ q. leb q p)) (filter_indices_kept t n e)
     ∙ omega (arith, sum_by-append (λ q. cond {A = ℕ} (leb q p) 1 0) (filter t (range_with_len 0 n)) (n ∷ []))
 kept_more t p n false e = ap (count_by (λ q. leb q p)) (filter_indices_passed t n e) ∙ omega arith
 
+-- the length of a filter of one place more
 length_more : (t : ℕ → Bool) (n : ℕ) (b : Bool) → t n ≡ b → length (filter t (range_with_len 0 (n + 1))) ≡ length (filter t (range_with_len 0 n)) + cond b 1 0
 length_more t n true e = ap length (filter_indices_kept t n e) ∙ length-append (filter t (range_with_len 0 n)) (n ∷ [])
 length_more t n false e = ap length (filter_indices_passed t n e) ∙ omega arith
 
+-- all that are kept below p + 1 are up to p
 low : (t : ℕ → Bool) (p n : ℕ) → n ≤ p + 1 → count_by (λ q. leb q p) (filter t (range_with_len 0 n)) ≡ length (filter t (range_with_len 0 n))
 low t p zero l = refl
 low t p (suc n) l =
@@ -47,10 +50,12 @@ low t p (suc n) l =
     ∙ ap (λ k. k + cond (t n) 1 0) (low t p n (omega arith))
     ∙ sym (length_more t n (t n) refl))
 
+-- what is greater than p is not up to p
 above : (n p : ℕ) → p < n → (b : Bool) → leb n p ≡ b → b ≡ false
 above n p l true e = let z : n ≤ p = leb-true n p e in absurd (omega arith)
 above n p l false e = refl
 
+-- and none that is kept from p + 1 on
 high : (t : ℕ → Bool) (p m : ℕ) → count_by (λ q. leb q p) (filter t (range_with_len 0 ((p + 1) + m))) ≡ length (filter t (range_with_len 0 (p + 1)))
 high t p zero =
     let same : p + 1 ≡ (p + 1) + 0 = omega arith in
@@ -86,6 +91,7 @@ leaders_few g n =
 
 -- ---- the table of leaders
 
+-- the test of the table, by cases of the process
 led_by : (dead : Bool) (leader l : ℕ) → option_eq eqb (cond {A = Option ℕ} dead (Some leader) None) (Some l) ≡ (dead && eqb leader l)
 led_by true leader l = refl
 led_by false leader l = refl
@@ -95,6 +101,7 @@ pub led_test : (g : Graph) (list : List (Option ℕ)) (l p : ℕ) → list ≡ m
 unfolding group_leader
 led_test g list l p are i = ap (λ o. option_eq eqb o (Some l)) (by_index g (group_leader g) list p None are i) ∙ led_by (is_deadlocked g p) (leader_of g p) l
 
+-- both parts of a true conjunction are true
 both_true : (a b : Bool) → (a && b) ≡ true → (a ≡ true) × (b ≡ true)
 both_true true b e = (refl, e)
 both_true false b e = cc
@@ -105,10 +112,12 @@ own_number g list l are i leads =
     let itself = both_true (is_deadlocked g l) (eqb (leader_of g l) l) (sym (led_test g list l l are i) ∙ leads) in
     ap (leaders_up_to g) (sym (eqb-true (leader_of g l) l itself.1)) ∙ number_is g l
 
+-- the same for a test and a leader
 leader_known_by : (dead : Bool) (leader l : ℕ) → cond {A = Option ℕ} dead (Some leader) None ≡ Some l → (dead ≡ true) × (leader ≡ l)
 leader_known_by true leader l e = (refl, cc)
 leader_known_by false leader l e = cc
 
+-- the same for a test and a leader
 no_leader_by : (dead : Bool) (leader : ℕ) → cond {A = Option ℕ} dead (Some leader) None ≡ None → dead ≡ false
 no_leader_by true leader e = cc
 no_leader_by false leader e = refl

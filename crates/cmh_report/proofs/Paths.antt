@@ -6,11 +6,13 @@ use Rattle.cmh_graph.specs.Graph.{Graph, process_count, IsWithinGraph}
 use Rattle.cmh_graph.proofs.Choosing.{chosen_path_law}
 use Rattle.cmh_graph.proofs.Reaching.{AllBelow, within}
 
+-- the two ways to say that all are below the bound agree
 all_below : (n : ℕ) (xs : List ℕ) → AllBelow n xs → All (λ q. q < n) xs
 all_below n [] a k d l = absurd (omega arith)
 all_below n (x ∷ xs) a zero d l = a.0
 all_below n (x ∷ xs) a (suc k) d l = all_below n xs a.1 k d (omega arith)
 
+-- a way out goes along processes of the graph
 way_within : (g : Graph) (p : ℕ) (path : List ℕ) → IsWithinGraph g → p < process_count g → IsWayOut g p path → All (λ q. q < process_count g) path
 way_within g p [] w i (q, awake, e) = absurd e
 way_within g p (x ∷ rest) w i (q, awake, (e, leads)) =

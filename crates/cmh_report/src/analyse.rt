@@ -36,9 +36,7 @@ fn report_on(alloc: Global, graph: &WaitGraph) -> Result<Report, ReportFault>
     ensures text { IfOk result (λ r. string_bytes r.text ≡ report_text graph.now) }
     ensures deadlocked { IfOk result (λ r. r.deadlocked ≡ deadlocked_count graph.now) }
 {
-    let Ok(known) = graph.verdicts_plain(alloc) else {
-        return Err(ReportFault::Memory);
-    };
+    let known = graph.verdicts_plain(alloc)?;
     let text = report(alloc, graph, &known)?;
     Ok(Report {
         text,
@@ -46,8 +44,9 @@ fn report_on(alloc: Global, graph: &WaitGraph) -> Result<Report, ReportFault>
     })
 }
 
-/// Reads a dump from the source up to its end, writes its report to the sink, and
-/// answers how many processes are deadlocked. Nothing is written before the whole text is ready.
+/// Reads a dump from the source up to its end, writes its report to the sink, and answers how many
+/// processes are deadlocked. Nothing is written before the whole text is ready. The cost is that of
+/// `report`, and close to linear in the bytes of the dump besides.
 ///
 /// # Errors
 ///
