@@ -1,0 +1,85 @@
+-- What one process does at a start, at a query and at a reply: how it is afterwards, and its action.
+use Rattle.std.specs.Prelude.{◌≡◌, ℕ, ◌+◌, ◌-◌, ◌<◌, Bool, true, false, ◌&&◌, ◌==◌, nat_lt, if◌then◌else◌, Option, Some, None}
+use Rattle.cmh_process.specs.declared.process.Proc.{Proc}
+use Rattle.cmh_process.specs.declared.process.Action.{Action}
+use Rattle.cmh_process.specs.declared.process.Action.TheVariants.{Nothing, Engage, ReplyTo, Declare}
+
+-- a process that has heard of no computation
+abbrev pub fresh : Proc
+fresh = record { latest = 0; engager = None; num = 0; wait = false }
+
+-- the initiator takes its next number, and waits for this many replies
+abbrev pub proc_started : Proc → ℕ → Proc
+proc_started p size = record {
+  latest = p.latest + 1;
+  engager = None;
+  num = size;
+  wait = true;
+}
+
+-- with nobody to ask it is deadlocked at once
+abbrev pub start_action : ℕ → Action
+start_action size = if size == 0 then Declare else Engage
+
+-- a query with this number is news to it, so it engages
+abbrev pub engages : Proc → ℕ → Bool
+engages p number = nat_lt p.latest number
+
+-- it belongs to the computation now, and waits for this many replies
+abbrev pub proc_engaged : ℕ → ℕ → ℕ → Proc
+proc_engaged number from size = record {
+  latest = number;
+  engager = Some from;
+  num = size;
+  wait = true;
+}
+
+-- with nobody to ask it replies at once
+abbrev pub engage_action : ℕ → ℕ → Action
+engage_action from size = if size == 0 then ReplyTo from else Engage
+
+-- a query with this number has come from this process; size is how many dependents there are
+abbrev pub proc_queried : Proc → ℕ → ℕ → ℕ → Proc
+proc_queried p number from size = if engages p number then proc_engaged number from size else p
+
+-- a query that doesn't engage it is answered where it is of the computation in which it waits
+abbrev pub repeat_action : Proc → ℕ → ℕ → Action
+repeat_action p number from = if p.wait && p.latest == number then ReplyTo from else Nothing
+
+abbrev pub query_action : Proc → ℕ → ℕ → ℕ → Action
+query_action p number from size =
+    if engages p number then engage_action from size else repeat_action p number from
+
+-- a reply with this number is one for which it waits
+abbrev pub counts : Proc → ℕ → Bool
+counts p number = p.wait && (p.latest == number && nat_lt 0 p.num)
+
+-- one reply fewer to wait for
+abbrev pub lowered : Proc → Proc
+lowered p = record { latest = p.latest; engager = p.engager; num = p.num - 1; wait = p.wait }
+
+-- a reply with this number has come
+abbrev pub proc_replied : Proc → ℕ → Proc
+proc_replied p number = if counts p number then lowered p else p
+
+-- once the last reply has come: the initiator alone has no engager
+abbrev pub last_action : Option ℕ → Action
+last_action None = Declare
+last_action (Some engager) = ReplyTo engager
+
+abbrev pub reply_action : Proc → ℕ → Action
+reply_action p number =
+    if counts p number
+    then (if p.num == 1 then last_action p.engager else Nothing)
+    else Nothing
+
+-- neither a query nor a reply with this number changes the process, nor makes it send
+pub record IsUnmoved (p : Proc) (number from size : ℕ) : Type 0 where
+  pub at_query : proc_queried p number from size ≡ p
+  pub no_answer : query_action p number from size ≡ Nothing
+  pub at_reply : proc_replied p number ≡ p
+  pub no_word : reply_action p number ≡ Nothing
+
+-- a message numbered below the latest changes nothing and sends nothing
+abbrev pub StaleLaw : Type 0
+StaleLaw = (p : Proc) (number from size : ℕ) → number < p.latest → IsUnmoved p number from size

@@ -1,0 +1,17 @@
+//! What one process does in a query computation of K. M. Chandy, J. Misra and L. M. Haas,
+//! "Distributed Deadlock Detection", ACM TOCS 1(2), 1983, in their communication model.
+//!
+//! An initiator asks the processes of its dependent set whether they can still send. A process that
+//! is asked for the first time asks on, and replies once all its dependents have. An initiator that
+//! has all its replies is deadlocked.
+#![tactic(auto)]
+
+mod laws;
+mod message;
+mod process;
+#[cfg(test)]
+mod tests;
+
+pub use laws::law_stale;
+pub use message::{Kind, Message};
+pub use process::{Action, Proc};
