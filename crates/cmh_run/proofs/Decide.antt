@@ -1,0 +1,42 @@
+-- Without hints the choices leave one run.
+use Rattle.std.proofs.Common.{◌≡◌, ℕ, ◌%◌, List, [], ◌∷◌, length, slice_get, slice_index, Option, Some, None, refl, sym, ◌∙◌, ap, ap₂, subst}
+use Rattle.std.proofs.lemmas.Bool.{eqb-true}
+use Rattle.std.proofs.lemmas.Option.{same_Some}
+use Rattle.cmh_process.specs.declared.message.Message.{Message}
+use Rattle.cmh_graph.specs.declared.verdict.Verdict.{Verdict}
+use Rattle.cmh_run.specs.declared.delivery.Delivery.{Delivery}
+use Rattle.cmh_run.specs.declared.delivery.Ending.{Ending}
+use Rattle.cmh_run.specs.declared.delivery.Ending.TheVariants.{Declared, AtRest, CutFree}
+use Rattle.cmh_graph.specs.Graph.{Graph}
+use Rattle.cmh_run.specs.Config.{Config}
+use Rattle.cmh_run.specs.Legal.{Going, begun, ready, after, MayCome, Leads, EndsAs}
+use Rattle.cmh_run.specs.Choices.{chosen_place, HasNoHints, ChoicesDecide}
+
+none_some : {A : Type 0} {m : A} → None ≡ Some m → ⊥
+none_some h = cc
+
+over : (g : Graph) (c : Config) (x : ℕ) (d : Delivery) (ending : Ending) → EndsAs c ending → MayCome g c x d → ⊥
+over g c x d Declared e may = none_some (sym may.going ∙ e)
+over g c x d (CutFree k) e may = none_some (sym may.going ∙ e)
+over g c x d AtRest e may = none_some (ap (λ (bag : List Message). slice_get bag x) (sym e.1) ∙ may.there)
+
+decides : (choices : List ℕ) (g : Graph) (i : ℕ) (log other : List Delivery) (s end far : Going) (ending last : Ending)
+    → Leads (chosen_place choices) g i s log end → Leads (chosen_place choices) g i s other far → EndsAs end.config ending → EndsAs far.config last
+    → HasNoHints log → HasNoHints other → (log ≡ other) × (end ≡ far)
+decides choices g i [] [] s end far ending last l k e f a b = (refl, sym l ∙ k)
+decides choices g i [] (d ∷ other) s end far ending last l k e f a b =
+    absurd (over g (ready g i s).config k.0 d ending (subst (λ (t : Going). EndsAs t.config ending) (sym l) e) k.1)
+decides choices g i (d ∷ log) [] s end far ending last l k e f a b =
+    absurd (over g (ready g i s).config l.0 d last (subst (λ (t : Going). EndsAs t.config last) (sym k) f) l.1)
+decides choices g i (d ∷ log) (h ∷ other) s end far ending last l k e f a b =
+    let place : l.0 ≡ k.0 = eqb-true l.0 (slice_index choices s.done % length (ready g i s).config.bag) l.2 ∙ sym (eqb-true k.0 (slice_index choices s.done % length (ready g i s).config.bag) k.2) in
+    let message : d.message ≡ h.message = same_Some d.message h.message (sym l.1.there ∙ ap (λ (x : ℕ). slice_get (ready g i s).config.bag x) place ∙ k.1.there) in
+    let same : d ≡ h = ap₂ (λ (m : Message) (v : Option Verdict). let r : Delivery = record { message = m; hint = v } in r) message (a.0 ∙ sym b.0) in
+    let next : after g i (ready g i s) l.0 d ≡ after g i (ready g i s) k.0 h = ap₂ (λ (x : ℕ) (y : Delivery). after g i (ready g i s) x y) place same in
+    let rest = decides choices g i log other (after g i (ready g i s) l.0 d) end far ending last l.3
+    (subst (λ (t : Going). Leads (chosen_place choices) g i t other far) (sym next) k.3) e f a.1 b.1 in
+    (ap₂ (λ (x : Delivery) (xs : List Delivery). x ∷ xs) same rest.0, rest.1)
+
+pub choices_decide : ChoicesDecide
+choices_decide choices g i restarts log other ending last end far r t a b =
+    decides choices g i log other (begun g i restarts) end far ending last r.leads t.leads r.ends t.ends a b

@@ -1,0 +1,10 @@
+pub mod Bag
+pub mod Bound
+pub mod Decide
+pub mod Live
+pub mod Paths
+pub mod Right
+pub mod Sound
+pub mod Steps
+pub mod Tally
+pub mod Theorem

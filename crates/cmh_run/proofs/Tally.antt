@@ -1,0 +1,59 @@
+-- How often a number stands in a list.
+use Rattle.std.proofs.Common.{◌≡◌, ℕ, zero, suc, ◌+◌, ◌<◌, ◌≤◌, Bool, true, false, cond, eqb, List, [], ◌∷◌, length, get_or, Contains, refl, arith}
+use Rattle.std.proofs.lemmas.Bool.{eqb-true, eq-eqb}
+
+abbrev pub one_if : Bool → ℕ
+one_if b = cond b 1 0
+
+abbrev pub tally : ℕ → List ℕ → ℕ
+tally r [] = 0
+tally r (y ∷ ys) = one_if (eqb y r) + tally r ys
+
+-- the list without the first r
+abbrev pub without_one : ℕ → List ℕ → List ℕ
+without_one r [] = []
+without_one r (y ∷ ys) = cond (eqb y r) ys (y ∷ without_one r ys)
+
+pub tally-le-length : (r : ℕ) (ys : List ℕ) → tally r ys ≤ length ys
+tally-le-length r [] = omega arith
+tally-le-length r (y ∷ ys) = step (eqb y r) (tally-le-length r ys)
+  where
+    step : (b : Bool) → tally r ys ≤ length ys → one_if b + tally r ys ≤ suc (length ys)
+    step true h = omega arith
+    step false h = omega arith
+
+pub length-without_one : (r : ℕ) (ys : List ℕ) → 0 < tally r ys → length (without_one r ys) + 1 ≡ length ys
+length-without_one r [] h = omega arith
+length-without_one r (y ∷ ys) h = step (eqb y r) h (length-without_one r ys)
+  where
+    step : (b : Bool) → 0 < one_if b + tally r ys → (0 < tally r ys → length (without_one r ys) + 1 ≡ length ys) → length (cond b ys (y ∷ without_one r ys)) + 1 ≡ suc (length ys)
+    step true h ih = omega arith
+    step false h ih = omega (arith, ih (omega arith))
+
+pub tally-without_one : (r x : ℕ) (ys : List ℕ) → 0 < tally r ys → tally x (without_one r ys) + one_if (eqb r x) ≡ tally x ys
+tally-without_one r x [] h = omega arith
+tally-without_one r x (y ∷ ys) h = step (eqb y r) refl h (tally-without_one r x ys)
+  where
+    step : (b : Bool) → eqb y r ≡ b → 0 < one_if b + tally r ys → (0 < tally r ys → tally x (without_one r ys) + one_if (eqb r x) ≡ tally x ys) → tally x (cond b ys (y ∷ without_one r ys)) + one_if (eqb r x) ≡ one_if (eqb y x) + tally x ys
+    step true e h ih = let same : y ≡ r = eqb-true y r e in rw (← same) (omega arith)
+    step false e h ih = omega (arith, ih (omega arith))
+
+pub some_tally : (ys : List ℕ) → 0 < length ys → (r : ℕ) × (0 < tally r ys)
+some_tally [] h = absurd (omega arith)
+some_tally (y ∷ ys) h = (y, rw (eq-eqb y y refl) (omega arith))
+
+pub tally_at : (r k : ℕ) (ys : List ℕ) → k < length ys → get_or ys k r ≡ r → 0 < tally r ys
+tally_at r k [] h e = absurd (omega arith)
+tally_at r zero (y ∷ ys) h e = rw (eq-eqb y r e) (omega arith)
+tally_at r (suc k) (y ∷ ys) h e = omega (arith, tally_at r k ys (omega arith) e)
+
+pub tally_from_contains : (r : ℕ) (ys : List ℕ) → Contains ys r → 0 < tally r ys
+tally_from_contains r ys c = tally_at r c.0 ys c.1 c.2
+
+pub contains_from_tally : (r : ℕ) (ys : List ℕ) → 0 < tally r ys → Contains ys r
+contains_from_tally r [] h = absurd (omega arith)
+contains_from_tally r (y ∷ ys) h = step (eqb y r) refl h (contains_from_tally r ys)
+  where
+    step : (b : Bool) → eqb y r ≡ b → 0 < one_if b + tally r ys → (0 < tally r ys → Contains ys r) → Contains (y ∷ ys) r
+    step true e h ih = (0, omega arith, eqb-true y r e)
+    step false e h ih = let c : Contains ys r = ih (omega arith) in (suc c.0, omega (arith, c.1), c.2)

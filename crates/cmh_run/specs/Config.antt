@@ -1,0 +1,159 @@
+-- Configurations of one initiator's computations, and what a start and a delivery do to them.
+use Rattle.std.specs.Prelude.{ℕ, ◌+◌, Bool, true, false, not, ◌&&◌, ◌==◌, if◌then◌else◌, List, [], ◌∷◌, ◌++◌, length, map, remove, replicate, slice_set, slice_index_or, Option, Some, None}
+use Rattle.cmh_graph.specs.declared.verdict.Verdict.{Verdict}
+use Rattle.cmh_graph.specs.declared.verdict.Verdict.TheVariants.{Deadlocked, Free}
+use Rattle.cmh_graph.specs.Graph.{Graph, process_count, dependents_of, is_awake}
+use Rattle.cmh_process.specs.declared.message.Kind.{Kind}
+use Rattle.cmh_process.specs.declared.message.Kind.TheVariants.{Query, Reply}
+use Rattle.cmh_process.specs.declared.message.Message.{Message}
+use Rattle.cmh_process.specs.declared.process.Proc.{Proc}
+use Rattle.cmh_process.specs.declared.process.Action.{Action}
+use Rattle.cmh_process.specs.declared.process.Action.TheVariants.{Nothing, Engage, ReplyTo, Declare}
+use Rattle.cmh_process.specs.Process.{fresh, proc_started, start_action, engages, proc_queried, query_action, proc_replied, reply_action}
+use Rattle.cmh_run.specs.declared.delivery.Ending.{Ending}
+use Rattle.cmh_run.specs.declared.delivery.Ending.TheVariants.{Declared, CutFree}
+
+-- The undelivered messages and the processes. Beside them it keeps the number of the last start,
+-- who is engaged in that computation, the initiator first and then in order, and how the run ended,
+-- if a declaration or a hint has ended it.
+pub record Config : Type 0 where
+  pub bag : List Message
+  pub procs : List Proc
+  pub number : ℕ
+  pub engaged : List ℕ
+  pub ended : Option Ending
+
+abbrev pub proc_at : List Proc → ℕ → Proc
+proc_at procs k = slice_index_or procs k fresh
+
+abbrev pub query : ℕ → ℕ → ℕ → ℕ → Message
+query i number from to =
+    record { kind = Query; initiator = i; number = number; from = from; to = to }
+
+abbrev pub reply : ℕ → ℕ → ℕ → ℕ → Message
+reply i number from to =
+    record { kind = Reply; initiator = i; number = number; from = from; to = to }
+
+-- what process k sends by an action: queries in the order of the dependents, or one reply
+abbrev pub sent : ℕ → ℕ → ℕ → List ℕ → Action → List Message
+sent i number k dependents Nothing = []
+sent i number k dependents Engage = map (λ (r : ℕ). query i number k r) dependents
+sent i number k dependents (ReplyTo to) = reply i number k to ∷ []
+sent i number k dependents Declare = []
+
+-- of all actions a declaration alone ends the run
+abbrev pub ended_by : Action → Option Ending
+ended_by Declare = Some Declared
+ended_by Nothing = None
+ended_by Engage = None
+ended_by (ReplyTo to) = None
+
+-- nobody has heard of anything
+abbrev pub nothing_yet : Graph → Config
+nothing_yet g = record {
+  bag = [];
+  procs = replicate (process_count g) fresh;
+  number = 0;
+  engaged = [];
+  ended = None;
+}
+
+-- the initiator starts with its next number
+abbrev pub start : Graph → ℕ → Config → Config
+start g i c =
+    let p = proc_at c.procs i in
+    let dependents = dependents_of g i in
+    let action = start_action (length dependents) in
+    record {
+      bag = c.bag ++ sent i (p.latest + 1) i dependents action;
+      procs = slice_set c.procs i (proc_started p (length dependents));
+      number = p.latest + 1;
+      engaged = i ∷ [];
+      ended = ended_by action;
+    }
+
+-- process k becomes p, and does this
+abbrev pub acted : ℕ → Config → ℕ → ℕ → List ℕ → Proc → Action → Config
+acted i c number k dependents p action = record {
+  bag = c.bag ++ sent i number k dependents action;
+  procs = slice_set c.procs k p;
+  number = c.number;
+  engaged = c.engaged;
+  ended = ended_by action;
+}
+
+-- the engaged once k engages with this number: those of an older number aren't kept
+abbrev pub engaged_after : Config → ℕ → ℕ → List ℕ
+engaged_after c number k = if number == c.number then c.engaged ++ k ∷ [] else c.engaged
+
+-- a query engages its receiver, which asks these
+abbrev pub engaged_by : ℕ → Config → Message → List ℕ → Config
+engaged_by i c m dependents =
+    let p = proc_at c.procs m.to in
+    let action = query_action p m.number m.from (length dependents) in
+    record {
+      bag = c.bag ++ sent i m.number m.to dependents action;
+      procs = slice_set c.procs m.to (proc_queried p m.number m.from (length dependents));
+      number = c.number;
+      engaged = engaged_after c m.number m.to;
+      ended = None;
+    }
+
+-- the run is over, since process k is known to be free
+abbrev pub cut : Config → ℕ → Config
+cut c k = record {
+  bag = c.bag;
+  procs = c.procs;
+  number = c.number;
+  engaged = c.engaged;
+  ended = Some (CutFree k);
+}
+
+-- A query would engage its receiver, and this is the hint about it. Who is known to be deadlocked
+-- engages as a process that has nobody to ask; who is known to be free ends the run.
+abbrev pub hinted : Graph → ℕ → Config → Message → Option Verdict → Config
+hinted g i c m None = engaged_by i c m (dependents_of g m.to)
+hinted g i c m (Some Deadlocked) = engaged_by i c m []
+hinted g i c m (Some Free) = cut c m.to
+
+-- a query engages nobody
+abbrev pub answered : ℕ → Config → Message → Config
+answered i c m =
+    let p = proc_at c.procs m.to in
+    let next = proc_queried p m.number m.from 0 in
+    acted i c m.number m.to [] next (query_action p m.number m.from 0)
+
+abbrev pub replied : ℕ → Config → Message → Config
+replied i c m =
+    let p = proc_at c.procs m.to in
+    acted i c m.number m.to [] (proc_replied p m.number) (reply_action p m.number)
+
+-- what a message does to a process that isn't awake
+abbrev pub received : Graph → ℕ → Config → Message → Kind → Option Verdict → Config
+received g i c m Query hint =
+    if engages (proc_at c.procs m.to) m.number then hinted g i c m hint else answered i c m
+received g i c m Reply hint = replied i c m
+
+-- the message at place x is taken
+abbrev pub without : Config → ℕ → Config
+without c x = record {
+  bag = remove c.bag x;
+  procs = c.procs;
+  number = c.number;
+  engaged = c.engaged;
+  ended = c.ended;
+}
+
+-- The delivery of m, which stood at place x, with this hint. An awake process discards it.
+abbrev pub delivered : Graph → ℕ → Config → ℕ → Message → Option Verdict → Config
+delivered g i c x m hint =
+    if is_awake g m.to then without c x else received g i (without c x) m m.kind hint
+
+abbrev pub is_query : Kind → Bool
+is_query Query = true
+is_query Reply = false
+
+-- hints are asked about m before it is delivered
+abbrev pub asks : Graph → Config → Message → Bool
+asks g c m =
+    is_query m.kind && (not (is_awake g m.to) && engages (proc_at c.procs m.to) m.number)

@@ -1,0 +1,121 @@
+-- Legal runs of one initiator, and what they tell of the graph.
+use Rattle.std.specs.Prelude.{◌≡◌, ◌≢◌, ℕ, ◌+◌, ◌*◌, ◌<◌, ◌≤◌, Bool, true, ◌&&◌, ◌==◌, if◌then◌else◌, List, [], ◌∷◌, length, slice_get, Contains, Option, Some, None, is_none, IsTrue, ⊤}
+use Rattle.cmh_graph.specs.declared.verdict.Verdict.{Verdict}
+use Rattle.cmh_graph.specs.Graph.{Graph, is_idle, is_awake, dependency_count, IsWithinGraph}
+use Rattle.cmh_graph.specs.Verdict.{IsDeadlocked}
+use Rattle.cmh_process.specs.declared.message.Message.{Message}
+use Rattle.cmh_run.specs.declared.delivery.Delivery.{Delivery}
+use Rattle.cmh_run.specs.declared.delivery.Ending.{Ending}
+use Rattle.cmh_run.specs.declared.delivery.Ending.TheVariants.{Declared, AtRest, CutFree}
+use Rattle.cmh_run.specs.Config.{Config, nothing_yet, start, delivered, asks}
+use Rattle.cmh_run.specs.Hints.{IsVerdict}
+
+-- A run on its way: after so many deliveries, with the restarts that are still to come, each by the
+-- number of deliveries before it, and how many restarts there were.
+pub record Going : Type 0 where
+  pub config : Config
+  pub done : ℕ
+  pub restarts : List ℕ
+  pub restarted : ℕ
+
+abbrev pub going_from : Config → List ℕ → Going
+going_from c restarts = record { config = c; done = 0; restarts = restarts; restarted = 0 }
+
+-- The start. An awake initiator asks nobody, and never starts again.
+abbrev pub begun : Graph → ℕ → List ℕ → Going
+begun g i restarts =
+    if is_awake g i
+    then going_from (nothing_yet g) []
+    else going_from (start g i (nothing_yet g)) restarts
+
+-- the initiator has started again, and these restarts are still to come
+abbrev pub restart : Graph → ℕ → Going → List ℕ → Going
+restart g i s rest = record {
+  config = start g i s.config;
+  done = s.done;
+  restarts = rest;
+  restarted = s.restarted + 1;
+}
+
+abbrev pub restarted_at : Graph → ℕ → Going → List ℕ → Going
+restarted_at g i s [] = s
+restarted_at g i s (n ∷ rest) =
+    if is_none s.config.ended && n == s.done then restart g i s rest else s
+
+-- once the restart that is due now has come, if one is
+abbrev pub ready : Graph → ℕ → Going → Going
+ready g i s = restarted_at g i s s.restarts
+
+abbrev pub after : Graph → ℕ → Going → ℕ → Delivery → Going
+after g i s x d = record {
+  config = delivered g i s.config x d.message d.hint;
+  done = s.done + 1;
+  restarts = s.restarts;
+  restarted = s.restarted;
+}
+
+-- a hint stands only where hints are asked, and is true
+abbrev pub HintIsFit : Graph → Config → Message → Option Verdict → Type 0
+HintIsFit g c m None = ⊤
+HintIsFit g c m (Some v) = IsTrue (asks g c m) × IsVerdict g m.to v
+
+-- the message at place x may be delivered, with this hint
+pub record MayCome (g : Graph) (c : Config) (x : ℕ) (d : Delivery) : Type 0 where
+  pub going : c.ended ≡ None
+  pub there : slice_get c.bag x ≡ Some d.message
+  pub hint : HintIsFit g c d.message d.hint
+
+-- a rule says which places may be taken next, after how many deliveries
+abbrev pub Rule : Type 0
+Rule = ℕ → Config → ℕ → Bool
+
+-- any undelivered message may come next
+abbrev pub any_place : Rule
+any_place done c x = true
+
+-- the deliveries lead from one state to another by the rule
+abbrev pub Leads : Rule → Graph → ℕ → Going → List Delivery → Going → Type 0
+Leads rule g i s [] end = ready g i s ≡ end
+Leads rule g i s (d ∷ rest) end =
+    let now = ready g i s in
+    (x : ℕ) × MayCome g now.config x d × IsTrue (rule s.done now.config x)
+    × Leads rule g i (after g i now x d) rest end
+
+-- how a run ends: it is over, or nothing is undelivered
+abbrev pub EndsAs : Config → Ending → Type 0
+EndsAs c Declared = c.ended ≡ Some Declared
+EndsAs c (CutFree k) = c.ended ≡ Some (CutFree k)
+EndsAs c AtRest = (c.ended ≡ None) × (c.bag ≡ [])
+
+-- a legal run that has ended, by its deliveries
+pub record IsRun (rule : Rule) (g : Graph) (i : ℕ) (restarts : List ℕ)
+    (log : List Delivery) (ending : Ending) (end : Going) : Type 0 where
+  pub leads : Leads rule g i (begun g i restarts) log end
+  pub ends : EndsAs end.config ending
+
+-- what a run that has ended tells of the graph
+pub record IsRight (g : Graph) (i : ℕ) (restarts : List ℕ)
+    (ending : Ending) (end : Going) : Type 0 where
+  pub declared : ending ≡ Declared → IsDeadlocked g i
+  pub free : ending ≢ Declared → ¬ (IsDeadlocked g i)
+  pub engaged : ending ≡ Declared → (k : ℕ) → Contains end.config.engaged k → IsDeadlocked g k
+  pub last_delivered : ending ≡ Declared → (m : Message) → Contains end.config.bag m
+      → m.number < end.config.number
+  pub all_delivered : restarts ≡ [] → ending ≡ Declared → end.config.bag ≡ []
+
+-- Every legal run of an idle process tells the truth, whatever message comes next and whenever the
+-- initiator starts again.
+abbrev pub RunsAreRight : Type 0
+RunsAreRight =
+    (rule : Rule) (g : Graph) (i : ℕ) (restarts : List ℕ)
+    (log : List Delivery) (ending : Ending) (end : Going)
+    → IsWithinGraph g → IsTrue (is_idle g i) → IsRun rule g i restarts log ending end
+    → IsRight g i restarts ending end
+
+-- a run has at most two deliveries for each dependency and start
+abbrev pub RunsAreShort : Type 0
+RunsAreShort =
+    (rule : Rule) (g : Graph) (i : ℕ) (restarts : List ℕ)
+    (log : List Delivery) (ending : Ending) (end : Going)
+    → IsWithinGraph g → IsTrue (is_idle g i) → IsRun rule g i restarts log ending end
+    → length log ≤ 2 * dependency_count g * (end.restarted + 1)

@@ -1,0 +1,4 @@
+pub mod Choices
+pub mod Config
+pub mod Hints
+pub mod Legal

@@ -1,0 +1,24 @@
+//! Laws of all legal runs, over the definitions alone. Each function here has an empty body; its
+//! contract is the law.
+
+ghost use Rattle.cmh_run.specs.Choices.{ChoicesDecide};
+ghost use Rattle.cmh_run.specs.Legal.{RunsAreRight, RunsAreShort};
+
+/// A run that has ended tells whether its initiator is deadlocked. Where it is declared, everyone
+/// who is engaged is deadlocked too, and no message of the last start is undelivered.
+#[tactic(auto, using(crate::proofs::Right::runs_are_right))]
+pub fn law_runs_are_right()
+    ensures { RunsAreRight }
+{}
+
+/// A run has at most two deliveries for each dependency and start.
+#[tactic(auto, using(crate::proofs::Bound::runs_are_short))]
+pub fn law_runs_are_short()
+    ensures { RunsAreShort }
+{}
+
+/// Without hints a list of choices leaves one run, with one ending.
+#[tactic(auto, using(crate::proofs::Decide::choices_decide))]
+pub fn law_choices_decide()
+    ensures { ChoicesDecide }
+{}
