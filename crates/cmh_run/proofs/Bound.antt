@@ -20,7 +20,7 @@ use Rattle.cmh_graph.proofs.Verdicts.{asleep_is_idle, idle_within}
 use Rattle.cmh_run.specs.Config.{Config, query, proc_at, sent, acted, engaged_by, hinted, received, without, delivered, start, nothing_yet}
 use Rattle.cmh_run.specs.Legal.{Going, restarted_at, ready, after, Leads, RunsAreShort}
 use Rattle.cmh_run.proofs.Steps.{upd}
-use Rattle.cmh_run.proofs.Bag.{each_at, set_is}
+use Rattle.cmh_run.proofs.Tokens.{each_at, set_is}
 use Rattle.cmh_run.proofs.Live.{Live, Fine}
 use Rattle.cmh_run.proofs.Right.{number_kept}
 use Rattle.cmh_run.proofs.Theorem.{by_test, Stands, first_start, status_none, fresh_at, stepped, ready_stands}

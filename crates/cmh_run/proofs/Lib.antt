@@ -1,10 +1,12 @@
-pub mod Bag
 pub mod Bound
 pub mod Decide
 pub mod Live
 pub mod Paths
 pub mod Right
+pub mod Scripts
 pub mod Sound
 pub mod Steps
 pub mod Tally
 pub mod Theorem
+pub mod Tokens
+pub mod Verdicts

@@ -18,7 +18,7 @@ use Rattle.cmh_run.proofs.Tally.{one_if, tally, without_one, tally-le-length, ta
 use Rattle.cmh_run.proofs.Sound.{Sound, owes}
 use Rattle.cmh_run.proofs.Steps as steps
 use Rattle.cmh_run.proofs.Steps.{upd, place}
-use Rattle.cmh_run.proofs.Bag.{Each, each_append, each_remove, each_at, each_more, each_map, is_token, token, tokens, is_token_parts, token_old, tokens-remove, tokens-append, tokens-one, tokens-queries, tokens-old}
+use Rattle.cmh_run.proofs.Tokens.{Each, each_append, each_remove, each_at, each_more, each_map, is_token, token, tokens, is_token_parts, token_old, tokens-remove, tokens-append, tokens-one, tokens-queries, tokens-old}
 
 -- what is true of each undelivered message
 pub record Fine (g : Graph) (i n : ℕ) (F : ℕ → Proc) (x : Message) : Type 0 where

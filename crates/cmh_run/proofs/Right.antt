@@ -18,7 +18,7 @@ use Rattle.cmh_run.specs.Config.{Config, proc_at, acted, hinted, received, witho
 use Rattle.cmh_run.specs.Legal.{Going, ready, after, Leads, EndsAs, IsRight, RunsAreRight}
 use Rattle.cmh_run.proofs.Tally.{tally_from_contains}
 use Rattle.cmh_run.proofs.Sound.{engaged_deadlocked, none_on_way, at_rest_free}
-use Rattle.cmh_run.proofs.Bag.{each_at, tokens, token, edge_from, edge_to}
+use Rattle.cmh_run.proofs.Tokens.{each_at, tokens, token, edge_from, edge_to}
 use Rattle.cmh_run.proofs.Live.{Live, Fine}
 use Rattle.cmh_run.proofs.Theorem.{by_test, Status, Stands, first_start, leads_stands, status_none, fresh_at}
 use Rattle.std.proofs.lemmas.List.Sums.{get_or-le-sum_by}

@@ -22,7 +22,7 @@ use Rattle.cmh_run.specs.Config.{Config, reply, proc_at, sent, ended_by, acted, 
 use Rattle.cmh_run.specs.Legal.{HintIsFit, Going, restarted_at, ready, after, Leads}
 use Rattle.cmh_run.proofs.Tally.{tally, tally-le-length, tally_from_contains, contains_from_tally}
 use Rattle.cmh_run.proofs.Steps.{upd, place, Calm, calm}
-use Rattle.cmh_run.proofs.Bag.{Each, each_at, tokens, set_is, is_token, is_token_parts}
+use Rattle.cmh_run.proofs.Tokens.{Each, each_at, tokens, set_is, is_token, is_token_parts}
 use Rattle.cmh_run.proofs.Live as live
 use Rattle.cmh_run.proofs.Live.{Live, Fine, started}
 

@@ -2,3 +2,4 @@ pub mod Choices
 pub mod Config
 pub mod Hints
 pub mod Legal
+pub mod Script

@@ -3,8 +3,22 @@
 //! a wait graph, in any order of delivery.
 #![tactic(auto)]
 
+mod bag;
 mod delivery;
+mod fault;
+mod hints;
 mod laws;
+mod scripted;
 
+pub use bag::Bag;
 pub use delivery::{Delivery, Ending};
+pub use fault::{RunFault, ScriptFault};
+pub use hints::{Hints, NoHints};
 pub use laws::{law_choices_decide, law_runs_are_right, law_runs_are_short};
+pub use scripted::Scripted;
+
+/// The most choices that a run may be given.
+pub const MAX_CHOICES: usize = 65_536;
+
+/// The most restarts that a run may be given.
+pub const MAX_RESTARTS: usize = 16;

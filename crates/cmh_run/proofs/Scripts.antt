@@ -1,0 +1,196 @@
+-- What entries tell, and which of them are refused.
+use Rattle.std.proofs.Common.{◌≡◌, ◌≢◌, ℕ, suc, ◌<◌, ◌≤◌, Bool, true, false, cond, eqb, List, [], ◌∷◌, length, get_or, slice_get, Some, refl, sym, ◌∙◌, ap, subst, arith, IfSome}
+use Rattle.std.specs.Prelude.{option_map, find}
+use Rattle.std.proofs.lemmas.Bool.{eqb-true, and_parts}
+use Rattle.std.proofs.lemmas.Option.{same_Some, slice_get-get_or}
+use Rattle.cmh_graph.specs.declared.verdict.Verdict.{Verdict}
+use Rattle.cmh_graph.specs.declared.verdict.Verdict.TheVariants.{Deadlocked, Free}
+use Rattle.cmh_graph.specs.Graph.{Graph, process_count, IsWithinGraph}
+use Rattle.cmh_graph.specs.Verdict.{is_deadlocked, verdict, verdicts}
+use Rattle.cmh_graph.specs.Judge.{IsFirst}
+use Rattle.cmh_graph.proofs.Listing.{length-by_index, by_index}
+use Rattle.cmh_graph.proofs.Verdicts.{test_then, then_test}
+use Rattle.cmh_run.specs.Hints.{IsVerdict}
+use Rattle.cmh_run.specs.Script.{Entry, is_for, told_at, AreTrueOf, IsOutOfRange, IsUntrue, Differs, IsNever}
+use Rattle.cmh_run.proofs.Theorem.{by_test}
+
+-- ---- what entries tell
+
+-- true entries tell the truth of a process at each ask
+pub told_true : (g : Graph) (entries : List Entry) (ask p : ℕ) → AreTrueOf g entries
+    → IfSome (told_at entries ask p) (λ v. IsVerdict g p v)
+told_true g [] ask p h = tt
+told_true g (e ∷ entries) ask p h =
+    by_test (is_for ask p e)
+    (λ b. IfSome (option_map (λ (x : Entry). x.2) (cond b (Some e) (find (is_for ask p) entries)))
+    (λ v. IsVerdict g p v))
+    (λ t. subst (λ (q : ℕ). IsVerdict g q e.2) (eqb-true e.1 p (and_parts (eqb e.0 ask) (eqb e.1 p) t).1)
+    (h 0 e refl))
+    (λ f. told_true g entries ask p (λ i x s. h (suc i) x s))
+
+-- ---- first places
+
+-- where it holds at no place below i, the places where it holds are i or more
+none_below : (Holds : ℕ → Type 0) (i k : ℕ) → ((j : ℕ) → j < i → Holds j → ⊥) → Holds k → i ≤ k
+none_below Holds i k none h = let not_less : k < i → ⊥ = λ l. none k l h in omega arith
+
+-- the first place is one where it holds, with none below
+pub first_place : (Holds : ℕ → Type 0) (i : ℕ) → ((j : ℕ) → j < i → Holds j → ⊥) → Holds i
+    → IsFirst Holds i
+first_place Holds i none h = record { holds = h; first = λ k other. none_below Holds i k none other }
+
+-- a first place is the first of all that holds in the same places
+pub first_same : (Holds Other : ℕ → Type 0) (i : ℕ) → ((k : ℕ) → Holds k → Other k)
+    → ((k : ℕ) → Other k → Holds k) → IsFirst Holds i → IsFirst Other i
+first_same Holds Other i on back f =
+    record { holds = on i f.holds; first = λ k h. f.first k (back k h) }
+
+-- ---- entries out of range
+
+-- entry i is what the list has there
+entry_is : (entries : List Entry) (i : ℕ) (d e : Entry) → i < length entries
+    → slice_get entries i ≡ Some e → get_or entries i d ≡ e
+entry_is entries i d e h s = same_Some (get_or entries i d) e (sym (slice_get-get_or entries i d h) ∙ s)
+
+-- an entry about a number that is too great is out of range
+pub out_of_range : (count : ℕ) (entries : List Entry) (i : ℕ) (d : Entry) → i < length entries
+    → count ≤ (get_or entries i d).1 → IsOutOfRange count entries i
+out_of_range count entries i d h l = (get_or entries i d, slice_get-get_or entries i d h, l)
+
+-- an entry about a lesser number isn't
+pub in_range : (count : ℕ) (entries : List Entry) (i : ℕ) (d : Entry) → i < length entries
+    → (get_or entries i d).1 < count → IsOutOfRange count entries i → ⊥
+in_range count entries i d h l o =
+    let same : (get_or entries i d).1 ≡ o.0.1 = ap (λ (e : Entry). e.1) (entry_is entries i d o.0 h o.1) in
+    omega (arith, o.2)
+
+-- where no entry is out of range, each is about a number that is small enough
+pub each_in_range : (count : ℕ) (entries : List Entry) (i : ℕ) (d : Entry) → i < length entries
+    → IsNever (IsOutOfRange count entries) → (get_or entries i d).1 < count
+each_in_range count entries i d h never =
+    let not_more : count ≤ (get_or entries i d).1 → ⊥ = λ l. never i (out_of_range count entries i d h l) in
+    omega arith
+
+-- ---- entries that aren't true
+
+-- an entry that tells another verdict than the list
+pub differs : (truth : List Verdict) (entries : List Entry) (i : ℕ) (d : Entry) (v : Verdict)
+    → i < length entries → (get_or entries i d).1 < length truth
+    → get_or truth (get_or entries i d).1 v ≢ (get_or entries i d).2 → Differs truth entries i
+differs truth entries i d v h l other = (
+  get_or entries i d,
+  slice_get-get_or entries i d h,
+  λ same. other (same_Some (get_or truth (get_or entries i d).1 v) (get_or entries i d).2
+      (sym (slice_get-get_or truth (get_or entries i d).1 v l) ∙ same)),
+)
+
+-- an entry that tells the verdict that stands in the list
+pub agrees : (truth : List Verdict) (entries : List Entry) (i : ℕ) (d : Entry) (v : Verdict)
+    → i < length entries → (get_or entries i d).1 < length truth
+    → get_or truth (get_or entries i d).1 v ≡ (get_or entries i d).2 → Differs truth entries i → ⊥
+agrees truth entries i d v h l same other =
+    other.2 (subst (λ (e : Entry). slice_get truth e.1 ≡ Some e.2) (entry_is entries i d other.0 h other.1)
+    (slice_get-get_or truth (get_or entries i d).1 v l ∙ ap Some same))
+
+-- what the test of deadlock says of the verdict
+verdict_by : (g : Graph) (p : ℕ) (v : Verdict) → IsWithinGraph g → (b : Bool)
+    → is_deadlocked g p ≡ b → cond b Deadlocked Free ≡ v → IsVerdict g p v
+verdict_by g p Deadlocked w true t e = test_then g p w t
+verdict_by g p Free w true t e = absurd (cc)
+verdict_by g p Deadlocked w false t e = absurd (cc)
+verdict_by g p Free w false t e = λ dead. true_false (sym (then_test g p dead) ∙ t)
+  where
+    true_false : true ≡ false → ⊥
+    true_false h = cc
+
+-- the verdict that is computed is true
+verdict_true : (g : Graph) (p : ℕ) (v : Verdict) → IsWithinGraph g → verdict g p ≡ v → IsVerdict g p v
+verdict_true g p v w e = verdict_by g p v w (is_deadlocked g p) refl e
+
+-- no other verdict is true
+one_verdict : (g : Graph) (p : ℕ) (v u : Verdict) → IsVerdict g p v → IsVerdict g p u → v ≡ u
+one_verdict g p Deadlocked Deadlocked a b = refl
+one_verdict g p Deadlocked Free a b = absurd (b a)
+one_verdict g p Free Deadlocked a b = absurd (a b)
+one_verdict g p Free Free a b = refl
+
+-- the list of all verdicts has that of each process
+verdict_at : (g : Graph) (p : ℕ) → p < process_count g → slice_get (verdicts g) p ≡ Some (verdict g p)
+verdict_at g p h =
+    slice_get-get_or (verdicts g) p Free (subst (λ (n : ℕ). p < n) (sym (length-by_index g (verdict g))) h)
+    ∙ ap Some (by_index g (verdict g) (verdicts g) p Free refl h)
+
+-- there are as many verdicts as processes
+pub verdict_count : (g : Graph) → length (verdicts g) ≡ process_count g
+verdict_count g = length-by_index g (verdict g)
+
+-- an entry that differs from the verdicts isn't true
+pub untrue : (g : Graph) (entries : List Entry) (k : ℕ) → IsWithinGraph g
+    → IsNever (IsOutOfRange (process_count g) entries) → Differs (verdicts g) entries k
+    → IsUntrue g entries k
+untrue g entries k w never o = (
+  o.0,
+  o.1,
+  λ true_one.
+      let not_more : process_count g ≤ o.0.1 → ⊥ = λ l. never k (o.0, o.1, l) in
+      let within : o.0.1 < process_count g = omega arith in
+      let same : verdict g o.0.1 ≡ o.0.2 = one_verdict g o.0.1 (verdict g o.0.1) o.0.2
+      (verdict_true g o.0.1 (verdict g o.0.1) w refl) true_one in
+      o.2 (verdict_at g o.0.1 within ∙ ap Some same),
+)
+
+-- an entry that isn't true differs from the verdicts
+pub untrue_differs : (g : Graph) (entries : List Entry) (k : ℕ) → IsWithinGraph g
+    → IsNever (IsOutOfRange (process_count g) entries) → IsUntrue g entries k
+    → Differs (verdicts g) entries k
+untrue_differs g entries k w never o = (
+  o.0,
+  o.1,
+  λ told.
+      let not_more : process_count g ≤ o.0.1 → ⊥ = λ l. never k (o.0, o.1, l) in
+      let within : o.0.1 < process_count g = omega arith in
+      o.2 (verdict_true g o.0.1 o.0.2 w
+      (same_Some (verdict g o.0.1) o.0.2 (sym (verdict_at g o.0.1 within) ∙ told))),
+)
+
+-- where no entry differs from the verdicts, all are true
+pub all_true : (g : Graph) (entries : List Entry) → IsWithinGraph g
+    → IsNever (IsOutOfRange (process_count g) entries) → IsNever (Differs (verdicts g) entries)
+    → AreTrueOf g entries
+all_true g entries w never none i e s =
+    let not_more : process_count g ≤ e.1 → ⊥ = λ l. never i (e, s, l) in
+    let within : e.1 < process_count g = omega arith in
+    verdict_true g e.1 e.2 w (by_cases (verdict g e.1) e.2 (λ other. none i (
+      e,
+      s,
+      λ told.
+          other (same_Some (verdict g e.1) e.2 (sym (verdict_at g e.1 within) ∙ told)),
+    )))
+  where
+    by_cases : (v u : Verdict) → ((v ≡ u → ⊥) → ⊥) → v ≡ u
+    by_cases Deadlocked Deadlocked h = refl
+    by_cases Deadlocked Free h = absurd (h (λ q. cc))
+    by_cases Free Deadlocked h = absurd (h (λ q. cc))
+    by_cases Free Free h = refl
+
+-- ---- scripts over the list of all verdicts
+
+module _ (g : Graph) (truth : List Verdict) (entries : List Entry) (w : IsWithinGraph g) (is : truth ≡ verdicts g) where
+  -- each entry is about a place of that list
+  pub never_beyond : IsNever (IsOutOfRange (process_count g) entries) → IsNever (IsOutOfRange (length truth) entries)
+  never_beyond never =
+      subst (λ (n : ℕ). IsNever (IsOutOfRange n entries)) (sym (ap length is ∙ verdict_count g)) never
+
+  -- the first entry that differs from it is the first that isn't true
+  pub first_untrue : (i : ℕ) → IsNever (IsOutOfRange (process_count g) entries)
+      → IsFirst (Differs truth entries) i → IsFirst (IsUntrue g entries) i
+  first_untrue i never f =
+      first_same (Differs (verdicts g) entries) (IsUntrue g entries) i
+      (λ k h. untrue g entries k w never h) (λ k h. untrue_differs g entries k w never h)
+      (subst (λ (xs : List Verdict). IsFirst (Differs xs entries) i) is f)
+
+  -- entries that agree with it are true
+  pub true_of : IsNever (IsOutOfRange (process_count g) entries) → IsNever (Differs truth entries)
+      → AreTrueOf g entries
+  true_of never none =
+      all_true g entries w never (subst (λ (xs : List Verdict). IsNever (Differs xs entries)) is none)

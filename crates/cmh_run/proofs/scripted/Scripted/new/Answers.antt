@@ -1,0 +1,31 @@
+use Rattle.std.proofs.Common.{◌∙◌, inr, subst, sym, ℕ, List}
+use Rattle.cmh_run.specs.Script.{Entry, AreTrueOf, IsOutOfRange, IsNever}
+use Rattle.cmh_run.proofs.Scripts.{never_beyond, first_untrue, true_of}
+use Rattle.cmh_run.proofs.scripted.Scripted.new.Goals as goal
+
+pub first_difference-requires : goal.first_difference-requires
+first_difference-requires c =
+    never_beyond c.args.graph.now c.deref.result.now c.args.entries.now c.len.ensures.well_formed.within
+    (c.deref.ensures.value ∙ c.in_ok-truth.ensures.ok)
+    (subst (λ (n : ℕ). IsNever (IsOutOfRange n c.args.entries.now)) c.len.ensures.count c.in_default.ensures.none)
+
+pub returns-in-Some-first_difference-clause-fault : goal.returns-in-Some-first_difference-clause-fault
+returns-in-Some-first_difference-clause-fault c =
+    let never = subst (λ (n : ℕ). IsNever (IsOutOfRange n c.args.entries.now)) c.len.ensures.count c.in_default.ensures.none in
+    inr (
+      never,
+      first_untrue c.args.graph.now c.deref.result.now c.args.entries.now c.len.ensures.well_formed.within
+          (c.deref.ensures.value ∙ c.in_ok-truth.ensures.ok) c.in-Some-first_difference.i never
+          c.in-Some-first_difference.ensures.some,
+    )
+
+pub returns-clause-within : goal.returns-clause-within
+returns-clause-within c =
+    subst (λ (n : ℕ). IsNever (IsOutOfRange n c.args.entries.now)) c.len.ensures.count c.in_default.ensures.none
+
+pub returns-clause-speaks : goal.returns-clause-speaks
+returns-clause-speaks c =
+    let never = subst (λ (n : ℕ). IsNever (IsOutOfRange n c.args.entries.now)) c.len.ensures.count c.in_default.ensures.none in
+    subst (λ (xs : List Entry). AreTrueOf c.args.graph.now xs) (sym c.in_ok-entries.ensures.items)
+    (true_of c.args.graph.now c.deref.result.now c.args.entries.now c.len.ensures.well_formed.within
+    (c.deref.ensures.value ∙ c.in_ok-truth.ensures.ok) never c.in_default-first_difference.ensures.none)

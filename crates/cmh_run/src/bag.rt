@@ -1,0 +1,81 @@
+//! The undelivered messages.
+
+ghost use Rattle.std.specs.Prelude.{◌≡◌, ◌<◌, ◌↔◌, ◌%◌, ◌++◌, [], ◌∷◌, Some, length, remove, slice_get, IsNone, IsSome, IfSome, IfNone, IfErr, IsTrue, OnOk, OnErr};
+
+use crate::RunFault;
+use cmh_process::Message;
+use std::alloc::Global;
+use std::collections::VecDeque;
+use std::marker::Model;
+
+/// The undelivered messages, in the order in which they were sent.
+#[derive(Drop)]
+pub struct Bag {
+    messages: VecDeque<Message>,
+}
+
+impl Model for Bag {
+    ghost use Rattle.std.specs.Prelude.{List};
+    ghost use Rattle.cmh_process.specs.declared.message.Message.{Message};
+
+    ghost Value = { List Message };
+
+    ghost view = { λ bag. bag.messages.items };
+}
+
+impl Bag {
+    /// An empty bag, which takes no memory.
+    pub fn new(alloc: Global) -> Bag
+        ensures { result ≡ [] }
+    {
+        Bag {
+            messages: VecDeque::new(alloc),
+        }
+    }
+
+    pub fn len(&self) -> usize
+        ensures { result ≡ length self.now }
+    {
+        self.messages.len()
+    }
+
+    pub fn is_empty(&self) -> bool
+        ensures { IsTrue result ↔ (self.now ≡ []) }
+    {
+        self.messages.is_empty()
+    }
+
+    pub fn get(&self, n: usize) -> Option<&Message>
+        ensures there { IsSome result ↔ (n < length self.now) }
+        ensures message { IfSome result (λ m. slice_get self.now n ≡ Some m.now) }
+    {
+        self.messages.get(n)
+    }
+
+    /// Adds a message as the last. The only fault is the want of memory.
+    pub fn push(&mut self, message: Message) -> Result<(), RunFault>
+        ensures ok { OnOk result (self.new ≡ self.old ++ message ∷ []) }
+        ensures err { OnErr result (self.new ≡ self.old) }
+        ensures memory { IfErr result (λ e. e ≡ RunFault.Memory) }
+    {
+        self.messages.push_back(message)?;
+        Ok(())
+    }
+
+    /// Takes the message at place `choice` modulo the number of messages; the others keep their
+    /// order. It takes constant time at choice 0, and else at most linear time.
+    pub fn take(&mut self, choice: u64) -> Option<Message>
+        ensures none { IsNone result ↔ (self.old ≡ []) }
+        ensures taken { IfSome result (λ m.
+            slice_get self.old (choice % length self.old) ≡ Some m) }
+        ensures rest { IfSome result (λ m.
+            self.new ≡ remove self.old (choice % length self.old)) }
+        ensures unchanged { IfNone result (self.new ≡ self.old) }
+    {
+        if self.messages.is_empty() {
+            return None;
+        }
+        let place = choice % self.messages.len() as u64;
+        self.messages.remove(place as usize)
+    }
+}

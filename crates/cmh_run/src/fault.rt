@@ -1,0 +1,97 @@
+//! Why there is no run, or no script.
+
+ghost use Rattle.std.specs.Prelude.{◌≡◌};
+ghost use Rattle.cmh_run.specs.declared.fault.RunFault.TheVariants.{Memory};
+ghost use Rattle.cmh_run.specs.declared.fault.ScriptFault.TheVariants as script;
+
+use cmh_graph::GraphFault;
+use std::alloc::{AllocError, AllocFailed};
+use std::error::Error;
+use std::fmt;
+
+/// Why there is no run.
+#[derive(Clone, Copy, PartialEq, Eq, Hash, Debug)]
+pub enum RunFault {
+    /// The initiator is the index of no idle process.
+    NotIdle,
+
+    /// There are more than `MAX_CHOICES` choices.
+    TooManyChoices,
+
+    /// Memory was refused.
+    Memory,
+
+    /// There are more than `MAX_RESTARTS` restarts, or they don't rise.
+    BadRestarts,
+}
+
+impl fmt::Display for RunFault {
+    fn fmt<W: fmt::Write>(&self, f: &mut fmt::Formatter<W>) -> fmt::Result {
+        match self {
+            RunFault::NotIdle => write!(f, "not idle"),
+            RunFault::TooManyChoices => write!(f, "too many choices"),
+            RunFault::Memory => write!(f, "out of memory"),
+            RunFault::BadRestarts => write!(f, "bad restarts"),
+        }
+    }
+}
+
+impl Error for RunFault {}
+
+impl From<AllocError> for RunFault {
+    ghost from_gives = { λ _ e. e ≡ Memory };
+
+    fn from(_e: AllocError) -> RunFault {
+        RunFault::Memory
+    }
+}
+
+impl<T: Drop> From<AllocFailed<T>> for RunFault {
+    ghost from_gives = { λ _ e. e ≡ Memory };
+
+    fn from(_e: AllocFailed<T>) -> RunFault {
+        RunFault::Memory
+    }
+}
+
+/// Why entries make no script, by their places.
+#[derive(Clone, Copy, PartialEq, Eq, Hash, Debug)]
+pub enum ScriptFault {
+    /// This entry is about no process of the graph.
+    ProcessOutOfRange(usize),
+
+    /// This entry isn't true.
+    FalseVerdict(usize),
+
+    /// Memory was refused.
+    Memory,
+}
+
+impl fmt::Display for ScriptFault {
+    fn fmt<W: fmt::Write>(&self, f: &mut fmt::Formatter<W>) -> fmt::Result {
+        match self {
+            ScriptFault::ProcessOutOfRange(i) => write!(f, "process out of range {i}"),
+            ScriptFault::FalseVerdict(i) => write!(f, "false verdict {i}"),
+            ScriptFault::Memory => write!(f, "out of memory"),
+        }
+    }
+}
+
+impl Error for ScriptFault {}
+
+impl From<AllocError> for ScriptFault {
+    ghost from_gives = { λ _ e. e ≡ script.Memory };
+
+    fn from(_e: AllocError) -> ScriptFault {
+        ScriptFault::Memory
+    }
+}
+
+impl From<GraphFault> for ScriptFault {
+    ghost from_gives = { λ _ e. e ≡ script.Memory };
+
+    /// A question to a graph fails by the want of memory alone.
+    fn from(_e: GraphFault) -> ScriptFault {
+        ScriptFault::Memory
+    }
+}

@@ -1,0 +1,67 @@
+//! Who may be asked about a process just before it engages.
+
+ghost use Rattle.std.specs.Prelude.{◌≡◌, ◌<◌, ◌↔◌, ℕ, ⊤, None, IfSome};
+ghost use Rattle.cmh_graph.specs.Graph.{Graph, process_count};
+ghost use Rattle.cmh_run.specs.Hints.{IsVerdict};
+
+use cmh_graph::Verdict;
+
+/// Whoever may know the verdict of a process already. An answer is the truth in each graph of which
+/// these hints speak, and an ask changes nothing of what they keep.
+pub trait Hints {
+    /// The graphs of which these hints speak.
+    ghost speaks_of: { Self → Graph → Type 0 };
+
+    /// What stays the same from one ask to a later one.
+    ghost keeps: { Self → Self → Type 0 };
+
+    /// They never answer.
+    ghost is_silent: { Self → Type 0 };
+
+    /// What is known of process `p`, if anything is.
+    fn hint(&mut self, p: u32) -> Option<Verdict>
+        requires { (g : Graph) × speaks_of self.old g × (p < process_count g) }
+        ensures true_verdict { (g : Graph) → speaks_of self.old g → p < process_count g
+            → IfSome result (λ v. IsVerdict g p v) }
+        ensures silent { is_silent self.old → result ≡ None }
+        ensures kept { keeps self.old self.new };
+
+    ghost keeps_itself: { (h : Self) → keeps h h };
+
+    ghost keeps_on: { (a b c : Self) → keeps a b → keeps b c → keeps a c };
+
+    /// Before and after an ask they speak of the same graphs.
+    ghost keeps_graphs: { (a b : Self) (g : Graph) → keeps a b → speaks_of a g ↔ speaks_of b g };
+
+    ghost keeps_silent: { (a b : Self) → keeps a b → is_silent a → is_silent b };
+}
+
+/// Never answers, and speaks of every graph.
+#[derive(Clone, Copy, Debug, Drop)]
+pub struct NoHints;
+
+impl Hints for NoHints {
+    ghost speaks_of = { λ h g. ⊤ };
+
+    ghost keeps = { λ a b. ⊤ };
+
+    ghost is_silent = { λ h. ⊤ };
+
+    fn hint(&mut self, p: u32) -> Option<Verdict>
+        ensures none { result ≡ None }
+        ensures true_verdict { (g : Graph) → ⊤ → p < process_count g
+            → IfSome result (λ v. IsVerdict g p v) }
+        ensures silent { ⊤ → result ≡ None }
+        ensures kept { ⊤ }
+    {
+        None
+    }
+
+    ghost keeps_itself = { λ h. tt };
+
+    ghost keeps_on = { λ a b c x y. tt };
+
+    ghost keeps_graphs = { λ a b g x. ((λ y. tt), (λ y. tt)) };
+
+    ghost keeps_silent = { λ a b x y. tt };
+}

@@ -1,0 +1,123 @@
+//! Hints by a script.
+
+ghost use Rattle.std.specs.Prelude.{◌≡◌, ◌⊎◌, ◌<◌, [], None, IfOk, IfErr, IfSome, IfNone, length, refl};
+ghost use Rattle.std.proofs.Common.{◌∙◌};
+ghost use Rattle.cmh_graph.specs.Judge.{IsFirst};
+ghost use Rattle.cmh_graph.specs.Graph.{Graph, process_count};
+ghost use Rattle.cmh_run.specs.Hints.{IsVerdict};
+ghost use Rattle.cmh_run.specs.Script.{AreTrueOf, scripts_keep_graphs, scripts_keep_silent, IsOutOfRange, Differs, IsNever, IsFirstFault, told_at, answer_of, after_ask};
+
+use crate::{Hints, ScriptFault};
+use cmh_graph::{Verdict, WaitGraph};
+use std::alloc::Global;
+use std::marker::Model;
+
+/// Hints that answer by the number of the ask.
+#[derive(Drop)]
+pub struct Scripted {
+    entries: Vec<(u32, u32, Verdict)>,
+    asked: u32,
+}
+
+impl Model for Scripted {
+    ghost use Rattle.cmh_run.specs.Script.{Script};
+
+    ghost Value = { Script };
+
+    ghost view = { λ s. record { entries = s.entries.items; asked = s.asked } };
+}
+
+impl Scripted {
+    /// An entry (n, p, v) answers v at ask n, from 0, where that ask is of process p. All other asks
+    /// have no answer, nor has any from ask `u32::MAX` on.
+    pub fn new(
+        alloc: Global,
+        graph: &WaitGraph,
+        entries: &[(u32, u32, Verdict)],
+    ) -> Result<Scripted, ScriptFault>
+        ensures ok { IfOk result (λ s. s ≡ record { entries = entries.now; asked = 0 }) }
+        ensures within { IfOk result (λ s. IsNever (IsOutOfRange (process_count graph.now) entries.now)) }
+        ensures speaks { IfOk result (λ s. AreTrueOf graph.now s.entries) }
+        ensures fault { IfErr result (λ e.
+            (e ≡ ScriptFault.Memory) ⊎ IsFirstFault graph.now entries.now e) }
+    {
+        if let Some(i) = first_out_of_range(graph.len(), entries) {
+            return Err(ScriptFault::ProcessOutOfRange(i));
+        }
+        let truth = graph.verdicts_plain(alloc)?;
+        if let Some(i) = first_difference(&truth, entries) {
+            return Err(ScriptFault::FalseVerdict(i));
+        }
+        let entries = Vec::from_slice(alloc, entries)?;
+        Ok(Scripted { entries, asked: 0 })
+    }
+}
+
+impl Hints for Scripted {
+    ghost speaks_of = { λ s g. AreTrueOf g s.entries };
+
+    ghost keeps = { λ a b. a.entries ≡ b.entries };
+
+    ghost is_silent = { λ s. s.entries ≡ [] };
+
+    fn hint(&mut self, p: u32) -> Option<Verdict>
+        ensures answer { result ≡ answer_of self.old p }
+        ensures asked { self.new ≡ after_ask self.old }
+        ensures true_verdict { (g : Graph) → AreTrueOf g self.old.entries → p < process_count g
+            → IfSome result (λ v. IsVerdict g p v) }
+        ensures silent { self.old.entries ≡ [] → result ≡ None }
+        ensures kept { self.old.entries ≡ self.new.entries }
+    {
+        let ask = self.asked;
+        if ask == u32::MAX {
+            return None;
+        }
+        self.asked += 1;
+        told_at(&self.entries, ask, p)
+    }
+
+    ghost keeps_itself = { λ s. refl };
+
+    ghost keeps_on = { λ a b c x y. x ∙ y };
+
+    ghost keeps_graphs = { scripts_keep_graphs };
+
+    ghost keeps_silent = { scripts_keep_silent };
+}
+
+/// What the entries tell at that ask of `p`.
+fn told_at(entries: &[(u32, u32, Verdict)], ask: u32, p: u32) -> Option<Verdict>
+    ensures { result ≡ told_at entries.now ask p }
+{
+    entries
+        .iter()
+        .find(|entry| entry.0 == ask && entry.1 == p)
+        .map(|entry| entry.2)
+}
+
+/// The first entry that is about none of so many processes.
+fn first_out_of_range(count: u32, entries: &[(u32, u32, Verdict)]) -> Option<usize>
+    ensures some { IfSome result (IsFirst (IsOutOfRange count entries.now)) }
+    ensures none { IfNone result (IsNever (IsOutOfRange count entries.now)) }
+{
+    for (i, entry) in entries.iter().enumerate() {
+        if entry.1 >= count {
+            return Some(i);
+        }
+    }
+    None
+}
+
+/// The first entry that differs from the verdicts of all processes.
+fn first_difference(truth: &[Verdict], entries: &[(u32, u32, Verdict)]) -> Option<usize>
+    requires { IsNever (IsOutOfRange (length truth.now) entries.now) }
+    ensures some { IfSome result (IsFirst (Differs truth.now entries.now)) }
+    ensures none { IfNone result (IsNever (Differs truth.now entries.now)) }
+{
+    for (i, entry) in entries.iter().enumerate() {
+        if truth[entry.1 as usize] != entry.2 {
+            return Some(i);
+        }
+    }
+    None
+}
