@@ -4,6 +4,7 @@ pub mod Live
 pub mod Paths
 pub mod Right
 pub mod Scripts
+pub mod Sizes
 pub mod Sound
 pub mod Steps
 pub mod Tally

@@ -72,15 +72,29 @@ start g i c =
       ended = ended_by action;
     }
 
--- process k becomes p, and does this
-abbrev pub acted : ℕ → Config → ℕ → ℕ → List ℕ → Proc → Action → Config
-acted i c number k dependents p action = record {
+-- process k does this: it sends, or it ends the run
+abbrev pub does : ℕ → Config → ℕ → ℕ → List ℕ → Action → Config
+does i c number k dependents action = record {
   bag = c.bag ++ sent i number k dependents action;
-  procs = slice_set c.procs k p;
+  procs = c.procs;
   number = c.number;
   engaged = c.engaged;
   ended = ended_by action;
 }
+
+-- process k becomes p
+abbrev pub becomes : Config → ℕ → Proc → Config
+becomes c k p = record {
+  bag = c.bag;
+  procs = slice_set c.procs k p;
+  number = c.number;
+  engaged = c.engaged;
+  ended = c.ended;
+}
+
+-- process k becomes p, and does this
+abbrev pub acted : ℕ → Config → ℕ → ℕ → List ℕ → Proc → Action → Config
+acted i c number k dependents p action = does i (becomes c k p) number k dependents action
 
 -- the engaged once k engages with this number: those of an older number aren't kept
 abbrev pub engaged_after : Config → ℕ → ℕ → List ℕ

@@ -8,7 +8,9 @@ mod delivery;
 mod fault;
 mod hints;
 mod laws;
+mod network;
 mod scripted;
+mod send;
 
 pub use bag::Bag;
 pub use delivery::{Delivery, Ending};

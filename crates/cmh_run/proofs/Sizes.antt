@@ -1,0 +1,11 @@
+-- How many dependents a process has at most.
+use Rattle.std.proofs.Common.{◌≡◌, ℕ, ◌+◌, ◌<◌, ◌≤◌, ◌^◌, length, get_or, arith}
+use Rattle.std.proofs.lemmas.List.Sums.{get_or-le-sum_by}
+use Rattle.cmh_graph.specs.Graph.{Graph, Process, process_count, dependents_of, nobody}
+use Rattle.cmh_graph.specs.Build.{IsWellFormed}
+
+-- a process of a graph has fewer than 2 ^ 32 dependents
+pub few_dependents : (g : Graph) (p : ℕ) → IsWellFormed g → p < process_count g
+    → length (dependents_of g p) < 2 ^ 32
+few_dependents g p w h =
+    omega (arith, w.dependencies, get_or-le-sum_by (λ (q : Process). length q.dependents) g.processes p nobody h)

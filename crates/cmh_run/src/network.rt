@@ -1,0 +1,206 @@
+//! One configuration of an initiator's computations, and its steps.
+
+ghost use Rattle.std.specs.Prelude.{◌≡◌, ◌+◌, ◌<◌, ◌^◌, ◌%◌, ◌↔◌, [], None, Some, length, slice_get, IfOk, IfSome, IfNone, IsNone, OnOk, if◌then◌else◌};
+ghost use Rattle.cmh_graph.specs.Graph.{process_count, is_awake};
+ghost use Rattle.cmh_graph.specs.Build.{IsWellFormed};
+ghost use Rattle.cmh_run.specs.Config.{proc_at, nothing_yet, start, does, engaged_by, answered, replied, received, asks, without};
+
+use crate::send::Sender;
+use crate::{Bag, Ending, RunFault};
+use cmh_graph::{Verdict, WaitGraph};
+use cmh_process::{Action, Kind, Message, Proc};
+use std::alloc::Global;
+use std::marker::Model;
+
+/// The undelivered messages and the processes of one initiator's computations.
+#[derive(Drop)]
+pub(crate) struct Network {
+    bag: Bag,
+    procs: Vec<Proc>,
+    number: u32,
+    engaged: Vec<u32>,
+    ended: Option<Ending>,
+}
+
+impl Model for Network {
+    ghost use Rattle.cmh_run.specs.Config.{Config};
+
+    ghost Value = { Config };
+
+    ghost view = { λ n. record {
+        bag = n.bag;
+        procs = n.procs.items;
+        number = n.number;
+        engaged = n.engaged.items;
+        ended = n.ended;
+    } };
+}
+
+impl Network {
+    /// Nobody has heard of anything.
+    pub(crate) fn nothing_yet(alloc: Global, graph: &WaitGraph) -> Result<Network, RunFault>
+        ensures { IfOk result (λ n. n ≡ nothing_yet graph.now) }
+    {
+        Ok(Network {
+            bag: Bag::new(alloc),
+            procs: vec![in alloc; Proc::new(); graph.len() as usize]?,
+            number: 0,
+            engaged: Vec::new(alloc),
+            ended: None,
+        })
+    }
+
+    /// The initiator starts with its next number.
+    pub(crate) fn start(&mut self, graph: &WaitGraph, initiator: u32) -> Result<(), RunFault>
+        requires graph { IsWellFormed graph.now }
+        requires size { length self.old.procs ≡ process_count graph.now }
+        requires within { initiator < process_count graph.now }
+        requires next { (proc_at self.old.procs initiator).latest + 1 < 2 ^ 32 }
+        requires going { self.old.ended ≡ None }
+        ensures { OnOk result (self.new ≡ start graph.now initiator self.old) }
+    {
+        let dependents = graph.dependents(initiator);
+        let proc = &mut self.procs[initiator as usize];
+        let action = proc.start(dependents.len() as u32);
+        let number = proc.latest;
+        self.number = number;
+        self.engaged.clear();
+        self.engaged.push(initiator)?;
+        let sender = Sender {
+            initiator,
+            number,
+            from: initiator,
+        };
+        self.act(sender, dependents, action)
+    }
+
+    /// Whether hints are asked about the message before it is delivered.
+    pub(crate) fn asks(&self, graph: &WaitGraph, message: Message) -> bool
+        requires size { length self.now.procs ≡ process_count graph.now }
+        requires within { message.to < process_count graph.now }
+        ensures { result ≡ asks graph.now self.now message }
+    {
+        message.kind == Kind::Query
+            && !graph.is_awake(message.to)
+            && self.procs[message.to as usize].latest < message.number
+    }
+
+    /// Takes the message that the choice names out of the bag.
+    pub(crate) fn take(&mut self, choice: u64) -> Option<Message>
+        ensures none { IsNone result ↔ (self.old.bag ≡ []) }
+        ensures unchanged { IfNone result (self.new ≡ self.old) }
+        ensures taken { IfSome result (λ m. let x = choice % length self.old.bag in
+            (slice_get self.old.bag x ≡ Some m) × (self.new ≡ without self.old x)) }
+    {
+        self.bag.take(choice)
+    }
+
+    /// The delivery of a message that was taken out of the bag. An awake process discards it.
+    pub(crate) fn deliver(
+        &mut self,
+        graph: &WaitGraph,
+        initiator: u32,
+        message: Message,
+        hint: Option<Verdict>,
+    ) -> Result<(), RunFault>
+        requires graph { IsWellFormed graph.now }
+        requires size { length self.old.procs ≡ process_count graph.now }
+        requires within { message.to < process_count graph.now }
+        requires going { self.old.ended ≡ None }
+        ensures { OnOk result (self.new ≡ (if is_awake graph.now message.to
+            then self.old
+            else received graph.now initiator self.old message message.kind hint)) }
+    {
+        if graph.is_awake(message.to) {
+            return Ok(());
+        }
+        match message.kind {
+            Kind::Query => self.query(graph, initiator, message, hint),
+            Kind::Reply => self.reply(initiator, message),
+        }
+    }
+
+    fn query(
+        &mut self,
+        graph: &WaitGraph,
+        initiator: u32,
+        message: Message,
+        hint: Option<Verdict>,
+    ) -> Result<(), RunFault>
+        requires graph { IsWellFormed graph.now }
+        requires size { length self.old.procs ≡ process_count graph.now }
+        requires within { message.to < process_count graph.now }
+        requires going { self.old.ended ≡ None }
+        ensures { OnOk result (self.new ≡
+            received graph.now initiator self.old message Kind.Query hint) }
+    {
+        if self.procs[message.to as usize].latest >= message.number {
+            return self.answer(initiator, message);
+        }
+        match hint {
+            None => self.engage(initiator, message, graph.dependents(message.to)),
+            Some(Verdict::Deadlocked) => self.engage(initiator, message, &[]),
+            Some(Verdict::Free) => {
+                self.ended = Some(Ending::CutFree(message.to));
+                Ok(())
+            }
+        }
+    }
+
+    /// A query engages its receiver, which asks these.
+    fn engage(
+        &mut self,
+        initiator: u32,
+        message: Message,
+        dependents: &[u32],
+    ) -> Result<(), RunFault>
+        requires within { message.to < length self.old.procs }
+        requires few { length dependents.now < 2 ^ 32 }
+        requires going { self.old.ended ≡ None }
+        ensures { OnOk result (self.new ≡ engaged_by initiator self.old message dependents.now) }
+    {
+        let proc = &mut self.procs[message.to as usize];
+        let action = proc.on_query(message.number, message.from, dependents.len() as u32);
+        if message.number == self.number {
+            self.engaged.push(message.to)?;
+        }
+        self.act(Sender::answering(initiator, message), dependents, action)
+    }
+
+    /// A query engages nobody.
+    fn answer(&mut self, initiator: u32, message: Message) -> Result<(), RunFault>
+        requires within { message.to < length self.old.procs }
+        requires going { self.old.ended ≡ None }
+        ensures { OnOk result (self.new ≡ answered initiator self.old message) }
+    {
+        let proc = &mut self.procs[message.to as usize];
+        let action = proc.on_query(message.number, message.from, 0);
+        self.act(Sender::answering(initiator, message), &[], action)
+    }
+
+    fn reply(&mut self, initiator: u32, message: Message) -> Result<(), RunFault>
+        requires within { message.to < length self.old.procs }
+        requires going { self.old.ended ≡ None }
+        ensures { OnOk result (self.new ≡ replied initiator self.old message) }
+    {
+        let action = self.procs[message.to as usize].on_reply(message.number);
+        self.act(Sender::answering(initiator, message), &[], action)
+    }
+
+    /// A process sends, or it ends the run.
+    fn act(
+        &mut self,
+        sender: Sender,
+        dependents: &[u32],
+        action: Action,
+    ) -> Result<(), RunFault>
+        requires { self.old.ended ≡ None }
+        ensures { OnOk result (self.new ≡
+            does sender.initiator self.old sender.number sender.from dependents.now action) }
+    {
+        if action == Action::Declare {
+            self.ended = Some(Ending::Declared);
+        }
+        sender.send(&mut self.bag, dependents, action)
+    }
+}

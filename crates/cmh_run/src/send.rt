@@ -1,0 +1,69 @@
+//! What a process puts into the bag by an action.
+
+ghost use Rattle.std.specs.Prelude.{◌≡◌, ◌++◌, map, ℕ, OnOk};
+ghost use Rattle.cmh_run.specs.Config.{query, sent};
+
+use crate::{Bag, RunFault};
+use cmh_process::{Action, Kind, Message};
+
+/// The process that acts, and the computation in which it does.
+#[derive(Clone, Copy)]
+pub(crate) struct Sender {
+    pub(crate) initiator: u32,
+    pub(crate) number: u32,
+    pub(crate) from: u32,
+}
+
+impl Sender {
+    /// The receiver of a message, in the computation of the message.
+    pub(crate) fn answering(initiator: u32, message: Message) -> Sender
+        ensures { result ≡ record { initiator = initiator; number = message.number; from = message.to } }
+    {
+        Sender {
+            initiator,
+            number: message.number,
+            from: message.to,
+        }
+    }
+
+    /// Sends what the action says: queries in the order of the dependents, or one reply.
+    pub(crate) fn send(
+        self,
+        bag: &mut Bag,
+        dependents: &[u32],
+        action: Action,
+    ) -> Result<(), RunFault>
+        ensures { OnOk result (bag.new ≡
+            bag.old ++ sent self.initiator self.number self.from dependents.now action) }
+    {
+        match action {
+            Action::Nothing => Ok(()),
+            Action::Engage => self.send_queries(bag, dependents),
+            Action::ReplyTo(to) => bag.push(self.message(Kind::Reply, to)),
+            Action::Declare => Ok(()),
+        }
+    }
+
+    fn send_queries(self, bag: &mut Bag, dependents: &[u32]) -> Result<(), RunFault>
+        ensures { OnOk result (bag.new ≡ bag.old
+            ++ map (λ (r : ℕ). query self.initiator self.number self.from r) dependents.now) }
+    {
+        for to in dependents {
+            bag.push(self.message(Kind::Query, *to))?;
+        }
+        Ok(())
+    }
+
+    fn message(self, kind: Kind, to: u32) -> Message
+        ensures { result ≡ record {
+            kind = kind; initiator = self.initiator; number = self.number; from = self.from; to = to } }
+    {
+        Message {
+            kind,
+            initiator: self.initiator,
+            number: self.number,
+            from: self.from,
+            to,
+        }
+    }
+}
