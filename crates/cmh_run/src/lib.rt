@@ -9,8 +9,12 @@ mod fault;
 mod hints;
 mod laws;
 mod network;
+mod progress;
 mod scripted;
 mod send;
+
+#[cfg(test)]
+mod tests;
 
 pub use bag::Bag;
 pub use delivery::{Delivery, Ending};

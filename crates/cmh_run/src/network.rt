@@ -1,6 +1,6 @@
 //! One configuration of an initiator's computations, and its steps.
 
-ghost use Rattle.std.specs.Prelude.{◌≡◌, ◌+◌, ◌<◌, ◌^◌, ◌%◌, ◌↔◌, [], None, Some, length, slice_get, IfOk, IfSome, IfNone, IsNone, OnOk, if◌then◌else◌};
+ghost use Rattle.std.specs.Prelude.{◌≡◌, ◌+◌, ◌<◌, ◌^◌, ◌%◌, ◌↔◌, [], None, Some, length, slice_get, IfOk, IfSome, IfNone, IsNone, IsFalse, OnOk, if◌then◌else◌};
 ghost use Rattle.cmh_graph.specs.Graph.{process_count, is_awake};
 ghost use Rattle.cmh_graph.specs.Build.{IsWellFormed};
 ghost use Rattle.cmh_run.specs.Config.{proc_at, nothing_yet, start, does, engaged_by, answered, replied, received, asks, without};
@@ -83,6 +83,13 @@ impl Network {
         message.kind == Kind::Query
             && !graph.is_awake(message.to)
             && self.procs[message.to as usize].latest < message.number
+    }
+
+    /// Whether a declaration or a hint has ended the run.
+    pub(crate) fn has_ended(&self) -> bool
+        ensures { IsFalse result ↔ (self.now.ended ≡ None) }
+    {
+        self.ended.is_some()
     }
 
     /// Takes the message that the choice names out of the bag.

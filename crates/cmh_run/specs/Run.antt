@@ -1,0 +1,75 @@
+-- What is kept of a run, on its way and when it has ended.
+use Rattle.std.specs.Prelude.{◌≡◌, ◌≢◌, ◌⊎◌, ℕ, ◌+◌, ◌%◌, ◌<◌, ◌^◌, if◌then◌else◌, List, [], ◌∷◌, ◌++◌, length, slice_get, slice_index, Option, Some, None}
+use Rattle.cmh_graph.specs.Graph.{Graph, process_count, is_awake}
+use Rattle.cmh_process.specs.declared.message.Message.{Message}
+use Rattle.cmh_run.specs.declared.delivery.Delivery.{Delivery}
+use Rattle.cmh_run.specs.declared.delivery.Ending.{Ending}
+use Rattle.cmh_run.specs.Config.{Config, proc_at, without, received}
+use Rattle.cmh_run.specs.Legal.{Going, IsRun}
+use Rattle.cmh_run.specs.Choices.{chosen_place}
+
+-- a run on its way, and the deliveries that led there
+pub record Stage : Type 0 where
+  pub going : Going
+  pub log : List Delivery
+
+-- the initiator may start again: its number grows, and nothing overflows
+pub record MayStart (g : Graph) (i : ℕ) (s : Going) : Type 0 where
+  pub size : length s.config.procs ≡ process_count g
+  pub within : i < process_count g
+  pub next : (proc_at s.config.procs i).latest + 1 < 2 ^ 32
+  pub count : s.restarted + 1 < 2 ^ 32
+
+-- the place that the choices name
+abbrev pub place_in : List ℕ → Stage → ℕ
+place_in choices s = slice_index choices (length s.log) % length s.going.config.bag
+
+-- the stage with another configuration
+abbrev pub with_config : Stage → Config → Stage
+with_config s c = record {
+  going = record {
+    config = c;
+    done = s.going.done;
+    restarts = s.going.restarts;
+    restarted = s.going.restarted;
+  };
+  log = s.log;
+}
+
+-- the message that the choices name was taken, or there is none to take
+abbrev pub IsTakenBy : List ℕ → Stage → Stage → Option Message → Type 0
+IsTakenBy choices old new None =
+    (new ≡ old) × (old.going.config.ended ≢ None ⊎ (old.going.config.bag ≡ []))
+IsTakenBy choices old new (Some m) =
+    let x = place_in choices old in
+    (old.going.config.ended ≡ None) × (slice_get old.going.config.bag x ≡ Some m)
+    × (new ≡ with_config old (without old.going.config x))
+
+-- the stage after the delivery of a message that was taken
+abbrev pub delivered_to : Graph → ℕ → Stage → Delivery → Stage
+delivered_to g i s d = record {
+  going = record {
+    config = if is_awake g d.message.to
+        then s.going.config
+        else received g i s.going.config d.message d.message.kind d.hint;
+    done = s.going.done + 1;
+    restarts = s.going.restarts;
+    restarted = s.going.restarted;
+  };
+  log = s.log ++ d ∷ [];
+}
+
+-- what is kept of a run that has ended
+pub record Run : Type 0 where
+  pub initiator : ℕ
+  pub log : List Delivery
+  pub ending : Ending
+  pub engaged : List ℕ
+  pub restarted : ℕ
+
+-- it is a legal run that followed the choices, with these restarts
+pub record IsRunOf (g : Graph) (choices restarts : List ℕ) (r : Run) : Type 0 where
+  pub end : Going
+  pub legal : IsRun (chosen_place choices) g r.initiator restarts r.log r.ending end
+  pub engaged : r.engaged ≡ end.config.engaged
+  pub restarted : r.restarted ≡ end.restarted

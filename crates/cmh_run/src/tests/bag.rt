@@ -1,0 +1,30 @@
+//! A bag of three messages.
+
+use crate::Bag;
+use cmh_process::{Kind, Message};
+
+fn query(to: u32) -> Message {
+    Message {
+        kind: Kind::Query,
+        initiator: 0,
+        number: 1,
+        from: 0,
+        to,
+    }
+}
+
+#[test]
+fn takes_by_choice(rt: HostRuntime) {
+    let mut bag = Bag::new(rt.alloc());
+    assert!(rt; bag.is_empty());
+    for to in 1..4u32 {
+        assert_eq!(rt; bag.push(query(to)), Ok(()));
+    }
+    assert_eq!(rt; bag.len(), 3);
+    assert_eq!(rt; bag.get(1), Some(&query(2)));
+    assert_eq!(rt; bag.get(3), None);
+    assert_eq!(rt; bag.take(4), Some(query(2)));
+    assert_eq!(rt; bag.take(18_446_744_073_709_551_615), Some(query(3)));
+    assert_eq!(rt; bag.take(9), Some(query(1)));
+    assert_eq!(rt; bag.take(0), None);
+}
