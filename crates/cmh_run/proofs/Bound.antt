@@ -18,7 +18,7 @@ use Rattle.cmh_process.specs.Process.{fresh, proc_started, start_action, proc_en
 use Rattle.cmh_graph.specs.Graph.{Graph, process_count, dependents_of, dependencies_of, is_idle, is_awake, IsWithinGraph, dependency_count}
 use Rattle.cmh_graph.proofs.Verdicts.{asleep_is_idle, idle_within}
 use Rattle.cmh_run.specs.Config.{Config, query, proc_at, sent, acted, engaged_by, hinted, received, without, delivered, start, nothing_yet}
-use Rattle.cmh_run.specs.Legal.{Going, restarted_at, ready, after, Leads, RunsAreShort}
+use Rattle.cmh_run.specs.Legal.{begun, Going, restarted_at, ready, after, Leads, RunsAreShort}
 use Rattle.cmh_run.proofs.Steps.{upd}
 use Rattle.cmh_run.proofs.Tokens.{each_at, set_is}
 use Rattle.cmh_run.proofs.Live.{Live, Fine}
@@ -284,8 +284,11 @@ first_raised : (g : Graph) (i : ℕ) → i < process_count g → is_idle g i ≡
 unfolding phi_of
 first_raised g i within idle low = start_raises g i (nothing_yet g) within idle (length-replicate (process_count g) fresh) low
 
-pub runs_are_short : RunsAreShort
-runs_are_short rule g i restarts log ending end ok idle run = by_awake (is_awake g i) refl
+-- whatever led from the start had few deliveries
+pub leads_are_short : (rule : ℕ → Config → ℕ → Bool) (g : Graph) (i : ℕ) (restarts : List ℕ) (log : List Delivery) (end : Going)
+    → IsWithinGraph g → is_idle g i ≡ true → Leads rule g i (begun g i restarts) log end
+    → length log ≤ 2 * dependency_count g * (end.restarted + 1)
+leads_are_short rule g i restarts log end ok idle all = by_awake (is_awake g i) refl
   where
     within : i < process_count g
     within = idle_within g i idle
@@ -295,7 +298,7 @@ runs_are_short rule g i restarts log ending end ok idle run = by_awake (is_awake
 
     resting : is_awake g i ≡ false → length log ≤ 2 * dependency_count g * (end.restarted + 1)
     resting rests =
-        let leads : Leads rule g i (record { config = start g i (nothing_yet g); done = 0; restarts = restarts; restarted = 0 }) log end = rw rests at run.leads in
+        let leads : Leads rule g i (record { config = start g i (nothing_yet g); done = 0; restarts = restarts; restarted = 0 }) log end = rw rests at all in
         let short = leads_short rule g i ok within idle rests log (record { config = start g i (nothing_yet g); done = 0; restarts = restarts; restarted = 0 }) end (first_start g i ok within rests) leads in
         let low : (proc_at (replicate (process_count g) fresh) i).latest ≤ 0 = rw (fresh_at (process_count g) i) (omega arith) in
         let first : phi_of g (start g i (nothing_yet g)) ≤ phi_of g (nothing_yet g) + 2 * dependency_count g = first_raised g i within idle low in
@@ -303,9 +306,14 @@ runs_are_short rule g i restarts log ending end ok idle run = by_awake (is_awake
 
     awake : is_awake g i ≡ true → length log ≤ 2 * dependency_count g * (end.restarted + 1)
     awake up =
-        let leads : Leads rule g i (record { config = nothing_yet g; done = 0; restarts = []; restarted = 0 }) log end = rw up at run.leads in
+        let leads : Leads rule g i (record { config = nothing_yet g; done = 0; restarts = []; restarted = 0 }) log end = rw up at all in
         omega (arith, empty_log rule g i log end leads)
 
     by_awake : (b : Bool) → is_awake g i ≡ b → length log ≤ 2 * dependency_count g * (end.restarted + 1)
     by_awake true e = awake e
     by_awake false e = resting e
+
+-- so is each run that has ended
+pub runs_are_short : RunsAreShort
+runs_are_short rule g i restarts log ending end ok idle run =
+    leads_are_short rule g i restarts log end ok idle run.leads

@@ -1,5 +1,6 @@
 pub mod Bound
 pub mod Decide
+pub mod Following
 pub mod Live
 pub mod Paths
 pub mod Right

@@ -1,5 +1,6 @@
 pub mod Choices
 pub mod Config
+pub mod Follow
 pub mod Hints
 pub mod Legal
 pub mod Run

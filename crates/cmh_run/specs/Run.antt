@@ -1,9 +1,15 @@
 -- What is kept of a run, on its way and when it has ended.
-use Rattle.std.specs.Prelude.{◌≡◌, ◌≢◌, ◌⊎◌, ℕ, ◌+◌, ◌%◌, ◌<◌, ◌^◌, if◌then◌else◌, List, [], ◌∷◌, ◌++◌, length, slice_get, slice_index, Option, Some, None}
-use Rattle.cmh_graph.specs.Graph.{Graph, process_count, is_awake}
+use Rattle.std.specs.Prelude.{◌≡◌, ◌≢◌, ◌⊎◌, ℕ, suc, ◌+◌, ◌%◌, ◌<◌, ◌≤◌, ◌^◌, IsTrue, IsFalse, if◌then◌else◌, List, [], ◌∷◌, ◌++◌, length, slice_get, slice_index, Option, Some, None}
+use Rattle.cmh_graph.specs.Graph.{Graph, process_count, is_idle, is_awake}
+use Rattle.cmh_graph.specs.declared.verdict.Verdict.{Verdict}
+use Rattle.cmh_graph.specs.declared.verdict.Verdict.TheVariants.{Deadlocked, Free}
 use Rattle.cmh_process.specs.declared.message.Message.{Message}
 use Rattle.cmh_run.specs.declared.delivery.Delivery.{Delivery}
 use Rattle.cmh_run.specs.declared.delivery.Ending.{Ending}
+use Rattle.cmh_run.specs.declared.delivery.Ending.TheVariants.{Declared, AtRest, CutFree}
+use Rattle.cmh_run.specs.declared.fault.RunFault.{RunFault}
+use Rattle.cmh_run.specs.declared.fault.RunFault.TheVariants.{NotIdle, TooManyChoices, Memory, BadRestarts}
+use Rattle.cmh_run.specs.declared.TheConstants.{MAX_CHOICES, MAX_RESTARTS}
 use Rattle.cmh_run.specs.Config.{Config, proc_at, without, received}
 use Rattle.cmh_run.specs.Legal.{Going, IsRun}
 use Rattle.cmh_run.specs.Choices.{chosen_place}
@@ -73,3 +79,38 @@ pub record IsRunOf (g : Graph) (choices restarts : List ℕ) (r : Run) : Type 0 
   pub legal : IsRun (chosen_place choices) g r.initiator restarts r.log r.ending end
   pub engaged : r.engaged ≡ end.config.engaged
   pub restarted : r.restarted ≡ end.restarted
+
+-- how a run that is over, or has nothing left to deliver, has ended
+abbrev pub ending_of : Option Ending → Ending
+ending_of None = AtRest
+ending_of (Some ending) = ending
+
+-- the restarts rise
+abbrev pub IsRising : List ℕ → Type 0
+IsRising list = (k : ℕ) → suc k < length list → slice_index list k < slice_index list (suc k)
+
+-- restarts that a run may be given
+pub record AreRestarts (restarts : List ℕ) : Type 0 where
+  pub few : length restarts ≤ MAX_RESTARTS
+  pub rising : IsRising restarts
+
+-- what a run may be asked for
+pub record IsAccepted (g : Graph) (i : ℕ) (choices restarts : List ℕ) : Type 0 where
+  pub idle : IsTrue (is_idle g i)
+  pub choices_few : length choices ≤ MAX_CHOICES
+  pub restarts_good : AreRestarts restarts
+
+-- the first reason for which there is no run
+abbrev pub IsFirstFault : Graph → ℕ → List ℕ → List ℕ → RunFault → Type 0
+IsFirstFault g i choices restarts NotIdle = IsFalse (is_idle g i)
+IsFirstFault g i choices restarts TooManyChoices =
+    IsTrue (is_idle g i) × (MAX_CHOICES < length choices)
+IsFirstFault g i choices restarts BadRestarts =
+    IsTrue (is_idle g i) × (length choices ≤ MAX_CHOICES) × ¬ (AreRestarts restarts)
+IsFirstFault g i choices restarts Memory = ⊥
+
+-- what an ending says of the initiator
+abbrev pub verdict_of : Ending → Verdict
+verdict_of Declared = Deadlocked
+verdict_of AtRest = Free
+verdict_of (CutFree k) = Free

@@ -8,8 +8,10 @@ mod delivery;
 mod fault;
 mod hints;
 mod laws;
+mod log;
 mod network;
 mod progress;
+mod run;
 mod scripted;
 mod send;
 
@@ -21,6 +23,8 @@ pub use delivery::{Delivery, Ending};
 pub use fault::{RunFault, ScriptFault};
 pub use hints::{Hints, NoHints};
 pub use laws::{law_choices_decide, law_runs_are_right, law_runs_are_short};
+pub use log::RunLog;
+pub use run::run_again;
 pub use scripted::Scripted;
 
 /// The most choices that a run may be given.

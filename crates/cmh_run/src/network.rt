@@ -1,6 +1,6 @@
 //! One configuration of an initiator's computations, and its steps.
 
-ghost use Rattle.std.specs.Prelude.{◌≡◌, ◌+◌, ◌<◌, ◌^◌, ◌%◌, ◌↔◌, [], None, Some, length, slice_get, IfOk, IfSome, IfNone, IsNone, IsFalse, OnOk, if◌then◌else◌};
+ghost use Rattle.std.specs.Prelude.{◌≡◌, ◌+◌, ◌<◌, ◌^◌, ◌%◌, ◌↔◌, [], None, Some, length, slice_get, IfOk, IfSome, IfNone, IsNone, IsFalse, IfErr, OnOk, if◌then◌else◌};
 ghost use Rattle.cmh_graph.specs.Graph.{process_count, is_awake};
 ghost use Rattle.cmh_graph.specs.Build.{IsWellFormed};
 ghost use Rattle.cmh_run.specs.Config.{proc_at, nothing_yet, start, does, engaged_by, answered, replied, received, asks, without};
@@ -39,7 +39,8 @@ impl Model for Network {
 impl Network {
     /// Nobody has heard of anything.
     pub(crate) fn nothing_yet(alloc: Global, graph: &WaitGraph) -> Result<Network, RunFault>
-        ensures { IfOk result (λ n. n ≡ nothing_yet graph.now) }
+        ensures ok { IfOk result (λ n. n ≡ nothing_yet graph.now) }
+        ensures memory { IfErr result (λ e. e ≡ RunFault.Memory) }
     {
         Ok(Network {
             bag: Bag::new(alloc),
@@ -57,7 +58,8 @@ impl Network {
         requires within { initiator < process_count graph.now }
         requires next { (proc_at self.old.procs initiator).latest + 1 < 2 ^ 32 }
         requires going { self.old.ended ≡ None }
-        ensures { OnOk result (self.new ≡ start graph.now initiator self.old) }
+        ensures ok { OnOk result (self.new ≡ start graph.now initiator self.old) }
+        ensures memory { IfErr result (λ e. e ≡ RunFault.Memory) }
     {
         let dependents = graph.dependents(initiator);
         let proc = &mut self.procs[initiator as usize];
@@ -114,9 +116,10 @@ impl Network {
         requires size { length self.old.procs ≡ process_count graph.now }
         requires within { message.to < process_count graph.now }
         requires going { self.old.ended ≡ None }
-        ensures { OnOk result (self.new ≡ (if is_awake graph.now message.to
+        ensures ok { OnOk result (self.new ≡ (if is_awake graph.now message.to
             then self.old
             else received graph.now initiator self.old message message.kind hint)) }
+        ensures memory { IfErr result (λ e. e ≡ RunFault.Memory) }
     {
         if graph.is_awake(message.to) {
             return Ok(());
@@ -125,6 +128,14 @@ impl Network {
             Kind::Query => self.query(graph, initiator, message, hint),
             Kind::Reply => self.reply(initiator, message),
         }
+    }
+
+    /// Who is engaged, and how the run ended.
+    pub(crate) fn into_parts(self) -> (Vec<u32>, Option<Ending>)
+        ensures engaged { result.0.items ≡ self.engaged }
+        ensures ended { result.1 ≡ self.ended }
+    {
+        (self.engaged, self.ended)
     }
 
     fn query(
@@ -138,8 +149,9 @@ impl Network {
         requires size { length self.old.procs ≡ process_count graph.now }
         requires within { message.to < process_count graph.now }
         requires going { self.old.ended ≡ None }
-        ensures { OnOk result (self.new ≡
+        ensures ok { OnOk result (self.new ≡
             received graph.now initiator self.old message Kind.Query hint) }
+        ensures memory { IfErr result (λ e. e ≡ RunFault.Memory) }
     {
         if self.procs[message.to as usize].latest >= message.number {
             return self.answer(initiator, message);
@@ -164,7 +176,8 @@ impl Network {
         requires within { message.to < length self.old.procs }
         requires few { length dependents.now < 2 ^ 32 }
         requires going { self.old.ended ≡ None }
-        ensures { OnOk result (self.new ≡ engaged_by initiator self.old message dependents.now) }
+        ensures ok { OnOk result (self.new ≡ engaged_by initiator self.old message dependents.now) }
+        ensures memory { IfErr result (λ e. e ≡ RunFault.Memory) }
     {
         let proc = &mut self.procs[message.to as usize];
         let action = proc.on_query(message.number, message.from, dependents.len() as u32);
@@ -178,7 +191,8 @@ impl Network {
     fn answer(&mut self, initiator: u32, message: Message) -> Result<(), RunFault>
         requires within { message.to < length self.old.procs }
         requires going { self.old.ended ≡ None }
-        ensures { OnOk result (self.new ≡ answered initiator self.old message) }
+        ensures ok { OnOk result (self.new ≡ answered initiator self.old message) }
+        ensures memory { IfErr result (λ e. e ≡ RunFault.Memory) }
     {
         let proc = &mut self.procs[message.to as usize];
         let action = proc.on_query(message.number, message.from, 0);
@@ -188,7 +202,8 @@ impl Network {
     fn reply(&mut self, initiator: u32, message: Message) -> Result<(), RunFault>
         requires within { message.to < length self.old.procs }
         requires going { self.old.ended ≡ None }
-        ensures { OnOk result (self.new ≡ replied initiator self.old message) }
+        ensures ok { OnOk result (self.new ≡ replied initiator self.old message) }
+        ensures memory { IfErr result (λ e. e ≡ RunFault.Memory) }
     {
         let action = self.procs[message.to as usize].on_reply(message.number);
         self.act(Sender::answering(initiator, message), &[], action)
@@ -202,8 +217,9 @@ impl Network {
         action: Action,
     ) -> Result<(), RunFault>
         requires { self.old.ended ≡ None }
-        ensures { OnOk result (self.new ≡
+        ensures ok { OnOk result (self.new ≡
             does sender.initiator self.old sender.number sender.from dependents.now action) }
+        ensures memory { IfErr result (λ e. e ≡ RunFault.Memory) }
     {
         if action == Action::Declare {
             self.ended = Some(Ending::Declared);

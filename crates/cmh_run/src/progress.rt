@@ -1,14 +1,14 @@
 //! A run on its way.
 
-ghost use Rattle.std.specs.Prelude.{◌≡◌, ◌+◌, ◌<◌, ◌^◌, ◌%◌, ◌↔◌, [], ◌∷◌, ◌++◌, None, Some, length, slice_get, slice_index, IfOk, IfSome, IfNone, OnOk};
+ghost use Rattle.std.specs.Prelude.{◌≡◌, ◌+◌, ◌<◌, ◌^◌, ◌%◌, ◌↔◌, [], ◌∷◌, ◌++◌, None, Some, length, slice_get, slice_index, IfOk, IfSome, IfNone, IfErr, OnOk};
 ghost use Rattle.cmh_graph.specs.Graph.{process_count};
 ghost use Rattle.cmh_graph.specs.Build.{IsWellFormed};
 ghost use Rattle.cmh_run.specs.Config.{proc_at, asks};
-ghost use Rattle.cmh_run.specs.Legal.{begun, ready};
-ghost use Rattle.cmh_run.specs.Run.{MayStart, IsTakenBy, delivered_to};
+ghost use Rattle.cmh_run.specs.Legal.{begun, ready, HintIsFit};
+ghost use Rattle.cmh_run.specs.Run.{MayStart, IsTakenBy, delivered_to, ending_of};
 
 use crate::network::Network;
-use crate::{Delivery, RunFault};
+use crate::{Delivery, Ending, Hints, RunFault, RunLog};
 use cmh_graph::{Verdict, WaitGraph};
 use cmh_process::Message;
 use std::alloc::Global;
@@ -17,10 +17,10 @@ use std::marker::Model;
 /// A run on its way, with the deliveries that were made and the restarts that are still to come.
 #[derive(Drop)]
 pub(crate) struct Progress<'a> {
-    pub(crate) network: Network,
-    pub(crate) log: Vec<Delivery>,
+    network: Network,
+    log: Vec<Delivery>,
     restarts: &'a [u32],
-    pub(crate) restarted: u32,
+    restarted: u32,
 }
 
 impl<'a> Model for Progress<'a> {
@@ -50,8 +50,9 @@ impl<'a> Progress<'a> {
     ) -> Result<Progress<'a>, RunFault>
         requires graph { IsWellFormed graph.now }
         requires within { initiator < process_count graph.now }
-        ensures { IfOk result (λ p.
+        ensures ok { IfOk result (λ p.
             p ≡ record { going = begun graph.now initiator restarts.now; log = [] }) }
+        ensures memory { IfErr result (λ e. e ≡ RunFault.Memory) }
     {
         let is_awake = graph.is_awake(initiator);
         let mut network = Network::nothing_yet(alloc, graph)?;
@@ -75,8 +76,9 @@ impl<'a> Progress<'a> {
         requires graph { IsWellFormed graph.now }
         requires may { self.old.going.config.ended ≡ None
             → MayStart graph.now initiator self.old.going }
-        ensures { OnOk result (self.new ≡ record {
+        ensures ok { OnOk result (self.new ≡ record {
             going = ready graph.now initiator self.old.going; log = self.old.log }) }
+        ensures memory { IfErr result (λ e. e ≡ RunFault.Memory) }
     {
         if self.network.has_ended() {
             return Ok(());
@@ -104,6 +106,27 @@ impl<'a> Progress<'a> {
         self.network.take(choice)
     }
 
+    /// What the hints say of the receiver of a message, if they are asked about it.
+    pub(crate) fn hint_for<H: Hints>(
+        &self,
+        graph: &WaitGraph,
+        message: Message,
+        hints: &mut H,
+    ) -> Option<Verdict>
+        requires speaks { H.speaks_of hints.old graph.now }
+        requires size { length self.now.going.config.procs ≡ process_count graph.now }
+        requires within { message.to < process_count graph.now }
+        ensures fit { HintIsFit graph.now self.now.going.config message result }
+        ensures silent { H.is_silent hints.old → result ≡ None }
+        ensures kept { H.keeps hints.old hints.new }
+    {
+        if self.network.asks(graph, message) {
+            hints.hint(message.to)
+        } else {
+            None
+        }
+    }
+
     /// The delivery of a message that was taken.
     pub(crate) fn deliver(
         &mut self,
@@ -115,11 +138,31 @@ impl<'a> Progress<'a> {
         requires size { length self.old.going.config.procs ≡ process_count graph.now }
         requires within { delivery.message.to < process_count graph.now }
         requires going { self.old.going.config.ended ≡ None }
-        ensures { OnOk result (self.new ≡ delivered_to graph.now initiator self.old delivery) }
+        ensures ok { OnOk result (self.new ≡ delivered_to graph.now initiator self.old delivery) }
+        ensures memory { IfErr result (λ e. e ≡ RunFault.Memory) }
     {
         self.network
             .deliver(graph, initiator, delivery.message, delivery.hint)?;
         self.log.push(delivery)?;
         Ok(())
+    }
+
+    /// What is kept of the run, which is over or has nothing left to deliver.
+    pub(crate) fn into_log(self, initiator: u32) -> RunLog
+        ensures { result ≡ record {
+            initiator = initiator;
+            log = self.entry.log;
+            ending = ending_of self.entry.going.config.ended;
+            engaged = self.entry.going.config.engaged;
+            restarted = self.entry.going.restarted } }
+    {
+        let (engaged, ended) = self.network.into_parts();
+        RunLog {
+            initiator,
+            log: self.log,
+            ending: ended.unwrap_or(Ending::AtRest),
+            engaged,
+            restarted: self.restarted,
+        }
     }
 }

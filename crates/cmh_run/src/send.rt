@@ -1,6 +1,6 @@
 //! What a process puts into the bag by an action.
 
-ghost use Rattle.std.specs.Prelude.{◌≡◌, ◌++◌, map, ℕ, OnOk};
+ghost use Rattle.std.specs.Prelude.{◌≡◌, ◌++◌, map, ℕ, IfErr, OnOk};
 ghost use Rattle.cmh_run.specs.Config.{query, sent};
 
 use crate::{Bag, RunFault};
@@ -33,8 +33,9 @@ impl Sender {
         dependents: &[u32],
         action: Action,
     ) -> Result<(), RunFault>
-        ensures { OnOk result (bag.new ≡
+        ensures ok { OnOk result (bag.new ≡
             bag.old ++ sent self.initiator self.number self.from dependents.now action) }
+        ensures memory { IfErr result (λ e. e ≡ RunFault.Memory) }
     {
         match action {
             Action::Nothing => Ok(()),
@@ -45,8 +46,9 @@ impl Sender {
     }
 
     fn send_queries(self, bag: &mut Bag, dependents: &[u32]) -> Result<(), RunFault>
-        ensures { OnOk result (bag.new ≡ bag.old
+        ensures ok { OnOk result (bag.new ≡ bag.old
             ++ map (λ (r : ℕ). query self.initiator self.number self.from r) dependents.now) }
+        ensures memory { IfErr result (λ e. e ≡ RunFault.Memory) }
     {
         for to in dependents {
             bag.push(self.message(Kind::Query, *to))?;

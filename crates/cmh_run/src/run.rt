@@ -1,0 +1,104 @@
+//! Runs of one initiator.
+
+ghost use Rattle.std.specs.Prelude.{◌≡◌, ◌⊎◌, ◌+◌, ◌*◌, ◌<◌, ◌≤◌, ◌↔◌, length, IfOk, IfErr, IsTrue};
+ghost use Rattle.cmh_graph.specs.Graph.{process_count, is_idle, dependency_count};
+ghost use Rattle.cmh_graph.specs.Build.{IsWellFormed};
+ghost use Rattle.cmh_run.specs.Choices.{HasNoHints};
+ghost use Rattle.cmh_run.specs.Run.{IsRising, IsAccepted, IsFirstFault, IsRunOf};
+
+use crate::progress::Progress;
+use crate::{Delivery, Hints, MAX_CHOICES, MAX_RESTARTS, RunFault, RunLog};
+use cmh_graph::WaitGraph;
+use std::alloc::Global;
+
+/// Runs the computations of an idle initiator, which starts again after each of these numbers of
+/// deliveries, if the run gets that far.
+///
+/// Delivery `t` takes the undelivered message at place `choices[t]`, modulo how many there are; past
+/// the last choice it takes the first. The hints are asked just before a query would engage an idle
+/// process. A delivery takes constant time at choice 0, its hint apart.
+pub fn run_again<H: Hints>(
+    alloc: Global,
+    graph: &WaitGraph,
+    initiator: u32,
+    choices: &[u64],
+    hints: &mut H,
+    restarts: &[u32],
+) -> Result<RunLog, RunFault>
+    requires { H.speaks_of hints.old graph.now }
+    ensures accepted { IfOk result (λ r.
+        IsAccepted graph.now initiator choices.now restarts.now) }
+    ensures fault { IfErr result (λ e. (e ≡ RunFault.Memory)
+        ⊎ IsFirstFault graph.now initiator choices.now restarts.now e) }
+    ensures initiator { IfOk result (λ r. r.initiator ≡ initiator) }
+    ensures legal { IfOk result (IsRunOf graph.now choices.now restarts.now) }
+    ensures silent { H.is_silent hints.old → IfOk result (λ r. HasNoHints r.log) }
+    ensures kept { H.keeps hints.old hints.new }
+{
+    judge(graph, initiator, choices, restarts)?;
+    follow(alloc, graph, initiator, choices, hints, restarts)
+}
+
+/// Whether there is a run.
+fn judge(
+    graph: &WaitGraph,
+    initiator: u32,
+    choices: &[u64],
+    restarts: &[u32],
+) -> Result<(), RunFault>
+    ensures graph { IfOk result (λ u. IsWellFormed graph.now) }
+    ensures ok { IfOk result (λ u. IsAccepted graph.now initiator choices.now restarts.now) }
+    ensures fault { IfErr result (λ e.
+        IsFirstFault graph.now initiator choices.now restarts.now e) }
+{
+    if initiator >= graph.len() || !graph.is_idle(initiator) {
+        return Err(RunFault::NotIdle);
+    }
+    if choices.len() > MAX_CHOICES {
+        return Err(RunFault::TooManyChoices);
+    }
+    if restarts.len() > MAX_RESTARTS || !is_rising(restarts) {
+        return Err(RunFault::BadRestarts);
+    }
+    Ok(())
+}
+
+fn is_rising(list: &[u32]) -> bool
+    ensures { IsTrue result ↔ IsRising list.now }
+{
+    for i in 1..list.len() {
+        if list[i - 1] >= list[i] {
+            return false;
+        }
+    }
+    true
+}
+
+/// The run of what was judged.
+fn follow<H: Hints>(
+    alloc: Global,
+    graph: &WaitGraph,
+    initiator: u32,
+    choices: &[u64],
+    hints: &mut H,
+    restarts: &[u32],
+) -> Result<RunLog, RunFault>
+    requires graph { IsWellFormed graph.now }
+    requires speaks { H.speaks_of hints.old graph.now }
+    requires idle { IsTrue (is_idle graph.now initiator) }
+    requires few { length restarts.now ≤ MAX_RESTARTS }
+    ensures memory { IfErr result (λ e. e ≡ RunFault.Memory) }
+    ensures initiator { IfOk result (λ r. r.initiator ≡ initiator) }
+    ensures legal { IfOk result (IsRunOf graph.now choices.now restarts.now) }
+    ensures silent { H.is_silent hints.old → IfOk result (λ r. HasNoHints r.log) }
+    ensures kept { H.keeps hints.old hints.new }
+{
+    let mut progress = Progress::begin(alloc, graph, initiator, restarts)?;
+    progress.restart_if_due(graph, initiator)?;
+    while let Some(message) = progress.take(choices) {
+        let hint = progress.hint_for(graph, message, hints);
+        progress.deliver(graph, initiator, Delivery { message, hint })?;
+        progress.restart_if_due(graph, initiator)?;
+    }
+    Ok(progress.into_log(initiator))
+}
