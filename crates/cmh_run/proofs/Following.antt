@@ -11,15 +11,16 @@ use Rattle.cmh_graph.specs.Graph.{Graph, process_count, is_idle, is_awake, IsWit
 use Rattle.cmh_graph.proofs.Verdicts.{idle_within}
 use Rattle.cmh_process.specs.Process.{fresh}
 use Rattle.cmh_run.specs.Config.{Config, proc_at, nothing_yet, start, delivered, without, received}
-use Rattle.cmh_run.specs.Legal.{Going, going_from, begun, restart, restarted_at, ready, after, Rule, MayCome, Leads, EndsAs, HintIsFit}
+use Rattle.cmh_run.specs.Legal.{Going, going_from, begun, restart, restarted_at, ready, after, Rule, MayCome, Leads, EndsAs, HintIsFit, IsRight}
 use Rattle.cmh_run.specs.Choices.{chosen_place, HasNoHints}
-use Rattle.cmh_run.specs.Run.{Stage, Run, IsRunOf, MayStart, place_in, IsTakenBy, with_config, delivered_to, ending_of}
+use Rattle.cmh_run.specs.Run.{Stage, Run, IsRunOf, TellsTruth, verdict_of, MayStart, place_in, IsTakenBy, with_config, delivered_to, ending_of}
 use Rattle.cmh_run.specs.Follow.{Follows}
+use Rattle.cmh_run.specs.Hints.{IsVerdict}
 use Rattle.cmh_run.proofs.Live.{Live, Fine}
 use Rattle.cmh_run.proofs.Tokens.{Each, each_at}
-use Rattle.cmh_run.proofs.Right.{number_kept}
+use Rattle.cmh_run.proofs.Right.{number_kept, runs_are_right}
 use Rattle.cmh_run.proofs.Theorem.{by_test, Status, Stands, first_start, leads_stands, status_none, fresh_at, stepped, ready_stands}
-use Rattle.cmh_run.proofs.Bound.{leads_are_short}
+use Rattle.cmh_run.proofs.Bound.{leads_are_short, runs_are_short}
 
 -- a restart changes nothing of how many deliveries there were
 restart_keeps_count : (g : Graph) (i : ℕ) (s : Going) (ns : List ℕ) → (restarted_at g i s ns).done ≡ s.done
@@ -297,3 +298,21 @@ pub finished : (g : Graph) (i : ℕ) (choices restarts : List ℕ) (s t : Stage)
 finished g i choices restarts s t r ok idle f over e =
     subst (λ (x : Run). IsRunOf g choices restarts x) (sym (e ∙ ap (λ (w : Stage). let z : Run = record { initiator = i; log = w.log; ending = ending_of w.going.config.ended; engaged = w.going.config.engaged; restarted = w.going.restarted } in z) over.0))
     (record { end = s.going; legal = record { leads = f.leads; ends = ends_as g i choices restarts s ok idle f over.1 }; engaged = refl; restarted = refl })
+
+-- what a legal run says of its initiator is true
+verdict_right : (g : Graph) (i : ℕ) (restarts : List ℕ) (ending : Ending) (end : Going) → IsRight g i restarts ending end → IsVerdict g i (verdict_of ending)
+verdict_right g i restarts Declared end h = h.declared refl
+verdict_right g i restarts AtRest end h = h.free (λ e. cc)
+verdict_right g i restarts (CutFree k) end h = h.free (λ e. cc)
+
+-- a run that is kept tells the truth
+pub run_is_true : (g : Graph) (i : ℕ) (choices restarts : List ℕ) (r : Run) → IsWithinGraph g → is_idle g i ≡ true → r.initiator ≡ i
+    → IsRunOf g choices restarts r → TellsTruth g r
+run_is_true g i choices restarts r ok idle same k =
+    let mine : is_idle g r.initiator ≡ true = rw same idle in
+    let right = runs_are_right (chosen_place choices) g r.initiator restarts r.log r.ending k.end ok mine k.legal in
+    record {
+      verdict = verdict_right g r.initiator restarts r.ending k.end right;
+      engaged = λ e p c. right.engaged e p (subst (λ (xs : List ℕ). Contains xs p) k.engaged c);
+      short = rw k.restarted (runs_are_short (chosen_place choices) g r.initiator restarts r.log r.ending k.end ok mine k.legal);
+    }

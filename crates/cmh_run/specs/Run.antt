@@ -1,6 +1,6 @@
 -- What is kept of a run, on its way and when it has ended.
-use Rattle.std.specs.Prelude.{◌≡◌, ◌≢◌, ◌⊎◌, ℕ, suc, ◌+◌, ◌%◌, ◌<◌, ◌≤◌, ◌^◌, IsTrue, IsFalse, if◌then◌else◌, List, [], ◌∷◌, ◌++◌, length, slice_get, slice_index, Option, Some, None}
-use Rattle.cmh_graph.specs.Graph.{Graph, process_count, is_idle, is_awake}
+use Rattle.std.specs.Prelude.{◌≡◌, ◌≢◌, ◌⊎◌, ℕ, suc, ◌+◌, ◌*◌, ◌%◌, Contains, ◌<◌, ◌≤◌, ◌^◌, IsTrue, IsFalse, if◌then◌else◌, List, [], ◌∷◌, ◌++◌, length, slice_get, slice_index, Option, Some, None}
+use Rattle.cmh_graph.specs.Graph.{Graph, process_count, is_idle, is_awake, dependency_count}
 use Rattle.cmh_graph.specs.declared.verdict.Verdict.{Verdict}
 use Rattle.cmh_graph.specs.declared.verdict.Verdict.TheVariants.{Deadlocked, Free}
 use Rattle.cmh_process.specs.declared.message.Message.{Message}
@@ -11,6 +11,8 @@ use Rattle.cmh_run.specs.declared.fault.RunFault.{RunFault}
 use Rattle.cmh_run.specs.declared.fault.RunFault.TheVariants.{NotIdle, TooManyChoices, Memory, BadRestarts}
 use Rattle.cmh_run.specs.declared.TheConstants.{MAX_CHOICES, MAX_RESTARTS}
 use Rattle.cmh_run.specs.Config.{Config, proc_at, without, received}
+use Rattle.cmh_graph.specs.Verdict.{IsDeadlocked}
+use Rattle.cmh_run.specs.Hints.{IsVerdict}
 use Rattle.cmh_run.specs.Legal.{Going, IsRun}
 use Rattle.cmh_run.specs.Choices.{chosen_place}
 
@@ -114,3 +116,9 @@ abbrev pub verdict_of : Ending → Verdict
 verdict_of Declared = Deadlocked
 verdict_of AtRest = Free
 verdict_of (CutFree k) = Free
+
+-- what a run that is kept tells of the graph is true, and it is short
+pub record TellsTruth (g : Graph) (r : Run) : Type 0 where
+  pub verdict : IsVerdict g r.initiator (verdict_of r.ending)
+  pub engaged : r.ending ≡ Declared → (k : ℕ) → Contains r.engaged k → IsDeadlocked g k
+  pub short : length r.log ≤ 2 * dependency_count g * (r.restarted + 1)

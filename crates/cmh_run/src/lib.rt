@@ -11,7 +11,7 @@ mod laws;
 mod log;
 mod network;
 mod progress;
-mod run;
+mod runs;
 mod scripted;
 mod send;
 
@@ -24,7 +24,7 @@ pub use fault::{RunFault, ScriptFault};
 pub use hints::{Hints, NoHints};
 pub use laws::{law_choices_decide, law_runs_are_right, law_runs_are_short};
 pub use log::RunLog;
-pub use run::run_again;
+pub use runs::{run, run_again};
 pub use scripted::Scripted;
 
 /// The most choices that a run may be given.

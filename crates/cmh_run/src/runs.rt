@@ -1,10 +1,10 @@
 //! Runs of one initiator.
 
-ghost use Rattle.std.specs.Prelude.{◌≡◌, ◌⊎◌, ◌+◌, ◌*◌, ◌<◌, ◌≤◌, ◌↔◌, length, IfOk, IfErr, IsTrue};
+ghost use Rattle.std.specs.Prelude.{◌≡◌, ◌⊎◌, [], None, ◌+◌, ◌*◌, ◌<◌, ◌≤◌, ◌↔◌, length, IfOk, IfErr, IsTrue};
 ghost use Rattle.cmh_graph.specs.Graph.{process_count, is_idle, dependency_count};
 ghost use Rattle.cmh_graph.specs.Build.{IsWellFormed};
 ghost use Rattle.cmh_run.specs.Choices.{HasNoHints};
-ghost use Rattle.cmh_run.specs.Run.{IsRising, IsAccepted, IsFirstFault, IsRunOf};
+ghost use Rattle.cmh_run.specs.Run.{IsRising, IsAccepted, IsFirstFault, IsRunOf, TellsTruth};
 
 use crate::progress::Progress;
 use crate::{Delivery, Hints, MAX_CHOICES, MAX_RESTARTS, RunFault, RunLog};
@@ -32,11 +32,33 @@ pub fn run_again<H: Hints>(
         ⊎ IsFirstFault graph.now initiator choices.now restarts.now e) }
     ensures initiator { IfOk result (λ r. r.initiator ≡ initiator) }
     ensures legal { IfOk result (IsRunOf graph.now choices.now restarts.now) }
+    ensures true_verdict { IfOk result (TellsTruth graph.now) }
     ensures silent { H.is_silent hints.old → IfOk result (λ r. HasNoHints r.log) }
     ensures kept { H.keeps hints.old hints.new }
 {
     judge(graph, initiator, choices, restarts)?;
     follow(alloc, graph, initiator, choices, hints, restarts)
+}
+
+/// Runs one computation of an idle initiator: `run_again` without restarts.
+pub fn run<H: Hints>(
+    alloc: Global,
+    graph: &WaitGraph,
+    initiator: u32,
+    choices: &[u64],
+    hints: &mut H,
+) -> Result<RunLog, RunFault>
+    requires { H.speaks_of hints.old graph.now }
+    ensures accepted { IfOk result (λ r. IsAccepted graph.now initiator choices.now []) }
+    ensures fault { IfErr result (λ e. (e ≡ RunFault.Memory)
+        ⊎ IsFirstFault graph.now initiator choices.now [] e) }
+    ensures initiator { IfOk result (λ r. r.initiator ≡ initiator) }
+    ensures legal { IfOk result (IsRunOf graph.now choices.now []) }
+    ensures true_verdict { IfOk result (TellsTruth graph.now) }
+    ensures silent { H.is_silent hints.old → IfOk result (λ r. HasNoHints r.log) }
+    ensures kept { H.keeps hints.old hints.new }
+{
+    run_again(alloc, graph, initiator, choices, hints, &[])
 }
 
 /// Whether there is a run.
@@ -90,6 +112,7 @@ fn follow<H: Hints>(
     ensures memory { IfErr result (λ e. e ≡ RunFault.Memory) }
     ensures initiator { IfOk result (λ r. r.initiator ≡ initiator) }
     ensures legal { IfOk result (IsRunOf graph.now choices.now restarts.now) }
+    ensures true_verdict { IfOk result (TellsTruth graph.now) }
     ensures silent { H.is_silent hints.old → IfOk result (λ r. HasNoHints r.log) }
     ensures kept { H.keeps hints.old hints.new }
 {

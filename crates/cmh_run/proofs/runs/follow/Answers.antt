@@ -1,9 +1,9 @@
-use Rattle.std.proofs.Common.{◌≡◌, subst, sym, List, None}
+use Rattle.std.proofs.Common.{◌≡◌, ap, subst, sym, List, None}
 use Rattle.cmh_run.specs.declared.delivery.Delivery.{Delivery}
-use Rattle.cmh_run.specs.Run.{Stage, MayStart}
+use Rattle.cmh_run.specs.Run.{Run, Stage, MayStart}
 use Rattle.cmh_run.specs.Choices.{HasNoHints}
-use Rattle.cmh_run.proofs.Following.{may_start_first, taken_size, taken_within, taken_may_start, taken_follows, taken_log, taken_falls, no_hints_on, finished}
-use Rattle.cmh_run.proofs.run.follow.Goals as goal
+use Rattle.cmh_run.proofs.Following.{may_start_first, taken_size, taken_within, taken_may_start, taken_follows, taken_log, taken_falls, no_hints_on, finished, run_is_true}
+use Rattle.cmh_run.proofs.runs.follow.Goals as goal
 
 pub restart_if_due-requires-clause-may : goal.restart_if_due-requires-clause-may
 restart_if_due-requires-clause-may g c =
@@ -78,3 +78,10 @@ pub returns-clause-legal : goal.returns-clause-legal
 returns-clause-legal g c =
     finished c.args.graph.now c.args.initiator c.args.choices.now c.args.restarts.now c.loop-message.progress c.take.new.self c.into_log.result
     c.requires.graph.within c.requires.idle c.loop-message.invariant.follows c.in_default.ensures c.into_log.ensures
+
+pub returns-clause-true_verdict : goal.returns-clause-true_verdict
+returns-clause-true_verdict g c =
+    run_is_true c.args.graph.now c.args.initiator c.args.choices.now c.args.restarts.now c.into_log.result
+    c.requires.graph.within c.requires.idle (ap (λ (r : Run). r.initiator) c.into_log.ensures)
+    (finished c.args.graph.now c.args.initiator c.args.choices.now c.args.restarts.now c.loop-message.progress c.take.new.self c.into_log.result
+    c.requires.graph.within c.requires.idle c.loop-message.invariant.follows c.in_default.ensures c.into_log.ensures)

@@ -2,7 +2,7 @@ use Rattle.std.proofs.Common.{ℕ, ◌+◌, ◌*◌, ◌-◌, length}
 use Rattle.cmh_graph.specs.Graph.{dependency_count}
 use Rattle.cmh_run.specs.Choices.{HasNoHints}
 use Rattle.cmh_run.specs.Follow.{Follows}
-use Rattle.cmh_run.proofs.run.follow.Given as goal
+use Rattle.cmh_run.proofs.runs.follow.Given as goal
 
 abbrev pub invariant-loop-message : goal.invariant-loop-message
 invariant-loop-message g l = record {
