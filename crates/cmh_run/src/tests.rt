@@ -1,4 +1,5 @@
 //! The parts of a run, each by itself.
 
 mod bag;
+mod runs;
 mod scripted;
