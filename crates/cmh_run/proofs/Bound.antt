@@ -28,6 +28,7 @@ use Rattle.std.proofs.lemmas.List.Sums.{sum_by-remove, sum_by-append, sum_by-con
 use Rattle.std.proofs.Common.{mul-le-mul_left, mul-suc, ◌*◌, add-one}
 use Rattle.std.proofs.lemmas.Option.{slice_get_within, get_or_from_slice_get}
 
+-- nothing is never a message
 nothing_there : {m : Message} → None ≡ Some m → ⊥
 nothing_there h = cc
 
@@ -55,10 +56,12 @@ abbrev total : Graph → ℕ → (ℕ → Proc) → ℕ → ℕ
 total g n F zero = 0
 total g n F (suc k) = total g n F k + share g n k (F k)
 
+-- a change of process k leaves the total of the processes below it as it was
 total_past : (g : Graph) (n : ℕ) (F : ℕ → Proc) (k : ℕ) (p : Proc) (l : ℕ) → l ≤ k → total g n (upd F k p) l ≡ total g n F l
 total_past g n F k p zero h = refl
 total_past g n F k p (suc l) h = rw (total_past g n F k p l (omega arith), ne_eqb l k (λ e. omega arith)) refl
 
+-- a change of process k changes the total by its share alone
 total_upd : (g : Graph) (n : ℕ) (F : ℕ → Proc) (k : ℕ) (p : Proc) (l : ℕ) → k < l → total g n (upd F k p) l + share g n k (F k) ≡ total g n F l + share g n k p
 total_upd g n F k p zero h = absurd (omega arith)
 total_upd g n F k p (suc l) h =
@@ -67,19 +70,23 @@ total_upd g n F k p (suc l) h =
     (λ (w : l ≡ k → ⊥). rw (ne_eqb l k w) (omega (arith, total_upd g n F k p l (omega (arith, w)))))
     (cases_eq l k)
 
+-- how many deliveries the messages and the processes still lead to at most
 phi : Graph → ℕ → (ℕ → Proc) → List Message → ℕ
 phi g n F bag = load bag + total g n F (process_count g)
 
+-- a message that is taken takes its weight from the load
 load_remove : (bag : List Message) (x : ℕ) (m : Message) → slice_get bag x ≡ Some m → load (remove bag x) + kind_weight m.kind ≡ load bag
 load_remove bag x m e =
     let same : get_or bag x m ≡ m = get_or_from_slice_get bag x m m e in
     let h = sum_by-remove (λ (y : Message). kind_weight y.kind) bag x m (slice_get_within bag x m e) in
     subst (λ (y : Message). load (remove bag x) + kind_weight y.kind ≡ load bag) same h
 
+-- the load of queries is two for each
 load_queries : (i n k : ℕ) (ds : List ℕ) → load (map (λ (y : ℕ). query i n k y) ds) ≡ 2 * length ds
 load_queries i n k [] = refl
 load_queries i n k (d ∷ ds) = rw (sum_by-cons (λ (y : Message). kind_weight y.kind) (query i n k d) (map (λ (y : ℕ). query i n k y) ds), load_queries i n k ds) (omega arith)
 
+-- each message weighs at least one
 some_weight : (k : Kind) → 1 ≤ kind_weight k
 some_weight Query = omega arith
 some_weight Reply = omega arith
@@ -93,6 +100,7 @@ falls g n procs bag x k m p new size there within h =
     rw (set_is procs k p (omega arith))
     (omega (arith, load_remove bag x m there, sum_by-append (λ (y : Message). kind_weight y.kind) (remove bag x) new, total_upd g n (proc_at procs) k p (process_count g) within))
 
+-- a process that has somebody to ask doesn't reply at once
 some_engage : (from n : ℕ) → engage_action from (suc n) ≡ Engage
 some_engage from n = rw (ne_eqb (suc n) 0 (λ e. omega arith)) refl
 
@@ -112,28 +120,34 @@ engaging_pays g i n k number from old owed (d ∷ ds) h a b =
 
 module _ (g : Graph) (i : ℕ) (c : Config) (ok : IsWithinGraph g) (size : length c.procs ≡ process_count g)
     (L : Live g i c.number (proc_at c.procs) c.bag c.engaged) (x : ℕ) (m : Message) (there : slice_get c.bag x ≡ Some m) where
+  -- the measure is lower in this configuration than before the delivery
   falls_here : Config → Type 0
   falls_here d = phi g c.number (proc_at d.procs) d.bag + 1 ≤ phi g c.number (proc_at c.procs) c.bag
 
+  -- what is true of each undelivered message is true of m
   fine_m : Fine g i c.number (proc_at c.procs) m
   fine_m = each_at (Fine g i c.number (proc_at c.procs)) c.bag x m L.fine there
 
+  -- once m is taken the measure is lower
   taken_off : phi g c.number (proc_at c.procs) (remove c.bag x) + 1 ≤ phi g c.number (proc_at c.procs) c.bag
   unfolding phi
   taken_off = omega (arith, load_remove c.bag x m there, some_weight m.kind)
 
+  -- a query that engages its receiver lowers the measure, whichever dependents it asks
   engaging_falls : (ds : List ℕ) → m.kind ≡ Query → engages (proc_at c.procs m.to) m.number ≡ true → length ds ≤ width g m.to → falls_here (engaged_by i (without c x) m ds)
   unfolding falls_here
   engaging_falls ds kind new within =
       rw new (falls g c.number c.procs c.bag x m.to m (proc_engaged m.number m.from (length ds)) (sent i m.number m.to ds (engage_action m.from (length ds))) size there fine_m.to_in
       (rw kind (engaging_pays g i c.number m.to m.number m.from (proc_at c.procs m.to).latest (owing (proc_at c.procs m.to).engager (proc_at c.procs m.to).num) ds within (ltb-true (proc_at c.procs m.to).latest m.number new) fine_m.low)))
 
+  -- a query that would engage its receiver lowers the measure, whatever the hint
   asked_falls : m.kind ≡ Query → engages (proc_at c.procs m.to) m.number ≡ true → is_awake g m.to ≡ false → (hint : Option Verdict) → falls_here (hinted g i (without c x) m hint)
   unfolding falls_here
   asked_falls kind new rests None = engaging_falls (dependents_of g m.to) kind new (rw (asleep_is_idle g m.to rests) (omega arith))
   asked_falls kind new rests (Some Deadlocked) = engaging_falls [] kind new (omega arith)
   asked_falls kind new rests (Some Free) = taken_off
 
+  -- a query that doesn't engage its receiver lowers the measure
   repeat_falls : m.kind ≡ Query → engages (proc_at c.procs m.to) m.number ≡ false
       → falls_here (acted i (without c x) m.number m.to [] (proc_queried (proc_at c.procs m.to) m.number m.from 0) (query_action (proc_at c.procs m.to) m.number m.from 0))
   unfolding falls_here
@@ -143,6 +157,7 @@ module _ (g : Graph) (i : ℕ) (c : Config) (ok : IsWithinGraph g) (size : lengt
       (λ b. load (sent i m.number m.to [] (cond b (ReplyTo m.from) Nothing)) + share g c.number m.to (proc_at c.procs m.to) + 1 ≤ 2 + share g c.number m.to (proc_at c.procs m.to))
       (λ e. omega arith) (λ e. omega arith))))
 
+  -- a reply lowers the measure
   reply_falls : m.kind ≡ Reply → falls_here (acted i (without c x) m.number m.to [] (proc_replied (proc_at c.procs m.to) m.number) (reply_action (proc_at c.procs m.to) m.number))
   unfolding falls_here
   reply_falls kind =
@@ -164,6 +179,7 @@ module _ (g : Graph) (i : ℕ) (c : Config) (ok : IsWithinGraph g) (size : lengt
           (λ b. load (sent i m.number m.to [] (cond b (cond (eqb p.num 1) (last_action p.engager) Nothing) Nothing)) + share g c.number m.to (cond b (record { latest = p.latest; engager = p.engager; num = p.num - 1; wait = p.wait }) p) + 1 ≤ 1 + share g c.number m.to p)
           (λ e. omega (arith, last p.engager p.num (counted p e) (eqb p.num 1) refl)) (λ e. omega arith)
 
+  -- each delivery lowers the measure
   delivery_falls : (hint : Option Verdict) → falls_here (delivered g i c x m hint)
   unfolding falls_here
   delivery_falls hint = by_test (is_awake g m.to) (λ b. falls_here (cond b (without c x) (received g i (without c x) m m.kind hint)))
@@ -180,6 +196,7 @@ abbrev width_below : Graph → ℕ → ℕ
 width_below g zero = 0
 width_below g (suc n) = width_below g n + width g n
 
+-- a sum over one number more is greater by what that number adds
 sum_by_more : (f : ℕ → ℕ) (n m : ℕ) → n + 1 ≡ m → sum_by f (range_with_len 0 m) ≡ sum_by f (range_with_len 0 n) + f n
 sum_by_more f n m e =
     let one = rw (map-id (range_with_len 0 (n + 1)), map-id (range_with_len 0 n)) at (sum_by-map-range_with_len_more f (λ x. x) 0 n n (omega arith)) in
@@ -190,6 +207,7 @@ width_below_is : (g : Graph) (n : ℕ) → width_below g n ≡ sum_by (width g) 
 width_below_is g zero = refl
 width_below_is g (suc n) = omega (arith, sum_by_more (width g) n (suc n) (omega arith), width_below_is g n)
 
+-- with the number one greater, the total rises by at most two for each dependency
 width_edges : (g : Graph) (n m : ℕ) (F : ℕ → Proc) (l : ℕ) → m ≤ n + 1 → total g m F l ≤ total g n F l + 2 * width_below g l
 width_edges g n m F zero h = omega arith
 width_edges g n m F (suc l) h =
@@ -225,14 +243,17 @@ start_raises g i c within idle size low =
     loads [] = omega arith
     loads (d ∷ ds) = rw (ne_eqb (suc (length ds)) 0 (λ q. omega arith), load_queries i n i (d ∷ ds)) (omega arith)
 
+-- the measure of a configuration
 phi_of : Graph → Config → ℕ
 phi_of g c = phi g c.number (proc_at c.procs) c.bag
 
+-- a delivery lowers the measure of a configuration
 delivered_falls : (g : Graph) (i : ℕ) (c : Config) → IsWithinGraph g → length c.procs ≡ process_count g → Live g i c.number (proc_at c.procs) c.bag c.engaged → (x : ℕ) (m : Message) → slice_get c.bag x ≡ Some m → (hint : Option Verdict)
     → phi_of g (delivered g i c x m hint) + 1 ≤ phi_of g c
 unfolding phi_of falls_here
 delivered_falls g i c ok size L x m there hint = rw (number_kept g i c x m hint) (delivery_falls g i c ok size L x m there hint)
 
+-- a restart that is due raises the measure by at most two for each dependency
 ready_raises : (g : Graph) (i : ℕ) (s : Going) → IsWithinGraph g → i < process_count g → is_idle g i ≡ true → Stands g i s.config → (ns : List ℕ)
     → phi_of g (restarted_at g i s ns).config + 2 * dependency_count g * s.restarted ≤ phi_of g s.config + 2 * dependency_count g * (restarted_at g i s ns).restarted
 unfolding phi_of
@@ -253,6 +274,7 @@ ready_raises g i s ok within idle h (n ∷ ns) =
     is_none_true None h = refl
     is_none_true (Some e) h = absurd (true≢false (sym h))
 
+-- the deliveries are at most the measure, and two for each dependency and later restart
 leads_short : (rule : ℕ → Config → ℕ → Bool) (g : Graph) (i : ℕ) → IsWithinGraph g → i < process_count g → is_idle g i ≡ true → is_awake g i ≡ false → (log : List Delivery) (s end : Going) → Stands g i s.config → Leads rule g i s log end
     → length log + 2 * dependency_count g * s.restarted ≤ phi_of g s.config + 2 * dependency_count g * end.restarted
 leads_short rule g i ok within idle rests [] s end h l =
@@ -268,18 +290,22 @@ leads_short rule g i ok within idle rests (d ∷ log) s end h l =
     (stepped g i (ready g i s).config ok now.size l.1.going live.0 live.1 l.0 d.message l.1.there d.hint l.1.hint) l.3 in
     omega (arith, raised, fell, rest)
 
+-- processes that have heard of nothing lead to no delivery
 fresh_total : (g : Graph) (n l : ℕ) → total g 0 (proc_at (replicate n fresh)) l ≡ 0
 fresh_total g n zero = refl
 fresh_total g n (suc l) = rw (fresh_total g n l, fresh_at n l) (omega arith)
 
+-- before the start the measure is 0
 phi_nothing : (g : Graph) → phi_of g (nothing_yet g) ≡ 0
 unfolding phi_of phi
 phi_nothing g = omega (arith, fresh_total g (process_count g) (process_count g))
 
+-- where nothing was started, nothing is delivered
 empty_log : (rule : ℕ → Config → ℕ → Bool) (g : Graph) (i : ℕ) (log : List Delivery) (end : Going) → Leads rule g i (record { config = nothing_yet g; done = 0; restarts = []; restarted = 0 }) log end → length log ≡ 0
 empty_log rule g i [] end l = refl
 empty_log rule g i (d ∷ log) end l = absurd (nothing_there l.1.there)
 
+-- the first start raises the measure by at most two for each dependency
 first_raised : (g : Graph) (i : ℕ) → i < process_count g → is_idle g i ≡ true → (proc_at (replicate (process_count g) fresh) i).latest ≤ 0 → phi_of g (start g i (nothing_yet g)) ≤ phi_of g (nothing_yet g) + 2 * dependency_count g
 unfolding phi_of
 first_raised g i within idle low = start_raises g i (nothing_yet g) within idle (length-replicate (process_count g) fresh) low

@@ -12,14 +12,17 @@ use Rattle.cmh_run.specs.Config.{Config}
 use Rattle.cmh_run.specs.Legal.{Going, begun, ready, after, MayCome, Leads, EndsAs}
 use Rattle.cmh_run.specs.Choices.{chosen_place, HasNoHints, ChoicesDecide}
 
+-- nothing is never something
 none_some : {A : Type 0} {m : A} → None ≡ Some m → ⊥
 none_some h = cc
 
+-- once a run has ended no delivery may come
 over : (g : Graph) (c : Config) (x : ℕ) (d : Delivery) (ending : Ending) → EndsAs c ending → MayCome g c x d → ⊥
 over g c x d Declared e may = none_some (sym may.going ∙ e)
 over g c x d (CutFree k) e may = none_some (sym may.going ∙ e)
 over g c x d AtRest e may = none_some (ap (λ (bag : List Message). slice_get bag x) (sym e.1) ∙ may.there)
 
+-- from the same state, without hints, the choices lead to one end by one list of deliveries
 decides : (choices : List ℕ) (g : Graph) (i : ℕ) (log other : List Delivery) (s end far : Going) (ending last : Ending)
     → Leads (chosen_place choices) g i s log end → Leads (chosen_place choices) g i s other far → EndsAs end.config ending → EndsAs far.config last
     → HasNoHints log → HasNoHints other → (log ≡ other) × (end ≡ far)
@@ -37,6 +40,7 @@ decides choices g i (d ∷ log) (h ∷ other) s end far ending last l k e f a b 
     (subst (λ (t : Going). Leads (chosen_place choices) g i t other far) (sym next) k.3) e f a.1 b.1 in
     (ap₂ (λ (x : Delivery) (xs : List Delivery). x ∷ xs) same rest.0, rest.1)
 
+-- without hints the choices leave one run
 pub choices_decide : ChoicesDecide
 choices_decide choices g i restarts log other ending last end far r t a b =
     decides choices g i log other (begun g i restarts) end far ending last r.leads t.leads r.ends t.ends a b

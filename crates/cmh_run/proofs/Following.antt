@@ -59,6 +59,7 @@ leads_restarts rule g i (d ∷ log) s end l =
     let rest = leads_restarts rule g i log (after g i (ready g i s) l.0 d) end l.3 in
     omega (arith, now, rest)
 
+-- an ending that is tested to be none is none
 none_true : (o : Option Ending) → is_none o ≡ true → o ≡ None
 none_true None h = refl
 none_true (Some e) h = absurd (true≢false (sym h))
@@ -72,7 +73,7 @@ module _ (g : Graph) (i : ℕ) (ok : IsWithinGraph g) (within : i < process_coun
       by_test (is_none s.config.ended && eqb n s.done)
       (λ b. (cond b (restart g i s ns) s).config.number ≡ (cond b (restart g i s ns) s).restarted + 1)
       (λ t. let live = status_none g i s.config h (none_true s.config.ended (and_parts (is_none s.config.ended) (eqb n s.done) t).0) in
-          omega (arith, live.0.sound.root_in, e))
+      omega (arith, live.0.sound.root_in, e))
       (λ t. e)
 
   -- deliveries keep it so
@@ -94,17 +95,21 @@ module _ (g : Graph) (i : ℕ) (ok : IsWithinGraph g) (within : i < process_coun
       let live = status_none g i s.config h going in
       record { size = h.size; within = within; next = omega (arith, live.0.sound.root_in); count = omega arith }
 
+  -- the first start has number 1
   first_number : (start g i (nothing_yet g)).number ≡ 1
   first_number = rw (fresh_at (process_count g) i) refl
 
+  -- what is true of a configuration is true after the first start
   pub first_stands : Stands g i (start g i (nothing_yet g))
   first_stands = first_start g i ok within rests
 
+  -- it is true wherever deliveries lead from the first start
   pub follows_stands : (rule : Rule) (restarts : List ℕ) (log : List Delivery) (s : Going)
       → Leads rule g i (going_from (start g i (nothing_yet g)) restarts) log s → Stands g i s.config
   follows_stands rule restarts log s l =
       leads_stands rule g i ok within rests log (going_from (start g i (nothing_yet g)) restarts) s first_stands l
 
+  -- there the number of the last start is one more than the restarts
   pub follows_numbered : (rule : Rule) (restarts : List ℕ) (log : List Delivery) (s : Going)
       → Leads rule g i (going_from (start g i (nothing_yet g)) restarts) log s → s.config.number ≡ s.restarted + 1
   follows_numbered rule restarts log s l =
@@ -126,12 +131,15 @@ pub record Steady (g : Graph) (i : ℕ) (s : Going) : Type 0 where
   pub numbered : s.config.number ≡ s.restarted + 1
 
 module _ (g : Graph) (i : ℕ) (choices restarts : List ℕ) (s : Stage) (ok : IsWithinGraph g) (idle : is_idle g i ≡ true) (f : Follows g i choices restarts s) where
+  -- an idle initiator is a process of the graph
   within : i < process_count g
   within = idle_within g i idle
 
+  -- where the initiator isn't awake, the deliveries lead on from its start
   asleep_leads : is_awake g i ≡ false → Leads (chosen_place choices) g i (going_from (start g i (nothing_yet g)) restarts) s.log s.going
   asleep_leads e = rw e at f.leads
 
+  -- where the initiator is awake, the deliveries lead on from where nothing was started
   awake_leads : is_awake g i ≡ true → Leads (chosen_place choices) g i (going_from (nothing_yet g) []) s.log s.going
   awake_leads e = rw e at f.leads
 
@@ -157,6 +165,7 @@ module _ (g : Graph) (i : ℕ) (choices restarts : List ℕ) (s : Stage) (ok : I
       let live = status_none g i s.going.config firm.stands going in
       (each_at (Fine g i s.going.config.number (proc_at s.going.config.procs)) s.going.config.bag x m live.0.fine there).to_in
 
+  -- at most 16 restarts have come if at most 16 were given
   few_restarts : length restarts ≤ 16 → s.going.restarted ≤ 16
   few_restarts few = by_awake (is_awake g i) refl
     where
@@ -201,7 +210,7 @@ pub may_start_first : (g : Graph) (i : ℕ) (restarts : List ℕ) → IsWithinGr
 may_start_first g i restarts ok idle =
     by_test (is_awake g i)
     (λ b. (cond b (going_from (nothing_yet g) []) (going_from (start g i (nothing_yet g)) restarts)).config.ended ≡ None
-        → MayStart g i (cond b (going_from (nothing_yet g) []) (going_from (start g i (nothing_yet g)) restarts)))
+    → MayStart g i (cond b (going_from (nothing_yet g) []) (going_from (start g i (nothing_yet g)) restarts)))
     (λ e going. record { size = length-replicate (process_count g) fresh; within = idle_within g i idle; next = rw (fresh_at (process_count g) i) (omega arith); count = omega arith })
     (λ e going. may_start g i ok (idle_within g i idle) e (going_from (start g i (nothing_yet g)) restarts) (first_stands g i ok (idle_within g i idle) e) (first_number g i ok (idle_within g i idle) e) (omega arith) going)
 
@@ -240,9 +249,11 @@ module _ (g : Graph) (i : ℕ) (choices restarts : List ℕ) (s t : Stage) (m : 
       same_fit (Some v) e = e
 
   module _ (hint : Option Verdict) (fit : HintIsFit g t.going.config m hint) (u : Stage) (step : u ≡ delivered_to g i t (record { message = m; hint = hint })) where
+    -- the delivery of m with this hint
     d : Delivery
     d = record { message = m; hint = hint }
 
+    -- the stage is then the one after this delivery, which ends its log
     is_after : u ≡ record { going = after g i s.going (place_in choices s) (record { message = m; hint = hint }); log = s.log ++ (record { message = m; hint = hint }) ∷ [] }
     is_after = step ∙ ap (λ (w : Stage). delivered_to g i w (record { message = m; hint = hint })) taken.2
 

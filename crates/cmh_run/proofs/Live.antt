@@ -38,33 +38,41 @@ pub record Live (g : Graph) (i n : ℕ) (F : ℕ → Proc) (bag : List Message) 
   pub in_range : (k e : ℕ) → (F k).engager ≡ Some e → e < process_count g
   pub engaged_in : (k : ℕ) → 0 < tally k engaged → (F k).latest ≡ n
 
+-- a process stands in two lists together as often as in the one and in the other
 pub tally-append : (r : ℕ) (xs ys : List ℕ) → tally r (xs ++ ys) ≡ tally r xs + tally r ys
 tally-append r [] ys = omega arith
 tally-append r (x ∷ xs) ys = omega (arith, tally-append r xs ys)
 
+-- what is true of each undelivered message stays true while nobody leaves the newest computation
 pub fine_on : (g : Graph) (i n : ℕ) (F F' : ℕ → Proc) (bag : List Message) → ((k : ℕ) → (F k).latest ≡ n → (F' k).latest ≡ n) → Each (Fine g i n F) bag → Each (Fine g i n F') bag
 fine_on g i n F F' bag still a = each_more (Fine g i n F) (Fine g i n F') bag
     (λ x f. record { low = f.low; positive = f.positive; from_in = f.from_in; to_in = f.to_in; asked = f.asked; told = λ k e. still x.from (f.told k e) }) a
 
+-- what is true of whoever stands in a list is true of each place of it
 pub each_from : (Q : ℕ → Type 0) (es : List ℕ) → ((r : ℕ) → 0 < tally r es → Q r) → Each Q es
 each_from Q [] f = tt
 each_from Q (e ∷ es) f = (f e (rw (eq-eqb e e refl) (omega arith)), each_from Q es (λ r h. f r (omega arith)))
 
+-- a process that has somebody to ask doesn't reply at once
 some_engage : (from n : ℕ) → engage_action from (suc n) ≡ Engage
 some_engage from n = rw (ne_eqb (suc n) 0 (λ e. omega arith)) refl
 
+-- the last reply on its way stands for what was owed until then
 last_debt : (v : Bool) → 0 + one_if (v && true) + one_if (v && ltb 0 (1 - 1)) ≡ one_if (v && ltb 0 1)
 last_debt true = refl
 last_debt false = refl
 
+-- a equals b by the test as b equals a
 eqb-sym : (a b : ℕ) → eqb a b ≡ eqb b a
 eqb-sym a b = place b a (λ v. v ≡ eqb b a) (λ e. sym (eq-eqb b a (sym e))) (λ n. sym (ne_eqb b a (λ e. n (sym e))))
 
+-- where the last of three tests fails, nothing counts
 one_side : (p q : Bool) → one_if (p && (q && false)) ≡ 0
 one_side true true = refl
 one_side true false = refl
 one_side false q = refl
 
+-- where the last of three tests holds, the other two count in either order
 both_sides : (p q : Bool) → one_if (p && (q && true)) ≡ one_if (q && p)
 both_sides true true = refl
 both_sides true false = refl
@@ -72,12 +80,15 @@ both_sides false true = refl
 both_sides false false = refl
 
 module _ (g : Graph) (i n : ℕ) (F : ℕ → Proc) (bag : List Message) (engaged : List ℕ) (ok : IsWithinGraph g) (L : Live g i n F bag engaged) (x : ℕ) (m : Message) (there : slice_get bag x ≡ Some m) where
+  -- what is true of each undelivered message is true of m
   fine_m : Fine g i n F m
   fine_m = each_at (Fine g i n F) bag x m L.fine there
 
+  -- along each dependency m counts no longer once it is taken
   spent : (a r : ℕ) → tokens n (remove bag x) a r + token n a r m ≡ tokens n bag a r
   spent a r = tokens-remove n bag x m a r there
 
+  -- where m goes along the dependency from a to r, a is in the newest computation and waits for r
   pub waiting : (a r : ℕ) → is_token n a r m ≡ true → ((F a).latest ≡ n) × (0 < tally r (L.out a))
   waiting a r h =
       let more : 0 < tally r (L.out a) = omega (arith, rw h at (spent a r), L.sound.held a r) in (
@@ -87,6 +98,7 @@ module _ (g : Graph) (i n : ℕ) (F : ℕ → Proc) (bag : List Message) (engage
         more,
       )
 
+  -- m may be dropped unless it goes along a dependency on a process that isn't awake
   pub dropped : ((a r : ℕ) → is_awake g r ≡ false → is_token n a r m ≡ true → ⊥) → Live g i n F (remove bag x) engaged
   dropped none = record {
     out = L.out;
@@ -200,6 +212,7 @@ module _ (g : Graph) (i n : ℕ) (F : ℕ → Proc) (bag : List Message) (engage
       new_fine (e ∷ es) all = rw (some_engage m.from (length es)) (each_map (Fine g i n (upd F m.to p)) (λ (r : ℕ). query i m.number m.to r) (e ∷ es) (each_from (λ (r : ℕ). Fine g i n (upd F m.to p) (query i m.number m.to r)) (e ∷ es)
           (λ r h. record { low = fine_m.low; positive = fine_m.positive; from_in = fine_m.to_in; to_in = depends_within g ok m.to r fine_m.to_in (all r h); asked = λ q. (all r h, reaches_more g i m.to r (fine_m.asked is_query).1 (all r h)); told = λ q. absurd (cc) })))
 
+  -- a reply of the newest computation goes along its receiver's dependency on its sender
   to_fresh : m.number ≡ n → m.kind ≡ Reply → is_token n m.to m.from m ≡ true
   to_fresh newest is_reply = rw (is_reply, eq-eqb m.number n newest, eq-eqb m.to m.to refl, eq-eqb m.from m.from refl) refl
 

@@ -39,6 +39,7 @@ number_kept g i c x m hint = by_test (is_awake g m.to) (λ b. (cond b (without c
         hint_kept (Some Deadlocked) = refl
         hint_kept (Some Free) = refl
 
+-- without restarts the number stays the same
 one_number : (rule : ℕ → Config → ℕ → Bool) (g : Graph) (i : ℕ) (log : List Delivery) (s end : Going) → s.restarts ≡ [] → Leads rule g i s log end → end.config.number ≡ s.config.number
 one_number rule g i [] s end none l =
     let same : ready g i s ≡ s = rw none refl in
@@ -49,6 +50,7 @@ one_number rule g i (d ∷ log) s end none l =
     ∙ number_kept g i (ready g i s).config l.0 d.message d.hint ∙ ap (λ (t : Going). t.config.number) same
 
 module _ (g : Graph) (i : ℕ) (c : Config) (ok : IsWithinGraph g) (L : Live g i c.number (proc_at c.procs) c.bag c.engaged) where
+  -- once the initiator waits for no reply, each undelivered message has a lower number
   low_number : (proc_at c.procs i).num ≡ 0 → (m : Message) → Contains c.bag m → m.number < c.number
   low_number top m h =
       let there : slice_get c.bag h.0 ≡ Some m = slice_get-get_or c.bag h.0 m h.1 ∙ ap Some h.2 in
@@ -65,9 +67,11 @@ module _ (g : Graph) (i : ℕ) (c : Config) (ok : IsWithinGraph g) (L : Live g i
       (λ (other : m.number ≡ c.number → ⊥). omega (arith, fine.low))
       (cases_eq m.number c.number)
 
+  -- then each process in the newest computation is deadlocked
   all_deadlocked : (proc_at c.procs i).num ≡ 0 → (k : ℕ) → (proc_at c.procs k).latest ≡ c.number → IsDeadlocked g k
   all_deadlocked top k l = engaged_deadlocked g i c.number (proc_at c.procs) (tokens c.number c.bag) L.out L.rank L.clock L.sound top k l
 
+  -- while the initiator waits and nothing is undelivered, it isn't deadlocked
   at_rest : c.bag ≡ [] → 0 < (proc_at c.procs i).num → ¬ (IsDeadlocked g i)
   at_rest empty more = at_rest_free g i c.number (proc_at c.procs) (tokens c.number c.bag) L.out L.rank L.clock L.sound (λ k r. rw empty refl) more
 
@@ -76,6 +80,7 @@ no_member : (bag : List Message) → ((m : Message) → Contains bag m → ⊥) 
 no_member [] none = refl
 no_member (m ∷ bag) none = absurd (none m (0, omega arith, refl))
 
+-- where what stays true of a run holds at its end, the run tells the truth
 right_at : (g : Graph) (i : ℕ) (restarts : List ℕ) (ending : Ending) (end : Going) → IsWithinGraph g → Stands g i end.config → EndsAs end.config ending → (restarts ≡ [] → end.config.number ≡ 1) → IsRight g i restarts ending end
 right_at g i restarts Declared end ok s e one =
     let h : Status g i end.config.number (proc_at end.config.procs) end.config.bag end.config.engaged (Some Declared) = subst (λ (o : Option Ending). Status g i end.config.number (proc_at end.config.procs) end.config.bag end.config.engaged o) e s.status in
@@ -96,9 +101,11 @@ right_at g i restarts (CutFree k) end ok s e one =
     let h : Status g i end.config.number (proc_at end.config.procs) end.config.bag end.config.engaged (Some (CutFree k)) = subst (λ (o : Option Ending). Status g i end.config.number (proc_at end.config.procs) end.config.bag end.config.engaged o) e s.status in
     record { declared = λ q. absurd (cc); free = λ q. h; engaged = λ q. absurd (cc); last_delivered = λ q. absurd (cc); all_delivered = λ none q. absurd (cc) }
 
+-- nothing is never an ending
 no_ending : {e : Ending} → None ≡ Some e → ⊥
 no_ending h = cc
 
+-- nothing is never a message
 nothing_there : {m : Message} → None ≡ Some m → ⊥
 nothing_there h = cc
 
@@ -116,6 +123,7 @@ empty_run rule g i restarts [] AtRest end up l e = record {
   all_delivered = λ none q. absurd (cc);
 }
 
+-- every legal run of an idle process tells the truth
 pub runs_are_right : RunsAreRight
 runs_are_right rule g i restarts log ending end ok idle run =
     by_awake (is_awake g i) refl

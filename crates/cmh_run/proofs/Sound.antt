@@ -41,20 +41,24 @@ pub record Sound (g : Graph) (i m : ℕ) (P : ℕ → Proc) (T : ℕ → ℕ →
   pub known : (k r : ℕ) → 0 < tally r (out k) → Depends g k r
   pub few : (k r : ℕ) → tally r (out k) ≤ tally r (dependents_of g k)
 
+-- a process of computation m that k engaged and that still waits owes k a reply
 pub owes_from : (m k : ℕ) (p : Proc) → p.latest ≡ m → p.engager ≡ Some k → 0 < p.num → owes m k p ≡ true
 owes_from m k p l e h = and_from (eqb p.latest m) (is_engager k p.engager && ltb 0 p.num) (eq-eqb p.latest m l)
     (and_from (is_engager k p.engager) (ltb 0 p.num) (rw e (eq-eqb k k refl)) (lt-ltb 0 p.num h))
 
+-- an engager that is tested to be k is k
 is_engager_true : (k : ℕ) (o : Option ℕ) → is_engager k o ≡ true → o ≡ Some k
 is_engager_true k None h = absurd (true≢false (sym h))
 is_engager_true k (Some e) h = ap Some (eqb-true e k h)
 
+-- who owes k a reply is of computation m, was engaged by k, and still waits
 pub owes_parts : (m k : ℕ) (p : Proc) → owes m k p ≡ true → (p.latest ≡ m) × (p.engager ≡ Some k) × (0 < p.num)
 owes_parts m k p h =
     let a = and_parts (eqb p.latest m) (is_engager k p.engager && ltb 0 p.num) h in
     let b = and_parts (is_engager k p.engager) (ltb 0 p.num) a.1 in
     (eqb-true p.latest m a.0, is_engager_true k p.engager b.0, ltb-true 0 p.num b.1)
 
+-- a test that counts holds
 one_if_true : (b : Bool) → 0 < one_if b → b ≡ true
 one_if_true true h = refl
 one_if_true false h = absurd (omega arith)
@@ -79,6 +83,7 @@ module _ (g : Graph) (i m : ℕ) (P : ℕ → Proc) (T : ℕ → ℕ → ℕ) (o
           (λ (more : 0 < (P k).num). absurd (let o = owes_from m e (P k) l is more in omega (arith, rw o at none)))
           (eq-zero-or-pos (P k).num)
 
+  -- once the initiator waits for no reply, nobody in its computation waits
   pub none_waits : (P i).num ≡ 0 → (k : ℕ) → (P k).latest ≡ m → (P k).num ≡ 0
   none_waits top k l = none_waits_below top (suc (rank k)) k (omega arith) l
 
@@ -95,6 +100,7 @@ module _ (g : Graph) (i m : ℕ) (P : ℕ → Proc) (T : ℕ → ℕ → ℕ) (o
       (all r h.0.1))
       (s.settled k l)
 
+  -- then everyone in its computation is deadlocked
   pub engaged_deadlocked : (P i).num ≡ 0 → (k : ℕ) → (P k).latest ≡ m → IsDeadlocked g k
   engaged_deadlocked top k l =
       (asleep_is_idle g k (s.rests k (omega (arith, s.positive, l))), λ q way. let on = leads_reached g k q way in all_rest top on.0 k q l on.1)
@@ -125,5 +131,6 @@ module _ (g : Graph) (i m : ℕ) (P : ℕ → Proc) (T : ℕ → ℕ → ℕ) (o
           let zero_r : (P some.0).num ≡ 0 = ih some.0 (omega arith) owed.0 in
           omega (arith, owed.2)
 
+  -- while the initiator waits and nothing is on its way, it isn't deadlocked
   pub at_rest_free : ((k r : ℕ) → T k r ≡ 0) → 0 < (P i).num → ¬ (IsDeadlocked g i)
   at_rest_free none more dead = omega (arith, at_rest_above dead none clock i (omega arith) s.root_in)

@@ -205,9 +205,11 @@ pub record Calm (g : Graph) (i m : ℕ) (P : ℕ → Proc) : Type 0 where
   pub rests : (k : ℕ) → 0 < (P k).latest → is_awake g k ≡ false
   pub reached : (k : ℕ) → 0 < (P k).latest → Reaches g i k
 
+-- what stays true of a run gives what a start needs
 pub calm : (g : Graph) (i m : ℕ) (P : ℕ → Proc) (T : ℕ → ℕ → ℕ) (out : ℕ → List ℕ) (rank : ℕ → ℕ) (clock : ℕ) → Sound g i m P T out rank clock → Calm g i m P
 calm g i m P T out rank clock s = record { latest = s.latest; waits = s.waits; tops = s.tops; rests = s.rests; reached = s.reached }
 
+-- a start with a greater number makes it true of the new computation
 pub starts : (g : Graph) (i m m' : ℕ) (P : ℕ → Proc) (p : Proc) (ds : List ℕ) (T' : ℕ → ℕ → ℕ) → Calm g i m P → m < m' → p.latest ≡ m' → p.engager ≡ None → p.num ≡ length ds → p.wait ≡ true
     → is_awake g i ≡ false → ((r : ℕ) → 0 < tally r ds → Depends g i r) → ((r : ℕ) → Contains (dependents_of g i) r → 0 < tally r ds) → ((r : ℕ) → tally r ds ≤ tally r (dependents_of g i))
     → ((x y : ℕ) → T' x y ≡ cond (eqb x i) (tally y ds) 0)

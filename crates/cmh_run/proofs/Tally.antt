@@ -14,6 +14,7 @@ abbrev pub without_one : ℕ → List ℕ → List ℕ
 without_one r [] = []
 without_one r (y ∷ ys) = cond (eqb y r) ys (y ∷ without_one r ys)
 
+-- a process stands in a list at most as often as the list is long
 pub tally-le-length : (r : ℕ) (ys : List ℕ) → tally r ys ≤ length ys
 tally-le-length r [] = omega arith
 tally-le-length r (y ∷ ys) = step (eqb y r) (tally-le-length r ys)
@@ -22,6 +23,7 @@ tally-le-length r (y ∷ ys) = step (eqb y r) (tally-le-length r ys)
     step true h = omega arith
     step false h = omega arith
 
+-- without one r that stood in it the list is shorter by one
 pub length-without_one : (r : ℕ) (ys : List ℕ) → 0 < tally r ys → length (without_one r ys) + 1 ≡ length ys
 length-without_one r [] h = omega arith
 length-without_one r (y ∷ ys) h = step (eqb y r) h (length-without_one r ys)
@@ -30,6 +32,7 @@ length-without_one r (y ∷ ys) h = step (eqb y r) h (length-without_one r ys)
     step true h ih = omega arith
     step false h ih = omega (arith, ih (omega arith))
 
+-- without one r, r stands in the list once less, and any other as often as before
 pub tally-without_one : (r x : ℕ) (ys : List ℕ) → 0 < tally r ys → tally x (without_one r ys) + one_if (eqb r x) ≡ tally x ys
 tally-without_one r x [] h = omega arith
 tally-without_one r x (y ∷ ys) h = step (eqb y r) refl h (tally-without_one r x ys)
@@ -38,18 +41,22 @@ tally-without_one r x (y ∷ ys) h = step (eqb y r) refl h (tally-without_one r 
     step true e h ih = let same : y ≡ r = eqb-true y r e in rw (← same) (omega arith)
     step false e h ih = omega (arith, ih (omega arith))
 
+-- in a list that isn't empty some process stands
 pub some_tally : (ys : List ℕ) → 0 < length ys → (r : ℕ) × (0 < tally r ys)
 some_tally [] h = absurd (omega arith)
 some_tally (y ∷ ys) h = (y, rw (eq-eqb y y refl) (omega arith))
 
+-- a process that stands at a place of the list stands in it
 pub tally_at : (r k : ℕ) (ys : List ℕ) → k < length ys → get_or ys k r ≡ r → 0 < tally r ys
 tally_at r k [] h e = absurd (omega arith)
 tally_at r zero (y ∷ ys) h e = rw (eq-eqb y r e) (omega arith)
 tally_at r (suc k) (y ∷ ys) h e = omega (arith, tally_at r k ys (omega arith) e)
 
+-- what the list contains stands in it at least once
 pub tally_from_contains : (r : ℕ) (ys : List ℕ) → Contains ys r → 0 < tally r ys
 tally_from_contains r ys c = tally_at r c.0 ys c.1 c.2
 
+-- what stands in the list at least once, it contains
 pub contains_from_tally : (r : ℕ) (ys : List ℕ) → 0 < tally r ys → Contains ys r
 contains_from_tally r [] h = absurd (omega arith)
 contains_from_tally r (y ∷ ys) h = step (eqb y r) refl h (contains_from_tally r ys)

@@ -50,17 +50,21 @@ changed g i n procs k p bag engaged e size within h = record {
   status = subst (λ (G : ℕ → Proc). Status g i n G bag engaged e) (sym (set_is procs k p (omega arith))) h;
 }
 
+-- something is never nothing
 some_none : {e : ℕ} → Some e ≡ None → ⊥
 some_none h = cc
 
+-- a function with its own value at k is the same function
 upd_self : (F : ℕ → Proc) (k : ℕ) → ◌≡◌ {A = ℕ → Proc} (upd F k (F k)) F
 upd_self F k = fun_ext (λ x. place k x (λ b. cond b (F k) (F x) ≡ F x) (λ q. ap F (sym q)) (λ w. refl))
 
 module _ (g : Graph) (i : ℕ) (c : Config) (ok : IsWithinGraph g) (size : length c.procs ≡ process_count g) (going : c.ended ≡ None)
     (L : Live g i c.number (proc_at c.procs) c.bag c.engaged) (more : 0 < (proc_at c.procs i).num) (x : ℕ) (m : Message) (there : slice_get c.bag x ≡ Some m) where
+  -- what is true of each undelivered message is true of m
   fine_m : Fine g i c.number (proc_at c.procs) m
   fine_m = each_at (Fine g i c.number (proc_at c.procs)) c.bag x m L.fine there
 
+  -- a receiver that isn't in the newest computation isn't the initiator, which waits as before
   not_i : (proc_at c.procs m.to).latest < c.number → (p : Proc) → (upd (proc_at c.procs) m.to p i).num ≡ (proc_at c.procs i).num
   not_i before p = place m.to i (λ b. (cond b p (proc_at c.procs i)).num ≡ (proc_at c.procs i).num)
       (λ q. absurd (let h : (proc_at c.procs i).latest < c.number = rw q before in omega (arith, L.sound.root_in))) (λ w. refl)
@@ -180,6 +184,7 @@ module _ (g : Graph) (i : ℕ) (c : Config) (ok : IsWithinGraph g) (size : lengt
   asked kind new rests (Some Deadlocked) fit = engaging [] kind new rests (λ r h. absurd (omega arith)) (λ r. omega arith) (inl fit.1)
   asked kind new rests (Some Free) fit = record { size = size; status = λ dead. fit.1 (reached_deadlocked g i m.to (fine_m.asked kind).1 dead) }
 
+  -- what m does to a receiver that isn't awake, with a fit hint, keeps it true
   receiving : is_awake g m.to ≡ false → (k : Kind) → m.kind ≡ k → (hint : Option Verdict) → HintIsFit g c m hint → Stands g i (received g i (without c x) m k hint)
   receiving rests Query kind hint fit =
       by_test (engages (proc_at c.procs m.to) m.number)
@@ -188,6 +193,7 @@ module _ (g : Graph) (i : ℕ) (c : Config) (ok : IsWithinGraph g) (size : lengt
       (λ e. not_engaging kind e)
   receiving rests Reply kind hint fit = replying kind
 
+  -- a delivery with a fit hint keeps what is true of a configuration
   pub stepped : (hint : Option Verdict) → HintIsFit g c m hint → Stands g i (delivered g i c x m hint)
   stepped hint fit =
       by_test (is_awake g m.to) (λ b. Stands g i (cond b (without c x) (received g i (without c x) m m.kind hint)))
@@ -213,11 +219,13 @@ starting g i c ok within rests size calm later fine range =
         rw (ne_eqb (suc (length ds)) 0 (λ q. omega arith))
         (rw (ne_eqb (suc (length ds)) 0 (λ q. omega arith)) at (begins (d ∷ ds) e), omega (arith, num_is (proc_started (proc_at c.procs i) (suc (length ds)))))
 
+-- among processes that have heard of nothing, each is fresh
 pub fresh_at : (n k : ℕ) → proc_at (replicate n fresh) k ≡ fresh
 fresh_at zero k = refl
 fresh_at (suc n) zero = refl
 fresh_at (suc n) (suc k) = fresh_at n k
 
+-- what is true of a configuration is true after the first start
 pub first_start : (g : Graph) (i : ℕ) → IsWithinGraph g → i < process_count g → is_awake g i ≡ false → Stands g i (start g i (nothing_yet g))
 first_start g i ok within rests = starting g i (nothing_yet g) ok within rests (length-replicate (process_count g) fresh)
     (record {
@@ -232,18 +240,22 @@ first_start g i ok within rests = starting g i (nothing_yet g) ok within rests (
     none_some : {e : ℕ} → None ≡ Some e → ⊥
     none_some h = cc
 
+-- an ending that is tested to be none is none
 is_none_true : (o : Option Ending) → is_none o ≡ true → o ≡ None
 is_none_true None h = refl
 is_none_true (Some e) h = absurd (true≢false (sym h))
 
+-- while the run isn't over, it is live and the initiator still waits for a reply
 pub status_none : (g : Graph) (i : ℕ) (c : Config) → Stands g i c → c.ended ≡ None → Live g i c.number (proc_at c.procs) c.bag c.engaged × (0 < (proc_at c.procs i).num)
 status_none g i c s e = subst (λ (o : Option Ending). Status g i c.number (proc_at c.procs) c.bag c.engaged o) e s.status
 
+-- a start of the initiator keeps it true while the run isn't over
 restarting : (g : Graph) (i : ℕ) (c : Config) → IsWithinGraph g → i < process_count g → is_awake g i ≡ false → Stands g i c → c.ended ≡ None → Stands g i (start g i c)
 restarting g i c ok within rests s e =
     let l = status_none g i c s e in
     starting g i c ok within rests s.size (calm g i c.number (proc_at c.procs) (tokens c.number c.bag) l.0.out l.0.rank l.0.clock l.0.sound) (omega (arith, l.0.sound.root_in)) l.0.fine l.0.in_range
 
+-- a restart that is due keeps it true
 pub ready_stands : (g : Graph) (i : ℕ) (s : Going) → IsWithinGraph g → i < process_count g → is_awake g i ≡ false → Stands g i s.config → (ns : List ℕ) → Stands g i (restarted_at g i s ns).config
 ready_stands g i s ok within rests h [] = h
 ready_stands g i s ok within rests h (n ∷ ns) =
@@ -252,6 +264,7 @@ ready_stands g i s ok within rests h (n ∷ ns) =
     (λ e. restarting g i s.config ok within rests h (is_none_true s.config.ended (and_parts (is_none s.config.ended) (eqb n s.done) e).0))
     (λ e. h)
 
+-- it is true wherever deliveries lead from where it was true
 pub leads_stands : (rule : ℕ → Config → ℕ → Bool) (g : Graph) (i : ℕ) → IsWithinGraph g → i < process_count g → is_awake g i ≡ false → (log : List Delivery) (s end : Going) → Stands g i s.config → Leads rule g i s log end → Stands g i end.config
 leads_stands rule g i ok within rests [] s end h l = subst (λ (t : Going). Stands g i t.config) l (ready_stands g i s ok within rests h s.restarts)
 leads_stands rule g i ok within rests (d ∷ log) s end h l =

@@ -14,7 +14,6 @@ mod progress;
 mod runs;
 mod scripted;
 mod send;
-
 #[cfg(test)]
 mod tests;
 

@@ -23,11 +23,11 @@ impl Model for RunLog {
     ghost Value = { Run };
 
     ghost view = { λ r. record {
-        initiator = r.initiator;
-        log = r.log.items;
-        ending = r.ending;
-        engaged = r.engaged.items;
-        restarted = r.restarted;
+      initiator = r.initiator;
+      log = r.log.items;
+      ending = r.ending;
+      engaged = r.engaged.items;
+      restarted = r.restarted;
     } };
 }
 

@@ -28,11 +28,11 @@ impl Model for Network {
     ghost Value = { Config };
 
     ghost view = { λ n. record {
-        bag = n.bag;
-        procs = n.procs.items;
-        number = n.number;
-        engaged = n.engaged.items;
-        ended = n.ended;
+      bag = n.bag;
+      procs = n.procs.items;
+      number = n.number;
+      engaged = n.engaged.items;
+      ended = n.ended;
     } };
 }
 
@@ -210,12 +210,7 @@ impl Network {
     }
 
     /// A process sends, or it ends the run.
-    fn act(
-        &mut self,
-        sender: Sender,
-        dependents: &[u32],
-        action: Action,
-    ) -> Result<(), RunFault>
+    fn act(&mut self, sender: Sender, dependents: &[u32], action: Action) -> Result<(), RunFault>
         requires { self.old.ended ≡ None }
         ensures ok { OnOk result (self.new ≡
             does sender.initiator self.old sender.number sender.from dependents.now action) }

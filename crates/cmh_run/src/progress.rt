@@ -30,13 +30,13 @@ impl<'a> Model for Progress<'a> {
     ghost Value = { Stage };
 
     ghost view = { λ p. record {
-        going = record {
-            config = p.network;
-            done = length p.log.items;
-            restarts = p.restarts.now;
-            restarted = p.restarted;
-        };
-        log = p.log.items;
+      going = record {
+        config = p.network;
+        done = length p.log.items;
+        restarts = p.restarts.now;
+        restarted = p.restarted;
+      };
+      log = p.log.items;
     } };
 }
 
@@ -77,7 +77,9 @@ impl<'a> Progress<'a> {
         requires may { self.old.going.config.ended ≡ None
             → MayStart graph.now initiator self.old.going }
         ensures ok { OnOk result (self.new ≡ record {
-            going = ready graph.now initiator self.old.going; log = self.old.log }) }
+          going = ready graph.now initiator self.old.going;
+          log = self.old.log;
+        }) }
         ensures memory { IfErr result (λ e. e ≡ RunFault.Memory) }
     {
         if self.network.has_ended() {
@@ -150,11 +152,12 @@ impl<'a> Progress<'a> {
     /// What is kept of the run, which is over or has nothing left to deliver.
     pub(crate) fn into_log(self, initiator: u32) -> RunLog
         ensures { result ≡ record {
-            initiator = initiator;
-            log = self.entry.log;
-            ending = ending_of self.entry.going.config.ended;
-            engaged = self.entry.going.config.engaged;
-            restarted = self.entry.going.restarted } }
+          initiator = initiator;
+          log = self.entry.log;
+          ending = ending_of self.entry.going.config.ended;
+          engaged = self.entry.going.config.engaged;
+          restarted = self.entry.going.restarted;
+        } }
     {
         let (engaged, ended) = self.network.into_parts();
         RunLog {

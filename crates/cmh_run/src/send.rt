@@ -58,7 +58,12 @@ impl Sender {
 
     fn message(self, kind: Kind, to: u32) -> Message
         ensures { result ≡ record {
-            kind = kind; initiator = self.initiator; number = self.number; from = self.from; to = to } }
+          kind = kind;
+          initiator = self.initiator;
+          number = self.number;
+          from = self.from;
+          to = to;
+        } }
     {
         Message {
             kind,

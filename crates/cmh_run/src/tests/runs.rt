@@ -51,12 +51,17 @@ fn two_in_a_cycle(rt: HostRuntime) -> Result<(), GraphFault> {
     let alloc = rt.alloc();
     let graph = graph_of(alloc, &TWO_IN_A_CYCLE)?;
     let run = run(alloc, &graph, 0, &[], &mut NoHints).map_err(|_| GraphFault::Memory)?;
-    assert!(rt; has_steps(&run, &[
-        (Kind::Query, 1, 0, 1),
-        (Kind::Query, 1, 1, 0),
-        (Kind::Reply, 1, 0, 1),
-        (Kind::Reply, 1, 1, 0),
-    ]));
+    assert!(rt;
+        has_steps(
+            &run,
+            &[
+                (Kind::Query, 1, 0, 1),
+                (Kind::Query, 1, 1, 0),
+                (Kind::Reply, 1, 0, 1),
+                (Kind::Reply, 1, 1, 0),
+            ]
+        )
+    );
     assert_eq!(rt; run.ending(), Ending::Declared);
     assert_eq!(rt; run.verdict(), Verdict::Deadlocked);
     assert_eq!(rt; run.engaged(), [0, 1].as_slice());
@@ -70,13 +75,18 @@ fn one_free_one_stuck(rt: HostRuntime) -> Result<(), GraphFault> {
     let alloc = rt.alloc();
     let graph = graph_of(alloc, &ONE_FREE_ONE_STUCK)?;
     let run = run(alloc, &graph, 0, &[], &mut NoHints).map_err(|_| GraphFault::Memory)?;
-    assert!(rt; has_steps(&run, &[
-        (Kind::Query, 1, 0, 1),
-        (Kind::Query, 1, 0, 2),
-        (Kind::Query, 1, 1, 1),
-        (Kind::Reply, 1, 1, 1),
-        (Kind::Reply, 1, 1, 0),
-    ]));
+    assert!(rt;
+        has_steps(
+            &run,
+            &[
+                (Kind::Query, 1, 0, 1),
+                (Kind::Query, 1, 0, 2),
+                (Kind::Query, 1, 1, 1),
+                (Kind::Reply, 1, 1, 1),
+                (Kind::Reply, 1, 1, 0),
+            ]
+        )
+    );
     assert_eq!(rt; run.ending(), Ending::AtRest);
     assert_eq!(rt; run.verdict(), Verdict::Free);
     assert_eq!(rt; run.engaged(), [0, 1].as_slice());
@@ -88,14 +98,19 @@ fn restarted(rt: HostRuntime) -> Result<(), GraphFault> {
     let alloc = rt.alloc();
     let graph = graph_of(alloc, &TWO_IN_A_CYCLE)?;
     let run = run_again(alloc, &graph, 0, &[], &mut NoHints, &[0]).map_err(|_| GraphFault::Memory)?;
-    assert!(rt; has_steps(&run, &[
-        (Kind::Query, 1, 0, 1),
-        (Kind::Query, 2, 0, 1),
-        (Kind::Query, 1, 1, 0),
-        (Kind::Query, 2, 1, 0),
-        (Kind::Reply, 2, 0, 1),
-        (Kind::Reply, 2, 1, 0),
-    ]));
+    assert!(rt;
+        has_steps(
+            &run,
+            &[
+                (Kind::Query, 1, 0, 1),
+                (Kind::Query, 2, 0, 1),
+                (Kind::Query, 1, 1, 0),
+                (Kind::Query, 2, 1, 0),
+                (Kind::Reply, 2, 0, 1),
+                (Kind::Reply, 2, 1, 0),
+            ]
+        )
+    );
     assert_eq!(rt; run.ending(), Ending::Declared);
     assert_eq!(rt; run.restarted(), 1);
     Ok(())
@@ -105,11 +120,16 @@ fn restarted(rt: HostRuntime) -> Result<(), GraphFault> {
 fn hints_are_asked(rt: HostRuntime) -> Result<(), GraphFault> {
     let alloc = rt.alloc();
     let graph = graph_of(alloc, &TWO_IN_A_CYCLE)?;
-    let mut hints = Scripted::new(alloc, &graph, &[(0, 1, Verdict::Deadlocked)])
-        .map_err(|_| GraphFault::Memory)?;
+    let mut hints = Scripted::new(alloc, &graph, &[(0, 1, Verdict::Deadlocked)]).map_err(
+        |_| GraphFault::Memory,
+    )?;
     let run = run(alloc, &graph, 0, &[], &mut hints).map_err(|_| GraphFault::Memory)?;
     assert!(rt; has_steps(&run, &[(Kind::Query, 1, 0, 1), (Kind::Reply, 1, 1, 0)]));
-    let hints = run.log().iter().filter(|delivery| delivery.hint.is_some()).count();
+    let hints = run
+        .log()
+        .iter()
+        .filter(|delivery| delivery.hint.is_some())
+        .count();
     assert_eq!(rt; hints, 1);
     assert_eq!(rt; run.ending(), Ending::Declared);
     Ok(())
@@ -123,7 +143,10 @@ fn refuses(rt: HostRuntime) -> Result<(), GraphFault> {
         run_again(alloc, &graph, 2, &[], &mut NoHints, &[2, 2]).err(),
         Some(RunFault::NotIdle)
     );
-    assert_eq!(rt; run(alloc, &graph, 3, &[], &mut NoHints).err(), Some(RunFault::NotIdle));
+    assert_eq!(rt;
+        run(alloc, &graph, 3, &[], &mut NoHints).err(),
+        Some(RunFault::NotIdle)
+    );
     assert_eq!(rt;
         run_again(alloc, &graph, 0, &[], &mut NoHints, &[2, 2]).err(),
         Some(RunFault::BadRestarts)

@@ -21,7 +21,11 @@ fn graph(alloc: Global) -> Result<WaitGraph, GraphFault> {
     WaitGraph::build(alloc, parts)
 }
 
-fn refusal(alloc: Global, graph: &WaitGraph, entries: &[(u32, u32, Verdict)]) -> Option<ScriptFault> {
+fn refusal(
+    alloc: Global,
+    graph: &WaitGraph,
+    entries: &[(u32, u32, Verdict)],
+) -> Option<ScriptFault> {
     Scripted::new(alloc, graph, entries).err()
 }
 
@@ -46,11 +50,19 @@ fn refuses_what_is_not_true(rt: HostRuntime) -> Result<(), GraphFault> {
     let alloc = rt.alloc();
     let graph = graph(alloc)?;
     assert_eq!(rt;
-        refusal(alloc, &graph, &[(0, 0, Verdict::Deadlocked), (0, 1, Verdict::Free)]),
+        refusal(
+            alloc,
+            &graph,
+            &[(0, 0, Verdict::Deadlocked), (0, 1, Verdict::Free)]
+        ),
         Some(ScriptFault::FalseVerdict(1))
     );
     assert_eq!(rt;
-        refusal(alloc, &graph, &[(0, 0, Verdict::Free), (0, 3, Verdict::Free)]),
+        refusal(
+            alloc,
+            &graph,
+            &[(0, 0, Verdict::Free), (0, 3, Verdict::Free)]
+        ),
         Some(ScriptFault::ProcessOutOfRange(1))
     );
     assert_eq!(rt; refusal(alloc, &graph, &[(0, 2, Verdict::Free)]), None);

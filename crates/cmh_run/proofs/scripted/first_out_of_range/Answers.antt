@@ -4,15 +4,18 @@ use Rattle.cmh_run.specs.Script.{IsOutOfRange}
 use Rattle.cmh_run.proofs.Scripts.{first_place, out_of_range, in_range}
 use Rattle.cmh_run.proofs.scripted.first_out_of_range.Goals as goal
 
+-- the place that is returned is that of the first entry out of range
 pub returns-then-entry-count-clause-some : goal.returns-then-entry-count-clause-some
 returns-then-entry-count-clause-some c =
     first_place (IsOutOfRange c.args.count c.args.entries.now) c.loop-i.i c.loop-i.invariant
     (out_of_range c.args.count c.args.entries.now c.loop-i.i _ c.loop-i-test.true c.if-entry-count.true)
 
+-- an entry in range leaves none out of range up to it
 pub loop-i-preserved : goal.loop-i-preserved
 loop-i-preserved c = below_more _ _ c.loop-i.invariant
     (in_range c.args.count c.args.entries.now c.loop-i.i _ c.loop-i-test.true c.if-entry-count.false)
 
+-- where none is returned no entry is out of range
 pub returns-clause-none : goal.returns-clause-none
 returns-clause-none c k o =
     let within : k < length c.args.entries.now = slice_get_within c.args.entries.now k o.0 o.1 in

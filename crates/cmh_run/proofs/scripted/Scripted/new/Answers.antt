@@ -3,12 +3,14 @@ use Rattle.cmh_run.specs.Script.{Entry, AreTrueOf, IsOutOfRange, IsNever}
 use Rattle.cmh_run.proofs.Scripts.{never_beyond, first_untrue, true_of}
 use Rattle.cmh_run.proofs.scripted.Scripted.new.Goals as goal
 
+-- no entry is out of range of the list of verdicts
 pub first_difference-requires : goal.first_difference-requires
 first_difference-requires c =
     never_beyond c.args.graph.now c.deref.result.now c.args.entries.now c.len.ensures.well_formed.within
     (c.deref.ensures.value ∙ c.in_ok-truth.ensures.ok)
     (subst (λ (n : ℕ). IsNever (IsOutOfRange n c.args.entries.now)) c.len.ensures.count c.in_default.ensures.none)
 
+-- the first entry that differs from the verdicts is the first fault
 pub returns-in-Some-first_difference-clause-fault : goal.returns-in-Some-first_difference-clause-fault
 returns-in-Some-first_difference-clause-fault c =
     let never = subst (λ (n : ℕ). IsNever (IsOutOfRange n c.args.entries.now)) c.len.ensures.count c.in_default.ensures.none in
@@ -19,10 +21,12 @@ returns-in-Some-first_difference-clause-fault c =
           c.in-Some-first_difference.ensures.some,
     )
 
+-- no entry of the script is out of range
 pub returns-clause-within : goal.returns-clause-within
 returns-clause-within c =
     subst (λ (n : ℕ). IsNever (IsOutOfRange n c.args.entries.now)) c.len.ensures.count c.in_default.ensures.none
 
+-- each entry of the script tells the truth
 pub returns-clause-speaks : goal.returns-clause-speaks
 returns-clause-speaks c =
     let never = subst (λ (n : ℕ). IsNever (IsOutOfRange n c.args.entries.now)) c.len.ensures.count c.in_default.ensures.none in
