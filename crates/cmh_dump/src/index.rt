@@ -75,6 +75,7 @@ pub(crate) fn first_unknown(index: &IndexSet<&str>, names: &[&str]) -> Option<us
 }
 
 /// The place of the first name that equals an earlier one.
+#[tactic(auto, using(crate::proofs::Indexed::no_repeat, crate::proofs::Indexed::repeat_found))]
 pub(crate) fn first_repeat(alloc: Global, names: &[&str]) -> Result<Option<usize>, AllocError>
     ensures { IfOk result (λ o. o ≡ first_repeat_lem (texts names.now)) }
 {

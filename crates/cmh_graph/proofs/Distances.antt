@@ -1,13 +1,13 @@
 -- What a distance tells.
-use Rattle.std.proofs.Common.{◌≡◌, ℕ, ◌<◌, Bool, true, false, cond, inl, inr, List, [], ◌∷◌, map, get_or, refl, sym, ◌∙◌, ap}
-use Rattle.std.specs.Prelude.{Some, Option, is_some}
+use Rattle.std.proofs.Common.{◌≡◌, ℕ, ◌<◌, Bool, true, false, cond, inl, inr, List, [], ◌∷◌, map, length, get_or, refl, sym, ◌∙◌, ap, arith}
+use Rattle.std.specs.Prelude.{Some, None, Option, is_some}
 use Rattle.std.proofs.lemmas.Bool.{cases_Bool}
 use Rattle.cmh_graph.specs.declared.verdict.Verdict.TheVariants.{Deadlocked, Free}
 use Rattle.cmh_graph.specs.ChosenPath.{distance_of}
 use Rattle.cmh_graph.specs.Graph.{Graph, IsWithinGraph, indices, is_awake, process_count}
 use Rattle.cmh_graph.specs.Path.{Reaches}
 use Rattle.cmh_graph.specs.Verdict.{is_deadlocked, verdict}
-use Rattle.cmh_graph.proofs.Listing.{by_index}
+use Rattle.cmh_graph.proofs.Listing.{by_index, length-by_index}
 use Rattle.cmh_graph.proofs.Reaching.{Walk, walk}
 use Rattle.cmh_graph.proofs.Searching.{numbered}
 use Rattle.cmh_graph.proofs.Stepping.{near, has_steps}
@@ -61,8 +61,20 @@ verdict_by_distance g w p i =
       | inr e ↦ rw (deadlocked_by_distance g w p i e, e) refl
     ]
 
--- the same, by what was read of a list of all distances
-pub verdict_read : (g : Graph) → IsWithinGraph g → (p : ℕ) → p < process_count g → (distances : List (Option ℕ)) (distance : Option ℕ) → distances ≡ map (distance_of g) (indices g) → distance ≡ get_or distances p distance → (b : Bool) → b ≡ is_some distance → cond b Free Deadlocked ≡ verdict g p
-verdict_read g w p i distances distance e f b s =
-    let at = f ∙ by_index g (distance_of g) distances p distance e i in
-    ap (λ t. cond t Free Deadlocked) (s ∙ ap is_some at) ∙ sym (verdict_by_distance g w p i)
+-- the same, by the place of p in the list of all distances
+verdict_at : (g : Graph) → IsWithinGraph g → (p : ℕ) → p < process_count g → (distances : List (Option ℕ)) → distances ≡ map (distance_of g) (indices g) → (distance : Option ℕ) → get_or distances p None ≡ distance → cond (is_some distance) Free Deadlocked ≡ verdict g p
+verdict_at g w p i distances e distance f =
+    let at = sym f ∙ by_index g (distance_of g) distances p None e i in
+    ap (λ d. cond (is_some d) Free Deadlocked) at ∙ sym (verdict_by_distance g w p i)
+
+-- each process has a place there
+pub has_distance : (g : Graph) (p : ℕ) (distances : List (Option ℕ)) → p < process_count g → distances ≡ map (distance_of g) (indices g) → p < length distances
+has_distance g p distances i e = omega (arith, ap length e, length-by_index g (distance_of g), i)
+
+-- p is free where a distance stands there
+pub free_at : (g : Graph) (p d : ℕ) (distances : List (Option ℕ)) → IsWithinGraph g → p < process_count g → distances ≡ map (distance_of g) (indices g) → get_or distances p None ≡ Some d → Free ≡ verdict g p
+free_at g p d distances w i e f = verdict_at g w p i distances e (Some d) f
+
+-- and deadlocked where none does
+pub deadlocked_at : (g : Graph) (p : ℕ) (distances : List (Option ℕ)) → IsWithinGraph g → p < process_count g → distances ≡ map (distance_of g) (indices g) → get_or distances p None ≡ None → Deadlocked ≡ verdict g p
+deadlocked_at g p distances w i e f = verdict_at g w p i distances e None f

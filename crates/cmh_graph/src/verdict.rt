@@ -1,7 +1,9 @@
 //! Verdicts.
 
-ghost use Rattle.std.specs.Prelude.{◌≡◌, IfOk, IfErr};
-ghost use Rattle.cmh_graph.specs.Verdict.{verdicts};
+ghost use Rattle.std.specs.Prelude.{◌≡◌, ◌<◌, map, IfOk, IfErr};
+ghost use Rattle.cmh_graph.specs.Graph.{indices, process_count};
+ghost use Rattle.cmh_graph.specs.ChosenPath.{distance_of};
+ghost use Rattle.cmh_graph.specs.Verdict.{verdict, verdicts};
 
 use crate::{GraphFault, WaitGraph};
 use std::alloc::Global;
@@ -25,14 +27,22 @@ impl WaitGraph {
         let distances = self.distances(alloc)?;
         let mut verdicts = Vec::new(alloc);
         for p in 0..self.len() {
-            let is_free = distances[p as usize].is_some();
-            let verdict = if is_free {
-                Verdict::Free
-            } else {
-                Verdict::Deadlocked
-            };
-            verdicts.push(verdict)?;
+            verdicts.push(self.verdict_by(&distances, p))?;
         }
         Ok(verdicts)
+    }
+
+    /// The verdict of `p`, by the distances of all processes.
+    #[tactic(auto, using(crate::proofs::Distances::has_distance, crate::proofs::Distances::free_at, crate::proofs::Distances::deadlocked_at))]
+    fn verdict_by(&self, distances: &[Option<u32>], p: u32) -> Verdict
+        requires within { p < process_count self.now }
+        requires known { distances.now ≡ map (distance_of self.now) (indices self.now) }
+        ensures { result ≡ verdict self.now p }
+    {
+        let _ = self.len();
+        match distances[p as usize] {
+            Some(_) => Verdict::Free,
+            None => Verdict::Deadlocked,
+        }
     }
 }
