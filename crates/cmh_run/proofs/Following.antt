@@ -11,7 +11,7 @@ use Rattle.cmh_graph.specs.Graph.{Graph, process_count, is_idle, is_awake, IsWit
 use Rattle.cmh_graph.proofs.Verdicts.{idle_within}
 use Rattle.cmh_process.specs.Process.{fresh}
 use Rattle.cmh_run.specs.Config.{Config, proc_at, nothing_yet, start, delivered, without, received}
-use Rattle.cmh_run.specs.Legal.{Going, going_from, begun, restart, restarted_at, ready, after, Rule, MayCome, Leads, EndsAs, HintIsFit, IsRight}
+use Rattle.cmh_run.specs.Legal.{Going, going_from, begun, restart, restarted_at, ready, after, Rule, MayCome, Leads, EndsAs, HintIsFit, HasNoRepeat, IsRight}
 use Rattle.cmh_run.specs.Choices.{chosen_place, HasNoHints}
 use Rattle.cmh_run.specs.Run.{Stage, Run, IsRunOf, TellsTruth, verdict_of, MayStart, place_in, IsTakenBy, with_config, delivered_to, ending_of}
 use Rattle.cmh_run.specs.Follow.{Follows}
@@ -323,7 +323,11 @@ run_is_true g i choices restarts r ok idle same k =
     let mine : is_idle g r.initiator ≡ true = rw same idle in
     let right = runs_are_right (chosen_place choices) g r.initiator restarts r.log r.ending k.end ok mine k.legal in
     record {
+      idle = mine;
       verdict = verdict_right g r.initiator restarts r.ending k.end right;
       engaged = λ e p c. right.engaged e p (subst (λ (xs : List ℕ). Contains xs p) k.engaged c);
+      begins = λ e. rw k.engaged (right.begins e);
+      once = λ e. subst (λ (xs : List ℕ). HasNoRepeat xs) (sym k.engaged) (right.once e);
+      end = λ rule others end run. runs_are_right rule g r.initiator others r.log r.ending end ok mine run;
       short = rw k.restarted (runs_are_short (chosen_place choices) g r.initiator restarts r.log r.ending k.end ok mine k.legal);
     }

@@ -37,11 +37,18 @@ pub record Live (g : Graph) (i n : ℕ) (F : ℕ → Proc) (bag : List Message) 
   pub fine : Each (Fine g i n F) bag
   pub in_range : (k e : ℕ) → (F k).engager ≡ Some e → e < process_count g
   pub engaged_in : (k : ℕ) → 0 < tally k engaged → (F k).latest ≡ n
+  pub once : (k : ℕ) → tally k engaged ≤ 1
+  pub begins : slice_get engaged 0 ≡ Some i
 
 -- a process stands in two lists together as often as in the one and in the other
 pub tally-append : (r : ℕ) (xs ys : List ℕ) → tally r (xs ++ ys) ≡ tally r xs + tally r ys
 tally-append r [] ys = omega arith
 tally-append r (x ∷ xs) ys = omega (arith, tally-append r xs ys)
+
+-- a list that goes on begins as before
+begins_append : (xs ys : List ℕ) (i : ℕ) → slice_get xs 0 ≡ Some i → slice_get (xs ++ ys) 0 ≡ Some i
+begins_append [] ys i h = absurd (cc)
+begins_append (x ∷ xs) ys i h = h
 
 -- what is true of each undelivered message stays true while nobody leaves the newest computation
 pub fine_on : (g : Graph) (i n : ℕ) (F F' : ℕ → Proc) (bag : List Message) → ((k : ℕ) → (F k).latest ≡ n → (F' k).latest ≡ n) → Each (Fine g i n F) bag → Each (Fine g i n F') bag
@@ -110,6 +117,8 @@ module _ (g : Graph) (i n : ℕ) (F : ℕ → Proc) (bag : List Message) (engage
     fine = each_remove (Fine g i n F) x bag L.fine;
     in_range = L.in_range;
     engaged_in = L.engaged_in;
+    once = L.once;
+    begins = L.begins;
   }
 
   -- an awake process discards it
@@ -140,6 +149,8 @@ module _ (g : Graph) (i n : ℕ) (F : ℕ → Proc) (bag : List Message) (engage
         (record { low = fine_m.low; positive = fine_m.positive; from_in = fine_m.to_in; to_in = fine_m.from_in; asked = λ e. absurd (cc); told = λ e o. latest ∙ o }, tt);
     in_range = L.in_range;
     engaged_in = L.engaged_in;
+    once = L.once;
+    begins = L.begins;
   }
     where
       token_same : (a r : ℕ) → token n a r (reply i m.number m.to m.from) ≡ token n a r m
@@ -162,6 +173,8 @@ module _ (g : Graph) (i n : ℕ) (F : ℕ → Proc) (bag : List Message) (engage
     fine = each_append (Fine g i n (upd F m.to p)) (remove bag x) new (fine_on g i n F (upd F m.to p) (remove bag x) still (each_remove (Fine g i n F) x bag L.fine)) fine;
     in_range = λ k e. place m.to k (λ b. (cond b p (F k)).engager ≡ Some e → e < process_count g) (λ q h. range e h) (λ w. L.in_range k e);
     engaged_in = λ k h. still k (L.engaged_in k h);
+    once = L.once;
+    begins = L.begins;
   }
     where
       same : (a r : ℕ) → tokens n (remove bag x ++ new) a r ≡ tokens n bag a r
@@ -185,6 +198,11 @@ module _ (g : Graph) (i n : ℕ) (F : ℕ → Proc) (bag : List Message) (engage
     in_range = λ k e. place m.to k (λ b. (cond b p (F k)).engager ≡ Some e → e < process_count g) (λ q h. let same : m.from ≡ e = cc in subst (λ (z : ℕ). z < process_count g) same fine_m.from_in) (λ w. L.in_range k e);
     engaged_in = λ k h. place m.to k (λ b. (cond b p (F k)).latest ≡ n) (λ q. newest)
         (λ w. L.engaged_in k (omega (arith, h, tally-append k engaged (m.to ∷ []), one_else k w)));
+    once = λ k. place m.to k (λ b. tally k (engaged ++ m.to ∷ []) ≤ 1)
+        (λ q. let not_yet : 0 < tally k engaged → ⊥ = λ h. absurd (let l : (F m.to).latest ≡ n = subst (λ (z : ℕ). (F z).latest ≡ n) q (L.engaged_in k h) in omega (arith, before, l)) in
+        omega (arith, tally-append k engaged (m.to ∷ []), tally-le-length k (m.to ∷ [])))
+        (λ w. omega (arith, L.once k, tally-append k engaged (m.to ∷ []), one_else k w));
+    begins = begins_append engaged (m.to ∷ []) i L.begins;
   }
     where
       p : Proc
@@ -251,6 +269,8 @@ module _ (g : Graph) (i n : ℕ) (F : ℕ → Proc) (bag : List Message) (engage
     fine = each_append (Fine g i n (upd F m.to lowered)) (remove bag x) new (fine_on g i n F (upd F m.to lowered) (remove bag x) still (each_remove (Fine g i n F) x bag L.fine)) (new_fine (F m.to).engager refl (eqb (F m.to).num 1));
     in_range = λ k e. place m.to k (λ b. (cond b lowered (F k)).engager ≡ Some e → e < process_count g) (λ q h. L.in_range m.to e h) (λ w. L.in_range k e);
     engaged_in = λ k h. still k (L.engaged_in k h);
+    once = L.once;
+    begins = L.begins;
   }
     where
       in_it : ((F m.to).latest ≡ n) × (0 < tally m.from (L.out m.to))
@@ -332,6 +352,8 @@ started g i n n' F bag p ds ok within rests calm later fine range is_deps is_p =
       (λ z f. record { low = omega (arith, f.low); positive = f.positive; from_in = f.from_in; to_in = f.to_in; asked = f.asked; told = λ k e. absurd (omega (arith, f.low)) }) fine) (new_fine ds (λ r h. on_it r h));
   in_range = λ k e. place i k (λ b. (cond b p (F k)).engager ≡ Some e → e < process_count g) (λ q h. absurd (none_some (sym (ap (λ (z : Proc). z.engager) is_p) ∙ h))) (λ w. range k e);
   engaged_in = λ k. place i k (λ b. 0 < tally k (i ∷ []) → (cond b p (F k)).latest ≡ n') (λ q h. ap (λ (z : Proc). z.latest) is_p) (λ w h. absurd (omega (arith, rw (ne_eqb i k (λ e. w (sym e))) at h)));
+  once = λ k. tally-le-length k (i ∷ []);
+  begins = refl;
 }
   where
     none_some : {e : ℕ} → None ≡ Some e → ⊥

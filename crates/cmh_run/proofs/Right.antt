@@ -16,7 +16,7 @@ use Rattle.cmh_graph.proofs.Verdicts.{idle_within}
 use Rattle.cmh_run.proofs.Paths.{reaches_self}
 use Rattle.cmh_run.specs.Config.{Config, proc_at, acted, hinted, received, without, delivered, start, nothing_yet}
 use Rattle.cmh_run.specs.Legal.{Going, ready, after, Leads, EndsAs, IsRight, RunsAreRight}
-use Rattle.cmh_run.proofs.Tally.{tally_from_contains}
+use Rattle.cmh_run.proofs.Tally.{tally_from_contains, no_repeat}
 use Rattle.cmh_run.proofs.Sound.{engaged_deadlocked, none_on_way, at_rest_free}
 use Rattle.cmh_run.proofs.Tokens.{each_at, tokens, token, edge_from, edge_to}
 use Rattle.cmh_run.proofs.Live.{Live, Fine}
@@ -88,6 +88,8 @@ right_at g i restarts Declared end ok s e one =
       declared = λ q. all_deadlocked g i end.config ok h.0 h.1 i h.0.sound.root_in;
       free = λ q. absurd (q refl);
       engaged = λ q k k_in. all_deadlocked g i end.config ok h.0 h.1 k (h.0.engaged_in k (tally_from_contains k end.config.engaged k_in));
+      begins = λ q. h.0.begins;
+      once = λ q. no_repeat end.config.engaged h.0.once;
       last_delivered = λ q m m_in. low_number g i end.config ok h.0 h.1 m m_in;
       all_delivered = λ none q. no_member end.config.bag (λ m m_in.
           let there : slice_get end.config.bag m_in.0 ≡ Some m = slice_get-get_or end.config.bag m_in.0 m m_in.1 ∙ ap Some m_in.2 in
@@ -96,10 +98,10 @@ right_at g i restarts Declared end ok s e one =
     }
 right_at g i restarts AtRest end ok s e one =
     let h = status_none g i end.config s e.0 in
-    record { declared = λ q. absurd (cc); free = λ q. at_rest g i end.config ok h.0 e.1 h.1; engaged = λ q. absurd (cc); last_delivered = λ q. absurd (cc); all_delivered = λ none q. absurd (cc) }
+    record { declared = λ q. absurd (cc); free = λ q. at_rest g i end.config ok h.0 e.1 h.1; engaged = λ q. absurd (cc); begins = λ q. absurd (cc); once = λ q. absurd (cc); last_delivered = λ q. absurd (cc); all_delivered = λ none q. absurd (cc) }
 right_at g i restarts (CutFree k) end ok s e one =
     let h : Status g i end.config.number (proc_at end.config.procs) end.config.bag end.config.engaged (Some (CutFree k)) = subst (λ (o : Option Ending). Status g i end.config.number (proc_at end.config.procs) end.config.bag end.config.engaged o) e s.status in
-    record { declared = λ q. absurd (cc); free = λ q. h; engaged = λ q. absurd (cc); last_delivered = λ q. absurd (cc); all_delivered = λ none q. absurd (cc) }
+    record { declared = λ q. absurd (cc); free = λ q. h; engaged = λ q. absurd (cc); begins = λ q. absurd (cc); once = λ q. absurd (cc); last_delivered = λ q. absurd (cc); all_delivered = λ none q. absurd (cc) }
 
 -- nothing is never an ending
 no_ending : {e : Ending} → None ≡ Some e → ⊥
@@ -119,6 +121,8 @@ empty_run rule g i restarts [] AtRest end up l e = record {
   declared = λ q. absurd (cc);
   free = λ q dead. true≢false (sym up ∙ dead.1 i (reaches_self g i));
   engaged = λ q. absurd (cc);
+  begins = λ q. absurd (cc);
+  once = λ q. absurd (cc);
   last_delivered = λ q. absurd (cc);
   all_delivered = λ none q. absurd (cc);
 }

@@ -93,12 +93,19 @@ pub record IsRun (rule : Rule) (g : Graph) (i : ℕ) (restarts : List ℕ)
   pub leads : Leads rule g i (begun g i restarts) log end
   pub ends : EndsAs end.config ending
 
+-- no process stands at two places
+abbrev pub HasNoRepeat : List ℕ → Type 0
+HasNoRepeat list =
+    (x y k : ℕ) → slice_get list x ≡ Some k → slice_get list y ≡ Some k → x ≡ y
+
 -- what a run that has ended tells of the graph
 pub record IsRight (g : Graph) (i : ℕ) (restarts : List ℕ)
     (ending : Ending) (end : Going) : Type 0 where
   pub declared : ending ≡ Declared → IsDeadlocked g i
   pub free : ending ≢ Declared → ¬ (IsDeadlocked g i)
   pub engaged : ending ≡ Declared → (k : ℕ) → Contains end.config.engaged k → IsDeadlocked g k
+  pub begins : ending ≡ Declared → slice_get end.config.engaged 0 ≡ Some i
+  pub once : ending ≡ Declared → HasNoRepeat end.config.engaged
   pub last_delivered : ending ≡ Declared → (m : Message) → Contains end.config.bag m
       → m.number < end.config.number
   pub all_delivered : restarts ≡ [] → ending ≡ Declared → end.config.bag ≡ []

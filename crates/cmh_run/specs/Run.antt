@@ -13,7 +13,7 @@ use Rattle.cmh_run.specs.declared.TheConstants.{MAX_CHOICES, MAX_RESTARTS}
 use Rattle.cmh_run.specs.Config.{Config, proc_at, without, received}
 use Rattle.cmh_graph.specs.Verdict.{IsDeadlocked}
 use Rattle.cmh_run.specs.Hints.{IsVerdict}
-use Rattle.cmh_run.specs.Legal.{Going, IsRun}
+use Rattle.cmh_run.specs.Legal.{Going, Rule, IsRun, HasNoRepeat, IsRight}
 use Rattle.cmh_run.specs.Choices.{chosen_place}
 
 -- a run on its way, and the deliveries that led there
@@ -117,8 +117,15 @@ verdict_of Declared = Deadlocked
 verdict_of AtRest = Free
 verdict_of (CutFree k) = Free
 
--- what a run that is kept tells of the graph is true, and it is short
+-- What a run that is kept tells of the graph is true, and it is short. Whatever its end was, it tells
+-- the truth too.
 pub record TellsTruth (g : Graph) (r : Run) : Type 0 where
+  pub idle : IsTrue (is_idle g r.initiator)
   pub verdict : IsVerdict g r.initiator (verdict_of r.ending)
   pub engaged : r.ending ≡ Declared → (k : ℕ) → Contains r.engaged k → IsDeadlocked g k
+  pub begins : r.ending ≡ Declared → slice_get r.engaged 0 ≡ Some r.initiator
+  pub once : r.ending ≡ Declared → HasNoRepeat r.engaged
+  pub end : (rule : Rule) (restarts : List ℕ) (end : Going)
+      → IsRun rule g r.initiator restarts r.log r.ending end
+      → IsRight g r.initiator restarts r.ending end
   pub short : length r.log ≤ 2 * dependency_count g * (r.restarted + 1)
