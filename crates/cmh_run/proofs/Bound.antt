@@ -244,11 +244,11 @@ start_raises g i c within idle size low =
     loads (d ∷ ds) = rw (ne_eqb (suc (length ds)) 0 (λ q. omega arith), load_queries i n i (d ∷ ds)) (omega arith)
 
 -- the measure of a configuration
-phi_of : Graph → Config → ℕ
+pub phi_of : Graph → Config → ℕ
 phi_of g c = phi g c.number (proc_at c.procs) c.bag
 
 -- a delivery lowers the measure of a configuration
-delivered_falls : (g : Graph) (i : ℕ) (c : Config) → IsWithinGraph g → length c.procs ≡ process_count g → Live g i c.number (proc_at c.procs) c.bag c.engaged → (x : ℕ) (m : Message) → slice_get c.bag x ≡ Some m → (hint : Option Verdict)
+pub delivered_falls : (g : Graph) (i : ℕ) (c : Config) → IsWithinGraph g → length c.procs ≡ process_count g → Live g i c.number (proc_at c.procs) c.bag c.engaged → (x : ℕ) (m : Message) → slice_get c.bag x ≡ Some m → (hint : Option Verdict)
     → phi_of g (delivered g i c x m hint) + 1 ≤ phi_of g c
 unfolding phi_of falls_here
 delivered_falls g i c ok size L x m there hint = rw (number_kept g i c x m hint) (delivery_falls g i c ok size L x m there hint)

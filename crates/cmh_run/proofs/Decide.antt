@@ -9,7 +9,8 @@ use Rattle.cmh_run.specs.declared.delivery.Ending.{Ending}
 use Rattle.cmh_run.specs.declared.delivery.Ending.TheVariants.{Declared, AtRest, CutFree}
 use Rattle.cmh_graph.specs.Graph.{Graph}
 use Rattle.cmh_run.specs.Config.{Config}
-use Rattle.cmh_run.specs.Legal.{Going, begun, ready, after, MayCome, Leads, EndsAs}
+use Rattle.cmh_run.specs.Run.{Run, IsRunOf, OneRun}
+use Rattle.cmh_run.specs.Legal.{Going, begun, ready, after, MayCome, Leads, EndsAs, IsRun}
 use Rattle.cmh_run.specs.Choices.{chosen_place, HasNoHints, ChoicesDecide}
 
 -- nothing is never something
@@ -44,3 +45,41 @@ decides choices g i (d ∷ log) (h ∷ other) s end far ending last l k e f a b 
 pub choices_decide : ChoicesDecide
 choices_decide choices g i restarts log other ending last end far r t a b =
     decides choices g i log other (begun g i restarts) end far ending last r.leads t.leads r.ends t.ends a b
+
+-- a configuration has one ending
+one_ending : (c : Config) (ending last : Ending) → EndsAs c ending → EndsAs c last → ending ≡ last
+one_ending c Declared last e f = by_last last f
+  where
+    by_last : (l : Ending) → EndsAs c l → Declared ≡ l
+    by_last Declared f = refl
+    by_last (CutFree k) f = same_Some Declared (CutFree k) (sym e ∙ f)
+    by_last AtRest f = absurd (none_some (sym f.0 ∙ e))
+one_ending c (CutFree p) last e f = by_last last f
+  where
+    by_last : (l : Ending) → EndsAs c l → CutFree p ≡ l
+    by_last Declared f = same_Some (CutFree p) Declared (sym e ∙ f)
+    by_last (CutFree k) f = same_Some (CutFree p) (CutFree k) (sym e ∙ f)
+    by_last AtRest f = absurd (none_some (sym f.0 ∙ e))
+one_ending c AtRest last e f = by_last last f
+  where
+    by_last : (l : Ending) → EndsAs c l → AtRest ≡ l
+    by_last Declared f = absurd (none_some (sym e.0 ∙ f))
+    by_last (CutFree k) f = absurd (none_some (sym e.0 ∙ f))
+    by_last AtRest f = refl
+
+-- two runs that are kept are equal where all that is kept of them is
+same_run : (r s : Run) → r.initiator ≡ s.initiator → r.log ≡ s.log → r.ending ≡ s.ending → r.engaged ≡ s.engaged → r.restarted ≡ s.restarted → r ≡ s
+same_run r s a b c d e =
+    let whole : ◌≡◌ {A = Run} (record { initiator = r.initiator; log = r.log; ending = r.ending; engaged = r.engaged; restarted = r.restarted })
+    (record { initiator = s.initiator; log = s.log; ending = s.ending; engaged = s.engaged; restarted = s.restarted }) = rw (a, b, c, d, e) refl in
+    whole
+
+-- without hints there is one run to be kept
+pub one_run : OneRun
+one_run g choices restarts r s mine a b c d =
+    let other = subst (λ (i : ℕ). IsRun (chosen_place choices) g i restarts s.log s.ending b.end) (sym mine) b.legal in
+    let same = choices_decide choices g r.initiator restarts r.log s.log r.ending s.ending a.end b.end a.legal other c d in
+    same_run r s mine same.0
+    (one_ending a.end.config r.ending s.ending a.legal.ends (subst (λ (t : Going). EndsAs t.config s.ending) (sym same.1) b.legal.ends))
+    (a.engaged ∙ ap (λ (t : Going). t.config.engaged) same.1 ∙ sym b.engaged)
+    (a.restarted ∙ ap (λ (t : Going). t.restarted) same.1 ∙ sym b.restarted)

@@ -20,6 +20,7 @@ use Rattle.cmh_run.proofs.Live.{Live, Fine}
 use Rattle.cmh_run.proofs.Tokens.{Each, each_at}
 use Rattle.cmh_run.proofs.Right.{number_kept, runs_are_right}
 use Rattle.cmh_run.proofs.Theorem.{by_test, Status, Stands, first_start, leads_stands, status_none, fresh_at, stepped, ready_stands}
+use Rattle.cmh_run.proofs.Last.{last_computation_is_a_run}
 use Rattle.cmh_run.proofs.Bound.{leads_are_short, runs_are_short}
 
 -- a restart changes nothing of how many deliveries there were
@@ -329,5 +330,6 @@ run_is_true g i choices restarts r ok idle same k =
       begins = λ e. rw k.engaged (right.begins e);
       once = λ e. subst (λ (xs : List ℕ). HasNoRepeat xs) (sym k.engaged) (right.once e);
       end = λ rule others end run. runs_are_right rule g r.initiator others r.log r.ending end ok mine run;
+      last = λ rule others end run. last_computation_is_a_run rule g r.initiator others r.log r.ending end ok mine run;
       short = rw k.restarted (runs_are_short (chosen_place choices) g r.initiator restarts r.log r.ending k.end ok mine k.legal);
     }

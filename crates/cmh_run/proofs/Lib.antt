@@ -1,8 +1,11 @@
+pub mod Alike
 pub mod Bound
 pub mod Decide
 pub mod Following
+pub mod Last
 pub mod Live
 pub mod Paths
+pub mod Recast
 pub mod Right
 pub mod Scripts
 pub mod Sizes

@@ -14,7 +14,8 @@ use Rattle.cmh_run.specs.Config.{Config, proc_at, without, received}
 use Rattle.cmh_graph.specs.Verdict.{IsDeadlocked}
 use Rattle.cmh_run.specs.Hints.{IsVerdict}
 use Rattle.cmh_run.specs.Legal.{Going, Rule, IsRun, HasNoRepeat, IsRight}
-use Rattle.cmh_run.specs.Choices.{chosen_place}
+use Rattle.cmh_run.specs.Choices.{chosen_place, HasNoHints}
+use Rattle.cmh_run.specs.Last.{LastIsRun}
 
 -- a run on its way, and the deliveries that led there
 pub record Stage : Type 0 where
@@ -118,7 +119,7 @@ verdict_of AtRest = Free
 verdict_of (CutFree k) = Free
 
 -- What a run that is kept tells of the graph is true, and it is short. Whatever its end was, it tells
--- the truth too.
+-- the truth too, and the computation of its last number is a run of its own.
 pub record TellsTruth (g : Graph) (r : Run) : Type 0 where
   pub idle : IsTrue (is_idle g r.initiator)
   pub verdict : IsVerdict g r.initiator (verdict_of r.ending)
@@ -128,4 +129,14 @@ pub record TellsTruth (g : Graph) (r : Run) : Type 0 where
   pub end : (rule : Rule) (restarts : List ℕ) (end : Going)
       → IsRun rule g r.initiator restarts r.log r.ending end
       → IsRight g r.initiator restarts r.ending end
+  pub last : (rule : Rule) (restarts : List ℕ) (end : Going)
+      → IsRun rule g r.initiator restarts r.log r.ending end
+      → LastIsRun g r.initiator r.log r.ending end
   pub short : length r.log ≤ 2 * dependency_count g * (r.restarted + 1)
+
+-- without hints, the choices and the restarts leave one run to be kept
+abbrev pub OneRun : Type 0
+OneRun =
+    (g : Graph) (choices restarts : List ℕ) (r s : Run) → r.initiator ≡ s.initiator
+    → IsRunOf g choices restarts r → IsRunOf g choices restarts s
+    → HasNoHints r.log → HasNoHints s.log → r ≡ s

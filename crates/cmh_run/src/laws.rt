@@ -2,7 +2,9 @@
 //! contract is the law.
 
 ghost use Rattle.cmh_run.specs.Choices.{ChoicesDecide};
+ghost use Rattle.cmh_run.specs.Last.{LastComputationIsARun};
 ghost use Rattle.cmh_run.specs.Legal.{RunsAreRight, RunsAreShort};
+ghost use Rattle.cmh_run.specs.Run.{OneRun};
 
 /// A run that has ended tells whether its initiator is deadlocked. Where it is declared, everyone
 /// who is engaged is deadlocked too, and no message of the last start is undelivered.
@@ -21,4 +23,17 @@ pub fn law_runs_are_short()
 #[tactic(auto, using(crate::proofs::Decide::choices_decide))]
 pub fn law_choices_decide()
     ensures { ChoicesDecide }
+{}
+
+/// Without hints there is one run to be kept of an initiator, a list of choices and a list of
+/// restarts. So without restarts `run_again` answers what `run` answers.
+pub fn law_one_run()
+    ensures { OneRun }
+{}
+
+/// The deliveries of a run's last number, taken alone and numbered 1, begin a run without restarts.
+/// Where the run was declared or came to rest they are all of one, which ends as it did with the
+/// same engaged processes.
+pub fn law_last_computation_is_a_run()
+    ensures { LastComputationIsARun }
 {}

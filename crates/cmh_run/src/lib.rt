@@ -21,7 +21,10 @@ pub use bag::Bag;
 pub use delivery::{Delivery, Ending};
 pub use fault::{RunFault, ScriptFault};
 pub use hints::{Hints, NoHints};
-pub use laws::{law_choices_decide, law_runs_are_right, law_runs_are_short};
+pub use laws::{
+    law_choices_decide, law_last_computation_is_a_run, law_one_run, law_runs_are_right,
+    law_runs_are_short,
+};
 pub use log::RunLog;
 pub use runs::{run, run_again};
 pub use scripted::Scripted;
