@@ -1,0 +1,65 @@
+-- What clauses see of the words, of a seat, and of the words once they are closed.
+use Rattle.std.specs.Prelude.{◌≡◌, ℕ, ◌+◌, ◌<◌, ◌≤◌, List, [], map, length, slice_index}
+use Rattle.std.specs.Slots.{slots_items}
+use mathlib.Core.Option.{some}
+use lib.ListN.{get_elem?}
+use Rattle.cmh_graph.specs.declared.TheConstants.{MAX_PROCESSES}
+use Rattle.cmh_graph.specs.Graph.{Graph}
+use Rattle.cmh_rw.specs.declared.TheConstants.{MAX_SEATS, FIRST_ROW, FIRST_VERDICT}
+use Rattle.cmh_rw.specs.declared.machine.SeatState.TheVariants.{Away}
+use Rattle.cmh_rw.specs.declared.view.Row.{Row}
+use Rattle.cmh_rw.specs.declared.view.View.{View}
+use Rattle.cmh_rw.specs.declared.seat.RwWords.{RwWords}
+use Rattle.cmh_rw.specs.declared.seat.RwSeat.{RwSeat}
+use Rattle.cmh_rw.specs.declared.seat.Closed.{Closed}
+use Rattle.cmh_rw.specs.History.{row_code, verdict_code, fold_at, laid, weigh, ArePostings, IsTrueOf, IsSeen}
+use Rattle.cmh_rw.specs.Rule.{Moment, Board}
+
+-- what the seat knows
+abbrev pub view : RwSeat → View
+view s = s.seat.me.0
+
+-- the seat is one of these words
+abbrev pub IsSeatOf : RwWords → RwSeat → Type 0
+IsSeatOf w s = s.seat.table_id ≡ w.table.shared.table_id
+
+-- the seat holds nothing
+abbrev pub IsAway : RwSeat → Type 0
+IsAway s = (view s).lock.state ≡ Away
+
+-- the graph whose verdicts the words hold
+abbrev pub graph_of : RwWords → Graph
+graph_of w = w.table.shared.key
+
+abbrev pub words_of : Closed → List ℕ
+words_of c = slots_items c.inner.words
+
+-- these are the words of a moment that meets the rule, in which some seat has this view
+pub record ClosedBy (key : Graph) (v : View) (words : List ℕ) : Type 0 where
+  pub moment : Moment
+  pub rule : Board key moment
+  pub here : moment.words ≡ words
+  pub seat : (id : ℕ) × (get_elem? moment.views id ≡ some v)
+
+-- Nobody holds the lock and nothing is staged: past the history the row words are 0, and the
+-- verdict words are what it says. The postings are the seat's own, however they weigh.
+pub record IsWhole (v : View) (postings : List (List Row)) (words : List ℕ) : Type 0 where
+  pub free : slice_index words 0 ≡ 0
+  pub rows : (n : ℕ) → n < MAX_PROCESSES →
+      slice_index words (FIRST_ROW + n) ≡ slice_index (map row_code (laid postings)) n
+  pub verdicts : (p : ℕ) → p < MAX_PROCESSES →
+      slice_index words (FIRST_VERDICT + p) ≡ verdict_code (fold_at (laid postings) p)
+  pub mine : (h : List Row → ℕ) → weigh h v.mine ≡ weigh h postings
+
+-- The history that the words show: how many rows, and which. It is true for the graph and begins
+-- with what the seat had seen.
+pub record ClosedHistory (key : Graph) (v : View) (words : List ℕ) : Type 0 where
+  pub postings : List (List Row)
+  pub whole : ArePostings postings
+  pub true_of : IsTrueOf key (laid postings)
+  pub seen : IsSeen v.seen postings
+  pub count : slice_index words 1 ≡ length (laid postings)
+  pub few : length (laid postings) ≤ MAX_PROCESSES
+  pub row : (n : ℕ) → n < length (laid postings) →
+      slice_index words (FIRST_ROW + n) ≡ slice_index (map row_code (laid postings)) n
+  pub with_each_share : v.lock.share ≡ MAX_SEATS → IsWhole v postings words

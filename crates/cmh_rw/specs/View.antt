@@ -1,0 +1,150 @@
+-- What a seat knows, and how the calls change it.
+use Rattle.std.specs.Prelude.{◌≡◌, ℕ, ◌+◌, ◌-◌, ◌<◌, ◌≤◌, nat_lt, true, false, if◌then◌else◌, IsTrue, None, List, [], ◌∷◌, ◌++◌, map, length, slice_index}
+use Rattle.cmh_graph.specs.declared.TheConstants.{MAX_PROCESSES}
+use Rattle.cmh_graph.specs.declared.verdict.Verdict.{Verdict}
+use Rattle.cmh_graph.specs.Graph.{Graph, is_idle}
+use Rattle.cmh_graph.specs.Verdict.{verdict}
+use Rattle.cmh_rw.specs.declared.TheConstants.{WRITER, MAX_SEATS, FIRST_ROW, FIRST_VERDICT}
+use Rattle.cmh_rw.specs.declared.machine.SeatState.{SeatState}
+use Rattle.cmh_rw.specs.declared.machine.SeatState.TheVariants.{Away, Retreating, Reading, Writing, Spent}
+use Rattle.cmh_rw.specs.declared.view.Row.{Row}
+use Rattle.cmh_rw.specs.declared.view.Entry.{Entry}
+use Rattle.cmh_rw.specs.declared.view.Entry.TheVariants.{Held, Busy}
+use Rattle.cmh_rw.specs.declared.view.LockView.{LockView}
+use Rattle.cmh_rw.specs.declared.view.View.{View}
+use Rattle.cmh_rw.specs.Machine.{writes, reads}
+use Rattle.cmh_rw.specs.History.{row_code, verdict_code, fold_at, IsHistory, IsOpen, IsTrueOf, StartsWith}
+
+-- the seat reads or writes
+abbrev pub IsHeld : SeatState → Type 0
+IsHeld state = writes state + reads state ≡ 1
+
+-- the whole share, and nothing seen
+abbrev pub opening_lock : Graph → LockView
+opening_lock g = record { graph = g; state = Away; share = MAX_SEATS; tries = 0; found = 0 }
+
+abbrev pub opening_view : Graph → View
+opening_view g = record {
+  lock = opening_lock g;
+  loaded = false;
+  seen = [];
+  other = [];
+  staged = [];
+  told = [];
+  mine = [];
+  loads = 0;
+}
+
+-- a try to get the lock found this word, and left the seat in this state
+abbrev pub tried_lock : LockView → SeatState → ℕ → LockView
+tried_lock l state found = record l { state = state; tries = l.tries + 1; found = found }
+
+abbrev pub tried : View → SeatState → ℕ → View
+tried v state found = record v { lock = tried_lock v.lock state found }
+
+abbrev pub away : LockView → LockView
+away l = record l { state = Away }
+
+-- the seat holds nothing any more, and what it loaded and told in the hold is over
+abbrev pub ended : View → View
+ended v = record v { lock = away v.lock; loaded = false; told = [] }
+
+-- after a try to read: the lock was got where no writer was found, else the seat retreated
+abbrev pub AfterRead : View → Entry → View → Type 0
+AfterRead v Held w = (w.lock.found < WRITER) × (w ≡ tried v Reading w.lock.found)
+AfterRead v (Busy n) w = (WRITER ≤ n) × (w ≡ ended (tried v Retreating n))
+
+-- after a try to write: the lock was got where the word was 0, and nothing is staged yet
+abbrev pub AfterWrite : View → Entry → View → Type 0
+AfterWrite v Held w = (w ≡ tried v Writing 0) × (v.staged ≡ []) × (v.told ≡ [])
+AfterWrite v (Busy n) w = (0 < n) × (w ≡ tried v Away n)
+
+-- a word was loaded, and this is the history
+abbrev pub loaded : View → List Row → View
+loaded v rows = record v { loaded = true; seen = rows; loads = v.loads + 1 }
+
+-- What a load says. The seat sees the whole history: one that begins with all that it had seen, and
+-- the same as at an earlier load of the hold.
+pub record AfterLoad (v : View) (word found : ℕ) (w : View) : Type 0 where
+  pub view : w ≡ loaded v w.seen
+  pub begins : StartsWith w.seen v.seen
+  pub same : v.loaded ≡ true → w.seen ≡ v.seen
+  pub whole : IsHistory w.seen
+  pub true_of : IsTrueOf v.lock.graph w.seen
+  pub bare : v.lock.state ≡ Reading → (v.staged ≡ []) × (v.told ≡ [])
+  pub count : word ≡ 1 → found ≡ length w.seen
+  pub row : (n : ℕ) → word ≡ FIRST_ROW + n → n < length w.seen →
+      found ≡ slice_index (map row_code w.seen) n
+  pub verdict : (p : ℕ) → word ≡ FIRST_VERDICT + p → p < MAX_PROCESSES →
+      found ≡ verdict_code (fold_at (w.seen ++ v.told) p)
+
+-- What a writer needs for its next row: no staged row is a last one, the process is idle and has no
+-- row yet, and the verdict is its own.
+pub record CanStage (v : View) (r : Row) : Type 0 where
+  pub unended : IsOpen v.staged
+  pub idle : IsTrue (is_idle v.lock.graph r.process)
+  pub fresh : fold_at (v.seen ++ v.staged) r.process ≡ None
+  pub true_verdict : r.verdict ≡ verdict v.lock.graph r.process
+
+abbrev pub row : ℕ → Verdict → Bool → Row
+row p verdict last = record { process = p; verdict = verdict; last = last }
+
+-- one more row is staged
+abbrev pub with_row : View → Row → View
+with_row v r = record v { staged = v.staged ++ r ∷ [] }
+
+-- a stored verdict, as a row
+abbrev pub mark : ℕ → Verdict → Row
+mark p verdict = row p verdict false
+
+-- one more verdict is stored
+abbrev pub with_told : View → Row → View
+with_told v r = record v { told = v.told ++ r ∷ [] }
+
+-- the staged rows are the next posting of the history, and this seat's
+abbrev pub posted : View → View
+posted v = record v {
+  seen = v.seen ++ v.staged;
+  staged = [];
+  told = [];
+  mine = v.mine ++ v.staged ∷ [];
+}
+
+-- one share is given away
+abbrev pub less_one : View → View
+less_one v = record v { lock = record v.lock { share = v.lock.share - 1 } }
+
+-- a new seat that has seen the same
+abbrev pub newcomer : View → View
+newcomer v = record (opening_view v.lock.graph) {
+  lock = record (opening_lock v.lock.graph) { share = 1 };
+  seen = v.seen;
+}
+
+-- the shares and the postings of both, before the two compare what they have seen
+abbrev pub joining : View → View → View
+joining v w = record v {
+  lock = record v.lock { share = v.lock.share + w.lock.share };
+  other = w.seen;
+  mine = v.mine ++ w.mine;
+}
+
+abbrev pub longer : List Row → List Row → List Row
+longer xs ys = if nat_lt (length xs) (length ys) then ys else xs
+
+-- of two that have seen one history, the longer beginning is kept
+abbrev pub compared : View → View
+compared v = record v { seen = longer v.seen v.other; other = [] }
+
+-- two seats made one
+abbrev pub joined : View → View → View
+joined v w = compared (joining v w)
+
+abbrev pub no_graph : Graph
+no_graph = record { processes = []; in_transit = [] }
+
+-- what is left of a seat that was joined into another
+abbrev pub spent_view : View
+spent_view = record (opening_view no_graph) {
+  lock = record (opening_lock no_graph) { state = Spent; share = 0 };
+}

@@ -1,0 +1,44 @@
+//! Why there is no lock.
+
+ghost use Rattle.std.specs.Prelude.{◌≡◌};
+ghost use Rattle.cmh_rw.specs.declared.fault.RwFault.TheVariants.{Memory};
+
+use std::alloc::{AllocError, AllocFailed};
+use std::error::Error;
+use std::fmt;
+
+/// Why there is no lock.
+#[derive(Clone, Copy, PartialEq, Eq, Hash, Debug)]
+pub enum RwFault {
+    /// There is no seat, or there are more than `MAX_SEATS`.
+    BadSeats,
+    /// Memory was refused.
+    Memory,
+}
+
+impl fmt::Display for RwFault {
+    fn fmt<W: fmt::Write>(&self, f: &mut fmt::Formatter<W>) -> fmt::Result {
+        match self {
+            RwFault::BadSeats => write!(f, "bad number of seats"),
+            RwFault::Memory => write!(f, "out of memory"),
+        }
+    }
+}
+
+impl Error for RwFault {}
+
+impl From<AllocError> for RwFault {
+    ghost from_gives = { λ _ e. e ≡ Memory };
+
+    fn from(_e: AllocError) -> RwFault {
+        RwFault::Memory
+    }
+}
+
+impl<T: Drop> From<AllocFailed<T>> for RwFault {
+    ghost from_gives = { λ _ e. e ≡ Memory };
+
+    fn from(_e: AllocFailed<T>) -> RwFault {
+        RwFault::Memory
+    }
+}

@@ -1,0 +1,38 @@
+//! A reader and writer lock over atomic words, and under it a history of verdicts that only grows.
+//!
+//! Of the words, word 0 is the lock: `WRITER` while a seat writes, plus the number of seats that
+//! read or retreat. Word 1 is how many rows the history has. The words from `FIRST_ROW` on are the
+//! rows, and those from `FIRST_VERDICT` on the verdicts by process. A thread steps on the words with
+//! a seat, whose view is what the thread knows.
+#![tactic(auto)]
+
+mod fault;
+mod laws;
+mod machine;
+mod rows;
+mod rule;
+mod seat;
+mod view;
+mod words;
+
+use cmh_graph::MAX_PROCESSES;
+pub use fault::RwFault;
+pub use laws::{law_one_row_a_word, law_step};
+pub use machine::{Event, LockWorld, SeatState, run_events};
+pub use seat::{Closed, RwSeat, RwWords};
+pub use view::{Entry, LockView, Row, View};
+
+/// What the lock word counts a writer as.
+pub const WRITER: u64 = 4_294_967_296;
+
+/// The most seats that a lock may have.
+pub const MAX_SEATS: u32 = 64;
+
+/// The word of the first row.
+pub const FIRST_ROW: usize = 2;
+
+/// The word of the verdict on process 0.
+pub const FIRST_VERDICT: usize = FIRST_ROW + MAX_PROCESSES;
+
+/// How many words there are.
+pub const BOARD_WORDS: usize = FIRST_VERDICT + MAX_PROCESSES;

@@ -1,0 +1,51 @@
+//! What a seat knows.
+
+use crate::SeatState;
+use cmh_graph::{Verdict, WaitGraph};
+use std::collections::LinkedList;
+
+/// A process with its verdict. The final row of a posting has `last`.
+#[derive(Clone, Copy, PartialEq, Eq, Hash, Debug)]
+pub struct Row {
+    pub process: u32,
+    pub verdict: Verdict,
+    pub last: bool,
+}
+
+/// Whether a try got the lock, and else the word that it found.
+#[derive(Clone, Copy, PartialEq, Eq, Hash, Debug)]
+pub enum Entry {
+    Held,
+    Busy(u64),
+}
+
+/// What a seat knows of the lock. It is for contracts alone: no value of it is made.
+pub struct LockView {
+    /// The graph whose verdicts the words hold.
+    pub graph: WaitGraph,
+    pub state: SeatState,
+    pub share: u32,
+    /// How often it tried to get the lock.
+    pub tries: u64,
+    /// The word that the last try found.
+    pub found: u64,
+}
+
+/// What a seat knows. It is for contracts alone: no value of it is made.
+pub struct View {
+    pub lock: LockView,
+    /// Whether it has loaded a word since it got the lock.
+    pub loaded: bool,
+    /// The history, as far as the seat has seen it.
+    pub seen: LinkedList<Row>,
+    /// What a seat that was just joined with this one had seen.
+    pub other: LinkedList<Row>,
+    /// The rows that it has stored and not yet counted.
+    pub staged: LinkedList<Row>,
+    /// The verdicts of staged rows that it has stored, as rows that aren't last ones.
+    pub told: LinkedList<Row>,
+    /// The postings that it has added.
+    pub mine: LinkedList<LinkedList<Row>>,
+    /// How many words it has loaded.
+    pub loads: u64,
+}
