@@ -9,7 +9,7 @@ use Rattle.cmh_rw.specs.declared.machine.SeatState.{SeatState}
 use Rattle.cmh_rw.specs.declared.machine.SeatState.TheVariants.{Away, Retreating, Reading, Writing, Spent}
 use Rattle.cmh_rw.specs.declared.machine.Event.{Event}
 use Rattle.cmh_rw.specs.declared.machine.Event.TheVariants.{Admit, Leave, TryWrite, EndWrite}
-use Rattle.cmh_rw.specs.Machine.{World, world, total, writes, reads, retreats, IsLawful, IsLock, turn, seat_of, step_of, run_from, new_world}
+use Rattle.cmh_rw.specs.Machine.{World, world, total, writes, reads, retreats, IsBadCount, IsLawful, IsLock, StepLaw, turn, seat_of, step_of, run_from, new_world}
 
 pub total-set : {A : Type 0} (f : A → ℕ) (l : List A) (i : ℕ) (a b : A) → get_elem? l i ≡ some a → total f (set l i b) + f a ≡ total f l + f b
 total-set f [] i a b e = absurd (some-ne-none a (sym e))
@@ -24,6 +24,11 @@ pub lawful-set : (word n : ℕ) (l : List SeatState) (i : ℕ) (a b : SeatState)
     → IsLawful (world n (set l i b))
 lawful-set word n l i a b at h is one al = let w = total-set writes l i a b at in let r = total-set reads l i a b at in let t = total-set retreats l i a b at in let k = h.word in
     record { word = omega arith; one_writer = omega arith; alone = λ some. let z = al (omega arith) (omega arith) in omega arith }
+
+-- one more
+pub total-snoc : {A : Type 0} (f : A → ℕ) (l : List A) (a : A) → total f (l ++ a ∷ []) ≡ total f l + f a
+total-snoc f [] a = omega arith
+total-snoc f (x ∷ xs) a = omega (arith, total-snoc f xs a)
 
 pub total-in : {A : Type 0} (f : A → ℕ) (l : List A) (i : ℕ) (a : A) → get_elem? l i ≡ some a → f a ≤ total f l
 total-in f [] i a e = absurd (some-ne-none a (sym e))
@@ -90,11 +95,15 @@ pub step-past : (e : Event) (word : ℕ) (l : List SeatState) → length l ≤ s
 step-past e word l h = let is : turn e word (get_or l (seat_of e) Spent) ≡ (word, Spent) = ap (turn e word) (past l (seat_of e) h) ∙ turn-spent e word in
     λ k. world (sym is k).0 ((sym (set-past l (seat_of e) (turn e word (get_or l (seat_of e) Spent)).1 h)) k)
 
-pub step-lawful : (w : World) (e : Event) → IsLock w → IsLock (step_of w e)
-step-lawful w e h = elim (cases_lt (seat_of e) (length w.seats)) as (λ d. IsLock (step_of w e)) [
-  | inl lt ↦ lock-turn e w.word (seat_of e) w.seats (get_or w.seats (seat_of e) Spent) (at_get w.seats (seat_of e) Spent lt) h
-  | inr ge ↦ subst IsLock (step-past e w.word w.seats ge) h
+-- each event keeps a lawful world lawful
+pub step_law : StepLaw
+step_law w e h = elim (cases_lt (seat_of e) (length w.seats)) as (λ d. IsLawful (step_of w e)) [
+  | inl lt ↦ turn-lawful e w.word w.seats (seat_of e) (get_or w.seats (seat_of e) Spent) (at_get w.seats (seat_of e) Spent lt) h
+  | inr ge ↦ subst IsLawful (step-past e w.word w.seats ge) h
 ]
+
+pub step-lawful : (w : World) (e : Event) → IsLock w → IsLock (step_of w e)
+step-lawful w e h = record { lawful = step_law w e h.lawful; few = subst (λ (n : ℕ). n ≤ 64) (sym (length-set w.seats (seat_of e) (turn e w.word (get_or w.seats (seat_of e) Spent)).1)) h.few }
 
 -- all away
 away-none : (f : SeatState → ℕ) (n : ℕ) → f Away ≡ 0 → total f (replicate n Away) ≡ 0
@@ -104,6 +113,10 @@ away-none f (suc n) z = omega (arith, away-none f n z)
 pub new-lawful : (n : ℕ) → n ≤ 64 → IsLock (new_world n)
 new-lawful n le = let w = away-none writes n refl in let r = away-none reads n refl in let t = away-none retreats n refl in
     record { lawful = record { word = omega arith; one_writer = omega arith; alone = λ p. r }; few = subst (λ (k : ℕ). k ≤ 64) (sym (length-replicate n Away)) le }
+
+-- a number of seats that isn't bad
+pub few_enough : (n : ℕ) → ¬ IsBadCount n → n ≤ 64
+few_enough n good = elim (cases_lt 64 n) as (λ d. n ≤ 64) [ inl more ↦ absurd (good (inr more)) | inr few ↦ few ]
 
 pub run-snoc : (w : World) (es : List Event) (e : Event) → run_from w (es ++ e ∷ []) ≡ step_of (run_from w es) e
 run-snoc w [] e = refl

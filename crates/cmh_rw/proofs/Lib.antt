@@ -1,1 +1,13 @@
+pub mod Closing
+pub mod Codes
+pub mod Folds
+pub mod Holding
 pub mod Lawful
+pub mod Loading
+pub mod Lock
+pub mod Moments
+pub mod Posting
+pub mod Postings
+pub mod Room
+pub mod Seating
+pub mod Staging

@@ -1,5 +1,5 @@
 -- What a seat knows, and how the calls change it.
-use Rattle.std.specs.Prelude.{◌≡◌, ℕ, ◌+◌, ◌-◌, ◌<◌, ◌≤◌, nat_lt, true, false, if◌then◌else◌, IsTrue, None, List, [], ◌∷◌, ◌++◌, map, length, slice_index}
+use Rattle.std.specs.Prelude.{◌≡◌, ℕ, ◌+◌, ◌-◌, ◌<◌, ◌≤◌, nat_lt, Bool, true, false, if◌then◌else◌, IsTrue, None, List, [], ◌∷◌, ◌++◌, map, length, slice_index}
 use Rattle.cmh_graph.specs.declared.TheConstants.{MAX_PROCESSES}
 use Rattle.cmh_graph.specs.declared.verdict.Verdict.{Verdict}
 use Rattle.cmh_graph.specs.Graph.{Graph, is_idle}
@@ -71,6 +71,7 @@ pub record AfterLoad (v : View) (word found : ℕ) (w : View) : Type 0 where
   pub same : v.loaded ≡ true → w.seen ≡ v.seen
   pub whole : IsHistory w.seen
   pub true_of : IsTrueOf v.lock.graph w.seen
+  pub staged_true : IsTrueOf v.lock.graph (w.seen ++ v.staged)
   pub bare : v.lock.state ≡ Reading → (v.staged ≡ []) × (v.told ≡ [])
   pub count : word ≡ 1 → found ≡ length w.seen
   pub row : (n : ℕ) → word ≡ FIRST_ROW + n → n < length w.seen →
@@ -111,20 +112,26 @@ posted v = record v {
 }
 
 -- one share is given away
+abbrev pub less_share : LockView → LockView
+less_share l = record l { share = l.share - 1 }
+
 abbrev pub less_one : View → View
-less_one v = record v { lock = record v.lock { share = v.lock.share - 1 } }
+less_one v = record v { lock = less_share v.lock }
+
+abbrev pub new_lock : LockView → LockView
+new_lock l = record (opening_lock l.graph) { share = 1 }
 
 -- a new seat that has seen the same
 abbrev pub newcomer : View → View
-newcomer v = record (opening_view v.lock.graph) {
-  lock = record (opening_lock v.lock.graph) { share = 1 };
-  seen = v.seen;
-}
+newcomer v = record (opening_view v.lock.graph) { lock = new_lock v.lock; seen = v.seen }
+
+abbrev pub both_shares : LockView → LockView → LockView
+both_shares l m = record l { share = l.share + m.share }
 
 -- the shares and the postings of both, before the two compare what they have seen
 abbrev pub joining : View → View → View
 joining v w = record v {
-  lock = record v.lock { share = v.lock.share + w.lock.share };
+  lock = both_shares v.lock w.lock;
   other = w.seen;
   mine = v.mine ++ w.mine;
 }
@@ -144,7 +151,8 @@ abbrev pub no_graph : Graph
 no_graph = record { processes = []; in_transit = [] }
 
 -- what is left of a seat that was joined into another
+abbrev pub spent_lock : LockView
+spent_lock = record (opening_lock no_graph) { state = Spent; share = 0 }
+
 abbrev pub spent_view : View
-spent_view = record (opening_view no_graph) {
-  lock = record (opening_lock no_graph) { state = Spent; share = 0 };
-}
+spent_view = record (opening_view no_graph) { lock = spent_lock }

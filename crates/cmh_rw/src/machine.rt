@@ -53,7 +53,7 @@ impl Model for LockWorld {
 impl LockWorld {
     /// All seats are away, and the word is 0.
     pub fn new(alloc: Global, seats: u32) -> Result<LockWorld, RwFault>
-        ensures ok { IfOk result (λ w. (w ≡ new_world seats) × IsLawful w) }
+        ensures ok { IfOk result (λ w. w ≡ new_world seats) }
         ensures bad { IfErr result (λ e. (e ≡ RwFault.BadSeats) ↔ IsBadCount seats) }
         ensures good { IfOk result (λ _. ¬ IsBadCount seats) }
     {

@@ -1,0 +1,106 @@
+-- Postings laid end to end, and what of them a seat has seen.
+use Rattle.std.proofs.Common.{◌≡◌, ◌⊎◌, ℕ, ◌+◌, ◌<◌, ◌≤◌, true, false, cond, ltb, length, length-append, List, [], ◌∷◌, ◌++◌, drop, get_or, sym, refl, ap, ◌∙◌, subst, arith, append_assoc, append-nil, inl, inr, ⊎_elim}
+use Rattle.cmh_rw.specs.declared.view.Row.{Row}
+use Rattle.std.proofs.lemmas.Bool.{ltb-true, ltb-false, cond_both}
+use Rattle.cmh_rw.specs.View.{longer}
+use Rattle.cmh_rw.specs.History.{laid, weigh, IsOpen, IsPosting, EndsLast, ArePostings, IsSeen, StartsWith}
+
+-- postings and more postings
+pub laid-append : (xs ys : List (List Row)) → laid (xs ++ ys) ≡ laid xs ++ laid ys
+laid-append [] ys = refl
+laid-append (x ∷ xs) ys = ap (λ l. x ++ l) (laid-append xs ys) ∙ sym (append_assoc x (laid xs) (laid ys))
+
+-- one more posting
+pub laid-snoc : (xs : List (List Row)) (x : List Row) → laid (xs ++ x ∷ []) ≡ laid xs ++ x
+laid-snoc xs x = laid-append xs (x ∷ []) ∙ ap (λ l. laid xs ++ l) (append-nil x)
+
+pub whole-snoc : (xs : List (List Row)) (x : List Row) → ArePostings xs → IsPosting x → ArePostings (xs ++ x ∷ [])
+whole-snoc [] x h p = (p, tt)
+whole-snoc (y ∷ ys) x h p = (h.0, whole-snoc ys x h.1 p)
+
+pub weigh-append : (f : List Row → ℕ) (xs ys : List (List Row)) → weigh f (xs ++ ys) ≡ weigh f xs + weigh f ys
+weigh-append f [] ys = omega arith
+weigh-append f (x ∷ xs) ys = omega (arith, weigh-append f xs ys)
+
+-- the history begins with what was seen
+pub seen-prefix : (seen : List Row) (postings : List (List Row)) → IsSeen seen postings → StartsWith (laid postings) seen
+seen-prefix seen postings h = (laid h.1, ap laid h.2 ∙ laid-append h.0 h.1 ∙ ap (λ l. l ++ laid h.1) (sym h.3))
+
+-- the whole history was seen
+pub all-seen : (postings : List (List Row)) → IsSeen (laid postings) postings
+all-seen postings = (postings, [], sym (append-nil postings), refl)
+
+-- nothing was seen
+pub none-seen : (postings : List (List Row)) → IsSeen [] postings
+none-seen postings = ([], postings, refl, refl)
+
+-- what was seen is seen still, with one more posting
+pub seen-grows : (seen : List Row) (xs : List (List Row)) (x : List Row) → IsSeen seen xs → IsSeen seen (xs ++ x ∷ [])
+seen-grows seen xs x h = (h.0, h.1 ++ x ∷ [], ap (λ l. l ++ x ∷ []) h.2 ∙ append_assoc h.0 h.1 (x ∷ []), h.3)
+
+cons_parts : (x y : List Row) (xs ys : List (List Row)) → x ∷ xs ≡ y ∷ ys → (x ≡ y) × (xs ≡ ys)
+cons_parts x y xs ys e = (ap (λ l. get_or l 0 x) e, ap (λ l. drop 1 l) e)
+
+-- of two beginnings of one list, one begins the other
+prefixes : (a c b d : List (List Row)) → a ++ b ≡ c ++ d → ((r : List (List Row)) × (c ≡ a ++ r)) ⊎ ((r : List (List Row)) × (a ≡ c ++ r))
+prefixes [] c b d e = inl (c, refl)
+prefixes (x ∷ xs) [] b d e = inr (x ∷ xs, refl)
+prefixes (x ∷ xs) (y ∷ ys) b d e = let parts = cons_parts x y (xs ++ b) (ys ++ d) e in ⊎_elim
+    (λ t. inl (t.0, λ k. sym parts.0 k ∷ t.1 k))
+    (λ t. inr (t.0, λ k. parts.0 k ∷ t.1 k))
+    (prefixes xs ys b d parts.1)
+
+-- of two that have seen one history, what one saw begins what the other saw
+pub seen_compare : (postings : List (List Row)) (s t : List Row) → IsSeen s postings → IsSeen t postings → StartsWith t s ⊎ StartsWith s t
+seen_compare postings s t h g = ⊎_elim
+    (λ p. inl (laid p.0, g.3 ∙ ap laid p.1 ∙ laid-append h.0 p.0 ∙ ap (λ l. l ++ laid p.0) (sym h.3)))
+    (λ p. inr (laid p.0, h.3 ∙ ap laid p.1 ∙ laid-append g.0 p.0 ∙ ap (λ l. l ++ laid p.0) (sym g.3)))
+    (prefixes h.0 g.0 h.1 g.1 (sym h.2 ∙ g.2))
+
+-- rows begin with themselves
+starts-same : (xs : List Row) → StartsWith xs xs
+starts-same xs = ([], sym (append-nil xs))
+
+none_left : (rest : List Row) → length rest ≡ 0 → rest ≡ []
+none_left [] e = refl
+none_left (x ∷ xs) e = absurd (omega arith)
+
+-- of two lists of which one begins the other, the longer begins with both
+pub longer-begins : (xs ys : List Row) → StartsWith xs ys ⊎ StartsWith ys xs → StartsWith (longer xs ys) xs × StartsWith (longer xs ys) ys
+longer-begins xs ys starts = let P : List Row → Type 0 = λ l. StartsWith l xs × StartsWith l ys in
+    cond_both (ltb (length xs) (length ys)) ys xs P
+    (λ less. let lt = ltb-true (length xs) (length ys) less in
+    (⊎_elim (λ (h : StartsWith xs ys). absurd (let e = ap length h.1 in let n = length-append ys h.0 in omega arith)) (λ h. h) starts, starts-same ys))
+    (λ more. (starts-same xs, ⊎_elim (λ h. h) (λ (h : StartsWith ys xs). ([], back h more)) starts))
+  where
+    back : (h : StartsWith ys xs) → ltb (length xs) (length ys) ≡ false → xs ≡ ys ++ []
+    back h more = let e = ap length h.1 in let n = length-append xs h.0 in
+        let le : length ys ≤ length xs = ltb-false (length xs) (length ys) more in
+        let empty = none_left h.0 (omega arith) in sym (append-nil ys ∙ h.1 ∙ ap (λ l. xs ++ l) empty ∙ append-nil xs)
+
+-- one more row that isn't a last one
+open-snoc : (xs : List Row) (r : Row) → IsOpen xs → r.last ≡ false → IsOpen (xs ++ r ∷ [])
+open-snoc [] r h e = (e, tt)
+open-snoc (x ∷ xs) r h e = (h.0, open-snoc xs r h.1 e)
+
+-- one more row after some that aren't last ones
+pub part-snoc : (xs : List Row) (r : Row) → IsOpen xs → (r.last ≡ true) ⊎ (r.last ≡ false) → IsOpen (xs ++ r ∷ []) ⊎ IsPosting (xs ++ r ∷ [])
+part-snoc xs r h (inl e) = inr (xs, r, refl, h, e)
+part-snoc xs r h (inr e) = inl (open-snoc xs r h e)
+
+open-last : (xs : List Row) (r : Row) → IsOpen (xs ++ r ∷ []) → r.last ≡ false
+open-last [] r h = h.0
+open-last (x ∷ xs) r h = open-last xs r h.1
+
+-- rows of which at most the final one is a last one, and which end with a last one
+pub posting_from : (rows : List Row) → IsOpen rows ⊎ IsPosting rows → EndsLast rows → IsPosting rows
+posting_from rows (inl open_rows) ends = absurd (let e = open-last ends.0 ends.1 (subst IsOpen ends.2 open_rows) in let f = ends.3 in cc)
+posting_from rows (inr posting) ends = posting
+
+-- what ends with a row isn't empty
+pub ends-some : (rows : List Row) → EndsLast rows → rows ≡ [] → ⊥
+ends-some rows ends e = snoc_some ends.0 ends.1 (sym ends.2 ∙ e)
+  where
+    snoc_some : (xs : List Row) (r : Row) → xs ++ r ∷ [] ≡ [] → ⊥
+    snoc_some [] r e = cc
+    snoc_some (x ∷ xs) r e = cc

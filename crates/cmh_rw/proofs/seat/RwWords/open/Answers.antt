@@ -1,0 +1,5 @@
+use Rattle.cmh_rw.proofs.Seating.{opens}
+use Rattle.cmh_rw.proofs.seat.RwWords.open.Goals as goal
+
+pub of_words-requires : goal.of_words-requires
+of_words-requires c = opens c.args.graph.now c.len.ensures.well_formed.processes
