@@ -4,4 +4,5 @@ pub mod Examples
 pub mod Leaders
 pub mod Numbers
 pub mod Paths
+pub mod Traces
 pub mod Words

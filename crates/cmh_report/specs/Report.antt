@@ -1,5 +1,5 @@
 -- The text of the report, as a function of the graph alone.
-use Rattle.std.specs.Prelude.{ℕ, not, List, [], ◌∷◌, ◌++◌, map, length, if◌then◌else◌, count_by, flat_map, unwrap_or, nat_eq, codes, decimal}
+use Rattle.std.specs.Prelude.{◌≡◌, ℕ, not, List, [], ◌∷◌, ◌++◌, map, length, if◌then◌else◌, count_by, flat_map, unwrap_or, nat_eq, codes, decimal}
 use Rattle.std.specs.List.{join_with_byte}
 use Rattle.std.specs.Set.{distinct_count}
 use Rattle.cmh_graph.specs.Graph.{Graph, process_count, name_of, site_of, is_idle, indices, idle_list}
@@ -76,3 +76,11 @@ report_lines g =
 
 unfoldable pub report_text : Graph → List ℕ
 report_text g = flat_map line (report_lines g)
+
+-- the text is the report on the graph
+abbrev pub IsReport : Graph → List ℕ → Type 0
+IsReport g text = text ≡ report_text g
+
+-- it is, and so many processes of the graph are deadlocked
+abbrev pub IsCountedReport : ℕ → Graph → List ℕ → Type 0
+IsCountedReport deadlocked g text = IsReport g text × (deadlocked ≡ deadlocked_count g)

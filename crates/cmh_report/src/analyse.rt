@@ -1,29 +1,19 @@
 //! An analysis from end to end: a dump comes in, and its report goes out.
 
-ghost use Rattle.std.specs.Prelude.{◌≡◌, ◌+◌, true, Ok, IfOk, IfErr, string_bytes};
+ghost use Rattle.std.specs.Prelude.{◌≡◌, ◌+◌, true, IfOk, IfErr, string_bytes};
 ghost use Rattle.cmh_dump.specs.Source.{GaveAtMost};
 ghost use Rattle.cmh_dump.specs.declared.TheConstants.{MAX_BYTES};
-ghost use Rattle.cmh_report.specs.Report.{report_text, deadlocked_count};
-ghost use Rattle.cmh_report.specs.Analyse.{GaveDump, IsAnswer, IsCutShort, IsRefused, IfDump, IfWriteFault, IfUnwritten};
+ghost use Rattle.cmh_report.specs.Ends.{IsAnswer, IsCutShort, IsRefused};
+ghost use Rattle.cmh_report.specs.Fault.{IfDump, IfWriteFault, IfUnwritten};
+ghost use Rattle.cmh_report.specs.Report.{IsCountedReport, IsReport, report_text, deadlocked_count};
 
 use crate::fault::{AppFault, ReportFault};
+use crate::input::read_graph;
 use crate::text::{count_deadlocked, report};
-use cmh_dump::{DumpFault, Source, read_all, read_dump};
+use cmh_dump::Source;
 use cmh_graph::WaitGraph;
 use cmh_stream::{Sink, put_all};
 use std::alloc::Global;
-
-/// The graph that the bytes of the source mean.
-fn read_graph<S: Source>(alloc: Global, source: &mut S) -> Result<WaitGraph, DumpFault>
-    ensures ok { IfOk result (λ g.
-        GaveDump (S.given source.old) (S.given source.new) (S.has_ended source.new) (Ok g)) }
-    ensures refused { IfErr result (IsRefused (S.given source.old) (S.given source.new)
-        (S.has_ended source.new) (S.has_failed source.new)) }
-    ensures at_most { GaveAtMost (MAX_BYTES + 1) (S.given source.old) (S.given source.new) }
-{
-    let bytes = read_all(alloc, source)?;
-    read_dump(alloc, &bytes)
-}
 
 /// The report on a graph, and how many of its processes are deadlocked.
 #[derive(Drop)]
@@ -57,7 +47,7 @@ pub fn analyse_bytes<S: Source, K: Sink>(
     source: &mut S,
     sink: &mut K,
 ) -> Result<u32, AppFault>
-    ensures answer { IfOk result (IsAnswer
+    ensures answer { IfOk result (λ deadlocked. IsAnswer (IsCountedReport deadlocked)
         (S.given source.old) (S.given source.new) (S.has_ended source.new)
         (K.taken sink.old) (K.taken sink.new) (K.is_finished sink.new)) }
 
@@ -66,7 +56,7 @@ pub fn analyse_bytes<S: Source, K: Sink>(
         (S.has_ended source.new) (S.has_failed source.new))) }
     ensures unwritten { IfErr result (λ e.
         IfUnwritten e (K.taken sink.new ≡ K.taken sink.old)) }
-    ensures cut_short { IfErr result (λ e. IfWriteFault e (IsCutShort
+    ensures cut_short { IfErr result (λ e. IfWriteFault e (IsCutShort IsReport
         (S.given source.old) (S.given source.new) (S.has_ended source.new)
         (K.taken sink.old) (K.taken sink.new))) }
     ensures stopped { IfErr result (λ e. IfWriteFault e (λ _. K.has_failed sink.new ≡ true)) }

@@ -1,11 +1,12 @@
-//! Why an analysis gives no answer.
+//! Why an analysis or a trace gives no answer.
 
 ghost use Rattle.std.specs.Prelude.{◌≡◌};
-ghost use Rattle.cmh_report.specs.declared.fault.AppFault.TheVariants.{Dump, Report, WriteFault};
+ghost use Rattle.cmh_report.specs.declared.fault.AppFault.TheVariants.{Dump, Run, Report, WriteFault};
 ghost use Rattle.cmh_report.specs.declared.fault.ReportFault.TheVariants.{Memory};
 
 use cmh_dump::DumpFault;
 use cmh_graph::GraphFault;
+use cmh_run::RunFault;
 use std::alloc::AllocError;
 use thiserror::Error;
 
@@ -17,13 +18,19 @@ pub enum ReportFault {
     Memory,
 }
 
-/// Why an analysis gives no answer.
+/// Why an analysis or a trace gives no answer.
 #[derive(Debug, Drop, Error)]
 pub enum AppFault {
     /// The source gave no dump.
     #[error("dump: {0}")]
     Dump(DumpFault),
-    /// The graph has no report.
+    /// No process has the name.
+    #[error("no such process")]
+    NoSuchProcess,
+    /// The process has no run.
+    #[error("trace: {0}")]
+    Run(RunFault),
+    /// There is no text to write.
     #[error("report: {0}")]
     Report(ReportFault),
     /// The sink has failed after it had taken this many bytes.
@@ -53,6 +60,23 @@ impl From<DumpFault> for AppFault {
 
     fn from(fault: DumpFault) -> AppFault {
         AppFault::Dump(fault)
+    }
+}
+
+impl From<RunFault> for AppFault {
+    ghost from_gives = { λ f e. e ≡ Run f };
+
+    fn from(fault: RunFault) -> AppFault {
+        AppFault::Run(fault)
+    }
+}
+
+impl From<AllocError> for AppFault {
+    ghost from_gives = { λ _ e. e ≡ Report Memory };
+
+    /// Once the run is over, memory is asked for the text alone.
+    fn from(_e: AllocError) -> AppFault {
+        AppFault::Report(ReportFault::Memory)
     }
 }
 

@@ -1,0 +1,94 @@
+-- The text of a trace: each delivery of a run, and how the run ended.
+use Rattle.std.specs.Prelude.{◌≡◌, ◌≢◌, ◌⊎◌, ℕ, ◌<◌, List, [], ◌∷◌, ◌++◌, map, flat_map, codes, All, IsTrue, ⊤}
+use Rattle.cmh_graph.specs.Graph.{Graph, process_count, name_of, is_idle}
+use Rattle.cmh_process.specs.declared.message.Kind.{Kind}
+use Rattle.cmh_process.specs.declared.message.Kind.TheVariants.{Query, Reply}
+use Rattle.cmh_process.specs.declared.message.Message.{Message}
+use Rattle.cmh_run.specs.declared.delivery.Delivery.{Delivery}
+use Rattle.cmh_run.specs.declared.delivery.Ending.{Ending}
+use Rattle.cmh_run.specs.declared.delivery.Ending.TheVariants.{Declared, AtRest, CutFree}
+use Rattle.cmh_run.specs.Choices.{HasNoHints}
+use Rattle.cmh_run.specs.declared.fault.RunFault.{RunFault}
+use Rattle.cmh_run.specs.declared.fault.RunFault.TheVariants.{Memory}
+use Rattle.cmh_run.specs.Run.{Run, IsRunOf, IsFirstFault}
+use Rattle.cmh_report.specs.Report.{line}
+
+abbrev pub kind_word : Kind → List ℕ
+kind_word Query = codes "query"
+kind_word Reply = codes "reply"
+
+-- the words of the line of a message that is delivered
+unfoldable pub message_line : Graph → Message → List (List ℕ)
+message_line g m = kind_word m.kind ∷ name_of g m.from ∷ name_of g m.to ∷ []
+
+-- The words of the last line, if there is one, by the initiator's name. A run without hints is
+-- never cut free.
+abbrev pub ending_lines : List ℕ → Ending → List (List (List ℕ))
+ending_lines name Declared = (codes "declared" ∷ name ∷ []) ∷ []
+ending_lines name AtRest = (codes "at" ∷ codes "rest" ∷ name ∷ []) ∷ []
+ending_lines name (CutFree k) = []
+
+-- the words of each line
+abbrev pub trace_lines : Graph → Run → List (List (List ℕ))
+trace_lines g r =
+    map (λ d. message_line g d.message) r.log ++ ending_lines (name_of g r.initiator) r.ending
+
+unfoldable pub trace_text : Graph → Run → List ℕ
+trace_text g r = flat_map line (trace_lines g r)
+
+-- p is the first process of that name
+pub record IsFirstNamed (g : Graph) (name : List ℕ) (p : ℕ) : Type 0 where
+  pub within : p < process_count g
+  pub named : name_of g p ≡ name
+  pub first : (q : ℕ) → q < p → name_of g q ≢ name
+
+-- no process has that name
+abbrev pub NobodyIsNamed : Graph → List ℕ → Type 0
+NobodyIsNamed g name = (p : ℕ) → p < process_count g → name_of g p ≢ name
+
+-- a run of an idle process that follows the choices without hints
+pub record IsPlainRun (choices : List ℕ) (g : Graph) (r : Run) : Type 0 where
+  pub idle : IsTrue (is_idle g r.initiator)
+  pub legal : IsRunOf g choices [] r
+  pub unhinted : HasNoHints r.log
+
+-- the text is the trace of the process of that name by these choices, and its run has ended so
+pub record IsTrace (name choices : List ℕ) (EndsSo : Ending → Type 0) (g : Graph)
+    (text : List ℕ) : Type 0 where
+  pub run : Run
+  pub named : IsFirstNamed g name run.initiator
+  pub plain : IsPlainRun choices g run
+  pub ends : EndsSo run.ending
+  pub lines : text ≡ trace_text g run
+
+-- the trace, and how its run has ended
+abbrev pub IsEndedTrace : List ℕ → List ℕ → Ending → Graph → List ℕ → Type 0
+IsEndedTrace name choices ending = IsTrace name choices (λ last. ending ≡ last)
+
+-- the trace, however its run has ended
+abbrev pub IsSomeTrace : List ℕ → List ℕ → Graph → List ℕ → Type 0
+IsSomeTrace name choices = IsTrace name choices (λ last. ⊤)
+
+-- name and choices leave one trace, with one ending
+abbrev pub OneTrace : Type 0
+OneTrace =
+    (name choices : List ℕ) (g : Graph) (text other : List ℕ) (ending last : Ending)
+    → IsEndedTrace name choices ending g text → IsEndedTrace name choices last g other
+    → (text ≡ other) × (ending ≡ last)
+
+-- The process of that name has no run by these choices: memory was refused, or this is the first
+-- fault of what was asked.
+pub record HasNoRun (name choices : List ℕ) (fault : RunFault) (g : Graph) : Type 0 where
+  pub initiator : ℕ
+  pub named : IsFirstNamed g name initiator
+  pub cause : (fault ≡ Memory) ⊎ IsFirstFault g initiator choices [] fault
+
+-- the message goes from a process of the graph to another, or to itself
+abbrev pub IsBetween : Graph → Message → Type 0
+IsBetween g m = (m.from < process_count g) × (m.to < process_count g)
+
+-- what the lines of a run ask of it: processes of the graph, and an ending that has a line
+pub record HasLines (g : Graph) (r : Run) : Type 0 where
+  pub initiator : r.initiator < process_count g
+  pub messages : All (λ d. IsBetween g d.message) r.log
+  pub ended : (k : ℕ) → r.ending ≢ CutFree k

@@ -1,0 +1,22 @@
+//! The dump that comes in.
+
+ghost use Rattle.std.specs.Prelude.{◌+◌, Ok, IfOk, IfErr};
+ghost use Rattle.cmh_dump.specs.Source.{GaveAtMost};
+ghost use Rattle.cmh_dump.specs.declared.TheConstants.{MAX_BYTES};
+ghost use Rattle.cmh_report.specs.Ends.{GaveDump, IsRefused};
+
+use cmh_dump::{DumpFault, Source, read_all, read_dump};
+use cmh_graph::WaitGraph;
+use std::alloc::Global;
+
+/// The graph that the bytes of the source mean.
+pub(crate) fn read_graph<S: Source>(alloc: Global, source: &mut S) -> Result<WaitGraph, DumpFault>
+    ensures ok { IfOk result (λ g.
+        GaveDump (S.given source.old) (S.given source.new) (S.has_ended source.new) (Ok g)) }
+    ensures refused { IfErr result (IsRefused (S.given source.old) (S.given source.new)
+        (S.has_ended source.new) (S.has_failed source.new)) }
+    ensures at_most { GaveAtMost (MAX_BYTES + 1) (S.given source.old) (S.given source.new) }
+{
+    let bytes = read_all(alloc, source)?;
+    read_dump(alloc, &bytes)
+}

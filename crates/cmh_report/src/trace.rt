@@ -1,0 +1,144 @@
+//! A trace from end to end: a dump comes in, and each query and reply of one computation goes out.
+
+ghost use Rattle.std.specs.Prelude.{◌≡◌, ◌≢◌, ◌++◌, ◌<◌, ◌+◌, ◌⊎◌, [], ℕ, true, IfOk, IfErr, OnOk, MatchOption, flat_map, string_bytes};
+ghost use Rattle.cmh_dump.specs.Source.{GaveAtMost};
+ghost use Rattle.cmh_dump.specs.declared.TheConstants.{MAX_BYTES};
+ghost use Rattle.cmh_run.specs.Run.{IsFirstFault};
+ghost use Rattle.cmh_report.specs.Ends.{GaveGraph, IsAnswer, IsCutShort, IsRefused};
+ghost use Rattle.cmh_report.specs.Fault.{IfDump, IfNoSuchProcess, IfRun, IfUnwritten, IfWriteFault};
+ghost use Rattle.cmh_report.specs.Report.{line};
+ghost use Rattle.cmh_report.specs.Trace.{ending_lines, message_line, trace_text, HasLines, HasNoRun, IsBetween, IsEndedTrace, IsFirstNamed, IsPlainRun, IsSomeTrace, NobodyIsNamed};
+
+use crate::fault::AppFault;
+use crate::input::read_graph;
+use cmh_dump::Source;
+use cmh_graph::WaitGraph;
+use cmh_process::{Kind, Message};
+use cmh_run::{Ending, NoHints, RunFault, RunLog, run};
+use cmh_stream::{Sink, put_all};
+use std::alloc::{AllocError, Global};
+
+/// Reads a dump from the source up to its end, runs the computation of the process of that name by
+/// the choices and without hints, writes its trace to the sink, and answers how the run ended. The
+/// names of a dump differ, so that there is one such process at most, and one such run of it.
+/// Nothing is written before the whole text is ready. It takes time linear in the deliveries and in
+/// their text, and close to linear in the bytes of the dump besides.
+///
+/// # Errors
+///
+/// `Dump` where the source gives no dump, `NoSuchProcess` where no process has the name, `Run`
+/// where the process isn't idle, there are too many choices or memory is refused to the run,
+/// `Report` where it is refused to the text, and `WriteFault` where the sink fails.
+pub fn trace_bytes<S: Source, K: Sink>(
+    alloc: Global,
+    source: &mut S,
+    sink: &mut K,
+    name: &str,
+    choices: &[u64],
+) -> Result<Ending, AppFault>
+    ensures answer { IfOk result (λ ending. IsAnswer (IsEndedTrace name.now choices.now ending)
+        (S.given source.old) (S.given source.new) (S.has_ended source.new)
+        (K.taken sink.old) (K.taken sink.new) (K.is_finished sink.new)) }
+    ensures never_cut { IfOk result (λ ending. (k : ℕ) → ending ≢ Ending.CutFree k) }
+
+    ensures refused { IfErr result (λ e. IfDump e (IsRefused
+        (S.given source.old) (S.given source.new)
+        (S.has_ended source.new) (S.has_failed source.new))) }
+    ensures nobody { IfErr result (λ e. IfNoSuchProcess e (GaveGraph
+        (S.given source.old) (S.given source.new) (S.has_ended source.new)
+        (λ g. NobodyIsNamed g name.now))) }
+    ensures no_run { IfErr result (λ e. IfRun e (λ fault. GaveGraph
+        (S.given source.old) (S.given source.new) (S.has_ended source.new)
+        (HasNoRun name.now choices.now fault))) }
+    ensures unwritten { IfErr result (λ e.
+        IfUnwritten e (K.taken sink.new ≡ K.taken sink.old)) }
+    ensures cut_short { IfErr result (λ e. IfWriteFault e (IsCutShort
+        (IsSomeTrace name.now choices.now)
+        (S.given source.old) (S.given source.new) (S.has_ended source.new)
+        (K.taken sink.old) (K.taken sink.new))) }
+    ensures stopped { IfErr result (λ e. IfWriteFault e (λ _. K.has_failed sink.new ≡ true)) }
+
+    ensures at_most { GaveAtMost (MAX_BYTES + 1) (S.given source.old) (S.given source.new) }
+{
+    let graph = read_graph(alloc, source)?;
+    let Some(initiator) = find_process(&graph, name) else {
+        return Err(AppFault::NoSuchProcess);
+    };
+    let run = plain_run(alloc, &graph, initiator, choices)?;
+    let text = trace(alloc, &graph, &run)?;
+    put_all(sink, text.as_bytes())?;
+    Ok(run.ending())
+}
+
+/// The first process of that name.
+fn find_process(graph: &WaitGraph, name: &str) -> Option<u32>
+    ensures { MatchOption result (NobodyIsNamed graph.now name.now)
+        (IsFirstNamed graph.now name.now) }
+{
+    for p in 0..graph.len() {
+        if graph.name(p) == name {
+            return Some(p);
+        }
+    }
+    None
+}
+
+/// The run of a process that follows the choices without hints.
+#[tactic(auto, using(crate::proofs::Traces::has_lines))]
+fn plain_run(
+    alloc: Global,
+    graph: &WaitGraph,
+    initiator: u32,
+    choices: &[u64],
+) -> Result<RunLog, RunFault>
+    ensures initiator { IfOk result (λ r. r.initiator ≡ initiator) }
+    ensures plain { IfOk result (IsPlainRun choices.now graph.now) }
+    ensures lines { IfOk result (HasLines graph.now) }
+    ensures fault { IfErr result (λ e. (e ≡ RunFault.Memory)
+        ⊎ IsFirstFault graph.now initiator choices.now [] e) }
+{
+    let _well_formed = graph.len();
+    run(alloc, graph, initiator, choices, &mut NoHints)
+}
+
+/// The trace of a run.
+#[tactic(auto, using(crate::proofs::Traces::whole_trace))]
+fn trace(alloc: Global, graph: &WaitGraph, run: &RunLog) -> Result<String, AllocError>
+    requires { HasLines graph.now run.now }
+    ensures { IfOk result (λ text. string_bytes text ≡ trace_text graph.now run.now) }
+{
+    let mut text = String::new(alloc);
+    for delivery in run.log() {
+        push_message(&mut text, graph, &delivery.message)?;
+    }
+    push_ending(&mut text, graph.name(run.initiator()), run.ending())?;
+    Ok(text)
+}
+
+/// Appends the line of a message that is delivered.
+#[tactic(auto, unfolding(crate::specs::Trace::message_line))]
+fn push_message(text: &mut String, graph: &WaitGraph, message: &Message) -> Result<(), AllocError>
+    requires { IsBetween graph.now message.now }
+    ensures { OnOk result (string_bytes text.new
+        ≡ string_bytes text.old ++ line (message_line graph.now message.now)) }
+{
+    let from = graph.name(message.from);
+    let to = graph.name(message.to);
+    match message.kind {
+        Kind::Query => write!(text, "query {from} {to}\n"),
+        Kind::Reply => write!(text, "reply {from} {to}\n"),
+    }
+}
+
+/// Appends the last line.
+fn push_ending(text: &mut String, name: &str, ending: Ending) -> Result<(), AllocError>
+    requires { (k : ℕ) → ending ≢ Ending.CutFree k }
+    ensures { OnOk result (string_bytes text.new
+        ≡ string_bytes text.old ++ flat_map line (ending_lines name.now ending)) }
+{
+    match ending {
+        Ending::Declared => write!(text, "declared {name}\n"),
+        Ending::AtRest => write!(text, "at rest {name}\n"),
+        Ending::CutFree(_) => unreachable!(),
+    }
+}
