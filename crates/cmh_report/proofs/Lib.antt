@@ -4,5 +4,6 @@ pub mod Examples
 pub mod Leaders
 pub mod Numbers
 pub mod Paths
+pub mod RunVerdicts
 pub mod Traces
 pub mod Words

@@ -1,5 +1,5 @@
 -- Runs that have a trace, and that they have one alone.
-use Rattle.std.proofs.Common.{◌≡◌, ◌≢◌, ℕ, ◌<◌, ◌≤◌, take, ⊎_elim, Bool, true, false, ◌&&◌, ◌==◌, cond, List, [], ◌∷◌, ◌++◌, length, map, slice_get, Option, Some, None, is_none, refl, sym, ◌∙◌, ap, ap₂, subst, arith, All}
+use Rattle.std.proofs.Common.{◌≡◌, ◌≢◌, ℕ, ◌<◌, ◌≤◌, take, ⊎_elim, true, false, ◌&&◌, ◌==◌, cond, List, [], ◌∷◌, ◌++◌, length, map, Option, Some, None, is_none, refl, sym, ◌∙◌, subst, arith, All}
 use Rattle.std.specs.Prelude.{flat_map}
 use Rattle.std.proofs.lemmas.Bool.{cases_eq, cases_lt}
 use Rattle.std.proofs.lemmas.List.{take_all}
@@ -13,7 +13,7 @@ use Rattle.cmh_process.specs.declared.message.Kind.TheVariants.{Query, Reply}
 use Rattle.cmh_process.specs.declared.message.Message.{Message}
 use Rattle.cmh_process.specs.declared.process.Action.{Action}
 use Rattle.cmh_process.specs.declared.process.Action.TheVariants.{Nothing, Engage, ReplyTo, Declare}
-use Rattle.cmh_process.specs.Process.{start_action, engages, query_action, proc_queried, reply_action}
+use Rattle.cmh_process.specs.Process.{start_action, engages, query_action, reply_action}
 use Rattle.cmh_run.specs.declared.delivery.Delivery.{Delivery}
 use Rattle.cmh_run.specs.declared.delivery.Ending.{Ending}
 use Rattle.cmh_run.specs.declared.delivery.Ending.TheVariants.{Declared, AtRest, CutFree}

@@ -4,7 +4,6 @@ use Rattle.cmh_graph.specs.Graph.{Graph, process_count, name_of, is_idle}
 use Rattle.cmh_process.specs.declared.message.Kind.{Kind}
 use Rattle.cmh_process.specs.declared.message.Kind.TheVariants.{Query, Reply}
 use Rattle.cmh_process.specs.declared.message.Message.{Message}
-use Rattle.cmh_run.specs.declared.delivery.Delivery.{Delivery}
 use Rattle.cmh_run.specs.declared.delivery.Ending.{Ending}
 use Rattle.cmh_run.specs.declared.delivery.Ending.TheVariants.{Declared, AtRest, CutFree}
 use Rattle.cmh_run.specs.Choices.{HasNoHints}

@@ -1,15 +1,18 @@
-//! Reports on worked graphs, and dumps from end to end over streams in memory.
+//! Reports on worked graphs, and reports and traces of dumps from end to end over streams in memory.
 
 mod cases;
 mod devices;
+mod traces;
+mod tracing;
 
 use crate::{AppFault, ReportFault, analyse_bytes, report};
 use cases::CASES;
 use cmh_dump::DumpFault;
 use cmh_graph::{GraphFault, Part, State, WaitGraph};
+use cmh_run::{MAX_CHOICES, RunFault};
 use cmh_stream::{ReadOf, WriteOf};
 use devices::{Cut, Page};
-use std::alloc::Global;
+use std::alloc::{AllocError, Global};
 use std::io::Read;
 
 /// A process: its name, its site, and its dependents if it is idle.
@@ -41,6 +44,19 @@ deadlocked q group 1
 deadlocked r group 2
 group 1 | p q | - | sites 1
 group 2 | r | p q | sites 2
+";
+
+const KNOT_OF_THREE_DUMP: &str = r#"{"version":1,"sites":["a"],"processes":[
+    {"name":"p","site":"a","state":"idle","dependents":["q","r"]},
+    {"name":"q","site":"a","state":"idle","dependents":["r"]},
+    {"name":"r","site":"a","state":"idle","dependents":["q"]}]}"#;
+
+const KNOT_OF_THREE_REPORT: &str = "processes 3 active 0 idle 3 deadlocked 3
+deadlocked p group 1
+deadlocked q group 2
+deadlocked r group 2
+group 1 | p | q r | sites 1
+group 2 | q r | - | sites 1
 ";
 
 fn graph(alloc: Global, rows: &[Row], in_transit: &[(u32, u32)]) -> Result<WaitGraph, GraphFault> {
@@ -155,14 +171,7 @@ fn knot_of_three(rt: HostRuntime) {
         ("q", 0, Some(&[2])),
         ("r", 0, Some(&[1])),
     ];
-    let text = "processes 3 active 0 idle 3 deadlocked 3
-deadlocked p group 1
-deadlocked q group 2
-deadlocked r group 2
-group 1 | p | q r | sites 1
-group 2 | q r | - | sites 1
-";
-    assert!(rt; reports(rt, &rows, &[], text));
+    assert!(rt; reports(rt, &rows, &[], KNOT_OF_THREE_REPORT));
 }
 
 #[test]
@@ -201,13 +210,24 @@ fn page(rt: HostRuntime, room: usize) -> Page {
     }
 }
 
-/// Analyses what a reader gives, onto a page.
-fn analyse<R: Read + Drop>(rt: HostRuntime, reader: R, page: &mut Page) -> Result<u32, AppFault> {
+/// Analyses what a reader gives by these choices, onto a page.
+fn analyse_by<R: Read + Drop>(
+    rt: HostRuntime,
+    reader: R,
+    page: &mut Page,
+    choices: &[u64],
+) -> Result<u32, AppFault> {
     analyse_bytes(
         rt.alloc(),
         &mut ReadOf::new(reader),
         &mut WriteOf::new(page),
+        choices,
     )
+}
+
+/// Analyses what a reader gives, onto a page.
+fn analyse<R: Read + Drop>(rt: HostRuntime, reader: R, page: &mut Page) -> Result<u32, AppFault> {
+    analyse_by(rt, reader, page, &[])
 }
 
 #[test]
@@ -218,6 +238,27 @@ fn reports_of_another_program(rt: HostRuntime) {
         assert!(rt; answer.is_ok_and(|count| count == deadlocked), "{text}");
         assert!(rt; out.bytes.as_slice() == text.as_bytes(), "{text}");
     }
+}
+
+#[test]
+fn choices_change_nothing(rt: HostRuntime) {
+    let lists: [&[u64]; 3] = [&[], &[1, 1, 1], &[18446744073709551615]];
+    for choices in lists {
+        let mut out = page(rt, 1_000);
+        let answer = analyse_by(rt, KNOT_OF_THREE_DUMP.as_bytes(), &mut out, choices);
+        assert!(rt; matches!(answer, Ok(3)));
+        assert!(rt; out.bytes.as_slice() == KNOT_OF_THREE_REPORT.as_bytes());
+    }
+}
+
+#[test]
+fn too_many_choices(rt: HostRuntime) -> Result<(), AllocError> {
+    let choices = vec![in rt.alloc(); 0; MAX_CHOICES + 1]?;
+    let mut out = page(rt, 1_000);
+    let answer = analyse_by(rt, TWO_IN_A_CYCLE_DUMP.as_bytes(), &mut out, &choices);
+    assert!(rt; matches!(answer, Err(AppFault::Run(RunFault::TooManyChoices))));
+    assert!(rt; out.bytes.is_empty());
+    Ok(())
 }
 
 #[test]

@@ -1,4 +1,4 @@
-use Rattle.std.proofs.Common.{◌≡◌, ◌≤◌, ◌∙◌, arith, length, map, take}
+use Rattle.std.proofs.Common.{◌≡◌, ◌≤◌, ◌∙◌, length, map, take}
 use Rattle.std.specs.Prelude.{flat_map, string_bytes}
 use Rattle.cmh_report.specs.Report.{line}
 use Rattle.cmh_report.specs.Trace.{message_line}
