@@ -1,18 +1,33 @@
 -- The status with which the program ends after a fault.
 use Rattle.std.specs.Prelude.{ℕ}
 use Rattle.cmh_dump.specs.declared.fault.DumpFault.{DumpFault}
-use Rattle.cmh_dump.specs.declared.fault.DumpFault.TheVariants.{Memory, ReadFault}
+use Rattle.cmh_dump.specs.declared.fault.DumpFault.TheVariants as dump
+use Rattle.cmh_run.specs.declared.fault.RunFault.{RunFault}
+use Rattle.cmh_run.specs.declared.fault.RunFault.TheVariants as run
 use Rattle.cmh_report.specs.declared.fault.AppFault.{AppFault}
-use Rattle.cmh_report.specs.declared.fault.AppFault.TheVariants.{Dump, Report, WriteFault}
-use Rattle.cmh.specs.declared.status.TheConstants.{REFUSED, FAILED}
+use Rattle.cmh_report.specs.declared.fault.AppFault.TheVariants.{Dump, NoSuchProcess, Run, Report, WriteFault}
+use Rattle.cmh.specs.declared.list.ListFault.{ListFault}
+use Rattle.cmh.specs.declared.list.ListFault.TheVariants as list
+use Rattle.cmh.specs.declared.status.TheConstants.{REFUSED, MISUSED, FAILED}
 
 -- want of memory and a failed source are no fault of the dump
 abbrev pub status_of_dump : DumpFault → ℕ
-status_of_dump Memory = FAILED
-status_of_dump ReadFault = FAILED
+status_of_dump dump.Memory = FAILED
+status_of_dump dump.ReadFault = FAILED
 status_of_dump fault = REFUSED
+
+-- other faults of a run lie in what was asked
+abbrev pub status_of_run : RunFault → ℕ
+status_of_run run.Memory = FAILED
+status_of_run fault = MISUSED
 
 abbrev pub status_of : AppFault → ℕ
 status_of (Dump fault) = status_of_dump fault
+status_of NoSuchProcess = MISUSED
+status_of (Run fault) = status_of_run fault
 status_of (Report fault) = FAILED
 status_of (WriteFault written) = FAILED
+
+abbrev pub status_of_list : ListFault → ℕ
+status_of_list list.Memory = FAILED
+status_of_list fault = MISUSED

@@ -2,6 +2,7 @@
 #![tactic(auto)]
 
 mod command;
+mod list;
 mod serve;
 mod status;
 #[cfg(test)]
@@ -11,6 +12,9 @@ use cmh_stream::{ReadOf, WriteOf};
 use std::env::Env;
 use std::process::ExitCode;
 use std::{env, io};
+
+/// The most numbers that a list may have.
+const MAX_NUMBERS: usize = 65_536;
 
 /// The words of the command line, of which the first is the program's name.
 fn words<R: Env + AllocGlobal>(rt: &R) -> io::Result<Vec<String>> {

@@ -1,10 +1,12 @@
 //! The statuses with which the program ends.
 
 ghost use Rattle.std.specs.Prelude.{◌≡◌};
-ghost use Rattle.cmh.specs.Status.{status_of as status_of_lem};
+ghost use Rattle.cmh.specs.Status.{status_of as status_of_lem, status_of_list as status_of_list_lem};
 
+use crate::list::ListFault;
 use cmh_dump::DumpFault;
 use cmh_report::AppFault;
+use cmh_run::RunFault;
 
 /// No process is deadlocked, or what was asked for is printed.
 pub(crate) const FREE: u8 = 0;
@@ -12,7 +14,7 @@ pub(crate) const FREE: u8 = 0;
 /// The dump is refused.
 pub(crate) const REFUSED: u8 = 1;
 
-/// The words of the command line are refused.
+/// The words of the command line are refused, or name no idle process of the dump.
 pub(crate) const MISUSED: u8 = 2;
 
 /// Some process is deadlocked.
@@ -28,6 +30,18 @@ pub(crate) fn status_of(fault: &AppFault) -> u8
     match fault {
         AppFault::Dump(DumpFault::Memory | DumpFault::ReadFault) => FAILED,
         AppFault::Dump(_) => REFUSED,
+        AppFault::Run(RunFault::Memory) => FAILED,
+        AppFault::NoSuchProcess | AppFault::Run(_) => MISUSED,
         AppFault::Report(_) | AppFault::WriteFault(_) => FAILED,
+    }
+}
+
+/// The status after a fault of a list.
+pub(crate) fn status_of_list(fault: &ListFault) -> u8
+    ensures { result ≡ status_of_list_lem fault.now }
+{
+    match fault {
+        ListFault::Memory => FAILED,
+        ListFault::BadNumber(_) | ListFault::TooManyNumbers => MISUSED,
     }
 }

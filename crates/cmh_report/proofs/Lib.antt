@@ -5,5 +5,6 @@ pub mod Leaders
 pub mod Numbers
 pub mod Paths
 pub mod RunVerdicts
+pub mod TraceExamples
 pub mod Traces
 pub mod Words

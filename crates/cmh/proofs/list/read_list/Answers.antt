@@ -1,0 +1,19 @@
+use Rattle.std.proofs.Common.{◌≡◌, ◌∙◌, Bor, List, ℕ, length, map, sym, ap, arith, below_more, Some}
+use Rattle.std.proofs.lemmas.List.{length-map}
+use Rattle.cmh.specs.List.{items_of, item_at, number_of}
+use Rattle.cmh.proofs.Lists.{item_is, number_is, written_more}
+use Rattle.cmh.proofs.list.read_list.Goals as goal
+
+pub loop-i-preserved : goal.loop-i-preserved
+loop-i-preserved c =
+    let text = c.args.text.now in
+    let i = c.loop-i.i in
+    let list = c.deref-item-items.result.now in
+    let cut : map (λ item. item.now) list ≡ items_of text = rw (c.deref-item-items.ensures.value) c.in_ok-items.ensures in
+    let count : length list ≡ length (items_of text) = sym (length-map list (λ (item : Bor (List ℕ)). item.now)) ∙ ap length cut in
+    let writes : number_of (item_at text i) ≡ Some c.in-Some.number = ap number_of (sym (item_is list text i _ cut c.loop-i-test.true)) ∙ sym c.in-Some.ensures in
+    record {
+      few = omega arith;
+      written = rw (c.in_ok-push.ensures.items) (written_more (items_of text) c.loop-i.numbers.items i c.in-Some.number (omega arith) c.loop-i.invariant.written writes);
+      before = below_more _ _ c.loop-i.invariant.before (number_is (item_at text i) c.in-Some.number writes);
+    }

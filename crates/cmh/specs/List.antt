@@ -1,0 +1,41 @@
+-- Lists of numbers on the command line: items parted by one comma. The empty text has no item.
+use Rattle.std.specs.Prelude.{◌≡◌, ℕ, ◌<◌, ◌≤◌, ◌^◌, ◌==◌, ◌&&◌, Bool, List, [], ◌∷◌, length, map, nat_lt, slice_index_or, Option, Some, None, if◌then◌else◌, IsTrue, IsFalse}
+use Rattle.std.specs.List.{slice_split}
+use Rattle.std.specs.Str.{all_ascii_digits}
+use Rattle.std.specs.Str.Parse.{digits_value}
+use Rattle.cmh.specs.declared.TheConstants.{MAX_NUMBERS}
+use Rattle.cmh.specs.declared.list.ListFault.{ListFault}
+use Rattle.cmh.specs.declared.list.ListFault.TheVariants.{BadNumber, TooManyNumbers, Memory}
+
+abbrev pub items_of : List ℕ → List (List ℕ)
+items_of [] = []
+items_of (b ∷ bs) = slice_split (λ c. c == 44) (b ∷ bs)
+
+abbrev pub item_at : List ℕ → ℕ → List ℕ
+item_at text i = slice_index_or (items_of text) i []
+
+-- a number is one or more decimal digits whose value fits 64 bits
+unfoldable pub is_number : List ℕ → Bool
+is_number item =
+    nat_lt 0 (length item) && all_ascii_digits item && nat_lt (digits_value 10 item) (2 ^ 64)
+
+-- the number that an item writes, if it writes one
+abbrev pub number_of : List ℕ → Option ℕ
+number_of item = if is_number item then Some (digits_value 10 item) else None
+
+-- the text is a list, and these are its numbers
+pub record IsListOf (text numbers : List ℕ) : Type 0 where
+  pub few : length (items_of text) ≤ MAX_NUMBERS
+  pub written : map number_of (items_of text) ≡ map Some numbers
+
+-- each item before place i is a number
+abbrev pub AreNumbersBefore : List ℕ → ℕ → Type 0
+AreNumbersBefore text i = (k : ℕ) → k < i → IsTrue (is_number (item_at text k))
+
+-- the first fault from the left: an item that is no number, or one too many, whatever it holds
+abbrev pub IsFirstFault : List ℕ → ListFault → Type 0
+IsFirstFault text (BadNumber i) = (i < MAX_NUMBERS) × (i < length (items_of text))
+    × IsFalse (is_number (item_at text i)) × AreNumbersBefore text i
+IsFirstFault text TooManyNumbers =
+    (MAX_NUMBERS < length (items_of text)) × AreNumbersBefore text MAX_NUMBERS
+IsFirstFault text Memory = ⊥

@@ -1,0 +1,86 @@
+//! Lists of numbers on the command line.
+
+ghost use Rattle.std.specs.Prelude.{◌≡◌, ◌⊎◌, ◌≤◌, length, map, IfOk, IfErr};
+ghost use Rattle.cmh.specs.List.{items_of, number_of, IsFirstFault, IsListOf};
+ghost use Rattle.cmh.specs.declared.TheConstants.{MAX_NUMBERS};
+ghost use Rattle.cmh.specs.declared.list.ListFault.TheVariants.{Memory};
+
+use crate::MAX_NUMBERS;
+use std::alloc::{AllocError, AllocFailed, Global};
+use thiserror::Error;
+
+/// The first fault of a list from the left. Places count from 0.
+#[derive(Debug, Drop, Error)]
+pub(crate) enum ListFault {
+    /// This item is no number.
+    #[error("bad number {0}")]
+    BadNumber(usize),
+    /// There is an item past the first `MAX_NUMBERS`.
+    #[error("too many numbers")]
+    TooManyNumbers,
+    /// Memory was refused.
+    #[error("out of memory")]
+    Memory,
+}
+
+impl From<AllocError> for ListFault {
+    ghost from_gives = { λ _ e. e ≡ Memory };
+
+    fn from(_e: AllocError) -> ListFault {
+        ListFault::Memory
+    }
+}
+
+impl<T: Drop> From<AllocFailed<T>> for ListFault {
+    ghost from_gives = { λ _ e. e ≡ Memory };
+
+    fn from(_e: AllocFailed<T>) -> ListFault {
+        ListFault::Memory
+    }
+}
+
+/// The numbers of a list: items parted by one comma, each of one or more decimal digits. The empty
+/// text is the empty list. It takes time linear in the text.
+///
+/// # Errors
+///
+/// The first fault from the left, or `Memory` where memory is refused.
+pub(crate) fn read_list(alloc: Global, text: &str) -> Result<Vec<u64>, ListFault>
+    ensures ok { IfOk result (λ list. IsListOf text.now list.items) }
+    ensures few { IfOk result (λ list. length list.items ≤ MAX_NUMBERS) }
+    ensures fault { IfErr result (λ e. (e ≡ Memory) ⊎ IsFirstFault text.now e) }
+{
+    let items = items_of(alloc, text)?;
+    let mut numbers = Vec::new(alloc);
+    for (i, item) in items.iter().enumerate() {
+        if i == MAX_NUMBERS {
+            return Err(ListFault::TooManyNumbers);
+        }
+        let Some(number) = read_number(item) else {
+            return Err(ListFault::BadNumber(i));
+        };
+        numbers.push(number)?;
+    }
+    Ok(numbers)
+}
+
+/// The items of a list.
+fn items_of<'a>(alloc: Global, text: &'a str) -> Result<Vec<&'a str>, AllocError>
+    ensures { IfOk result (λ list. map (λ item. item.now) list.items ≡ items_of text.now) }
+{
+    if text.is_empty() {
+        return Ok(Vec::new(alloc));
+    }
+    text.split(',').collect(alloc)
+}
+
+/// The number that an item writes, if it writes one.
+fn read_number(item: &str) -> Option<u64>
+    ensures { result ≡ number_of item.now }
+{
+    // `parse` alone would take a sign.
+    if item.starts_with('+') {
+        return None;
+    }
+    item.parse::<u64>().ok()
+}
