@@ -1,19 +1,17 @@
 -- What the words show at the end. Closed with the whole share, a seat is the only one left.
-use Rattle.std.proofs.Common.{◌≡◌, ◌≢◌, ℕ, zero, suc, ◌+◌, ◌<◌, ◌≤◌, List, [], ◌∷◌, ◌++◌, map, length, get_or, sym, refl, ap, ◌∙◌, subst, arith, append-nil}
+use Rattle.std.proofs.Common.{◌≡◌, ℕ, zero, suc, ◌+◌, ◌≤◌, List, [], ◌∷◌, ◌++◌, map, get_or, sym, refl, ap, ◌∙◌, subst, arith, append-nil}
 use mathlib.Core.Option.{some, some-injective, some-ne-none}
 use lib.ListN.{get_elem?}
 use Rattle.atomic_table.proofs.Lists.{at_map}
-use Rattle.cmh_graph.specs.declared.TheConstants.{MAX_PROCESSES}
 use Rattle.cmh_graph.specs.Graph.{Graph}
-use Rattle.cmh_rw.specs.declared.TheConstants.{FIRST_ROW, FIRST_VERDICT, MAX_SEATS}
+use Rattle.cmh_rw.specs.declared.TheConstants.{MAX_SEATS}
 use Rattle.cmh_rw.specs.declared.machine.SeatState.{SeatState}
 use Rattle.cmh_rw.specs.declared.machine.SeatState.TheVariants.{Away, Retreating, Reading, Writing, Spent}
 use Rattle.cmh_rw.specs.declared.view.Row.{Row}
-use Rattle.cmh_rw.specs.declared.view.LockView.{LockView}
 use Rattle.cmh_rw.specs.declared.view.View.{View}
 use Rattle.cmh_rw.specs.Machine.{total, writes, reads, retreats}
 use Rattle.cmh_rw.specs.History.{laid, weigh, row_code, verdict_code, fold_at}
-use Rattle.cmh_rw.specs.Rule.{Moment, lock_of, lock_moment, state_of, share_of, HasShare, Has, Board}
+use Rattle.cmh_rw.specs.Rule.{Moment, lock_of, state_of, share_of, HasShare, Has, Board}
 use Rattle.cmh_rw.specs.Seats.{ClosedHistory, IsWhole}
 use Rattle.cmh_rw.proofs.Lawful.{total-in}
 use Rattle.cmh_rw.proofs.Loading.{history-true, history-few, history-row}

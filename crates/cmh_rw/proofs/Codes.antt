@@ -1,10 +1,9 @@
 -- Rows and verdicts can be told from their words.
-use Rattle.std.proofs.Common.{◌≡◌, ◌≢◌, ℕ, zero, suc, ◌+◌, ◌-◌, ◌*◌, ◌/◌, ◌%◌, ◌≤◌, Bool, true, false, cond, eqb, Some, List, [], ◌∷◌, ◌++◌, length, get_or, sym, refl, ap, ◌∙◌, arith}
+use Rattle.std.proofs.Common.{◌≡◌, ◌≢◌, ℕ, zero, suc, ◌+◌, ◌-◌, ◌*◌, ◌/◌, ◌%◌, ◌≤◌, Bool, true, false, cond, eqb, Some, List, [], ◌∷◌, ◌++◌, length, get_or, refl, ap, ◌∙◌, arith}
 use Rattle.cmh_graph.specs.declared.verdict.Verdict.{Verdict}
 use Rattle.cmh_graph.specs.declared.verdict.Verdict.TheVariants.{Deadlocked, Free}
 use Rattle.cmh_rw.specs.declared.TheConstants.{FIRST_VERDICT}
-use Rattle.cmh_rw.specs.declared.view.Row.{Row}
-use Rattle.cmh_rw.specs.History.{bit, free_bit, row_code, row_of, verdict_code, verdict_of, RowCodeLaw}
+use Rattle.cmh_rw.specs.History.{bit, free_bit, verdict_code, verdict_of, RowCodeLaw}
 use Rattle.cmh_rw.specs.View.{mark}
 
 -- the three parts of a code

@@ -1,5 +1,5 @@
 -- Steps on word 0 keep the whole rule, where they keep the lock's part.
-use Rattle.std.proofs.Common.{◌≡◌, ◌≢◌, ℕ, ◌+◌, ◌-◌, ◌%◌, ◌^◌, ◌<◌, Bool, true, false, cond, eqb, ltb, List, [], map, get_or, set, sym, refl, ap, ◌∙◌, subst, arith, get_or-set_other, ⊎_elim, inl}
+use Rattle.std.proofs.Common.{◌≡◌, ◌≢◌, ℕ, ◌+◌, ◌-◌, ◌%◌, ◌^◌, Bool, true, false, cond, eqb, ltb, [], map, get_or, set, sym, refl, ap, ◌∙◌, subst, arith, get_or-set_other, ⊎_elim, inl}
 use Rattle.std.proofs.lemmas.Bool.{eqb-true}
 use Rattle.std.proofs.lemmas.List.{map-set}
 use mathlib.Core.Option.{none, some}
@@ -16,7 +16,7 @@ use Rattle.cmh_rw.specs.declared.view.LockView.{LockView}
 use Rattle.cmh_rw.specs.declared.view.View.{View}
 use Rattle.cmh_rw.specs.Machine.{total, writes, reads, retreats, turn}
 use Rattle.cmh_rw.specs.History.{weigh, fold_at}
-use Rattle.cmh_rw.specs.View.{ended, away}
+use Rattle.cmh_rw.specs.View.{ended}
 use Rattle.cmh_rw.specs.Rule.{Moment, lock_of, lock_moment, state_of, Kept, Knows, Board}
 use Rattle.cmh_rw.specs.Steps.{Sat, after_try, with_lock, Entered, Left, Taken}
 use Rattle.cmh_rw.proofs.Folds.{fold-nothing}

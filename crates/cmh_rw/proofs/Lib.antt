@@ -1,5 +1,6 @@
 pub mod Closing
 pub mod Codes
+pub mod Examples
 pub mod Folds
 pub mod Holding
 pub mod Lawful

@@ -1,15 +1,13 @@
 -- A load in a hold keeps the rule, and tells the history.
-use Rattle.std.proofs.Common.{◌≡◌, ◌≢◌, ℕ, ◌+◌, ◌<◌, ◌≤◌, List, [], ◌∷◌, ◌++◌, map, length, get_or, set, sym, refl, ap, ◌∙◌, subst, arith, inr}
+use Rattle.std.proofs.Common.{◌≡◌, ◌≢◌, ℕ, ◌+◌, ◌<◌, ◌≤◌, ◌++◌, map, length, get_or, set, sym, refl, ap, ◌∙◌, subst, arith, inr}
 use Rattle.std.proofs.lemmas.List.{set-get_or, get_or_append_left, length-map}
 use mathlib.Core.List.{map-append}
 use mathlib.Core.Option.{none}
 use Rattle.atomic_table.specs.Table.{step, keeps, Allows}
 use Rattle.atomic_table.proofs.Lists.{at_map}
 use Rattle.cmh_graph.specs.declared.TheConstants.{MAX_PROCESSES}
-use Rattle.cmh_graph.specs.Graph.{Graph, process_count}
+use Rattle.cmh_graph.specs.Graph.{Graph}
 use Rattle.cmh_rw.specs.declared.machine.SeatState.TheVariants.{Reading, Writing}
-use Rattle.cmh_rw.specs.declared.view.Row.{Row}
-use Rattle.cmh_rw.specs.declared.view.View.{View}
 use Rattle.cmh_rw.specs.History.{laid, row_code, verdict_code, fold_at, IsTrueOf}
 use Rattle.cmh_rw.specs.View.{IsHeld, loaded}
 use Rattle.cmh_rw.specs.Rule.{Moment, lock_of, Knows, Board}

@@ -7,13 +7,12 @@ use Rattle.atomic_table.proofs.Lists.{at_set, at_map, set_again}
 use Rattle.cmh_graph.specs.Graph.{Graph}
 use Rattle.cmh_rw.specs.declared.machine.SeatState.{SeatState}
 use Rattle.cmh_rw.specs.declared.machine.SeatState.TheVariants.{Away, Retreating, Reading, Writing, Spent}
-use Rattle.cmh_rw.specs.declared.view.Row.{Row}
 use Rattle.cmh_rw.specs.declared.view.LockView.{LockView}
 use Rattle.cmh_rw.specs.declared.view.View.{View}
 use Rattle.cmh_rw.specs.Machine.{world, total, writes, reads, IsLawful}
 use Rattle.cmh_rw.specs.History.{weigh}
 use Rattle.cmh_rw.specs.View.{IsHeld}
-use Rattle.cmh_rw.specs.Rule.{Moment, LockMoment, lock_of, lock_moment, state_of, HasShare, Has, Kept, Knows, Board}
+use Rattle.cmh_rw.specs.Rule.{Moment, lock_of, state_of, HasShare, Has, Kept, Knows, Board}
 use Rattle.cmh_rw.proofs.Lawful.{total-set, total-in}
 
 pub away_writing : Away ≢ Writing

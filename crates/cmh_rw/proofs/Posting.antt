@@ -1,14 +1,13 @@
 -- The store of the count keeps the rule: the staged rows become the next posting.
-use Rattle.std.proofs.Common.{◌≡◌, ℕ, ◌+◌, ◌<◌, ◌≤◌, true, List, [], ◌∷◌, ◌++◌, map, length, get_or, set, sym, refl, ap, ◌∙◌, subst, arith, length-append, append-nil, get_or-set_same, get_or-set_other, inl, ⊎_elim}
+use Rattle.std.proofs.Common.{◌≡◌, ℕ, ◌+◌, true, [], ◌∷◌, ◌++◌, map, length, get_or, sym, refl, ap, ◌∙◌, subst, arith, length-append, append-nil, get_or-set_same, get_or-set_other, inl, ⊎_elim}
 use mathlib.Core.Option.{none}
 use Rattle.atomic_table.specs.Table.{step, keeps, Allows}
 use Rattle.atomic_table.proofs.Lists.{at_set}
 use Rattle.cmh_graph.specs.Graph.{Graph}
 use Rattle.cmh_rw.specs.declared.TheConstants.{FIRST_ROW, FIRST_VERDICT}
 use Rattle.cmh_rw.specs.declared.machine.SeatState.TheVariants.{Writing}
-use Rattle.cmh_rw.specs.declared.view.Row.{Row}
 use Rattle.cmh_rw.specs.declared.view.View.{View}
-use Rattle.cmh_rw.specs.Machine.{writes, reads}
+use Rattle.cmh_rw.specs.Machine.{writes}
 use Rattle.cmh_rw.specs.History.{laid, weigh, row_code, verdict_code, fold_at, EndsLast, IsPosting, IsTrueOf, AreTold}
 use Rattle.cmh_rw.specs.View.{posted}
 use Rattle.cmh_rw.specs.Rule.{Knows, Board}

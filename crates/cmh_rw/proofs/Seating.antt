@@ -1,5 +1,5 @@
 -- The opening moment meets the rule, and a split and a join of seats that are away keep it.
-use Rattle.std.proofs.Common.{◌≡◌, ◌≢◌, ◌⊎◌, ℕ, zero, suc, ◌+◌, ◌<◌, ◌≤◌, Bool, true, false, cond, ltb, None, List, [], ◌∷◌, ◌++◌, map, length, get_or, replicate, set, sym, refl, ap, ◌∙◌, subst, arith, append-nil, inl, inr, ⊎_elim}
+use Rattle.std.proofs.Common.{◌≡◌, ◌≢◌, ℕ, zero, suc, ◌+◌, ◌<◌, ◌≤◌, false, ltb, List, [], ◌∷◌, ◌++◌, map, length, replicate, set, sym, refl, ap, ◌∙◌, subst, arith, append-nil, inl, ⊎_elim}
 use Rattle.std.proofs.lemmas.List.{map-set, set-get_or, length-replicate, get_or-replicate}
 use Rattle.std.proofs.lemmas.Bool.{cond_both}
 use mathlib.Core.List.{map-append}
@@ -9,15 +9,15 @@ use Rattle.atomic_table.specs.Table.{opening, step, keeps, Allows, Splits, Joins
 use Rattle.atomic_table.proofs.Lists.{at_set, at_map, at_snoc}
 use Rattle.cmh_graph.specs.declared.TheConstants.{MAX_PROCESSES}
 use Rattle.cmh_graph.specs.Graph.{Graph, process_count}
-use Rattle.cmh_rw.specs.declared.TheConstants.{FIRST_ROW, FIRST_VERDICT, BOARD_WORDS, MAX_SEATS}
+use Rattle.cmh_rw.specs.declared.TheConstants.{FIRST_ROW, FIRST_VERDICT, BOARD_WORDS}
 use Rattle.cmh_rw.specs.declared.machine.SeatState.TheVariants.{Away, Writing, Spent}
 use Rattle.cmh_rw.specs.declared.view.Row.{Row}
 use Rattle.cmh_rw.specs.declared.view.LockView.{LockView}
 use Rattle.cmh_rw.specs.declared.view.View.{View}
 use Rattle.cmh_rw.specs.Machine.{total, writes}
-use Rattle.cmh_rw.specs.History.{laid, weigh, IsSeen, IsTrueOf, StartsWith}
-use Rattle.cmh_rw.specs.View.{opening_lock, opening_view, less_share, less_one, new_lock, newcomer, both_shares, joining, longer, compared, spent_lock, spent_view}
-use Rattle.cmh_rw.specs.Rule.{Moment, lock_of, lock_moment, state_of, share_of, Has, Kept, Knows, Board}
+use Rattle.cmh_rw.specs.History.{weigh, IsSeen, IsTrueOf}
+use Rattle.cmh_rw.specs.View.{opening_lock, opening_view, less_share, less_one, new_lock, newcomer, both_shares, joining, compared, spent_lock, spent_view}
+use Rattle.cmh_rw.specs.Rule.{lock_of, lock_moment, state_of, share_of, Has, Kept, Knows, Board}
 use Rattle.cmh_rw.specs.Steps.{Sat, Compared}
 use Rattle.cmh_rw.proofs.Folds.{true-left}
 use Rattle.cmh_rw.proofs.Lawful.{total-set, total-snoc, total-in}

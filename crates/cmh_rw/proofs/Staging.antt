@@ -1,5 +1,5 @@
 -- The stores of a row and of a verdict keep the rule.
-use Rattle.std.proofs.Common.{◌≡◌, ◌≢◌, ◌⊎◌, ℕ, ◌+◌, ◌-◌, ◌<◌, ◌≤◌, true, false, eqb, Some, List, [], ◌∷◌, ◌++◌, map, length, get_or, set, sym, refl, ap, ◌∙◌, subst, arith, length-append, append_assoc, get_or-set_same, get_or-set_other, inl, inr, ⊎_elim}
+use Rattle.std.proofs.Common.{◌≡◌, ℕ, ◌+◌, ◌<◌, true, Some, List, [], ◌∷◌, ◌++◌, map, length, get_or, set, sym, refl, ap, ◌∙◌, subst, arith, length-append, append_assoc, get_or-set_same, get_or-set_other, inl, inr, ⊎_elim}
 use Rattle.std.proofs.lemmas.List.{length-map}
 use Rattle.std.proofs.lemmas.Bool.{cases_eq, cases_Bool, ne_eqb}
 use mathlib.Core.List.{map-append}
@@ -8,7 +8,7 @@ use Rattle.atomic_table.specs.Table.{step, keeps, Allows}
 use Rattle.atomic_table.proofs.Lists.{at_set, at_map}
 use Rattle.cmh_graph.specs.declared.TheConstants.{MAX_PROCESSES}
 use Rattle.cmh_graph.specs.declared.verdict.Verdict.{Verdict}
-use Rattle.cmh_graph.specs.Graph.{Graph, process_count, is_idle}
+use Rattle.cmh_graph.specs.Graph.{Graph, is_idle}
 use Rattle.cmh_graph.specs.Verdict.{verdict}
 use Rattle.cmh_rw.specs.declared.TheConstants.{FIRST_ROW, FIRST_VERDICT}
 use Rattle.cmh_rw.specs.declared.machine.SeatState.TheVariants.{Writing}
@@ -16,7 +16,7 @@ use Rattle.cmh_rw.specs.declared.view.Row.{Row}
 use Rattle.cmh_rw.specs.declared.view.View.{View}
 use Rattle.cmh_rw.specs.History.{laid, weigh, row_code, verdict_code, fold_at, IsOpen, IsTrueOf}
 use Rattle.cmh_rw.specs.View.{CanStage, with_row, with_told, mark}
-use Rattle.cmh_rw.specs.Rule.{Moment, lock_of, Knows, Board}
+use Rattle.cmh_rw.specs.Rule.{lock_of, Knows, Board}
 use Rattle.cmh_rw.specs.Steps.{Sat, Staged, Told}
 use Rattle.cmh_rw.proofs.Codes.{row_code_law, mark_of, get-seam, get-else}
 use Rattle.cmh_rw.proofs.Folds.{fold-else, fold-keeps, fold-skip, true-snoc, true-apart, told-now}

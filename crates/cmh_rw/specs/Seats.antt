@@ -1,5 +1,5 @@
 -- What clauses see of the words, of a seat, and of the words once they are closed.
-use Rattle.std.specs.Prelude.{◌≡◌, ℕ, ◌+◌, ◌<◌, ◌≤◌, List, [], map, length, slice_index}
+use Rattle.std.specs.Prelude.{◌≡◌, ℕ, ◌+◌, ◌<◌, ◌≤◌, List, map, length, slice_index}
 use Rattle.std.specs.Slots.{slots_items}
 use mathlib.Core.Option.{some}
 use lib.ListN.{get_elem?}

@@ -1,5 +1,5 @@
 -- What each step on the words tells the seat that makes it.
-use Rattle.std.specs.Prelude.{◌≡◌, ◌⊎◌, ℕ, ◌+◌, ◌-◌, ◌≤◌, [], ◌∷◌, ◌++◌}
+use Rattle.std.specs.Prelude.{◌≡◌, ◌⊎◌, ℕ, ◌-◌, ◌≤◌, [], ◌++◌}
 use Rattle.atomic_table.specs.Table.{Me, Step}
 use Rattle.cmh_rw.specs.declared.TheConstants.{MAX_SEATS, FIRST_VERDICT}
 use Rattle.cmh_rw.specs.declared.machine.Event.{Event}
@@ -8,7 +8,7 @@ use Rattle.cmh_rw.specs.declared.view.LockView.{LockView}
 use Rattle.cmh_rw.specs.declared.view.View.{View}
 use Rattle.cmh_rw.specs.Machine.{turn}
 use Rattle.cmh_rw.specs.History.{row_of, verdict_of, IsPosting, IsTrueOf, StartsWith}
-use Rattle.cmh_rw.specs.View.{tried, tried_lock, ended, AfterLoad, with_row, with_told, mark, posted, compared}
+use Rattle.cmh_rw.specs.View.{tried_lock, ended, AfterLoad, with_row, with_told, mark, posted, compared}
 
 -- a seat of the table: its view, and no slots
 abbrev pub Sat : Type 0

@@ -12,6 +12,8 @@ mod machine;
 mod rows;
 mod rule;
 mod seat;
+#[cfg(test)]
+mod tests;
 mod view;
 mod words;
 

@@ -1,4 +1,4 @@
-use Rattle.std.proofs.Common.{◌≡◌, ◌≤◌, sym, subst, arith, inr, lt_of_not-le}
+use Rattle.std.proofs.Common.{◌≡◌, sym, subst, arith}
 use Rattle.std.proofs.lemmas.Grind.{common_steps}
 use Rattle.cmh_rw.specs.Machine.{new_world, run_from, IsLawful}
 use Rattle.cmh_rw.proofs.Lawful.{few_enough, run-snoc, run-lawful, new-lawful}

@@ -1,4 +1,4 @@
-use Rattle.std.proofs.Common.{◌≡◌, rules, arith, ap, sym, ◌∙◌, subst}
+use Rattle.std.proofs.Common.{◌≡◌, rules, arith, ap, ◌∙◌}
 use Rattle.cmh_rw.specs.View.{compared, joining}
 use Rattle.cmh_rw.specs.Steps.{Sat}
 use Rattle.cmh_rw.proofs.Room.{fits_joined, joined_begins}

@@ -1,6 +1,5 @@
 use Rattle.std.proofs.Common.{◌≡◌, ◌<◌, rules, arith, ap, sym, ◌∙◌, subst}
 use Rattle.cmh_graph.specs.declared.TheConstants.{MAX_PROCESSES}
-use Rattle.cmh_rw.specs.declared.view.View.{View}
 use Rattle.cmh_rw.specs.History.{row_of}
 use Rattle.cmh_rw.specs.View.{row, with_row}
 use Rattle.cmh_rw.specs.Steps.{Sat}

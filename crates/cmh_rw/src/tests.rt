@@ -1,0 +1,8 @@
+//! The machine, and the words by one thread and by several.
+
+mod graphs;
+mod machine;
+mod posting;
+mod steps;
+mod threads;
+mod words;

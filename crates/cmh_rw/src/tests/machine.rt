@@ -1,0 +1,51 @@
+//! Events on a lock with two seats.
+
+use crate::{Event, LockWorld, RwFault, SeatState, run_events};
+
+/// A writer has to wait for a reader. The reader, who comes again, retreats from the writer.
+const LOCK_EVENTS: [Event; 5] = [
+    Event::Admit(0),
+    Event::TryWrite(1),
+    Event::Leave(0),
+    Event::TryWrite(1),
+    Event::Admit(0),
+];
+
+fn is_after_lock_events(world: &LockWorld) -> bool {
+    world.word() == 4_294_967_297
+        && world.seats() == 2
+        && world.state(0) == Some(SeatState::Retreating)
+        && world.state(1) == Some(SeatState::Writing)
+        && world.state(2).is_none()
+}
+
+#[test]
+fn lock_events(rt: HostRuntime) -> Result<(), RwFault> {
+    let world = run_events(rt.alloc(), 2, &LOCK_EVENTS)?;
+    assert!(rt; is_after_lock_events(&world));
+    Ok(())
+}
+
+#[test]
+fn lock_events_one_by_one(rt: HostRuntime) -> Result<(), RwFault> {
+    let mut world = LockWorld::new(rt.alloc(), 2)?;
+    let mut words = [0; 5];
+    for (i, event) in LOCK_EVENTS.iter().enumerate() {
+        world.step(*event);
+        words[i] = world.word();
+    }
+    assert_eq!(rt; words, [1, 1, 0, 4_294_967_296, 4_294_967_297]);
+    assert!(rt; is_after_lock_events(&world));
+    Ok(())
+}
+
+#[test]
+fn seats_are_1_to_64(rt: HostRuntime) {
+    let alloc = rt.alloc();
+    assert!(rt; LockWorld::new(alloc, 0).err() == Some(RwFault::BadSeats));
+    assert!(rt; LockWorld::new(alloc, 65).err() == Some(RwFault::BadSeats));
+    assert!(rt; run_events(alloc, 0, &LOCK_EVENTS).err() == Some(RwFault::BadSeats));
+    assert!(rt; run_events(alloc, 65, &[]).err() == Some(RwFault::BadSeats));
+    assert!(rt; LockWorld::new(alloc, 1).is_ok());
+    assert!(rt; LockWorld::new(alloc, 64).is_ok());
+}

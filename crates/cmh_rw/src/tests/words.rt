@@ -1,0 +1,60 @@
+//! The lock on the words, by one thread with two seats.
+
+use super::graphs::two_in_a_cycle;
+use crate::{Entry, RwWords};
+use std::test::Fail;
+
+/// A writer keeps a reader out, and a reader keeps a writer out.
+#[test]
+fn lock_words_by_two_seats(rt: HostRuntime) -> Result<(), Fail> {
+    let graph = two_in_a_cycle(rt.alloc())?;
+    let (words, mut x) = RwWords::open(rt.alloc(), &graph)?;
+    let Some(mut y) = words.split(&mut x) else {
+        panic!(rt; "a seat with the whole share is split")
+    };
+    let Entry::Held = words.try_write(&mut x) else {
+        panic!(rt; "the lock is free")
+    };
+    let Entry::Busy(found) = words.try_read(&mut y) else {
+        panic!(rt; "a writer holds the lock")
+    };
+    assert!(rt; found == 4_294_967_296);
+    words.end_write(&mut x);
+    let Entry::Held = words.try_read(&mut y) else {
+        panic!(rt; "no writer holds the lock")
+    };
+    let Entry::Busy(found) = words.try_write(&mut x) else {
+        panic!(rt; "a reader holds the lock")
+    };
+    assert!(rt; found == 1);
+    words.end_read(&mut y);
+    Ok(())
+}
+
+#[test]
+fn shares_add_up(rt: HostRuntime) -> Result<(), Fail> {
+    let graph = two_in_a_cycle(rt.alloc())?;
+    let (words, mut x) = RwWords::open(rt.alloc(), &graph)?;
+    assert!(rt; x.share() == 64);
+    let Some(mut y) = words.split(&mut x) else {
+        panic!(rt; "a seat with the whole share is split")
+    };
+    assert!(rt; x.share() == 63 && y.share() == 1);
+    assert!(rt; words.split(&mut y).is_none());
+    words.join(&mut x, y);
+    assert!(rt; x.share() == 64);
+    Ok(())
+}
+
+/// All words are 0 at first, and there are 8,194 of them.
+#[test]
+fn words_at_first(rt: HostRuntime) -> Result<(), Fail> {
+    let graph = two_in_a_cycle(rt.alloc())?;
+    let (words, x) = RwWords::open(rt.alloc(), &graph)?;
+    let closed = words.close_with(x);
+    for n in 0..8_194 {
+        assert!(rt; closed.word(n) == Some(0));
+    }
+    assert!(rt; closed.word(8_194).is_none());
+    Ok(())
+}
