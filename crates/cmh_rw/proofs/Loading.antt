@@ -46,6 +46,7 @@ loads key slots id word me held s b _ at _ = let v = me.0 in let rows = laid b.p
           same = λ yes. sym (k.fresh yes).1;
           whole = (b.postings, refl, b.whole);
           true_of = subst (λ g. IsTrueOf g rows) (sym graph) (history-true key s b);
+          few = history-few key s b;
           staged_true = subst (λ g. IsTrueOf g (rows ++ v.staged)) (sym graph) (subst (λ l. IsTrueOf key (rows ++ l)) (sym own.0) b.true_of);
           bare = λ reads. k.bare (λ e. reading_writing (sym reads ∙ e));
           count = λ e. ap (λ i. get_or s.words i 0) e ∙ b.count;

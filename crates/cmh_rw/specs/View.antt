@@ -71,6 +71,7 @@ pub record AfterLoad (v : View) (word found : ℕ) (w : View) : Type 0 where
   pub same : v.loaded ≡ true → w.seen ≡ v.seen
   pub whole : IsHistory w.seen
   pub true_of : IsTrueOf v.lock.graph w.seen
+  pub few : length w.seen ≤ MAX_PROCESSES
   pub staged_true : IsTrueOf v.lock.graph (w.seen ++ v.staged)
   pub bare : v.lock.state ≡ Reading → (v.staged ≡ []) × (v.told ≡ [])
   pub count : word ≡ 1 → found ≡ length w.seen

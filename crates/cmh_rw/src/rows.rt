@@ -1,6 +1,7 @@
 //! The history in the words: loads, and the stores of a posting.
 
 ghost use Rattle.std.specs.Prelude.{◌≡◌, ◌+◌, ◌<◌, length, Some, IsTrue};
+ghost use Rattle.cmh_graph.specs.declared.TheConstants.{MAX_PROCESSES};
 ghost use Rattle.cmh_rw.specs.declared.machine.SeatState.TheVariants.{Writing};
 ghost use Rattle.cmh_rw.specs.History.{row_code, verdict_code, fold_at, EndsLast, IsPosting, AreTold};
 ghost use Rattle.cmh_rw.specs.View.{IsHeld, AfterLoad, CanStage, row, with_row, mark, with_told, posted};
@@ -31,6 +32,7 @@ impl RwWords {
         requires can { CanStage (view seat.old) (row p verdict last) }
         ensures own { IsSeatOf self.now seat.new }
         ensures staged { view seat.new ≡ with_row (view seat.old) (row p verdict last) }
+        ensures room { n < MAX_PROCESSES }
     {
         let row = Row {
             process: p,

@@ -5,23 +5,23 @@ ghost use Rattle.cmh_graph.specs.Graph.{process_count, is_idle};
 ghost use Rattle.cmh_graph.specs.Verdict.{verdict, verdicts};
 ghost use Rattle.cmh_rw.specs.declared.machine.SeatState.TheVariants.{Writing};
 ghost use Rattle.cmh_rw.specs.History.{fold_at};
-ghost use Rattle.cmh_rw.specs.View.{loaded, posted, with_row, with_told, row, mark};
+ghost use Rattle.cmh_rw.specs.View.{loaded};
 ghost use Rattle.cmh_rw.specs.Seats.{view, IsSeatOf, IsAway};
 
 use crate::{Entry, FIRST_VERDICT, RwSeat, RwWords};
 use cmh_graph::{Verdict, WaitGraph};
 
 /// The verdict of process `p`, of those of all processes.
-pub(super) fn verdict_of(graph: &WaitGraph, verdicts: &[Verdict], p: u32) -> Verdict
-    requires all { verdicts.now ≡ verdicts graph.now }
+pub(super) fn verdict_of(graph: &WaitGraph, all: &[Verdict], p: u32) -> Verdict
+    requires all { all.now ≡ verdicts graph.now }
     requires within { p < process_count graph.now }
     ensures { result ≡ verdict graph.now p }
 {
-    verdicts[p as usize]
+    all[p as usize]
 }
 
 /// Whether no row names the process, as a writer sees it that has staged nothing.
-fn is_new(words: &RwWords, seat: &mut RwSeat, p: u32) -> bool
+pub(super) fn is_new(words: &RwWords, seat: &mut RwSeat, p: u32) -> bool
     requires own { IsSeatOf words.now seat.old }
     requires writing { (view seat.old).lock.state ≡ Writing }
     requires loaded { IsTrue (view seat.old).loaded }
@@ -34,38 +34,99 @@ fn is_new(words: &RwWords, seat: &mut RwSeat, p: u32) -> bool
     words.load(seat, FIRST_VERDICT + p as usize) == 0
 }
 
+/// Looks for a verdict once, and says whether there is one.
+pub(super) fn look(words: &RwWords, seat: &mut RwSeat, p: u32) -> bool
+    requires own { IsSeatOf words.now seat.old }
+    requires away { IsAway seat.old }
+    requires within { p < 4096 }
+    ensures own { IsSeatOf words.now seat.new }
+    ensures away { IsAway seat.new }
+    ensures graph { (view seat.new).lock.graph ≡ (view seat.old).lock.graph }
+{
+    if words.try_read(seat) != Entry::Held {
+        return false;
+    }
+    let found = words.load(seat, FIRST_VERDICT + p as usize);
+    words.end_read(seat);
+    found != 0
+}
+
 /// The first so many of the five stores that post two processes, where there are `n` rows.
-pub(super) fn store_two(words: &RwWords, seat: &mut RwSeat, n: usize, p: u32, v: Verdict, q: u32, w: Verdict, steps: u32)
+pub(super) fn store_two(
+    words: &RwWords,
+    seat: &mut RwSeat,
+    n: usize,
+    first: (u32, Verdict),
+    second: (u32, Verdict),
+    steps: u32,
+)
     requires own { IsSeatOf words.now seat.old }
     requires writing { (view seat.old).lock.state ≡ Writing }
     requires loaded { IsTrue (view seat.old).loaded }
     requires count { n ≡ length (view seat.old).seen }
+    requires few { n ≤ 4096 }
     requires clear { ((view seat.old).staged ≡ []) × ((view seat.old).told ≡ []) }
-    requires idle { IsTrue (is_idle (view seat.old).lock.graph p) × IsTrue (is_idle (view seat.old).lock.graph q) }
-    requires verdicts { (v ≡ verdict (view seat.old).lock.graph p) × (w ≡ verdict (view seat.old).lock.graph q) }
-    requires new { (fold_at (view seat.old).seen p ≡ None) × (fold_at (view seat.old).seen q ≡ None) }
-    requires two { p ≢ q }
+    requires idle { IsTrue (is_idle (view seat.old).lock.graph first.0)
+        × IsTrue (is_idle (view seat.old).lock.graph second.0) }
+    requires verdicts { (first.1 ≡ verdict (view seat.old).lock.graph first.0)
+        × (second.1 ≡ verdict (view seat.old).lock.graph second.0) }
+    requires new { (fold_at (view seat.old).seen first.0 ≡ None)
+        × (fold_at (view seat.old).seen second.0 ≡ None) }
+    requires two { first.0 ≢ second.0 }
     ensures own { IsSeatOf words.now seat.new }
-    ensures posted { 5 ≤ steps → view seat.new ≡ posted (with_told (with_row (with_told (with_row (view seat.old) (row p v false)) (mark p v)) (row q w true)) (mark q w)) }
+    ensures ended { 5 ≤ steps → ((view seat.new).staged ≡ []) × ((view seat.new).lock ≡ (view seat.old).lock) }
 {
     if steps == 0 {
         return;
     }
-    words.store_row(seat, n, p, v, false);
+    words.store_row(seat, n, first.0, first.1, false);
     if steps == 1 {
         return;
     }
-    words.store_verdict(seat, p, v);
+    words.store_verdict(seat, first.0, first.1);
     if steps == 2 {
         return;
     }
-    words.store_row(seat, n + 1, q, w, true);
+    words.store_row(seat, n + 1, second.0, second.1, true);
     if steps == 3 {
         return;
     }
-    words.store_verdict(seat, q, w);
+    words.store_verdict(seat, second.0, second.1);
     if steps == 4 {
         return;
     }
     words.store_count(seat, n + 2);
+}
+
+/// Posts two processes together, unless the lock is busy or one of them isn't idle or has a row.
+pub(super) fn post_two(
+    words: &RwWords,
+    seat: &mut RwSeat,
+    graph: &WaitGraph,
+    all: &[Verdict],
+    p: u32,
+    q: u32,
+)
+    requires own { IsSeatOf words.now seat.old }
+    requires away { IsAway seat.old }
+    requires graph { (view seat.old).lock.graph ≡ graph.now }
+    requires all { all.now ≡ verdicts graph.now }
+    ensures own { IsSeatOf words.now seat.new }
+    ensures away { IsAway seat.new }
+    ensures graph { (view seat.new).lock.graph ≡ graph.now }
+{
+    let count = graph.len();
+    if p >= count || q >= count || p == q || !graph.is_idle(p) || !graph.is_idle(q) {
+        return;
+    }
+    let v = verdict_of(graph, all, p);
+    let w = verdict_of(graph, all, q);
+    if words.try_write(seat) != Entry::Held {
+        return;
+    }
+    let n = words.load(seat, 1) as usize;
+    if is_new(words, seat, p) && is_new(words, seat, q) {
+        store_two(words, seat, n, (p, v), (q, w), 5);
+    }
+    words.end_write(seat);
 }

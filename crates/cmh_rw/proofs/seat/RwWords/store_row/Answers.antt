@@ -26,3 +26,6 @@ invariant_of-seat c = let s = c.args.seat.now in let v = s.seat.me.0 in let r = 
       bare = ap (λ (m : Sat). m.1) told ∙ s.bare;
       fits = subst (λ (m : Sat). Fits m.0) (sym told) (fits_with_row v r c.requires.can s.fits);
     }
+
+pub returns-clause-room : goal.returns-clause-room
+returns-clause-room c = row_has_word c.args.seat.now.seat.me.0 (row c.args.p c.args.verdict c.args.last) c.args.n c.requires.can c.requires.end c.args.seat.now.fits
