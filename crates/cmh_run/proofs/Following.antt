@@ -30,7 +30,7 @@ restart_keeps_count g i s (n ∷ ns) =
     by_test (is_none s.config.ended && eqb n s.done) (λ b. (cond b (restart g i s ns) s).done ≡ s.done) (λ e. refl) (λ e. refl)
 
 -- one delivery more
-leads_on : (rule : Rule) (g : Graph) (i : ℕ) (log : List Delivery) (s mid : Going) (x : ℕ) (d : Delivery) → Leads rule g i s log mid → MayCome g mid.config x d → rule mid.done mid.config x ≡ true
+pub leads_on : (rule : Rule) (g : Graph) (i : ℕ) (log : List Delivery) (s mid : Going) (x : ℕ) (d : Delivery) → Leads rule g i s log mid → MayCome g mid.config x d → rule mid.done mid.config x ≡ true
     → Leads rule g i s (log ++ d ∷ []) (ready g i (after g i mid x d))
 leads_on rule g i [] s mid x d l may chosen = (
   x,
@@ -117,7 +117,7 @@ module _ (g : Graph) (i : ℕ) (ok : IsWithinGraph g) (within : i < process_coun
       leads_numbered rule log (going_from (start g i (nothing_yet g)) restarts) s first_stands first_number l
 
 -- where nothing was started, nothing is to come
-nothing_comes : (rule : Rule) (g : Graph) (i : ℕ) (log : List Delivery) (s : Going)
+pub nothing_comes : (rule : Rule) (g : Graph) (i : ℕ) (log : List Delivery) (s : Going)
     → Leads rule g i (going_from (nothing_yet g) []) log s → s ≡ going_from (nothing_yet g) []
 nothing_comes rule g i [] s l = sym l
 nothing_comes rule g i (d ∷ log) s l = absurd (nothing_there l.1.there)

@@ -1,10 +1,13 @@
 pub mod Alike
+pub mod Auditing
 pub mod Bound
 pub mod Decide
 pub mod Following
+pub mod Judging
 pub mod Last
 pub mod Live
 pub mod Paths
+pub mod Places
 pub mod Recast
 pub mod Right
 pub mod Scripts
@@ -15,3 +18,4 @@ pub mod Tally
 pub mod Theorem
 pub mod Tokens
 pub mod Verdicts
+pub mod Waiting

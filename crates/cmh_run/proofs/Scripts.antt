@@ -104,18 +104,18 @@ verdict_by g p Free w false t e = λ dead. true_false (sym (then_test g p dead) 
     true_false h = cc
 
 -- the verdict that is computed is true
-verdict_true : (g : Graph) (p : ℕ) (v : Verdict) → IsWithinGraph g → verdict g p ≡ v → IsVerdict g p v
+pub verdict_true : (g : Graph) (p : ℕ) (v : Verdict) → IsWithinGraph g → verdict g p ≡ v → IsVerdict g p v
 verdict_true g p v w e = verdict_by g p v w (is_deadlocked g p) refl e
 
 -- no other verdict is true
-one_verdict : (g : Graph) (p : ℕ) (v u : Verdict) → IsVerdict g p v → IsVerdict g p u → v ≡ u
+pub one_verdict : (g : Graph) (p : ℕ) (v u : Verdict) → IsVerdict g p v → IsVerdict g p u → v ≡ u
 one_verdict g p Deadlocked Deadlocked a b = refl
 one_verdict g p Deadlocked Free a b = absurd (b a)
 one_verdict g p Free Deadlocked a b = absurd (a b)
 one_verdict g p Free Free a b = refl
 
 -- the list of all verdicts has that of each process
-verdict_at : (g : Graph) (p : ℕ) → p < process_count g → slice_get (verdicts g) p ≡ Some (verdict g p)
+pub verdict_at : (g : Graph) (p : ℕ) → p < process_count g → slice_get (verdicts g) p ≡ Some (verdict g p)
 verdict_at g p h =
     slice_get-get_or (verdicts g) p Free (subst (λ (n : ℕ). p < n) (sym (length-by_index g (verdict g))) h)
     ∙ ap Some (by_index g (verdict g) (verdicts g) p Free refl h)

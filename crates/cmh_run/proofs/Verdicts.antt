@@ -18,3 +18,15 @@ alike Deadlocked Deadlocked h = refl
 alike Deadlocked Free h = absurd (cc)
 alike Free Deadlocked h = absurd (cc)
 alike Free Free h = refl
+
+-- two verdicts that compare as alike are equal
+pub same : (a b : Verdict) → sameb the_type a b ≡ true → a ≡ b
+same Deadlocked Deadlocked h = refl
+same Deadlocked Free h = absurd (cc)
+same Free Deadlocked h = absurd (cc)
+same Free Free h = refl
+
+-- a verdict compares as alike with itself
+pub same_as_itself : (a : Verdict) → sameb the_type a a ≡ true
+same_as_itself Deadlocked = refl
+same_as_itself Free = refl

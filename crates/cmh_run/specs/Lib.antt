@@ -1,3 +1,5 @@
+pub mod Audit
+pub mod Check
 pub mod Choices
 pub mod Config
 pub mod Follow

@@ -1,8 +1,9 @@
-//! Why there is no run, or no script.
+//! Why there is no run, or no script, or why a log is no run.
 
 ghost use Rattle.std.specs.Prelude.{◌≡◌};
 ghost use Rattle.cmh_run.specs.declared.fault.RunFault.TheVariants.{Memory};
 ghost use Rattle.cmh_run.specs.declared.fault.ScriptFault.TheVariants as script;
+ghost use Rattle.cmh_run.specs.declared.fault.CheckFault.TheVariants as check;
 
 use cmh_graph::GraphFault;
 use std::alloc::{AllocError, AllocFailed};
@@ -93,5 +94,68 @@ impl From<GraphFault> for ScriptFault {
     /// A question to a graph fails by the want of memory alone.
     fn from(_e: GraphFault) -> ScriptFault {
         ScriptFault::Memory
+    }
+}
+
+/// The first thing that is wrong with a log, a delivery by its place in it.
+#[derive(Clone, Copy, PartialEq, Eq, Hash, Debug)]
+pub enum CheckFault {
+    /// The initiator is the index of no idle process.
+    NotIdle,
+
+    /// The message of this delivery is not undelivered.
+    NotUndelivered(usize),
+
+    /// This delivery has a hint where none is asked, or one that isn't true.
+    FalseHint(usize),
+
+    /// The run had ended before this delivery.
+    AfterEnd(usize),
+
+    /// The run could go on.
+    NotEnded,
+
+    /// Memory was refused.
+    Memory,
+}
+
+impl fmt::Display for CheckFault {
+    fn fmt<W: fmt::Write>(&self, f: &mut fmt::Formatter<W>) -> fmt::Result {
+        match self {
+            CheckFault::NotIdle => write!(f, "not idle"),
+            CheckFault::NotUndelivered(t) => write!(f, "not undelivered {t}"),
+            CheckFault::FalseHint(t) => write!(f, "false hint {t}"),
+            CheckFault::AfterEnd(t) => write!(f, "after the end {t}"),
+            CheckFault::NotEnded => write!(f, "not ended"),
+            CheckFault::Memory => write!(f, "out of memory"),
+        }
+    }
+}
+
+impl Error for CheckFault {}
+
+impl<T: Drop> From<AllocFailed<T>> for CheckFault {
+    ghost from_gives = { λ _ e. e ≡ check.Memory };
+
+    fn from(_e: AllocFailed<T>) -> CheckFault {
+        CheckFault::Memory
+    }
+}
+
+impl From<GraphFault> for CheckFault {
+    ghost from_gives = { λ _ e. e ≡ check.Memory };
+
+    /// A question to a graph fails by the want of memory alone.
+    fn from(_e: GraphFault) -> CheckFault {
+        CheckFault::Memory
+    }
+}
+
+impl From<RunFault> for CheckFault {
+    ghost from_gives = { λ _ e. e ≡ check.Memory };
+
+    /// A step of a run fails by the want of memory alone.
+    fn from(_e: RunFault) -> CheckFault {
+        CheckFault::Memory
     }
 }

@@ -3,7 +3,9 @@
 //! a wait graph, in any order of delivery.
 #![tactic(auto)]
 
+mod auditor;
 mod bag;
+mod check;
 mod delivery;
 mod fault;
 mod hints;
@@ -16,10 +18,12 @@ mod scripted;
 mod send;
 #[cfg(test)]
 mod tests;
+mod undelivered;
 
 pub use bag::Bag;
+pub use check::check_run;
 pub use delivery::{Delivery, Ending};
-pub use fault::{RunFault, ScriptFault};
+pub use fault::{CheckFault, RunFault, ScriptFault};
 pub use hints::{Hints, NoHints};
 pub use laws::{
     law_choices_decide, law_last_computation_is_a_run, law_one_run, law_runs_are_right,

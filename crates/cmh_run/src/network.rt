@@ -3,6 +3,7 @@
 ghost use Rattle.std.specs.Prelude.{◌≡◌, ◌+◌, ◌<◌, ◌^◌, ◌%◌, ◌↔◌, [], None, Some, length, slice_get, IfOk, IfSome, IfNone, IsNone, IsFalse, IfErr, OnOk, if◌then◌else◌};
 ghost use Rattle.cmh_graph.specs.Graph.{process_count, is_awake};
 ghost use Rattle.cmh_graph.specs.Build.{IsWellFormed};
+ghost use Rattle.cmh_run.specs.Legal.{begun};
 ghost use Rattle.cmh_run.specs.Config.{proc_at, nothing_yet, start, does, engaged_by, answered, replied, received, asks, without};
 
 use crate::send::Sender;
@@ -51,6 +52,24 @@ impl Network {
         })
     }
 
+    /// The start of a run. An awake initiator asks nobody.
+    pub(crate) fn begun(
+        alloc: Global,
+        graph: &WaitGraph,
+        initiator: u32,
+    ) -> Result<Network, RunFault>
+        requires graph { IsWellFormed graph.now }
+        requires within { initiator < process_count graph.now }
+        ensures ok { IfOk result (λ n. n ≡ (begun graph.now initiator []).config) }
+        ensures memory { IfErr result (λ e. e ≡ RunFault.Memory) }
+    {
+        let mut network = Network::nothing_yet(alloc, graph)?;
+        if !graph.is_awake(initiator) {
+            network.start(graph, initiator)?;
+        }
+        Ok(network)
+    }
+
     /// The initiator starts with its next number.
     pub(crate) fn start(&mut self, graph: &WaitGraph, initiator: u32) -> Result<(), RunFault>
         requires graph { IsWellFormed graph.now }
@@ -92,6 +111,13 @@ impl Network {
         ensures { IsFalse result ↔ (self.now.ended ≡ None) }
     {
         self.ended.is_some()
+    }
+
+    /// How a declaration or a hint has ended the run, if one has.
+    pub(crate) fn ended(&self) -> Option<Ending>
+        ensures { result ≡ self.now.ended }
+    {
+        self.ended
     }
 
     /// Takes the message that the choice names out of the bag.

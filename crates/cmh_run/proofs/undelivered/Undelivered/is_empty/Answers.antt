@@ -1,0 +1,24 @@
+use Rattle.std.proofs.Common.{◌≡◌, ◌∙◌, sym, subst, false}
+use Rattle.std.proofs.lemmas.Bool.{true≢false}
+use Rattle.cmh_process.specs.declared.message.Message.{Message}
+use Rattle.cmh_run.specs.Audit.{Waiting, is_waiting}
+use Rattle.cmh_run.proofs.Waiting.{no_queries, no_replies, none_waiting}
+use Rattle.cmh_run.proofs.undelivered.Undelivered.is_empty.Goals as goal
+
+-- there are no queries: it is empty where there are no replies
+pub returns-then-is_empty : goal.returns-then-is_empty
+returns-then-is_empty c = (
+  λ h. subst (λ (w : Waiting). (m : Message) → is_waiting w m ≡ false) c.self.view_is
+      (none_waiting (record { queries = c.self.inside.queries.keys; replies = c.self.inside.replies.keys })
+      (c.is_empty.ensures.0 c.if-is_empty.true) (c.is_empty-then-is_empty.ensures.0 h)),
+  λ none. c.is_empty-then-is_empty.ensures.1 (no_replies (record { queries = c.self.inside.queries.keys; replies = c.self.inside.replies.keys })
+      (subst (λ (w : Waiting). (m : Message) → is_waiting w m ≡ false) (sym c.self.view_is) none)),
+)
+
+-- there are queries
+pub returns-else-is_empty : goal.returns-else-is_empty
+returns-else-is_empty c = (
+  λ h. absurd (true≢false (sym h ∙ c.if-is_empty.false)),
+  λ none. c.is_empty.ensures.1 (no_queries (record { queries = c.self.inside.queries.keys; replies = c.self.inside.replies.keys })
+      (subst (λ (w : Waiting). (m : Message) → is_waiting w m ≡ false) (sym c.self.view_is) none)),
+)

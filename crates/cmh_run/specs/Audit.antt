@@ -1,0 +1,96 @@
+-- What a checker keeps of a run: all but the bag, which it keeps as a set.
+use Rattle.std.specs.Prelude.{◌≡◌, ◌⊎◌, ℕ, Bool, true, false, ◌&&◌, ◌==◌, List, [], IsTrue}
+use Rattle.std.specs.declared.cmp.Ordering.{Ordering}
+use Rattle.std.specs.Ordering.{nat_cmp, ordering_then}
+use Rattle.std.specs.List.{list_any}
+use Rattle.std.specs.BTreeMap.{is_at}
+use Rattle.cmh_graph.specs.Graph.{Graph, is_idle}
+use Rattle.cmh_graph.specs.Build.{IsWellFormed}
+use Rattle.cmh_process.specs.declared.message.Kind.{Kind}
+use Rattle.cmh_process.specs.declared.message.Kind.TheVariants.{Query, Reply}
+use Rattle.cmh_process.specs.declared.message.Message.{Message}
+use Rattle.cmh_run.specs.declared.delivery.Delivery.{Delivery}
+use Rattle.cmh_run.specs.declared.fault.CheckFault.{CheckFault}
+use Rattle.cmh_run.specs.declared.fault.CheckFault.TheVariants.{NotIdle, NotUndelivered, FalseHint, AfterEnd, NotEnded, Memory}
+use Rattle.cmh_run.specs.Config.{Config}
+use Rattle.cmh_run.specs.Legal.{Going, HintIsFit}
+use Rattle.cmh_run.specs.Check.{LeadTo, HasEnded, IsUndelivered}
+
+-- pairs by their first parts, then by their second ones
+abbrev pub pair_cmp : ℕ × ℕ → ℕ × ℕ → Ordering
+pair_cmp a b = ordering_then (nat_cmp a.0 b.0) (nat_cmp a.1 b.1)
+
+-- the set for messages of this kind
+abbrev pub of_kind : {A : Type 0} → Kind → A → A → A
+of_kind Query queries replies = queries
+of_kind Reply queries replies = replies
+
+-- the ends of the queries and of the replies that are undelivered
+pub record Waiting : Type 0 where
+  pub queries : List (ℕ × ℕ)
+  pub replies : List (ℕ × ℕ)
+
+-- a message with this kind and these ends is among them
+abbrev pub is_waiting : Waiting → Message → Bool
+is_waiting w m = list_any (is_at (pair_cmp (m.from, m.to))) (of_kind m.kind w.queries w.replies)
+
+abbrev pub is_same_kind : Kind → Kind → Bool
+is_same_kind a b = of_kind a (of_kind b true false) (of_kind b false true)
+
+-- both are queries or both are replies, from the same process to the same
+abbrev pub goes_like : Message → Message → Bool
+goes_like a b = is_same_kind a.kind b.kind && (a.from == b.from && a.to == b.to)
+
+-- what is kept: a network whose bag has what was just sent, and which messages are undelivered
+-- beside those
+pub record Audit : Type 0 where
+  pub network : Config
+  pub undelivered : Waiting
+
+-- the configuration with another bag
+abbrev pub with_bag : Config → List Message → Config
+with_bag c bag = record {
+  bag = bag;
+  procs = c.procs;
+  number = c.number;
+  engaged = c.engaged;
+  ended = c.ended;
+}
+
+-- The deliveries have led to s, and what is kept agrees with it: the network but for its bag, and
+-- all that is undelivered, in the one place or in the other.
+pub record Agrees (g : Graph) (i : ℕ) (log : List Delivery) (s : Going)
+    (a : Audit) : Type 0 where
+  pub graph : IsWellFormed g
+  pub idle : IsTrue (is_idle g i)
+  pub leads : LeadTo g i log s
+  pub network : a.network ≡ with_bag s.config a.network.bag
+  pub pending : (m : Message) → IsUndelivered s.config m
+      → IsTrue (is_waiting a.undelivered m) ⊎ IsUndelivered a.network m
+  pub sent : (m : Message) → IsUndelivered a.network m → IsUndelivered s.config m
+  pub waiting : (m : Message) → m.initiator ≡ i → m.number ≡ 1 → IsTrue (is_waiting a.undelivered m)
+      → IsUndelivered s.config m
+
+-- the message is of the first computation, and waits
+pub record IsAwaited (i : ℕ) (a : Audit) (m : Message) : Type 0 where
+  pub mine : m.initiator ≡ i
+  pub first : m.number ≡ 1
+  pub waits : IsTrue (is_waiting a.undelivered m)
+
+-- nothing was just sent
+abbrev pub IsSettled : Audit → Type 0
+IsSettled a = a.network.bag ≡ []
+
+-- the deliveries have led somewhere, and what is kept agrees with it
+abbrev pub IsAudited : Graph → ℕ → List Delivery → Audit → Type 0
+IsAudited g i log a = (s : Going) × Agrees g i log s a × IsSettled a
+
+-- what is wrong with delivery t, which comes at c
+abbrev pub IsFlaw : Graph → Config → ℕ → Delivery → CheckFault → Type 0
+IsFlaw g c t d (AfterEnd n) = (n ≡ t) × HasEnded c
+IsFlaw g c t d (NotUndelivered n) = (n ≡ t) × ¬ (HasEnded c) × ¬ (IsUndelivered c d.message)
+IsFlaw g c t d (FalseHint n) =
+    (n ≡ t) × ¬ (HasEnded c) × IsUndelivered c d.message × ¬ (HintIsFit g c d.message d.hint)
+IsFlaw g c t d NotIdle = ⊥
+IsFlaw g c t d NotEnded = ⊥
+IsFlaw g c t d Memory = ⊥

@@ -1,0 +1,147 @@
+//! A log under judgement: the run that its deliveries make, from one to the next.
+
+ghost use Rattle.std.specs.Prelude.{◌≡◌, ◌⊎◌, ◌<◌, ◌↔◌, ℕ, List, [], ◌∷◌, ◌++◌, None, length, IfOk, IfErr, IfSome, IfNone, IsTrue, not, ◌&&◌, OnOk};
+ghost use Rattle.cmh_graph.specs.Graph.{Graph, process_count, is_idle};
+ghost use Rattle.cmh_graph.specs.Build.{IsWellFormed};
+ghost use Rattle.cmh_graph.specs.Verdict.{verdicts};
+ghost use Rattle.cmh_process.specs.declared.message.Message.{Message};
+ghost use Rattle.cmh_run.specs.declared.delivery.Delivery.{Delivery};
+ghost use Rattle.cmh_run.specs.Legal.{Going, HintIsFit, EndsAs};
+ghost use Rattle.cmh_run.specs.Check.{HasEnded};
+ghost use Rattle.cmh_run.specs.Audit.{is_waiting, goes_like, Agrees, IsAudited, IsSettled, IsAwaited, IsFlaw};
+
+use crate::network::Network;
+use crate::undelivered::Undelivered;
+use crate::{CheckFault, Delivery, Ending};
+use cmh_graph::{Verdict, WaitGraph};
+use cmh_process::Message;
+use std::alloc::Global;
+use std::marker::Model;
+
+/// The run that the deliveries of a log make. Its bag is kept as a set, so that a message is found
+/// among many; the network's own bag has only what was just sent.
+#[derive(Drop)]
+pub(crate) struct Auditor {
+    network: Network,
+    undelivered: Undelivered,
+}
+
+impl Model for Auditor {
+    ghost use Rattle.cmh_run.specs.Audit.{Audit};
+
+    ghost Value = { Audit };
+
+    ghost view = { λ a. record { network = a.network; undelivered = a.undelivered } };
+}
+
+impl Auditor {
+    /// The start of a run without restarts.
+    pub(crate) fn begin(
+        alloc: Global,
+        graph: &WaitGraph,
+        initiator: u32,
+    ) -> Result<Auditor, CheckFault>
+        requires graph { IsWellFormed graph.now }
+        requires within { initiator < process_count graph.now }
+        requires idle { IsTrue (is_idle graph.now initiator) }
+        ensures ok { IfOk result (IsAudited graph.now initiator []) }
+        ensures memory { IfErr result (λ e. e ≡ CheckFault.Memory) }
+    {
+        let mut auditor = Auditor {
+            network: Network::begun(alloc, graph, initiator)?,
+            undelivered: Undelivered::new(alloc),
+        };
+        auditor.settle()?;
+        Ok(auditor)
+    }
+
+    /// How the run has ended, if it has.
+    pub(crate) fn ending(&self) -> Option<Ending>
+        ensures some { IfSome result (λ e. (g : Graph) (i : ℕ) (log : List Delivery) (s : Going)
+            → Agrees g i log s self.now → IsSettled self.now → EndsAs s.config e) }
+        ensures none { IfNone result ((g : Graph) (i : ℕ) (log : List Delivery) (s : Going)
+            → Agrees g i log s self.now → IsSettled self.now → ¬ (HasEnded s.config)) }
+    {
+        if let Some(ending) = self.network.ended() {
+            return Some(ending);
+        }
+        if self.undelivered.is_empty() {
+            return Some(Ending::AtRest);
+        }
+        None
+    }
+
+    /// Makes delivery `t`, unless something is wrong with it. `truth` has the verdicts of all
+    /// processes.
+    pub(crate) fn deliver(
+        &mut self,
+        graph: &WaitGraph,
+        initiator: u32,
+        truth: &[Verdict],
+        t: usize,
+        delivery: Delivery,
+    ) -> Result<(), CheckFault>
+        requires truth { truth.now ≡ verdicts graph.now }
+        requires audited { (log : List Delivery) × IsAudited graph.now initiator log self.old }
+        ensures ok { OnOk result ((log : List Delivery)
+            → IsAudited graph.now initiator log self.old
+            → IsAudited graph.now initiator (log ++ delivery ∷ []) self.new) }
+        ensures fault { IfErr result (λ e. (e ≡ CheckFault.Memory)
+            ⊎ ((log : List Delivery) (s : Going) → Agrees graph.now initiator log s self.old
+            → IsSettled self.old → IsFlaw graph.now s.config t delivery e)) }
+    {
+        if self.ending().is_some() {
+            return Err(CheckFault::AfterEnd(t));
+        }
+        if !self.take(initiator, delivery.message) {
+            return Err(CheckFault::NotUndelivered(t));
+        }
+        if !self.is_fit(graph, truth, delivery) {
+            return Err(CheckFault::FalseHint(t));
+        }
+        self.network
+            .deliver(graph, initiator, delivery.message, delivery.hint)?;
+        self.settle()
+    }
+
+    /// Takes the message out of the undelivered ones, if it is among them.
+    fn take(&mut self, initiator: u32, message: Message) -> bool
+        ensures found { IsTrue result ↔ IsAwaited initiator self.old message }
+        ensures network { self.new.network ≡ self.old.network }
+        ensures rest { IsTrue result → (m : Message) → is_waiting self.new.undelivered m
+            ≡ (not (goes_like message m) && is_waiting self.old.undelivered m) }
+    {
+        message.initiator == initiator && message.number == 1 && self.undelivered.take(message)
+    }
+
+    /// Whether the delivery has no hint, or one that is asked for and true.
+    fn is_fit(&self, graph: &WaitGraph, truth: &[Verdict], delivery: Delivery) -> bool
+        requires graph { IsWellFormed graph.now }
+        requires size { length self.now.network.procs ≡ process_count graph.now }
+        requires within { delivery.message.to < process_count graph.now }
+        requires truth { truth.now ≡ verdicts graph.now }
+        ensures { IsTrue result
+            ↔ HintIsFit graph.now self.now.network delivery.message delivery.hint }
+    {
+        match delivery.hint {
+            None => true,
+            Some(verdict) => {
+                self.network.asks(graph, delivery.message)
+                    && truth[delivery.message.to as usize] == verdict
+            }
+        }
+    }
+
+    /// Puts what was just sent to the other undelivered messages.
+    fn settle(&mut self) -> Result<(), CheckFault>
+        ensures settled { OnOk result (IsSettled self.new) }
+        ensures ok { OnOk result ((g : Graph) (i : ℕ) (log : List Delivery) (s : Going)
+            → Agrees g i log s self.old → Agrees g i log s self.new) }
+        ensures memory { IfErr result (λ e. e ≡ CheckFault.Memory) }
+    {
+        while let Some(message) = self.network.take(0) {
+            self.undelivered.add(message)?;
+        }
+        Ok(())
+    }
+}

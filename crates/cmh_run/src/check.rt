@@ -1,0 +1,41 @@
+//! The judgement of logs.
+
+ghost use Rattle.std.specs.Prelude.{◌≡◌, ◌⊎◌, ◌↔◌, IfOk, IfErr};
+ghost use Rattle.cmh_graph.specs.Verdict.{IsDeadlocked};
+ghost use Rattle.cmh_run.specs.declared.delivery.Ending.TheVariants.{Declared};
+ghost use Rattle.cmh_run.specs.Check.{IsLegalRun, IsFirstFault};
+
+use crate::auditor::Auditor;
+use crate::{CheckFault, Delivery, Ending};
+use cmh_graph::WaitGraph;
+use std::alloc::Global;
+
+/// Judges a log, whoever made it, as a run of the initiator without restarts: any undelivered message
+/// may come next. It answers how the run ended, or the first thing that is wrong: at the first
+/// delivery that fails, that it comes after the end, else that its message isn't undelivered, else
+/// its hint; after the last, that the run could go on.
+///
+/// It searches the graph once. A delivery takes time logarithmic in the undelivered messages for
+/// each message that is taken or sent.
+pub fn check_run(
+    alloc: Global,
+    graph: &WaitGraph,
+    initiator: u32,
+    log: &[Delivery],
+) -> Result<Ending, CheckFault>
+    ensures legal { IfOk result (IsLegalRun graph.now initiator log.now) }
+    ensures true_verdict { IfOk result (λ ending.
+        (ending ≡ Declared) ↔ IsDeadlocked graph.now initiator) }
+    ensures fault { IfErr result (λ e.
+        (e ≡ CheckFault.Memory) ⊎ IsFirstFault graph.now initiator log.now e) }
+{
+    if initiator >= graph.len() || !graph.is_idle(initiator) {
+        return Err(CheckFault::NotIdle);
+    }
+    let truth = graph.verdicts_plain(alloc)?;
+    let mut auditor = Auditor::begin(alloc, graph, initiator)?;
+    for (t, delivery) in log.iter().enumerate() {
+        auditor.deliver(graph, initiator, &truth, t, *delivery)?;
+    }
+    auditor.ending().ok_or(CheckFault::NotEnded)
+}

@@ -1,0 +1,70 @@
+//! The undelivered messages of one computation, as a set.
+
+ghost use Rattle.std.specs.Prelude.{◌≡◌, ◌↔◌, false, not, ◌&&◌, ◌||◌, IsTrue, IfErr, OnOk};
+ghost use Rattle.cmh_process.specs.declared.message.Message.{Message};
+ghost use Rattle.cmh_run.specs.Audit.{goes_like, is_waiting};
+
+use crate::CheckFault;
+use cmh_process::{Kind, Message};
+use std::alloc::Global;
+use std::collections::BTreeSet;
+use std::marker::Model;
+
+/// The undelivered messages of one computation, each by its kind, its sender and its receiver: no
+/// two are alike.
+#[derive(Drop)]
+pub(crate) struct Undelivered {
+    queries: BTreeSet<(u32, u32)>,
+    replies: BTreeSet<(u32, u32)>,
+}
+
+impl Model for Undelivered {
+    ghost use Rattle.cmh_run.specs.Audit.{Waiting};
+
+    ghost Value = { Waiting };
+
+    ghost view = { λ u. record { queries = u.queries.keys; replies = u.replies.keys } };
+}
+
+impl Undelivered {
+    /// No message.
+    pub(crate) fn new(alloc: Global) -> Undelivered
+        ensures { (m : Message) → is_waiting result m ≡ false }
+    {
+        Undelivered {
+            queries: BTreeSet::new(alloc),
+            replies: BTreeSet::new(alloc),
+        }
+    }
+
+    pub(crate) fn is_empty(&self) -> bool
+        ensures { IsTrue result ↔ ((m : Message) → is_waiting self.now m ≡ false) }
+    {
+        self.queries.is_empty() && self.replies.is_empty()
+    }
+
+    pub(crate) fn add(&mut self, message: Message) -> Result<(), CheckFault>
+        ensures ok { OnOk result ((m : Message) →
+            is_waiting self.new m ≡ (goes_like message m || is_waiting self.old m)) }
+        ensures memory { IfErr result (λ e. e ≡ CheckFault.Memory) }
+    {
+        let ends = (message.from, message.to);
+        match message.kind {
+            Kind::Query => self.queries.insert(ends)?,
+            Kind::Reply => self.replies.insert(ends)?,
+        };
+        Ok(())
+    }
+
+    /// Takes the message out, if it is there.
+    pub(crate) fn take(&mut self, message: Message) -> bool
+        ensures found { result ≡ is_waiting self.old message }
+        ensures rest { (m : Message) → is_waiting self.new m ≡ (not (goes_like message m) && is_waiting self.old m) }
+    {
+        let ends = (message.from, message.to);
+        match message.kind {
+            Kind::Query => self.queries.remove(&ends),
+            Kind::Reply => self.replies.remove(&ends),
+        }
+    }
+}
