@@ -32,6 +32,7 @@ none_added key v h shares z = let P : SeatState → Type 0 = λ s. HasShare key 
       | Spent ↦ λ k g. ap (weigh h) (g refl)
     ] shares.0 shares.1
 
+-- views with no shares have added nothing
 all_none : (key : Graph) (views : List View) (h : List Row → ℕ) → ((i : ℕ) (v : View) → get_elem? views i ≡ some v → Shares key v) → total share_of (map lock_of views) ≡ 0 → total (λ v. weigh h v.mine) views ≡ 0
 all_none key [] h each z = refl
 all_none key (v ∷ vs) h each z = let r = all_none key vs h (λ i w e. each (suc i) w e) (omega arith) in let a = none_added key v h (each zero v refl) (omega arith) in omega arith
@@ -78,5 +79,6 @@ shows key s b id v at away = record {
   with_each_share = whole_words key s b id v at away;
 }
 
+-- the same of the words at the end
 pub closed_shows : (key : Graph) (s : Moment) (words : List ℕ) (b : Board key s) (id : ℕ) (v : View) → get_elem? s.views id ≡ some v → v.lock.state ≡ Away → s.words ≡ words → ClosedHistory key v words
 closed_shows key s words b id v at away is = subst (ClosedHistory key v) is (shows key s b id v at away)

@@ -10,14 +10,17 @@ use Rattle.cmh_rw.specs.View.{mark}
 parts : (p a b : ℕ) → a ≤ 1 → b ≤ 1 → ((4 * p + 2 * a + b) / 4 ≡ p) × ((4 * p + 2 * a + b) / 2 % 2 ≡ a) × ((4 * p + 2 * a + b) % 2 ≡ b)
 parts p a b ha hb = (omega arith, omega arith, omega arith)
 
+-- a bit is at most 1
 bit-small : (b : Bool) → bit b ≤ 1
 bit-small true = omega arith
 bit-small false = omega arith
 
+-- so is a verdict's
 free_bit-small : (v : Verdict) → free_bit v ≤ 1
 free_bit-small Deadlocked = omega arith
 free_bit-small Free = omega arith
 
+-- a bit can be told from its number
 eqb-bit : (b : Bool) → eqb (bit b) 1 ≡ b
 eqb-bit true = refl
 eqb-bit false = refl

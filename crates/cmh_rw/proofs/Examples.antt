@@ -18,6 +18,7 @@ use Rattle.cmh_rw.specs.View.{row, opening_view, posted, with_row, longer}
 
 -- ---- words
 
+-- where rows and verdicts begin, and how many words there are
 places : FIRST_ROW ∷ FIRST_VERDICT ∷ BOARD_WORDS ∷ [] ≡ 2 ∷ 4098 ∷ 8194 ∷ []
 places = refl
 
@@ -26,18 +27,22 @@ places = refl
 row_codes : map row_code (row 0 Deadlocked false ∷ row 1 Deadlocked true ∷ row 2 Deadlocked true ∷ row 0 Free true ∷ row 511 Free true ∷ row 4095 Free true ∷ []) ≡ 0 ∷ 6 ∷ 10 ∷ 3 ∷ 2047 ∷ 16383 ∷ []
 row_codes = refl
 
+-- the rows can be told from their words
 rows_of_codes : map row_of (0 ∷ 6 ∷ 16383 ∷ []) ≡ row 0 Deadlocked false ∷ row 1 Deadlocked true ∷ row 4095 Free true ∷ []
 rows_of_codes = refl
 
+-- no verdict, deadlocked, free
 verdict_codes : map verdict_code (None ∷ Some Deadlocked ∷ Some Free ∷ []) ≡ 0 ∷ 1 ∷ 2 ∷ []
 verdict_codes = refl
 
 -- ---- a history of a cycle and one that waits for it: p@a: q; q@a: p; r@b: p
 
+-- an idle process on the site with the dependents
 abbrev idle : List ℕ → ℕ → List ℕ → Process
 idle name site dependents =
     record { name = name; site = site; state = Idle; dependents = dependents }
 
+-- the graph
 abbrev cycle_and_follower : Graph
 cycle_and_follower = record {
   processes = idle (codes "p") 0 (1 ∷ []) ∷ idle (codes "q") 0 (0 ∷ []) ∷ idle (codes "r") 1 (0 ∷ []) ∷ [];
@@ -48,12 +53,15 @@ cycle_and_follower = record {
 abbrev postings : List (List Row)
 postings = (row 0 Deadlocked false ∷ row 1 Deadlocked true ∷ []) ∷ (row 2 Deadlocked true ∷ []) ∷ []
 
+-- the row words
 codes_of_postings : map row_code (laid postings) ≡ 0 ∷ 6 ∷ 10 ∷ []
 codes_of_postings = refl
 
+-- both are postings
 are_postings : ArePostings postings
 are_postings = ((row 0 Deadlocked false ∷ [], row 1 Deadlocked true, refl, (refl, tt), refl), (([], row 2 Deadlocked true, refl, tt, refl), tt))
 
+-- and all rows are true
 true_postings : IsTrueOf cycle_and_follower (laid postings)
 unfolding reaches is_deadlocked
 true_postings = (refl, refl, refl, (refl, refl, refl, (refl, refl, refl, tt)))
@@ -74,9 +82,11 @@ repeated_row : IsTrueOf cycle_and_follower (row 2 Deadlocked true ∷ row 2 Dead
 unfolding reaches is_deadlocked
 repeated_row h = let e = h.2 in cc
 
+-- q is deadlocked
 says_of_q : fold_at (laid postings) 1 ≡ Some Deadlocked
 says_of_q = refl
 
+-- nothing is said of a process without a row
 says_of_nobody : fold_at (laid postings) 3 ≡ None
 says_of_nobody = refl
 
@@ -84,15 +94,18 @@ says_of_nobody = refl
 posting_p_and_q : (posted (with_row (with_row (opening_view cycle_and_follower) (row 0 Deadlocked false)) (row 1 Deadlocked true))).seen ≡ row 0 Deadlocked false ∷ row 1 Deadlocked true ∷ []
 posting_p_and_q = refl
 
+-- of two beginnings the longer is kept
 longer_of_two : longer (row 0 Deadlocked true ∷ []) (row 0 Deadlocked true ∷ row 1 Free true ∷ []) ≡ row 0 Deadlocked true ∷ row 1 Free true ∷ []
 longer_of_two = refl
 
 -- ---- events on a lock with two seats: a writer has to wait for a reader, and the reader, who comes
 -- again, retreats from the writer
 
+-- the events
 abbrev lock_events : List Event
 lock_events = Admit 0 ∷ TryWrite 1 ∷ Leave 0 ∷ TryWrite 1 ∷ Admit 0 ∷ []
 
+-- the first retreats, the second writes
 after_lock_events : run_from (new_world 2) lock_events ≡ world 4294967297 (Retreating ∷ Writing ∷ [])
 after_lock_events = refl
 

@@ -25,6 +25,7 @@ pub fold-left : (xs ys : List Row) (p : ℕ) → fold_at (xs ++ ys) p ≡ None �
 fold-left [] ys p h = refl
 fold-left (r ∷ rs) ys p h = cond-none (eqb r.process p) r.verdict (fold_at (rs ++ ys) p) (fold_at rs p) (fold-left rs ys p) h
 
+-- what says nothing of a process with a row in front says nothing without it
 cond-none_right : (b : Bool) (v : Verdict) (m n : Option Verdict) → (m ≡ None → n ≡ None) → cond b (Some v) m ≡ None → n ≡ None
 cond-none_right true v m n h e = absurd (some_none v e)
 cond-none_right false v m n h e = h e
@@ -34,6 +35,7 @@ pub fold-right : (xs ys : List Row) (p : ℕ) → fold_at (xs ++ ys) p ≡ None 
 fold-right [] ys p e = e
 fold-right (x ∷ xs) ys p e = cond-none_right (eqb x.process p) x.verdict (fold_at (xs ++ ys) p) (fold_at ys p) (fold-right xs ys p) e
 
+-- a row in front that says nothing is passed over
 cond-skip : (b : Bool) (v : Verdict) (m n k : Option Verdict) → (m ≡ None → n ≡ k) → cond b (Some v) m ≡ None → cond b (Some v) n ≡ k
 cond-skip true v m n k h e = absurd (some_none v e)
 cond-skip false v m n k h e = h e
@@ -48,6 +50,7 @@ pub fold-else : (xs : List Row) (r : Row) (p : ℕ) → eqb r.process p ≡ fals
 fold-else [] r p n = ap (λ b. cond b (Some r.verdict) None) n
 fold-else (x ∷ xs) r p n = ap (λ m. cond (eqb x.process p) (Some x.verdict) m) (fold-else xs r p n)
 
+-- a row in front keeps what is said
 cond-keeps : (b : Bool) (v m n : Option Verdict) → ((m ≡ None) ⊎ (n ≡ m)) → (cond b v m ≡ None) ⊎ (cond b v n ≡ cond b v m)
 cond-keeps true v m n h = inr refl
 cond-keeps false v m n h = h
@@ -76,6 +79,7 @@ pub true-left : (g : Graph) (xs ys : List Row) → IsTrueOf g (xs ++ ys) → IsT
 true-left g [] ys h = tt
 true-left g (r ∷ rs) ys h = (h.0, h.1, fold-left rs ys r.process h.2, true-left g rs ys h.3)
 
+-- where nothing is said, the row in front is of another process
 cond-false_none : (b : Bool) (v : Verdict) (n : Option Verdict) → cond b (Some v) n ≡ None → (b ≡ false) × (n ≡ None)
 cond-false_none true v n e = absurd (some_none v e)
 cond-false_none false v n e = (refl, e)
@@ -95,6 +99,7 @@ true-apart g (x ∷ xs) ys p v h says = ⊎_elim
     (λ other. ap (λ b. cond b (Some x.verdict) (fold_at xs p)) (ne_eqb x.process p other) ∙ true-apart g xs ys p v h.3 says)
     (cases_eq x.process p)
 
+-- what is said is said by the row in front or behind it
 cond-says : (b : Bool) (v w : Verdict) (n : Option Verdict) → cond b (Some v) n ≡ Some w → (b ≡ true) ⊎ (n ≡ Some w)
 cond-says true v w n e = inl refl
 cond-says false v w n e = inr e
@@ -124,6 +129,7 @@ unfolding IsDistinct
 true-distinct g [] h = tt
 true-distinct g (x ∷ xs) h = (none_apart x.process xs h.2, true-distinct g xs h.3)
 
+-- where one of two tests holds
 or_cases : (a b : Bool) → (a || b) ≡ true → (a ≡ true) ⊎ (b ≡ true)
 or_cases true b e = inl refl
 or_cases false b e = inr e

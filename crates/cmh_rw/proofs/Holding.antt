@@ -50,10 +50,12 @@ locked key s b n id me w at kept mine knows idle = let views = map-set lock_of s
   owners = λ h. let sum = total-set (λ (u : View). weigh h u.mine) s.views id me.0 w at in let same = ap (weigh h) mine in omega (arith, b.owners h);
 }
 
+-- a seat that counts itself in doesn't write
 cond-not_writing : (b : Bool) → cond b Reading Retreating ≢ Writing
 cond-not_writing true = λ e. cc
 cond-not_writing false = λ e. cc
 
+-- nor is it spent
 cond-not_spent : (b : Bool) → cond b Reading Retreating ≢ Spent
 cond-not_spent true = λ e. cc
 cond-not_spent false = λ e. cc
@@ -97,6 +99,7 @@ leaving key s b id v at clear = let k = b.each id v at in record {
   gone = λ e. absurd (away_spent e);
 }
 
+-- a reader or retreater doesn't write
 inside-not_writing : (a : SeatState) → reads a + retreats a ≡ 1 → (a ≢ Writing) × (writes a ≡ 0)
 inside-not_writing Away h = (λ e. cc, refl)
 inside-not_writing Retreating h = (λ e. cc, refl)
@@ -128,13 +131,16 @@ ends key slots id me is clear s b homes at small = let v = me.0 in let x = get_o
       refl,
     )
 
+-- what a try to write makes of the word and the state
 abbrev taken : Bool → ℕ → ℕ × SeatState
 taken b x = cond b (WRITER, Writing) (x, Away)
 
+-- it spends no seat
 taken-not_spent : (b : Bool) (x : ℕ) → (taken b x).1 ≢ Spent
 taken-not_spent true x = λ e. cc
 taken-not_spent false x = λ e. cc
 
+-- and makes a writer only where the word was 0
 taken-writing : (b : Bool) (x : ℕ) → (taken b x).1 ≡ Writing → b ≡ true
 taken-writing true x e = refl
 taken-writing false x e = absurd (cc)

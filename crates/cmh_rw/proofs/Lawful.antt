@@ -11,6 +11,7 @@ use Rattle.cmh_rw.specs.declared.machine.Event.{Event}
 use Rattle.cmh_rw.specs.declared.machine.Event.TheVariants.{Admit, Leave, TryWrite, EndWrite}
 use Rattle.cmh_rw.specs.Machine.{World, world, total, writes, reads, retreats, IsBadCount, IsLawful, IsLock, StepLaw, turn, seat_of, step_of, run_from, new_world}
 
+-- a sum over a list in which one item changes
 pub total-set : {A : Type 0} (f : A → ℕ) (l : List A) (i : ℕ) (a b : A) → get_elem? l i ≡ some a → total f (set l i b) + f a ≡ total f l + f b
 total-set f [] i a b e = absurd (some-ne-none a (sym e))
 total-set f (x ∷ xs) zero a b e = let is : f x ≡ f a = ap f (some-injective x a e) in omega arith
@@ -30,14 +31,17 @@ pub total-snoc : {A : Type 0} (f : A → ℕ) (l : List A) (a : A) → total f (
 total-snoc f [] a = omega arith
 total-snoc f (x ∷ xs) a = omega (arith, total-snoc f xs a)
 
+-- an item counts in the sum
 pub total-in : {A : Type 0} (f : A → ℕ) (l : List A) (i : ℕ) (a : A) → get_elem? l i ≡ some a → f a ≤ total f l
 total-in f [] i a e = absurd (some-ne-none a (sym e))
 total-in f (x ∷ xs) zero a e = let is : f x ≡ f a = ap f (some-injective x a e) in omega arith
 total-in f (x ∷ xs) (suc i) a e = let r = total-in f xs i a e in omega arith
 
+-- a seat that stays changes nothing
 unmoved : (word : ℕ) (l : List SeatState) (i : ℕ) (a : SeatState) → get_elem? l i ≡ some a → IsLawful (world word l) → IsLawful (world word (set l i a))
 unmoved word l i a at h = subst (λ (m : List SeatState). IsLawful (world word m)) (sym (set_again l i a at)) h
 
+-- an event of one seat keeps a lawful world lawful
 pub turn-lawful : (e : Event) (word : ℕ) (l : List SeatState) (i : ℕ) (a : SeatState) → get_elem? l i ≡ some a → IsLawful (world word l)
     → IsLawful (world (turn e word a).0 (set l i (turn e word a).1))
 turn-lawful (Admit n) word l i Away at h = cond_both (ltb word 4294967296) Reading Retreating (λ (s : SeatState). IsLawful (world (word + 1) (set l i s)))
@@ -63,12 +67,15 @@ few_hold (Reading ∷ xs) = omega (arith, few_hold xs)
 few_hold (Writing ∷ xs) = omega (arith, few_hold xs)
 few_hold (Spent ∷ xs) = omega (arith, few_hold xs)
 
+-- so a lock word is far from the end of its range
 pub lock_word-small : (w : World) → IsLock w → w.word < 8589934592
 lock_word-small w h = let k = h.lawful.word in let o = h.lawful.one_writer in let f = few_hold w.seats in let n = h.few in omega arith
 
+-- the same of a lock
 pub lock-turn : (e : Event) (word i : ℕ) (l : List SeatState) (a : SeatState) → get_elem? l i ≡ some a → IsLock (world word l) → IsLock (world (turn e word a).0 (set l i (turn e word a).1))
 lock-turn e word i l a at h = record { lawful = turn-lawful e word l i a at h.lawful; few = subst (λ (n : ℕ). n ≤ 64) (sym (length-set l i (turn e word a).1)) h.few }
 
+-- an item at a place
 at_get : {A : Type 0} (l : List A) (i : ℕ) (d : A) → i < length l → get_elem? l i ≡ some (get_or l i d)
 at_get [] i d h = absurd (omega arith)
 at_get (x ∷ xs) zero d h = refl
@@ -80,17 +87,20 @@ past [] n h = refl
 past (x ∷ xs) zero h = absurd (omega arith)
 past (x ∷ xs) (suc n) h = past xs n (omega arith)
 
+-- a change at no place
 set-past : (l : List SeatState) (n : ℕ) (b : SeatState) → length l ≤ n → set l n b ≡ l
 set-past [] n b h = refl
 set-past (x ∷ xs) zero b h = absurd (omega arith)
 set-past (x ∷ xs) (suc n) b h = ap (λ ys. x ∷ ys) (set-past xs n b (omega arith))
 
+-- a spent seat does nothing
 pub turn-spent : (e : Event) (word : ℕ) → turn e word Spent ≡ (word, Spent)
 turn-spent (Admit n) word = refl
 turn-spent (Leave n) word = refl
 turn-spent (TryWrite n) word = refl
 turn-spent (EndWrite n) word = refl
 
+-- an event on no seat changes nothing
 pub step-past : (e : Event) (word : ℕ) (l : List SeatState) → length l ≤ seat_of e → world word l ≡ step_of (world word l) e
 step-past e word l h = let is : turn e word (get_or l (seat_of e) Spent) ≡ (word, Spent) = ap (turn e word) (past l (seat_of e) h) ∙ turn-spent e word in
     λ k. world (sym is k).0 ((sym (set-past l (seat_of e) (turn e word (get_or l (seat_of e) Spent)).1 h)) k)
@@ -102,6 +112,7 @@ step_law w e h = elim (cases_lt (seat_of e) (length w.seats)) as (λ d. IsLawful
   | inr ge ↦ subst IsLawful (step-past e w.word w.seats ge) h
 ]
 
+-- each event keeps a lock a lock
 pub step-lawful : (w : World) (e : Event) → IsLock w → IsLock (step_of w e)
 step-lawful w e h = record { lawful = step_law w e h.lawful; few = subst (λ (n : ℕ). n ≤ 64) (sym (length-set w.seats (seat_of e) (turn e w.word (get_or w.seats (seat_of e) Spent)).1)) h.few }
 
@@ -110,6 +121,7 @@ away-none : (f : SeatState → ℕ) (n : ℕ) → f Away ≡ 0 → total f (repl
 away-none f zero z = refl
 away-none f (suc n) z = omega (arith, away-none f n z)
 
+-- a new world is a lock
 pub new-lawful : (n : ℕ) → n ≤ 64 → IsLock (new_world n)
 new-lawful n le = let w = away-none writes n refl in let r = away-none reads n refl in let t = away-none retreats n refl in
     record { lawful = record { word = omega arith; one_writer = omega arith; alone = λ p. r }; few = subst (λ (k : ℕ). k ≤ 64) (sym (length-replicate n Away)) le }
@@ -118,10 +130,12 @@ new-lawful n le = let w = away-none writes n refl in let r = away-none reads n r
 pub few_enough : (n : ℕ) → ¬ IsBadCount n → n ≤ 64
 few_enough n good = elim (cases_lt 64 n) as (λ d. n ≤ 64) [ inl more ↦ absurd (good (inr more)) | inr few ↦ few ]
 
+-- one more event
 pub run-snoc : (w : World) (es : List Event) (e : Event) → run_from w (es ++ e ∷ []) ≡ step_of (run_from w es) e
 run-snoc w [] e = refl
 run-snoc w (x ∷ xs) e = run-snoc (step_of w x) xs e
 
+-- a lock stays one under all events
 pub run-lawful : (w : World) (es : List Event) → IsLock w → IsLock (run_from w es)
 run-lawful w [] h = h
 run-lawful w (e ∷ es) h = run-lawful (step_of w e) es (step-lawful w e h)

@@ -20,6 +20,7 @@ use Rattle.cmh_rw.proofs.Moments.{held_graph, own_rows, reviewed}
 pub history-true : (key : Graph) (s : Moment) (b : Board key s) → IsTrueOf key (laid b.postings)
 history-true key s b = true-left key (laid b.postings) b.staged b.true_of
 
+-- so there are no more of them than processes
 pub history-few : (key : Graph) (s : Moment) (b : Board key s) → length (laid b.postings) ≤ MAX_PROCESSES
 history-few key s b = let few = true-few key (laid b.postings) (history-true key s b) in let small = b.small in omega arith
 
@@ -28,9 +29,11 @@ pub history-row : (key : Graph) (s : Moment) (b : Board key s) (n : ℕ) → n <
 history-row key s b n lt = let rows = laid b.postings in let few = history-few key s b in
     b.rows n (omega arith) ∙ ap (λ l. get_or l n 0) (map-append row_code rows b.staged) ∙ get_or_append_left (map row_code rows) (map row_code b.staged) 0 n (subst (λ m. n < m) (sym (length-map rows row_code)) lt)
 
+-- a reader doesn't write
 reading_writing : Reading ≢ Writing
 reading_writing e = cc
 
+-- a load in a hold tells the history
 pub loads : (key : Graph) (slots id word : ℕ) (me : Sat) → IsHeld me.0.lock.state → Allows (Board key) slots id me word (λ n. n) (Loaded (step slots word 0 0 none) me)
 loads key slots id word me held s b _ at _ = let v = me.0 in let rows = laid b.postings in let w = loaded v rows in let k = b.each id v at in let own = own_rows key s b id v at held in
     let graph : v.lock.graph ≡ key = held_graph key v.lock (b.lock.each id v.lock (at_map lock_of s.views id v at)) held in

@@ -19,6 +19,7 @@ use Rattle.cmh_rw.specs.Rule.{LockMoment, state_of, share_of, HasShare, Has, Kep
 use Rattle.cmh_rw.specs.Steps.{after_try}
 use Rattle.cmh_rw.proofs.Lawful.{total-set, total-in, total-snoc, lawful-set, turn-lawful}
 
+-- a seat of the table, with what it knows of the lock alone
 abbrev LockSat : Type 0
 LockSat = Me (Unit {0}) LockView
 
@@ -27,6 +28,7 @@ holds_one : (key : Graph) (v : LockView) → Has key v → reads v.state + retre
 holds_one key v h = let P : SeatState → Type 0 = λ s. HasShare key v.graph v.share s → reads s + retreats s ≤ v.share in
     elim v.state as P [ Away ↦ λ h. omega arith | Retreating ↦ λ h. let k = h.0 in omega arith | Reading ↦ λ h. let k = h.0 in omega arith | Writing ↦ λ h. omega arith | Spent ↦ λ h. omega arith ] h
 
+-- so readers and retreaters are no more than the shares
 holders : (key : Graph) (views : List LockView) → ((i : ℕ) (v : LockView) → get_elem? views i ≡ some v → Has key v) → total reads (map state_of views) + total retreats (map state_of views) ≤ total share_of views
 holders key [] each = omega arith
 holders key (v ∷ vs) each = let h = holds_one key v (each zero v refl) in let r = holders key vs (λ i w e. each (suc i) w e) in omega arith
@@ -55,6 +57,7 @@ placed key e s n id me w h at is state share has = let x = get_or s.words 0 0 in
   each = λ i v e. ⊎_elim (λ t. subst (Has key) t.1 has) (λ t. h.each i v t.1) (at_set s.views id i w v e);
 }
 
+-- an unspent view keeps its share and its graph in another unspent state
 has_same : (key : Graph) (v : LockView) (b : SeatState) → Has key v → v.state ≢ Spent → b ≢ Spent → HasShare key v.graph v.share b
 has_same key v b h here there = let Q : Type 0 = (0 < v.share) × (v.graph ≡ key) in
     let q : Q = (let P : SeatState → Type 0 = λ s. HasShare key v.graph v.share s → s ≢ Spent → Q in elim v.state as P [ Away ↦ λ h n. h | Retreating ↦ λ h n. h | Reading ↦ λ h n. h | Writing ↦ λ h n. h | Spent ↦ λ h n. absurd (n refl) ] h here) in
@@ -64,6 +67,7 @@ has_same key v b h here there = let Q : Type 0 = (0 < v.share) × (v.graph ≡ k
 not_spent : (a b : SeatState) → a ≡ b → b ≢ Spent → a ≢ Spent
 not_spent a b is n e = n (sym is ∙ e)
 
+-- neither of two states is a spent one
 cond-not_spent : (b : Bool) (x y : SeatState) → x ≢ Spent → y ≢ Spent → cond b x y ≢ Spent
 cond-not_spent true x y p q = p
 cond-not_spent false x y p q = q
@@ -77,6 +81,7 @@ enter_kept key s id me away h at = let x = get_or s.words 0 0 in let w = after_t
     let there : w.state ≢ Spent = not_spent w.state (cond (ltb x 4294967296) Reading Retreating) (ap (λ p. p.1) t) (cond-not_spent (ltb x 4294967296) Reading Retreating (λ e. cc) (λ e. cc)) in
     placed key (Admit 0) s ((x + 1) % 18446744073709551616) id me w h at n refl refl (has_same key me.0 w.state (h.each id me.0 at) (not_spent me.0.state Away away (λ e. cc)) there)
 
+-- what leaving makes of the word and the state
 leave_turn : (word : ℕ) (a : SeatState) → reads a + retreats a ≡ 1 → turn (Leave 0) word a ≡ (word - 1, Away)
 leave_turn word Away is = absurd (omega arith)
 leave_turn word Retreating is = refl
@@ -84,6 +89,7 @@ leave_turn word Reading is = refl
 leave_turn word Writing is = absurd (omega arith)
 leave_turn word Spent is = absurd (omega arith)
 
+-- who reads or retreats isn't spent
 in-not_spent : (a : SeatState) → reads a + retreats a ≡ 1 → a ≢ Spent
 in-not_spent a is e = let z : reads a + retreats a ≡ 0 = ap (λ b. reads b + retreats b) e in absurd (omega arith)
 
@@ -95,6 +101,7 @@ leave_kept key s id me inside h at = let x = get_or s.words 0 0 in let small = w
     let n : (x + 18446744073709551615) % 18446744073709551616 ≡ (turn (Leave 0) x me.0.state).0 = omega (arith, ap (λ p. p.0) t) in
     placed key (Leave 0) s ((x + 18446744073709551615) % 18446744073709551616) id me (away me.0) h at n (sym (ap (λ p. p.1) t)) refl (has_same key me.0 Away (h.each id me.0 at) (in-not_spent me.0.state inside) (λ e. cc))
 
+-- a writer ends its hold
 pub end_kept : (key : Graph) (s : LockMoment) (id : ℕ) (me : LockSat) → me.0.state ≡ Writing → Kept key s → get_elem? s.views id ≡ some me.0
     → Kept key (stepped s 0 ((get_or s.words 0 0 + 18446744069414584320) % 18446744073709551616) id me.1 (away me.0) keeps)
 end_kept key s id me writing h at = let x = get_or s.words 0 0 in let small = word-small key s h in let one = counts key s id me.0 h at in
@@ -107,10 +114,12 @@ end_kept key s id me writing h at = let x = get_or s.words 0 0 in let small = wo
 abbrev tried : Bool → ℕ → ℕ × SeatState
 tried b x = cond b (4294967296, Writing) (x, Away)
 
+-- the word after a try to write
 either_cond : (b : Bool) (x : ℕ) → either b 4294967296 x ≡ (tried b x).0
 either_cond true x = refl
 either_cond false x = refl
 
+-- a try to write spends no seat
 pair-not_spent : (b : Bool) (x : ℕ) → (tried b x).1 ≢ Spent
 pair-not_spent true x = λ e. cc
 pair-not_spent false x = λ e. cc
@@ -134,9 +143,11 @@ quiet : (word : ℕ) (l : List SeatState) (i : ℕ) (a b : SeatState) → get_el
 quiet word l i a b at away light h = let wa : writes a ≡ 0 = ap writes away in let ra : reads a ≡ 0 = ap reads away in let ta : retreats a ≡ 0 = ap retreats away in let k = h.one_writer in
     lawful-set word word l i a b at h (omega arith) (omega arith) (λ p q. let z = h.alone (omega arith) in omega arith)
 
+-- who is away has a share
 has_share : (key : Graph) (v : LockView) → Has key v → v.state ≡ Away → (0 < v.share) × (v.graph ≡ key)
 has_share key v h away = subst (λ s. HasShare key v.graph v.share s) away h
 
+-- and is known by it
 has_from : (key : Graph) (v : LockView) → v.state ≡ Away → (0 < v.share) × (v.graph ≡ key) → Has key v
 has_from key v away h = subst (λ s. HasShare key v.graph v.share s) (sym away) h
 
@@ -178,10 +189,12 @@ spent_one : (key : Graph) (v : LockView) → Has key v → v.share ≡ 0 → wri
 spent_one key v h z = let P : SeatState → Type 0 = λ s. HasShare key v.graph v.share s → writes s + reads s + retreats s ≡ 0 in
     elim v.state as P [ Away ↦ λ h. refl | Retreating ↦ λ h. let k = h.0 in absurd (omega arith) | Reading ↦ λ h. let k = h.0 in absurd (omega arith) | Writing ↦ λ h. let k = h.0 in absurd (omega arith) | Spent ↦ λ h. refl ] h
 
+-- views with no shares hold nothing
 all_spent : (key : Graph) (views : List LockView) → ((i : ℕ) (v : LockView) → get_elem? views i ≡ some v → Has key v) → total share_of views ≡ 0 → total writes (map state_of views) + total reads (map state_of views) + total retreats (map state_of views) ≡ 0
 all_spent key [] each none_left = omega arith
 all_spent key (v ∷ vs) each none_left = let r = all_spent key vs (λ i w e. each (suc i) w e) (omega arith) in let h = spent_one key v (each zero v refl) (omega arith) in omega arith
 
+-- where one view has all shares, the others hold nothing
 pub alone : (key : Graph) (views : List LockView) (id : ℕ) (v : LockView) → ((i : ℕ) (u : LockView) → get_elem? views i ≡ some u → Has key u) → get_elem? views id ≡ some v → total share_of views ≤ v.share
     → total writes (map state_of views) + total reads (map state_of views) + total retreats (map state_of views) ≡ writes v.state + reads v.state + retreats v.state
 alone key [] id v each at most = absurd (some-ne-none v (sym at))

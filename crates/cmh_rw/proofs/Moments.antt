@@ -15,12 +15,15 @@ use Rattle.cmh_rw.specs.View.{IsHeld}
 use Rattle.cmh_rw.specs.Rule.{Moment, lock_of, state_of, HasShare, Has, Kept, Knows, Board}
 use Rattle.cmh_rw.proofs.Lawful.{total-set, total-in}
 
+-- states that differ
 pub away_writing : Away ≢ Writing
 away_writing e = cc
 
+-- and these
 pub away_spent : Away ≢ Spent
 away_spent e = cc
 
+-- and these flags
 pub no_true : false ≢ true
 no_true e = cc
 

@@ -14,10 +14,12 @@ laid-append (x ∷ xs) ys = ap (λ l. x ++ l) (laid-append xs ys) ∙ sym (appen
 pub laid-snoc : (xs : List (List Row)) (x : List Row) → laid (xs ++ x ∷ []) ≡ laid xs ++ x
 laid-snoc xs x = laid-append xs (x ∷ []) ∙ ap (λ l. laid xs ++ l) (append-nil x)
 
+-- the postings and one more
 pub whole-snoc : (xs : List (List Row)) (x : List Row) → ArePostings xs → IsPosting x → ArePostings (xs ++ x ∷ [])
 whole-snoc [] x h p = (p, tt)
 whole-snoc (y ∷ ys) x h p = (h.0, whole-snoc ys x h.1 p)
 
+-- the weights of postings and more postings
 pub weigh-append : (f : List Row → ℕ) (xs ys : List (List Row)) → weigh f (xs ++ ys) ≡ weigh f xs + weigh f ys
 weigh-append f [] ys = omega arith
 weigh-append f (x ∷ xs) ys = omega (arith, weigh-append f xs ys)
@@ -38,6 +40,7 @@ none-seen postings = ([], postings, refl, refl)
 pub seen-grows : (seen : List Row) (xs : List (List Row)) (x : List Row) → IsSeen seen xs → IsSeen seen (xs ++ x ∷ [])
 seen-grows seen xs x h = (h.0, h.1 ++ x ∷ [], ap (λ l. l ++ x ∷ []) h.2 ∙ append_assoc h.0 h.1 (x ∷ []), h.3)
 
+-- equal lists have equal parts
 cons_parts : (x y : List Row) (xs ys : List (List Row)) → x ∷ xs ≡ y ∷ ys → (x ≡ y) × (xs ≡ ys)
 cons_parts x y xs ys e = (ap (λ l. get_or l 0 x) e, ap (λ l. drop 1 l) e)
 
@@ -61,6 +64,7 @@ seen_compare postings s t h g = ⊎_elim
 starts-same : (xs : List Row) → StartsWith xs xs
 starts-same xs = ([], sym (append-nil xs))
 
+-- a list of no length
 none_left : (rest : List Row) → length rest ≡ 0 → rest ≡ []
 none_left [] e = refl
 none_left (x ∷ xs) e = absurd (omega arith)
@@ -88,6 +92,7 @@ pub part-snoc : (xs : List Row) (r : Row) → IsOpen xs → (r.last ≡ true) �
 part-snoc xs r h (inl e) = inr (xs, r, refl, h, e)
 part-snoc xs r h (inr e) = inl (open-snoc xs r h e)
 
+-- the final one of rows that are no last ones
 open-last : (xs : List Row) (r : Row) → IsOpen (xs ++ r ∷ []) → r.last ≡ false
 open-last [] r h = h.0
 open-last (x ∷ xs) r h = open-last xs r h.1

@@ -21,6 +21,7 @@ Fits v = ∥ FitsIn v.lock.graph (v.seen ++ v.staged) ∥₁
 fits_row : (v : View) (r : Row) → CanStage v r → FitsIn v.lock.graph (v.seen ++ v.staged) → FitsIn v.lock.graph (v.seen ++ (v.staged ++ r ∷ []))
 fits_row v r can f = record { small = f.small; true_of = subst (IsTrueOf v.lock.graph) (append_assoc v.seen v.staged (r ∷ [])) (true-snoc v.lock.graph (v.seen ++ v.staged) r f.true_of can.idle can.true_verdict can.fresh) }
 
+-- the same of what a seat knows
 pub fits_with_row : (v : View) (r : Row) → CanStage v r → Fits v → Fits (with_row v r)
 fits_with_row v r can fits = ∥∥₁_map fits (fits_row v r can)
 
@@ -29,6 +30,7 @@ row_within : (v : View) (r : Row) (n : ℕ) → CanStage v r → n ≡ length v.
 row_within v r n can is f = let more = fits_row v r can f in let few = true-few v.lock.graph (v.seen ++ (v.staged ++ r ∷ [])) more.true_of in let small = more.small in
     let a = length-append v.seen (v.staged ++ r ∷ []) in let b = length-append v.staged (r ∷ []) in omega arith
 
+-- the same of a seat
 pub row_has_word : (v : View) (r : Row) (n : ℕ) → CanStage v r → n ≡ length v.seen + length v.staged → Fits v → n < MAX_PROCESSES
 row_has_word v r n can is fits = ∥∥₁_elim fits le_prop (row_within v r n can is)
 
@@ -37,6 +39,7 @@ verdict_within : (v : View) (p : ℕ) (says : Verdict) → fold_at v.staged p �
 verdict_within v p says e f = let idle = true-idle v.lock.graph v.staged p says (true-right v.lock.graph v.seen v.staged f.true_of) e in
     let within = idle_within v.lock.graph p idle in let small = f.small in omega arith
 
+-- the same of a seat
 pub verdict_has_word : (v : View) (p : ℕ) (says : Verdict) → fold_at v.staged p ≡ Some says → Fits v → p < MAX_PROCESSES
 verdict_has_word v p says e fits = ∥∥₁_elim fits le_prop (verdict_within v p says e)
 
@@ -47,6 +50,7 @@ loaded_fits v word found w after f = let graph = ap (λ (u : View). u.lock.graph
   true_of = subst (λ g. IsTrueOf g (w.seen ++ w.staged)) (sym graph) (subst (λ l. IsTrueOf v.lock.graph (w.seen ++ l)) (sym staged) after.staged_true);
 }
 
+-- the same of a seat
 pub fits_loaded : (v : View) (word found : ℕ) (w : View) → AfterLoad v word found w → Fits v → Fits w
 fits_loaded v word found w after fits = ∥∥₁_map fits (loaded_fits v word found w after)
 
@@ -54,6 +58,7 @@ fits_loaded v word found w after fits = ∥∥₁_map fits (loaded_fits v word f
 seen_fits : (g : Graph) (seen staged : List Row) → FitsIn g (seen ++ staged) → FitsIn g (seen ++ [])
 seen_fits g seen staged f = record { small = f.small; true_of = subst (IsTrueOf g) (sym (append-nil seen)) (true-left g seen staged f.true_of) }
 
+-- the same of a seat
 pub fits_newcomer : (g : Graph) (seen staged : List Row) → ∥ FitsIn g (seen ++ staged) ∥₁ → ∥ FitsIn g (seen ++ []) ∥₁
 fits_newcomer g seen staged fits = ∥∥₁_map fits (seen_fits g seen staged)
 
@@ -64,6 +69,7 @@ joined_fits v w mid end first told h f = let graph : end.lock.graph ≡ v.lock.g
   true_of = subst (λ g. IsTrueOf g (end.seen ++ end.staged)) same h;
 }
 
+-- the same of a seat
 pub fits_joined : (v w : View) (mid : View) (end : View) → mid ≡ joining v w → end ≡ compared (joining v w) → IsTrueOf mid.lock.graph (end.seen ++ end.staged) → Fits v → Fits end
 fits_joined v w mid end first told h fits = ∥∥₁_map fits (joined_fits v w mid end first told h)
 

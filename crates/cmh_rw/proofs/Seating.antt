@@ -38,6 +38,7 @@ blank postings staged told v not bare none_told none_mine fresh other seen = rec
   gone = λ _. none_mine;
 }
 
+-- a spent seat doesn't write
 spent_writing : Spent ≢ Writing
 spent_writing e = cc
 

@@ -96,9 +96,7 @@ impl LockWorld {
     {
         let seat = seat_number(event) as usize;
         if seat < self.seats.len() {
-            let (word, state) = turned(event, self.word, self.seats[seat]);
-            self.word = word;
-            self.seats[seat] = state;
+            (self.word, self.seats[seat]) = turned(event, self.word, self.seats[seat]);
         }
     }
 }

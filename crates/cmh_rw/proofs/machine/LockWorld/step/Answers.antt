@@ -3,9 +3,9 @@ use Rattle.atomic_table.proofs.Lists.{at_index}
 use Rattle.cmh_rw.proofs.Lawful.{lock_word-small, lock-turn}
 use Rattle.cmh_rw.proofs.machine.LockWorld.step.Goals as goal
 
-pub turned-word-requires : goal.turned-word-requires
-turned-word-requires c = lock_word-small _ c.self.invariant
+pub turned-requires : goal.turned-requires
+turned-requires c = lock_word-small _ c.self.invariant
 
 pub invariant_of-self : goal.invariant_of-self
 invariant_of-self c = let l = c.self.inside.seats.items in let i = c.seat_number-seat.result in
-    rw c.turned-word.ensures (lock-turn c.args.event c.self.inside.word i l c.index.result.now (at_index l i c.index.result.now (search rules) c.index.ensures) c.self.invariant)
+    rw c.turned.ensures (lock-turn c.args.event c.self.inside.word i l c.index.result.now (at_index l i c.index.result.now (search rules) c.index.ensures) c.self.invariant)
