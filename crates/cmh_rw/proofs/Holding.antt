@@ -18,18 +18,18 @@ use Rattle.cmh_rw.specs.Machine.{total, writes, reads, retreats, turn}
 use Rattle.cmh_rw.specs.History.{weigh, fold_at}
 use Rattle.cmh_rw.specs.View.{ended}
 use Rattle.cmh_rw.specs.Rule.{Moment, lock_of, lock_moment, state_of, Kept, Knows, Board}
-use Rattle.cmh_rw.specs.Steps.{Sat, after_try, with_lock, Entered, Left, Taken}
+use Rattle.cmh_rw.specs.Steps.{TableSeat, after_try, with_lock, Entered, Left, Taken}
 use Rattle.cmh_rw.proofs.Folds.{fold-nothing}
 use Rattle.cmh_rw.proofs.Lawful.{total-set}
 use Rattle.cmh_rw.proofs.Lock.{enter_kept, leave_kept, take_kept, end_kept}
 use Rattle.cmh_rw.proofs.Moments.{away_writing, away_spent, no_true, not_held, idle_still, state_at}
 
 -- the lock's part of a seat
-abbrev lock_me : Sat → Me (Unit {0}) LockView
+abbrev lock_me : TableSeat → Me (Unit {0}) LockView
 lock_me me = (me.0.lock, me.1)
 
 -- a step on word 0 that keeps the lock's part
-locked : (key : Graph) (s : Moment) (b : Board key s) (n id : ℕ) (me : Sat) (w : View) → get_elem? s.views id ≡ some me.0 → Kept key (stepped (lock_moment s) 0 n id me.1 w.lock keeps) → w.mine ≡ me.0.mine
+locked : (key : Graph) (s : Moment) (b : Board key s) (n id : ℕ) (me : TableSeat) (w : View) → get_elem? s.views id ≡ some me.0 → Kept key (stepped (lock_moment s) 0 n id me.1 w.lock keeps) → w.mine ≡ me.0.mine
     → Knows b.postings b.staged b.told w → (total writes (set (map state_of (map lock_of s.views)) id w.lock.state) ≡ 0 → (b.staged ≡ []) × (b.told ≡ []))
     → Board key (stepped s 0 n id me.1 w keeps)
 locked key s b n id me w at kept mine knows idle = let views = map-set lock_of s.views id w in record {
@@ -74,7 +74,7 @@ entering key s b id v l at is not_spent clear = let k = b.each id v at in let ba
 }
 
 -- a seat counts itself in
-pub enters : (key : Graph) (slots id : ℕ) (me : Sat) → me.0.lock.state ≡ Away → Allows (Board key) slots id me 0 (λ n. (n + 1) % 2 ^ 64) (Entered (step slots 0 1 0 none) me)
+pub enters : (key : Graph) (slots id : ℕ) (me : TableSeat) → me.0.lock.state ≡ Away → Allows (Board key) slots id me 0 (λ n. (n + 1) % 2 ^ 64) (Entered (step slots 0 1 0 none) me)
 enters key slots id me is s b homes at small = let v = me.0 in let x = get_or s.words 0 0 in let low = enter_kept key (lock_moment s) id (lock_me me) is b.lock (at_map lock_of s.views id v at) in
     let l = after_try (Admit 0) x v.lock in
     let state : l.state ≡ cond (ltb x WRITER) Reading Retreating = ap (λ a. (turn (Admit 0) x a).1) is in (
@@ -108,7 +108,7 @@ inside-not_writing Writing h = absurd (omega arith)
 inside-not_writing Spent h = (λ e. cc, refl)
 
 -- a reader ends its hold, or a seat retreats
-pub leaves : (key : Graph) (slots id : ℕ) (me : Sat) → reads me.0.lock.state + retreats me.0.lock.state ≡ 1 → Allows (Board key) slots id me 0 (λ n. (n + (2 ^ 64 - 1)) % 2 ^ 64) (Left (step slots 0 1 0 none) me)
+pub leaves : (key : Graph) (slots id : ℕ) (me : TableSeat) → reads me.0.lock.state + retreats me.0.lock.state ≡ 1 → Allows (Board key) slots id me 0 (λ n. (n + (2 ^ 64 - 1)) % 2 ^ 64) (Left (step slots 0 1 0 none) me)
 leaves key slots id me inside s b homes at small = let v = me.0 in let x = get_or s.words 0 0 in let low = leave_kept key (lock_moment s) id (lock_me me) inside b.lock (at_map lock_of s.views id v at) in
     let not = inside-not_writing v.lock.state inside in let bare = (b.each id v at).bare not.0 in (
       ended v,
@@ -120,7 +120,7 @@ leaves key slots id me inside s b homes at small = let v = me.0 in let x = get_o
     )
 
 -- a writer with nothing staged ends its hold
-pub ends : (key : Graph) (slots id : ℕ) (me : Sat) → me.0.lock.state ≡ Writing → me.0.staged ≡ [] → Allows (Board key) slots id me 0 (λ n. (n + (2 ^ 64 - 4294967296)) % 2 ^ 64) (Left (step slots 0 4294967296 0 none) me)
+pub ends : (key : Graph) (slots id : ℕ) (me : TableSeat) → me.0.lock.state ≡ Writing → me.0.staged ≡ [] → Allows (Board key) slots id me 0 (λ n. (n + (2 ^ 64 - 4294967296)) % 2 ^ 64) (Left (step slots 0 4294967296 0 none) me)
 ends key slots id me is clear s b homes at small = let v = me.0 in let x = get_or s.words 0 0 in let low = end_kept key (lock_moment s) id (lock_me me) is b.lock (at_map lock_of s.views id v at) in
     let own = (b.each id v at).writing is in let none_staged = sym own.0 ∙ clear in
     let none_told : b.told ≡ [] = fold-nothing b.told (λ p. ⊎_elim (λ e. e) (λ e. e ∙ ap (λ l. fold_at l p) none_staged) (b.told_of p)) in (
@@ -146,7 +146,7 @@ taken-writing true x e = refl
 taken-writing false x e = absurd (cc)
 
 -- a seat tries to become the writer
-pub takes_lock : (key : Graph) (slots id : ℕ) (me : Sat) → me.0.lock.state ≡ Away → Allows (Board key) slots id me 0 (λ n. either (eqb n 0) 4294967296 n) (Taken (step slots 0 0 4294967296 none) me)
+pub takes_lock : (key : Graph) (slots id : ℕ) (me : TableSeat) → me.0.lock.state ≡ Away → Allows (Board key) slots id me 0 (λ n. either (eqb n 0) 4294967296 n) (Taken (step slots 0 0 4294967296 none) me)
 takes_lock key slots id me is s b homes at small = let v = me.0 in let x = get_or s.words 0 0 in let low = take_kept key (lock_moment s) id (lock_me me) is b.lock (at_map lock_of s.views id v at) in
     let l = after_try (TryWrite 0) x v.lock in
     let state : l.state ≡ (taken (eqb x 0) x).1 = ap (λ a. (turn (TryWrite 0) x a).1) is in

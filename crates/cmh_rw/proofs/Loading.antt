@@ -11,7 +11,7 @@ use Rattle.cmh_rw.specs.declared.machine.SeatState.TheVariants.{Reading, Writing
 use Rattle.cmh_rw.specs.History.{laid, row_code, verdict_code, fold_at, IsTrueOf}
 use Rattle.cmh_rw.specs.View.{IsHeld, loaded}
 use Rattle.cmh_rw.specs.Rule.{Moment, lock_of, Knows, Board}
-use Rattle.cmh_rw.specs.Steps.{Sat, Loaded}
+use Rattle.cmh_rw.specs.Steps.{TableSeat, Loaded}
 use Rattle.cmh_rw.proofs.Folds.{true-left, true-few}
 use Rattle.cmh_rw.proofs.Postings.{seen-prefix, all-seen}
 use Rattle.cmh_rw.proofs.Moments.{held_graph, own_rows, reviewed}
@@ -34,7 +34,7 @@ reading_writing : Reading ≢ Writing
 reading_writing e = cc
 
 -- a load in a hold tells the history
-pub loads : (key : Graph) (slots id word : ℕ) (me : Sat) → IsHeld me.0.lock.state → Allows (Board key) slots id me word (λ n. n) (Loaded (step slots word 0 0 none) me)
+pub loads : (key : Graph) (slots id word : ℕ) (me : TableSeat) → IsHeld me.0.lock.state → Allows (Board key) slots id me word (λ n. n) (Loaded (step slots word 0 0 none) me)
 loads key slots id word me held s b _ at _ = let v = me.0 in let rows = laid b.postings in let w = loaded v rows in let k = b.each id v at in let own = own_rows key s b id v at held in
     let graph : v.lock.graph ≡ key = held_graph key v.lock (b.lock.each id v.lock (at_map lock_of s.views id v at)) held in
     let knows : Knows b.postings b.staged b.told w = record { writing = k.writing; bare = k.bare; ready = inr refl; seen = all-seen b.postings; other = k.other; fresh = λ _. (held, refl); gone = k.gone } in (

@@ -20,8 +20,8 @@ use Rattle.cmh_rw.specs.Steps.{after_try}
 use Rattle.cmh_rw.proofs.Lawful.{total-set, total-in, total-snoc, lawful-set, turn-lawful}
 
 -- a seat of the table, with what it knows of the lock alone
-abbrev LockSat : Type 0
-LockSat = Me (Unit {0}) LockView
+abbrev LockSeat : Type 0
+LockSeat = Me (Unit {0}) LockView
 
 -- who reads or retreats has a share
 holds_one : (key : Graph) (v : LockView) → Has key v → reads v.state + retreats v.state ≤ v.share
@@ -43,7 +43,7 @@ counts key s id v h at = let k = h.lock.word in let e = at_map state_of s.views 
     let a = total-in writes (map state_of s.views) id v.state e in let b = total-in reads (map state_of s.views) id v.state e in let c = total-in retreats (map state_of s.views) id v.state e in omega arith
 
 -- a step on word 0 that is an event of this seat, and changes neither its share nor its graph
-pub placed : (key : Graph) (e : Event) (s : LockMoment) (n id : ℕ) (me : LockSat) (w : LockView) → Kept key s → get_elem? s.views id ≡ some me.0
+pub placed : (key : Graph) (e : Event) (s : LockMoment) (n id : ℕ) (me : LockSeat) (w : LockView) → Kept key s → get_elem? s.views id ≡ some me.0
     → n ≡ (turn e (get_or s.words 0 0) me.0.state).0 → w.state ≡ (turn e (get_or s.words 0 0) me.0.state).1 → w.share ≡ me.0.share → Has key w
     → Kept key (stepped s 0 n id me.1 w keeps)
 placed key e s n id me w h at is state share has = let x = get_or s.words 0 0 in let wide = h.wide in let sum = total-set share_of s.views id me.0 w at in let few = h.shares in record {
@@ -73,7 +73,7 @@ cond-not_spent true x y p q = p
 cond-not_spent false x y p q = q
 
 -- the rule after the step, with the view that the step tells: what a rule over more of a view stands on
-pub enter_kept : (key : Graph) (s : LockMoment) (id : ℕ) (me : LockSat) → me.0.state ≡ Away → Kept key s → get_elem? s.views id ≡ some me.0
+pub enter_kept : (key : Graph) (s : LockMoment) (id : ℕ) (me : LockSeat) → me.0.state ≡ Away → Kept key s → get_elem? s.views id ≡ some me.0
     → Kept key (stepped s 0 ((get_or s.words 0 0 + 1) % 18446744073709551616) id me.1 (after_try (Admit 0) (get_or s.words 0 0) me.0) keeps)
 enter_kept key s id me away h at = let x = get_or s.words 0 0 in let w = after_try (Admit 0) x me.0 in let small = word-small key s h in
     let t : turn (Admit 0) x me.0.state ≡ (x + 1, cond (ltb x 4294967296) Reading Retreating) = ap (turn (Admit 0) x) away in
@@ -94,7 +94,7 @@ in-not_spent : (a : SeatState) → reads a + retreats a ≡ 1 → a ≢ Spent
 in-not_spent a is e = let z : reads a + retreats a ≡ 0 = ap (λ b. reads b + retreats b) e in absurd (omega arith)
 
 -- a reader leaves, or a seat retreats
-pub leave_kept : (key : Graph) (s : LockMoment) (id : ℕ) (me : LockSat) → reads me.0.state + retreats me.0.state ≡ 1 → Kept key s → get_elem? s.views id ≡ some me.0
+pub leave_kept : (key : Graph) (s : LockMoment) (id : ℕ) (me : LockSeat) → reads me.0.state + retreats me.0.state ≡ 1 → Kept key s → get_elem? s.views id ≡ some me.0
     → Kept key (stepped s 0 ((get_or s.words 0 0 + 18446744073709551615) % 18446744073709551616) id me.1 (away me.0) keeps)
 leave_kept key s id me inside h at = let x = get_or s.words 0 0 in let small = word-small key s h in let one = counts key s id me.0 h at in
     let t = leave_turn x me.0.state inside in
@@ -102,7 +102,7 @@ leave_kept key s id me inside h at = let x = get_or s.words 0 0 in let small = w
     placed key (Leave 0) s ((x + 18446744073709551615) % 18446744073709551616) id me (away me.0) h at n (sym (ap (λ p. p.1) t)) refl (has_same key me.0 Away (h.each id me.0 at) (in-not_spent me.0.state inside) (λ e. cc))
 
 -- a writer ends its hold
-pub end_kept : (key : Graph) (s : LockMoment) (id : ℕ) (me : LockSat) → me.0.state ≡ Writing → Kept key s → get_elem? s.views id ≡ some me.0
+pub end_kept : (key : Graph) (s : LockMoment) (id : ℕ) (me : LockSeat) → me.0.state ≡ Writing → Kept key s → get_elem? s.views id ≡ some me.0
     → Kept key (stepped s 0 ((get_or s.words 0 0 + 18446744069414584320) % 18446744073709551616) id me.1 (away me.0) keeps)
 end_kept key s id me writing h at = let x = get_or s.words 0 0 in let small = word-small key s h in let one = counts key s id me.0 h at in
     let is : writes me.0.state ≡ 1 = ap writes writing in
@@ -125,7 +125,7 @@ pair-not_spent true x = λ e. cc
 pair-not_spent false x = λ e. cc
 
 -- a seat becomes the writer where the word is 0
-pub take_kept : (key : Graph) (s : LockMoment) (id : ℕ) (me : LockSat) → me.0.state ≡ Away → Kept key s → get_elem? s.views id ≡ some me.0
+pub take_kept : (key : Graph) (s : LockMoment) (id : ℕ) (me : LockSeat) → me.0.state ≡ Away → Kept key s → get_elem? s.views id ≡ some me.0
     → Kept key (stepped s 0 (either (eqb (get_or s.words 0 0) 0) 4294967296 (get_or s.words 0 0)) id me.1 (after_try (TryWrite 0) (get_or s.words 0 0) me.0) keeps)
 take_kept key s id me away h at = let x = get_or s.words 0 0 in let w = after_try (TryWrite 0) x me.0 in
     let t : turn (TryWrite 0) x me.0.state ≡ tried (eqb x 0) x = ap (turn (TryWrite 0) x) away in

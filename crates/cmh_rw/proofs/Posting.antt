@@ -11,14 +11,14 @@ use Rattle.cmh_rw.specs.Machine.{writes}
 use Rattle.cmh_rw.specs.History.{laid, weigh, row_code, verdict_code, fold_at, EndsLast, IsPosting, IsTrueOf, AreTold}
 use Rattle.cmh_rw.specs.View.{posted}
 use Rattle.cmh_rw.specs.Rule.{Knows, Board}
-use Rattle.cmh_rw.specs.Steps.{Sat, Counted}
+use Rattle.cmh_rw.specs.Steps.{TableSeat, Counted}
 use Rattle.cmh_rw.proofs.Folds.{fold-same, told-all}
 use Rattle.cmh_rw.proofs.Lawful.{total-set}
 use Rattle.cmh_rw.proofs.Moments.{writes-Writing, beside_writer, lock_beside}
 use Rattle.cmh_rw.proofs.Postings.{laid-snoc, whole-snoc, weigh-append, seen-grows, posting_from, ends-some}
 
 -- a writer stores the count
-pub counts_in : (key : Graph) (slots id n : ℕ) (me : Sat) → me.0.lock.state ≡ Writing → EndsLast me.0.staged → AreTold me.0.staged me.0.told
+pub counts_in : (key : Graph) (slots id n : ℕ) (me : TableSeat) → me.0.lock.state ≡ Writing → EndsLast me.0.staged → AreTold me.0.staged me.0.told
     → n ≡ length me.0.seen + length me.0.staged → Allows (Board key) slots id me 1 (λ _. n) (λ _. Counted (step slots 1 n 0 none) me n)
 counts_in key slots id n me writing ends stored is s b _ at _ = let v = me.0 in let w = posted v in let old = laid b.postings in
     let k = b.each id v at in let own = k.writing writing in

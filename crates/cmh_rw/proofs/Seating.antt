@@ -18,7 +18,7 @@ use Rattle.cmh_rw.specs.Machine.{total, writes}
 use Rattle.cmh_rw.specs.History.{weigh, IsSeen, IsTrueOf}
 use Rattle.cmh_rw.specs.View.{opening_lock, opening_view, less_share, less_one, new_lock, newcomer, both_shares, joining, compared, spent_lock, spent_view}
 use Rattle.cmh_rw.specs.Rule.{lock_of, lock_moment, state_of, share_of, Has, Kept, Knows, Board}
-use Rattle.cmh_rw.specs.Steps.{Sat, Compared}
+use Rattle.cmh_rw.specs.Steps.{TableSeat, Compared}
 use Rattle.cmh_rw.proofs.Folds.{true-left}
 use Rattle.cmh_rw.proofs.Lawful.{total-set, total-snoc, total-in}
 use Rattle.cmh_rw.proofs.Lock.{split_kept, join_kept}
@@ -149,7 +149,7 @@ joins key id v other w away away' s b at apart there = let both = joining v w in
     }
 
 -- a load after a join: one of the two histories begins the other, and the longer is kept
-pub compares : (key : Graph) (slots id : ℕ) (me : Sat) → me.0.lock.state ≡ Away → Allows (Board key) slots id me 0 (λ n. n) (Compared (step slots 0 0 0 none) me)
+pub compares : (key : Graph) (slots id : ℕ) (me : TableSeat) → me.0.lock.state ≡ Away → Allows (Board key) slots id me 0 (λ n. n) (Compared (step slots 0 0 0 none) me)
 compares key slots id me away s b _ at _ = let v = me.0 in let w = compared v in let k = b.each id v at in let few = b.lock.shares in
     let seen : IsSeen w.seen b.postings = cond_both (ltb (length v.seen) (length v.other)) v.other v.seen (λ l. IsSeen l b.postings) (λ _. k.other) (λ _. k.seen) in
     let bare = k.bare (λ e. away_writing (sym away ∙ e)) in

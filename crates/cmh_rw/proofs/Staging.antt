@@ -17,7 +17,7 @@ use Rattle.cmh_rw.specs.declared.view.View.{View}
 use Rattle.cmh_rw.specs.History.{laid, weigh, row_code, verdict_code, fold_at, IsOpen, IsTrueOf}
 use Rattle.cmh_rw.specs.View.{CanStage, with_row, with_told, mark}
 use Rattle.cmh_rw.specs.Rule.{lock_of, Knows, Board}
-use Rattle.cmh_rw.specs.Steps.{Sat, Staged, Told}
+use Rattle.cmh_rw.specs.Steps.{TableSeat, Staged, Told}
 use Rattle.cmh_rw.proofs.Codes.{row_code_law, mark_of, get-seam, get-else}
 use Rattle.cmh_rw.proofs.Folds.{fold-else, fold-keeps, fold-skip, true-snoc, true-apart, told-now}
 use Rattle.cmh_rw.proofs.Lawful.{total-set}
@@ -29,7 +29,7 @@ still : (postings : List (List Row)) (staged told more_staged more_told : List R
 still postings staged told more_staged more_told u not k = record { writing = λ e. absurd (not e); bare = k.bare; ready = k.ready; seen = k.seen; other = k.other; fresh = k.fresh; gone = k.gone }
 
 -- a writer stores a row
-pub stages : (key : Graph) (slots id n : ℕ) (r : Row) (me : Sat) → me.0.lock.state ≡ Writing → me.0.loaded ≡ true → CanStage me.0 r → n ≡ length me.0.seen + length me.0.staged → n < MAX_PROCESSES
+pub stages : (key : Graph) (slots id n : ℕ) (r : Row) (me : TableSeat) → me.0.lock.state ≡ Writing → me.0.loaded ≡ true → CanStage me.0 r → n ≡ length me.0.seen + length me.0.staged → n < MAX_PROCESSES
     → Allows (Board key) slots id me (FIRST_ROW + n) (λ _. row_code r) (λ _. Staged (step slots (FIRST_ROW + n) (row_code r) 0 none) me (row_code r))
 stages key slots id n r me writing loaded can is low s b _ at _ = let v = me.0 in let w = with_row v r in let old = laid b.postings in
     let k = b.each id v at in let own = k.writing writing in let fresh = k.fresh loaded in let all = old ++ b.staged in
@@ -70,7 +70,7 @@ stages key slots id n r me writing loaded can is low s b _ at _ = let v = me.0 i
     )
 
 -- a writer stores the verdict of a staged row
-pub tells : (key : Graph) (slots id p : ℕ) (says : Verdict) (me : Sat) → me.0.lock.state ≡ Writing → fold_at me.0.staged p ≡ Some says → p < MAX_PROCESSES
+pub tells : (key : Graph) (slots id p : ℕ) (says : Verdict) (me : TableSeat) → me.0.lock.state ≡ Writing → fold_at me.0.staged p ≡ Some says → p < MAX_PROCESSES
     → Allows (Board key) slots id me (FIRST_VERDICT + p) (λ _. verdict_code (Some says)) (λ _. Told (step slots (FIRST_VERDICT + p) (verdict_code (Some says)) 0 none) me (verdict_code (Some says)))
 tells key slots id p says me writing staged_says low s b _ at _ = let v = me.0 in let q = mark p says in let w = with_told v q in let old = laid b.postings in
     let k = b.each id v at in let own = k.writing writing in let code = verdict_code (Some says) in

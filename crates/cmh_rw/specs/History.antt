@@ -7,10 +7,12 @@ use Rattle.cmh_graph.specs.Graph.{Graph, process_count, is_idle}
 use Rattle.cmh_graph.specs.Verdict.{verdict}
 use Rattle.cmh_rw.specs.declared.view.Row.{Row}
 
+-- a flag as a number
 abbrev pub bit : Bool → ℕ
 bit true = 1
 bit false = 0
 
+-- a verdict as a number
 abbrev pub free_bit : Verdict → ℕ
 free_bit Deadlocked = 0
 free_bit Free = 1
@@ -60,6 +62,7 @@ abbrev pub IsPosting : List Row → Type 0
 IsPosting rows = (before : List Row) × (r : Row) × (rows ≡ before ++ r ∷ [])
     × IsOpen before × (r.last ≡ true)
 
+-- each is a posting
 abbrev pub ArePostings : List (List Row) → Type 0
 ArePostings [] = Unit {0}
 ArePostings (x ∷ xs) = IsPosting x × ArePostings xs

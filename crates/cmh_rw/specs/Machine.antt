@@ -11,6 +11,7 @@ pub record World : Type 0 where
   pub word : ℕ
   pub seats : List SeatState
 
+-- a world by its parts
 abbrev pub world : ℕ → List SeatState → World
 world word seats = record { word = word; seats = seats }
 

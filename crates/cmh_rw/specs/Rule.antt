@@ -23,15 +23,19 @@ Moment = State (Unit {0}) View
 abbrev pub LockMoment : Type 0
 LockMoment = State (Unit {0}) LockView
 
+-- what a seat knows of the lock
 abbrev pub lock_of : View → LockView
 lock_of v = v.lock
 
+-- a moment of the words, as the lock sees it
 abbrev pub lock_moment : Moment → LockMoment
 lock_moment s = record { words = s.words; homes = s.homes; views = map lock_of s.views }
 
+-- how a seat stands to the lock
 abbrev pub state_of : LockView → SeatState
 state_of l = l.state
 
+-- how much of the whole share a seat has
 abbrev pub share_of : LockView → ℕ
 share_of l = l.share
 
@@ -40,6 +44,7 @@ abbrev pub HasShare : Graph → Graph → ℕ → SeatState → Type 0
 HasShare key graph share Spent = share ≡ 0
 HasShare key graph share _ = (0 < share) × (graph ≡ key)
 
+-- the same of what a seat knows of the lock
 abbrev pub Has : Graph → LockView → Type 0
 Has key l = HasShare key l.graph l.share l.state
 

@@ -31,6 +31,7 @@ IsAway s = (view s).lock.state ≡ Away
 abbrev pub graph_of : RwWords → Graph
 graph_of w = w.table.shared.key
 
+-- the values of the closed words
 abbrev pub words_of : Closed → List ℕ
 words_of c = slots_items c.inner.words
 

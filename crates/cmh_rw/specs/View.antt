@@ -19,10 +19,11 @@ use Rattle.cmh_rw.specs.History.{row_code, verdict_code, fold_at, IsHistory, IsO
 abbrev pub IsHeld : SeatState → Type 0
 IsHeld state = writes state + reads state ≡ 1
 
--- the whole share, and nothing seen
+-- the whole share
 abbrev pub opening_lock : Graph → LockView
 opening_lock g = record { graph = g; state = Away; share = MAX_SEATS; tries = 0; found = 0 }
 
+-- nothing seen, nothing added
 abbrev pub opening_view : Graph → View
 opening_view g = record {
   lock = opening_lock g;
@@ -39,9 +40,11 @@ opening_view g = record {
 abbrev pub tried_lock : LockView → SeatState → ℕ → LockView
 tried_lock l state found = record l { state = state; tries = l.tries + 1; found = found }
 
+-- the same of the whole view
 abbrev pub tried : View → SeatState → ℕ → View
 tried v state found = record v { lock = tried_lock v.lock state found }
 
+-- the lock is left
 abbrev pub away : LockView → LockView
 away l = record l { state = Away }
 
@@ -88,6 +91,7 @@ pub record CanStage (v : View) (r : Row) : Type 0 where
   pub fresh : fold_at (v.seen ++ v.staged) r.process ≡ None
   pub true_verdict : r.verdict ≡ verdict v.lock.graph r.process
 
+-- a row by its parts
 abbrev pub row : ℕ → Verdict → Bool → Row
 row p verdict last = record { process = p; verdict = verdict; last = last }
 
@@ -116,9 +120,11 @@ posted v = record v {
 abbrev pub less_share : LockView → LockView
 less_share l = record l { share = l.share - 1 }
 
+-- the same of the whole view
 abbrev pub less_one : View → View
 less_one v = record v { lock = less_share v.lock }
 
+-- and a new seat has it
 abbrev pub new_lock : LockView → LockView
 new_lock l = record (opening_lock l.graph) { share = 1 }
 
@@ -126,6 +132,7 @@ new_lock l = record (opening_lock l.graph) { share = 1 }
 abbrev pub newcomer : View → View
 newcomer v = record (opening_view v.lock.graph) { lock = new_lock v.lock; seen = v.seen }
 
+-- the shares of two seats
 abbrev pub both_shares : LockView → LockView → LockView
 both_shares l m = record l { share = l.share + m.share }
 
@@ -137,6 +144,7 @@ joining v w = record v {
   mine = v.mine ++ w.mine;
 }
 
+-- the longer of two lists, and the first where they are as long
 abbrev pub longer : List Row → List Row → List Row
 longer xs ys = if nat_lt (length xs) (length ys) then ys else xs
 
@@ -148,12 +156,14 @@ compared v = record v { seen = longer v.seen v.other; other = [] }
 abbrev pub joined : View → View → View
 joined v w = compared (joining v w)
 
+-- the graph of nothing
 abbrev pub no_graph : Graph
 no_graph = record { processes = []; in_transit = [] }
 
--- what is left of a seat that was joined into another
+-- what is left of a seat that was joined into another: no share
 abbrev pub spent_lock : LockView
 spent_lock = record (opening_lock no_graph) { state = Spent; share = 0 }
 
+-- and nothing that it knew
 abbrev pub spent_view : View
 spent_view = record (opening_view no_graph) { lock = spent_lock }

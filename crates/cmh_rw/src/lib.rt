@@ -1,9 +1,9 @@
 //! A reader and writer lock over atomic words, and under it a history of verdicts that only grows.
 //!
-//! Of the words, word 0 is the lock: `WRITER` while a seat writes, plus the number of seats that
-//! read or retreat. Word 1 is how many rows the history has. The words from `FIRST_ROW` on are the
-//! rows, and those from `FIRST_VERDICT` on the verdicts by process. A thread steps on the words with
-//! a seat, whose view is what the thread knows.
+//! Word 0 is the lock: `WRITER` while a seat writes, plus the number of seats that read or retreat.
+//! Word 1 is how many rows the history has. The words from `FIRST_ROW` on are the rows, and those
+//! from `FIRST_VERDICT` on the verdicts by process. A thread steps on the words with a seat, whose
+//! view is what the thread knows.
 #![tactic(auto)]
 
 mod fault;

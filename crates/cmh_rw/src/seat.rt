@@ -19,8 +19,8 @@ pub struct RwWords {
     pub ghost bare: { table.shared.table_id.slots ≡ 0 },
 }
 
-/// A seat of these words, with which one thread steps on them. A seat that is dropped in a hold keeps
-/// the hold for ever.
+/// A seat of these words, with which one thread steps on them. A seat that is dropped in a hold
+/// keeps the hold for ever.
 #[derive(Drop)]
 pub struct RwSeat {
     pub(crate) seat: Seat<(), View>,

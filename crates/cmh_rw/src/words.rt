@@ -21,6 +21,7 @@ impl RwWords {
         ensures view { IfOk result (λ r. view r.1 ≡ opening_view graph.now) }
         ensures memory { IfErr result (λ e. e ≡ RwFault.Memory) }
     {
+        // A graph tells by its length that it is well formed, so that its rows have room.
         let _ = graph.len();
         let (table, seat) = Table::of_words(alloc, &[0; BOARD_WORDS], graph)?;
         let seat = RwSeat {
@@ -72,8 +73,8 @@ impl RwWords {
         seat.share = share;
     }
 
-    /// One try to read. Where a writer holds the lock, the seat takes its count back, and the answer
-    /// has the word that it found.
+    /// One try to read. Where a writer holds the lock, the seat takes its count back, and the
+    /// answer has the word that it found.
     pub fn try_read(&self, seat: &mut RwSeat) -> Entry
         requires own { IsSeatOf self.now seat.old }
         requires away { IsAway seat.old }

@@ -20,8 +20,8 @@ pub(super) fn two_in_a_cycle(alloc: Global) -> Result<WaitGraph, GraphFault> {
     WaitGraph::build(alloc, parts)
 }
 
-/// A ring of 100 processes, each of which waits for the next, and behind it a chain of 100 that ends
-/// at an active process.
+/// A ring of 100 processes, each of which waits for the next, and behind it a chain of 100 that
+/// ends at an active process.
 pub(super) fn ring_and_chain(alloc: Global) -> Result<WaitGraph, GraphFault> {
     let mut parts = Vec::new(alloc);
     for p in 0..100 {

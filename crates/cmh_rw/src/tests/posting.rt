@@ -74,7 +74,8 @@ pub(super) fn store_two(
         × (fold_at (view seat.old).seen second.0 ≡ None) }
     requires two { first.0 ≢ second.0 }
     ensures own { IsSeatOf words.now seat.new }
-    ensures ended { 5 ≤ steps → ((view seat.new).staged ≡ []) × ((view seat.new).lock ≡ (view seat.old).lock) }
+    ensures counted { 5 ≤ steps → (view seat.new).staged ≡ [] }
+    ensures lock { 5 ≤ steps → (view seat.new).lock ≡ (view seat.old).lock }
 {
     if steps == 0 {
         return;

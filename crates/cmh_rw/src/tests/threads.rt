@@ -191,8 +191,8 @@ fn four_post<R: Threads + Sync>(
     )
 }
 
-/// Whether these rows are a posting of p and the process after it, with their verdicts: a process of
-/// the ring is deadlocked, one of the chain is free.
+/// Whether these rows are a posting of p and the process after it, with their verdicts: a process
+/// of the ring is deadlocked, one of the chain is free.
 fn is_pair(p: u64, first: u64, second: u64) -> bool {
     let free = u64::from(p >= 100);
     p < 200 && p % 2 == 0 && first == 4 * p + free && second == 4 * (p + 1) + 2 + free

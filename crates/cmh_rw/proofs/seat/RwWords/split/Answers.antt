@@ -1,5 +1,5 @@
 use Rattle.std.proofs.Common.{rules, arith, ap, sym, subst}
-use Rattle.cmh_rw.specs.Steps.{Sat}
+use Rattle.cmh_rw.specs.Steps.{TableSeat}
 use Rattle.cmh_rw.proofs.Room.{Fits, fits_newcomer}
 use Rattle.cmh_rw.proofs.Seating.{splits}
 use Rattle.cmh_rw.proofs.seat.RwWords.split.Goals as goal
@@ -10,9 +10,9 @@ split_seat-other-requires c = let s = c.args.seat.now in let share = s.shared in
 
 pub invariant_of-result : goal.invariant_of-result
 invariant_of-result c = let s = c.args.seat.now in let v = s.seat.me.0 in let told = c.split_seat-other.ensures.4 in record {
-  shared = sym (ap (λ (m : Sat). m.0.lock.share) told);
+  shared = sym (ap (λ (m : TableSeat). m.0.lock.share) told);
   some = omega arith;
   few = omega arith;
-  bare = ap (λ (m : Sat). m.1) told;
-  fits = subst (λ (m : Sat). Fits m.0) (sym told) (fits_newcomer v.lock.graph v.seen v.staged s.fits);
+  bare = ap (λ (m : TableSeat). m.1) told;
+  fits = subst (λ (m : TableSeat). Fits m.0) (sym told) (fits_newcomer v.lock.graph v.seen v.staged s.fits);
 }

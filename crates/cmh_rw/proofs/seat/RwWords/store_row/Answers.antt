@@ -2,7 +2,7 @@ use Rattle.std.proofs.Common.{◌≡◌, ◌<◌, rules, arith, ap, sym, ◌∙�
 use Rattle.cmh_graph.specs.declared.TheConstants.{MAX_PROCESSES}
 use Rattle.cmh_rw.specs.History.{row_of}
 use Rattle.cmh_rw.specs.View.{row, with_row}
-use Rattle.cmh_rw.specs.Steps.{Sat}
+use Rattle.cmh_rw.specs.Steps.{TableSeat}
 use Rattle.cmh_rw.proofs.Codes.{row_code_law}
 use Rattle.cmh_rw.proofs.Staging.{stages}
 use Rattle.cmh_rw.proofs.Room.{Fits, row_has_word, fits_with_row}
@@ -20,11 +20,11 @@ store-requires c = let s = c.args.seat.now in let wide = c.args.self.now.wide in
 pub invariant_of-seat : goal.invariant_of-seat
 invariant_of-seat c = let s = c.args.seat.now in let v = s.seat.me.0 in let r = row c.args.p c.args.verdict c.args.last in
     let told : c.store.new.seat.me ≡ (with_row v r, s.seat.me.1) = c.store.ensures.2 ∙ ap (λ q. (with_row v q, s.seat.me.1)) (ap row_of c.code.ensures ∙ row_code_law r) in record {
-      shared = s.shared ∙ sym (ap (λ (m : Sat). m.0.lock.share) told);
+      shared = s.shared ∙ sym (ap (λ (m : TableSeat). m.0.lock.share) told);
       some = s.some;
       few = s.few;
-      bare = ap (λ (m : Sat). m.1) told ∙ s.bare;
-      fits = subst (λ (m : Sat). Fits m.0) (sym told) (fits_with_row v r c.requires.can s.fits);
+      bare = ap (λ (m : TableSeat). m.1) told ∙ s.bare;
+      fits = subst (λ (m : TableSeat). Fits m.0) (sym told) (fits_with_row v r c.requires.can s.fits);
     }
 
 pub returns-clause-room : goal.returns-clause-room
