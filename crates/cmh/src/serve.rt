@@ -8,11 +8,11 @@ ghost use Rattle.cmh_report.specs.Ends.{IsAnswer, IsRefused};
 ghost use Rattle.cmh_report.specs.Report.{IsCountedReport};
 ghost use Rattle.cmh_report.specs.Trace.{IsEndedTrace};
 ghost use Rattle.cmh.specs.List.{IsListOf};
-ghost use Rattle.cmh.specs.Status.{status_of as status_of_lem};
+ghost use Rattle.cmh.specs.Status.{status_of as status_of_lem, status_of_list as status_of_list_lem};
 ghost use Rattle.cmh.specs.declared.status.TheConstants.{FREE, REFUSED, MISUSED, DEADLOCKED, FAILED};
 
 use crate::command::{Request, read_words};
-use crate::list::read_list;
+use crate::list::{ListFault, read_list};
 use crate::status::{DEADLOCKED, FAILED, FREE, MISUSED, status_of, status_of_list};
 use cmh_report::{AppFault, analyse_bytes, trace_bytes};
 use cmh_stream::{Sink, Source, put_all};
@@ -38,7 +38,7 @@ fn tell_line<E: Sink>(line: Result<String, AllocError>, err: &mut E) {
 }
 
 /// Tells a fault, and answers the status.
-fn fail<E: Sink>(alloc: Global, fault: &AppFault, err: &mut E) -> u8
+pub(crate) fn fail<E: Sink>(alloc: Global, fault: &AppFault, err: &mut E) -> u8
     ensures { result ≡ status_of_lem fault.now }
 {
     tell_line(format!(in alloc; "cmh: {fault}\n"), err);
@@ -55,6 +55,14 @@ pub(crate) fn refuse_words<E: Sink>(error: &io::Error, err: &mut E) -> u8 {
     MISUSED
 }
 
+/// Tells a fault of the list of choices, and answers the status.
+pub(crate) fn refuse_choices<E: Sink>(alloc: Global, fault: &ListFault, err: &mut E) -> u8
+    ensures { result ≡ status_of_list_lem fault.now }
+{
+    tell_line(format!(in alloc; "cmh: choices: {fault}\n"), err);
+    status_of_list(fault)
+}
+
 /// The choices that a list writes, or the status after its fault, which is told.
 fn read_choices<E: Sink>(alloc: Global, list: &str, err: &mut E) -> Result<Vec<u64>, u8>
     ensures listed { IfOk result (λ choices. IsListOf list.now choices.items) }
@@ -64,10 +72,7 @@ fn read_choices<E: Sink>(alloc: Global, list: &str, err: &mut E) -> Result<Vec<u
 {
     match read_list(alloc, list) {
         Ok(choices) => Ok(choices),
-        Err(fault) => {
-            tell_line(format!(in alloc; "cmh: choices: {fault}\n"), err);
-            Err(status_of_list(&fault))
-        }
+        Err(fault) => Err(refuse_choices(alloc, &fault, err)),
     }
 }
 

@@ -2,6 +2,9 @@
 
 mod cases;
 mod devices;
+mod lists;
+mod texts;
+mod tracing;
 
 use crate::serve::serve;
 use cases::CASES;
@@ -29,6 +32,19 @@ const TWO_SHORTEST_PATHS: &str = r#"{"version":1,"sites":["a"],"processes":[
     {"name":"a","site":"a","state":"idle","dependents":["z"]},
     {"name":"b","site":"a","state":"idle","dependents":["z"]},
     {"name":"z","site":"a","state":"active"}]}"#;
+
+const KNOT_OF_THREE: &str = r#"{"version":1,"sites":["a"],"processes":[
+    {"name":"p","site":"a","state":"idle","dependents":["q","r"]},
+    {"name":"q","site":"a","state":"idle","dependents":["r"]},
+    {"name":"r","site":"a","state":"idle","dependents":["q"]}]}"#;
+
+const KNOT_OF_THREE_REPORT: &str = "processes 3 active 0 idle 3 deadlocked 3
+deadlocked p group 1
+deadlocked q group 2
+deadlocked r group 2
+group 1 | p | q r | sites 1
+group 2 | q r | - | sites 1
+";
 
 const EMPTY: &str = r#"{"version":1,"sites":[],"processes":[]}"#;
 
@@ -115,6 +131,16 @@ free b path b z
 }
 
 #[test]
+fn choices_change_nothing(rt: HostRuntime) {
+    for list in ["", "1,1,1", "18446744073709551615"] {
+        let ran = run(rt, &["cmh", "analyse", "--choices", list], KNOT_OF_THREE);
+        assert!(rt; is(&ran.out, KNOT_OF_THREE_REPORT), "{list}");
+        assert!(rt; is(&ran.err, ""), "{list}");
+        assert_eq!(rt; ran.status, 3, "{list}");
+    }
+}
+
+#[test]
 fn reports_of_another_program(rt: HostRuntime) {
     for (dump, text, status) in CASES {
         let ran = run(rt, &ANALYSE, dump);
@@ -145,11 +171,13 @@ fn refused_dumps(rt: HostRuntime) {
 
 #[test]
 fn refused_words(rt: HostRuntime) {
-    let rows: [&[&str]; 4] = [
+    let rows: [&[&str]; 6] = [
         &["cmh"],
         &["cmh", "analyze"],
         &["cmh", "analyse", "--nope"],
         &["cmh", "analyse", "dump.json"],
+        &["cmh", "trace"],
+        &["cmh", "trace", "p", "q"],
     ];
     for words in rows {
         let ran = run(rt, words, TWO_IN_A_CYCLE);
@@ -161,8 +189,10 @@ fn refused_words(rt: HostRuntime) {
 
 #[test]
 fn help_and_version(rt: HostRuntime) {
-    let rows: [(&[&str], &str); 3] = [
+    let rows: [(&[&str], &str); 5] = [
         (&["cmh", "--help"], "analyse"),
+        (&["cmh", "--help"], "trace"),
+        (&["cmh", "trace", "--help"], "Usage: cmh trace"),
         (&["cmh", "analyse", "--help"], "Usage: cmh analyse"),
         (&["cmh", "--version"], "cmh "),
     ];

@@ -1,0 +1,96 @@
+//! The line of each fault, and its status. Want of memory is told by hand here.
+
+use super::devices::Page;
+use super::{is, page};
+use crate::list::ListFault;
+use crate::serve::{fail, refuse_choices};
+use cmh_dump::DumpFault;
+use cmh_report::{AppFault, ReportFault};
+use cmh_run::RunFault;
+use cmh_stream::WriteOf;
+
+/// Whether the fault is told by this line, with this status.
+fn tells(rt: HostRuntime, fault: &AppFault, line: &str, status: u8) -> bool {
+    let mut err: Page = page(rt, 100);
+    let answer = fail(rt.alloc(), fault, &mut WriteOf::new(&mut err));
+    answer == status && is(&err, line)
+}
+
+#[test]
+fn faults(rt: HostRuntime) {
+    let rows = [
+        (
+            AppFault::Dump(DumpFault::Memory),
+            "cmh: dump: out of memory\n",
+            4,
+        ),
+        (
+            AppFault::Dump(DumpFault::ReadFault),
+            "cmh: dump: read fault\n",
+            4,
+        ),
+        (
+            AppFault::Dump(DumpFault::TooLong),
+            "cmh: dump: too long\n",
+            1,
+        ),
+        (
+            AppFault::Dump(DumpFault::BadProcess(3)),
+            "cmh: dump: bad process 3\n",
+            1,
+        ),
+        (AppFault::NoSuchProcess, "cmh: no such process\n", 2),
+        (
+            AppFault::Run(RunFault::NotIdle),
+            "cmh: trace: not idle\n",
+            2,
+        ),
+        (
+            AppFault::Run(RunFault::TooManyChoices),
+            "cmh: trace: too many choices\n",
+            2,
+        ),
+        (
+            AppFault::Run(RunFault::BadRestarts),
+            "cmh: trace: bad restarts\n",
+            2,
+        ),
+        (
+            AppFault::Run(RunFault::Memory),
+            "cmh: trace: out of memory\n",
+            4,
+        ),
+        (
+            AppFault::Report(ReportFault::Memory),
+            "cmh: report: out of memory\n",
+            4,
+        ),
+        (
+            AppFault::WriteFault(7),
+            "cmh: write fault after 7 bytes\n",
+            4,
+        ),
+    ];
+    for (fault, line, status) in rows {
+        assert!(rt; tells(rt, &fault, line, status), "{line}");
+    }
+}
+
+#[test]
+fn faults_of_lists(rt: HostRuntime) {
+    let rows = [
+        (ListFault::BadNumber(3), "cmh: choices: bad number 3\n", 2),
+        (
+            ListFault::TooManyNumbers,
+            "cmh: choices: too many numbers\n",
+            2,
+        ),
+        (ListFault::Memory, "cmh: choices: out of memory\n", 4),
+    ];
+    for (fault, line, status) in rows {
+        let mut err = page(rt, 100);
+        let answer = refuse_choices(rt.alloc(), &fault, &mut WriteOf::new(&mut err));
+        assert!(rt; is(&err, line), "{line}");
+        assert_eq!(rt; answer, status, "{line}");
+    }
+}
