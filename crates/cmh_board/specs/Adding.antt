@@ -1,0 +1,65 @@
+-- What a writer does to add a posting.
+use Rattle.std.specs.Prelude.{◌≡◌, ℕ, ◌<◌, ◌≤◌, IsTrue, Bool, true, List, [], ◌∷◌, ◌++◌, map, Contains}
+use Rattle.cmh_graph.specs.declared.verdict.Verdict.{Verdict}
+use Rattle.cmh_graph.specs.Graph.{Graph, is_idle}
+use Rattle.cmh_graph.specs.Verdict.{verdict}
+use Rattle.cmh_run.specs.Legal.{HasNoRepeat}
+use Rattle.cmh_rw.specs.declared.machine.SeatState.TheVariants.{Writing}
+use Rattle.cmh_rw.specs.declared.view.Row.{Row}
+use Rattle.cmh_rw.specs.declared.view.View.{View}
+use Rattle.cmh_rw.specs.History.{IsHistory, IsTrueOf}
+use Rattle.cmh_rw.specs.View.{mark}
+use Rattle.cmh_board.specs.Board.{unposted, rows_of, with_posting}
+use Rattle.cmh_board.specs.Posting.{Told}
+
+-- each of the processes is idle
+abbrev pub AreIdle : Graph → List ℕ → Type 0
+AreIdle g processes = (p : ℕ) → Contains processes p → IsTrue (is_idle g p)
+
+-- rows of these processes may come, with this verdict
+pub record CanPost (g : Graph) (v : Verdict) (processes : List ℕ) : Type 0 where
+  pub idle : AreIdle g processes
+  pub truth : (p : ℕ) → Contains processes p → v ≡ verdict g p
+  pub once : HasNoRepeat processes
+
+-- the seat writes, and has staged nothing yet
+pub record IsWriter (v : View) : Type 0 where
+  pub writing : v.lock.state ≡ Writing
+  pub unstaged : v.staged ≡ []
+  pub untold : v.told ≡ []
+
+-- words were loaded, and nothing else has changed
+pub record Counts (v w : View) : Type 0 where
+  pub view : w ≡ record v { loads = w.loads }
+  pub loads : v.loads ≤ w.loads
+
+-- a row that isn't a last one for each of the processes
+abbrev pub marks : Verdict → List ℕ → List Row
+marks v processes = map (λ p. mark p v) processes
+
+-- the rows of these processes and of those that are still to come
+abbrev pub rows_so_far : Verdict → List ℕ → List ℕ → List Row
+rows_so_far v processes [] = rows_of v processes
+rows_so_far v processes (p ∷ ps) = marks v processes
+
+-- all rows are staged, and their verdicts are told
+pub record Stages (v : Verdict) (processes : List ℕ) (old new : View) : Type 0 where
+  pub lock : new.lock ≡ old.lock
+  pub seen : new.seen ≡ old.seen
+  pub staged : new.staged ≡ rows_of v (unposted old.seen processes)
+  pub told : new.told ≡ marks v (unposted old.seen processes)
+  pub mine : new.mine ≡ old.mine
+  pub loads : old.loads ≤ new.loads
+
+-- the rows came behind those that others had added
+pub record Adds (t : Told) (v w : View) : Type 0 where
+  pub between : List Row
+  pub rows : List Row
+  pub new : rows ≡ rows_of t.verdict (unposted (v.seen ++ between) t.processes)
+  pub seen : w.seen ≡ (v.seen ++ between) ++ rows
+  pub mine : w.mine ≡ with_posting v.mine rows
+  pub lock : w.lock ≡ v.lock
+  pub staged : w.staged ≡ []
+  pub loads : v.loads < w.loads
+  pub whole : IsHistory w.seen
+  pub true_of : IsTrueOf v.lock.graph w.seen

@@ -1,0 +1,167 @@
+-- What clauses see of the board and of a seat, and what its calls tell.
+use Rattle.std.specs.Prelude.{◌≡◌, ◌↔◌, ℕ, ◌+◌, ◌<◌, ◌≤◌, ◌==◌, Bool, true, false, is_none, List, [], ◌∷◌, ◌++◌, filter, count_by, Contains, Option, Some, None, ⊤}
+use Rattle.cmh_graph.specs.declared.verdict.Verdict.{Verdict}
+use Rattle.cmh_graph.specs.Graph.{Graph}
+use Rattle.cmh_run.specs.Hints.{IsVerdict}
+use Rattle.cmh_rw.specs.declared.TheConstants.{WRITER}
+use Rattle.cmh_rw.specs.declared.machine.SeatState.TheVariants.{Away, Reading}
+use Rattle.cmh_rw.specs.declared.view.Row.{Row}
+use Rattle.cmh_rw.specs.declared.view.View.{View}
+use Rattle.cmh_rw.specs.declared.view.Entry.{Entry}
+use Rattle.cmh_rw.specs.declared.view.Entry.TheVariants as entry
+use Rattle.cmh_rw.specs.History.{fold_at, laid, weigh, IsHistory, ArePostings, IsTrueOf, StartsWith}
+use Rattle.cmh_rw.specs.View.{row}
+use Rattle.cmh_rw.specs.Seats as words
+use Rattle.cmh_board.specs.declared.board.Board.{Board}
+use Rattle.cmh_board.specs.declared.board.BoardSeat.{BoardSeat}
+use Rattle.cmh_board.specs.declared.answer.Look.{Look}
+use Rattle.cmh_board.specs.declared.answer.Look.TheVariants.{Known, Unknown, Busy}
+use Rattle.cmh_board.specs.declared.answer.Post.{Post}
+use Rattle.cmh_board.specs.declared.answer.Post.TheVariants as post
+use Rattle.cmh_board.specs.declared.fault.BoardFault.{BoardFault}
+use Rattle.cmh_board.specs.declared.fault.BoardFault.TheVariants as fault
+use Rattle.cmh_board.specs.Posting.{Told}
+
+-- what the seat knows
+abbrev pub known : BoardSeat → View
+known s = words.view s.seat
+
+-- the graph whose verdicts the board holds
+abbrev pub graph_of : Board → Graph
+graph_of b = words.graph_of b.words
+
+-- The seat is one of this board: it names the board's graph, and what it has seen is a history that
+-- is true for the graph.
+pub record SitsAt (b : Board) (s : BoardSeat) : Type 0 where
+  pub own : words.IsSeatOf b.words s.seat
+  pub graph : (known s).lock.graph ≡ graph_of b
+  pub whole : IsHistory (known s).seen
+  pub true_of : IsTrueOf (graph_of b) (known s).seen
+
+-- the seat holds nothing
+abbrev pub IsAway : BoardSeat → Type 0
+IsAway s = (known s).lock.state ≡ Away
+
+-- the seat holds the board for reading
+abbrev pub IsHolding : BoardSeat → Type 0
+IsHolding s = (known s).lock.state ≡ Reading
+
+-- The seat may have seen more. Its graph, its share and the postings that it added are the same.
+pub record Sees (v w : View) : Type 0 where
+  pub seen : StartsWith w.seen v.seen
+  pub mine : w.mine ≡ v.mine
+  pub share : w.lock.share ≡ v.lock.share
+  pub graph : w.lock.graph ≡ v.lock.graph
+
+-- the seat has tried the lock once
+abbrev pub TriesOnce : View → View → Type 0
+TriesOnce v w = w.lock.tries ≡ v.lock.tries + 1
+
+-- no writer was found, and words were loaded
+pub record IsRead (v w : View) : Type 0 where
+  pub found : w.lock.found < WRITER
+  pub loads : v.loads < w.loads
+
+-- a writer was found, by this lock word, and nothing was seen
+pub record IsRefused (n : ℕ) (v w : View) : Type 0 where
+  pub found : n ≡ w.lock.found
+  pub cause : WRITER ≤ n
+  pub seen : w.seen ≡ v.seen
+  pub staged : w.staged ≡ v.staged
+  pub loads : w.loads ≡ v.loads
+
+-- what a look at process p answers
+abbrev pub LookIs : ℕ → View → View → Look → Type 0
+LookIs p v w (Known verdict) = IsRead v w × (fold_at w.seen p ≡ Some verdict)
+LookIs p v w Unknown = IsRead v w × (fold_at w.seen p ≡ None)
+LookIs p v w (Busy n) = IsRefused n v w
+
+-- what a look answers of p is the truth
+abbrev pub IsTrueLook : Graph → ℕ → Look → Type 0
+IsTrueLook g p (Known verdict) = IsVerdict g p verdict
+IsTrueLook g p Unknown = ⊤
+IsTrueLook g p (Busy n) = ⊤
+
+-- what a try to hold the board answers
+abbrev pub HoldIs : View → View → Entry → Type 0
+HoldIs v w entry.Held = (w.lock.state ≡ Reading) × (w.lock.found < WRITER)
+HoldIs v w (entry.Busy n) = (w.lock.state ≡ Away) × IsRefused n v w
+
+-- in one hold the history is read, and it is the same at each later reading
+pub record Reads (v w : View) : Type 0 where
+  pub lock : w.lock ≡ v.lock
+  pub loaded : w.loaded ≡ true
+  pub same : v.loaded ≡ true → w.seen ≡ v.seen
+  pub loads : v.loads < w.loads
+
+-- why the whole board wasn't read: a writer was found, or memory was refused before any try
+abbrev pub Fails : View → View → BoardFault → Type 0
+Fails v w (fault.Busy n) = TriesOnce v w × IsRefused n v w
+Fails v w fault.Memory = w ≡ v
+
+-- the board was read whole, by one try
+pub record IsReadOnce (v w : View) : Type 0 where
+  pub tried : TriesOnce v w
+  pub read : IsRead v w
+
+-- those of the processes that stand in no row, in order
+abbrev pub unposted : List Row → List ℕ → List ℕ
+unposted rows processes = filter (λ p. is_none (fold_at rows p)) processes
+
+abbrev pub is_empty : List ℕ → Bool
+is_empty [] = true
+is_empty (p ∷ ps) = false
+
+-- a row for each of the processes, all with one verdict; the final row alone is a last one
+abbrev pub rows_of : Verdict → List ℕ → List Row
+rows_of verdict [] = []
+rows_of verdict (p ∷ ps) = row p verdict (is_empty ps) ∷ rows_of verdict ps
+
+-- the postings and this one, if it has rows
+abbrev pub with_posting : List (List Row) → List Row → List (List Row)
+with_posting postings [] = postings
+with_posting postings (r ∷ rs) = postings ++ (r ∷ rs) ∷ []
+
+-- how often p stands in the rows
+abbrev pub times : ℕ → List Row → ℕ
+times p rows = count_by (λ r. r.process == p) rows
+
+-- What is told is on the board. Beside what others had added, the rows that came are those of the
+-- processes that stood in no row, and they are the seat's next posting, if there are any.
+pub record Posts (t : Told) (v w : View) : Type 0 where
+  pub between : List Row
+  pub rows : List Row
+  pub new : rows ≡ rows_of t.verdict (unposted (v.seen ++ between) t.processes)
+  pub seen : w.seen ≡ (v.seen ++ between) ++ rows
+  pub mine : w.mine ≡ with_posting v.mine rows
+  pub once : (p : ℕ) → Contains t.processes p → times p w.seen ≡ 1
+  pub says : (p : ℕ) → Contains t.processes p → fold_at w.seen p ≡ Some t.verdict
+  pub share : w.lock.share ≡ v.lock.share
+  pub graph : w.lock.graph ≡ v.lock.graph
+
+-- somebody held the board, by this lock word, and nothing was posted
+pub record IsBlocked (n : ℕ) (v w : View) : Type 0 where
+  pub found : n ≡ w.lock.found
+  pub cause : 0 < n
+  pub sees : Sees v w
+  pub seen : w.seen ≡ v.seen
+  pub staged : w.staged ≡ v.staged
+  pub loads : w.loads ≡ v.loads
+
+-- nobody held the board, and words were loaded
+pub record IsWritten (v w : View) : Type 0 where
+  pub found : w.lock.found ≡ 0
+  pub loads : v.loads < w.loads
+
+-- what became of a try to post
+abbrev pub PostIs : Told → View → View → Post → Type 0
+PostIs t v w post.Done = IsWritten v w × Posts t v w
+PostIs t v w (post.Busy n) = IsBlocked n v w
+
+-- the rows are whole postings, which are just these, however they weigh
+pub record IsMadeOf (mine : List (List Row)) (rows : List Row) : Type 0 where
+  pub postings : List (List Row)
+  pub is_laid : rows ≡ laid postings
+  pub whole : ArePostings postings
+  pub weights : (h : List Row → ℕ) → weigh h mine ≡ weigh h postings
+  pub same : (posting : List Row) → Contains postings posting ↔ Contains mine posting

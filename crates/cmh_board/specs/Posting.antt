@@ -1,0 +1,34 @@
+-- What one run tells the board.
+use Rattle.std.specs.Prelude.{◌≡◌, ℕ, IsTrue, List, [], ◌∷◌, Contains}
+use Rattle.cmh_graph.specs.declared.verdict.Verdict.{Verdict}
+use Rattle.cmh_graph.specs.declared.verdict.Verdict.TheVariants.{Deadlocked, Free}
+use Rattle.cmh_graph.specs.Graph.{Graph, is_idle}
+use Rattle.cmh_run.specs.Hints.{IsVerdict}
+use Rattle.cmh_run.specs.Legal.{HasNoRepeat}
+use Rattle.cmh_run.specs.Run.{Run, verdict_of}
+
+-- one verdict, and the processes that have it
+pub record Told : Type 0 where
+  pub processes : List ℕ
+  pub verdict : Verdict
+
+-- of the deadlocked all who are engaged, of the free the initiator alone
+abbrev pub spoken_of : Verdict → List ℕ → List ℕ → List ℕ
+spoken_of Deadlocked initiator engaged = engaged
+spoken_of Free initiator engaged = initiator
+
+abbrev pub told_of : Verdict → List ℕ → List ℕ → Told
+told_of verdict initiator engaged = record {
+  processes = spoken_of verdict initiator engaged;
+  verdict = verdict;
+}
+
+-- what a run tells: who is engaged is deadlocked where it is declared, else the initiator is free
+abbrev pub posting_of : Run → Told
+posting_of r = told_of (verdict_of r.ending) (r.initiator ∷ []) r.engaged
+
+-- it tells the truth about idle processes of the graph, and names none twice
+pub record IsTruth (g : Graph) (t : Told) : Type 0 where
+  pub idle : (p : ℕ) → Contains t.processes p → IsTrue (is_idle g p)
+  pub verdict : (p : ℕ) → Contains t.processes p → IsVerdict g p t.verdict
+  pub once : HasNoRepeat t.processes

@@ -1,0 +1,122 @@
+//! Posting: one try, and as many as it takes.
+
+ghost use Rattle.std.specs.Prelude.{◌≡◌, ◌+◌, ◌<◌, [], length, true};
+ghost use Rattle.cmh_graph.specs.Graph.{IsWithinGraph};
+ghost use Rattle.cmh_rw.specs.declared.machine.SeatState.TheVariants.{Writing};
+ghost use Rattle.cmh_rw.specs.Seats.{view, IsSeatOf};
+ghost use Rattle.cmh_board.specs.Board.{known, graph_of, SitsAt, IsAway, TriesOnce, PostIs, Posts, unposted};
+ghost use Rattle.cmh_board.specs.Adding.{AreIdle, CanPost, IsWriter, Adds, Counts, Stages};
+ghost use Rattle.cmh_board.specs.Posting.{IsTruth};
+
+use crate::reading::ROW_COUNT;
+use crate::{Board, BoardSeat, Post, Posting};
+use cmh_graph::Verdict;
+use cmh_rw::{Entry, FIRST_VERDICT, RwSeat, RwWords};
+use std::sync::Wait;
+
+impl Board {
+    /// Adds a row for each process of the posting that stands in none yet: one posting, or none
+    /// where nothing is new. One try; where it finds the board held, nothing changes.
+    pub fn try_post(&self, seat: &mut BoardSeat, posting: &Posting) -> Post
+        requires sits { SitsAt self.now seat.old }
+        requires away { IsAway seat.old }
+        requires truth { IsTruth (graph_of self.now) posting.now }
+        ensures sits { SitsAt self.now seat.new × IsAway seat.new }
+        ensures tried { TriesOnce (known seat.old) (known seat.new) }
+        ensures answer { PostIs posting.now (known seat.old) (known seat.new) result }
+    {
+        match self.words.try_write(&mut seat.seat) {
+            Entry::Busy(found) => Post::Busy(found),
+            Entry::Held => {
+                add(&self.words, &mut seat.seat, posting);
+                self.words.end_write(&mut seat.seat);
+                Post::Done
+            }
+        }
+    }
+
+    /// Tries to post until it is done. It may wait for ever, since nothing makes others let go.
+    pub fn post<R: Wait>(&self, rt: &R, seat: &mut BoardSeat, posting: &Posting)
+        requires sits { SitsAt self.now seat.old }
+        requires away { IsAway seat.old }
+        requires truth { IsTruth (graph_of self.now) posting.now }
+        ensures sits { SitsAt self.now seat.new × IsAway seat.new }
+        ensures tried { (known seat.old).lock.tries < (known seat.new).lock.tries }
+        ensures found { (known seat.new).lock.found ≡ 0 }
+        ensures posts { Posts posting.now (known seat.old) (known seat.new) }
+    {
+        for _ in rt.forever() {
+            if self.try_post(seat, posting) == Post::Done {
+                return;
+            }
+        }
+        unreachable!()
+    }
+}
+
+/// Adds the posting's new rows to the history, if there are any.
+fn add(words: &RwWords, seat: &mut RwSeat, posting: &Posting)
+    requires own { IsSeatOf words.now seat.old }
+    requires writer { IsWriter (view seat.old) }
+    requires within { IsWithinGraph (view seat.old).lock.graph }
+    requires truth { IsTruth (view seat.old).lock.graph posting.now }
+    ensures own { IsSeatOf words.now seat.new }
+    ensures adds { Adds posting.now (view seat.old) (view seat.new) }
+{
+    let processes = posting.processes();
+    let count = words.load(seat, ROW_COUNT) as usize;
+    let new = count_unposted(words, seat, processes);
+    if new > 0 {
+        let end = count + new;
+        stage(words, seat, processes, posting.verdict(), count, end);
+        words.store_count(seat, end);
+    }
+}
+
+/// How many of the processes stand in no row.
+fn count_unposted(words: &RwWords, seat: &mut RwSeat, processes: &[u32]) -> usize
+    requires own { IsSeatOf words.now seat.old }
+    requires writer { IsWriter (view seat.old) }
+    requires loaded { (view seat.old).loaded ≡ true }
+    requires idle { AreIdle (view seat.old).lock.graph processes.now }
+    ensures own { IsSeatOf words.now seat.new }
+    ensures counts { Counts (view seat.old) (view seat.new) }
+    ensures count { result ≡ length (unposted (view seat.old).seen processes.now) }
+{
+    let mut count = 0;
+    for p in processes {
+        if words.load(seat, FIRST_VERDICT + *p as usize) == 0 {
+            count += 1;
+        }
+    }
+    count
+}
+
+/// Stages a row for each of the processes that stand in no row, from row `count` on. The row before
+/// row `end` is the final one.
+fn stage(
+    words: &RwWords,
+    seat: &mut RwSeat,
+    processes: &[u32],
+    verdict: Verdict,
+    count: usize,
+    end: usize,
+)
+    requires own { IsSeatOf words.now seat.old }
+    requires writer { IsWriter (view seat.old) }
+    requires loaded { (view seat.old).loaded ≡ true }
+    requires can { CanPost (view seat.old).lock.graph verdict processes.now }
+    requires count { count ≡ length (view seat.old).seen }
+    requires end { end ≡ count + length (unposted (view seat.old).seen processes.now) }
+    ensures own { IsSeatOf words.now seat.new }
+    ensures stages { Stages verdict processes.now (view seat.old) (view seat.new) }
+{
+    let mut n = count;
+    for p in processes {
+        if words.load(seat, FIRST_VERDICT + *p as usize) == 0 {
+            words.store_row(seat, n, *p, verdict, n + 1 == end);
+            words.store_verdict(seat, *p, verdict);
+            n += 1;
+        }
+    }
+}

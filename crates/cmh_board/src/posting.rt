@@ -1,0 +1,56 @@
+//! What one run tells the board.
+
+ghost use Rattle.std.specs.Prelude.{◌≡◌};
+ghost use Rattle.cmh_graph.specs.Graph.{Graph};
+ghost use Rattle.cmh_run.specs.Run.{TellsTruth};
+ghost use Rattle.cmh_board.specs.Posting.{posting_of, IsTruth};
+
+use cmh_graph::Verdict;
+use cmh_run::{Ending, RunLog};
+use std::marker::Model;
+
+/// What one run tells of processes: one verdict, and whom it is about. It borrows the run.
+#[derive(Drop)]
+pub struct Posting<'a> {
+    engaged: &'a [u32],
+    initiator: [u32; 1],
+    verdict: Verdict,
+}
+
+impl<'a> Model for Posting<'a> {
+    ghost use Rattle.cmh_board.specs.Posting.{Told, told_of};
+
+    ghost Value = { Told };
+
+    ghost view = { λ p. told_of p.verdict p.initiator p.engaged.now };
+}
+
+impl<'a> Posting<'a> {
+    /// All processes that are engaged, as deadlocked, where the run is declared. Else the initiator
+    /// alone, as free.
+    pub fn of_run(run: &'a RunLog) -> Posting<'a>
+        ensures whole { result ≡ posting_of run.now }
+        ensures truth { (g : Graph) → TellsTruth g run.now → IsTruth g result }
+    {
+        Posting {
+            engaged: run.engaged(),
+            initiator: [run.initiator()],
+            verdict: run.verdict(),
+        }
+    }
+
+    pub(crate) fn verdict(&self) -> Verdict
+        ensures { result ≡ self.now.verdict }
+    {
+        self.verdict
+    }
+
+    pub(crate) fn processes(&self) -> &[u32]
+        ensures { result.now ≡ self.now.processes }
+    {
+        match self.verdict {
+            Verdict::Deadlocked => self.engaged,
+            Verdict::Free => &self.initiator,
+        }
+    }
+}
