@@ -1,21 +1,109 @@
 -- What rows that are true for a graph say.
-use Rattle.std.proofs.Common.{◌≡◌, ℕ, ◌+◌, ◌<◌, ◌≤◌, Bool, true, false, cond, eqb, List, [], ◌∷◌, ◌++◌, length, refl, sym, ◌∙◌, ap, subst, arith, IfSome, Some, None, Option}
+use Rattle.std.proofs.Common.{◌≡◌, ◌≢◌, ℕ, ◌+◌, ◌<◌, ◌≤◌, Bool, true, false, cond, eqb, List, [], ◌∷◌, ◌++◌, length, refl, sym, ◌∙◌, ap, subst, arith, zero-add, Some, None, Option, IfSome}
 use Rattle.std.proofs.lemmas.Bool.{eqb-true}
+use Rattle.std.proofs.lemmas.List.Sums.{sum_by-append}
 use Rattle.std.proofs.lemmas.Option.{same_Some}
 use Rattle.cmh_graph.specs.declared.verdict.Verdict.{Verdict}
-use Rattle.cmh_graph.specs.Graph.{Graph, is_idle, process_count, IsWithinGraph}
-use Rattle.cmh_graph.specs.Verdict.{verdict}
+use Rattle.cmh_graph.specs.declared.verdict.Verdict.TheVariants.{Deadlocked, Free}
+use Rattle.cmh_graph.specs.Graph.{Graph, IsWithinGraph}
+use Rattle.cmh_graph.specs.Verdict.{is_deadlocked, verdict}
+use Rattle.cmh_graph.proofs.Verdicts.{test_then, then_test}
 use Rattle.cmh_run.specs.Hints.{IsVerdict}
 use Rattle.cmh_run.proofs.Theorem.{by_test}
 use Rattle.cmh_rw.specs.declared.view.Row.{Row}
 use Rattle.cmh_rw.specs.History.{fold_at, IsTrueOf}
+use Rattle.cmh_board.specs.Board.{times}
+
+-- ---- verdicts
+
+-- the test of deadlock decides the verdict
+verdict_by : (g : Graph) (p : ℕ) (v : Verdict) → IsWithinGraph g → (b : Bool)
+    → is_deadlocked g p ≡ b → cond b Deadlocked Free ≡ v → IsVerdict g p v
+verdict_by g p Deadlocked within true t e = test_then g p within t
+verdict_by g p Free within true t e = absurd (cc)
+verdict_by g p Deadlocked within false t e = absurd (cc)
+verdict_by g p Free within false t e = λ dead. true_false (sym (then_test g p dead) ∙ t)
+  where
+    true_false : true ≢ false
+    true_false e = cc
+
+-- the verdict that is computed is the truth
+pub verdict_then : (g : Graph) (p : ℕ) (v : Verdict) → IsWithinGraph g → verdict g p ≡ v
+    → IsVerdict g p v
+verdict_then g p v within e = verdict_by g p v within (is_deadlocked g p) refl e
+
+-- of two verdicts that are both true each is the other
+one_verdict : (g : Graph) (p : ℕ) (v u : Verdict) → IsVerdict g p v → IsVerdict g p u → v ≡ u
+one_verdict g p Deadlocked Deadlocked a b = refl
+one_verdict g p Deadlocked Free a b = absurd (b a)
+one_verdict g p Free Deadlocked a b = absurd (a b)
+one_verdict g p Free Free a b = refl
+
+-- the truth is the verdict that is computed
+pub then_verdict : (g : Graph) (p : ℕ) (v : Verdict) → IsWithinGraph g → IsVerdict g p v
+    → v ≡ verdict g p
+then_verdict g p v within h =
+    one_verdict g p v (verdict g p) h (verdict_then g p (verdict g p) within refl)
+
+-- ---- what rows say of a process
+
+-- rows behind change nothing of what is said
+pub present-append : (xs ys : List Row) (p : ℕ) (v : Verdict) → fold_at xs p ≡ Some v
+    → fold_at (xs ++ ys) p ≡ Some v
+present-append [] ys p v e = absurd (cc)
+present-append (x ∷ xs) ys p v e =
+    by_test (eqb x.process p)
+    (λ b. cond b (Some x.verdict) (fold_at xs p) ≡ Some v
+    → cond b (Some x.verdict) (fold_at (xs ++ ys) p) ≡ Some v)
+    (λ yes h. h)
+    (λ no h. present-append xs ys p v h)
+    e
 
 -- what true rows say of a process is its verdict
 pub verdict_in : (g : Graph) (rows : List Row) (p : ℕ) (v : Verdict) → IsTrueOf g rows
     → fold_at rows p ≡ Some v → verdict g p ≡ v
 verdict_in g [] p v t e = absurd (cc)
 verdict_in g (r ∷ rs) p v t e =
-    by_test (eqb r.process p) (λ b. cond b (Some r.verdict) (fold_at rs p) ≡ Some v → verdict g p ≡ v)
+    by_test (eqb r.process p)
+    (λ b. cond b (Some r.verdict) (fold_at rs p) ≡ Some v → verdict g p ≡ v)
     (λ yes h. ap (verdict g) (sym (eqb-true r.process p yes)) ∙ sym t.1 ∙ same_Some r.verdict v h)
     (λ no h. verdict_in g rs p v t.3 h)
+    e
+
+-- in a hold whatever the rows say of a process is the truth
+pub truth_in : (g : Graph) (rows : List Row) (p : ℕ) (o : Option Verdict) → IsWithinGraph g
+    → IsTrueOf g rows → o ≡ fold_at rows p → IfSome o (λ v. IsVerdict g p v)
+truth_in g rows p None within t e = tt
+truth_in g rows p (Some v) within t e =
+    verdict_then g p v within (verdict_in g rows p v t (sym e))
+
+-- ---- how often a process stands
+
+-- a row counts where it names the process
+times-cons : (r : Row) (rs : List Row) (p : ℕ)
+    → times p (r ∷ rs) ≡ cond {A = ℕ} (eqb r.process p) 1 0 + times p rs
+times-cons r rs p =
+    sum_by-append (λ (x : Row). cond {A = ℕ} (eqb x.process p) 1 0) (r ∷ []) rs
+    ∙ ap (λ n. n + times p rs) (zero-add (cond {A = ℕ} (eqb r.process p) 1 0))
+
+-- a process of which nothing is said stands nowhere
+pub times-absent : (rows : List Row) (p : ℕ) → fold_at rows p ≡ None → times p rows ≡ 0
+times-absent [] p e = refl
+times-absent (r ∷ rs) p e = times-cons r rs p ∙
+    by_test (eqb r.process p)
+    (λ b. cond b (Some r.verdict) (fold_at rs p) ≡ None → cond {A = ℕ} b 1 0 + times p rs ≡ 0)
+    (λ yes h. absurd (cc))
+    (λ no h. let rest = times-absent rs p h in omega arith)
+    e
+
+-- in true rows a process of which something is said stands once
+pub times-present : (g : Graph) (rows : List Row) (p : ℕ) (v : Verdict) → IsTrueOf g rows
+    → fold_at rows p ≡ Some v → times p rows ≡ 1
+times-present g [] p v t e = absurd (cc)
+times-present g (r ∷ rs) p v t e = times-cons r rs p ∙
+    by_test (eqb r.process p)
+    (λ b. cond b (Some r.verdict) (fold_at rs p) ≡ Some v → cond {A = ℕ} b 1 0 + times p rs ≡ 1)
+    (λ yes h. let none = ap (fold_at rs) (sym (eqb-true r.process p yes)) ∙ t.2 in
+    let rest = times-absent rs p none in omega arith)
+    (λ no h. let rest = times-present g rs p v t.3 h in omega arith)
     e

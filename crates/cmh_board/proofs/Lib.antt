@@ -1,1 +1,9 @@
+pub mod Added
+pub mod Closings
 pub mod Histories
+pub mod Holds
+pub mod Lists
+pub mod PostingRows
+pub mod RowWords
+pub mod Staging
+pub mod Weights

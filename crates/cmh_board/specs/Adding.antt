@@ -1,15 +1,16 @@
 -- What a writer does to add a posting.
-use Rattle.std.specs.Prelude.{◌≡◌, ℕ, ◌<◌, ◌≤◌, IsTrue, Bool, true, List, [], ◌∷◌, ◌++◌, map, Contains}
+use Rattle.std.specs.Prelude.{◌≡◌, ℕ, ◌<◌, ◌≤◌, IsTrue, Bool, true, List, [], ◌∷◌, ◌++◌, map, Contains, Some}
+use Rattle.cmh_graph.specs.declared.TheConstants.{MAX_PROCESSES}
 use Rattle.cmh_graph.specs.declared.verdict.Verdict.{Verdict}
-use Rattle.cmh_graph.specs.Graph.{Graph, is_idle}
+use Rattle.cmh_graph.specs.Graph.{Graph, process_count, is_idle}
 use Rattle.cmh_graph.specs.Verdict.{verdict}
 use Rattle.cmh_run.specs.Legal.{HasNoRepeat}
 use Rattle.cmh_rw.specs.declared.machine.SeatState.TheVariants.{Writing}
 use Rattle.cmh_rw.specs.declared.view.Row.{Row}
 use Rattle.cmh_rw.specs.declared.view.View.{View}
-use Rattle.cmh_rw.specs.History.{IsHistory, IsTrueOf}
+use Rattle.cmh_rw.specs.History.{fold_at, IsHistory, IsTrueOf}
 use Rattle.cmh_rw.specs.View.{mark}
-use Rattle.cmh_board.specs.Board.{unposted, rows_of, with_posting}
+use Rattle.cmh_board.specs.Board.{unposted, rows_of, with_posting, times}
 use Rattle.cmh_board.specs.Posting.{Told}
 
 -- each of the processes is idle
@@ -22,15 +23,21 @@ pub record CanPost (g : Graph) (v : Verdict) (processes : List ℕ) : Type 0 whe
   pub truth : (p : ℕ) → Contains processes p → v ≡ verdict g p
   pub once : HasNoRepeat processes
 
--- the seat writes, and has staged nothing yet
+-- the seat writes and has staged nothing yet, and each process has its words
 pub record IsWriter (v : View) : Type 0 where
   pub writing : v.lock.state ≡ Writing
   pub unstaged : v.staged ≡ []
   pub untold : v.told ≡ []
+  pub small : process_count v.lock.graph ≤ MAX_PROCESSES
 
--- words were loaded, and nothing else has changed
-pub record Counts (v w : View) : Type 0 where
-  pub view : w ≡ record v { loads = w.loads }
+-- in a hold in which words had been loaded others were, and nothing else has changed
+pub record OnlyLoads (v w : View) : Type 0 where
+  pub lock : w.lock ≡ v.lock
+  pub loaded : w.loaded ≡ true
+  pub seen : w.seen ≡ v.seen
+  pub staged : w.staged ≡ v.staged
+  pub told : w.told ≡ v.told
+  pub mine : w.mine ≡ v.mine
   pub loads : v.loads ≤ w.loads
 
 -- a row that isn't a last one for each of the processes
@@ -61,5 +68,7 @@ pub record Adds (t : Told) (v w : View) : Type 0 where
   pub lock : w.lock ≡ v.lock
   pub staged : w.staged ≡ []
   pub loads : v.loads < w.loads
+  pub once : (p : ℕ) → Contains t.processes p → times p w.seen ≡ 1
+  pub says : (p : ℕ) → Contains t.processes p → fold_at w.seen p ≡ Some t.verdict
   pub whole : IsHistory w.seen
   pub true_of : IsTrueOf v.lock.graph w.seen

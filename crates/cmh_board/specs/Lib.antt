@@ -1,5 +1,6 @@
 pub mod Adding
 pub mod Board
+pub mod Closing
 pub mod Hints
 pub mod Posting
 pub mod Snap

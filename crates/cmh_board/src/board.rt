@@ -1,6 +1,7 @@
 //! The board and its seats as types.
 
-ghost use Rattle.std.specs.Prelude.{◌≡◌};
+ghost use Rattle.std.specs.Prelude.{◌≡◌, ◌≤◌};
+ghost use Rattle.cmh_graph.specs.declared.TheConstants.{MAX_PROCESSES};
 ghost use Rattle.cmh_graph.specs.Graph.{process_count, IsWithinGraph};
 ghost use Rattle.cmh_rw.specs.Seats.{graph_of};
 
@@ -13,6 +14,7 @@ pub struct Board {
     /// How many processes the graph has.
     pub(crate) processes: u32,
     pub ghost counted: { processes ≡ process_count (graph_of words) },
+    pub ghost small: { processes ≤ MAX_PROCESSES },
     pub ghost within: { IsWithinGraph (graph_of words) },
 }
 

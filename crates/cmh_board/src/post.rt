@@ -1,11 +1,12 @@
 //! Posting: one try, and as many as it takes.
 
-ghost use Rattle.std.specs.Prelude.{◌≡◌, ◌+◌, ◌<◌, [], length, true};
-ghost use Rattle.cmh_graph.specs.Graph.{IsWithinGraph};
+ghost use Rattle.std.specs.Prelude.{◌≡◌, ◌+◌, ◌<◌, ◌++◌, length, is_none, true};
+ghost use Rattle.cmh_graph.specs.declared.TheConstants.{MAX_PROCESSES};
 ghost use Rattle.cmh_rw.specs.declared.machine.SeatState.TheVariants.{Writing};
+ghost use Rattle.cmh_rw.specs.History.{fold_at};
 ghost use Rattle.cmh_rw.specs.Seats.{view, IsSeatOf};
 ghost use Rattle.cmh_board.specs.Board.{known, graph_of, SitsAt, IsAway, TriesOnce, PostIs, Posts, unposted};
-ghost use Rattle.cmh_board.specs.Adding.{AreIdle, CanPost, IsWriter, Adds, Counts, Stages};
+ghost use Rattle.cmh_board.specs.Adding.{AreIdle, CanPost, IsWriter, OnlyLoads, Stages, Adds};
 ghost use Rattle.cmh_board.specs.Posting.{IsTruth};
 
 use crate::reading::ROW_COUNT;
@@ -46,7 +47,7 @@ impl Board {
         ensures posts { Posts posting.now (known seat.old) (known seat.new) }
     {
         for _ in rt.forever() {
-            if self.try_post(seat, posting) == Post::Done {
+            if let Post::Done = self.try_post(seat, posting) {
                 return;
             }
         }
@@ -58,8 +59,7 @@ impl Board {
 fn add(words: &RwWords, seat: &mut RwSeat, posting: &Posting)
     requires own { IsSeatOf words.now seat.old }
     requires writer { IsWriter (view seat.old) }
-    requires within { IsWithinGraph (view seat.old).lock.graph }
-    requires truth { IsTruth (view seat.old).lock.graph posting.now }
+    requires can { CanPost (view seat.old).lock.graph posting.now.verdict posting.now.processes }
     ensures own { IsSeatOf words.now seat.new }
     ensures adds { Adds posting.now (view seat.old) (view seat.new) }
 {
@@ -80,19 +80,19 @@ fn count_unposted(words: &RwWords, seat: &mut RwSeat, processes: &[u32]) -> usiz
     requires loaded { (view seat.old).loaded ≡ true }
     requires idle { AreIdle (view seat.old).lock.graph processes.now }
     ensures own { IsSeatOf words.now seat.new }
-    ensures counts { Counts (view seat.old) (view seat.new) }
+    ensures loads { OnlyLoads (view seat.old) (view seat.new) }
     ensures count { result ≡ length (unposted (view seat.old).seen processes.now) }
 {
     let mut count = 0;
     for p in processes {
-        if words.load(seat, FIRST_VERDICT + *p as usize) == 0 {
+        if is_unposted(words, seat, *p) {
             count += 1;
         }
     }
     count
 }
 
-/// Stages a row for each of the processes that stand in no row, from row `count` on. The row before
+/// Stages a row for each of the processes that stand in none, from row `count` on. The row before
 /// row `end` is the final one.
 fn stage(
     words: &RwWords,
@@ -113,10 +113,23 @@ fn stage(
 {
     let mut n = count;
     for p in processes {
-        if words.load(seat, FIRST_VERDICT + *p as usize) == 0 {
+        if is_unposted(words, seat, *p) {
             words.store_row(seat, n, *p, verdict, n + 1 == end);
             words.store_verdict(seat, *p, verdict);
             n += 1;
         }
     }
+}
+
+/// Whether a process stands in no row, nor has had its verdict stored.
+fn is_unposted(words: &RwWords, seat: &mut RwSeat, p: u32) -> bool
+    requires own { IsSeatOf words.now seat.old }
+    requires writing { (view seat.old).lock.state ≡ Writing }
+    requires loaded { (view seat.old).loaded ≡ true }
+    requires process { p < MAX_PROCESSES }
+    ensures own { IsSeatOf words.now seat.new }
+    ensures loads { OnlyLoads (view seat.old) (view seat.new) }
+    ensures answer { result ≡ is_none (fold_at ((view seat.old).seen ++ (view seat.old).told) p) }
+{
+    words.load(seat, FIRST_VERDICT + p as usize) == 0
 }

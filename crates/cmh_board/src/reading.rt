@@ -1,12 +1,13 @@
 //! The whole board: what it says at one moment, its history, and its close.
 
-ghost use Rattle.std.specs.Prelude.{◌≡◌, ◌+◌, ◌<◌, ◌≤◌, ◌^◌, ◌++◌, [], map, length, slice_index, ℕ, vec_capacity, slice_get, Some, true, IfOk, IfErr};
+ghost use Rattle.std.specs.Prelude.{◌≡◌, ◌<◌, ◌≤◌, ◌^◌, List, [], length, slice_index, vec_capacity, slice_get, Some, true, IfOk, IfErr};
 ghost use Rattle.cmh_graph.specs.Graph.{process_count};
 ghost use Rattle.cmh_rw.specs.declared.TheConstants.{MAX_SEATS};
 ghost use Rattle.cmh_rw.specs.History.{row_of, StartsWith, IsHistory, IsTrueOf};
-ghost use Rattle.cmh_rw.specs.History.{row_code, laid};
+ghost use Rattle.cmh_rw.specs.declared.view.Row.{Row};
 ghost use Rattle.cmh_rw.specs.Seats.{words_of};
 ghost use Rattle.cmh_board.specs.Board.{known, graph_of, SitsAt, IsAway, IsHolding, Sees, Reads, IsReadOnce, Fails, IsMadeOf};
+ghost use Rattle.cmh_board.specs.Closing.{Show};
 ghost use Rattle.cmh_board.specs.Snap.{Shows, IsTrueSnap};
 
 use crate::{Board, BoardFault, BoardSeat, Snap};
@@ -162,12 +163,9 @@ fn row_from(code: u64) -> Row
 /// Adds the rows that closed words show.
 fn read_closed(closed: &Closed, rows: &mut Vec<Row>)
     requires empty { rows.old.items ≡ [] }
-    requires room { slice_index (words_of closed.now) ROW_COUNT ≤ vec_capacity rows.old }
-    requires small { (n : ℕ) → n < slice_index (words_of closed.now) ROW_COUNT
-        → slice_index (words_of closed.now) (FIRST_ROW + n) < 2 ^ 34 }
-    ensures count { length rows.new.items ≡ slice_index (words_of closed.now) ROW_COUNT }
-    ensures rows { (n : ℕ) → n < length rows.new.items → slice_get rows.new.items n
-        ≡ Some (row_of (slice_index (words_of closed.now) (FIRST_ROW + n))) }
+    requires room { (list : List Row) × Show (words_of closed.now) list
+        × (length list ≤ vec_capacity rows.old) }
+    ensures { (list : List Row) → Show (words_of closed.now) list → rows.new.items ≡ list }
 {
     let count = word_of(closed, ROW_COUNT) as usize;
     for n in 0..count {

@@ -1,0 +1,38 @@
+-- What closed words show, and whose postings they are.
+use Rattle.std.proofs.Common.{◌≡◌, ℕ, ◌<◌, ◌≤◌, List, length, map, sym, refl, subst, arith}
+use Rattle.cmh_graph.specs.declared.TheConstants.{MAX_PROCESSES}
+use Rattle.cmh_graph.specs.Graph.{Graph, process_count}
+use Rattle.cmh_rw.specs.declared.TheConstants.{MAX_SEATS}
+use Rattle.cmh_rw.specs.declared.view.Row.{Row}
+use Rattle.cmh_rw.specs.declared.view.View.{View}
+use Rattle.cmh_rw.specs.History.{laid, weigh}
+use Rattle.cmh_rw.specs.Seats.{ClosedHistory}
+use Rattle.cmh_board.specs.Board.{IsMadeOf}
+use Rattle.cmh_board.specs.Closing.{Show}
+use Rattle.cmh_board.proofs.RowWords.{codes_small}
+use Rattle.cmh_board.proofs.Weights.{same_members}
+
+-- the words show the history
+pub shows_history : (key : Graph) (v : View) (words : List ℕ) (h : ClosedHistory key v words)
+    → process_count key ≤ MAX_PROCESSES → Show words (laid h.postings)
+shows_history key v words h few = record {
+  count = h.count;
+  few = (let l = h.few in omega arith);
+  row = h.row;
+  small = λ n l. codes_small key (laid h.postings) n few h.true_of l;
+}
+
+-- with the whole share its postings are the seat's own
+pub made_of : (key : Graph) (v : View) (words : List ℕ) (h : ClosedHistory key v words)
+    → v.lock.share ≡ MAX_SEATS → IsMadeOf v.mine (laid h.postings)
+made_of key v words h whole =
+    let own = (h.with_each_share whole).mine in record {
+      postings = h.postings;
+      is_laid = refl;
+      whole = h.whole;
+      weights = own;
+      same = λ x. (
+        same_members h.postings v.mine (λ f. sym (own f)) x,
+        same_members v.mine h.postings own x,
+      );
+    }

@@ -1,0 +1,33 @@
+-- What stays so from one reading to the next, in one hold.
+use Rattle.std.proofs.Common.{◌≡◌, ◌<◌, true, ◌∙◌, ap, arith}
+use Rattle.cmh_rw.specs.declared.view.View.{View}
+use Rattle.cmh_board.specs.declared.board.Board.{Board}
+use Rattle.cmh_board.specs.declared.board.BoardSeat.{BoardSeat}
+use Rattle.cmh_board.specs.Board.{known, SitsAt, IsHolding, Sees, Reads}
+use Rattle.cmh_board.specs.Hints.{sees_on}
+
+-- one reading after another
+pub reads_on : (u v w : View) → Reads u v → Reads v w → Reads u w
+reads_on u v w a b = record {
+  lock = b.lock ∙ a.lock;
+  loaded = b.loaded;
+  same = λ l. b.same a.loaded ∙ a.same l;
+  loads = (let p = a.loads in let q = b.loads in omega arith);
+}
+
+-- the seat holds the board still, and has read
+pub record Held (b : Board) (s t : BoardSeat) : Type 0 where
+  pub sits : SitsAt b t
+  pub holding : IsHolding t
+  pub sees : Sees (known s) (known t)
+  pub reads : Reads (known s) (known t)
+
+-- and so after one reading more
+pub held_on : (b : Board) (s t u : BoardSeat) → Held b s t → SitsAt b u → Sees (known t) (known u) → Reads (known t) (known u)
+    → Held b s u
+held_on b s t u h sits sees reads = record {
+  sits = sits;
+  holding = (ap (λ l. l.state) reads.lock ∙ h.holding);
+  sees = sees_on (known s) (known t) (known u) h.sees sees;
+  reads = reads_on (known s) (known t) (known u) h.reads reads;
+}

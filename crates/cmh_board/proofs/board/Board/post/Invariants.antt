@@ -1,0 +1,8 @@
+use Rattle.cmh_board.specs.Board.{known, SitsAt, IsAway}
+use Rattle.cmh_board.proofs.Added.{IsUntouched}
+use Rattle.cmh_board.proofs.board.Board.post.Given as goal
+
+abbrev pub invariant-loop : goal.invariant-loop
+invariant-loop g l =
+    (goal.iterator-loop g).can_next l.iterator' × (goal.iterator-loop g).is_finite l.iterator'
+    × SitsAt l.self l.seat × IsAway l.seat × IsUntouched (known l.fn.seat) (known l.seat)

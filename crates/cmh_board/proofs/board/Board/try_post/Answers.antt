@@ -1,0 +1,19 @@
+use Rattle.std.proofs.Common.{ap, subst, sym, ◌∙◌}
+use Rattle.cmh_rw.specs.declared.view.View.{View}
+use Rattle.cmh_rw.specs.Seats.{view}
+use Rattle.cmh_board.specs.Board.{known, graph_of}
+use Rattle.cmh_board.specs.Adding.{CanPost}
+use Rattle.cmh_board.proofs.Added.{can_post, posts_from}
+use Rattle.cmh_board.proofs.board.Board.try_post.Goals as goal
+
+pub add-requires-clause-can : goal.add-requires-clause-can
+add-requires-clause-can c =
+    let told = c.args.posting.now in
+    let graph = ap (λ (v : View). v.lock.graph) c.in-Held.ensures.tried.0 ∙ c.requires.sits.graph in
+    subst (λ g. CanPost g told.verdict told.processes) (sym graph)
+    (can_post (graph_of c.args.self.now) told c.args.self.now.within c.requires.truth)
+
+pub returns-in-Held-clause-answer : goal.returns-in-Held-clause-answer
+returns-in-Held-clause-answer c =
+    posts_from c.args.posting.now (known c.args.seat.now) (view c.try_write.new.seat) (view c.add.new.seat) (view c.end_write.new.seat)
+    c.in-Held.ensures.tried.0 c.add.ensures.adds c.end_write.ensures.ended

@@ -1,0 +1,7 @@
+use Rattle.cmh_rw.specs.Seats.{view, IsSeatOf}
+use Rattle.cmh_board.proofs.Staging.{Staging}
+use Rattle.cmh_board.proofs.post.stage.Given as goal
+
+abbrev pub invariant-loop-p : goal.invariant-loop-p
+invariant-loop-p l =
+    IsSeatOf l.words l.seat × Staging (view l.fn.seat) l.verdict l.processes l.p-index (view l.seat) l.n

@@ -1,0 +1,13 @@
+-- What the words show once they are closed.
+use Rattle.std.specs.Prelude.{◌≡◌, ℕ, ◌+◌, ◌<◌, ◌^◌, List, map, length, slice_index}
+use Rattle.cmh_rw.specs.declared.TheConstants.{FIRST_ROW}
+use Rattle.cmh_rw.specs.declared.view.Row.{Row}
+use Rattle.cmh_rw.specs.History.{row_code}
+
+-- they show these rows: how many, and each by its word
+pub record Show (words : List ℕ) (rows : List Row) : Type 0 where
+  pub count : slice_index words 1 ≡ length rows
+  pub few : length rows < 2 ^ 32
+  pub row : (n : ℕ) → n < length rows →
+      slice_index words (FIRST_ROW + n) ≡ slice_index (map row_code rows) n
+  pub small : (n : ℕ) → n < length rows → slice_index (map row_code rows) n < 2 ^ 34
