@@ -1,8 +1,7 @@
 //! The lock on the words: seats, tries, and the end.
 
-ghost use Rattle.std.specs.Prelude.{◌≡◌, ◌+◌, ◌<◌, ◌≤◌, IfOk, IfErr, IfSome, IfNone, slice_get};
+ghost use Rattle.std.specs.Prelude.{◌≡◌, ◌+◌, ◌<◌, ◌≤◌, [], IfOk, IfErr, IfSome, IfNone, slice_get};
 ghost use Rattle.cmh_rw.specs.declared.machine.SeatState.TheVariants.{Reading, Writing};
-ghost use Rattle.std.specs.Prelude.{[]};
 ghost use Rattle.cmh_rw.specs.History.{StartsWith};
 ghost use Rattle.cmh_rw.specs.View.{opening_view, AfterRead, AfterWrite, ended, less_one, newcomer, joined};
 ghost use Rattle.cmh_rw.specs.Seats.{view, IsSeatOf, IsAway, graph_of, words_of, ClosedBy, ClosedHistory};
