@@ -18,7 +18,7 @@ none_some : {A : Type 0} {m : A} → None ≡ Some m → ⊥
 none_some h = cc
 
 -- once a run has ended no delivery may come
-over : (g : Graph) (c : Config) (x : ℕ) (d : Delivery) (ending : Ending) → EndsAs c ending → MayCome g c x d → ⊥
+pub over : (g : Graph) (c : Config) (x : ℕ) (d : Delivery) (ending : Ending) → EndsAs c ending → MayCome g c x d → ⊥
 over g c x d Declared e may = none_some (sym may.going ∙ e)
 over g c x d (CutFree k) e may = none_some (sym may.going ∙ e)
 over g c x d AtRest e may = none_some (ap (λ (bag : List Message). slice_get bag x) (sym e.1) ∙ may.there)
@@ -47,7 +47,7 @@ choices_decide choices g i restarts log other ending last end far r t a b =
     decides choices g i log other (begun g i restarts) end far ending last r.leads t.leads r.ends t.ends a b
 
 -- a configuration has one ending
-one_ending : (c : Config) (ending last : Ending) → EndsAs c ending → EndsAs c last → ending ≡ last
+pub one_ending : (c : Config) (ending last : Ending) → EndsAs c ending → EndsAs c last → ending ≡ last
 one_ending c Declared last e f = by_last last f
   where
     by_last : (l : Ending) → EndsAs c l → Declared ≡ l

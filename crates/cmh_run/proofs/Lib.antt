@@ -1,4 +1,5 @@
 pub mod Alike
+pub mod Answering
 pub mod Auditing
 pub mod Bound
 pub mod Decide

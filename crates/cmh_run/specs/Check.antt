@@ -1,6 +1,7 @@
 -- What is wrong with a log of deliveries, judged as a run without restarts.
 use Rattle.std.specs.Prelude.{◌≡◌, ℕ, List, [], take, slice_get, Some, IsTrue, IsFalse}
 use Rattle.cmh_graph.specs.Graph.{Graph, is_idle}
+use Rattle.cmh_graph.specs.Build.{IsWellFormed}
 use Rattle.cmh_process.specs.declared.message.Message.{Message}
 use Rattle.cmh_run.specs.declared.delivery.Delivery.{Delivery}
 use Rattle.cmh_run.specs.declared.delivery.Ending.{Ending}
@@ -73,3 +74,13 @@ IsFirstFault g i log (NotUndelivered t) = IsStray g i log t
 IsFirstFault g i log (FalseHint t) = IsMisled g i log t
 IsFirstFault g i log NotEnded = IsCutShort g i log
 IsFirstFault g i log Memory = ⊥
+
+-- A log is legal with one ending, or has one first fault: never two of these.
+pub record HasOneAnswer (g : Graph) (i : ℕ) (log : List Delivery) : Type 0 where
+  pub ending : (a b : Ending) → IsLegalRun g i log a → IsLegalRun g i log b → a ≡ b
+  pub sound : (a : Ending) (e : CheckFault) → IsLegalRun g i log a → IsFirstFault g i log e → ⊥
+  pub first : (e f : CheckFault) → IsFirstFault g i log e → IsFirstFault g i log f → e ≡ f
+
+abbrev pub LogsHaveOneAnswer : Type 0
+LogsHaveOneAnswer =
+    (g : Graph) (i : ℕ) (log : List Delivery) → IsWellFormed g → HasOneAnswer g i log

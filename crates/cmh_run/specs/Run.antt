@@ -118,8 +118,8 @@ verdict_of Declared = Deadlocked
 verdict_of AtRest = Free
 verdict_of (CutFree k) = Free
 
--- What a run that is kept tells of the graph is true, and it is short. Whatever its end was, it tells
--- the truth too, and the computation of its last number is a run of its own.
+-- What a run that is kept tells of the graph is true, and it is short. Whatever its end was, that
+-- tells the truth too, and the computation of its last number is a run of its own.
 pub record TellsTruth (g : Graph) (r : Run) : Type 0 where
   pub idle : IsTrue (is_idle g r.initiator)
   pub verdict : IsVerdict g r.initiator (verdict_of r.ending)

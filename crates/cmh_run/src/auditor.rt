@@ -123,13 +123,10 @@ impl Auditor {
         ensures { IsTrue result
             ↔ HintIsFit graph.now self.now.network delivery.message delivery.hint }
     {
-        match delivery.hint {
-            None => true,
-            Some(verdict) => {
-                self.network.asks(graph, delivery.message)
-                    && truth[delivery.message.to as usize] == verdict
-            }
-        }
+        let Some(verdict) = delivery.hint else {
+            return true;
+        };
+        self.network.asks(graph, delivery.message) && truth[delivery.message.to as usize] == verdict
     }
 
     /// Puts what was just sent to the other undelivered messages.

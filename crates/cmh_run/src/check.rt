@@ -10,10 +10,10 @@ use crate::{CheckFault, Delivery, Ending};
 use cmh_graph::WaitGraph;
 use std::alloc::Global;
 
-/// Judges a log, whoever made it, as a run of the initiator without restarts: any undelivered message
-/// may come next. It answers how the run ended, or the first thing that is wrong: at the first
-/// delivery that fails, that it comes after the end, else that its message isn't undelivered, else
-/// its hint; after the last, that the run could go on.
+/// Judges a log, whoever made it, as a run of the initiator without restarts: any undelivered
+/// message may come next. It answers how the run ended, or the first thing that is wrong: at the
+/// first delivery that fails, that it comes after the end, else that its message isn't undelivered,
+/// else its hint; after the last, that the run could go on.
 ///
 /// It searches the graph once. A delivery takes time logarithmic in the undelivered messages for
 /// each message that is taken or sent.

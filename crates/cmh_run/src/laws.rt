@@ -1,6 +1,7 @@
 //! Laws of all legal runs, over the definitions alone. Each function here has an empty body; its
 //! contract is the law.
 
+ghost use Rattle.cmh_run.specs.Check.{LogsHaveOneAnswer};
 ghost use Rattle.cmh_run.specs.Choices.{ChoicesDecide};
 ghost use Rattle.cmh_run.specs.Last.{LastComputationIsARun};
 ghost use Rattle.cmh_run.specs.Legal.{RunsAreRight, RunsAreShort};
@@ -36,4 +37,9 @@ pub fn law_one_run()
 /// same engaged processes.
 pub fn law_last_computation_is_a_run()
     ensures { LastComputationIsARun }
+{}
+
+/// A log is legal with one ending, or has one first fault: so `check_run` has no choice.
+pub fn law_logs_have_one_answer()
+    ensures { LogsHaveOneAnswer }
 {}

@@ -26,8 +26,8 @@ pub use delivery::{Delivery, Ending};
 pub use fault::{CheckFault, RunFault, ScriptFault};
 pub use hints::{Hints, NoHints};
 pub use laws::{
-    law_choices_decide, law_last_computation_is_a_run, law_one_run, law_runs_are_right,
-    law_runs_are_short,
+    law_choices_decide, law_last_computation_is_a_run, law_logs_have_one_answer, law_one_run,
+    law_runs_are_right, law_runs_are_short,
 };
 pub use log::RunLog;
 pub use runs::{run, run_again};

@@ -14,9 +14,9 @@ use std::alloc::Global;
 /// Runs the computations of an idle initiator, which starts again after each of these numbers of
 /// deliveries, if the run gets that far.
 ///
-/// Delivery `t` takes the undelivered message at place `choices[t]`, modulo how many there are; past
-/// the last choice it takes the first. The hints are asked just before a query would engage an idle
-/// process. A delivery takes constant time at choice 0, its hint apart.
+/// Delivery `t` takes the undelivered message at place `choices[t]`, modulo how many there are;
+/// past the last choice it takes the first. The hints are asked just before a query would engage an
+/// idle process. A delivery takes constant time at choice 0, its hint apart.
 pub fn run_again<H: Hints>(
     alloc: Global,
     graph: &WaitGraph,

@@ -28,15 +28,16 @@ impl Model for Scripted {
 }
 
 impl Scripted {
-    /// An entry (n, p, v) answers v at ask n, from 0, where that ask is of process p. All other asks
-    /// have no answer, nor has any from ask `u32::MAX` on.
+    /// An entry (n, p, v) answers v at ask n, from 0, where that ask is of process p. All other
+    /// asks have no answer, nor has any from ask `u32::MAX` on.
     pub fn new(
         alloc: Global,
         graph: &WaitGraph,
         entries: &[(u32, u32, Verdict)],
     ) -> Result<Scripted, ScriptFault>
         ensures ok { IfOk result (λ s. s ≡ record { entries = entries.now; asked = 0 }) }
-        ensures within { IfOk result (λ s. IsNever (IsOutOfRange (process_count graph.now) entries.now)) }
+        ensures within { IfOk result (λ s.
+            IsNever (IsOutOfRange (process_count graph.now) entries.now)) }
         ensures speaks { IfOk result (λ s. AreTrueOf graph.now s.entries) }
         ensures fault { IfErr result (λ e.
             (e ≡ ScriptFault.Memory) ⊎ IsFirstFault graph.now entries.now e) }

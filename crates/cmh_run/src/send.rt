@@ -17,7 +17,11 @@ pub(crate) struct Sender {
 impl Sender {
     /// The receiver of a message, in the computation of the message.
     pub(crate) fn answering(initiator: u32, message: Message) -> Sender
-        ensures { result ≡ record { initiator = initiator; number = message.number; from = message.to } }
+        ensures { result ≡ record {
+          initiator = initiator;
+          number = message.number;
+          from = message.to;
+        } }
     {
         Sender {
             initiator,

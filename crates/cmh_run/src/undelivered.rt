@@ -59,7 +59,8 @@ impl Undelivered {
     /// Takes the message out, if it is there.
     pub(crate) fn take(&mut self, message: Message) -> bool
         ensures found { result ≡ is_waiting self.old message }
-        ensures rest { (m : Message) → is_waiting self.new m ≡ (not (goes_like message m) && is_waiting self.old m) }
+        ensures rest { (m : Message) → is_waiting self.new m
+            ≡ (not (goes_like message m) && is_waiting self.old m) }
     {
         let ends = (message.from, message.to);
         match message.kind {
