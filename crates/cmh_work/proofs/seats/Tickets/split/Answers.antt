@@ -1,0 +1,6 @@
+use Rattle.std.proofs.Common.{rules, arith}
+use Rattle.cmh_work.proofs.Dealing.{splits}
+use Rattle.cmh_work.proofs.seats.Tickets.split.Goals as goal
+
+pub split_seat-other-requires : goal.split_seat-other-requires
+split_seat-other-requires c = let wide = c.args.self.now.wide in (search rules, omega arith, splits _ _ _ (search rules))

@@ -1,0 +1,22 @@
+-- How the initiators are cut into chunks.
+use Rattle.std.specs.Prelude.{◌≡◌, ℕ, ◌+◌, List, [], ◌∷◌, ◌++◌, take, drop, length, slice_index_or}
+
+-- each cut takes that many off the front, or all that are left; the rest is the last chunk
+abbrev pub chunks_of : List ℕ → List ℕ → List (List ℕ)
+chunks_of [] list = list ∷ []
+chunks_of (cut ∷ cuts) list = take cut list ∷ chunks_of cuts (drop cut list)
+
+-- lists, end to end
+abbrev pub joined : List (List ℕ) → List ℕ
+joined [] = []
+joined (list ∷ lists) = list ++ joined lists
+
+-- the chunks of these numbers, end to end
+abbrev pub gathered : List (List ℕ) → List ℕ → List ℕ
+gathered chunks [] = []
+gathered chunks (number ∷ numbers) = slice_index_or chunks number [] ++ gathered chunks numbers
+
+-- the chunks are the list, cut: end to end they are the list, and there is one more than cuts
+abbrev pub ChunksLaw : Type 0
+ChunksLaw = (cuts list : List ℕ)
+    → (joined (chunks_of cuts list) ≡ list) × (length (chunks_of cuts list) ≡ length cuts + 1)

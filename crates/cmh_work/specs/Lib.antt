@@ -1,0 +1,4 @@
+pub mod Cutting
+pub mod Plan
+pub mod Seats
+pub mod Tickets

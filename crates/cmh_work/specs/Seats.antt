@@ -1,0 +1,17 @@
+-- What clauses see of the tickets and of a seat.
+use Rattle.std.specs.Prelude.{◌≡◌, ℕ}
+use Rattle.cmh_work.specs.declared.ticket_rule.TicketView.{TicketView}
+use Rattle.cmh_work.specs.declared.seats.Tickets.{Tickets}
+use Rattle.cmh_work.specs.declared.seats.TicketSeat.{TicketSeat}
+
+-- what a seat knows
+abbrev pub view : TicketSeat → TicketView
+view s = s.seat.me.0
+
+-- how many numbers there are
+abbrev pub chunks_in : Tickets → ℕ
+chunks_in t = t.chunks
+
+-- the seat is one of these tickets
+abbrev pub IsSeatOf : Tickets → TicketSeat → Type 0
+IsSeatOf t s = (s.seat.table_id ≡ t.table.shared.table_id) × ((view s).chunks ≡ t.chunks)

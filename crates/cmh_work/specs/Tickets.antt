@@ -1,0 +1,111 @@
+-- Numbers that threads draw: the rule of their word, over what all seats know, and each step.
+use Rattle.std.specs.Prelude.{◌≡◌, ℕ, zero, suc, ◌+◌, ◌-◌, ◌<◌, ◌≤◌, ◌||◌, ◌^◌, Bool, true, false, nat_lt, if◌then◌else◌, List, [], ◌∷◌, ◌++◌, length, slice_index}
+use mathlib.Core.Option.{some}
+use lib.ListN.{get_elem?}
+use Rattle.atomic_table.specs.Table.{State, Me, Step}
+use Rattle.cmh_work.specs.declared.ticket_rule.TicketView.{TicketView}
+
+-- ---- weights
+
+-- the weights of all, added up
+abbrev pub total : {A : Type 0} → (A → ℕ) → List A → ℕ
+total weight [] = 0
+total weight (x ∷ xs) = weight x + total weight xs
+
+-- the weights of the numbers below the bound, added up
+abbrev pub sum_below : (ℕ → ℕ) → ℕ → ℕ
+sum_below weight zero = 0
+sum_below weight (suc n) = sum_below weight n + weight n
+
+-- ---- what a seat knows
+
+abbrev pub opening_view : ℕ → TicketView
+opening_view chunks = record { chunks = chunks; share = 64; drawn = []; done = false }
+
+-- it gave 1 of its share away
+abbrev pub less_one : TicketView → TicketView
+less_one v = record v { share = v.share - 1 }
+
+-- what the seat knows that was given 1 of this one's share
+abbrev pub newcomer : TicketView → TicketView
+newcomer v = record { chunks = v.chunks; share = 1; drawn = []; done = v.done }
+
+-- it took another seat in
+abbrev pub joined_views : TicketView → TicketView → TicketView
+joined_views v w = record v {
+  share = v.share + w.share;
+  drawn = v.drawn ++ w.drawn;
+  done = v.done || w.done;
+}
+
+-- what is left of a seat that was taken in
+abbrev pub spent : TicketView
+spent = record { chunks = 0; share = 0; drawn = []; done = false }
+
+abbrev pub with_drawn : TicketView → ℕ → TicketView
+with_drawn v n = record v { drawn = v.drawn ++ n ∷ [] }
+
+abbrev pub with_done : TicketView → TicketView
+with_done v = record v { done = true }
+
+-- each number below the number of chunks was drawn once, and no other, however they are weighed
+abbrev pub DrewAll : TicketView → Type 0
+DrewAll v = (weight : ℕ → ℕ) → total weight v.drawn ≡ sum_below weight v.chunks
+
+-- with the whole share and after none, the seat drew all
+abbrev pub KnowsAll : TicketView → Type 0
+KnowsAll v = v.done ≡ true → v.share ≡ 64 → DrewAll v
+
+-- ---- the rule
+
+abbrev pub share_of : TicketView → ℕ
+share_of v = v.share
+
+abbrev pub share_if : Bool → ℕ → ℕ
+share_if done share = if done then share else 0
+
+-- the share of a seat that got none
+abbrev pub done_share : TicketView → ℕ
+done_share v = share_if v.done v.share
+
+-- What is true of each seat. One with no share is spent, and has drawn nothing. Each other knows the
+-- number of chunks, and where one got none, the word is past the last chunk.
+pub record Has (chunks word : ℕ) (v : TicketView) : Type 0 where
+  pub bare : v.share ≡ 0 → v.drawn ≡ []
+  pub knows : 0 < v.share → v.chunks ≡ chunks
+  pub past : v.done ≡ true → chunks ≤ word
+
+-- The word is the number of draws. Each number below it and below the number of chunks stands once
+-- among what the seats have drawn, and no other. The draws past the end are at most the shares of
+-- the seats that got none.
+pub record Dealt (chunks : ℕ) (s : State (Unit {0}) TicketView) : Type 0 where
+  pub reached : ℕ
+  pub wide : length s.words ≡ 1
+  pub within : (reached ≤ chunks) × (reached ≤ slice_index s.words 0)
+  pub before_end : slice_index s.words 0 ≤ chunks → reached ≡ slice_index s.words 0
+  pub at_end : chunks ≤ slice_index s.words 0 → reached ≡ chunks
+  pub small : chunks < 2 ^ 32
+  pub shares : total share_of s.views ≤ 64
+  pub over : slice_index s.words 0 ≤ chunks + total done_share s.views
+  pub each : (i : ℕ) (v : TicketView) → get_elem? s.views i ≡ some v
+      → Has chunks (slice_index s.words 0) v
+  pub numbers : (weight : ℕ → ℕ)
+      → total (λ v. total weight v.drawn) s.views ≡ sum_below weight reached
+
+-- ---- the steps
+
+-- a seat, at the table
+abbrev Sitting : Type 0
+Sitting = Me (Unit {0}) TicketView
+
+-- what a seat knows after a draw that found n
+abbrev pub after_draw : ℕ → TicketView → TicketView
+after_draw n v = if nat_lt n v.chunks then with_drawn v n else with_done v
+
+-- what a draw tells
+abbrev pub Drew : Step (Unit {0}) → Sitting → ℕ → Sitting → Type 0
+Drew st m n m' = (m' ≡ (after_draw n m.0, m.1)) × (length m.0.drawn ≤ n) × KnowsAll m'.0
+
+-- what a load tells
+abbrev pub Measured : Step (Unit {0}) → Sitting → ℕ → Sitting → Type 0
+Measured st m n m' = (m' ≡ m) × (m.0.share ≤ 64) × KnowsAll m.0

@@ -1,0 +1,96 @@
+//! How an analysis is shared out.
+
+ghost use Rattle.std.specs.Prelude.{◌≡◌, ◌⊎◌, IfOk, IfErr};
+ghost use Rattle.cmh_work.specs.Plan.{IsAccepted, IsFirstFault};
+
+use crate::{MAX_CUTS, MAX_WORKERS, PlanFault};
+use cmh_run::MAX_CHOICES;
+use std::alloc::Global;
+use std::marker::Model;
+
+/// How an analysis is shared out: how many workers there are, where the idle processes are cut into
+/// chunks, and in which order each run delivers its messages. No plan changes what is found.
+#[derive(Drop)]
+pub struct Plan {
+    workers: u32,
+    cuts: Vec<u64>,
+    choices: Vec<u64>,
+}
+
+impl Model for Plan {
+    ghost use Rattle.cmh_work.specs.Plan.{Setup, IsAccepted};
+
+    ghost Value = { Setup };
+
+    ghost view = { λ p. record {
+      workers = p.workers;
+      cuts = p.cuts.items;
+      choices = p.choices.items;
+    } };
+
+    ghost invariant = { λ p. IsAccepted record {
+      workers = p.workers;
+      cuts = p.cuts.items;
+      choices = p.choices.items;
+    } };
+}
+
+impl Plan {
+    /// Each cut in order takes that many initiators off the front, or all that are left; the rest,
+    /// which may be empty, is the last chunk. Delivery `t` of each run takes the undelivered message
+    /// at place `choices[t]`, modulo how many there are; past the last choice it takes the first.
+    ///
+    /// # Errors
+    ///
+    /// `BadWorkers`, `TooManyCuts` and `TooManyChoices`, in this order, and `Memory`.
+    pub fn new(
+        alloc: Global,
+        workers: u32,
+        cuts: &[u64],
+        choices: &[u64],
+    ) -> Result<Plan, PlanFault>
+        ensures ok { IfOk result (λ p.
+            p ≡ record { workers = workers; cuts = cuts.now; choices = choices.now }) }
+        ensures accepted { IfOk result IsAccepted }
+        ensures fault { IfErr result (λ e. (e ≡ PlanFault.Memory) ⊎ IsFirstFault
+            record { workers = workers; cuts = cuts.now; choices = choices.now } e) }
+    {
+        if workers == 0 || workers > MAX_WORKERS {
+            return Err(PlanFault::BadWorkers);
+        }
+        if cuts.len() > MAX_CUTS {
+            return Err(PlanFault::TooManyCuts);
+        }
+        if choices.len() > MAX_CHOICES {
+            return Err(PlanFault::TooManyChoices);
+        }
+        let cuts = Vec::from_slice(alloc, cuts)?;
+        let choices = Vec::from_slice(alloc, choices)?;
+        Ok(Plan {
+            workers,
+            cuts,
+            choices,
+        })
+    }
+
+    pub fn workers(&self) -> u32
+        ensures count { result ≡ self.now.workers }
+        ensures accepted { IsAccepted self.now }
+    {
+        self.workers
+    }
+
+    pub fn cuts(&self) -> &[u64]
+        ensures cuts { result.now ≡ self.now.cuts }
+        ensures accepted { IsAccepted self.now }
+    {
+        &self.cuts
+    }
+
+    pub fn choices(&self) -> &[u64]
+        ensures choices { result.now ≡ self.now.choices }
+        ensures accepted { IsAccepted self.now }
+    {
+        &self.choices
+    }
+}
