@@ -1,4 +1,6 @@
 pub mod Cutting
+pub mod Leaders
 pub mod Plan
 pub mod Seats
+pub mod Shape
 pub mod Tickets

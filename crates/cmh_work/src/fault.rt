@@ -1,9 +1,11 @@
-//! Why there is no plan.
+//! Why there is no plan, or no analysis.
 
 ghost use Rattle.std.specs.Prelude.{◌≡◌};
 ghost use Rattle.cmh_work.specs.declared.fault.PlanFault.TheVariants.{Memory};
+ghost use Rattle.cmh_work.specs.declared.fault.WorkFault.TheVariants as work;
 
-use std::alloc::AllocError;
+use cmh_graph::GraphFault;
+use std::alloc::{AllocError, AllocFailed};
 use std::error::Error;
 use std::fmt;
 
@@ -41,5 +43,52 @@ impl From<AllocError> for PlanFault {
 
     fn from(_e: AllocError) -> PlanFault {
         PlanFault::Memory
+    }
+}
+
+/// Why there is no analysis.
+#[derive(Clone, Copy, PartialEq, Eq, Hash, Debug)]
+pub enum WorkFault {
+    /// Memory was refused.
+    Memory,
+
+    /// A worker was lost. Workers are started and joined by a call that goes on in the thread of
+    /// its caller where no other can be had, so none is lost today.
+    WorkerLost,
+}
+
+impl fmt::Display for WorkFault {
+    fn fmt<W: fmt::Write>(&self, f: &mut fmt::Formatter<W>) -> fmt::Result {
+        match self {
+            WorkFault::Memory => write!(f, "out of memory"),
+            WorkFault::WorkerLost => write!(f, "worker lost"),
+        }
+    }
+}
+
+impl Error for WorkFault {}
+
+impl From<AllocError> for WorkFault {
+    ghost from_gives = { λ _ e. e ≡ work.Memory };
+
+    fn from(_e: AllocError) -> WorkFault {
+        WorkFault::Memory
+    }
+}
+
+impl<T: Drop> From<AllocFailed<T>> for WorkFault {
+    ghost from_gives = { λ _ e. e ≡ work.Memory };
+
+    fn from(_e: AllocFailed<T>) -> WorkFault {
+        WorkFault::Memory
+    }
+}
+
+impl From<GraphFault> for WorkFault {
+    ghost from_gives = { λ _ e. e ≡ work.Memory };
+
+    /// Questions to a graph fail for want of memory alone.
+    fn from(_e: GraphFault) -> WorkFault {
+        WorkFault::Memory
     }
 }

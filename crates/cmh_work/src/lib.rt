@@ -5,15 +5,19 @@ mod chunks;
 mod fault;
 mod gate;
 mod laws;
+mod leaders;
 mod plan;
+mod record;
 mod seats;
+mod shapes;
 mod ticket_rule;
 mod tickets;
 
-pub use fault::PlanFault;
+pub use fault::{PlanFault, WorkFault};
 pub use gate::{Gate, NoGate};
 pub use laws::law_chunks;
 pub use plan::Plan;
+pub use record::{Origin, Record, Shape};
 pub use seats::{TicketSeat, Tickets};
 
 /// The most workers of a plan, and the most seats of anything that they share.

@@ -1,0 +1,5 @@
+use Rattle.cmh_work.proofs.Leading.{AreLeadersBelow}
+use Rattle.cmh_work.proofs.leaders.group_leaders.Given as goal
+
+abbrev pub invariant-loop-p : goal.invariant-loop-p
+invariant-loop-p l = AreLeadersBelow l.graph l.p l.leaders.items

@@ -1,0 +1,34 @@
+use Rattle.std.proofs.Common.{◌≡◌, ap, arith, length, refl, subst, sym, ◌∙◌}
+use Rattle.std.specs.Prelude.{is_some, Some}
+use Rattle.cmh_graph.specs.Core.{leader_of}
+use Rattle.cmh_graph.specs.Verdict.{IsDeadlocked}
+use Rattle.cmh_graph.proofs.Listing.{length-by_index}
+use Rattle.cmh_run.specs.Hints.{IsVerdict}
+use Rattle.cmh_work.specs.declared.record.Shape.TheVariants.{Leader}
+use Rattle.cmh_work.specs.Leaders.{group_leader}
+use Rattle.cmh_work.specs.Shape.{IsShape}
+use Rattle.cmh_work.proofs.Shaping.{leader_stands, some_before, way_out}
+use Rattle.cmh_work.proofs.shapes.Shapes.shape_of.Goals as goal
+
+-- there is a place for each process
+pub index-requires : goal.index-requires
+index-requires c = omega (arith, ap length c.requires.shapes.leaders, length-by_index c.args.graph.now (group_leader c.args.graph.now), c.requires.within)
+
+pub unwrap-requires : goal.unwrap-requires
+unwrap-requires c =
+    let dead : IsDeadlocked c.args.graph.now c.args.p = subst (IsVerdict c.args.graph.now c.args.p) c.in-Deadlocked.is c.requires.known in
+    ap is_some (c.index.ensures ∙ leader_stands c.args.graph.now c.args.p _ _ c.requires.shapes.leaders c.requires.within dead)
+
+pub unwrap-requires-in-Free : goal.unwrap-requires-in-Free
+unwrap-requires-in-Free c =
+    let free : ¬ (IsDeadlocked c.args.graph.now c.args.p) = subst (IsVerdict c.args.graph.now c.args.p) c.in-Free.is c.requires.known in
+    some_before (λ v. v.items) c.in_ok-path-in-Free.path _ c.in_ok-path-in-Free.ensures.ok
+    (way_out c.args.graph.now c.args.p _ c.requires.shapes.well_formed.within c.requires.within free refl)
+
+pub returns-in-Deadlocked-clause-ok : goal.returns-in-Deadlocked-clause-ok
+returns-in-Deadlocked-clause-ok c =
+    let dead : IsDeadlocked c.args.graph.now c.args.p = subst (IsVerdict c.args.graph.now c.args.p) c.in-Deadlocked.is c.requires.known in
+    let same : Some c.unwrap.result ≡ Some (leader_of c.args.graph.now c.args.p) =
+    sym c.unwrap.ensures ∙ c.index.ensures ∙ leader_stands c.args.graph.now c.args.p _ _ c.requires.shapes.leaders c.requires.within dead in
+    let is : c.unwrap.result ≡ leader_of c.args.graph.now c.args.p = cc in
+    subst (λ v. IsShape c.args.graph.now c.args.p v (Leader c.unwrap.result)) (sym c.in-Deadlocked.is) is

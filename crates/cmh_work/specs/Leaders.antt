@@ -1,0 +1,34 @@
+-- Who leads the group of a process, while leaders are found by rising index.
+use Rattle.std.specs.Prelude.{◌≡◌, ℕ, Bool, true, false, ◌&&◌, nat_lt, List, length, map, slice_index_or, if◌then◌else◌, Contains, Option, Some, None}
+use Rattle.cmh_graph.specs.declared.verdict.Verdict.{Verdict}
+use Rattle.cmh_graph.specs.declared.verdict.Verdict.TheVariants.{Deadlocked, Free}
+use Rattle.cmh_graph.specs.Graph.{Graph}
+use Rattle.cmh_graph.specs.Verdict.{is_deadlocked}
+use Rattle.cmh_graph.specs.Core.{leader_of}
+
+-- the leader of p's group, if p is deadlocked
+unfoldable pub group_leader : Graph → ℕ → Option ℕ
+group_leader g p = if is_deadlocked g p then Some (leader_of g p) else None
+
+-- the same, if the leader is below the bound
+unfoldable pub leader_below : Graph → ℕ → ℕ → Option ℕ
+leader_below g bound p =
+    if is_deadlocked g p && nat_lt (leader_of g p) bound then Some (leader_of g p) else None
+
+abbrev pub says_deadlocked : Verdict → Bool
+says_deadlocked Deadlocked = true
+says_deadlocked Free = false
+
+-- whether the verdict at that place says so; past the end it doesn't
+abbrev pub is_deadlocked_at : List Verdict → ℕ → Bool
+is_deadlocked_at known p = says_deadlocked (slice_index_or known p Free)
+
+-- the leader that stands at that place, where there is one
+abbrev pub leader_at : List (Option ℕ) → ℕ → Option ℕ
+leader_at list p = slice_index_or list p None
+
+-- each member has the leader now, and nothing else has changed
+pub record LeadsEach (leader : ℕ) (members : List ℕ) (old new : List (Option ℕ)) : Type 0 where
+  pub size : length new ≡ length old
+  pub led : (p : ℕ) → Contains members p → leader_at new p ≡ Some leader
+  pub kept : (p : ℕ) → (Contains members p → ⊥) → leader_at new p ≡ leader_at old p

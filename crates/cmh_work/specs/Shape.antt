@@ -1,0 +1,25 @@
+-- What a record shows of its process, and what that is read from.
+use Rattle.std.specs.Prelude.{◌≡◌, ℕ, map, Some}
+use Rattle.cmh_graph.specs.declared.verdict.Verdict.{Verdict}
+use Rattle.cmh_graph.specs.declared.verdict.Verdict.TheVariants.{Deadlocked, Free}
+use Rattle.cmh_graph.specs.Graph.{Graph, indices}
+use Rattle.cmh_graph.specs.Build.{IsWellFormed}
+use Rattle.cmh_graph.specs.ChosenPath.{distance_of, chosen_path}
+use Rattle.cmh_graph.specs.Core.{leader_of}
+use Rattle.cmh_work.specs.declared.record.Shape.{Shape}
+use Rattle.cmh_work.specs.declared.record.Shape.TheVariants.{Path, Leader}
+use Rattle.cmh_work.specs.declared.shapes.Shapes.{Shapes}
+use Rattle.cmh_work.specs.Leaders.{group_leader}
+
+-- a free process has its chosen path, and a deadlocked one the leader of its group
+abbrev pub IsShape : Graph → ℕ → Verdict → Shape → Type 0
+IsShape g p Free (Path path) = chosen_path g p ≡ Some path.items
+IsShape g p Deadlocked (Leader leader) = leader ≡ leader_of g p
+IsShape g p Free (Leader leader) = ⊥
+IsShape g p Deadlocked (Path path) = ⊥
+
+-- distances and leaders of all processes of this graph
+pub record AreShapesOf (g : Graph) (shapes : Shapes) : Type 0 where
+  pub well_formed : IsWellFormed g
+  pub distances : shapes.distances.items ≡ map (distance_of g) (indices g)
+  pub leaders : shapes.leaders.items ≡ map (group_leader g) (indices g)

@@ -1,0 +1,54 @@
+//! Who leads the group of each deadlocked process: the least of those that it reaches and that reach
+//! it.
+
+ghost use Rattle.std.specs.Prelude.{◌≡◌, ◌<◌, ◌&&◌, is_none, map, length, All, IfOk, IfErr};
+ghost use Rattle.cmh_graph.specs.Build.{IsWellFormed};
+ghost use Rattle.cmh_graph.specs.Graph.{indices};
+ghost use Rattle.cmh_graph.specs.Verdict.{verdicts};
+ghost use Rattle.cmh_work.specs.Leaders.{group_leader, is_deadlocked_at, leader_at, LeadsEach};
+
+use crate::WorkFault;
+use cmh_graph::{Verdict, WaitGraph};
+use std::alloc::Global;
+
+/// For each process the leader of its group, if it is deadlocked. One core is computed for each
+/// group.
+pub(crate) fn group_leaders(
+    alloc: Global,
+    graph: &WaitGraph,
+    known: &[Verdict],
+) -> Result<Vec<Option<u32>>, WorkFault>
+    requires { known.now ≡ verdicts graph.now }
+    ensures leaders { IfOk result (λ list.
+        list.items ≡ map (group_leader graph.now) (indices graph.now)) }
+    ensures well_formed { IfOk result (λ _. IsWellFormed graph.now) }
+    ensures memory { IfErr result (λ e. e ≡ WorkFault.Memory) }
+{
+    let mut leaders = vec![in alloc; None; known.len()]?;
+    for p in 0..graph.len() {
+        if is_new_leader(known, &leaders, p) {
+            let core = graph.core_of(alloc, p)?;
+            lead_each(p, &core, &mut leaders);
+        }
+    }
+    Ok(leaders)
+}
+
+/// Whether the process is deadlocked and has no leader yet.
+fn is_new_leader(known: &[Verdict], leaders: &[Option<u32>], p: u32) -> bool
+    requires known { p < length known.now }
+    requires leaders { p < length leaders.now }
+    ensures { result ≡ (is_deadlocked_at known.now p && is_none (leader_at leaders.now p)) }
+{
+    matches!(known[p as usize], Verdict::Deadlocked) && leaders[p as usize].is_none()
+}
+
+/// Makes the process the leader of each member.
+fn lead_each(leader: u32, members: &[u32], leaders: &mut [Option<u32>])
+    requires { All (λ p. p < length leaders.old) members.now }
+    ensures { LeadsEach leader members.now leaders.old leaders.new }
+{
+    for p in members {
+        leaders[*p as usize] = Some(leader);
+    }
+}

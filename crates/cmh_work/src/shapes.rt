@@ -1,0 +1,59 @@
+//! The shapes of records, by what is found once for all of them.
+
+ghost use Rattle.std.specs.Prelude.{◌≡◌, ◌<◌, IfOk, IfErr};
+ghost use Rattle.cmh_graph.specs.Graph.{process_count};
+
+use crate::WorkFault;
+use crate::leaders::group_leaders;
+use crate::record::Shape;
+use cmh_graph::{Verdict, WaitGraph};
+use std::alloc::Global;
+
+/// What the shapes of all records are read from. It is found once, and the workers share it.
+#[derive(Drop)]
+pub(crate) struct Shapes {
+    /// For each process its distance to an awake one, if it reaches any.
+    pub(crate) distances: Vec<Option<u32>>,
+    /// For each process the leader of its group, if it is deadlocked.
+    pub(crate) leaders: Vec<Option<u32>>,
+}
+
+impl Shapes {
+    ghost use Rattle.cmh_run.specs.Hints.{IsVerdict};
+    ghost use Rattle.cmh_work.specs.Shape.{IsShape, AreShapesOf};
+
+    /// Searches the graph once for all distances, and twice for each group.
+    pub(crate) fn of_graph(alloc: Global, graph: &WaitGraph) -> Result<Shapes, WorkFault>
+        ensures ok { IfOk result (AreShapesOf graph.now) }
+        ensures memory { IfErr result (λ e. e ≡ WorkFault.Memory) }
+    {
+        let known = graph.verdicts_plain(alloc)?;
+        let leaders = group_leaders(alloc, graph, &known)?;
+        let distances = graph.distances(alloc)?;
+        Ok(Shapes { distances, leaders })
+    }
+
+    /// The shape of a process with this verdict. A path takes time linear in the dependencies of
+    /// the processes on it, a leader constant time.
+    pub(crate) fn shape_of(
+        &self,
+        alloc: Global,
+        graph: &WaitGraph,
+        p: u32,
+        known: Verdict,
+    ) -> Result<Shape, WorkFault>
+        requires shapes { AreShapesOf graph.now self.now }
+        requires within { p < process_count graph.now }
+        requires known { IsVerdict graph.now p known }
+        ensures ok { IfOk result (IsShape graph.now p known) }
+        ensures memory { IfErr result (λ e. e ≡ WorkFault.Memory) }
+    {
+        match known {
+            Verdict::Deadlocked => Ok(Shape::Leader(self.leaders[p as usize].unwrap())),
+            Verdict::Free => {
+                let path = graph.path_by(alloc, &self.distances, p)?;
+                Ok(Shape::Path(path.unwrap()))
+            }
+        }
+    }
+}
