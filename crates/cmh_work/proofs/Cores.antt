@@ -90,7 +90,7 @@ leader_in_core g p w i =
     (zero, some, get_or_default (core_of g p) 0 (leader_of g p) 0 some)
 
 -- places rise
-rising : (n : ℕ) → AllPairs (λ x y. x < y) (range_with_len 0 n)
+pub rising : (n : ℕ) → AllPairs (λ x y. x < y) (range_with_len 0 n)
 rising n i j d l k =
     let within : j < n = omega (arith, length-range_with_len 0 n) in
     let first : get_or (range_with_len 0 n) i d ≡ 0 + i = get_or-range_with_len 0 n i d (omega arith) in

@@ -1,6 +1,10 @@
 -- What is gathered from each chunk once is the list.
 use Rattle.std.proofs.Common.{◌≡◌, ℕ, zero, suc, ◌+◌, ◌<◌, ◌≤◌, List, [], ◌∷◌, ◌++◌, length, take, drop, get_or, append_assoc, append-nil, sym, refl, ap, ◌∙◌, arith}
-use Rattle.std.proofs.lemmas.List.{take-append-drop}
+use Rattle.std.specs.Prelude.{All, IsTrue}
+use Rattle.std.proofs.lemmas.List.{take-append-drop, get_or_default}
+use Rattle.std.proofs.lemmas.List.Elements.{All-nil, All-take, All-drop}
+use Rattle.cmh_graph.specs.Graph.{Graph, is_idle, indices, idle_list}
+use Rattle.cmh_graph.proofs.Verdicts.{filter_contains}
 use native.Mathlib.Numerals.{unary_clauses}
 use Rattle.cmh_work.specs.Tickets.{total, sum_below}
 use Rattle.cmh_work.specs.Cutting.{chunks_of, joined, gathered, ChunksLaw}
@@ -49,3 +53,15 @@ joined_chunks (c ∷ cs) xs = ap (λ l. take c xs ++ l) (joined_chunks cs (drop 
 
 pub chunks_law : ChunksLaw
 chunks_law cuts xs = (joined_chunks cuts xs, length_chunks cuts xs)
+
+-- what holds of a list holds of its chunks
+pub all_chunk : (P : ℕ → Type 0) (cuts xs : List ℕ) (n : ℕ) → All P xs → All P (get_or (chunks_of cuts xs) n [])
+all_chunk P [] xs zero h = h
+all_chunk P [] xs (suc n) h = All-nil P
+all_chunk P (c ∷ cs) xs zero h = All-take P c xs h
+all_chunk P (c ∷ cs) xs (suc n) h = all_chunk P cs (drop c xs) n (All-drop P c xs h)
+
+-- the idle processes are idle
+pub all_idle : (g : Graph) → All (λ p. IsTrue (is_idle g p)) (idle_list g)
+all_idle g k d low =
+    (filter_contains (is_idle g) (indices g) (get_or (idle_list g) k d) (k, low, get_or_default (idle_list g) k (get_or (idle_list g) k d) d low)).1

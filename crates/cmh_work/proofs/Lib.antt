@@ -1,6 +1,14 @@
+pub mod Accounting
+pub mod Analysing
+pub mod Closing
+pub mod Collecting
 pub mod Cores
 pub mod Dealing
 pub mod Gathering
+pub mod Hinting
 pub mod Known
 pub mod Leading
+pub mod Naming
+pub mod Rising
+pub mod Rows
 pub mod Shaping

@@ -1,6 +1,11 @@
+pub mod Analysis
 pub mod Cutting
+pub mod Finding
 pub mod Leaders
+pub mod Numbering
 pub mod Plan
+pub mod Record
 pub mod Seats
 pub mod Shape
 pub mod Tickets
+pub mod Working

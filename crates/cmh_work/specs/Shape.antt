@@ -3,7 +3,6 @@ use Rattle.std.specs.Prelude.{◌≡◌, ℕ, map, Some}
 use Rattle.cmh_graph.specs.declared.verdict.Verdict.{Verdict}
 use Rattle.cmh_graph.specs.declared.verdict.Verdict.TheVariants.{Deadlocked, Free}
 use Rattle.cmh_graph.specs.Graph.{Graph, indices}
-use Rattle.cmh_graph.specs.Build.{IsWellFormed}
 use Rattle.cmh_graph.specs.ChosenPath.{distance_of, chosen_path}
 use Rattle.cmh_graph.specs.Core.{leader_of}
 use Rattle.cmh_work.specs.declared.record.Shape.{Shape}
@@ -20,6 +19,5 @@ IsShape g p Deadlocked (Path path) = ⊥
 
 -- distances and leaders of all processes of this graph
 pub record AreShapesOf (g : Graph) (shapes : Shapes) : Type 0 where
-  pub well_formed : IsWellFormed g
   pub distances : shapes.distances.items ≡ map (distance_of g) (indices g)
   pub leaders : shapes.leaders.items ≡ map (group_leader g) (indices g)

@@ -4,6 +4,7 @@ ghost use Rattle.std.specs.Prelude.{◌≡◌};
 ghost use Rattle.cmh_work.specs.declared.fault.PlanFault.TheVariants.{Memory};
 ghost use Rattle.cmh_work.specs.declared.fault.WorkFault.TheVariants as work;
 
+use cmh_board::BoardFault;
 use cmh_graph::GraphFault;
 use std::alloc::{AllocError, AllocFailed};
 use std::error::Error;
@@ -89,6 +90,24 @@ impl From<GraphFault> for WorkFault {
 
     /// Questions to a graph fail for want of memory alone.
     fn from(_e: GraphFault) -> WorkFault {
+        WorkFault::Memory
+    }
+}
+
+impl From<BoardFault> for WorkFault {
+    ghost from_gives = { λ _ e. e ≡ work.Memory };
+
+    /// A board fails to open and to close for want of memory alone.
+    fn from(_e: BoardFault) -> WorkFault {
+        WorkFault::Memory
+    }
+}
+
+impl From<PlanFault> for WorkFault {
+    ghost from_gives = { λ _ e. e ≡ work.Memory };
+
+    /// Tickets fail to open for want of memory alone.
+    fn from(_e: PlanFault) -> WorkFault {
         WorkFault::Memory
     }
 }

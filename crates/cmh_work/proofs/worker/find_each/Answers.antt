@@ -1,0 +1,21 @@
+use Rattle.std.proofs.Common.{◌≡◌, List, [], ◌∷◌, ◌++◌, rules, sym, subst, arith}
+use Rattle.std.proofs.lemmas.Grind.{common_steps}
+use Rattle.cmh_board.specs.Board.{known}
+use Rattle.cmh_work.specs.declared.finding.Finding.{Finding}
+use Rattle.cmh_work.specs.Finding.{Accounts}
+use Rattle.cmh_work.proofs.Accounting.{accounts_more}
+use Rattle.cmh_work.proofs.worker.find_each.Goals as goal
+
+pub loop-initiator-preserved : goal.loop-initiator-preserved
+loop-initiator-preserved g c =
+    let gr = c.args.job.now.graph.now in
+    let choices = c.args.job.now.plan.now.choices in
+    let v = known c.loop-initiator.seat in
+    let w = known c.find_one.new.seat in
+    let pushed : c.push.new.self.items ≡ c.loop-initiator.found.items ++ c.in_ok-finding.finding ∷ [] = search rules in record {
+      sits = search rules;
+      share = search rules;
+      accounts = subst (Accounts gr choices w) (sym pushed)
+          (accounts_more gr choices v w c.loop-initiator.found.items c.in_ok-finding.finding c.loop-initiator.invariant.accounts c.in_ok-finding.ensures.recorded);
+      order = grind (arith, common_steps);
+    }

@@ -1,0 +1,67 @@
+-- What workers have found, before the history is closed.
+use Rattle.std.specs.Prelude.{◌≡◌, ◌⊎◌, ℕ, List, [], ◌∷◌, ◌++◌, All, Contains, IsTrue, Option, Some, IfSome}
+use Rattle.cmh_graph.specs.declared.verdict.Verdict.{Verdict}
+use Rattle.cmh_graph.specs.Graph.{Graph, is_idle}
+use Rattle.cmh_run.specs.Hints.{IsVerdict}
+use Rattle.cmh_run.specs.Run.{Run}
+use Rattle.cmh_rw.specs.declared.view.Row.{Row}
+use Rattle.cmh_rw.specs.declared.view.View.{View}
+use Rattle.cmh_rw.specs.History.{StartsWith, fold_at}
+use Rattle.cmh_work.specs.declared.finding.Answer.{Answer}
+use Rattle.cmh_work.specs.declared.finding.Finding.{Finding}
+use Rattle.cmh_work.specs.Shape.{IsShape}
+use Rattle.cmh_work.specs.Record.{IsRunFor}
+use Rattle.cmh_work.specs.Analysis.{IsPostedBy}
+
+abbrev pub finder_of : Finding → ℕ
+finder_of f = f.initiator
+
+-- the posting stands in what is seen, and is this run's
+pub record IsSeenFrom (seen posting : List Row) (run : Run) : Type 0 where
+  pub before : List Row
+  pub place : StartsWith seen (before ++ posting)
+  pub posted : IsPostedBy before posting run
+
+-- a seat that asked of p, and knew v before and w after, has an answer: it is true, it stands in
+-- what is seen, and where the seat added a posting, it is that of the run
+pub record IsAnswered (g : Graph) (choices : List ℕ) (p : ℕ) (v w : View) (a : Answer)
+    : Type 0 where
+  pub sees : StartsWith w.seen v.seen
+  pub verdict : IsVerdict g p a.verdict
+  pub stands : fold_at w.seen p ≡ Some a.verdict
+  pub run : IfSome a.run (IsRunFor g choices p a.verdict)
+  pub mine : (w.mine ≡ v.mine)
+      ⊎ ((posting : List Row) × (w.mine ≡ v.mine ++ posting ∷ [])
+      × (run : Run) × (a.run ≡ Some run) × IsSeenFrom w.seen posting run)
+
+-- what was found of a process is true, and stands in what is seen
+pub record IsSound (g : Graph) (choices : List ℕ) (seen : List Row) (f : Finding) : Type 0 where
+  pub idle : IsTrue (is_idle g f.initiator)
+  pub verdict : IsVerdict g f.initiator f.verdict
+  pub shape : IsShape g f.initiator f.verdict f.shape
+  pub run : IfSome f.run (IsRunFor g choices f.initiator f.verdict)
+  pub stands : fold_at seen f.initiator ≡ Some f.verdict
+
+-- the seat that knew v before and w after, and found this, has added a posting of its run, or none
+pub record IsRecorded (g : Graph) (choices : List ℕ) (v w : View) (f : Finding) : Type 0 where
+  pub sees : StartsWith w.seen v.seen
+  pub sound : IsSound g choices w.seen f
+  pub mine : (w.mine ≡ v.mine)
+      ⊎ ((posting : List Row) × (w.mine ≡ v.mine ++ posting ∷ [])
+      × (run : Run) × (f.run ≡ Some run) × IsSeenFrom w.seen posting run)
+
+-- the posting is of the run of something that was found
+abbrev pub IsExplained : List Row → List Finding → List Row → Type 0
+IsExplained seen found posting = (f : Finding) × Contains found f
+    × (run : Run) × (f.run ≡ Some run) × IsSeenFrom seen posting run
+
+abbrev pub AreExplained : List Row → List Finding → List (List Row) → Type 0
+AreExplained seen found [] = Unit {0}
+AreExplained seen found (posting ∷ postings) =
+    IsExplained seen found posting × AreExplained seen found postings
+
+-- what was found is sound, and explains the postings that the seat added
+pub record Accounts (g : Graph) (choices : List ℕ) (v : View) (found : List Finding)
+    : Type 0 where
+  pub sound : All (IsSound g choices v.seen) found
+  pub explained : AreExplained v.seen found v.mine

@@ -1,0 +1,35 @@
+-- Findings as they are given out, once the history is closed.
+use Rattle.std.specs.Prelude.{◌≡◌, ℕ, List, [], ◌∷◌, Option, Some, None}
+use Rattle.cmh_graph.specs.declared.verdict.Verdict.{Verdict}
+use Rattle.cmh_run.specs.Run.{Run}
+use Rattle.cmh_rw.specs.declared.view.Row.{Row}
+use Rattle.cmh_rw.specs.History.{fold_at}
+use Rattle.cmh_work.specs.declared.finding.Finding.{Finding}
+use Rattle.cmh_work.specs.declared.record.Record.{Record}
+use Rattle.cmh_work.specs.declared.record.Origin.{Origin}
+use Rattle.cmh_work.specs.declared.record.Origin.TheVariants.{FromRun, FromBoard}
+use Rattle.cmh_work.specs.Record.{IsRowFor}
+
+-- what was found stands in the history
+abbrev pub Stands : List Row → Finding → Type 0
+Stands history f = fold_at history f.initiator ≡ Some f.verdict
+
+-- the run of a finding is kept, and where there is none, the row is named
+abbrev pub IsNamed : List Row → ℕ → Verdict → Option Run → Origin → Type 0
+IsNamed history p verdict (Some run) source = source ≡ FromRun run
+IsNamed history p verdict None source =
+    (n : ℕ) × (source ≡ FromBoard n) × IsRowFor history n p verdict
+
+-- the record tells what was found
+pub record IsNumbered (history : List Row) (f : Finding) (r : Record) : Type 0 where
+  pub initiator : r.initiator ≡ f.initiator
+  pub verdict : r.verdict ≡ f.verdict
+  pub shape : r.shape ≡ f.shape
+  pub source : IsNamed history f.initiator f.verdict f.run r.source
+
+-- each record tells what was found at its place
+abbrev pub AreNumbered : List Row → List Finding → List Record → Type 0
+AreNumbered history [] [] = Unit {0}
+AreNumbered history [] (r ∷ rs) = ⊥
+AreNumbered history (f ∷ fs) [] = ⊥
+AreNumbered history (f ∷ fs) (r ∷ rs) = IsNumbered history f r × AreNumbered history fs rs

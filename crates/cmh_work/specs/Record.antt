@@ -1,0 +1,36 @@
+-- What is true of each record of an analysis.
+use Rattle.std.specs.Prelude.{◌≡◌, ℕ, Bool, List, [], IsTrue, Some, slice_get}
+use Rattle.cmh_graph.specs.declared.verdict.Verdict.{Verdict}
+use Rattle.cmh_graph.specs.Graph.{Graph, is_idle}
+use Rattle.cmh_run.specs.Hints.{IsVerdict}
+use Rattle.cmh_run.specs.Run.{Run, IsRunOf, verdict_of}
+use Rattle.cmh_rw.specs.declared.view.Row.{Row}
+use Rattle.cmh_work.specs.declared.record.Record.{Record}
+use Rattle.cmh_work.specs.declared.record.Origin.{Origin}
+use Rattle.cmh_work.specs.declared.record.Origin.TheVariants.{FromRun, FromBoard}
+use Rattle.cmh_work.specs.Shape.{IsShape}
+
+-- a legal run of p that followed the choices, without a restart, and tells this verdict
+pub record IsRunFor (g : Graph) (choices : List ℕ) (p : ℕ) (verdict : Verdict) (run : Run)
+    : Type 0 where
+  pub initiator : run.initiator ≡ p
+  pub legal : IsRunOf g choices [] run
+  pub tells : verdict_of run.ending ≡ verdict
+
+-- the row of this number is of p, with this verdict
+abbrev pub IsRowFor : List Row → ℕ → ℕ → Verdict → Type 0
+IsRowFor history n p verdict = (last : Bool)
+    × (slice_get history n ≡ Some (record { process = p; verdict = verdict; last = last }))
+
+-- the verdict of p is known by such a run, or by that row
+abbrev pub IsSource : Graph → List ℕ → List Row → ℕ → Verdict → Origin → Type 0
+IsSource g choices history p verdict (FromRun run) = IsRunFor g choices p verdict run
+IsSource g choices history p verdict (FromBoard n) = IsRowFor history n p verdict
+
+-- the record of an idle process tells its verdict, its shape, and how the verdict is known
+pub record IsTrueRecord (g : Graph) (choices : List ℕ) (history : List Row) (r : Record)
+    : Type 0 where
+  pub idle : IsTrue (is_idle g r.initiator)
+  pub verdict : IsVerdict g r.initiator r.verdict
+  pub shape : IsShape g r.initiator r.verdict r.shape
+  pub source : IsSource g choices history r.initiator r.verdict r.source

@@ -1,0 +1,56 @@
+-- What workers share, what each is given, and what it gives back.
+use Rattle.std.specs.Prelude.{◌≡◌, ℕ, ◌+◌, List, [], length, map, true}
+use Rattle.cmh_graph.specs.Graph.{Graph, idle_list}
+use Rattle.cmh_board.specs.declared.board.BoardSeat.{BoardSeat}
+use Rattle.cmh_board.specs.Board.{known, graph_of, SitsAt, IsAway}
+use Rattle.cmh_work.specs.declared.finding.Finding.{Finding}
+use Rattle.cmh_work.specs.declared.job.Shared.{Shared}
+use Rattle.cmh_work.specs.declared.job.Seats.{Seats}
+use Rattle.cmh_work.specs.Plan.{Setup}
+use Rattle.cmh_work.specs.Cutting.{chunks_of, gathered}
+use Rattle.cmh_work.specs.Seats.{view, IsSeatOf}
+use Rattle.cmh_work.specs.Shape.{AreShapesOf}
+use Rattle.cmh_work.specs.Finding.{finder_of, Accounts}
+
+-- it was made for this graph and this plan
+pub record IsMadeFor (g : Graph) (plan : Setup) (s : Shared) : Type 0 where
+  pub idle : s.idle.items ≡ idle_list g
+  pub shapes : AreShapesOf g s.shapes
+  pub board : graph_of s.board ≡ g
+  pub tickets : s.tickets.chunks ≡ length plan.cuts + 1
+
+-- the chunks of the idle processes
+abbrev pub chunks_in : Setup → Shared → List (List ℕ)
+chunks_in plan s = chunks_of plan.cuts s.idle.items
+
+-- a seat of the shared board, which holds nothing
+pub record SitsIn (s : Shared) (seat : BoardSeat) : Type 0 where
+  pub sits : SitsAt s.board seat
+  pub away : IsAway seat
+
+pub record Sit (s : Shared) (seats : Seats) : Type 0 where
+  pub board : SitsIn s seats.board
+  pub tickets : IsSeatOf s.tickets seats.tickets
+
+-- nothing is drawn and nothing added yet
+pub record AreNew (seats : Seats) : Type 0 where
+  pub drawn : (view seats.tickets).drawn ≡ []
+  pub mine : (known seats.board).mine ≡ []
+
+-- the seats are in their places afterwards, with the shares that they had
+pub record AreBack (s : Shared) (old new : Seats) : Type 0 where
+  pub sit : Sit s new
+  pub tickets : (view new.tickets).share ≡ (view old.tickets).share
+  pub board : (known new.board).lock.share ≡ (known old.board).lock.share
+
+-- what was found is of the chunks that the seat drew, in order, and explains what it added
+pub record AreOf (g : Graph) (plan : Setup) (s : Shared) (seats : Seats) (found : List Finding)
+    : Type 0 where
+  pub accounts : Accounts g plan.choices (known seats.board) found
+  pub order : map finder_of found ≡ gathered (chunks_in plan s) (view seats.tickets).drawn
+
+-- and no chunk is left
+pub record IsWorked (g : Graph) (plan : Setup) (s : Shared) (seats : Seats) (found : List Finding)
+    : Type 0 where
+  pub of : AreOf g plan s seats found
+  pub done : (view seats.tickets).done ≡ true

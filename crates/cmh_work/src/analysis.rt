@@ -1,0 +1,89 @@
+//! The analysis of a wait graph by workers.
+
+ghost use Rattle.std.specs.Prelude.{◌≡◌, ◌<◌, IfOk, IfErr};
+ghost use Rattle.cmh_work.specs.Analysis.{IsAnalysisOf};
+ghost use Rattle.cmh_work.specs.Seats.{view};
+ghost use Rattle.cmh_work.specs.Working.{IsMadeFor, Sit, AreNew};
+ghost use Rattle.cmh_board.specs.Board.{known};
+
+use crate::job::{Seats, Shared};
+use crate::number::number_all;
+use crate::record::Analysis;
+use crate::seats::Tickets;
+use crate::shapes::Shapes;
+use crate::workers::workers;
+use crate::{Gate, Plan, WorkFault};
+use cmh_board::Board;
+use cmh_graph::WaitGraph;
+use std::alloc::Global;
+use std::sync::Wait;
+use std::thread::Threads;
+
+/// Finds out about each idle process of the graph, by as many workers as the plan says. Each draws
+/// chunks of initiators until there are no more. Of each initiator in order it tells the gate, then
+/// looks at the board, and where that doesn't answer, it runs the initiator's computation and posts
+/// what the run tells. Each worker has a thread of its own, where one can be had; the last works in
+/// this thread. All are joined before the answer.
+///
+/// One run may serve all members of a deadlocked knot. A run takes time linear in dependencies at
+/// choice 0; besides there are one search of the graph, two for each group of deadlocked processes,
+/// and for each free process the length of its path.
+///
+/// # Errors
+///
+/// `Memory`, where memory is refused. `WorkerLost` isn't answered today.
+pub fn analyse<R: Threads + Wait + Sync, P: Gate>(
+    rt: &R,
+    alloc: Global,
+    graph: &WaitGraph,
+    plan: &Plan,
+    gate: &P,
+) -> Result<Analysis, WorkFault>
+    ensures ok { IfOk result (IsAnalysisOf graph.now plan.now.choices) }
+    ensures memory { IfErr result (λ e. e ≡ WorkFault.Memory) }
+{
+    let idle = graph.idle_list(alloc)?;
+    let shapes = Shapes::of_graph(alloc, graph)?;
+    let (board, board_seat) = Board::open(alloc, graph)?;
+    let (tickets, ticket_seat) = Tickets::open(alloc, plan.cuts().len() as u32 + 1)?;
+    let shared = Shared {
+        idle,
+        shapes,
+        board,
+        tickets,
+    };
+    let seats = Seats {
+        board: board_seat,
+        tickets: ticket_seat,
+    };
+    finish(rt, alloc, graph, plan, shared, gate, seats)
+}
+
+/// The analysis, by workers that share this.
+fn finish<R: Threads + Wait + Sync, P: Gate>(
+    rt: &R,
+    alloc: Global,
+    graph: &WaitGraph,
+    plan: &Plan,
+    shared: Shared,
+    gate: &P,
+    seats: Seats,
+) -> Result<Analysis, WorkFault>
+    requires made { IsMadeFor graph.now plan.now shared }
+    requires sit { Sit shared seats }
+    requires new { AreNew seats }
+    requires tickets { (view seats.tickets).share ≡ 64 }
+    requires board { (known seats.board).lock.share ≡ 64 }
+    ensures ok { IfOk result (IsAnalysisOf graph.now plan.now.choices) }
+    ensures memory { IfErr result (λ e. e ≡ WorkFault.Memory) }
+{
+    // A call that says how many processes there are, and so how many rows at most.
+    let _ = graph.len();
+    let others = plan.workers() - 1;
+    let (seats, found) = workers(rt, alloc, graph, plan, &shared, gate, seats, others);
+    let mut found = found?;
+    found.sort_unstable_by_key(|finding| finding.initiator);
+    let history = shared.board.close(alloc, seats.board)?;
+    let records = number_all(alloc, &history, found)?;
+    Ok(Analysis { records, history })
+}

@@ -1,0 +1,42 @@
+//! What all workers of an analysis share, and what one of them holds.
+
+ghost use Rattle.std.specs.Prelude.{◌≡◌, ◌+◌, length, map};
+ghost use Rattle.cmh_graph.specs.Graph.{indices, idle_list};
+ghost use Rattle.cmh_graph.specs.ChosenPath.{distance_of};
+ghost use Rattle.cmh_board.specs.Board.{graph_of};
+ghost use Rattle.cmh_work.specs.Leaders.{group_leader};
+
+use crate::Plan;
+use crate::seats::{TicketSeat, Tickets};
+use crate::shapes::Shapes;
+use cmh_board::{Board, BoardSeat};
+use cmh_graph::WaitGraph;
+
+/// What is made for an analysis, and shared by its workers.
+#[derive(Drop)]
+pub(crate) struct Shared {
+    pub(crate) idle: Vec<u32>,
+    pub(crate) shapes: Shapes,
+    pub(crate) board: Board,
+    pub(crate) tickets: Tickets,
+}
+
+/// What a worker reads.
+#[derive(Drop)]
+pub(crate) struct Job<'a> {
+    pub(crate) graph: &'a WaitGraph,
+    pub(crate) plan: &'a Plan,
+    pub(crate) shared: &'a Shared,
+    ghost initiators: { shared.now.idle.items ≡ idle_list graph.now },
+    ghost distances: { shared.now.shapes.distances.items ≡ map (distance_of graph.now) (indices graph.now) },
+    ghost leaders: { shared.now.shapes.leaders.items ≡ map (group_leader graph.now) (indices graph.now) },
+    ghost named: { graph_of shared.now.board ≡ graph.now },
+    ghost counted: { shared.now.tickets.chunks ≡ length plan.now.cuts + 1 },
+}
+
+/// The two seats of a worker.
+#[derive(Drop)]
+pub(crate) struct Seats {
+    pub(crate) board: BoardSeat,
+    pub(crate) tickets: TicketSeat,
+}

@@ -1,0 +1,181 @@
+//! One worker, who draws chunks until there are no more.
+
+ghost use Rattle.std.specs.Prelude.{◌≡◌, ◌++◌, map, All, IfOk, IfErr, OnOk, IsTrue};
+ghost use Rattle.cmh_graph.specs.Graph.{is_idle};
+ghost use Rattle.cmh_run.specs.Run.{TellsTruth};
+ghost use Rattle.cmh_board.specs.Board.{known, Sees};
+ghost use Rattle.cmh_work.specs.Record.{IsRunFor};
+ghost use Rattle.cmh_run.specs.Run.{verdict_of};
+ghost use Rattle.cmh_work.specs.Finding.{finder_of, IsAnswered, IsRecorded, Accounts};
+ghost use Rattle.cmh_work.specs.Working.{IsMadeFor, SitsIn, Sit, AreNew, AreBack, IsWorked};
+
+use crate::chunks::chunk_at;
+use crate::finding::{Answer, Finding};
+use crate::job::{Job, Seats, Shared};
+use crate::{Gate, Plan, WorkFault};
+use cmh_board::{BoardHints, BoardSeat, Look, Posting};
+use cmh_graph::WaitGraph;
+use cmh_run::{RunLog, run};
+use std::alloc::Global;
+use std::sync::Wait;
+
+/// A run of the initiator, which asks the board as it goes.
+fn run_of(
+    alloc: Global,
+    job: &Job,
+    seat: &mut BoardSeat,
+    initiator: u32,
+) -> Result<RunLog, WorkFault>
+    requires sits { SitsIn job.now.shared.now seat.old }
+    requires idle { IsTrue (is_idle job.now.graph.now initiator) }
+    ensures sits { SitsIn job.now.shared.now seat.new }
+    ensures sees { Sees (known seat.old) (known seat.new) }
+    ensures run { IfOk result (λ r. IsRunFor job.now.graph.now job.now.plan.now.choices initiator (verdict_of r.ending) r) }
+    ensures truth { IfOk result (TellsTruth job.now.graph.now) }
+    ensures memory { IfErr result (λ e. e ≡ WorkFault.Memory) }
+{
+    let mut hints = BoardHints::new(&job.shared.board, seat);
+    match run(alloc, job.graph, initiator, job.plan.choices(), &mut hints) {
+        Ok(run) => Ok(run),
+        Err(_) => Err(WorkFault::Memory),
+    }
+}
+
+/// The verdict of an initiator: the board's, or else that of a run, which is posted.
+fn ask<R: Wait>(
+    rt: &R,
+    alloc: Global,
+    job: &Job,
+    seat: &mut BoardSeat,
+    initiator: u32,
+) -> Result<Answer, WorkFault>
+    requires sits { SitsIn job.now.shared.now seat.old }
+    requires idle { IsTrue (is_idle job.now.graph.now initiator) }
+    ensures sits { SitsIn job.now.shared.now seat.new }
+    ensures share { (known seat.new).lock.share ≡ (known seat.old).lock.share }
+    ensures answered { IfOk result (IsAnswered
+        job.now.graph.now job.now.plan.now.choices initiator (known seat.old) (known seat.new)) }
+    ensures memory { IfErr result (λ e. e ≡ WorkFault.Memory) }
+{
+    if let Look::Known(verdict) = job.shared.board.look(seat, initiator) {
+        return Ok(Answer { verdict, run: None });
+    }
+    let run = run_of(alloc, job, seat, initiator)?;
+    job.shared.board.post(rt, seat, &Posting::of_run(&run));
+    Ok(Answer {
+        verdict: run.verdict(),
+        run: Some(run),
+    })
+}
+
+/// What is found of one initiator.
+fn find_one<R: Wait, P: Gate>(
+    rt: &R,
+    alloc: Global,
+    job: &Job,
+    gate: &P,
+    seat: &mut BoardSeat,
+    initiator: u32,
+) -> Result<Finding, WorkFault>
+    requires sits { SitsIn job.now.shared.now seat.old }
+    requires idle { IsTrue (is_idle job.now.graph.now initiator) }
+    ensures sits { SitsIn job.now.shared.now seat.new }
+    ensures share { (known seat.new).lock.share ≡ (known seat.old).lock.share }
+    ensures is { IfOk result (λ f. f.initiator ≡ initiator) }
+    ensures recorded { IfOk result (IsRecorded
+        job.now.graph.now job.now.plan.now.choices (known seat.old) (known seat.new)) }
+    ensures memory { IfErr result (λ e. e ≡ WorkFault.Memory) }
+{
+    gate.pass(initiator);
+    let Answer { verdict, run } = ask(rt, alloc, job, seat, initiator)?;
+    let shape = job
+        .shared
+        .shapes
+        .shape_of(alloc, job.graph, initiator, verdict)?;
+    Ok(Finding {
+        initiator,
+        verdict,
+        run,
+        shape,
+    })
+}
+
+/// Adds what is found of each initiator of the chunk, in order.
+fn find_each<R: Wait, P: Gate>(
+    rt: &R,
+    alloc: Global,
+    job: &Job,
+    gate: &P,
+    seat: &mut BoardSeat,
+    found: &mut Vec<Finding>,
+    chunk: &[u32],
+) -> Result<(), WorkFault>
+    requires sits { SitsIn job.now.shared.now seat.old }
+    requires idle { All (λ p. IsTrue (is_idle job.now.graph.now p)) chunk.now }
+    requires accounts { Accounts
+        job.now.graph.now job.now.plan.now.choices (known seat.old) found.old.items }
+    ensures sits { SitsIn job.now.shared.now seat.new }
+    ensures share { (known seat.new).lock.share ≡ (known seat.old).lock.share }
+    ensures accounts { OnOk result (Accounts
+        job.now.graph.now job.now.plan.now.choices (known seat.new) found.new.items) }
+    ensures order { OnOk result (map finder_of found.new.items
+        ≡ map finder_of found.old.items ++ chunk.now) }
+    ensures memory { IfErr result (λ e. e ≡ WorkFault.Memory) }
+{
+    for initiator in chunk {
+        let finding = find_one(rt, alloc, job, gate, seat, *initiator)?;
+        found.push(finding)?;
+    }
+    Ok(())
+}
+
+/// Works on chunks until there are no more, or memory is refused.
+fn draw_all<R: Wait, P: Gate>(
+    rt: &R,
+    alloc: Global,
+    job: &Job,
+    gate: &P,
+    seats: &mut Seats,
+) -> Result<Vec<Finding>, WorkFault>
+    requires sit { Sit job.now.shared.now seats.old }
+    requires new { AreNew seats.old }
+    ensures back { AreBack job.now.shared.now seats.old seats.new }
+    ensures worked { IfOk result (λ found. IsWorked
+        job.now.graph.now job.now.plan.now job.now.shared.now seats.new found.items) }
+    ensures memory { IfErr result (λ e. e ≡ WorkFault.Memory) }
+{
+    let mut found = Vec::new(alloc);
+    while let Some(number) = job.shared.tickets.draw(&mut seats.tickets) {
+        let chunk = chunk_at(job.plan.cuts(), &job.shared.idle, number as usize);
+        find_each(rt, alloc, job, gate, &mut seats.board, &mut found, chunk)?;
+    }
+    Ok(found)
+}
+
+/// One worker. Its seats come back on every path.
+pub(crate) fn work<R: Wait, P: Gate>(
+    rt: &R,
+    alloc: Global,
+    graph: &WaitGraph,
+    plan: &Plan,
+    shared: &Shared,
+    gate: &P,
+    seats: Seats,
+) -> (Seats, Result<Vec<Finding>, WorkFault>)
+    requires made { IsMadeFor graph.now plan.now shared.now }
+    requires sit { Sit shared.now seats }
+    requires new { AreNew seats }
+    ensures back { AreBack shared.now seats result.0 }
+    ensures worked { IfOk result.1 (λ found.
+        IsWorked graph.now plan.now shared.now result.0 found.items) }
+    ensures memory { IfErr result.1 (λ e. e ≡ WorkFault.Memory) }
+{
+    let job = Job {
+        graph,
+        plan,
+        shared,
+    };
+    let mut seats = seats;
+    let found = draw_all(rt, alloc, &job, gate, &mut seats);
+    (seats, found)
+}

@@ -1,0 +1,127 @@
+//! Workers, each in a thread of its own but the last, which works in the thread of the caller.
+
+ghost use Rattle.std.specs.Prelude.{◌≡◌, ◌+◌, ◌<◌, ◌≤◌, ◌++◌, IfOk, IfErr, IfSome, IfNone, IsOkAnd};
+ghost use Rattle.std.specs.Thread.{IsSync};
+ghost use Rattle.cmh_rw.specs.History.{StartsWith};
+ghost use Rattle.cmh_rw.specs.View.{joined};
+ghost use Rattle.cmh_board.specs.Board.{known};
+ghost use Rattle.cmh_work.specs.Seats.{view};
+ghost use Rattle.cmh_work.specs.Tickets.{joined_views};
+ghost use Rattle.cmh_work.specs.Working.{IsMadeFor, Sit, AreNew, AreBack, IsWorked};
+
+use crate::finding::Finding;
+use crate::job::{Seats, Shared};
+use crate::worker::work;
+use crate::{Gate, Plan, WorkFault};
+use cmh_graph::WaitGraph;
+use std::alloc::Global;
+use std::sync::Wait;
+use std::thread::{Threads, join};
+
+/// What both found, or the fault of one.
+fn both(
+    first: Result<Vec<Finding>, WorkFault>,
+    second: Result<Vec<Finding>, WorkFault>,
+) -> Result<Vec<Finding>, WorkFault>
+    requires first { IfErr first (λ e. e ≡ WorkFault.Memory) }
+    requires second { IfErr second (λ e. e ≡ WorkFault.Memory) }
+    ensures all { IfOk result (λ v.
+        IsOkAnd first (λ a. IsOkAnd second (λ b. v.items ≡ a.items ++ b.items))) }
+    ensures memory { IfErr result (λ e. e ≡ WorkFault.Memory) }
+{
+    let mut all = first?;
+    let mut more = second?;
+    all.append(&mut more)?;
+    Ok(all)
+}
+
+/// A seat of each with share 1, for another worker.
+fn split_off(shared: &Shared, seats: &mut Seats) -> Option<Seats>
+    requires sit { Sit shared.now seats.old }
+    requires new { AreNew seats.old }
+    requires share { (known seats.old.board).lock.share ≡ (view seats.old.tickets).share }
+    ensures sit { Sit shared.now seats.new × AreNew seats.new }
+    ensures share { (known seats.new.board).lock.share ≡ (view seats.new.tickets).share }
+    ensures new { IfSome result (λ s. Sit shared.now s × AreNew s
+        × ((known s.board).lock.share ≡ 1) × ((view s.tickets).share ≡ 1)) }
+    ensures less { IfSome result (λ s.
+        (view seats.new.tickets).share + 1 ≡ (view seats.old.tickets).share) }
+    ensures none { IfNone result (((view seats.old.tickets).share ≤ 1)
+        × ((view seats.new.tickets).share ≡ (view seats.old.tickets).share)) }
+{
+    if seats.tickets.share() <= 1 {
+        return None;
+    }
+    let tickets = shared.tickets.split(&mut seats.tickets)?;
+    let board = shared.board.split(&mut seats.board)?;
+    Some(Seats { board, tickets })
+}
+
+/// The seats of another worker come back.
+fn take_back(shared: &Shared, seats: &mut Seats, other: Seats)
+    requires sit { Sit shared.now seats.old × Sit shared.now other }
+    ensures sit { Sit shared.now seats.new }
+    ensures tickets { view seats.new.tickets
+        ≡ joined_views (view seats.old.tickets) (view other.tickets) }
+    ensures board { known seats.new.board
+        ≡ joined (known seats.old.board) (known other.board) }
+    ensures begins { StartsWith (known seats.new.board).seen (known seats.old.board).seen
+        × StartsWith (known seats.new.board).seen (known other.board).seen }
+{
+    let Seats { board, tickets } = other;
+    shared.tickets.join(&mut seats.tickets, tickets);
+    shared.board.join(&mut seats.board, board);
+}
+
+/// So many workers in threads of their own, and one in this thread. All are joined on every path,
+/// and their seats come back.
+pub(crate) fn workers<R: Threads + Wait + Sync, P: Gate>(
+    rt: &R,
+    alloc: Global,
+    graph: &WaitGraph,
+    plan: &Plan,
+    shared: &Shared,
+    gate: &P,
+    seats: Seats,
+    others: u32,
+) -> (Seats, Result<Vec<Finding>, WorkFault>)
+    requires made { IsMadeFor graph.now plan.now shared.now }
+    requires sit { Sit shared.now seats }
+    requires same { (known seats.board).lock.share ≡ (view seats.tickets).share }
+    requires new { AreNew seats }
+    requires share { others < (view seats.tickets).share }
+    ensures back { AreBack shared.now seats result.0 }
+    ensures worked { IfOk result.1 (λ found.
+        IsWorked graph.now plan.now shared.now result.0 found.items) }
+    ensures memory { IfErr result.1 (λ e. e ≡ WorkFault.Memory) }
+{
+    if others == 0 {
+        return work(rt, alloc, graph, plan, shared, gate, seats);
+    }
+    let fewer = others - 1;
+    let mut rest = seats;
+    let Some(one) = split_off(shared, &mut rest) else {
+        return work(rt, alloc, graph, plan, shared, gate, rest);
+    };
+    let ((one, found), (mut rest, more)) = join(
+        rt,
+        || -> (Seats, Result<Vec<Finding>, WorkFault>)
+            requires { IsSync R.row × IsMadeFor graph.now plan.now shared.now
+                × Sit shared.now one × AreNew one }
+            ensures { AreBack shared.entry.now one result.0 × IfOk result.1 (λ found. IsWorked
+                graph.entry.now plan.entry.now shared.entry.now result.0 found.items)
+                × IfErr result.1 (λ e. e ≡ WorkFault.Memory) }
+        { work(rt, alloc, graph, plan, shared, gate, one) },
+        || -> (Seats, Result<Vec<Finding>, WorkFault>)
+            requires { IsSync R.row × IsMadeFor graph.now plan.now shared.now
+                × Sit shared.now rest
+                × ((known rest.board).lock.share ≡ (view rest.tickets).share)
+                × AreNew rest × (fewer < (view rest.tickets).share) }
+            ensures { AreBack shared.entry.now rest result.0 × IfOk result.1 (λ found. IsWorked
+                graph.entry.now plan.entry.now shared.entry.now result.0 found.items)
+                × IfErr result.1 (λ e. e ≡ WorkFault.Memory) }
+        { workers(rt, alloc, graph, plan, shared, gate, rest, fewer) },
+    );
+    take_back(shared, &mut rest, one);
+    (rest, both(more, found))
+}
