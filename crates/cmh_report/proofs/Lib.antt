@@ -1,10 +1,9 @@
-pub mod Cores
 pub mod Counts
 pub mod Examples
-pub mod Leaders
+pub mod Members
 pub mod Numbers
 pub mod Paths
-pub mod RunVerdicts
+pub mod Records
 pub mod TraceExamples
 pub mod Traces
 pub mod Words

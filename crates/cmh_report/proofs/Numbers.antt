@@ -14,8 +14,9 @@ use Rattle.cmh_graph.proofs.Cores.{core_law}
 use Rattle.cmh_graph.proofs.Listing.{by_index, filter_agree_on, filter_indices_kept, filter_indices_passed}
 use Rattle.cmh_graph.proofs.Reaching.{index_within, reaches_then, then_reaches}
 use Rattle.cmh_graph.proofs.Verdicts.{filter_contains}
-use Rattle.cmh_report.specs.Group.{group_leader, is_led_by, leaders_up_to}
-use Rattle.cmh_report.proofs.Cores.{leader_in_core, reached_deadlocked, same_leader, same_test}
+use Rattle.cmh_report.specs.Group.{is_led_by, leaders_up_to}
+use Rattle.cmh_work.specs.Leaders.{group_leader}
+use Rattle.cmh_work.proofs.Cores.{leader_in_core, reached_deadlocked, same_leader, same_test}
 
 -- a leader leads itself
 abbrev pub leads_itself : Graph → ℕ → Bool

@@ -1,43 +1,32 @@
--- Who leads the group of a process, while leaders are found by rising index.
-use Rattle.std.specs.Prelude.{◌≡◌, ℕ, Bool, true, false, ◌&&◌, nat_eq, nat_le, nat_lt, List, length, slice_index_or, if◌then◌else◌, count_by, Contains, Option, Some, None}
+-- The groups of deadlocked processes, as the report finds them: who leads whom, and the numbers.
+use Rattle.std.specs.Prelude.{◌≡◌, ℕ, Bool, nat_eq, nat_le, List, map, count_by, Option, Some}
 use Rattle.std.specs.Option.{option_eq}
-use Rattle.cmh_graph.specs.declared.verdict.Verdict.{Verdict}
-use Rattle.cmh_graph.specs.declared.verdict.Verdict.TheVariants.{Deadlocked, Free}
-use Rattle.cmh_graph.specs.Graph.{Graph}
-use Rattle.cmh_graph.specs.Verdict.{is_deadlocked}
-use Rattle.cmh_graph.specs.Core.{leader_of, leaders}
-
--- the leader of p's group, if p is deadlocked
-unfoldable pub group_leader : Graph → ℕ → Option ℕ
-group_leader g p = if is_deadlocked g p then Some (leader_of g p) else None
-
--- the same, if the leader is below the bound
-unfoldable pub leader_below : Graph → ℕ → ℕ → Option ℕ
-leader_below g bound p =
-    if is_deadlocked g p && nat_lt (leader_of g p) bound then Some (leader_of g p) else None
+use Rattle.cmh_graph.specs.Graph.{Graph, indices}
+use Rattle.cmh_graph.specs.Build.{IsWellFormed}
+use Rattle.cmh_graph.specs.Path.{reach_of}
+use Rattle.cmh_graph.specs.Core.{core_of, rest_of, leaders, group_number}
+use Rattle.cmh_work.specs.Leaders.{group_leader, leader_at}
+use Rattle.cmh_report.specs.Report.{site_count}
+use Rattle.cmh_report.specs.declared.group.Group.{Group}
+use Rattle.cmh_report.specs.declared.groups.Groups.{Groups}
 
 -- how many leaders there are up to this place
 unfoldable pub leaders_up_to : Graph → ℕ → ℕ
 leaders_up_to g p = count_by (λ q. nat_le q p) (leaders g)
 
-abbrev pub says_deadlocked : Verdict → Bool
-says_deadlocked Deadlocked = true
-says_deadlocked Free = false
-
--- whether the verdict at that place says so; past the end it doesn't
-abbrev pub is_deadlocked_at : List Verdict → ℕ → Bool
-is_deadlocked_at known p = says_deadlocked (slice_index_or known p Free)
-
--- the leader that stands at that place, where there is one
-abbrev pub leader_at : List (Option ℕ) → ℕ → Option ℕ
-leader_at list p = slice_index_or list p None
-
--- each member has the leader now, and nothing else has changed
-pub record LeadsEach (leader : ℕ) (members : List ℕ) (old new : List (Option ℕ)) : Type 0 where
-  pub size : length new ≡ length old
-  pub led : (p : ℕ) → Contains members p → leader_at new p ≡ Some leader
-  pub kept : (p : ℕ) → (Contains members p → ⊥) → leader_at new p ≡ leader_at old p
-
 -- whether that leader stands at the place
 abbrev pub is_led_by : List (Option ℕ) → ℕ → ℕ → Bool
 is_led_by list leader p = option_eq nat_eq (leader_at list p) (Some leader)
+
+-- the groups of this graph
+pub record AreGroupsOf (g : Graph) (groups : Groups) : Type 0 where
+  pub well_formed : IsWellFormed g
+  pub leaders : groups.leaders.items ≡ map (group_leader g) (indices g)
+  pub numbers : groups.numbers.items ≡ map (leaders_up_to g) (indices g)
+
+-- the group of that leader
+pub record IsGroupOf (g : Graph) (leader : ℕ) (group : Group) : Type 0 where
+  pub number : group.number ≡ group_number g leader
+  pub core : group.core.items ≡ core_of g leader
+  pub rest : group.rest.items ≡ rest_of g leader
+  pub sites : group.site_count ≡ site_count g (reach_of g leader)

@@ -1,6 +1,6 @@
 pub mod Ends
 pub mod Fault
-pub mod Found
 pub mod Group
+pub mod Records
 pub mod Report
 pub mod Trace

@@ -1,12 +1,13 @@
 //! Why an analysis or a trace gives no answer.
 
 ghost use Rattle.std.specs.Prelude.{◌≡◌};
-ghost use Rattle.cmh_report.specs.declared.fault.AppFault.TheVariants.{Dump, Run, Report, WriteFault};
+ghost use Rattle.cmh_report.specs.declared.fault.AppFault.TheVariants.{Dump, Work, Run, Report, WriteFault};
 ghost use Rattle.cmh_report.specs.declared.fault.ReportFault.TheVariants.{Memory};
 
 use cmh_dump::DumpFault;
 use cmh_graph::GraphFault;
 use cmh_run::RunFault;
+use cmh_work::WorkFault;
 use std::alloc::AllocError;
 use thiserror::Error;
 
@@ -24,6 +25,9 @@ pub enum AppFault {
     /// The source gave no dump.
     #[error("dump: {0}")]
     Dump(DumpFault),
+    /// The workers gave no analysis.
+    #[error("work: {0}")]
+    Work(WorkFault),
     /// No process has the name.
     #[error("no such process")]
     NoSuchProcess,
@@ -60,6 +64,14 @@ impl From<DumpFault> for AppFault {
 
     fn from(fault: DumpFault) -> AppFault {
         AppFault::Dump(fault)
+    }
+}
+
+impl From<WorkFault> for AppFault {
+    ghost from_gives = { λ f e. e ≡ Work f };
+
+    fn from(fault: WorkFault) -> AppFault {
+        AppFault::Work(fault)
     }
 }
 

@@ -3,12 +3,11 @@
 ghost use Rattle.std.specs.Prelude.{◌≡◌, ◌<◌, length, filter, map, nat_eq, not, All, IfOk, IsTrue};
 ghost use Rattle.std.specs.HashSet.{IsFromIterResult};
 ghost use Rattle.cmh_graph.specs.Graph.{process_count, site_of};
-ghost use Rattle.cmh_report.specs.Found.{IsFoundOf, IsGroupOf};
-ghost use Rattle.cmh_report.specs.Group.{is_led_by};
+ghost use Rattle.cmh_report.specs.Group.{is_led_by, AreGroupsOf, IsGroupOf};
 ghost use Rattle.cmh_report.specs.Report.{site_count};
 
 use crate::ReportFault;
-use crate::groups::{Found, is_led_by};
+use crate::groups::{Groups, is_led_by};
 use cmh_graph::WaitGraph;
 use std::alloc::{AllocError, Global};
 use std::collections::HashSet;
@@ -26,19 +25,19 @@ pub(crate) struct Group {
 pub(crate) fn group_of(
     alloc: Global,
     graph: &WaitGraph,
-    found: &Found,
+    groups: &Groups,
     leader: u32,
 ) -> Result<Group, ReportFault>
     requires within { leader < process_count graph.now }
-    requires found { IsFoundOf graph.now found.now }
-    requires leads { IsTrue (is_led_by found.now.leaders.items leader leader) }
+    requires groups { AreGroupsOf graph.now groups.now }
+    requires leads { IsTrue (is_led_by groups.now.leaders.items leader leader) }
     ensures { IfOk result (IsGroupOf graph.now leader) }
 {
     let reach = graph.reach_of(alloc, leader)?;
-    let (core, rest) = core_and_rest(alloc, &found.leaders, leader, &reach)?;
+    let (core, rest) = core_and_rest(alloc, &groups.leaders, leader, &reach)?;
     let site_count = count_sites(alloc, graph, &reach)?;
     Ok(Group {
-        number: found.numbers[leader as usize],
+        number: groups.numbers[leader as usize],
         core,
         rest,
         site_count,

@@ -1,84 +1,68 @@
 //! The groups of deadlocked processes: who leads each, and its number.
 
-ghost use Rattle.std.specs.Prelude.{◌≡◌, ◌<◌, ◌&&◌, is_none, map, length, All, IfOk};
+ghost use Rattle.std.specs.Prelude.{◌≡◌, ◌<◌, map, length, IfOk};
 ghost use Rattle.cmh_graph.specs.Build.{IsWellFormed};
 ghost use Rattle.cmh_graph.specs.Graph.{indices};
-ghost use Rattle.cmh_graph.specs.Verdict.{verdicts};
-ghost use Rattle.cmh_report.specs.Found.{IsFoundOf};
-ghost use Rattle.cmh_report.specs.Group.{group_leader, is_deadlocked_at, is_led_by, leader_at, leaders_up_to, LeadsEach};
+ghost use Rattle.cmh_work.specs.Leaders.{group_leader};
+ghost use Rattle.cmh_report.specs.Group.{is_led_by, leaders_up_to};
+ghost use Rattle.cmh_report.specs.Records.{AreRecordsOf, leader_in};
 
-use crate::ReportFault;
-use cmh_graph::{Verdict, WaitGraph};
+use cmh_graph::WaitGraph;
+use cmh_work::{Record, Shape};
 use std::alloc::{AllocError, Global};
 
-/// What is found out about a graph before its report is written.
+/// Who leads whom, and the numbers of the groups.
 #[derive(Drop)]
-pub(crate) struct Found {
+pub(crate) struct Groups {
     /// For each process the leader of its group, if it is deadlocked.
     pub(crate) leaders: Vec<Option<u32>>,
     /// For each process how many leaders there are up to it: for a leader the number of its group.
     pub(crate) numbers: Vec<u32>,
-    /// For each process its distance to an awake one, if it reaches any.
-    pub(crate) distances: Vec<Option<u32>>,
 }
 
-/// Finds out what the report is about.
-pub(crate) fn find_out(
-    alloc: Global,
-    graph: &WaitGraph,
-    known: &[Verdict],
-) -> Result<Found, ReportFault>
-    requires { known.now ≡ verdicts graph.now }
-    ensures { IfOk result (IsFoundOf graph.now) }
-{
-    let leaders = group_leaders(alloc, graph, known)?;
-    let numbers = group_numbers(alloc, graph, &leaders)?;
-    let distances = graph.distances(alloc)?;
-    Ok(Found {
-        leaders,
-        numbers,
-        distances,
-    })
+impl Groups {
+    ghost use Rattle.cmh_report.specs.Group.{AreGroupsOf};
+
+    /// The groups that the records name. The graph isn't searched.
+    pub(crate) fn of_records(
+        alloc: Global,
+        graph: &WaitGraph,
+        records: &[Record],
+    ) -> Result<Groups, AllocError>
+        requires { AreRecordsOf graph.now records.now }
+        ensures { IfOk result (AreGroupsOf graph.now) }
+    {
+        let leaders = group_leaders(alloc, graph, records)?;
+        let numbers = group_numbers(alloc, graph, &leaders)?;
+        Ok(Groups { leaders, numbers })
+    }
 }
 
-/// For each process the leader of its group, if it is deadlocked. One core is computed for each
-/// group.
+/// For each process the leader of its group, if it is deadlocked.
 fn group_leaders(
     alloc: Global,
     graph: &WaitGraph,
-    known: &[Verdict],
-) -> Result<Vec<Option<u32>>, ReportFault>
-    requires { known.now ≡ verdicts graph.now }
+    records: &[Record],
+) -> Result<Vec<Option<u32>>, AllocError>
+    requires { AreRecordsOf graph.now records.now }
     ensures leaders { IfOk result (λ list.
         list.items ≡ map (group_leader graph.now) (indices graph.now)) }
     ensures well_formed { IfOk result (λ _. IsWellFormed graph.now) }
 {
-    let mut leaders = vec![in alloc; None; known.len()]?;
-    for p in 0..graph.len() {
-        if is_new_leader(known, &leaders, p) {
-            let core = graph.core_of(alloc, p)?;
-            lead_each(p, &core, &mut leaders);
-        }
+    let mut leaders = vec![in alloc; None; graph.len() as usize]?;
+    for record in records {
+        leaders[record.initiator as usize] = leader_in(&record.shape);
     }
     Ok(leaders)
 }
 
-/// Whether the process is deadlocked and has no leader yet.
-fn is_new_leader(known: &[Verdict], leaders: &[Option<u32>], p: u32) -> bool
-    requires known { p < length known.now }
-    requires leaders { p < length leaders.now }
-    ensures { result ≡ (is_deadlocked_at known.now p && is_none (leader_at leaders.now p)) }
+/// The leader that a shape names.
+fn leader_in(shape: &Shape) -> Option<u32>
+    ensures { result ≡ leader_in shape.now }
 {
-    matches!(known[p as usize], Verdict::Deadlocked) && leaders[p as usize].is_none()
-}
-
-/// Makes the process the leader of each member.
-fn lead_each(leader: u32, members: &[u32], leaders: &mut [Option<u32>])
-    requires { All (λ p. p < length leaders.old) members.now }
-    ensures { LeadsEach leader members.now leaders.old leaders.new }
-{
-    for p in members {
-        leaders[*p as usize] = Some(leader);
+    match shape {
+        Shape::Leader(leader) => Some(*leader),
+        Shape::Path(_) => None,
     }
 }
 

@@ -13,7 +13,6 @@ mod lines;
 mod tests;
 mod text;
 mod trace;
-mod verdicts;
 
 pub use analyse::analyse_bytes;
 pub use fault::{AppFault, ReportFault};

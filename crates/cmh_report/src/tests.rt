@@ -2,18 +2,19 @@
 
 mod cases;
 mod devices;
+mod ends;
+mod memory;
+mod plans;
 mod traces;
 mod tracing;
 
-use crate::{AppFault, ReportFault, analyse_bytes, report};
-use cases::CASES;
-use cmh_dump::DumpFault;
+use crate::report;
 use cmh_graph::{GraphFault, Part, State, WaitGraph};
-use cmh_run::{MAX_CHOICES, RunFault};
-use cmh_stream::{ReadOf, WriteOf};
-use devices::{Cut, Page};
-use std::alloc::{AllocError, Global};
-use std::io::Read;
+use cmh_work::{NoGate, Plan, analyse};
+use devices::Page;
+use std::alloc::Global;
+use std::sync::Wait;
+use std::thread::Threads;
 
 /// A process: its name, its site, and its dependents if it is idle.
 type Row<'a> = (&'a str, u32, Option<&'a [u32]>);
@@ -28,10 +29,6 @@ const CYCLE_AND_FOLLOWER: [Row; 3] = [
     ("r", 1, Some(&[0])),
 ];
 
-const TWO_IN_A_CYCLE_DUMP: &str = r#"{"version":1,"sites":["a"],"processes":[
-    {"name":"p","site":"a","state":"idle","dependents":["q"]},
-    {"name":"q","site":"a","state":"idle","dependents":["p"]}]}"#;
-
 const TWO_IN_A_CYCLE_REPORT: &str = "processes 2 active 0 idle 2 deadlocked 2
 deadlocked p group 1
 deadlocked q group 1
@@ -45,11 +42,6 @@ deadlocked r group 2
 group 1 | p q | - | sites 1
 group 2 | r | p q | sites 2
 ";
-
-const KNOT_OF_THREE_DUMP: &str = r#"{"version":1,"sites":["a"],"processes":[
-    {"name":"p","site":"a","state":"idle","dependents":["q","r"]},
-    {"name":"q","site":"a","state":"idle","dependents":["r"]},
-    {"name":"r","site":"a","state":"idle","dependents":["q"]}]}"#;
 
 const KNOT_OF_THREE_REPORT: &str = "processes 3 active 0 idle 3 deadlocked 3
 deadlocked p group 1
@@ -77,31 +69,55 @@ fn graph(alloc: Global, rows: &[Row], in_transit: &[(u32, u32)]) -> Result<WaitG
     WaitGraph::build_with(alloc, parts, in_transit)
 }
 
-fn report_of(
-    alloc: Global,
-    rows: &[Row],
-    in_transit: &[(u32, u32)],
-) -> Result<String, ReportFault> {
-    let graph = graph(alloc, rows, in_transit)?;
-    let known = graph.verdicts_plain(alloc)?;
-    report(alloc, &graph, &known)
+/// The report on a graph that so many workers analyse.
+fn report_of<R: AllocGlobal + Threads + Wait + Sync>(
+    rt: &R,
+    graph: &WaitGraph,
+    workers: u32,
+) -> Option<String> {
+    let plan = Plan::new(rt.alloc(), workers, &[1; 8], &[]).ok()?;
+    let Ok(analysis) = analyse(rt, rt.alloc(), graph, &plan, &NoGate) else {
+        return None;
+    };
+    report(rt.alloc(), graph, &analysis).ok()
 }
 
-/// Whether this is the report on the graph.
-fn reports(rt: HostRuntime, rows: &[Row], in_transit: &[(u32, u32)], text: &str) -> bool {
-    report_of(rt.alloc(), rows, in_transit).is_ok_and(|all| all.as_str() == text)
+/// Whether this is the report on the graph, however many workers analyse it.
+fn reports<R: AllocGlobal + Threads + Wait + Sync>(
+    rt: &R,
+    rows: &[Row],
+    in_transit: &[(u32, u32)],
+    text: &str,
+) -> bool {
+    let Ok(graph) = graph(rt.alloc(), rows, in_transit) else {
+        return false;
+    };
+    for workers in [1, 2, 4, 64] {
+        if !report_of(rt, &graph, workers).is_some_and(|all| all.as_str() == text) {
+            return false;
+        }
+    }
+    true
+}
+
+fn page(alloc: Global, room: usize) -> Page {
+    Page {
+        bytes: Vec::new(alloc),
+        room,
+        fails_flush: false,
+    }
 }
 
 #[test]
 fn two_in_a_cycle(rt: HostRuntime) {
-    assert!(rt; reports(rt, &TWO_IN_A_CYCLE, &[], TWO_IN_A_CYCLE_REPORT));
+    assert!(rt; reports(&rt, &TWO_IN_A_CYCLE, &[], TWO_IN_A_CYCLE_REPORT));
     assert_eq!(rt; TWO_IN_A_CYCLE_REPORT.len(), 111);
 }
 
 #[test]
 fn empty(rt: HostRuntime) {
     let text = "processes 0 active 0 idle 0 deadlocked 0\n";
-    assert!(rt; reports(rt, &[], &[], text));
+    assert!(rt; reports(&rt, &[], &[], text));
 }
 
 #[test]
@@ -110,8 +126,8 @@ fn waits_for_nobody_and_for_itself(rt: HostRuntime) {
 deadlocked p group 1
 group 1 | p | - | sites 1
 ";
-    assert!(rt; reports(rt, &[("p", 0, Some(&[]))], &[], text));
-    assert!(rt; reports(rt, &WAITS_FOR_ITSELF, &[], text));
+    assert!(rt; reports(&rt, &[("p", 0, Some(&[]))], &[], text));
+    assert!(rt; reports(&rt, &WAITS_FOR_ITSELF, &[], text));
 }
 
 #[test]
@@ -126,12 +142,12 @@ free p path p r
 deadlocked q group 1
 group 1 | q | - | sites 1
 ";
-    assert!(rt; reports(rt, &rows, &[], text));
+    assert!(rt; reports(&rt, &rows, &[], text));
 }
 
 #[test]
 fn cycle_and_follower(rt: HostRuntime) {
-    assert!(rt; reports(rt, &CYCLE_AND_FOLLOWER, &[], CYCLE_AND_FOLLOWER_REPORT));
+    assert!(rt; reports(&rt, &CYCLE_AND_FOLLOWER, &[], CYCLE_AND_FOLLOWER_REPORT));
 }
 
 #[test]
@@ -147,7 +163,7 @@ free p path p a z
 free a path a z
 free b path b z
 ";
-    assert!(rt; reports(rt, &rows, &[], text));
+    assert!(rt; reports(&rt, &rows, &[], text));
 }
 
 #[test]
@@ -161,7 +177,7 @@ fn shortest_before_least(rt: HostRuntime) {
 free p path p z
 free a path a z
 ";
-    assert!(rt; reports(rt, &rows, &[], text));
+    assert!(rt; reports(&rt, &rows, &[], text));
 }
 
 #[test]
@@ -171,7 +187,7 @@ fn knot_of_three(rt: HostRuntime) {
         ("q", 0, Some(&[2])),
         ("r", 0, Some(&[1])),
     ];
-    assert!(rt; reports(rt, &rows, &[], KNOT_OF_THREE_REPORT));
+    assert!(rt; reports(&rt, &rows, &[], KNOT_OF_THREE_REPORT));
 }
 
 #[test]
@@ -180,14 +196,14 @@ fn in_transit(rt: HostRuntime) {
 free p path p
 free q path q p
 ";
-    assert!(rt; reports(rt, &TWO_IN_A_CYCLE, &[(1, 0)], woken));
+    assert!(rt; reports(&rt, &TWO_IN_A_CYCLE, &[(1, 0)], woken));
     let by_itself = "processes 1 active 0 idle 1 deadlocked 0
 free p path p
 ";
-    assert!(rt; reports(rt, &WAITS_FOR_ITSELF, &[(0, 0)], by_itself));
+    assert!(rt; reports(&rt, &WAITS_FOR_ITSELF, &[(0, 0)], by_itself));
     assert!(rt;
         reports(
-            rt,
+            &rt,
             &CYCLE_AND_FOLLOWER,
             &[(1, 2)],
             CYCLE_AND_FOLLOWER_REPORT
@@ -199,93 +215,5 @@ deadlocked q group 1
 free r path r
 group 1 | p q | - | sites 1
 ";
-    assert!(rt; reports(rt, &CYCLE_AND_FOLLOWER, &[(0, 2)], follower));
-}
-
-fn page(rt: HostRuntime, room: usize) -> Page {
-    Page {
-        bytes: Vec::new(rt.alloc()),
-        room,
-        fails_flush: false,
-    }
-}
-
-/// Analyses what a reader gives by these choices, onto a page.
-fn analyse_by<R: Read + Drop>(
-    rt: HostRuntime,
-    reader: R,
-    page: &mut Page,
-    choices: &[u64],
-) -> Result<u32, AppFault> {
-    analyse_bytes(
-        rt.alloc(),
-        &mut ReadOf::new(reader),
-        &mut WriteOf::new(page),
-        choices,
-    )
-}
-
-/// Analyses what a reader gives, onto a page.
-fn analyse<R: Read + Drop>(rt: HostRuntime, reader: R, page: &mut Page) -> Result<u32, AppFault> {
-    analyse_by(rt, reader, page, &[])
-}
-
-#[test]
-fn reports_of_another_program(rt: HostRuntime) {
-    for (dump, text, deadlocked) in CASES {
-        let mut out = page(rt, 100_000);
-        let answer = analyse(rt, dump.as_bytes(), &mut out);
-        assert!(rt; answer.is_ok_and(|count| count == deadlocked), "{text}");
-        assert!(rt; out.bytes.as_slice() == text.as_bytes(), "{text}");
-    }
-}
-
-#[test]
-fn choices_change_nothing(rt: HostRuntime) {
-    let lists: [&[u64]; 3] = [&[], &[1, 1, 1], &[18446744073709551615]];
-    for choices in lists {
-        let mut out = page(rt, 1_000);
-        let answer = analyse_by(rt, KNOT_OF_THREE_DUMP.as_bytes(), &mut out, choices);
-        assert!(rt; matches!(answer, Ok(3)));
-        assert!(rt; out.bytes.as_slice() == KNOT_OF_THREE_REPORT.as_bytes());
-    }
-}
-
-#[test]
-fn too_many_choices(rt: HostRuntime) -> Result<(), AllocError> {
-    let choices = vec![in rt.alloc(); 0; MAX_CHOICES + 1]?;
-    let mut out = page(rt, 1_000);
-    let answer = analyse_by(rt, TWO_IN_A_CYCLE_DUMP.as_bytes(), &mut out, &choices);
-    assert!(rt; matches!(answer, Err(AppFault::Run(RunFault::TooManyChoices))));
-    assert!(rt; out.bytes.is_empty());
-    Ok(())
-}
-
-#[test]
-fn a_failing_source(rt: HostRuntime) {
-    let mut out = page(rt, 1_000);
-    let reader = Cut {
-        bytes: &TWO_IN_A_CYCLE_DUMP.as_bytes()[..20],
-    };
-    let answer = analyse(rt, reader, &mut out);
-    assert!(rt; matches!(answer, Err(AppFault::Dump(DumpFault::ReadFault))));
-    assert!(rt; out.bytes.is_empty());
-}
-
-#[test]
-fn failing_devices(rt: HostRuntime) {
-    for room in 0..111 {
-        let mut out = page(rt, room);
-        let answer = analyse(rt, TWO_IN_A_CYCLE_DUMP.as_bytes(), &mut out);
-        assert!(rt; matches!(answer, Err(AppFault::WriteFault(n)) if n == room));
-        let front = &TWO_IN_A_CYCLE_REPORT.as_bytes()[..room];
-        assert!(rt; out.bytes.as_slice() == front);
-    }
-    let mut unflushed = Page {
-        fails_flush: true,
-        ..page(rt, 1_000)
-    };
-    let answer = analyse(rt, TWO_IN_A_CYCLE_DUMP.as_bytes(), &mut unflushed);
-    assert!(rt; matches!(answer, Err(AppFault::WriteFault(111))));
-    assert!(rt; unflushed.bytes.as_slice() == TWO_IN_A_CYCLE_REPORT.as_bytes());
+    assert!(rt; reports(&rt, &CYCLE_AND_FOLLOWER, &[(0, 2)], follower));
 }

@@ -1,50 +1,48 @@
 //! The report as text.
 
-ghost use Rattle.std.specs.Prelude.{◌≡◌, ◌++◌, ◌∷◌, ◌<◌, [], All, IfOk, OnOk, flat_map, map, string_bytes, unwrap_or};
-ghost use Rattle.cmh_graph.specs.Build.{IsWellFormed};
-ghost use Rattle.cmh_graph.specs.ChosenPath.{chosen_path, distance_of};
+ghost use Rattle.std.specs.Prelude.{◌≡◌, ◌++◌, ◌<◌, ◌^◌, length, IfOk, OnOk, count_by, flat_map, map, string_bytes};
 ghost use Rattle.cmh_graph.specs.Core.{leaders};
-ghost use Rattle.cmh_graph.specs.Graph.{idle_list, indices, process_count};
-ghost use Rattle.cmh_graph.specs.Verdict.{verdicts};
-ghost use Rattle.cmh_report.specs.Found.{IsFoundOf};
-ghost use Rattle.cmh_report.specs.Report.{deadlocked_count, line, counts_line, totals_line, process_line, group_line, report_text};
+ghost use Rattle.cmh_graph.specs.Graph.{idle_list};
+ghost use Rattle.cmh_report.specs.Group.{AreGroupsOf};
+ghost use Rattle.cmh_report.specs.Records.{AreRecordsOf, IsSomeAnalysisOf, TellsOf, tells_deadlocked};
+ghost use Rattle.cmh_report.specs.Report.{line, counts_line, totals_line, process_line, group_line, report_text};
 
 use crate::ReportFault;
 use crate::group::group_of;
-use crate::groups::{Found, find_out, is_led_by};
+use crate::groups::{Groups, is_led_by};
 use crate::lines::{push_deadlocked, push_free, push_group};
 use cmh_graph::{Verdict, WaitGraph};
+use cmh_work::{Analysis, Record, Shape};
 use std::alloc::{AllocError, Global};
 
-/// The report on a graph whose verdicts are known: a line of counts, a line for each idle process,
-/// and a line for each group of deadlocked processes. Each group takes two searches of the graph,
-/// and each free process a walk along its path; the rest takes time close to linear in the graph
-/// and in the text.
+/// The report on a graph that was analysed: a line of counts, a line for each idle process, and a
+/// line for each group of deadlocked processes. The analysis is of this graph. The graph is searched
+/// once for each group; the rest takes time close to linear in the processes and in the text.
 ///
 /// # Errors
 ///
 /// `Memory` where memory is refused.
-pub fn report(alloc: Global, graph: &WaitGraph, known: &[Verdict]) -> Result<String, ReportFault>
-    requires { known.now ≡ verdicts graph.now }
+#[tactic(auto, using(crate::proofs::Records::analysed))]
+pub fn report(alloc: Global, graph: &WaitGraph, analysis: &Analysis) -> Result<String, ReportFault>
+    requires { IsSomeAnalysisOf graph.now analysis.now }
     ensures { IfOk result (λ text. string_bytes text ≡ report_text graph.now) }
 {
-    let idle = graph.idle_list(alloc)?;
-    let found = find_out(alloc, graph, known)?;
-    let mut text = totals(alloc, graph, &idle, known)?;
-    push_processes(alloc, &mut text, graph, &found, &idle)?;
-    push_groups(alloc, &mut text, graph, &found)?;
+    let records = analysis.records();
+    let groups = Groups::of_records(alloc, graph, records)?;
+    let mut text = totals(alloc, graph, records)?;
+    push_processes(&mut text, graph, &groups, records)?;
+    push_groups(alloc, &mut text, graph, &groups)?;
     Ok(text)
 }
 
-/// How many processes are deadlocked.
-#[tactic(auto, using(crate::proofs::Counts::verdict_count))]
-pub(crate) fn count_deadlocked(graph: &WaitGraph, known: &[Verdict]) -> u32
-    requires { known.now ≡ verdicts graph.now }
-    ensures { result ≡ deadlocked_count graph.now }
+/// How many processes the records tell to be deadlocked.
+pub(crate) fn count_deadlocked(records: &[Record]) -> u32
+    requires { length records.now < 2 ^ 32 }
+    ensures { result ≡ count_by tells_deadlocked records.now }
 {
     let mut count = 0;
-    for p in 0..graph.len() {
-        match known[p as usize] {
+    for record in records {
+        match record.verdict {
             Verdict::Deadlocked => count += 1,
             Verdict::Free => {}
         }
@@ -68,79 +66,49 @@ fn counts(
 
 /// The first line.
 #[tactic(auto, using(crate::proofs::Counts::active_and_idle))]
-fn totals(
-    alloc: Global,
-    graph: &WaitGraph,
-    idle: &[u32],
-    known: &[Verdict],
-) -> Result<String, AllocError>
-    requires waiting { idle.now ≡ idle_list graph.now }
-    requires known { known.now ≡ verdicts graph.now }
+fn totals(alloc: Global, graph: &WaitGraph, records: &[Record]) -> Result<String, AllocError>
+    requires { AreRecordsOf graph.now records.now }
     ensures { IfOk result (λ text. string_bytes text ≡ line (totals_line graph.now)) }
 {
     let all = graph.len();
-    let idle = idle.len() as u32;
-    counts(alloc, all, all - idle, idle, count_deadlocked(graph, known))
+    let idle = records.len() as u32;
+    counts(alloc, all, all - idle, idle, count_deadlocked(records))
 }
 
 /// Appends the lines of the idle processes.
 fn push_processes(
-    alloc: Global,
     text: &mut String,
     graph: &WaitGraph,
-    found: &Found,
-    idle: &[u32],
-) -> Result<(), ReportFault>
-    requires found { IsFoundOf graph.now found.now }
-    requires waiting { idle.now ≡ idle_list graph.now }
-    ensures { OnOk result (string_bytes text.new
-        ≡ string_bytes text.old ++ flat_map line (map (process_line graph.now) idle.now)) }
+    groups: &Groups,
+    records: &[Record],
+) -> Result<(), AllocError>
+    requires groups { AreGroupsOf graph.now groups.now }
+    requires records { AreRecordsOf graph.now records.now }
+    ensures { OnOk result (string_bytes text.new ≡ string_bytes text.old
+        ++ flat_map line (map (process_line graph.now) (idle_list graph.now))) }
 {
-    for p in idle {
-        push_process(alloc, text, graph, found, *p)?;
+    for record in records {
+        push_process(text, graph, groups, record)?;
     }
     Ok(())
 }
 
 /// Appends the line of an idle process.
 fn push_process(
-    alloc: Global,
     text: &mut String,
     graph: &WaitGraph,
-    found: &Found,
-    p: u32,
-) -> Result<(), ReportFault>
-    requires found { IsFoundOf graph.now found.now }
-    requires within { p < process_count graph.now }
+    groups: &Groups,
+    record: &Record,
+) -> Result<(), AllocError>
+    requires groups { AreGroupsOf graph.now groups.now }
+    requires tells { TellsOf graph.now «record».now }
     ensures { OnOk result (string_bytes text.new
-        ≡ string_bytes text.old ++ line (process_line graph.now p)) }
+        ≡ string_bytes text.old ++ line (process_line graph.now «record».now.initiator)) }
 {
-    let name = graph.name(p);
-    if let Some(leader) = found.leaders[p as usize] {
-        push_deadlocked(text, name, found.numbers[leader as usize])?;
-        return Ok(());
-    }
-    let path = path_of(alloc, graph, &found.distances, p)?;
-    push_free(text, graph, name, &path)?;
-    Ok(())
-}
-
-/// The chosen path of a process; it is empty where there is none.
-fn path_of(
-    alloc: Global,
-    graph: &WaitGraph,
-    distances: &[Option<u32>],
-    p: u32,
-) -> Result<Vec<u32>, ReportFault>
-    requires well_formed { IsWellFormed graph.now }
-    requires within { p < process_count graph.now }
-    requires known { distances.now ≡ map (distance_of graph.now) (indices graph.now) }
-    ensures path { IfOk result (λ path. path.items ≡ unwrap_or (chosen_path graph.now p) []) }
-    ensures within { IfOk result (λ path. All (λ q. q < process_count graph.now) path.items) }
-{
-    match graph.path_by(alloc, distances, p)? {
-        Some(path) => Ok(path),
-        None => Ok(Vec::new(alloc)),
+    let name = graph.name(record.initiator);
+    match &record.shape {
+        Shape::Leader(leader) => push_deadlocked(text, name, groups.numbers[*leader as usize]),
+        Shape::Path(path) => push_free(text, graph, name, path),
     }
 }
 
@@ -149,15 +117,15 @@ fn push_groups(
     alloc: Global,
     text: &mut String,
     graph: &WaitGraph,
-    found: &Found,
+    groups: &Groups,
 ) -> Result<(), ReportFault>
-    requires { IsFoundOf graph.now found.now }
+    requires { AreGroupsOf graph.now groups.now }
     ensures { OnOk result (string_bytes text.new
         ≡ string_bytes text.old ++ flat_map line (map (group_line graph.now) (leaders graph.now))) }
 {
     for p in 0..graph.len() {
-        if is_led_by(&found.leaders, p, p) {
-            let group = group_of(alloc, graph, found, p)?;
+        if is_led_by(&groups.leaders, p, p) {
+            let group = group_of(alloc, graph, groups, p)?;
             push_group(text, graph, &group)?;
         }
     }

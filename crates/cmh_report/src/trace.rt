@@ -5,7 +5,7 @@ ghost use Rattle.cmh_dump.specs.Source.{GaveAtMost};
 ghost use Rattle.cmh_dump.specs.declared.TheConstants.{MAX_BYTES};
 ghost use Rattle.cmh_run.specs.Run.{IsFirstFault};
 ghost use Rattle.cmh_report.specs.Ends.{GaveGraph, IsAnswer, IsCutShort, IsRefused};
-ghost use Rattle.cmh_report.specs.Fault.{IfDump, IfNoSuchProcess, IfRun, IfUnwritten, IfWriteFault};
+ghost use Rattle.cmh_report.specs.Fault.{IfDump, IfNoSuchProcess, IfRun, IfUnwritten, IfWork, IfWriteFault};
 ghost use Rattle.cmh_report.specs.Report.{line};
 ghost use Rattle.cmh_report.specs.Trace.{ending_lines, message_line, trace_text, HasLines, HasNoRun, IsBetween, IsEndedTrace, IsFirstNamed, IsPlainRun, IsSomeTrace, NobodyIsNamed};
 
@@ -44,6 +44,7 @@ pub fn trace_bytes<S: Source, K: Sink>(
     ensures refused { IfErr result (λ e. IfDump e (IsRefused
         (S.given source.old) (S.given source.new)
         (S.has_ended source.new) (S.has_failed source.new))) }
+    ensures no_work { IfErr result (λ e. IfWork e (λ _. ⊥)) }
     ensures nobody { IfErr result (λ e. IfNoSuchProcess e (GaveGraph
         (S.given source.old) (S.given source.new) (S.has_ended source.new)
         (λ g. NobodyIsNamed g name.now))) }

@@ -61,14 +61,14 @@ fn traces(
     text: &str,
     ending: Ending,
 ) -> bool {
-    let mut out = page(rt, 100_000);
+    let mut out = page(rt.alloc(), 100_000);
     let answer = trace_from(rt, dump.as_bytes(), name, choices, &mut out);
     answer.is_ok_and(|last| last == ending) && out.bytes.as_slice() == text.as_bytes()
 }
 
 /// The fault of a trace that writes nothing.
 fn fault_of(rt: HostRuntime, dump: &str, name: &str, choices: &[u64]) -> Option<AppFault> {
-    let mut out = page(rt, 100_000);
+    let mut out = page(rt.alloc(), 100_000);
     let answer = trace_from(rt, dump.as_bytes(), name, choices, &mut out);
     if out.bytes.is_empty() {
         answer.err()
@@ -200,12 +200,12 @@ fn many_choices(rt: HostRuntime) -> Result<(), AllocError> {
 fn failing_devices(rt: HostRuntime) {
     let text = b"query p p\nreply p p\ndeclared p\n";
     for room in 0..text.len() {
-        let mut out = page(rt, room);
+        let mut out = page(rt.alloc(), room);
         let answer = trace_from(rt, WAITS_FOR_ITSELF.as_bytes(), "p", &[], &mut out);
         assert!(rt; matches!(answer, Err(AppFault::WriteFault(n)) if n == room));
         assert!(rt; out.bytes.as_slice() == &text[..room]);
     }
-    let mut out = page(rt, 100);
+    let mut out = page(rt.alloc(), 100);
     let reader = Cut {
         bytes: &WAITS_FOR_ITSELF.as_bytes()[..20],
     };

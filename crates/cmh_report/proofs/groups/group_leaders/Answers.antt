@@ -1,48 +1,25 @@
-use Rattle.std.proofs.Common.{◌≡◌, ◌∙◌, ◌<◌, ◌+◌, ◌&&◌, ap, arith, length, None, rules, sym, subst}
-use Rattle.std.specs.Prelude.{is_none}
-use Rattle.std.proofs.lemmas.List.{length-replicate, with_items_is}
-use Rattle.cmh_graph.specs.Graph.{process_count}
-use Rattle.cmh_report.specs.Group.{is_deadlocked_at, leader_at, LeadsEach}
-use Rattle.cmh_report.proofs.Counts.{verdict_count}
-use Rattle.cmh_report.proofs.Cores.{members_within}
-use Rattle.cmh_report.proofs.Leaders.{AreLeadersBelow, leaders_all, leaders_led_more, leaders_passed, leaders_size, leaders_start, none_at}
+use Rattle.std.proofs.Common.{◌<◌, ◌∙◌, arith, length, sym}
+use Rattle.cmh_graph.specs.Graph.{process_count, idle_list}
+use Rattle.cmh_graph.proofs.Verdicts.{idle_within}
+use Rattle.cmh_report.proofs.Records.{initiator_at, leaders_all, leaders_more, records_count, shape_leader, tells_at}
 use Rattle.cmh_report.proofs.groups.group_leaders.Goals as goal
-use Rattle.cmh_report.proofs.groups.group_leaders.Goals.{then-is_new_leader+in_ok-core, else-is_new_leader}
 
-pub loop-p-init : goal.loop-p-init
-loop-p-init c =
-    let none = c.in_ok-leaders.ensures.items_if_clones_equal (λ y h. search rules) in
-    leaders_start c.args.graph.now _ (ap length none ∙ length-replicate (length c.args.known.now) None ∙ ap length c.requires ∙ verdict_count c.args.graph.now)
-    (λ p. ap (λ list. leader_at list p) none ∙ none_at (length c.args.known.now) p)
-
-pub is_new_leader-requires-clause-known : goal.is_new_leader-requires-clause-known
-is_new_leader-requires-clause-known c =
-    omega (arith, ap length c.requires, verdict_count c.args.graph.now, c.loop-p-test.true, c.len-p-end.ensures.count)
-
-pub is_new_leader-requires-clause-leaders : goal.is_new_leader-requires-clause-leaders
-is_new_leader-requires-clause-leaders c =
-    omega (arith, c.deref.ensures.len, ap length c.deref.ensures.value, leaders_size c.args.graph.now c.loop-p.p _ c.loop-p.invariant, c.loop-p-test.true, c.len-p-end.ensures.count)
-
-pub lead_each-requires : goal.lead_each-requires
-lead_each-requires c =
-    members_within c.args.graph.now c.loop-p.p _ _ (c.deref-then-is_new_leader.ensures.value ∙ c.in_ok-core.ensures.ok)
-    (ap length c.deref_mut.ensures.value ∙ leaders_size c.args.graph.now c.loop-p.p _ c.loop-p.invariant)
-
-pub loop-p-preserved : goal.loop-p-preserved
-loop-p-preserved c =
+pub loop-record-preserved : goal.loop-record-preserved
+loop-record-preserved c =
     let g = c.args.graph.now in
-    let i : c.loop-p.p < process_count g = omega (arith, c.loop-p-test.true, c.len-p-end.ensures.count) in
-    let well = c.len-p-end.ensures.well_formed.within in
-    let test = subst (λ list. c.is_new_leader.result ≡ (is_deadlocked_at c.args.known.now c.loop-p.p && is_none (leader_at list c.loop-p.p))) c.deref.ensures.value c.is_new_leader.ensures in
-    elim c.if-is_new_leader.branch [
-      | then-is_new_leader+in_ok-core w ↦
-          let each = subst (λ old. LeadsEach c.loop-p.p w.deref-then-is_new_leader.result.now old w.lead_each.new.leaders) w.deref_mut.ensures.value w.lead_each.ensures in
-          subst (λ xs. AreLeadersBelow g (c.loop-p.p + 1) xs) (sym (ap (λ v. v.items) w.leaders-is ∙ with_items_is c.loop-p.leaders w.lead_each.new.leaders (w.lead_each.ensures.size ∙ w.deref_mut.ensures.len)))
-          (leaders_led_more g _ c.loop-p.p _ _ _ _ well i c.requires c.loop-p.invariant test w.if-is_new_leader.true (w.deref-then-is_new_leader.ensures.value ∙ w.in_ok-core.ensures.ok) each)
-      | else-is_new_leader w ↦
-          subst (λ xs. AreLeadersBelow g (c.loop-p.p + 1) xs) (sym (ap (λ v. v.items) w.leaders-is))
-          (leaders_passed g _ c.loop-p.p _ _ well i c.requires c.loop-p.invariant test w.if-is_new_leader.false)
-    ]
+    let i = c.loop-record.record-index in
+    let r = c.record-item.result in
+    let rs = c.args.records.now in
+    let tells = tells_at g rs i r c.requires c.loop-record-test.true (sym c.record-item.is) in
+    leaders_more g (idle_list g) i r.initiator c.loop-record.leaders.items c.leader_in.result
+    (omega (arith, c.loop-record-test.true, records_count g rs c.requires))
+    (initiator_at g rs i r c.requires c.loop-record-test.true (sym c.record-item.is))
+    (omega (arith, c.loop-record.invariant.size, idle_within g r.initiator tells.idle))
+    (c.leader_in.ensures ∙ shape_leader g r.initiator r.verdict r.shape c.len.ensures.well_formed.within tells.verdict tells.shape)
+    c.loop-record.invariant
 
 pub returns-clause-leaders : goal.returns-clause-leaders
-returns-clause-leaders c = leaders_all c.args.graph.now c.loop-p.p _ c.len-p-end.ensures.well_formed.within (omega (arith, c.len-p-end.ensures.count)) c.loop-p.invariant
+returns-clause-leaders c =
+    leaders_all c.args.graph.now c.loop-record.record-index _
+    (omega (arith, c.loop-record-test.false, records_count c.args.graph.now c.args.records.now c.requires))
+    c.loop-record.invariant

@@ -1,5 +1,7 @@
-use Rattle.cmh_report.proofs.Leaders.{AreLeadersBelow}
+use Rattle.std.proofs.Common.{take}
+use Rattle.cmh_graph.specs.Graph.{idle_list}
+use Rattle.cmh_report.proofs.Records.{AreLeadersOf}
 use Rattle.cmh_report.proofs.groups.group_leaders.Given as goal
 
-abbrev pub invariant-loop-p : goal.invariant-loop-p
-invariant-loop-p l = AreLeadersBelow l.graph l.p l.leaders.items
+abbrev pub invariant-loop-record : goal.invariant-loop-record
+invariant-loop-record l = AreLeadersOf l.graph (take l.record-index (idle_list l.graph)) l.leaders.items

@@ -1,23 +1,26 @@
-use Rattle.std.proofs.Common.{◌<◌, ◌+◌, ap, sym, ◌∙◌, arith}
-use Rattle.cmh_graph.specs.Graph.{process_count}
-use Rattle.cmh_graph.specs.declared.verdict.Verdict.TheVariants.{Deadlocked}
-use Rattle.cmh_report.proofs.Counts.{verdict_at, deadlocked_more, free_more, deadlocked_below_all}
+use Rattle.std.proofs.Common.{◌∙◌, ◌+◌, ap, arith, sym, take_all}
+use Rattle.std.specs.Prelude.{count_by}
+use Rattle.std.proofs.lemmas.List.Sums.{count_by_more_yes, count_by_more_no}
+use Rattle.cmh_work.specs.Leaders.{says_deadlocked}
+use Rattle.cmh_report.specs.Records.{tells_deadlocked}
 use Rattle.cmh_report.proofs.text.count_deadlocked.Goals as goal
 use Rattle.cmh_report.proofs.text.count_deadlocked.Goals.{in-Deadlocked, in-Free}
 
-pub loop-p-preserved : goal.loop-p-preserved
-loop-p-preserved c =
-    let g = c.args.graph.now in
-    let p = c.loop-p.p in
-    let within : p < process_count g = omega arith in
-    let there = verdict_at g c.args.known.now p Deadlocked c.requires within in
-    elim c.match-known-p.branch [
+pub loop-record-preserved : goal.loop-record-preserved
+loop-record-preserved c =
+    let rs = c.args.records.now in
+    let i = c.loop-record.record-index in
+    let r = c.record-item.result in
+    elim c.match-record.branch [
       | in-Deadlocked w ↦
-          w.count-is ∙ ap (λ n. n + 1) c.loop-p.invariant
-          ∙ sym (deadlocked_more g p within (sym there ∙ w.in-Deadlocked.is))
+          w.count-is ∙ ap (λ n. n + 1) c.loop-record.invariant
+          ∙ sym (count_by_more_yes tells_deadlocked rs i r c.loop-record-test.true (ap tells_deadlocked (sym c.record-item.is) ∙ ap says_deadlocked w.in-Deadlocked.is))
       | in-Free w ↦
-          w.count-is ∙ c.loop-p.invariant ∙ sym (free_more g p within (sym there ∙ w.in-Free.is))
+          w.count-is ∙ c.loop-record.invariant
+          ∙ sym (count_by_more_no tells_deadlocked rs i r c.loop-record-test.true (ap tells_deadlocked (sym c.record-item.is) ∙ ap says_deadlocked w.in-Free.is))
     ]
 
 pub returns : goal.returns
-returns c = c.loop-p.invariant ∙ deadlocked_below_all c.args.graph.now c.loop-p.p (omega arith)
+returns c =
+    c.loop-record.invariant
+    ∙ ap (count_by tells_deadlocked) (take_all c.loop-record.record-index c.args.records.now (omega arith))

@@ -2,9 +2,11 @@ use Rattle.std.proofs.Common.{◌≡◌, ◌∙◌, ◌++◌, ◌<◌, ap, arith
 use Rattle.std.specs.Prelude.{flat_map, string_bytes}
 use Rattle.cmh_graph.specs.Graph.{process_count}
 use Rattle.cmh_graph.proofs.Listing.{filter_indices_kept, filter_indices_passed, length-by_index}
-use Rattle.cmh_report.specs.Group.{group_leader, is_led_by}
+use Rattle.cmh_report.specs.Group.{is_led_by}
+use Rattle.cmh_work.specs.Leaders.{group_leader}
 use Rattle.cmh_report.specs.Report.{group_line, line}
-use Rattle.cmh_report.proofs.Cores.{members_within, rest_within}
+use Rattle.cmh_work.proofs.Cores.{members_within}
+use Rattle.cmh_report.proofs.Members.{rest_within}
 use Rattle.cmh_report.proofs.Numbers.{led_test, leaders_below, leads_itself}
 use Rattle.cmh_report.proofs.Words.{group_words, groups_more}
 use Rattle.cmh_report.proofs.text.push_groups.Goals as goal

@@ -1,0 +1,174 @@
+//! Dumps that are analysed and traced while memory is short.
+
+use super::devices::Page;
+use super::ends::TWO_IN_A_CYCLE_DUMP;
+use super::{TWO_IN_A_CYCLE_REPORT, page};
+use crate::{AppFault, ReportFault, analyse_bytes, trace_bytes};
+use cmh_dump::DumpFault;
+use cmh_run::{Ending, RunFault};
+use cmh_stream::{ReadOf, WriteOf};
+use cmh_work::{NoGate, Plan, WorkFault};
+use std::alloc::Global;
+use std::sync::Wait;
+use std::test::Fail;
+use std::thread::Threads;
+
+const TRACE: &str = "query p q
+query q p
+reply p q
+reply q p
+declared p
+";
+
+/// The size of a piece of the memory that is left for a call, and how many there are.
+const PIECE: usize = 32_768;
+
+const PIECES: usize = 16;
+
+/// How many bytes more a call has than the one before.
+const STEP: usize = 512;
+
+/// Takes all the memory that there is, in blocks of falling sizes.
+fn take_all(alloc: Global, blocks: &mut Vec<Vec<u8>>) {
+    let mut size = 1usize << 46;
+    for _ in 0..100_000 {
+        if size < 16 {
+            return;
+        }
+        match Vec::with_capacity(alloc, size) {
+            Ok(block) => {
+                if blocks.push(block).is_err() {
+                    return;
+                }
+            }
+            Err(_) => size /= 2,
+        }
+    }
+}
+
+/// Pieces of the heap that lie side by side, so that they are one once they are given back.
+fn heap(alloc: Global) -> Result<Vec<Vec<u8>>, Fail> {
+    let mut pieces = Vec::with_capacity(alloc, PIECES)?;
+    for _ in 0..PIECES {
+        pieces.push(Vec::with_capacity(alloc, PIECE)?)?;
+    }
+    Ok(pieces)
+}
+
+/// What is done while memory is short.
+#[derive(Clone, Copy)]
+enum Call<'a> {
+    Analyse(&'a Plan),
+    Trace,
+}
+
+/// Whether the fault is want of memory.
+fn is_memory(fault: &AppFault) -> bool {
+    match fault {
+        AppFault::Dump(DumpFault::Memory) => true,
+        AppFault::Work(WorkFault::Memory | WorkFault::WorkerLost) => true,
+        AppFault::Run(RunFault::Memory) => true,
+        AppFault::Report(ReportFault::Memory) => true,
+        _ => false,
+    }
+}
+
+/// Whether the call answers as with memory enough; the fault where it is refused.
+fn answer<R: AllocGlobal + Threads + Wait + Sync>(
+    rt: &R,
+    call: Call,
+    out: &mut Page,
+) -> Result<bool, AppFault> {
+    let mut source = ReadOf::new(TWO_IN_A_CYCLE_DUMP.as_bytes());
+    let mut sink = WriteOf::new(out);
+    match call {
+        Call::Analyse(plan) => {
+            let alloc = rt.alloc();
+            let deadlocked = analyse_bytes(rt, alloc, &mut source, &mut sink, plan, &NoGate)?;
+            Ok(deadlocked == 2)
+        }
+        Call::Trace => {
+            let ending = trace_bytes(rt.alloc(), &mut source, &mut sink, "p", &[])?;
+            Ok(ending == Ending::Declared)
+        }
+    }
+}
+
+/// What the answers were.
+#[derive(Clone, Copy, Debug, PartialEq, Eq)]
+struct Answers {
+    right: bool,
+    wrong: bool,
+    refused: bool,
+}
+
+/// Some calls were refused for want of memory, and all others were right.
+const AS_THEY_SHOULD_BE: Answers = Answers {
+    right: true,
+    wrong: false,
+    refused: true,
+};
+
+/// Makes the call with more and more memory, until there is enough. Nothing is written where memory
+/// is refused.
+fn sweep<R: AllocGlobal + Threads + Wait + Sync>(
+    rt: &R,
+    call: Call,
+    text: &str,
+) -> Result<Answers, Fail> {
+    let alloc = rt.alloc();
+    let mut out = Page {
+        bytes: Vec::with_capacity(alloc, 1_000)?,
+        ..page(alloc, 1_000)
+    };
+    let mut blocks = Vec::with_capacity(alloc, 100_000)?;
+    let room = heap(alloc)?;
+    let _pin: Vec<u8> = Vec::with_capacity(alloc, 64)?;
+    take_all(alloc, &mut blocks);
+    drop(room);
+
+    let mut answers = Answers {
+        right: false,
+        wrong: false,
+        refused: false,
+    };
+    for k in 0..PIECE * PIECES / STEP {
+        let taken: Result<Vec<u8>, _> = Vec::with_capacity(alloc, PIECE * PIECES - STEP * k);
+        out.bytes.clear();
+        match answer(rt, call, &mut out) {
+            Ok(right) if right && out.bytes.as_slice() == text.as_bytes() => answers.right = true,
+            Err(fault) if is_memory(&fault) && out.bytes.is_empty() => answers.refused = true,
+            _ => answers.wrong = true,
+        }
+        drop(taken);
+    }
+    drop(blocks);
+    Ok(answers)
+}
+
+#[test]
+fn want_of_memory_with_one_worker(rt: HostRuntime) -> Result<(), Fail> {
+    let plan = Plan::new(rt.alloc(), 1, &[1], &[])?;
+    let answers = sweep(&rt, Call::Analyse(&plan), TWO_IN_A_CYCLE_REPORT)?;
+    assert_eq!(rt; answers, AS_THEY_SHOULD_BE);
+    Ok(())
+}
+
+#[test]
+fn want_of_memory_with_two_workers(rt: HostRuntime) -> Result<(), Fail> {
+    let plan = Plan::new(rt.alloc(), 2, &[1], &[])?;
+    // A first thread is made while there is memory for what threads keep.
+    let mut out = page(rt.alloc(), 1_000);
+    let before = answer(&rt, Call::Analyse(&plan), &mut out);
+    assert!(rt; matches!(before, Ok(true)));
+    let answers = sweep(&rt, Call::Analyse(&plan), TWO_IN_A_CYCLE_REPORT)?;
+    assert_eq!(rt; answers, AS_THEY_SHOULD_BE);
+    Ok(())
+}
+
+#[test]
+fn want_of_memory_in_a_trace(rt: HostRuntime) -> Result<(), Fail> {
+    let answers = sweep(&rt, Call::Trace, TRACE)?;
+    assert_eq!(rt; answers, AS_THEY_SHOULD_BE);
+    Ok(())
+}
