@@ -4,8 +4,10 @@ use Rattle.cmh_dump.specs.declared.fault.DumpFault.{DumpFault}
 use Rattle.cmh_dump.specs.declared.fault.DumpFault.TheVariants as dump
 use Rattle.cmh_run.specs.declared.fault.RunFault.{RunFault}
 use Rattle.cmh_run.specs.declared.fault.RunFault.TheVariants as run
+use Rattle.cmh_work.specs.declared.fault.PlanFault.{PlanFault}
+use Rattle.cmh_work.specs.declared.fault.PlanFault.TheVariants as plan
 use Rattle.cmh_report.specs.declared.fault.AppFault.{AppFault}
-use Rattle.cmh_report.specs.declared.fault.AppFault.TheVariants.{Dump, NoSuchProcess, Run, Report, WriteFault}
+use Rattle.cmh_report.specs.declared.fault.AppFault.TheVariants.{Dump, Work, NoSuchProcess, Run, Report, WriteFault}
 use Rattle.cmh.specs.declared.list.ListFault.{ListFault}
 use Rattle.cmh.specs.declared.list.ListFault.TheVariants as list
 use Rattle.cmh.specs.declared.status.TheConstants.{REFUSED, MISUSED, FAILED}
@@ -23,6 +25,7 @@ status_of_run fault = MISUSED
 
 abbrev pub status_of : AppFault → ℕ
 status_of (Dump fault) = status_of_dump fault
+status_of (Work fault) = FAILED
 status_of NoSuchProcess = MISUSED
 status_of (Run fault) = status_of_run fault
 status_of (Report fault) = FAILED
@@ -31,3 +34,7 @@ status_of (WriteFault written) = FAILED
 abbrev pub status_of_list : ListFault → ℕ
 status_of_list list.Memory = FAILED
 status_of_list fault = MISUSED
+
+abbrev pub status_of_plan : PlanFault → ℕ
+status_of_plan plan.Memory = FAILED
+status_of_plan fault = MISUSED

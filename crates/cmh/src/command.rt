@@ -1,15 +1,26 @@
 //! The words of the command line.
 
 use clap::error::ErrorKind;
-use clap::{Arg, ArgMatches, Command, Error};
+use clap::{Arg, ArgMatches, Command, Error, value_parser};
 use std::alloc::{AllocError, Global};
 use std::convert::AsStr;
 
-/// What the words ask for. Lists of numbers are still as they were written.
+/// How many workers there are where nothing is said.
+const DEFAULT_WORKERS: u32 = 4;
+
+/// How an analysis is to be shared out. Lists of numbers are still as they were written.
+#[derive(Drop)]
+pub(crate) struct PlanWords<'a> {
+    pub(crate) workers: u32,
+    pub(crate) cuts: Option<&'a str>,
+    pub(crate) choices: &'a str,
+}
+
+/// What the words ask for.
 #[derive(Drop)]
 pub(crate) enum Request<'a> {
-    /// To analyse a dump, its runs by these choices.
-    Analyse { choices: &'a str },
+    /// To analyse a dump.
+    Analyse(PlanWords<'a>),
     /// To trace the process of this name by these choices.
     Trace { name: &'a str, choices: &'a str },
     /// To print this text.
@@ -19,16 +30,29 @@ pub(crate) enum Request<'a> {
 }
 
 fn command<'a>(alloc: Global) -> Result<Command<'a>, AllocError> {
-    let analyse = Command::new(alloc, "analyse")
-        .about("Reads a dump from standard input and says which idle processes are deadlocked")
-        .arg(choices_option(alloc))?;
     Command::new(alloc, "cmh")
         .version("0.1.0")
         .about("Finds the processes of a stalled message-passing program that can never go on")
         .subcommand_required(true)
         .disable_help_subcommand(true)
-        .subcommand(analyse)?
+        .subcommand(analyse_command(alloc)?)?
         .subcommand(trace_command(alloc)?)
+}
+
+fn analyse_command<'a>(alloc: Global) -> Result<Command<'a>, AllocError> {
+    let workers = Arg::new(alloc, "workers")
+        .long("workers")
+        .value_name("N")
+        .value_parser(value_parser!(u32).range(1..=64))
+        .help("How many workers share the idle processes, 1 to 64; 4 where nothing is said");
+    let cuts = Arg::new(alloc, "cuts").long("cuts").value_name("LIST").help(
+        "How many idle processes each chunk takes: numbers parted by commas",
+    );
+    Command::new(alloc, "analyse")
+        .about("Reads a dump from standard input and says which idle processes are deadlocked")
+        .arg(workers)?
+        .arg(cuts)?
+        .arg(choices_option(alloc))
 }
 
 fn trace_command<'a>(alloc: Global) -> Result<Command<'a>, AllocError> {
@@ -53,7 +77,11 @@ fn request_in<'a>(options: &ArgMatches<'a>) -> Request<'a> {
     let choices = options.get_str("choices").unwrap_or("");
     match options.get_str("NAME") {
         Some(name) => Request::Trace { name, choices },
-        None => Request::Analyse { choices },
+        None => Request::Analyse(PlanWords {
+            workers: options.get_one("workers").unwrap_or(DEFAULT_WORKERS),
+            cuts: options.get_str("cuts"),
+            choices,
+        }),
     }
 }
 

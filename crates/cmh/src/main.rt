@@ -3,8 +3,10 @@
 
 mod command;
 mod list;
+mod plan;
 mod serve;
 mod status;
+mod tell;
 #[cfg(test)]
 mod tests;
 
@@ -28,7 +30,7 @@ fn main(rt: HostRuntime) -> ExitCode {
     let mut err = WriteOf::new(rt.stderr());
     let status = match words(&rt) {
         Ok(words) => serve::serve(&rt, &words, &mut source, &mut out, &mut err),
-        Err(error) => serve::refuse_words(&error, &mut err),
+        Err(error) => tell::refuse_words(&error, &mut err),
     };
     ExitCode::from(status)
 }

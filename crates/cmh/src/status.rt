@@ -1,12 +1,13 @@
 //! The statuses with which the program ends.
 
 ghost use Rattle.std.specs.Prelude.{◌≡◌};
-ghost use Rattle.cmh.specs.Status.{status_of as status_of_lem, status_of_list as status_of_list_lem};
+ghost use Rattle.cmh.specs.Status.{status_of as status_of_lem, status_of_list as status_of_list_lem, status_of_plan as status_of_plan_lem};
 
 use crate::list::ListFault;
 use cmh_dump::DumpFault;
 use cmh_report::AppFault;
 use cmh_run::RunFault;
+use cmh_work::PlanFault;
 
 /// No process is deadlocked, or what was asked for is printed.
 pub(crate) const FREE: u8 = 0;
@@ -32,7 +33,7 @@ pub(crate) fn status_of(fault: &AppFault) -> u8
         AppFault::Dump(_) => REFUSED,
         AppFault::Run(RunFault::Memory) => FAILED,
         AppFault::NoSuchProcess | AppFault::Run(_) => MISUSED,
-        AppFault::Report(_) | AppFault::WriteFault(_) => FAILED,
+        AppFault::Work(_) | AppFault::Report(_) | AppFault::WriteFault(_) => FAILED,
     }
 }
 
@@ -43,5 +44,15 @@ pub(crate) fn status_of_list(fault: &ListFault) -> u8
     match fault {
         ListFault::Memory => FAILED,
         ListFault::BadNumber(_) | ListFault::TooManyNumbers => MISUSED,
+    }
+}
+
+/// The status after a fault of a plan.
+pub(crate) fn status_of_plan(fault: &PlanFault) -> u8
+    ensures { result ≡ status_of_plan_lem fault.now }
+{
+    match fault {
+        PlanFault::Memory => FAILED,
+        PlanFault::BadWorkers | PlanFault::TooManyCuts | PlanFault::TooManyChoices => MISUSED,
     }
 }

@@ -3,6 +3,7 @@
 mod cases;
 mod devices;
 mod lists;
+mod plans;
 mod texts;
 mod tracing;
 
@@ -10,7 +11,10 @@ use crate::serve::serve;
 use cases::CASES;
 use cmh_stream::{ReadOf, WriteOf};
 use devices::{Cut, Page};
+use std::alloc::Global;
 use std::io::Read;
+use std::sync::Wait;
+use std::thread::Threads;
 
 const TWO_IN_A_CYCLE: &str = r#"{"version":1,"sites":["a"],"processes":[
     {"name":"p","site":"a","state":"idle","dependents":["q"]},
@@ -58,24 +62,24 @@ struct Outcome {
     err: Page,
 }
 
-fn page(rt: HostRuntime, room: usize) -> Page {
+fn page(alloc: Global, room: usize) -> Page {
     Page {
-        bytes: Vec::new(rt.alloc()),
+        bytes: Vec::new(alloc),
         room,
         fails_flush: false,
     }
 }
 
 /// Runs the program on a reader, with pages for its output.
-fn run_on<R: Read + Drop>(
-    rt: HostRuntime,
+fn run_on<R: AllocGlobal + Threads + Wait + Sync, I: Read + Drop>(
+    rt: &R,
     words: &[&str],
-    reader: R,
+    reader: I,
     pages: (Page, Page),
 ) -> Outcome {
     let (mut out, mut err) = pages;
     let status = serve(
-        &rt,
+        rt,
         words,
         &mut ReadOf::new(reader),
         &mut WriteOf::new(&mut out),
@@ -85,8 +89,8 @@ fn run_on<R: Read + Drop>(
 }
 
 /// Runs the program on a dump, with as much room for its output as it needs.
-fn run(rt: HostRuntime, words: &[&str], dump: &str) -> Outcome {
-    let pages = (page(rt, 10_000), page(rt, 10_000));
+fn run<R: AllocGlobal + Threads + Wait + Sync>(rt: &R, words: &[&str], dump: &str) -> Outcome {
+    let pages = (page(rt.alloc(), 10_000), page(rt.alloc(), 10_000));
     run_on(rt, words, dump.as_bytes(), pages)
 }
 
@@ -123,27 +127,19 @@ free b path b z
         (EMPTY, "processes 0 active 0 idle 0 deadlocked 0\n", 0),
     ];
     for (dump, text, status) in rows {
-        let ran = run(rt, &ANALYSE, dump);
-        assert!(rt; is(&ran.out, text), "{text}");
-        assert!(rt; is(&ran.err, ""), "{text}");
-        assert_eq!(rt; ran.status, status, "{text}");
-    }
-}
-
-#[test]
-fn choices_change_nothing(rt: HostRuntime) {
-    for list in ["", "1,1,1", "18446744073709551615"] {
-        let ran = run(rt, &["cmh", "analyse", "--choices", list], KNOT_OF_THREE);
-        assert!(rt; is(&ran.out, KNOT_OF_THREE_REPORT), "{list}");
-        assert!(rt; is(&ran.err, ""), "{list}");
-        assert_eq!(rt; ran.status, 3, "{list}");
+        for workers in ["1", "2", "4", "64"] {
+            let ran = run(&rt, &["cmh", "analyse", "--workers", workers], dump);
+            assert!(rt; is(&ran.out, text), "{text}");
+            assert!(rt; is(&ran.err, ""), "{text}");
+            assert_eq!(rt; ran.status, status, "{text}");
+        }
     }
 }
 
 #[test]
 fn reports_of_another_program(rt: HostRuntime) {
     for (dump, text, status) in CASES {
-        let ran = run(rt, &ANALYSE, dump);
+        let ran = run(&rt, &ANALYSE, dump);
         assert!(rt; is(&ran.out, text), "{text}");
         assert!(rt; is(&ran.err, ""), "{text}");
         assert_eq!(rt; ran.status, status, "{text}");
@@ -162,7 +158,7 @@ fn refused_dumps(rt: HostRuntime) {
         ),
     ];
     for (dump, line) in rows {
-        let ran = run(rt, &ANALYSE, dump);
+        let ran = run(&rt, &ANALYSE, dump);
         assert!(rt; is(&ran.out, ""), "{line}");
         assert!(rt; is(&ran.err, line), "{line}");
         assert_eq!(rt; ran.status, 1, "{line}");
@@ -180,7 +176,7 @@ fn refused_words(rt: HostRuntime) {
         &["cmh", "trace", "p", "q"],
     ];
     for words in rows {
-        let ran = run(rt, words, TWO_IN_A_CYCLE);
+        let ran = run(&rt, words, TWO_IN_A_CYCLE);
         assert!(rt; is(&ran.out, ""));
         assert!(rt; has(&ran.err, "Usage: cmh"));
         assert_eq!(rt; ran.status, 2);
@@ -197,7 +193,7 @@ fn help_and_version(rt: HostRuntime) {
         (&["cmh", "--version"], "cmh "),
     ];
     for (words, text) in rows {
-        let ran = run(rt, words, TWO_IN_A_CYCLE);
+        let ran = run(&rt, words, TWO_IN_A_CYCLE);
         assert!(rt; has(&ran.out, text), "{text}");
         assert!(rt; is(&ran.err, ""), "{text}");
         assert_eq!(rt; ran.status, 0, "{text}");
@@ -209,7 +205,12 @@ fn a_failing_source(rt: HostRuntime) {
     let reader = Cut {
         bytes: &TWO_IN_A_CYCLE.as_bytes()[..20],
     };
-    let ran = run_on(rt, &ANALYSE, reader, (page(rt, 100), page(rt, 100)));
+    let ran = run_on(
+        &rt,
+        &ANALYSE,
+        reader,
+        (page(rt.alloc(), 100), page(rt.alloc(), 100)),
+    );
     assert!(rt; is(&ran.out, ""));
     assert!(rt; is(&ran.err, "cmh: dump: read fault\n"));
     assert_eq!(rt; ran.status, 4);
@@ -219,11 +220,11 @@ fn a_failing_source(rt: HostRuntime) {
 fn a_failing_output(rt: HostRuntime) {
     let unflushed = Page {
         fails_flush: true,
-        ..page(rt, 200)
+        ..page(rt.alloc(), 200)
     };
     let rows = [
         (
-            page(rt, 10),
+            page(rt.alloc(), 10),
             "processes ",
             "cmh: write fault after 10 bytes\n",
         ),
@@ -235,7 +236,7 @@ fn a_failing_output(rt: HostRuntime) {
     ];
     for (out, text, line) in rows {
         let dump = TWO_IN_A_CYCLE.as_bytes();
-        let ran = run_on(rt, &ANALYSE, dump, (out, page(rt, 100)));
+        let ran = run_on(&rt, &ANALYSE, dump, (out, page(rt.alloc(), 100)));
         assert!(rt; is(&ran.out, text), "{line}");
         assert!(rt; is(&ran.err, line), "{line}");
         assert_eq!(rt; ran.status, 4, "{line}");
@@ -245,7 +246,12 @@ fn a_failing_output(rt: HostRuntime) {
 #[test]
 fn help_that_is_refused(rt: HostRuntime) {
     let dump = EMPTY.as_bytes();
-    let ran = run_on(rt, &["cmh", "--help"], dump, (page(rt, 0), page(rt, 100)));
+    let ran = run_on(
+        &rt,
+        &["cmh", "--help"],
+        dump,
+        (page(rt.alloc(), 0), page(rt.alloc(), 100)),
+    );
     assert!(rt; is(&ran.err, "cmh: write fault after 0 bytes\n"));
     assert_eq!(rt; ran.status, 4);
 }
@@ -258,8 +264,8 @@ fn faults_that_cannot_be_told(rt: HostRuntime) {
         (&ANALYSE, EMPTY, 10, 4),
     ];
     for (words, dump, room, status) in rows {
-        let pages = (page(rt, room), page(rt, 0));
-        let ran = run_on(rt, words, dump.as_bytes(), pages);
+        let pages = (page(rt.alloc(), room), page(rt.alloc(), 0));
+        let ran = run_on(&rt, words, dump.as_bytes(), pages);
         assert!(rt; is(&ran.err, ""));
         assert_eq!(rt; ran.status, status);
     }

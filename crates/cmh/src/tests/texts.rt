@@ -3,15 +3,16 @@
 use super::devices::Page;
 use super::{is, page};
 use crate::list::ListFault;
-use crate::serve::{fail, refuse_choices};
+use crate::tell::{fail, refuse_list, refuse_plan};
 use cmh_dump::DumpFault;
 use cmh_report::{AppFault, ReportFault};
 use cmh_run::RunFault;
 use cmh_stream::WriteOf;
+use cmh_work::{PlanFault, WorkFault};
 
 /// Whether the fault is told by this line, with this status.
 fn tells(rt: HostRuntime, fault: &AppFault, line: &str, status: u8) -> bool {
-    let mut err: Page = page(rt, 100);
+    let mut err: Page = page(rt.alloc(), 100);
     let answer = fail(rt.alloc(), fault, &mut WriteOf::new(&mut err));
     answer == status && is(&err, line)
 }
@@ -38,6 +39,16 @@ fn faults(rt: HostRuntime) {
             AppFault::Dump(DumpFault::BadProcess(3)),
             "cmh: dump: bad process 3\n",
             1,
+        ),
+        (
+            AppFault::Work(WorkFault::Memory),
+            "cmh: work: out of memory\n",
+            4,
+        ),
+        (
+            AppFault::Work(WorkFault::WorkerLost),
+            "cmh: work: worker lost\n",
+            4,
         ),
         (AppFault::NoSuchProcess, "cmh: no such process\n", 2),
         (
@@ -79,17 +90,61 @@ fn faults(rt: HostRuntime) {
 #[test]
 fn faults_of_lists(rt: HostRuntime) {
     let rows = [
-        (ListFault::BadNumber(3), "cmh: choices: bad number 3\n", 2),
         (
+            "choices",
+            ListFault::BadNumber(3),
+            "cmh: choices: bad number 3\n",
+            2,
+        ),
+        (
+            "choices",
             ListFault::TooManyNumbers,
             "cmh: choices: too many numbers\n",
             2,
         ),
-        (ListFault::Memory, "cmh: choices: out of memory\n", 4),
+        (
+            "choices",
+            ListFault::Memory,
+            "cmh: choices: out of memory\n",
+            4,
+        ),
+        (
+            "cuts",
+            ListFault::BadNumber(0),
+            "cmh: cuts: bad number 0\n",
+            2,
+        ),
+        (
+            "cuts",
+            ListFault::TooManyNumbers,
+            "cmh: cuts: too many numbers\n",
+            2,
+        ),
+        ("cuts", ListFault::Memory, "cmh: cuts: out of memory\n", 4),
+    ];
+    for (option, fault, line, status) in rows {
+        let mut err = page(rt.alloc(), 100);
+        let answer = refuse_list(rt.alloc(), option, &fault, &mut WriteOf::new(&mut err));
+        assert!(rt; is(&err, line), "{line}");
+        assert_eq!(rt; answer, status, "{line}");
+    }
+}
+
+#[test]
+fn faults_of_plans(rt: HostRuntime) {
+    let rows = [
+        (PlanFault::BadWorkers, "cmh: plan: bad workers\n", 2),
+        (PlanFault::TooManyCuts, "cmh: plan: too many cuts\n", 2),
+        (
+            PlanFault::TooManyChoices,
+            "cmh: plan: too many choices\n",
+            2,
+        ),
+        (PlanFault::Memory, "cmh: plan: out of memory\n", 4),
     ];
     for (fault, line, status) in rows {
-        let mut err = page(rt, 100);
-        let answer = refuse_choices(rt.alloc(), &fault, &mut WriteOf::new(&mut err));
+        let mut err = page(rt.alloc(), 100);
+        let answer = refuse_plan(rt.alloc(), &fault, &mut WriteOf::new(&mut err));
         assert!(rt; is(&err, line), "{line}");
         assert_eq!(rt; answer, status, "{line}");
     }

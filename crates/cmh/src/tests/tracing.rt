@@ -59,7 +59,7 @@ declared p
         ),
     ];
     for (words, dump, text) in rows {
-        let ran = run(rt, words, dump);
+        let ran = run(&rt, words, dump);
         assert!(rt; is(&ran.out, text), "{text}");
         assert!(rt; is(&ran.err, ""), "{text}");
         assert_eq!(rt; ran.status, 0, "{text}");
@@ -75,7 +75,7 @@ fn refused_traces(rt: HostRuntime) {
         ("p", "{}", "cmh: dump: bad top\n", 1),
     ];
     for (name, dump, line, status) in rows {
-        let ran = run(rt, &["cmh", "trace", name], dump);
+        let ran = run(&rt, &["cmh", "trace", name], dump);
         assert!(rt; is(&ran.out, ""), "{line}");
         assert!(rt; is(&ran.err, line), "{line}");
         assert_eq!(rt; ran.status, status, "{line}");
@@ -84,9 +84,9 @@ fn refused_traces(rt: HostRuntime) {
 
 #[test]
 fn a_failing_output(rt: HostRuntime) {
-    let pages = (page(rt, 12), page(rt, 100));
+    let pages = (page(rt.alloc(), 12), page(rt.alloc(), 100));
     let dump = ONE_FREE_ONE_STUCK.as_bytes();
-    let ran = run_on(rt, &["cmh", "trace", "p"], dump, pages);
+    let ran = run_on(&rt, &["cmh", "trace", "p"], dump, pages);
     assert!(rt; is(&ran.out, "query p q\nqu"));
     assert!(rt; is(&ran.err, "cmh: write fault after 12 bytes\n"));
     assert_eq!(rt; ran.status, 4);
@@ -111,10 +111,10 @@ fn choices_before_the_dump(rt: HostRuntime) {
     ];
     for (words, line) in rows {
         let ran = run_on(
-            rt,
+            &rt,
             words,
             Cut { bytes: &[] },
-            (page(rt, 100), page(rt, 100)),
+            (page(rt.alloc(), 100), page(rt.alloc(), 100)),
         );
         assert!(rt; is(&ran.out, ""), "{line}");
         assert!(rt; is(&ran.err, line), "{line}");
@@ -129,14 +129,14 @@ fn too_many_choices(rt: HostRuntime) -> Result<(), AllocError> {
         list.push_str(",0")?;
     }
     let ran = run(
-        rt,
+        &rt,
         &["cmh", "trace", "q", "--choices", &list],
         TWO_IN_A_CYCLE,
     );
     assert_eq!(rt; ran.status, 0);
     list.push_str(",0")?;
     let ran = run(
-        rt,
+        &rt,
         &["cmh", "trace", "q", "--choices", &list],
         TWO_IN_A_CYCLE,
     );
