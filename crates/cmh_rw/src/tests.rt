@@ -1,5 +1,6 @@
 //! The machine, and the words by one thread and by several.
 
+mod faults;
 mod graphs;
 mod machine;
 mod posting;

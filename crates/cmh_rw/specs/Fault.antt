@@ -1,0 +1,9 @@
+-- The texts of faults.
+use Rattle.std.specs.Prelude.{ℕ, List, codes}
+use Rattle.cmh_rw.specs.declared.fault.RwFault.{RwFault}
+use Rattle.cmh_rw.specs.declared.fault.RwFault.TheVariants.{BadSeats, Memory}
+
+-- what is printed of a fault
+abbrev pub fault_text : RwFault → List ℕ
+fault_text BadSeats = codes "bad number of seats"
+fault_text Memory = codes "out of memory"
