@@ -34,11 +34,12 @@ pub(super) fn is_new(words: &RwWords, seat: &mut RwSeat, p: u32) -> bool
     words.load(seat, FIRST_VERDICT + p as usize) == 0
 }
 
-/// Looks for a verdict once, and says whether there is one.
-pub(super) fn look(words: &RwWords, seat: &mut RwSeat, p: u32) -> bool
+/// Reads once, and says whether it found a verdict of one of the two processes and none of the
+/// other.
+pub(super) fn finds_one_of_two(words: &RwWords, seat: &mut RwSeat, p: u32, q: u32) -> bool
     requires own { IsSeatOf words.now seat.old }
     requires away { IsAway seat.old }
-    requires within { p < 4096 }
+    requires within { (p < 4096) × (q < 4096) }
     ensures own { IsSeatOf words.now seat.new }
     ensures away { IsAway seat.new }
     ensures graph { (view seat.new).lock.graph ≡ (view seat.old).lock.graph }
@@ -46,9 +47,10 @@ pub(super) fn look(words: &RwWords, seat: &mut RwSeat, p: u32) -> bool
     if words.try_read(seat) != Entry::Held {
         return false;
     }
-    let found = words.load(seat, FIRST_VERDICT + p as usize);
+    let first = words.load(seat, FIRST_VERDICT + p as usize);
+    let second = words.load(seat, FIRST_VERDICT + q as usize);
     words.end_read(seat);
-    found != 0
+    (first == 0) != (second == 0)
 }
 
 /// The first so many of the five stores that post two processes, where there are `n` rows.

@@ -6,9 +6,10 @@ ghost use Rattle.cmh_graph.specs.Verdict.{verdicts};
 ghost use Rattle.cmh_rw.specs.Seats.{view, IsSeatOf, IsAway};
 
 use super::graphs::{ring_and_chain, two_in_a_cycle};
-use super::posting::{look, post_two};
+use super::posting::{finds_one_of_two, post_two};
 use crate::{Closed, Entry, FIRST_ROW, FIRST_VERDICT, RwSeat, RwWords};
 use cmh_graph::{Verdict, WaitGraph};
+use std::sync::atomic::{AtomicU64, Ordering};
 use std::test::Fail;
 use std::thread::{Threads, join};
 
@@ -85,13 +86,15 @@ fn two_threads_take_turns(rt: HostRuntime) -> Result<(), Fail> {
     Ok(())
 }
 
-/// Posts each pair of processes that has no rows, from some pair on, and looks at each.
+/// Posts each pair of processes that has no rows, from some pair on, and reads of each. It counts
+/// the pairs of which it found one verdict alone.
 fn post_and_look(
     words: &RwWords,
     seat: RwSeat,
     graph: &WaitGraph,
     all: &[Verdict],
     start: u32,
+    torn: &AtomicU64,
 ) -> RwSeat
     requires own { IsSeatOf words.now seat }
     requires away { IsAway seat }
@@ -106,7 +109,9 @@ fn post_and_look(
     for k in 0..100 {
         let p = 2 * ((start + k) % 100);
         post_two(words, &mut seat, graph, all, p, p + 1);
-        let _is_known = look(words, &mut seat, p);
+        if finds_one_of_two(words, &mut seat, p, p + 1) {
+            torn.fetch_add(1, Ordering::SeqCst);
+        }
     }
     seat
 }
@@ -120,6 +125,7 @@ fn two_post<R: Threads + Sync>(
     graph: &WaitGraph,
     all: &[Verdict],
     start: u32,
+    torn: &AtomicU64,
 ) -> (RwSeat, RwSeat)
     requires own { IsSeatOf words.now x × IsSeatOf words.now y }
     requires away { IsAway x × IsAway y }
@@ -138,13 +144,13 @@ fn two_post<R: Threads + Sync>(
                 × (all.now ≡ verdicts graph.now) × (start < 50) }
             ensures { IsSeatOf words.entry.now result × IsAway result
                 × ((view result).lock.graph ≡ graph.entry.now) }
-        { post_and_look(words, x, graph, all, start) },
+        { post_and_look(words, x, graph, all, start, torn) },
         || -> RwSeat
             requires { IsSeatOf words.now y × IsAway y × ((view y).lock.graph ≡ graph.now)
                 × (all.now ≡ verdicts graph.now) × (start < 50) }
             ensures { IsSeatOf words.entry.now result × IsAway result
                 × ((view result).lock.graph ≡ graph.entry.now) }
-        { post_and_look(words, y, graph, all, start + 50) },
+        { post_and_look(words, y, graph, all, start + 50, torn) },
     )
 }
 
@@ -156,6 +162,7 @@ fn four_post<R: Threads + Sync>(
     y: (RwSeat, RwSeat),
     graph: &WaitGraph,
     all: &[Verdict],
+    torn: &AtomicU64,
 ) -> ((RwSeat, RwSeat), (RwSeat, RwSeat))
     requires x_own { IsSeatOf words.now x.0 × IsSeatOf words.now x.1 }
     requires y_own { IsSeatOf words.now y.0 × IsSeatOf words.now y.1 }
@@ -179,7 +186,7 @@ fn four_post<R: Threads + Sync>(
             ensures { IsSeatOf words.entry.now result.0 × IsSeatOf words.entry.now result.1
                 × IsAway result.0 × IsAway result.1
                 × ((view result.0).lock.graph ≡ graph.entry.now) }
-        { two_post(rt, words, x.0, x.1, graph, all, 0) },
+        { two_post(rt, words, x.0, x.1, graph, all, 0, torn) },
         || -> (RwSeat, RwSeat)
             requires { IsSeatOf words.now y.0 × IsSeatOf words.now y.1 × IsAway y.0 × IsAway y.1
                 × ((view y.0).lock.graph ≡ graph.now) × ((view y.1).lock.graph ≡ graph.now)
@@ -187,7 +194,7 @@ fn four_post<R: Threads + Sync>(
             ensures { IsSeatOf words.entry.now result.0 × IsSeatOf words.entry.now result.1
                 × IsAway result.0 × IsAway result.1
                 × ((view result.0).lock.graph ≡ graph.entry.now) }
-        { two_post(rt, words, y.0, y.1, graph, all, 25) },
+        { two_post(rt, words, y.0, y.1, graph, all, 25, torn) },
     )
 }
 
@@ -244,12 +251,14 @@ fn four_threads_post(rt: HostRuntime) -> Result<(), Fail> {
     ) else {
         panic!(rt; "a seat with the whole share is split")
     };
-    let ((mut a, b), (c, d)) = four_post(&rt, &words, (a, b), (c, d), &graph, &all);
+    let torn = AtomicU64::new(0);
+    let ((mut a, b), (c, d)) = four_post(&rt, &words, (a, b), (c, d), &graph, &all, &torn);
     words.join(&mut a, b);
     words.join(&mut a, c);
     words.join(&mut a, d);
     assert!(rt; a.share() == 64);
-    let a = post_and_look(&words, a, &graph, &all, 0);
+    let a = post_and_look(&words, a, &graph, &all, 0, &torn);
+    assert!(rt; torn.load(Ordering::SeqCst) == 0);
     let closed = words.close_with(a);
     assert!(rt; closed.word(0) == Some(0));
     assert!(rt; are_whole_postings(&closed));
