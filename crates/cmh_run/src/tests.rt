@@ -1,5 +1,106 @@
-//! The parts of a run, each by itself.
+//! Runs and logs from outside, written short: a graph is the dependents of each process, `None` of
+//! an active one; a step is the number, the sender and the receiver of a query or a reply.
 
 mod bag;
+mod cases;
+mod forged;
+mod hinted;
+mod memory;
+mod restarts;
 mod runs;
 mod scripted;
+mod verdicts;
+
+use crate::{Delivery, NoHints, RunFault, RunLog};
+use cmh_graph::{Part, State, Verdict, WaitGraph};
+use cmh_process::{Kind, Message};
+use std::alloc::{AllocError, Global};
+
+/// The dependents of each process, `None` of an active one.
+type Waits<'a> = &'a [Option<&'a [u32]>];
+
+/// Number, sender and receiver of a message.
+#[derive(Clone, Copy)]
+enum Step {
+    Query(u32, u32, u32),
+    Reply(u32, u32, u32),
+}
+
+const WAITS_FOR_NOBODY: [Option<&[u32]>; 1] = [Some(&[])];
+
+const WAITS_FOR_ITSELF: [Option<&[u32]>; 1] = [Some(&[0])];
+
+const TWO_IN_A_CYCLE: [Option<&[u32]>; 2] = [Some(&[1]), Some(&[0])];
+
+const ONE_FREE_ONE_STUCK: [Option<&[u32]>; 3] = [Some(&[1, 2]), Some(&[1]), None];
+
+const CYCLE_AND_FOLLOWER: [Option<&[u32]>; 3] = [Some(&[1]), Some(&[0]), Some(&[0])];
+
+const KNOT_OF_THREE: [Option<&[u32]>; 3] = [Some(&[1, 2]), Some(&[2]), Some(&[1])];
+
+/// `one_free_one_stuck`, a process that waits for the active one, and one that waits for that.
+const FREE_BY_TWO: [Option<&[u32]>; 5] = [Some(&[1, 2]), Some(&[1]), None, Some(&[2]), Some(&[3])];
+
+fn part_of(alloc: Global, waits: Option<&[u32]>) -> Result<Part, AllocError> {
+    let (state, dependents) = match waits {
+        Some(dependents) => (State::Idle, Vec::from_slice(alloc, dependents)?),
+        None => (State::Active, Vec::new(alloc)),
+    };
+    Ok(Part {
+        name: String::new(alloc),
+        site: 0,
+        state,
+        dependents,
+    })
+}
+
+fn graph_of(alloc: Global, waits: Waits, in_transit: &[(u32, u32)]) -> Result<WaitGraph, RunFault> {
+    let mut parts = Vec::new(alloc);
+    for dependents in waits {
+        parts.push(part_of(alloc, *dependents)?)?;
+    }
+    WaitGraph::build_with(alloc, parts, in_transit).map_err(|_| RunFault::Memory)
+}
+
+/// The run of one computation without hints.
+fn run_of(
+    alloc: Global,
+    waits: Waits,
+    initiator: u32,
+    choices: &[u64],
+) -> Result<RunLog, RunFault> {
+    let graph = graph_of(alloc, waits, &[])?;
+    crate::run(alloc, &graph, initiator, choices, &mut NoHints)
+}
+
+/// The delivery of a step of the computations of this initiator.
+fn delivery(initiator: u32, step: Step, hint: Option<Verdict>) -> Delivery {
+    let (kind, number, from, to) = match step {
+        Step::Query(number, from, to) => (Kind::Query, number, from, to),
+        Step::Reply(number, from, to) => (Kind::Reply, number, from, to),
+    };
+    let message = Message {
+        kind,
+        initiator,
+        number,
+        from,
+        to,
+    };
+    Delivery { message, hint }
+}
+
+/// The deliveries of steps, without hints.
+fn log_of(alloc: Global, initiator: u32, steps: &[Step]) -> Result<Vec<Delivery>, RunFault> {
+    let mut log = Vec::new(alloc);
+    for step in steps {
+        log.push(delivery(initiator, *step, None))?;
+    }
+    Ok(log)
+}
+
+/// Whether the log has these steps, each without a hint.
+fn has_steps(run: &RunLog, steps: &[Step]) -> bool {
+    run.log().len() == steps.len()
+        && run.log().iter().zip(steps.iter()).all(|(made, step)| *made
+            == delivery(run.initiator(), *step, None))
+}

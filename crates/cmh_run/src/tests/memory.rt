@@ -1,0 +1,134 @@
+//! Runs and judgements while memory is short.
+
+use super::Step::{Query, Reply};
+use super::{CYCLE_AND_FOLLOWER, TWO_IN_A_CYCLE, Waits, graph_of, log_of};
+use crate::{CheckFault, Delivery, Ending, NoHints, RunFault, check_run, run, run_again};
+use cmh_graph::WaitGraph;
+use std::alloc::Global;
+use std::test::Fail;
+
+/// The most bytes that are left for the call.
+const ROOM: usize = 8_192;
+
+/// Takes all the memory that there is, in blocks of falling sizes.
+fn take_all(alloc: Global, blocks: &mut Vec<Vec<u8>>) {
+    let mut size = 1usize << 46;
+    for _ in 0..100_000 {
+        if size < 16 {
+            return;
+        }
+        match Vec::with_capacity(alloc, size) {
+            Ok(block) => {
+                if blocks.push(block).is_err() {
+                    return;
+                }
+            }
+            Err(_) => size /= 2,
+        }
+    }
+}
+
+/// What is done while memory is short.
+#[derive(Clone, Copy)]
+enum Call {
+    /// The run of the follower of the cycle.
+    Run,
+
+    /// The run that starts again after two deliveries.
+    RunAgain,
+
+    /// The judgement of the log of the run of the cycle.
+    CheckRun,
+}
+
+/// Whether the answer is what it is with memory enough; nothing where memory is refused.
+fn answer(alloc: Global, call: Call, graph: &WaitGraph, log: &[Delivery]) -> Option<bool> {
+    match call {
+        Call::Run => match run(alloc, graph, 2, &[], &mut NoHints) {
+            Ok(run) => Some(run.ending() == Ending::Declared && run.log().len() == 6),
+            Err(fault) => refused(fault == RunFault::Memory),
+        },
+        Call::RunAgain => match run_again(alloc, graph, 0, &[], &mut NoHints, &[2]) {
+            Ok(run) => Some(run.restarted() == 1 && run.log().len() == 8),
+            Err(fault) => refused(fault == RunFault::Memory),
+        },
+        Call::CheckRun => match check_run(alloc, graph, 0, log) {
+            Ok(ending) => Some(ending == Ending::Declared),
+            Err(fault) => refused(fault == CheckFault::Memory),
+        },
+    }
+}
+
+fn refused(is_memory: bool) -> Option<bool> {
+    if is_memory { None } else { Some(false) }
+}
+
+/// What the answers were.
+#[derive(Clone, Copy, Debug, PartialEq, Eq)]
+struct Answers {
+    right: bool,
+    wrong: bool,
+    refused: bool,
+}
+
+/// Some calls were refused for want of memory, and all others were right.
+const AS_THEY_SHOULD_BE: Answers = Answers {
+    right: true,
+    wrong: false,
+    refused: true,
+};
+
+/// Makes the call with more and more memory, until there is enough.
+fn sweep(alloc: Global, waits: Waits, call: Call) -> Result<Answers, Fail> {
+    let graph = graph_of(alloc, waits, &[])?;
+    let steps = [
+        Query(1, 0, 1),
+        Query(1, 1, 0),
+        Reply(1, 0, 1),
+        Reply(1, 1, 0),
+    ];
+    let log = log_of(alloc, 0, &steps)?;
+    let mut blocks = Vec::with_capacity(alloc, 100_000)?;
+    let room: Vec<u8> = Vec::with_capacity(alloc, ROOM)?;
+    let _pin: Vec<u8> = Vec::with_capacity(alloc, 64)?;
+    take_all(alloc, &mut blocks);
+    drop(room);
+
+    let mut answers = Answers {
+        right: false,
+        wrong: false,
+        refused: false,
+    };
+    for k in 0..ROOM / 16 {
+        let taken: Result<Vec<u8>, _> = Vec::with_capacity(alloc, ROOM - 16 * k);
+        match answer(alloc, call, &graph, &log) {
+            Some(true) => answers.right = true,
+            Some(false) => answers.wrong = true,
+            None => answers.refused = true,
+        }
+        drop(taken);
+    }
+    drop(blocks);
+    Ok(answers)
+}
+
+#[test]
+fn want_of_memory_in_a_run(rt: HostRuntime) -> Result<(), Fail> {
+    let answers = sweep(rt.alloc(), &CYCLE_AND_FOLLOWER, Call::Run)?;
+    assert_eq!(rt; answers, AS_THEY_SHOULD_BE);
+    Ok(())
+}
+
+#[test]
+fn want_of_memory_with_a_restart(rt: HostRuntime) -> Result<(), Fail> {
+    let answers = sweep(rt.alloc(), &TWO_IN_A_CYCLE, Call::RunAgain)?;
+    assert_eq!(rt; answers, AS_THEY_SHOULD_BE);
+    Ok(())
+}
+
+#[test]
+fn want_of_memory_in_a_judgement(rt: HostRuntime) -> Result<(), Fail> {
+    let answers = sweep(rt.alloc(), &TWO_IN_A_CYCLE, Call::CheckRun)?;
+    assert_eq!(rt; answers, AS_THEY_SHOULD_BE);
+    Ok(())
+}
