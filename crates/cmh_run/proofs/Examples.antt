@@ -1,0 +1,97 @@
+-- Definitions, computed on worked runs of two processes that wait for each other.
+use Rattle.std.proofs.Common.{◌≡◌, ℕ, List, [], ◌∷◌, None, Some, refl}
+use Rattle.cmh_graph.specs.declared.part.State.TheVariants.{Idle}
+use Rattle.cmh_graph.specs.Graph.{Graph}
+use Rattle.cmh_process.specs.declared.message.Message.{Message}
+use Rattle.cmh_run.specs.declared.delivery.Delivery.{Delivery}
+use Rattle.cmh_run.specs.declared.delivery.Ending.TheVariants.{Declared}
+use Rattle.cmh_run.specs.Config.{query, reply}
+use Rattle.cmh_run.specs.Last.{alone}
+use Rattle.cmh_run.specs.Legal.{Going, any_place, IsRun}
+
+-- a delivery without a hint
+abbrev plain : Message → Delivery
+plain m = record { message = m; hint = None }
+
+abbrev two_in_a_cycle : Graph
+two_in_a_cycle = record {
+  processes = record { name = []; site = 0; state = Idle; dependents = 1 ∷ [] }
+      ∷ record { name = []; site = 0; state = Idle; dependents = 0 ∷ [] }
+      ∷ [];
+  in_transit = [];
+}
+
+-- the run without restarts
+abbrev deliveries : List Delivery
+deliveries =
+    plain (query 0 1 0 1) ∷ plain (query 0 1 1 0) ∷ plain (reply 0 1 0 1) ∷ plain (reply 0 1 1 0) ∷ []
+
+-- the run that starts again after two deliveries
+abbrev restarted : List Delivery
+restarted =
+    plain (query 0 1 0 1) ∷ plain (query 0 1 1 0) ∷ plain (reply 0 1 0 1) ∷ plain (query 0 2 0 1)
+    ∷ plain (reply 0 1 1 0) ∷ plain (query 0 2 1 0) ∷ plain (reply 0 2 0 1) ∷ plain (reply 0 2 1 0) ∷ []
+
+-- its last computation, taken alone, is the run without restarts
+last_alone : alone 2 restarted ≡ deliveries
+last_alone = refl
+
+-- the run is legal, and declared
+legal : (end : Going) × IsRun any_place two_in_a_cycle 0 [] deliveries Declared end
+legal = (
+  _,
+  record {
+    leads = (
+      0,
+      record { going = refl; there = refl; hint = tt },
+      refl,
+      (
+        0,
+        record { going = refl; there = refl; hint = tt },
+        refl,
+        (0, record { going = refl; there = refl; hint = tt }, refl, (0, record { going = refl; there = refl; hint = tt }, refl, refl)),
+      ),
+    );
+    ends = refl;
+  },
+)
+
+-- so is the one with a restart
+legal_again : (end : Going) × IsRun any_place two_in_a_cycle 0 (2 ∷ []) restarted Declared end
+legal_again = (
+  _,
+  record {
+    leads = (
+      0,
+      record { going = refl; there = refl; hint = tt },
+      refl,
+      (
+        0,
+        record { going = refl; there = refl; hint = tt },
+        refl,
+        (
+          0,
+          record { going = refl; there = refl; hint = tt },
+          refl,
+          (
+            0,
+            record { going = refl; there = refl; hint = tt },
+            refl,
+            (
+              0,
+              record { going = refl; there = refl; hint = tt },
+              refl,
+              (
+                0,
+                record { going = refl; there = refl; hint = tt },
+                refl,
+                (0, record { going = refl; there = refl; hint = tt }, refl, (0, record { going = refl; there = refl; hint = tt }, refl, refl)),
+              ),
+            ),
+          ),
+        ),
+      ),
+    );
+    ends = refl;
+  },
+)
