@@ -1,7 +1,7 @@
 -- The steps of a run, seen from its last computation alone.
-use Rattle.std.proofs.Common.{◌≡◌, ℕ, zero, suc, ◌+◌, ◌<◌, ◌≤◌, Bool, true, false, ◌&&◌, cond, eqb, List, [], ◌∷◌, ◌++◌, map, remove, replicate, length, slice_get, slice_set, Option, Some, None, is_none, refl, sym, ◌∙◌, ap, subst, arith, ⊎_elim, append-nil}
-use Rattle.std.proofs.lemmas.Bool.{eqb-true, eqb-false, eq-eqb, ne_eqb, cases_eq, true≢false, and_parts}
-use Rattle.std.proofs.lemmas.List.{map-set, length-replicate}
+use Rattle.std.proofs.Common.{◌≡◌, ℕ, ◌+◌, ◌<◌, ◌≤◌, Bool, true, false, ◌&&◌, cond, eqb, List, [], ◌∷◌, ◌++◌, map, remove, length, slice_get, slice_set, Option, Some, None, refl, sym, ◌∙◌, ap, subst, arith, append-nil}
+use Rattle.std.proofs.lemmas.Bool.{eq-eqb, ne_eqb, true≢false}
+use Rattle.std.proofs.lemmas.List.{map-set}
 use Rattle.std.proofs.Math.Seq.{map-set_same}
 use Rattle.cmh_process.specs.declared.message.Kind.{Kind}
 use Rattle.cmh_process.specs.declared.message.Kind.TheVariants.{Query, Reply}
@@ -12,20 +12,15 @@ use Rattle.cmh_process.specs.declared.process.Action.TheVariants.{Nothing, Engag
 use Rattle.cmh_process.specs.Process.{fresh, proc_started, start_action, engages, proc_queried, query_action, repeat_action, engage_action, counts, proc_replied, reply_action, last_action}
 use Rattle.cmh_graph.specs.declared.verdict.Verdict.{Verdict}
 use Rattle.cmh_graph.specs.declared.verdict.Verdict.TheVariants.{Deadlocked, Free}
-use Rattle.cmh_graph.specs.Graph.{Graph, process_count, dependents_of, is_idle, is_awake, IsWithinGraph}
-use Rattle.cmh_graph.proofs.Verdicts.{idle_within}
-use Rattle.cmh_run.specs.declared.delivery.Delivery.{Delivery}
+use Rattle.cmh_graph.specs.Graph.{Graph, process_count, dependents_of, is_awake}
 use Rattle.cmh_run.specs.declared.delivery.Ending.{Ending}
 use Rattle.cmh_run.specs.declared.delivery.Ending.TheVariants.{Declared, AtRest, CutFree}
-use Rattle.cmh_run.specs.Config.{Config, proc_at, sent, ended_by, nothing_yet, start, acted, engaged_by, hinted, answered, replied, received, without, delivered, cut}
-use Rattle.cmh_run.specs.Legal.{Going, going_from, begun, restart, restarted_at, ready, after, HintIsFit, Rule, MayCome, any_place, Leads, EndsAs, IsRun}
-use Rattle.cmh_run.specs.Last.{renumbered, alone, BeginsRun, IsUncut, IsWhole, LastIsRun, LastComputationIsARun}
-use Rattle.cmh_run.proofs.Tokens.{Each, each_at, each_more}
-use Rattle.cmh_run.proofs.Live.{Live, Fine}
-use Rattle.cmh_run.proofs.Right.{number_kept}
-use Rattle.cmh_run.proofs.Theorem.{by_test, Status, Stands, first_start, status_none, fresh_at, stepped, ready_stands}
-use Rattle.cmh_run.proofs.Bound.{phi_of, delivered_falls}
-use Rattle.cmh_run.proofs.Recast.{recast, kept, place_among, kept_append, kept_at, kept_taken, kept_other, kept_sent, kept_other_sent, same_engages, same_queried, same_query_action, same_replied, same_reply_action, queried_below, replied_below, recast_at, all_fresh}
+use Rattle.cmh_run.specs.Config.{Config, proc_at, sent, ended_by, nothing_yet, start, acted, engaged_by, hinted, answered, received, without, delivered, cut}
+use Rattle.cmh_run.specs.Legal.{HintIsFit}
+use Rattle.cmh_run.specs.Last.{renumbered}
+use Rattle.cmh_run.proofs.Tokens.{Each}
+use Rattle.cmh_run.proofs.Theorem.{by_test, fresh_at}
+use Rattle.cmh_run.proofs.Recast.{recast, kept, place_among, kept_append, kept_taken, kept_other, kept_sent, kept_other_sent, same_engages, same_queried, same_query_action, same_replied, same_reply_action, queried_below, replied_below, recast_at, all_fresh}
 
 -- how the computation alone has ended: it hasn't where an older one was cut
 abbrev pub SameEnd : Option Ending → Option Ending → Type 0

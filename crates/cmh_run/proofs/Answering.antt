@@ -1,6 +1,6 @@
 -- A log has one answer: since a message stands at one place, the deliveries lead to one state.
-use Rattle.std.proofs.Common.{◌≡◌, ℕ, zero, suc, ◌<◌, Bool, true, false, List, [], ◌∷◌, ◌++◌, take, slice_get, Some, refl, sym, ◌∙◌, ap, subst, arith, ◌⊎◌, inl, inr, ⊎_elim}
-use Rattle.std.proofs.lemmas.Bool.{true≢false, cases_eq}
+use Rattle.std.proofs.Common.{◌≡◌, ℕ, zero, suc, ◌<◌, Bool, true, false, List, [], ◌∷◌, ◌++◌, take, slice_get, Some, refl, sym, ◌∙◌, ap, subst, arith}
+use Rattle.std.proofs.lemmas.Bool.{true≢false}
 use Rattle.std.proofs.lemmas.Option.{same_Some}
 use Rattle.cmh_graph.specs.Graph.{Graph, is_idle, is_awake}
 use Rattle.cmh_graph.specs.Build.{IsWellFormed}
@@ -9,11 +9,11 @@ use Rattle.cmh_run.specs.declared.delivery.Ending.{Ending}
 use Rattle.cmh_run.specs.declared.fault.CheckFault.{CheckFault}
 use Rattle.cmh_run.specs.declared.fault.CheckFault.TheVariants.{NotIdle, NotUndelivered, FalseHint, AfterEnd, NotEnded, Memory}
 use Rattle.cmh_run.specs.Legal.{Going, begun, ready, after, MayCome, any_place, Leads, EndsAs}
-use Rattle.cmh_run.specs.Check.{LeadTo, HasEnded, IsUndelivered, IsLegalRun, ComesAt, IsAfterEnd, IsStray, IsMisled, IsCutShort, IsFirstFault, HasOneAnswer, LogsHaveOneAnswer}
+use Rattle.cmh_run.specs.Check.{LeadTo, HasEnded, IsUndelivered, IsLegalRun, ComesAt, IsAfterEnd, IsStray, IsMisled, IsCutShort, IsFirstFault, LogsHaveOneAnswer}
 use Rattle.cmh_run.proofs.Decide.{over, one_ending}
 use Rattle.cmh_run.proofs.Places.{one_place}
 use Rattle.cmh_run.proofs.Following.{leads_on}
-use Rattle.cmh_run.proofs.Auditing.{Firm, firm}
+use Rattle.cmh_run.proofs.Auditing.{firm}
 
 -- what stands in a list stands in its first places, if it is among them
 got_first : (log : List Delivery) (t n : ℕ) (d : Delivery) → t < n → slice_get log t ≡ Some d → slice_get (take n log) t ≡ Some d

@@ -1,5 +1,5 @@
 -- What an auditor keeps agrees with the run, from delivery to delivery.
-use Rattle.std.proofs.Common.{◌≡◌, ◌≢◌, ℕ, zero, suc, ◌+◌, ◌%◌, ◌<◌, ◌≤◌, Bool, true, false, not, ◌&&◌, ◌||◌, cond, eqb, List, [], ◌∷◌, ◌++◌, map, remove, replicate, length, slice_get, Option, Some, None, refl, sym, ◌∙◌, ap, subst, arith, inl, inr, ◌⊎◌, ⊎_elim, append-nil}
+use Rattle.std.proofs.Common.{◌≡◌, ℕ, ◌+◌, Bool, true, false, not, ◌&&◌, ◌||◌, cond, eqb, List, [], ◌∷◌, ◌++◌, map, remove, replicate, length, slice_get, Option, Some, None, refl, sym, ◌∙◌, ap, subst, inl, inr, ◌⊎◌, ⊎_elim, append-nil}
 use Rattle.std.proofs.lemmas.Bool.{eqb-true, eq-eqb, cases_eq, true≢false, and_parts, and_from}
 use Rattle.std.proofs.lemmas.Option.{same_Some}
 use Rattle.std.proofs.lemmas.List.{length-replicate}
@@ -16,17 +16,17 @@ use Rattle.cmh_graph.specs.Build.{IsWellFormed}
 use Rattle.cmh_graph.proofs.Verdicts.{idle_within}
 use Rattle.cmh_run.specs.declared.delivery.Delivery.{Delivery}
 use Rattle.cmh_run.specs.declared.delivery.Ending.{Ending}
-use Rattle.cmh_run.specs.declared.delivery.Ending.TheVariants.{Declared, AtRest, CutFree}
-use Rattle.cmh_run.specs.Config.{Config, proc_at, sent, nothing_yet, start, engaged_by, hinted, answered, received, without, delivered}
-use Rattle.cmh_run.specs.Legal.{Going, going_from, begun, ready, after, MayCome, any_place, Leads, EndsAs}
-use Rattle.cmh_run.specs.Check.{LeadTo, HasEnded, IsUndelivered}
-use Rattle.cmh_run.specs.Audit.{is_waiting, is_same_kind, goes_like, Waiting, Audit, with_bag, Agrees, IsSettled}
-use Rattle.cmh_run.proofs.Tokens.{Each, each_append, each_remove, each_at, each_map}
-use Rattle.cmh_run.proofs.Live.{Live, Fine}
+use Rattle.cmh_run.specs.declared.delivery.Ending.TheVariants.{AtRest}
+use Rattle.cmh_run.specs.Config.{Config, proc_at, sent, nothing_yet, start, hinted, answered, received, without, delivered}
+use Rattle.cmh_run.specs.Legal.{Going, going_from, begun, ready, after, MayCome, any_place, Leads}
+use Rattle.cmh_run.specs.Check.{LeadTo, IsUndelivered}
+use Rattle.cmh_run.specs.Audit.{is_waiting, is_same_kind, goes_like, Audit, with_bag, Agrees, IsSettled}
+use Rattle.cmh_run.proofs.Tokens.{Each, each_append, each_remove, each_at}
+use Rattle.cmh_run.proofs.Live.{Live}
 use Rattle.cmh_run.proofs.Right.{number_kept}
-use Rattle.cmh_run.proofs.Theorem.{by_test, Status, Stands, first_start, leads_stands, status_none, fresh_at}
+use Rattle.cmh_run.proofs.Theorem.{by_test, Status, first_start, leads_stands, status_none, fresh_at}
 use Rattle.cmh_run.proofs.Following.{leads_on, nothing_comes}
-use Rattle.cmh_run.proofs.Places.{IsIn, in_nothing, in_first, in_last, in_either, left_was, was_left, none_in, one_place}
+use Rattle.cmh_run.proofs.Places.{IsIn, in_nothing, in_first, in_last, in_either, left_was, was_left, one_place}
 
 -- ---- whose messages they are
 

@@ -9,7 +9,7 @@ use Rattle.cmh_run.specs.declared.delivery.Ending.{Ending}
 use Rattle.cmh_run.specs.declared.delivery.Ending.TheVariants.{Declared, AtRest, CutFree}
 use Rattle.cmh_graph.specs.Graph.{Graph}
 use Rattle.cmh_run.specs.Config.{Config}
-use Rattle.cmh_run.specs.Run.{Run, IsRunOf, OneRun}
+use Rattle.cmh_run.specs.Run.{Run, OneRun}
 use Rattle.cmh_run.specs.Legal.{Going, begun, ready, after, MayCome, Leads, EndsAs, IsRun}
 use Rattle.cmh_run.specs.Choices.{chosen_place, HasNoHints, ChoicesDecide}
 

@@ -1,5 +1,5 @@
 -- Definitions, computed on worked runs of two processes that wait for each other.
-use Rattle.std.proofs.Common.{◌≡◌, ℕ, List, [], ◌∷◌, None, Some, refl}
+use Rattle.std.proofs.Common.{◌≡◌, List, [], ◌∷◌, None, refl}
 use Rattle.cmh_graph.specs.declared.part.State.TheVariants.{Idle}
 use Rattle.cmh_graph.specs.Graph.{Graph}
 use Rattle.cmh_process.specs.declared.message.Message.{Message}

@@ -1,6 +1,6 @@
 -- A run that goes on by one delivery, and what its steps may count on.
-use Rattle.std.proofs.Common.{◌≡◌, ℕ, zero, suc, ◌+◌, ◌-◌, ◌*◌, ◌%◌, ◌^◌, ◌<◌, ◌≤◌, ◌≢◌, Bool, true, false, not, ◌&&◌, cond, eqb, List, [], ◌∷◌, ◌++◌, remove, replicate, length, get_or, slice_get, slice_index, Contains, Option, Some, None, is_none, refl, sym, ◌∙◌, ap, subst, arith, inl, inr, ◌⊎◌, ⊎_elim, length-append, mul-le-mul_left}
-use Rattle.std.proofs.lemmas.Bool.{eqb-true, eq-eqb, cases_eq, true≢false, and_parts}
+use Rattle.std.proofs.Common.{◌≡◌, ℕ, ◌+◌, ◌-◌, ◌*◌, ◌<◌, ◌≤◌, ◌≢◌, Bool, true, false, ◌&&◌, cond, eqb, List, [], ◌∷◌, ◌++◌, length, slice_get, Contains, Option, Some, None, is_none, refl, sym, ◌∙◌, ap, subst, arith, ◌⊎◌, ⊎_elim, length-append, mul-le-mul_left}
+use Rattle.std.proofs.lemmas.Bool.{eq-eqb, true≢false, and_parts}
 use Rattle.std.proofs.lemmas.List.{length-replicate}
 use Rattle.cmh_process.specs.declared.message.Message.{Message}
 use Rattle.cmh_graph.specs.declared.verdict.Verdict.{Verdict}
@@ -10,14 +10,14 @@ use Rattle.cmh_run.specs.declared.delivery.Ending.TheVariants.{Declared, AtRest,
 use Rattle.cmh_graph.specs.Graph.{Graph, process_count, is_idle, is_awake, IsWithinGraph, dependency_count}
 use Rattle.cmh_graph.proofs.Verdicts.{idle_within}
 use Rattle.cmh_process.specs.Process.{fresh}
-use Rattle.cmh_run.specs.Config.{Config, proc_at, nothing_yet, start, delivered, without, received}
+use Rattle.cmh_run.specs.Config.{proc_at, nothing_yet, start, without}
 use Rattle.cmh_run.specs.Legal.{Going, going_from, begun, restart, restarted_at, ready, after, Rule, MayCome, Leads, EndsAs, HintIsFit, HasNoRepeat, IsRight}
 use Rattle.cmh_run.specs.Choices.{chosen_place, HasNoHints}
-use Rattle.cmh_run.specs.Run.{Stage, Run, IsRunOf, TellsTruth, verdict_of, MayStart, place_in, IsTakenBy, with_config, delivered_to, ending_of}
+use Rattle.cmh_run.specs.Run.{Stage, Run, IsRunOf, TellsTruth, verdict_of, MayStart, place_in, IsTakenBy, delivered_to, ending_of}
 use Rattle.cmh_run.specs.Follow.{Follows}
 use Rattle.cmh_run.specs.Hints.{IsVerdict}
-use Rattle.cmh_run.proofs.Live.{Live, Fine}
-use Rattle.cmh_run.proofs.Tokens.{Each, each_at}
+use Rattle.cmh_run.proofs.Live.{Fine}
+use Rattle.cmh_run.proofs.Tokens.{each_at}
 use Rattle.cmh_run.proofs.Right.{number_kept, runs_are_right}
 use Rattle.cmh_run.proofs.Theorem.{by_test, Status, Stands, first_start, leads_stands, status_none, fresh_at, stepped, ready_stands}
 use Rattle.cmh_run.proofs.Last.{last_computation_is_a_run}

@@ -17,10 +17,10 @@ use Rattle.cmh_run.specs.declared.delivery.Delivery.{Delivery}
 use Rattle.cmh_run.specs.declared.delivery.Ending.{Ending}
 use Rattle.cmh_run.specs.declared.delivery.Ending.TheVariants.{Declared, AtRest, CutFree}
 use Rattle.cmh_run.specs.Config.{Config, proc_at, asks, received}
-use Rattle.cmh_run.specs.Legal.{Going, after, HintIsFit, any_place, EndsAs, IsRun}
+use Rattle.cmh_run.specs.Legal.{Going, after, HintIsFit, any_place, EndsAs}
 use Rattle.cmh_run.specs.declared.fault.CheckFault.{CheckFault}
 use Rattle.cmh_run.specs.declared.fault.CheckFault.TheVariants.{NotIdle, NotUndelivered, FalseHint, AfterEnd, NotEnded, Memory}
-use Rattle.cmh_run.specs.Check.{LeadTo, HasEnded, IsUndelivered, IsLegalRun, IsAfterEnd, IsStray, IsMisled, IsCutShort, IsFirstFault}
+use Rattle.cmh_run.specs.Check.{LeadTo, HasEnded, IsUndelivered, IsLegalRun, IsAfterEnd, IsStray, IsMisled, IsFirstFault}
 use Rattle.cmh_run.proofs.Right.{runs_are_right}
 use Rattle.cmh_run.specs.Audit.{is_waiting, goes_like, Waiting, Audit, with_bag, Agrees, IsSettled, IsAwaited, IsAudited, IsFlaw}
 use Rattle.cmh_run.proofs.Tokens.{each_at}

@@ -1,24 +1,24 @@
 -- The last computation of a run, taken alone, begins a run.
-use Rattle.std.proofs.Common.{◌≡◌, ℕ, zero, suc, ◌+◌, ◌<◌, ◌≤◌, Bool, true, false, ◌&&◌, cond, eqb, ltb, List, [], ◌∷◌, ◌++◌, length, replicate, slice_get, Option, Some, None, is_none, refl, sym, ◌∙◌, ap, subst, arith, ◌⊎◌, inl, inr}
-use Rattle.std.proofs.lemmas.Bool.{eqb-true, eqb-false, eq-eqb, ne_eqb, cases_eq, true≢false, and_parts}
+use Rattle.std.proofs.Common.{◌≡◌, ℕ, zero, suc, ◌+◌, ◌<◌, ◌≤◌, Bool, true, false, ◌&&◌, cond, eqb, ltb, List, [], ◌∷◌, ◌++◌, length, slice_get, Option, Some, None, is_none, refl, sym, ◌∙◌, ap, subst, arith, ◌⊎◌, inl, inr}
+use Rattle.std.proofs.lemmas.Bool.{eqb-true, eq-eqb, ne_eqb, cases_eq, true≢false, and_parts}
 use Rattle.std.proofs.lemmas.List.{length-replicate}
 use Rattle.cmh_process.specs.declared.message.Message.{Message}
 use Rattle.cmh_process.specs.Process.{fresh, start_action, counts}
-use Rattle.cmh_graph.specs.Graph.{Graph, process_count, dependents_of, is_idle, is_awake, IsWithinGraph}
+use Rattle.cmh_graph.specs.Graph.{Graph, process_count, dependents_of, is_awake, IsWithinGraph}
 use Rattle.cmh_graph.proofs.Verdicts.{idle_within}
 use Rattle.cmh_run.specs.declared.delivery.Delivery.{Delivery}
 use Rattle.cmh_run.specs.declared.delivery.Ending.{Ending}
 use Rattle.cmh_run.specs.declared.delivery.Ending.TheVariants.{Declared, AtRest, CutFree}
 use Rattle.cmh_run.specs.Config.{Config, proc_at, nothing_yet, start, delivered}
-use Rattle.cmh_run.specs.Legal.{Going, going_from, begun, restart, restarted_at, ready, after, Rule, MayCome, any_place, Leads, EndsAs, IsRun}
-use Rattle.cmh_run.specs.Last.{renumbered, alone, BeginsRun, IsUncut, IsWhole, LastIsRun, LastComputationIsARun}
-use Rattle.cmh_run.proofs.Tokens.{Each, each_at, each_more}
+use Rattle.cmh_run.specs.Legal.{Going, going_from, restart, restarted_at, ready, after, Rule, MayCome, any_place, Leads, EndsAs}
+use Rattle.cmh_run.specs.Last.{renumbered, alone, IsUncut, LastIsRun, LastComputationIsARun}
+use Rattle.cmh_run.proofs.Tokens.{each_at, each_more}
 use Rattle.cmh_run.proofs.Live.{Live, Fine}
 use Rattle.cmh_run.proofs.Right.{number_kept}
 use Rattle.cmh_run.proofs.Theorem.{by_test, Status, Stands, first_start, leads_stands, status_none, fresh_at, stepped, ready_stands}
 use Rattle.cmh_run.proofs.Bound.{phi_of, delivered_falls}
 use Rattle.cmh_run.proofs.Recast.{kept, place_among, kept_at}
-use Rattle.cmh_run.proofs.Alike.{SameEnd, same_end, still_going, shadow, IsAlike, delivered_alike, fit_alike, IsUnseen, unseen_delivered, start_alone}
+use Rattle.cmh_run.proofs.Alike.{SameEnd, same_end, still_going, shadow, delivered_alike, fit_alike, unseen_delivered, start_alone}
 
 -- a run without restarts on its way
 abbrev plain : Config → ℕ → Going

@@ -1,5 +1,5 @@
 -- Processes and messages seen from one computation alone, which is numbered 1 then.
-use Rattle.std.proofs.Common.{◌≡◌, ℕ, zero, suc, ◌+◌, ◌-◌, ◌<◌, ◌≤◌, Bool, true, false, ◌&&◌, cond, eqb, ltb, List, [], ◌∷◌, ◌++◌, map, take, drop, remove, replicate, length, get_or, slice_get, Option, Some, None, refl, sym, ◌∙◌, ap, subst, arith, ⊎_elim}
+use Rattle.std.proofs.Common.{◌≡◌, ℕ, zero, suc, ◌<◌, ◌≤◌, true, false, ◌&&◌, cond, eqb, ltb, List, [], ◌∷◌, ◌++◌, map, remove, replicate, length, slice_get, Some, refl, sym, ap, arith, ⊎_elim}
 use Rattle.std.proofs.lemmas.Bool.{eqb-true, eq-eqb, ne_eqb, cases_eq, and_parts, lt-ltb, le-ltb, ltb-true, ltb-false}
 use Rattle.std.proofs.Math.Bool.{and-false}
 use Rattle.cmh_process.specs.declared.message.Message.{Message}

@@ -1,5 +1,5 @@
 -- How many dependents a process has at most.
-use Rattle.std.proofs.Common.{◌≡◌, ℕ, ◌+◌, ◌<◌, ◌≤◌, ◌^◌, length, get_or, arith}
+use Rattle.std.proofs.Common.{ℕ, ◌<◌, ◌^◌, length, arith}
 use Rattle.std.proofs.lemmas.List.Sums.{get_or-le-sum_by}
 use Rattle.cmh_graph.specs.Graph.{Graph, Process, process_count, dependents_of, nobody}
 use Rattle.cmh_graph.specs.Build.{IsWellFormed}

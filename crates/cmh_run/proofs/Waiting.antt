@@ -1,6 +1,6 @@
 -- Sets of undelivered messages: one more, one fewer, and none.
-use Rattle.std.proofs.Common.{◌≡◌, ℕ, Bool, true, false, not, ◌&&◌, ◌||◌, cond, eqb, ltb, List, [], ◌∷◌, length, refl, sym, ◌∙◌, ap, subst, arith}
-use Rattle.std.proofs.lemmas.Bool.{eqb-true, eq-eqb, ne_eqb, true≢false, and_parts, and_from, ltb-true}
+use Rattle.std.proofs.Common.{◌≡◌, ℕ, Bool, true, false, not, ◌&&◌, ◌||◌, cond, eqb, ltb, List, [], ◌∷◌, length, refl, sym, ◌∙◌, ap, arith}
+use Rattle.std.proofs.lemmas.Bool.{eq-eqb, ne_eqb, true≢false, ltb-true}
 use Rattle.std.specs.Cmp.{tied_then}
 use Rattle.std.specs.List.{list_any}
 use Rattle.std.specs.Ordering.{nat_cmp, is_eq}

@@ -1,4 +1,4 @@
-use Rattle.std.proofs.Common.{◌≡◌, ℕ, ◌+◌, List, take, suc, get_or, arith, sym, ◌∙◌, ap, subst, inl, inr, ◌⊎◌, ⊎_elim, Result, Some}
+use Rattle.std.proofs.Common.{◌≡◌, ℕ, ◌+◌, List, take, suc, get_or, arith, sym, ◌∙◌, ap, subst, inl, inr, ◌⊎◌, ⊎_elim}
 use Rattle.std.specs.Prelude.{IfOk, IfErr, ◌↔◌}
 use Rattle.std.proofs.lemmas.List.{take_all}
 use Rattle.std.proofs.lemmas.Option.{slice_get-get_or}
@@ -7,7 +7,6 @@ use Rattle.std.proofs.Math.Seq.{take-suc}
 use Rattle.cmh_graph.specs.Verdict.{IsDeadlocked}
 use Rattle.cmh_run.specs.declared.delivery.Delivery.{Delivery}
 use Rattle.cmh_run.specs.declared.delivery.Ending.TheVariants.{Declared}
-use Rattle.cmh_run.specs.declared.fault.CheckFault.{CheckFault}
 use Rattle.cmh_run.specs.declared.fault.CheckFault.TheVariants.{Memory}
 use Rattle.cmh_run.specs.Legal.{Going}
 use Rattle.cmh_run.specs.Check.{IsLegalRun, IsFirstFault}

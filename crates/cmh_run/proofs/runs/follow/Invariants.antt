@@ -1,4 +1,4 @@
-use Rattle.std.proofs.Common.{ℕ, ◌+◌, ◌*◌, ◌-◌, length}
+use Rattle.std.proofs.Common.{◌+◌, ◌*◌, ◌-◌, length}
 use Rattle.cmh_graph.specs.Graph.{dependency_count}
 use Rattle.cmh_run.specs.Choices.{HasNoHints}
 use Rattle.cmh_run.specs.Follow.{Follows}

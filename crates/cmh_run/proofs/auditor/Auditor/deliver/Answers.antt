@@ -1,12 +1,9 @@
-use Rattle.std.proofs.Common.{◌≡◌, ℕ, List, ◌∷◌, [], ◌++◌, refl, sym, ◌∙◌, ap, subst, inr, cond, length}
+use Rattle.std.proofs.Common.{◌≡◌, ◌∷◌, [], ◌++◌, refl, sym, ◌∙◌, ap, subst, inr, cond, length}
 use Rattle.std.proofs.lemmas.Bool.{true≢false}
-use Rattle.cmh_process.specs.declared.message.Message.{Message}
-use Rattle.cmh_graph.specs.Graph.{Graph, is_awake}
-use Rattle.cmh_run.specs.declared.delivery.Delivery.{Delivery}
+use Rattle.cmh_graph.specs.Graph.{is_awake}
 use Rattle.cmh_run.specs.Config.{Config, received}
-use Rattle.cmh_run.specs.Legal.{Going, after, HintIsFit}
-use Rattle.cmh_run.specs.Check.{HasEnded, IsUndelivered}
-use Rattle.cmh_run.specs.Audit.{Audit, Agrees, IsSettled, IsAudited}
+use Rattle.cmh_run.specs.Legal.{after}
+use Rattle.cmh_run.specs.Audit.{Audit}
 use Rattle.cmh_run.proofs.Judging.{audit_size, awaited, where_none, both_ok, is_there, delivery_within, network_going, after_delivery}
 use Rattle.cmh_run.proofs.auditor.Auditor.deliver.Goals as goal
 

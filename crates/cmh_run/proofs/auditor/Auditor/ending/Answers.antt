@@ -1,4 +1,4 @@
-use Rattle.std.proofs.Common.{◌≡◌, sym, ◌∙◌, subst}
+use Rattle.std.proofs.Common.{sym, ◌∙◌, subst}
 use Rattle.std.proofs.lemmas.Bool.{true≢false}
 use Rattle.cmh_run.specs.Audit.{Audit, Agrees, IsSettled}
 use Rattle.cmh_run.proofs.Judging.{ended_as, rests, goes_on}

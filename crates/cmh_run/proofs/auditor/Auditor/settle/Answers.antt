@@ -1,5 +1,4 @@
 use Rattle.std.proofs.Common.{◌%◌, length}
-use Rattle.cmh_run.specs.Audit.{Audit}
 use Rattle.cmh_run.proofs.Auditing.{agrees_on}
 use Rattle.cmh_run.proofs.auditor.Auditor.settle.Goals as goal
 
