@@ -99,7 +99,7 @@ module _ (g : Graph) (i : ℕ) (w : IsWellFormed g) where
       let r = reached g i log t b.delivery (begun g i []) end b.comes.there l in
       b.cannot r.place (subst (λ (u : Going). MayCome g u.config r.place b.delivery) (one_state b.comes.idle (take t log) r.at b.state r.leads b.comes.before) r.may)
 
-  -- the first bad delivery stands at one place
+  -- no delivery is bad that stands before another bad one
   not_before : (log : List Delivery) (t n : ℕ) → BadAt g i log t → BadAt g i log n → t < n → ⊥
   not_before log t n a b h =
       none_bad (take n log) t b.state b.comes.before (record {
@@ -109,6 +109,7 @@ module _ (g : Graph) (i : ℕ) (w : IsWellFormed g) where
         cannot = a.cannot;
       })
 
+  -- so two bad deliveries are one
   one_bad : (log : List Delivery) (t n : ℕ) → BadAt g i log t → BadAt g i log n → t ≡ n
   one_bad log t n a b =
       let one : t < n → ⊥ = λ h. not_before log t n a b h in

@@ -13,6 +13,7 @@ use Rattle.cmh_run.specs.Legal.{Going, any_place, IsRun}
 abbrev plain : Message → Delivery
 plain m = record { message = m; hint = None }
 
+-- two processes that wait for each other
 abbrev two_in_a_cycle : Graph
 two_in_a_cycle = record {
   processes = record { name = []; site = 0; state = Idle; dependents = 1 ∷ [] }

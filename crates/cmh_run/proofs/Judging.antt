@@ -81,6 +81,7 @@ module _ (g : Graph) (i : ℕ) (log : List Delivery) (s : Going) (a : Audit) (h 
   pub fit_run : (m : Message) (hint : Option Verdict) → HintIsFit g a.network m hint → HintIsFit g s.config m hint
   fit_run m hint f = bag_fit g s.config a.network.bag m hint (subst (λ (c : Config). HintIsFit g c m hint) h.network f)
 
+  -- and for the run as they are for the network
   pub fit_network : (m : Message) (hint : Option Verdict) → HintIsFit g s.config m hint → HintIsFit g a.network m hint
   fit_network m hint f = subst (λ (c : Config). HintIsFit g c m hint) (sym h.network) (fit_bag g s.config a.network.bag m hint f)
 
@@ -206,6 +207,7 @@ module _ (g : Graph) (i : ℕ) (log : List Delivery) (a : Audit) (audited : IsAu
   abbrev pub IsAnswer : Option Ending → Type 0
   IsAnswer o = IfSome o (λ e. (g : Graph) (i : ℕ) (log : List Delivery) (s : Going) → Agrees g i log s a → IsSettled a → EndsAs s.config e)
 
+  -- and of none
   abbrev pub IsNoAnswer : Option Ending → Type 0
   IsNoAnswer o = IfNone o ((g : Graph) (i : ℕ) (log : List Delivery) (s : Going) → Agrees g i log s a → IsSettled a → ¬ (HasEnded s.config))
 

@@ -99,9 +99,11 @@ module _ (rule : Rule) (g : Graph) (i : ℕ) (ok : IsWithinGraph g) (within : i 
       shadows : Shadows g i n end.config at
 
     module _ (s : Going) (d : Delivery) (x : ℕ) (h : Stands g i s.config) (may : MayCome g s.config x d) (low : s.config.number ≤ n) where
+      -- a message may come, so the run is live
       live : Live g i s.config.number (proc_at s.config.procs) s.config.bag s.config.engaged
       live = (status_none g i s.config h may.going).0
 
+      -- what is true of each undelivered message is true of the one delivered
       fine : Fine g i s.config.number (proc_at s.config.procs) d.message
       fine = each_at (Fine g i s.config.number (proc_at s.config.procs)) s.config.bag x d.message live.fine may.there
 

@@ -92,14 +92,16 @@ message k e = record { kind = k; initiator = 0; number = 0; from = e.0; to = e.1
 first_in : (e : ℕ × ℕ) (es : List (ℕ × ℕ)) → list_any (is_at (pair_cmp (e.0, e.1))) (e ∷ es) ≡ true
 first_in e es = rw (is_at_pair (e.0, e.1) e, eq-eqb e.0 e.0 refl, eq-eqb e.1 e.1 refl) refl
 
--- where no message is waiting, the sets are empty
+-- a set in which no ends are is empty
 no_ends : (es : List (ℕ × ℕ)) → ((e : ℕ × ℕ) → list_any (is_at (pair_cmp (e.0, e.1))) es ≡ false) → es ≡ []
 no_ends [] h = refl
 no_ends (e ∷ es) h = absurd (true≢false (sym (first_in e es) ∙ h e))
 
+-- where no message is waiting, there are no queries
 pub no_queries : (w : Waiting) → ((m : Message) → is_waiting w m ≡ false) → length w.queries ≡ 0
 no_queries w h = ap length (no_ends w.queries (λ e. h (message Query e)))
 
+-- nor replies
 pub no_replies : (w : Waiting) → ((m : Message) → is_waiting w m ≡ false) → length w.replies ≡ 0
 no_replies w h = ap length (no_ends w.replies (λ e. h (message Reply e)))
 
