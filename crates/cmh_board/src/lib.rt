@@ -16,6 +16,8 @@ mod posting;
 mod reading;
 mod seating;
 mod snap;
+#[cfg(test)]
+mod tests;
 
 pub use answer::{Look, Post};
 pub use board::{Board, BoardSeat};

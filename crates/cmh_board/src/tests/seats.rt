@@ -1,0 +1,129 @@
+//! A board by two seats of one thread.
+
+ghost use Rattle.std.specs.Prelude.{IfOk};
+ghost use Rattle.cmh_board.specs.Board.{SitsAt, IsAway};
+
+use super::graphs::{cycle_and_follower, one_free_one_stuck};
+use super::runs::{run_with_hints, try_post_run};
+use crate::{Board, BoardSeat, Entry, Look, Post, Posting, Row};
+use cmh_graph::{Verdict, WaitGraph};
+use cmh_run::{Ending, NoHints, RunLog, run};
+use cmh_rw::FIRST_ROW;
+use std::alloc::Global;
+use std::process::Abort;
+use std::test::Fail;
+
+const DEADLOCKED: Option<Verdict> = Some(Verdict::Deadlocked);
+
+fn row(process: u32, last: bool) -> Row {
+    Row {
+        process,
+        verdict: Verdict::Deadlocked,
+        last,
+    }
+}
+
+/// Whether the run sent one message from r to p, with the hint that p is deadlocked, and then one of
+/// the other kind back, and was declared.
+fn is_hinted_run(run: &RunLog) -> bool {
+    let log = run.log();
+    if log.len() != 2 || run.ending() != Ending::Declared {
+        return false;
+    }
+    let query = log[0].message;
+    let reply = log[1].message;
+    query.kind != reply.kind
+        && (query.number, query.from, query.to) == (1, 2, 0)
+        && (reply.number, reply.from, reply.to) == (1, 0, 2)
+        && log[0].hint == DEADLOCKED
+        && log[1].hint.is_none()
+}
+
+/// The board of `cycle_and_follower` after two seats have posted p and q, and then r, each call
+/// with the answer that the rules give. The two seats are one again.
+fn posted_by_two<R: Abort>(
+    rt: &R,
+    alloc: Global,
+    graph: &WaitGraph,
+) -> Result<(Board, BoardSeat), Fail>
+    ensures { IfOk result (λ r. SitsAt r.0 r.1 × IsAway r.1) }
+{
+    assert!(rt; graph.len() == 3);
+    let (board, mut x) = Board::open(alloc, graph)?;
+    let Some(mut y) = board.split(&mut x) else {
+        panic!(rt; "a seat with the whole share is split")
+    };
+    let run_of_p = run(alloc, graph, 0, &[], &mut NoHints)?;
+    let Entry::Held = board.hold(&mut y) else {
+        panic!(rt; "nobody posts")
+    };
+    assert!(rt; try_post_run(&board, &mut x, &run_of_p) == Post::Busy(1));
+    assert!(rt; board.history(alloc, &mut x)?.is_empty());
+    board.release(&mut y);
+    assert!(rt; try_post_run(&board, &mut x, &run_of_p) == Post::Done);
+    assert!(rt; board.look(&mut y, 1) == Look::Known(Verdict::Deadlocked));
+    assert!(rt; board.look(&mut y, 2) == Look::Unknown);
+    assert!(rt; try_post_run(&board, &mut x, &run_of_p) == Post::Done);
+    assert!(rt; board.history(alloc, &mut x)?.len() == 2);
+    let run_of_r = run_with_hints(alloc, graph, &board, &mut x, 2)?;
+    assert!(rt; is_hinted_run(&run_of_r));
+    assert!(rt; try_post_run(&board, &mut x, &run_of_r) == Post::Done);
+    let snap = board.snapshot(alloc, &mut y)?;
+    assert!(rt;
+        snap.get(0) == DEADLOCKED && snap.get(1) == DEADLOCKED && snap.get(2) == DEADLOCKED
+    );
+    assert!(rt; snap.get(3).is_none());
+    board.join(&mut x, y);
+    Ok((board, x))
+}
+
+#[test]
+fn board_by_two_seats(rt: HostRuntime) -> Result<(), Fail> {
+    let graph = cycle_and_follower(rt.alloc())?;
+    let (board, seat) = posted_by_two(&rt, rt.alloc(), &graph)?;
+    let rows = board.close(rt.alloc(), seat)?;
+    assert!(rt; rows.as_slice() == [row(0, false), row(1, true), row(2, true)].as_slice());
+    Ok(())
+}
+
+#[test]
+fn rows_are_stored_as_numbers(rt: HostRuntime) -> Result<(), Fail> {
+    let graph = cycle_and_follower(rt.alloc())?;
+    let (board, seat) = posted_by_two(&rt, rt.alloc(), &graph)?;
+    let Board {
+        words,
+        processes: _processes,
+    } = board;
+    let BoardSeat { seat } = seat;
+    let closed = words.close_with(seat);
+    assert!(rt; closed.word(0) == Some(0) && closed.word(1) == Some(3));
+    assert!(rt; closed.word(FIRST_ROW) == Some(0));
+    assert!(rt; closed.word(FIRST_ROW + 1) == Some(6));
+    assert!(rt; closed.word(FIRST_ROW + 2) == Some(10));
+    assert!(rt; closed.word(FIRST_ROW + 3) == Some(0));
+    Ok(())
+}
+
+/// The initiator of a run that isn't declared is posted alone, as free, though q is engaged: q is
+/// deadlocked.
+#[test]
+fn one_free_one_stuck_posts(rt: HostRuntime) -> Result<(), Fail> {
+    let graph = one_free_one_stuck(rt.alloc())?;
+    let (board, mut seat) = Board::open(rt.alloc(), &graph)?;
+    assert!(rt; graph.len() == 3);
+    let run_of_p = run(rt.alloc(), &graph, 0, &[], &mut NoHints)?;
+    assert!(rt; run_of_p.engaged() == [0, 1].as_slice());
+    assert!(rt; try_post_run(&board, &mut seat, &run_of_p) == Post::Done);
+    assert!(rt; board.look(&mut seat, 0) == Look::Known(Verdict::Free));
+    assert!(rt; board.look(&mut seat, 1) == Look::Unknown);
+    let run_of_q = run(rt.alloc(), &graph, 1, &[], &mut NoHints)?;
+    board.post(&rt, &mut seat, &Posting::of_run(&run_of_q));
+    let rows = board.close(rt.alloc(), seat)?;
+    let free = Row {
+        process: 0,
+        verdict: Verdict::Free,
+        last: true,
+    };
+    assert!(rt; rows.as_slice() == [free, row(1, true)].as_slice());
+    Ok(())
+}
