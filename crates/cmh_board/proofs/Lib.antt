@@ -1,5 +1,6 @@
 pub mod Added
 pub mod Closings
+pub mod Examples
 pub mod Histories
 pub mod Holds
 pub mod Lists

@@ -30,12 +30,20 @@ pub record HintIs (p : ℕ) (v w : View) (hint : Option Verdict) : Type 0 where
 
 -- nothing has changed
 sees_itself : (v : View) → Sees v v
-sees_itself v = record { seen = ([], sym (append-nil v.seen)); mine = refl; share = refl; graph = refl }
+sees_itself v = record {
+  seen = ([], sym (append-nil v.seen));
+  mine = refl;
+  share = refl;
+  graph = refl;
+}
 
 -- one change after another is one
 pub sees_on : (u v w : View) → Sees u v → Sees v w → Sees u w
 sees_on u v w a b = record {
-  seen = (a.seen.0 ++ b.seen.0, b.seen.1 ∙ ap (λ l. l ++ b.seen.0) a.seen.1 ∙ append_assoc u.seen a.seen.0 b.seen.0);
+  seen = (
+    a.seen.0 ++ b.seen.0,
+    b.seen.1 ∙ ap (λ l. l ++ b.seen.0) a.seen.1 ∙ append_assoc u.seen a.seen.0 b.seen.0,
+  );
   mine = b.mine ∙ a.mine;
   share = b.share ∙ a.share;
   graph = b.graph ∙ a.graph;

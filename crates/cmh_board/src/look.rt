@@ -35,8 +35,8 @@ impl Board {
         }
     }
 
-    /// Holds the board for as many looks as wanted. One try. While anybody holds it nobody can post,
-    /// so `release` it soon.
+    /// Holds the board for as many looks as wanted. One try. While anybody holds it nobody can
+    /// post, so `release` it soon. A seat that is dropped in a hold keeps the hold for ever.
     pub fn hold(&self, seat: &mut BoardSeat) -> Entry
         requires sits { SitsAt self.now seat.old }
         requires away { IsAway seat.old }

@@ -24,8 +24,8 @@ impl Board {
         Ok((Board { words, processes }, BoardSeat { seat }))
     }
 
-    /// Gives one share to a new seat, which has seen the same and added nothing, where the seat keeps
-    /// one.
+    /// Gives one share to a new seat, which has seen the same and added nothing, where the seat
+    /// keeps one.
     pub fn split(&self, seat: &mut BoardSeat) -> Option<BoardSeat>
         requires sits { SitsAt self.now seat.old }
         requires away { IsAway seat.old }

@@ -23,8 +23,8 @@ fn row(process: u32, last: bool) -> Row {
     }
 }
 
-/// Whether the run sent one message from r to p, with the hint that p is deadlocked, and then one of
-/// the other kind back, and was declared.
+/// Whether the run sent one message from r to p, with the hint that p is deadlocked, and then one
+/// of the other kind back, and was declared.
 fn is_hinted_run(run: &RunLog) -> bool {
     let log = run.log();
     if log.len() != 2 || run.ending() != Ending::Declared {

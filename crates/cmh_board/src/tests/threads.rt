@@ -230,8 +230,8 @@ fn serve_by<R: Threads + Wait + Sync>(
     (rest, one_is_done && rest_is_done)
 }
 
-/// Whether each idle process of `ring_and_chain` stands in the rows just once, with its verdict: the
-/// ring is deadlocked, the chain is free.
+/// Whether each idle process of `ring_and_chain` stands in the rows just once, with its verdict:
+/// the ring is deadlocked, the chain is free.
 fn has_each_once(rows: &[Row]) -> bool {
     let mut stands = [false; 199];
     for row in rows {
