@@ -1,5 +1,5 @@
 -- What a writer has added.
-use Rattle.std.proofs.Common.{◌≡◌, ℕ, ◌+◌, ◌<◌, ◌≤◌, List, [], ◌∷◌, ◌++◌, length, refl, sym, ◌∙◌, ap, subst, arith, append-nil, Some}
+use Rattle.std.proofs.Common.{◌≡◌, ℕ, ◌+◌, ◌<◌, ◌≤◌, List, [], ◌∷◌, ◌++◌, length, refl, sym, ◌∙◌, ap, subst, arith, append-nil}
 use Rattle.std.proofs.lemmas.List.{nil_from_length}
 use Rattle.cmh_graph.specs.declared.verdict.Verdict.{Verdict}
 use Rattle.cmh_graph.specs.Graph.{Graph, IsWithinGraph}
@@ -10,7 +10,7 @@ use Rattle.cmh_rw.specs.declared.machine.SeatState.TheVariants.{Writing}
 use Rattle.cmh_rw.specs.View.{AfterLoad, posted, tried, ended}
 use Rattle.cmh_board.specs.Board.{unposted, rows_of, with_posting, times, IsWritten, Posts}
 use Rattle.cmh_board.specs.Posting.{Told, IsTruth}
-use Rattle.cmh_board.specs.Adding.{CanPost, IsWriter, OnlyLoads, Stages, Adds, marks}
+use Rattle.cmh_board.specs.Adding.{CanPost, IsWriter, OnlyLoads, Stages, Adds}
 use Rattle.cmh_board.proofs.Histories.{then_verdict}
 use Rattle.cmh_board.proofs.PostingRows.{rows_end, rows_told, true_behind, said_behind, once_behind, history-snoc, length-rows_of}
 

@@ -1,11 +1,10 @@
 -- What closed words show, and whose postings they are.
-use Rattle.std.proofs.Common.{◌≡◌, ℕ, ◌<◌, ◌≤◌, List, length, map, sym, refl, subst, arith}
+use Rattle.std.proofs.Common.{◌≡◌, ℕ, ◌≤◌, List, sym, refl, arith}
 use Rattle.cmh_graph.specs.declared.TheConstants.{MAX_PROCESSES}
 use Rattle.cmh_graph.specs.Graph.{Graph, process_count}
 use Rattle.cmh_rw.specs.declared.TheConstants.{MAX_SEATS}
-use Rattle.cmh_rw.specs.declared.view.Row.{Row}
 use Rattle.cmh_rw.specs.declared.view.View.{View}
-use Rattle.cmh_rw.specs.History.{laid, weigh}
+use Rattle.cmh_rw.specs.History.{laid}
 use Rattle.cmh_rw.specs.Seats.{ClosedHistory}
 use Rattle.cmh_board.specs.Board.{IsMadeOf}
 use Rattle.cmh_board.specs.Closing.{Show}

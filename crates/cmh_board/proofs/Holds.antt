@@ -1,5 +1,5 @@
 -- What stays so from one reading to the next, in one hold.
-use Rattle.std.proofs.Common.{◌≡◌, ◌<◌, true, ◌∙◌, ap, arith}
+use Rattle.std.proofs.Common.{◌∙◌, ap, arith}
 use Rattle.cmh_rw.specs.declared.view.View.{View}
 use Rattle.cmh_board.specs.declared.board.Board.{Board}
 use Rattle.cmh_board.specs.declared.board.BoardSeat.{BoardSeat}

@@ -1,5 +1,5 @@
 -- The rows of a posting.
-use Rattle.std.proofs.Common.{◌≡◌, ◌≢◌, ℕ, ◌+◌, ◌<◌, Bool, true, false, cond, eqb, List, [], ◌∷◌, ◌++◌, length, map, refl, sym, ◌∙◌, ap, subst, arith, append_assoc, append-nil, ⊎_elim, Some, None, Option}
+use Rattle.std.proofs.Common.{◌≡◌, ◌≢◌, ℕ, Bool, true, false, cond, eqb, List, [], ◌∷◌, ◌++◌, length, refl, sym, ◌∙◌, ap, subst, arith, append_assoc, append-nil, ⊎_elim, Some, None, Option}
 use Rattle.std.specs.Prelude.{Contains, is_none}
 use Rattle.std.proofs.lemmas.Bool.{eqb-true, eq-eqb}
 use Rattle.cmh_graph.specs.declared.verdict.Verdict.{Verdict}
@@ -8,7 +8,7 @@ use Rattle.cmh_graph.specs.Verdict.{verdict}
 use Rattle.cmh_graph.proofs.Reaching.{cons_contains, contains_cons}
 use Rattle.cmh_run.proofs.Theorem.{by_test}
 use Rattle.cmh_rw.specs.declared.view.Row.{Row}
-use Rattle.cmh_rw.specs.History.{fold_at, laid, IsOpen, EndsLast, IsPosting, ArePostings, IsHistory, IsTrueOf, AreTold}
+use Rattle.cmh_rw.specs.History.{fold_at, IsOpen, EndsLast, IsPosting, IsHistory, IsTrueOf, AreTold}
 use Rattle.cmh_rw.specs.View.{row, mark}
 use Rattle.cmh_board.specs.Board.{is_empty, rows_of, unposted, times}
 use Rattle.cmh_board.specs.Adding.{marks, rows_so_far, CanPost}

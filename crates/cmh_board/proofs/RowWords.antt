@@ -1,6 +1,6 @@
 -- Rows that are read back from their words.
-use Rattle.std.proofs.Common.{◌≡◌, ℕ, zero, suc, ◌+◌, ◌*◌, ◌<◌, ◌≤◌, ◌^◌, List, [], ◌∷◌, ◌++◌, length, map, get_or, take, refl, sym, ◌∙◌, ap, subst, arith, Some, None, slice_get, false, true, Bool}
-use Rattle.std.specs.Prelude.{slice_index, Option, is_none}
+use Rattle.std.proofs.Common.{◌≡◌, ℕ, zero, suc, ◌+◌, ◌<◌, ◌≤◌, ◌^◌, List, [], ◌∷◌, ◌++◌, length, map, get_or, take, refl, sym, ◌∙◌, ap, arith, Some, None, slice_get, false, true, Bool}
+use Rattle.std.specs.Prelude.{Option}
 use Rattle.std.specs.List.{range_with_len}
 use Rattle.std.proofs.lemmas.Bool.{cases_lt}
 use Rattle.std.proofs.Common.{inl, inr}
@@ -10,7 +10,7 @@ use Rattle.std.proofs.lemmas.Option.{slice_get_within, get_or_from_slice_get}
 use Rattle.cmh_graph.specs.declared.verdict.Verdict.{Verdict}
 use Rattle.cmh_graph.specs.declared.verdict.Verdict.TheVariants.{Deadlocked, Free}
 use Rattle.cmh_graph.specs.declared.TheConstants.{MAX_PROCESSES}
-use Rattle.cmh_graph.specs.Graph.{Graph, is_idle, process_count, IsWithinGraph}
+use Rattle.cmh_graph.specs.Graph.{Graph, process_count, IsWithinGraph}
 use Rattle.cmh_graph.proofs.Verdicts.{idle_within}
 use Rattle.cmh_rw.specs.declared.view.Row.{Row}
 use Rattle.cmh_rw.specs.History.{bit, free_bit, row_code, row_of, fold_at, IsTrueOf}

@@ -1,5 +1,5 @@
 -- How the rows of a posting come to be staged, one by one.
-use Rattle.std.proofs.Common.{◌≡◌, ◌≢◌, ℕ, zero, suc, ◌+◌, ◌<◌, ◌≤◌, Bool, true, false, cond, eqb, List, [], ◌∷◌, ◌++◌, length, get_or, take, drop, refl, sym, ◌∙◌, ap, subst, arith, append-nil, add-one, length-append, Some, None, Option, slice_get, ⊎_elim}
+use Rattle.std.proofs.Common.{◌≡◌, ℕ, suc, ◌+◌, ◌<◌, ◌≤◌, Bool, true, false, cond, eqb, List, [], ◌∷◌, ◌++◌, length, get_or, take, drop, refl, sym, ◌∙◌, ap, subst, arith, append-nil, length-append, Some, None, Option, ⊎_elim}
 use Rattle.std.specs.Prelude.{Contains, filter, is_none}
 use Rattle.std.proofs.lemmas.Bool.{ne_eqb, eq-eqb}
 use Rattle.std.proofs.lemmas.List.{get_or_default, take-append-drop, get_or-take, length-take-le, length-map}
@@ -8,12 +8,12 @@ use Rattle.std.proofs.lemmas.Option.{slice_get-get_or}
 use Rattle.std.proofs.Math.Seq.{drop-cons, drop-length, take-length}
 use Rattle.cmh_graph.specs.declared.verdict.Verdict.{Verdict}
 use Rattle.cmh_graph.specs.declared.verdict.Verdict.TheVariants.{Deadlocked, Free}
-use Rattle.cmh_graph.specs.Graph.{Graph, is_idle}
+use Rattle.cmh_graph.specs.Graph.{is_idle}
 use Rattle.cmh_graph.specs.Verdict.{verdict}
 use Rattle.cmh_run.specs.Legal.{HasNoRepeat}
 use Rattle.cmh_rw.specs.declared.view.Row.{Row}
 use Rattle.cmh_rw.specs.declared.view.View.{View}
-use Rattle.cmh_rw.specs.History.{fold_at, verdict_code, IsOpen, IsTrueOf}
+use Rattle.cmh_rw.specs.History.{fold_at, verdict_code, IsOpen}
 use Rattle.cmh_rw.specs.View.{row, mark, AfterLoad, CanStage, with_row, with_told}
 use Rattle.cmh_rw.proofs.Folds.{fold-skip, fold-keeps}
 use Rattle.cmh_board.specs.Board.{is_empty, unposted, rows_of}

@@ -1,5 +1,5 @@
 -- What weighs the same has the same members.
-use Rattle.std.proofs.Common.{◌≡◌, ◌⊎◌, ℕ, zero, ◌+◌, ◌<◌, Bool, true, false, cond, eqb, ◌&&◌, List, [], ◌∷◌, refl, sym, ◌∙◌, ap, subst, arith, inl, inr, ⊎_elim}
+use Rattle.std.proofs.Common.{◌≡◌, ℕ, zero, ◌+◌, ◌<◌, Bool, true, false, cond, eqb, ◌&&◌, List, [], ◌∷◌, refl, ◌∙◌, ap, subst, arith, ⊎_elim}
 use Rattle.std.specs.Prelude.{Contains}
 use Rattle.std.proofs.lemmas.Bool.{eqb-true, eq-eqb, and_parts}
 use Rattle.cmh_graph.specs.declared.verdict.Verdict.{Verdict}
@@ -8,7 +8,6 @@ use Rattle.cmh_graph.proofs.Reaching.{cons_contains, contains_cons}
 use Rattle.cmh_run.proofs.Theorem.{by_test}
 use Rattle.cmh_rw.specs.declared.view.Row.{Row}
 use Rattle.cmh_rw.specs.History.{weigh}
-use Rattle.cmh_board.proofs.Lists.{contains_first}
 
 -- ---- a test of equal postings
 

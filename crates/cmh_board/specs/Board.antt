@@ -1,5 +1,5 @@
 -- What clauses see of the board and of a seat, and what its calls tell.
-use Rattle.std.specs.Prelude.{◌≡◌, ◌↔◌, ℕ, ◌+◌, ◌<◌, ◌≤◌, ◌==◌, Bool, true, false, is_none, List, [], ◌∷◌, ◌++◌, filter, count_by, Contains, Option, Some, None, ⊤}
+use Rattle.std.specs.Prelude.{◌≡◌, ◌↔◌, ℕ, ◌+◌, ◌<◌, ◌≤◌, ◌==◌, Bool, true, false, is_none, List, [], ◌∷◌, ◌++◌, filter, count_by, Contains, Some, None, ⊤}
 use Rattle.cmh_graph.specs.declared.verdict.Verdict.{Verdict}
 use Rattle.cmh_graph.specs.Graph.{Graph}
 use Rattle.cmh_run.specs.Hints.{IsVerdict}

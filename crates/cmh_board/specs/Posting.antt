@@ -1,5 +1,5 @@
 -- What one run tells the board.
-use Rattle.std.specs.Prelude.{◌≡◌, ℕ, IsTrue, List, [], ◌∷◌, Contains}
+use Rattle.std.specs.Prelude.{ℕ, IsTrue, List, [], ◌∷◌, Contains}
 use Rattle.cmh_graph.specs.declared.verdict.Verdict.{Verdict}
 use Rattle.cmh_graph.specs.declared.verdict.Verdict.TheVariants.{Deadlocked, Free}
 use Rattle.cmh_graph.specs.Graph.{Graph, is_idle}

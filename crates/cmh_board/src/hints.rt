@@ -18,6 +18,8 @@ pub struct BoardHints<'a> {
 }
 
 impl<'a> BoardHints<'a> {
+    /// The seat is lent to the hints. Once they are gone it holds nothing still, and has seen what
+    /// they saw.
     pub fn new(board: &'a Board, seat: &'a mut BoardSeat) -> BoardHints<'a>
         requires sits { SitsAt board.now seat.old }
         requires away { IsAway seat.old }

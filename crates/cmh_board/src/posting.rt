@@ -6,7 +6,7 @@ ghost use Rattle.cmh_run.specs.Run.{TellsTruth};
 ghost use Rattle.cmh_board.specs.Posting.{posting_of, IsTruth};
 
 use cmh_graph::Verdict;
-use cmh_run::{Ending, RunLog};
+use cmh_run::RunLog;
 use std::marker::Model;
 
 /// What one run tells of processes: one verdict, and whom it is about. It borrows the run.

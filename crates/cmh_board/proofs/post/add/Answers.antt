@@ -1,4 +1,4 @@
-use Rattle.std.proofs.Common.{◌≡◌, ℕ, ◌+◌, ◌<◌, ◌≤◌, arith, subst, ap, ◌∙◌, List, length, refl, sym}
+use Rattle.std.proofs.Common.{◌≡◌, ◌<◌, arith, subst, ap, ◌∙◌, length, refl, sym}
 use Rattle.std.specs.Prelude.{is_none}
 use Rattle.cmh_rw.specs.History.{fold_at}
 use Rattle.cmh_rw.specs.Seats.{view}

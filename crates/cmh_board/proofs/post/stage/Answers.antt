@@ -1,4 +1,4 @@
-use Rattle.std.proofs.Common.{◌≡◌, ℕ, ◌+◌, ◌<◌, ◌≤◌, arith, sym, subst, ◌∙◌, true, false, length, get_or, eqb, ap}
+use Rattle.std.proofs.Common.{◌≡◌, ℕ, ◌+◌, arith, sym, subst, ◌∙◌, true, false, length, get_or, eqb}
 use Rattle.std.proofs.lemmas.List.Elements.{Contains-get_or}
 use Rattle.cmh_graph.proofs.Verdicts.{idle_within}
 use Rattle.cmh_rw.specs.declared.seat.RwSeat.{RwSeat}

@@ -1,5 +1,4 @@
-use Rattle.std.proofs.Common.{◌≡◌, ◌≤◌, arith, subst, sym, List, [], length, refl}
-use Rattle.cmh_rw.specs.declared.view.Row.{Row}
+use Rattle.std.proofs.Common.{◌≤◌, arith, subst, sym, refl}
 use Rattle.cmh_rw.specs.History.{laid, StartsWith, IsHistory, IsTrueOf}
 use Rattle.cmh_rw.specs.Seats.{words_of}
 use Rattle.cmh_rw.proofs.Folds.{true-few}

@@ -1,6 +1,5 @@
-use Rattle.std.proofs.Common.{◌≡◌, ◌<◌, ◌≤◌, arith, subst, ap, ◌∙◌, sym, length, get_or, map, refl, Some}
-use Rattle.std.proofs.lemmas.Grind.{common_steps}
-use Rattle.cmh_rw.specs.History.{row_code, IsTrueOf}
+use Rattle.std.proofs.Common.{◌<◌, ◌≤◌, arith, subst, ap, ◌∙◌, sym, length, refl, Some}
+use Rattle.cmh_rw.specs.History.{IsTrueOf}
 use Rattle.cmh_rw.specs.Seats.{view}
 use Rattle.cmh_board.specs.Board.{known, graph_of}
 use Rattle.cmh_board.proofs.RowWords.{row_within, codes_small, row_back}

@@ -1,4 +1,4 @@
-use Rattle.std.proofs.Common.{◌≡◌, ◌+◌, ◌<◌, ◌≤◌, arith, sym, ap, subst, ◌∙◌, ◌++◌, ◌∷◌, [], take, length}
+use Rattle.std.proofs.Common.{◌≡◌, ◌<◌, arith, sym, ap, ◌∙◌, ◌++◌, ◌∷◌, [], take, length}
 use Rattle.std.proofs.lemmas.List.{length-take-le}
 use Rattle.cmh_board.specs.Board.{known, graph_of}
 use Rattle.cmh_board.proofs.Holds.{held_on}
