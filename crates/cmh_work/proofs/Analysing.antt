@@ -101,6 +101,7 @@ pub all_stand : (g : Graph) (choices : List ℕ) (rows seen : List Row) (found s
 all_stand g choices rows seen found sorted p begins sound =
     All-permutation (IsSound g choices rows) found sorted p (λ k d low. sound_more g choices rows seen (get_or found k d) begins (sound k d low))
 
+-- what workers found, sorted and numbered over the history that they posted, is an analysis
 pub analysed : (g : Graph) (plan : Setup) (j : Shared) (s : Seats) (found sorted : List Finding) (a : Analysis) → IsWellFormed g → IsMadeFor g plan j → IsPermutation found sorted → IsNonDecreasingBy finder_of sorted
     → Sit j s → (view s.tickets).share ≡ 64 → IsWorked g plan j s found
     → StartsWith (history_of a) (known s.board).seen → IsTrueOf g (history_of a) → IsMadeOf (known s.board).mine (history_of a)

@@ -21,6 +21,7 @@ use Rattle.cmh_work.specs.Working.{chunks_in, IsMadeFor, IsWorked}
 use Rattle.cmh_work.proofs.Accounting.{accounts_joined}
 use Rattle.cmh_work.proofs.Gathering.{gathered-append, gathered_snoc, gathered_once}
 
+-- what a worker gives back
 abbrev Found : Type 0
 Found = Result (Vec Finding) WorkFault
 

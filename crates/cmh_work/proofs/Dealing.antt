@@ -10,49 +10,61 @@ use Rattle.atomic_table.proofs.Lists.{at_set, at_snoc, set_again}
 use Rattle.cmh_work.specs.declared.ticket_rule.TicketView.{TicketView}
 use Rattle.cmh_work.specs.Tickets.{total, sum_below, share_if, done_share, share_of, opening_view, less_one, newcomer, joined_views, spent, with_drawn, with_done, Has, Dealt, DrewAll, KnowsAll, after_draw, Drew, Measured}
 
+-- a state of the table
 abbrev St : Type 0
 St = State (Unit {0}) TicketView
 
+-- a seat, at the table
 abbrev Sat : Type 0
 Sat = Me (Unit {0}) TicketView
 
+-- the total after a change of one
 pub total-set : {A : Type 0} (f : A → ℕ) (l : List A) (i : ℕ) (a b : A) → get_elem? l i ≡ some a → total f (set l i b) + f a ≡ total f l + f b
 total-set f [] i a b e = absurd (some-ne-none a (sym e))
 total-set f (x ∷ xs) zero a b e = let is : f x ≡ f a = ap f (some-injective x a e) in omega arith
 total-set f (x ∷ xs) (suc i) a b e = let r = total-set f xs i a b e in omega arith
 
+-- one is no more than the total
 pub total-in : {A : Type 0} (f : A → ℕ) (l : List A) (i : ℕ) (a : A) → get_elem? l i ≡ some a → f a ≤ total f l
 total-in f [] i a e = absurd (some-ne-none a (sym e))
 total-in f (x ∷ xs) zero a e = let is : f x ≡ f a = ap f (some-injective x a e) in omega arith
 total-in f (x ∷ xs) (suc i) a e = let r = total-in f xs i a e in omega arith
 
+-- the total of two lists is the sum of both
 pub total-append : {A : Type 0} (f : A → ℕ) (l m : List A) → total f (l ++ m) ≡ total f l + total f m
 total-append f [] m = omega arith
 total-append f (x ∷ xs) m = omega (arith, total-append f xs m)
 
+-- the total of one more
 pub total-snoc : {A : Type 0} (f : A → ℕ) (l : List A) (a : A) → total f (l ++ a ∷ []) ≡ total f l + f a
 total-snoc f l a = omega (arith, total-append f l (a ∷ []))
 
+-- what is set stands there
 pub set_at : {A : Type 0} (l : List A) (i : ℕ) (a b : A) → get_elem? l i ≡ some a → get_elem? (set l i b) i ≡ some b
 set_at [] i a b e = absurd (some-ne-none a (sym e))
 set_at (x ∷ xs) zero a b e = refl
 set_at (x ∷ xs) (suc i) a b e = set_at xs i a b e
 
+-- one number more below the bound
 pub sum-step : (h : ℕ → ℕ) (n : ℕ) → sum_below h (n + 1) ≡ sum_below h n + h n
 sum-step h n = simp unary_clauses refl
 
+-- how many there are, as a total
 total-ones : (l : List ℕ) → total (λ _. 1) l ≡ length l
 total-ones [] = refl
 total-ones (x ∷ xs) = omega (arith, total-ones xs)
 
+-- how many numbers are below the bound, as a sum
 sum-ones : (n : ℕ) → sum_below (λ _. 1) n ≡ n
 sum-ones zero = refl
 sum-ones (suc n) = omega (arith, sum-ones n)
 
+-- a share, if it counts, is no more than the share
 share_if-le : (b : Bool) (n : ℕ) → share_if b n ≤ n
 share_if-le true n = omega arith
 share_if-le false n = omega arith
 
+-- the shares of those who got none are no more than all shares
 done-le : (views : List TicketView) → total done_share views ≤ total share_of views
 done-le [] = omega arith
 done-le (v ∷ vs) = omega (arith, done-le vs, share_if-le v.done v.share)
@@ -61,6 +73,7 @@ done-le (v ∷ vs) = omega (arith, done-le vs, share_if-le v.done v.share)
 small-word : (key : ℕ) (s : St) → Dealt key s → get_or s.words 0 0 < 4294967361
 small-word key s h = let d = done-le s.views in let a = h.over in let b = h.small in let c = h.shares in omega arith
 
+-- what is true of a seat stays true when the word grows
 later : (key x y : ℕ) (v : TicketView) → x ≤ y → Has key x v → Has key y v
 later key x y v le h = record { bare = h.bare; knows = h.knows; past = λ d. let p = h.past d in omega arith }
 
@@ -69,6 +82,7 @@ none_drawn : (key x : ℕ) (views : List TicketView) (f : ℕ → ℕ) → ((i :
 none_drawn key x [] f each z = refl
 none_drawn key x (v ∷ vs) f each z = let r = none_drawn key x vs f (λ i w e. each (suc i) w e) (omega arith) in let a = ap (total f) ((each zero v refl).bare (omega arith)) in omega arith
 
+-- with the whole share, what one seat has drawn is all that was drawn
 drawn_of_one : (key x : ℕ) (views : List TicketView) (id : ℕ) (v : TicketView) (f : ℕ → ℕ) → ((i : ℕ) (u : TicketView) → get_elem? views i ≡ some u → Has key x u) → get_elem? views id ≡ some v → total share_of views ≤ v.share
     → total (λ u. total f u.drawn) views ≡ total f v.drawn
 drawn_of_one key x [] id v f each at most = absurd (some-ne-none v (sym at))
@@ -77,6 +91,7 @@ drawn_of_one key x (y ∷ ys) zero v f each at most = let is = some-injective y 
 drawn_of_one key x (y ∷ ys) (suc id) v f each at most = let in_there = total-in share_of ys id v at in
     let r = drawn_of_one key x ys id v f (λ i w e. each (suc i) w e) at (omega arith) in let a = ap (total f) ((each zero y refl).bare (omega arith)) in omega arith
 
+-- with the whole share and after none, a seat drew all
 pub knows_all : (key : ℕ) (s : St) (id : ℕ) (v : TicketView) → Dealt key s → get_elem? s.views id ≡ some v → KnowsAll v
 knows_all key s id v h at done whole f = let has = h.each id v at in let few = h.shares in let is = has.knows (omega arith) in let past = has.past done in let r = h.at_end past in
     sym (drawn_of_one key (get_or s.words 0 0) s.views id v f h.each at (omega arith)) ∙ h.numbers f ∙ ap (sum_below f) (r ∙ sym is)
@@ -85,6 +100,7 @@ knows_all key s id v h at done whole f = let has = h.each id v at in let few = h
 few_drawn : (key : ℕ) (s : St) (id : ℕ) (v : TicketView) → Dealt key s → get_elem? s.views id ≡ some v → length v.drawn ≤ get_or s.words 0 0
 few_drawn key s id v h at = let a = total-in (λ (u : TicketView). total (λ _. 1) u.drawn) s.views id v at in let b = h.numbers (λ _. 1) in let c = h.within in omega (arith, total-ones v.drawn, sum-ones h.reached)
 
+-- a draw below the end keeps the rule
 drawn_kept : (key : ℕ) (s : St) (id : ℕ) (me : Sat) → Dealt key s → get_elem? s.views id ≡ some me.0 → me.0.chunks ≡ key → me.0.done ≡ false → 0 < me.0.share → get_or s.words 0 0 < key
     → Dealt key (stepped s 0 ((get_or s.words 0 0 + 1) % 18446744073709551616) id me.1 (with_drawn me.0 (get_or s.words 0 0)) keeps)
 drawn_kept key s id me h at mine fresh some_share low = let x = get_or s.words 0 0 in let w = with_drawn me.0 x in let small = small-word key s h in let n = (x + 1) % 18446744073709551616 in
@@ -111,6 +127,7 @@ drawn_kept key s id me h at mine fresh some_share low = let x = get_or s.words 0
     no_true : false ≢ true
     no_true e = cc
 
+-- so does a draw past the end
 done_kept : (key : ℕ) (s : St) (id : ℕ) (me : Sat) → Dealt key s → get_elem? s.views id ≡ some me.0 → me.0.chunks ≡ key → me.0.done ≡ false → 0 < me.0.share → key ≤ get_or s.words 0 0
     → Dealt key (stepped s 0 ((get_or s.words 0 0 + 1) % 18446744073709551616) id me.1 (with_done me.0) keeps)
 done_kept key s id me h at mine fresh some_share high = let x = get_or s.words 0 0 in let w = with_done me.0 in let small = small-word key s h in let n = (x + 1) % 18446744073709551616 in
@@ -134,6 +151,7 @@ done_kept key s id me h at mine fresh some_share high = let x = get_or s.words 0
       numbers = λ f. let t = total-set (λ (u : TicketView). total f u.drawn) s.views id me.0 w at in let k = h.numbers f in omega arith;
     }
 
+-- a draw keeps the rule, and tells the seat what it may know
 pub draws : (key slots id : ℕ) (me : Sat) → me.0.chunks ≡ key → me.0.done ≡ false → 0 < me.0.share → Allows (Dealt key) slots id me 0 (λ n. (n + 1) % 2 ^ 64) (Drew (step slots 0 1 0 none) me)
 draws key slots id me mine fresh some_share s h _ at _ = let x = get_or s.words 0 0 in let n = (x + 1) % 18446744073709551616 in let few = few_drawn key s id me.0 h at in
     let P : TicketView → Type 0 = λ w. Dealt key (stepped s 0 n id me.1 w keeps) in
@@ -152,10 +170,12 @@ measures key slots id me s h _ at _ = let few = h.shares in let mine = total-in 
   (refl, omega arith, knows_all key s id me.0 h at),
 )
 
+-- a share that is split counts the same
 split_done : (b : Bool) (n : ℕ) → 1 < n → share_if b (n - 1) + share_if b 1 ≡ share_if b n
 split_done true n more = omega arith
 split_done false n more = omega arith
 
+-- a split keeps the rule
 pub splits : (key : ℕ) (id : ℕ) (v : TicketView) → 1 < v.share → Splits (Dealt key) id v (less_one v) (newcomer v)
 splits key id v more s h at = let x = get_or s.words 0 0 in let has = h.each id v at in
     let sum = total-set share_of s.views id v (less_one v) at in let all = total-snoc share_of (set s.views id (less_one v)) (newcomer v) in let few = h.shares in
@@ -176,16 +196,19 @@ splits key id v more s h at = let x = get_or s.words 0 0 in let has = h.each id 
           let k = h.numbers f in omega arith;
     }
 
+-- one of two is true where their disjunction is
 or-true : (a b : Bool) → (a || b) ≡ true → (a ≡ true) ⊎ (b ≡ true)
 or-true true b e = inl refl
 or-true false b e = inr e
 
+-- two shares that are joined count at least the same
 join_done : (a b : Bool) (m n : ℕ) → share_if a m + share_if b n ≤ share_if (a || b) (m + n)
 join_done true true m n = omega arith
 join_done true false m n = omega arith
 join_done false true m n = omega arith
 join_done false false m n = omega arith
 
+-- a join keeps the rule
 pub joins : (key : ℕ) (id : ℕ) (v : TicketView) (other : ℕ) (w : TicketView) → 0 < v.share → Joins (Dealt key) id v other w (joined_views v w) spent
 joins key id v other w some_share s h at apart there = let x = get_or s.words 0 0 in let both = joined_views v w in let mid = set s.views id both in let has = h.each id v at in
     let was : Has key x w = ⊎_elim (λ t. absurd (apart t.0)) (λ t. h.each other w t.1) (at_set s.views id other both w there) in
@@ -213,7 +236,8 @@ joins key id v other w some_share s h at apart there = let x = get_or s.words 0 
     no_true : false ≢ true
     no_true e = cc
 
-pub opens : (key : ℕ) → key < 4294967296 → Dealt key (opening (0 ∷ []) [] (opening_view key))
+-- at first the rule holds
+pub opens : (key : ℕ) → key < 2 ^ 32 → Dealt key (opening (0 ∷ []) [] (opening_view key))
 opens key small = record {
   reached = 0;
   wide = refl;

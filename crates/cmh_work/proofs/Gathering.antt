@@ -10,34 +10,42 @@ use Rattle.cmh_work.specs.Tickets.{total, sum_below}
 use Rattle.cmh_work.specs.Cutting.{chunks_of, joined, gathered, ChunksLaw}
 use Rattle.cmh_work.proofs.Dealing.{total-append, sum-step}
 
+-- what is gathered by two lists of numbers
 pub gathered-append : (cs : List (List ℕ)) (a b : List ℕ) → gathered cs (a ++ b) ≡ gathered cs a ++ gathered cs b
 gathered-append cs [] b = refl
 gathered-append cs (x ∷ xs) b = ap (λ l. get_or cs x [] ++ l) (gathered-append cs xs b) ∙ sym (append_assoc (get_or cs x []) (gathered cs xs) (gathered cs b))
 
+-- what is gathered by one number more
 pub gathered_snoc : (cs : List (List ℕ)) (a : List ℕ) (n : ℕ) → gathered cs (a ++ n ∷ []) ≡ gathered cs a ++ get_or cs n []
 gathered_snoc cs a n = gathered-append cs a (n ∷ []) ∙ ap (λ l. gathered cs a ++ l) (append-nil (get_or cs n []))
 
+-- the weight of what is gathered is that of its chunks
 pub total-gathered : (h : ℕ → ℕ) (cs : List (List ℕ)) (ds : List ℕ) → total h (gathered cs ds) ≡ total (λ c. total h (get_or cs c [])) ds
 total-gathered h cs [] = refl
 total-gathered h cs (d ∷ ds) = omega (arith, total-gathered h cs ds, total-append h (get_or cs d []) (gathered cs ds))
 
+-- a sum by its first number and the rest
 sum-shift : (f : ℕ → ℕ) (n : ℕ) → sum_below f (suc n) ≡ f 0 + sum_below (λ k. f (suc k)) n
 sum-shift f zero = omega arith
 sum-shift f (suc n) = let a = sum-shift f n in omega arith
 
+-- the weights of all chunks, by their numbers
 sum-each : (h : ℕ → ℕ) (cs : List (List ℕ)) → sum_below (λ c. total h (get_or cs c [])) (length cs) ≡ total (total h) cs
 sum-each h [] = refl
 sum-each h (x ∷ xs) = let a = sum-shift (λ c. total h (get_or (x ∷ xs) c [])) (length xs) in let b = sum-each h xs in omega arith
 
+-- a front and the rest weigh what the list does
 total-parts : (h : ℕ → ℕ) (c : ℕ) (xs : List ℕ) → total h (take c xs) + total h (drop c xs) ≡ total h xs
 total-parts h zero xs = omega arith
 total-parts h (suc c) [] = refl
 total-parts h (suc c) (x ∷ xs) = omega (arith, total-parts h c xs)
 
+-- all chunks weigh what the list does
 total-chunks : (h : ℕ → ℕ) (cuts xs : List ℕ) → total (total h) (chunks_of cuts xs) ≡ total h xs
 total-chunks h [] xs = omega arith
 total-chunks h (c ∷ cs) xs = omega (arith, total-chunks h cs (drop c xs), total-parts h c xs)
 
+-- there is one chunk more than cuts
 pub length_chunks : (cuts xs : List ℕ) → length (chunks_of cuts xs) ≡ length cuts + 1
 length_chunks [] xs = refl
 length_chunks (c ∷ cs) xs = omega (arith, length_chunks cs (drop c xs))
@@ -51,6 +59,7 @@ joined_chunks : (cuts xs : List ℕ) → joined (chunks_of cuts xs) ≡ xs
 joined_chunks [] xs = append-nil xs
 joined_chunks (c ∷ cs) xs = ap (λ l. take c xs ++ l) (joined_chunks cs (drop c xs)) ∙ take-append-drop c xs
 
+-- the chunks are the list, cut
 pub chunks_law : ChunksLaw
 chunks_law cuts xs = (joined_chunks cuts xs, length_chunks cuts xs)
 

@@ -4,6 +4,7 @@ pub mod Closing
 pub mod Collecting
 pub mod Cores
 pub mod Dealing
+pub mod Examples
 pub mod Gathering
 pub mod Hinting
 pub mod Known

@@ -16,6 +16,7 @@ abbrev bit : Bool → ℕ
 bit true = 1
 bit false = 0
 
+-- no number is less than x
 abbrev pub AllFrom : ℕ → List ℕ → Type 0
 AllFrom x [] = Unit {0}
 AllFrom x (y ∷ ys) = (x ≤ y) × AllFrom x ys
@@ -25,18 +26,22 @@ abbrev pub Rises : List ℕ → Type 0
 Rises [] = Unit {0}
 Rises (x ∷ xs) = AllFrom x xs × Rises xs
 
+-- none of those is below a lesser bound
 low_none : (x z : ℕ) (xs : List ℕ) → AllFrom x xs → z ≤ x → total (λ k. bit (ltb k z)) xs ≡ 0
 low_none x z [] all le = refl
 low_none x z (y ∷ ys) all le = let r = low_none x z ys all.1 le in let a = all.0 in let b = ap bit (le-ltb y z (omega arith)) in omega arith
 
+-- a number that a test doesn't find below the bound is above it
 not_low : (x y : ℕ) (b : Bool) → ltb x y ≡ b → bit b ≡ 0 → y ≤ x
 not_low x y true e z = absurd (omega arith)
 not_low x y false e z = ltb-false x y e
 
+-- the first of two rising lists that weigh the same is no less than the other's
 first_least : (x : ℕ) (xs : List ℕ) (y : ℕ) (ys : List ℕ) → AllFrom y ys → ((h : ℕ → ℕ) → total h (x ∷ xs) ≡ total h (y ∷ ys)) → y ≤ x
 first_least x xs y ys up same = let h : ℕ → ℕ = λ k. bit (ltb k y) in let a = low_none y y ys up (omega arith) in let b = ap bit (le-ltb y y (omega arith)) in let c = same h in
     not_low x y (ltb x y) refl (omega arith)
 
+-- two rising lists that weigh the same are the same
 pub same_rising : (xs ys : List ℕ) → Rises xs → Rises ys → ((h : ℕ → ℕ) → total h xs ≡ total h ys) → xs ≡ ys
 same_rising [] [] up up' same = refl
 same_rising [] (y ∷ ys) up up' same = let e = same (λ _. 1) in absurd (omega arith)
@@ -49,6 +54,7 @@ all_above : (x : ℕ) (xs : List ℕ) → ((k d : ℕ) → k < length xs → x �
 all_above x [] h = tt
 all_above x (y ∷ ys) h = (h 0 y (omega arith), all_above x ys (λ k d low. h (suc k) d (omega arith)))
 
+-- numbers each of which is less than those after it rise
 rises_pairs : (xs : List ℕ) → AllPairs (λ x y. x < y) xs → Rises xs
 rises_pairs [] h = tt
 rises_pairs (x ∷ xs) h = (all_above x xs (λ k d low. le-from-lt x xs k d (h 0 (suc k) d (omega arith) (omega arith))), rises_pairs xs (λ i j d low within. h (suc i) (suc j) d (omega arith) (omega arith)))
@@ -61,18 +67,22 @@ module _ {X : Type 0} where
   all_from f x [] h = tt
   all_from f x (y ∷ ys) h = (h zero y (omega arith), all_from f x ys (λ j d low. h (suc j) d (omega arith)))
 
+  -- a list that is sorted by a number has rising numbers
   pub rises_by : (f : X → ℕ) (xs : List X) → IsNonDecreasingBy f xs → Rises (map f xs)
   rises_by f [] h = tt
   rises_by f (x ∷ xs) h = (all_from f x xs (λ j d low. h zero (suc j) d (omega arith) (omega arith)), rises_by f xs (λ i j d le low. h (suc i) (suc j) d (omega arith) (omega arith)))
 
+  -- a total is a sum
   total-sum_by : (f : X → ℕ) (xs : List X) → total f xs ≡ sum_by f xs
   total-sum_by f [] = refl
   total-sum_by f (x ∷ xs) = omega (arith, total-sum_by f xs, sum_by-cons f x xs)
 
+  -- the total of what is mapped
   pub total-map : (h : ℕ → ℕ) (f : X → ℕ) (xs : List X) → total h (map f xs) ≡ total (λ x. h (f x)) xs
   total-map h f [] = refl
   total-map h f (x ∷ xs) = omega (arith, total-map h f xs)
 
+  -- the order is of no matter for a total
   pub total-permutation : (f : X → ℕ) (xs ys : List X) → IsPermutation xs ys → total f ys ≡ total f xs
   total-permutation f xs ys p = total-sum_by f ys ∙ sum_by-IsPermutation f xs ys p ∙ sym (total-sum_by f xs)
 

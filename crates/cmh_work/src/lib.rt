@@ -14,6 +14,8 @@ mod plan;
 mod record;
 mod seats;
 mod shapes;
+#[cfg(test)]
+mod tests;
 mod ticket_rule;
 mod tickets;
 mod worker;

@@ -30,7 +30,8 @@ fn run_of(
     requires idle { IsTrue (is_idle job.now.graph.now initiator) }
     ensures sits { SitsIn job.now.shared.now seat.new }
     ensures sees { Sees (known seat.old) (known seat.new) }
-    ensures run { IfOk result (λ r. IsRunFor job.now.graph.now job.now.plan.now.choices initiator (verdict_of r.ending) r) }
+    ensures run { IfOk result (λ r. IsRunFor
+        job.now.graph.now job.now.plan.now.choices initiator (verdict_of r.ending) r) }
     ensures truth { IfOk result (TellsTruth job.now.graph.now) }
     ensures memory { IfErr result (λ e. e ≡ WorkFault.Memory) }
 {
