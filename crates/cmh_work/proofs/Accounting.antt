@@ -1,6 +1,6 @@
 -- What was found accounts for what a seat added: with each finding, after a join, and at the close.
-use Rattle.std.proofs.Common.{◌≡◌, ◌⊎◌, ℕ, zero, suc, ◌<◌, Bool, List, [], ◌∷◌, ◌++◌, append_assoc, length, All, get_or, Option, Some, None, sym, refl, ap, ◌∙◌, subst, arith, inl, inr, ⊎_elim}
-use Rattle.std.specs.Prelude.{Contains, IfSome, IsTrue, slice_get}
+use Rattle.std.proofs.Common.{◌≡◌, ◌⊎◌, ℕ, zero, suc, List, [], ◌∷◌, ◌++◌, append_assoc, All, get_or, Some, None, sym, refl, ap, ◌∙◌, subst, arith, inl, inr, ⊎_elim}
+use Rattle.std.specs.Prelude.{Contains, IsTrue, slice_get}
 use Rattle.std.proofs.lemmas.Option.{slice_get_within, get_or_from_slice_get}
 use Rattle.std.proofs.lemmas.List.Elements.{All-append, Contains-append_left, Contains-append_right}
 use Rattle.cmh_graph.specs.declared.verdict.Verdict.{Verdict}
@@ -12,14 +12,14 @@ use Rattle.cmh_run.specs.Run.{Run, TellsTruth, verdict_of}
 use Rattle.cmh_rw.specs.declared.view.Row.{Row}
 use Rattle.cmh_rw.specs.declared.view.View.{View}
 use Rattle.cmh_rw.specs.History.{StartsWith, fold_at}
-use Rattle.cmh_board.specs.Board.{Sees, Posts, rows_of, unposted, with_posting}
+use Rattle.cmh_board.specs.Board.{Sees, Posts, with_posting}
 use Rattle.cmh_board.specs.Posting.{posting_of, spoken_of}
 use Rattle.cmh_work.specs.declared.record.Shape.{Shape}
 use Rattle.cmh_work.specs.declared.finding.Answer.{Answer}
 use Rattle.cmh_work.specs.declared.finding.Finding.{Finding}
 use Rattle.cmh_work.specs.Shape.{IsShape}
 use Rattle.cmh_work.specs.Record.{IsRunFor}
-use Rattle.cmh_work.specs.Finding.{IsSeenFrom, IsAnswered, IsSound, IsRecorded, IsExplained, AreExplained, Accounts}
+use Rattle.cmh_work.specs.Finding.{IsAnswered, IsSound, IsRecorded, IsExplained, AreExplained, Accounts}
 use Rattle.cmh_work.proofs.Rows.{starts_same, starts_trans, fold_more}
 
 -- ---- one initiator

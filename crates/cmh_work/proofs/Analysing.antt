@@ -1,5 +1,5 @@
 -- All workers' findings, sorted and numbered, beside the closed history, are an analysis.
-use Rattle.std.proofs.Common.{◌≡◌, ℕ, zero, suc, ◌<◌, ◌^◌, Bool, true, false, cond, List, [], ◌∷◌, ◌++◌, length, map, All, get_or, Option, Some, None, sym, refl, ap, ◌∙◌, subst, arith}
+use Rattle.std.proofs.Common.{◌≡◌, ℕ, suc, Bool, true, false, cond, List, [], ◌∷◌, map, All, get_or, Option, Some, None, sym, refl, ap, ◌∙◌, subst, arith}
 use Rattle.std.specs.Prelude.{Contains, IfSome, IsTrue}
 use Rattle.std.specs.List.Sorted.{IsNonDecreasingBy, IsPermutation}
 use Rattle.std.proofs.lemmas.List.Sorted.{All-permutation}
@@ -7,7 +7,7 @@ use Rattle.std.proofs.lemmas.List.Elements.{All-nil, All-cons, All-map, All-cont
 use Rattle.cmh_graph.specs.declared.verdict.Verdict.{Verdict}
 use Rattle.cmh_graph.specs.declared.verdict.Verdict.TheVariants.{Deadlocked, Free}
 use Rattle.cmh_graph.specs.Graph.{Graph, process_count, indices, is_idle, idle_list}
-use Rattle.cmh_graph.specs.Verdict.{is_deadlocked, verdict, IsDeadlocked}
+use Rattle.cmh_graph.specs.Verdict.{is_deadlocked, verdict}
 use Rattle.cmh_graph.specs.Build.{IsWellFormed}
 use Rattle.cmh_graph.specs.Graph.{IsWithinGraph}
 use Rattle.cmh_graph.proofs.Reaching.{contains_index}
@@ -15,7 +15,7 @@ use Rattle.cmh_graph.proofs.Verdicts.{contains_filter, idle_within, test_then, t
 use Rattle.cmh_run.specs.Hints.{IsVerdict}
 use Rattle.cmh_run.specs.Run.{Run}
 use Rattle.cmh_rw.specs.declared.view.Row.{Row}
-use Rattle.cmh_rw.specs.History.{StartsWith, IsHistory, IsTrueOf, fold_at}
+use Rattle.cmh_rw.specs.History.{StartsWith, IsTrueOf, fold_at}
 use Rattle.cmh_board.specs.Board.{known, IsMadeOf}
 use Rattle.cmh_work.specs.declared.finding.Finding.{Finding}
 use Rattle.cmh_work.specs.declared.job.Shared.{Shared}
@@ -29,7 +29,7 @@ use Rattle.cmh_work.specs.Shape.{IsShape}
 use Rattle.cmh_work.specs.Record.{IsRunFor, IsSource, IsTrueRecord}
 use Rattle.cmh_work.specs.Analysis.{initiator_of, records_of, history_of, IsAnalysisOf}
 use Rattle.cmh_work.specs.Finding.{finder_of, IsSound}
-use Rattle.cmh_work.specs.Numbering.{Stands, IsNumbered, AreNumbered, IsNamed}
+use Rattle.cmh_work.specs.Numbering.{IsNumbered, AreNumbered, IsNamed}
 use Rattle.cmh_work.specs.Working.{IsMadeFor, Sit, IsWorked}
 use Rattle.cmh_work.proofs.Accounting.{sound_more, all_explained_more}
 use Rattle.cmh_work.proofs.Closing.{each_explained, explained_permuted, of_records}

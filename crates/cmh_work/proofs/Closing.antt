@@ -1,5 +1,5 @@
 -- The close: each posting of the history is that of one record's run.
-use Rattle.std.proofs.Common.{◌≡◌, ℕ, zero, suc, ◌<◌, Bool, true, false, cond, eqb, eq-eqb, List, [], ◌∷◌, ◌++◌, append_assoc, append-nil, drop, get_or, Option, Some, None, sym, refl, ap, ◌∙◌, subst, arith}
+use Rattle.std.proofs.Common.{◌≡◌, zero, suc, Bool, true, false, cond, eqb, eq-eqb, List, [], ◌∷◌, ◌++◌, append_assoc, drop, get_or, Option, Some, None, sym, refl, ap, ◌∙◌, subst, arith}
 use Rattle.std.specs.Prelude.{Contains}
 use Rattle.std.specs.List.Sorted.{IsPermutation}
 use Rattle.std.proofs.lemmas.List.Sorted.{Contains-permutation}
@@ -7,13 +7,13 @@ use Rattle.cmh_graph.specs.Graph.{Graph}
 use Rattle.cmh_graph.specs.declared.verdict.Verdict.{Verdict}
 use Rattle.cmh_run.specs.Run.{Run}
 use Rattle.cmh_rw.specs.declared.view.Row.{Row}
-use Rattle.cmh_rw.specs.History.{StartsWith, IsPosting, ArePostings, IsTrueOf, fold_at, laid}
+use Rattle.cmh_rw.specs.History.{IsPosting, ArePostings, IsTrueOf, fold_at, laid}
 use Rattle.cmh_work.specs.declared.finding.Finding.{Finding}
 use Rattle.cmh_work.specs.declared.record.Record.{Record}
 use Rattle.cmh_work.specs.declared.record.Origin.TheVariants.{FromRun}
-use Rattle.cmh_work.specs.Analysis.{IsPostedBy, IsOfRecord, AreOfRecords}
-use Rattle.cmh_work.specs.Finding.{IsSeenFrom, IsExplained, AreExplained}
-use Rattle.cmh_work.specs.Numbering.{IsNumbered, AreNumbered, IsNamed}
+use Rattle.cmh_work.specs.Analysis.{IsPostedBy, AreOfRecords}
+use Rattle.cmh_work.specs.Finding.{IsExplained, AreExplained}
+use Rattle.cmh_work.specs.Numbering.{AreNumbered, IsNamed}
 
 -- ---- one place
 

@@ -1,5 +1,5 @@
 -- What workers give back, put together.
-use Rattle.std.proofs.Common.{◌≡◌, ℕ, ◌+◌, ◌||◌, true, List, [], ◌∷◌, ◌++◌, length, map, slice_index_or, sym, refl, ap, ◌∙◌, subst, Result, Ok, Err, IfOk}
+use Rattle.std.proofs.Common.{◌≡◌, ℕ, ◌+◌, ◌||◌, List, [], ◌++◌, length, map, slice_index_or, sym, ap, ◌∙◌, subst, Result, Ok, Err, IfOk}
 use Rattle.std.specs.Prelude.{IsOkAnd}
 use Rattle.std.specs.Global.{Vec}
 use Rattle.std.proofs.lemmas.List.{map-append}
@@ -14,7 +14,7 @@ use Rattle.cmh_rw.specs.History.{StartsWith}
 use Rattle.cmh_rw.specs.View.{joined}
 use Rattle.cmh_board.specs.Board.{known}
 use Rattle.cmh_work.specs.Tickets.{total, sum_below, joined_views, with_drawn}
-use Rattle.cmh_work.specs.Cutting.{gathered, chunks_of}
+use Rattle.cmh_work.specs.Cutting.{gathered}
 use Rattle.cmh_work.specs.Seats.{view, IsSeatOf}
 use Rattle.cmh_work.specs.Finding.{finder_of}
 use Rattle.cmh_work.specs.Working.{chunks_in, IsMadeFor, IsWorked}

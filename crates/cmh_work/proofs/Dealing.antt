@@ -1,5 +1,5 @@
 -- Each step of the tickets keeps their rule.
-use Rattle.std.proofs.Common.{◌≡◌, ◌≢◌, ℕ, zero, suc, ◌+◌, ◌-◌, ◌*◌, ◌%◌, ◌^◌, ◌<◌, ◌≤◌, Bool, true, false, cond, eqb, ltb, ◌||◌, List, [], ◌∷◌, ◌++◌, length, get_or, set, sym, refl, ap, ◌∙◌, subst, arith, length-set, get_or-set_same, ⊎_elim, ◌⊎◌, inl, inr}
+use Rattle.std.proofs.Common.{◌≡◌, ◌≢◌, ℕ, zero, suc, ◌+◌, ◌-◌, ◌%◌, ◌^◌, ◌<◌, ◌≤◌, Bool, true, false, ltb, ◌||◌, List, [], ◌∷◌, ◌++◌, length, get_or, set, sym, refl, ap, ◌∙◌, subst, arith, length-set, get_or-set_same, ⊎_elim, ◌⊎◌, inl, inr}
 use Rattle.std.proofs.lemmas.Bool.{cond_both, ltb-true, ltb-false}
 use native.Mathlib.Numerals.{unary_clauses}
 use mathlib.Core.Option.{none, some, some-injective, some-ne-none}
@@ -8,7 +8,7 @@ use Rattle.std.proofs.lemmas.List.{set-get_or}
 use Rattle.atomic_table.specs.Table.{State, Me, step, keeps, stepped, Allows, Splits, Joins, opening}
 use Rattle.atomic_table.proofs.Lists.{at_set, at_snoc, set_again}
 use Rattle.cmh_work.specs.declared.ticket_rule.TicketView.{TicketView}
-use Rattle.cmh_work.specs.Tickets.{total, sum_below, share_if, done_share, share_of, opening_view, less_one, newcomer, joined_views, spent, with_drawn, with_done, Has, Dealt, DrewAll, KnowsAll, after_draw, Drew, Measured}
+use Rattle.cmh_work.specs.Tickets.{total, sum_below, share_if, done_share, share_of, opening_view, less_one, newcomer, joined_views, spent, with_drawn, with_done, Has, Dealt, KnowsAll, after_draw, Drew, Measured}
 
 -- a state of the table
 abbrev St : Type 0

@@ -1,14 +1,13 @@
 -- What is gathered from each chunk once is the list.
-use Rattle.std.proofs.Common.{◌≡◌, ℕ, zero, suc, ◌+◌, ◌<◌, ◌≤◌, List, [], ◌∷◌, ◌++◌, length, take, drop, get_or, append_assoc, append-nil, sym, refl, ap, ◌∙◌, arith}
+use Rattle.std.proofs.Common.{◌≡◌, ℕ, zero, suc, ◌+◌, List, [], ◌∷◌, ◌++◌, length, take, drop, get_or, append_assoc, append-nil, sym, refl, ap, ◌∙◌, arith}
 use Rattle.std.specs.Prelude.{All, IsTrue}
 use Rattle.std.proofs.lemmas.List.{take-append-drop, get_or_default}
 use Rattle.std.proofs.lemmas.List.Elements.{All-nil, All-take, All-drop}
 use Rattle.cmh_graph.specs.Graph.{Graph, is_idle, indices, idle_list}
 use Rattle.cmh_graph.proofs.Verdicts.{filter_contains}
-use native.Mathlib.Numerals.{unary_clauses}
 use Rattle.cmh_work.specs.Tickets.{total, sum_below}
 use Rattle.cmh_work.specs.Cutting.{chunks_of, joined, gathered, ChunksLaw}
-use Rattle.cmh_work.proofs.Dealing.{total-append, sum-step}
+use Rattle.cmh_work.proofs.Dealing.{total-append}
 
 -- what is gathered by two lists of numbers
 pub gathered-append : (cs : List (List ℕ)) (a b : List ℕ) → gathered cs (a ++ b) ≡ gathered cs a ++ gathered cs b

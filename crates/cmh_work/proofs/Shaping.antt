@@ -1,14 +1,13 @@
 -- Each process has the shape of its verdict.
-use Rattle.std.proofs.Common.{◌≡◌, ℕ, ◌<◌, Bool, true, false, List, [], ◌∷◌, length, map, get_or, IsFalse, refl, sym, subst, ◌∙◌}
+use Rattle.std.proofs.Common.{◌≡◌, ℕ, ◌<◌, List, [], ◌∷◌, map, get_or, IsFalse, refl, sym, subst, ◌∙◌}
 use Rattle.std.specs.Prelude.{Option, Some, None, IsSome, option_map}
-use Rattle.cmh_graph.specs.declared.verdict.Verdict.TheVariants.{Deadlocked, Free}
 use Rattle.cmh_graph.specs.Graph.{Graph, process_count, indices, is_awake, IsWithinGraph}
 use Rattle.cmh_graph.specs.Path.{Reaches}
-use Rattle.cmh_graph.specs.Verdict.{is_deadlocked, IsDeadlocked}
+use Rattle.cmh_graph.specs.Verdict.{IsDeadlocked}
 use Rattle.cmh_graph.specs.ChosenPath.{chosen_path}
 use Rattle.cmh_graph.specs.Core.{leader_of}
 use Rattle.cmh_graph.proofs.Choosing.{no_path_law}
-use Rattle.cmh_graph.proofs.Listing.{by_index, length-by_index}
+use Rattle.cmh_graph.proofs.Listing.{by_index}
 use Rattle.cmh_graph.proofs.Verdicts.{asleep_is_idle, then_test}
 use Rattle.cmh_work.specs.Leaders.{group_leader}
 

@@ -1,6 +1,5 @@
 -- What workers have found, before the history is closed.
-use Rattle.std.specs.Prelude.{◌≡◌, ◌⊎◌, ℕ, List, [], ◌∷◌, ◌++◌, All, Contains, IsTrue, Option, Some, IfSome}
-use Rattle.cmh_graph.specs.declared.verdict.Verdict.{Verdict}
+use Rattle.std.specs.Prelude.{◌≡◌, ◌⊎◌, ℕ, List, [], ◌∷◌, ◌++◌, All, Contains, IsTrue, Some, IfSome}
 use Rattle.cmh_graph.specs.Graph.{Graph, is_idle}
 use Rattle.cmh_run.specs.Hints.{IsVerdict}
 use Rattle.cmh_run.specs.Run.{Run}

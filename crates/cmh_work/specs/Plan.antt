@@ -1,5 +1,5 @@
 -- How an analysis is shared out.
-use Rattle.std.specs.Prelude.{ℕ, ◌<◌, ◌≤◌, ◌⊎◌, List, length}
+use Rattle.std.specs.Prelude.{ℕ, ◌<◌, ◌≤◌, List, length}
 use Rattle.cmh_run.specs.declared.TheConstants.{MAX_CHOICES}
 use Rattle.cmh_work.specs.declared.TheConstants.{MAX_WORKERS, MAX_CUTS}
 use Rattle.cmh_work.specs.declared.fault.PlanFault.{PlanFault}

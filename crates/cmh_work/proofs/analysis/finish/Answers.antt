@@ -1,8 +1,8 @@
-use Rattle.std.proofs.Common.{◌≡◌, ◌≤◌, ◌∙◌, All, IfOk, ap, arith, length, rules, subst, sym}
+use Rattle.std.proofs.Common.{◌≤◌, ◌∙◌, All, IfOk, ap, arith, length, rules, subst, sym}
 use Rattle.std.specs.List.Sorted.{IsNonDecreasingBy}
 use Rattle.std.proofs.lemmas.List.Sorted.{IsNonDecreasingBy-from_sort, answers_always}
 use Rattle.cmh_graph.specs.Graph.{process_count}
-use Rattle.cmh_rw.specs.History.{StartsWith, IsTrueOf}
+use Rattle.cmh_rw.specs.History.{IsTrueOf}
 use Rattle.cmh_rw.proofs.Folds.{true-few}
 use Rattle.cmh_board.specs.Board.{known, IsMadeOf}
 use Rattle.cmh_work.specs.Finding.{finder_of}

@@ -1,6 +1,5 @@
-use Rattle.std.proofs.Common.{◌≡◌, rules, subst, sym}
+use Rattle.std.proofs.Common.{rules, subst, sym}
 use Rattle.std.specs.Prelude.{Some}
-use Rattle.cmh_run.specs.Run.{verdict_of}
 use Rattle.cmh_board.specs.Board.{known, Posts}
 use Rattle.cmh_work.specs.Finding.{IsAnswered}
 use Rattle.cmh_work.proofs.Accounting.{ran}

@@ -1,4 +1,4 @@
-use Rattle.std.proofs.Common.{◌≡◌, ◌∙◌, ℕ, rules, sym, subst, All}
+use Rattle.std.proofs.Common.{◌∙◌, ℕ, rules, sym, subst, All}
 use Rattle.std.specs.Prelude.{IsTrue}
 use Rattle.cmh_graph.specs.Graph.{is_idle}
 use Rattle.cmh_work.proofs.Collecting.{drawn_more}

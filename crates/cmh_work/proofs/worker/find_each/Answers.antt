@@ -1,7 +1,6 @@
-use Rattle.std.proofs.Common.{◌≡◌, List, [], ◌∷◌, ◌++◌, rules, sym, subst, arith}
+use Rattle.std.proofs.Common.{◌≡◌, [], ◌∷◌, ◌++◌, rules, sym, subst, arith}
 use Rattle.std.proofs.lemmas.Grind.{common_steps}
 use Rattle.cmh_board.specs.Board.{known}
-use Rattle.cmh_work.specs.declared.finding.Finding.{Finding}
 use Rattle.cmh_work.specs.Finding.{Accounts}
 use Rattle.cmh_work.proofs.Accounting.{accounts_more}
 use Rattle.cmh_work.proofs.worker.find_each.Goals as goal

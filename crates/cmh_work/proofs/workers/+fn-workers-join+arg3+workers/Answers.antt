@@ -1,4 +1,4 @@
-use Rattle.std.proofs.Common.{◌≡◌, ◌+◌, ℕ, ap, arith, rules, List}
+use Rattle.std.proofs.Common.{◌≡◌, ◌+◌, ap, arith}
 use Rattle.cmh_board.specs.Board.{known}
 use Rattle.cmh_work.specs.Seats.{view}
 use Rattle.cmh_work.specs.Working.{AreBack, IsWorked}
