@@ -1,5 +1,6 @@
 -- The status with which the program ends after a fault.
-use Rattle.std.specs.Prelude.{ℕ}
+use Rattle.std.specs.Prelude.{ℕ, List, IsFalse}
+use Rattle.cmh_graph.specs.Graph.{Graph, is_idle}
 use Rattle.cmh_dump.specs.declared.fault.DumpFault.{DumpFault}
 use Rattle.cmh_dump.specs.declared.fault.DumpFault.TheVariants as dump
 use Rattle.cmh_run.specs.declared.fault.RunFault.{RunFault}
@@ -8,6 +9,7 @@ use Rattle.cmh_work.specs.declared.fault.PlanFault.{PlanFault}
 use Rattle.cmh_work.specs.declared.fault.PlanFault.TheVariants as plan
 use Rattle.cmh_report.specs.declared.fault.AppFault.{AppFault}
 use Rattle.cmh_report.specs.declared.fault.AppFault.TheVariants.{Dump, Work, NoSuchProcess, Run, Report, WriteFault}
+use Rattle.cmh_report.specs.Trace.{IsFirstNamed}
 use Rattle.cmh.specs.declared.list.ListFault.{ListFault}
 use Rattle.cmh.specs.declared.list.ListFault.TheVariants as list
 use Rattle.cmh.specs.declared.status.TheConstants.{REFUSED, MISUSED, FAILED}
@@ -38,3 +40,7 @@ status_of_list fault = MISUSED
 abbrev pub status_of_plan : PlanFault → ℕ
 status_of_plan plan.Memory = FAILED
 status_of_plan fault = MISUSED
+
+-- no idle process has that name
+abbrev pub NobodyIdleIsNamed : List ℕ → Graph → Type 0
+NobodyIdleIsNamed name g = (p : ℕ) → IsFirstNamed g name p → IsFalse (is_idle g p)

@@ -3,10 +3,11 @@
 ghost use Rattle.std.specs.Prelude.{◌≡◌, ◌≢◌, ◌⊎◌, ◌≤◌, ◌<◌, ◌++◌, ℕ, List, true};
 ghost use Rattle.cmh_dump.specs.declared.fault.DumpFault.{DumpFault};
 ghost use Rattle.cmh_run.specs.declared.delivery.Ending.{Ending};
-ghost use Rattle.cmh_report.specs.Ends.{IsAnswer, IsRefused};
+ghost use Rattle.cmh_report.specs.Ends.{GaveGraph, IsAnswer, IsRefused};
 ghost use Rattle.cmh_report.specs.Report.{IsCountedReport};
 ghost use Rattle.cmh_report.specs.Trace.{IsEndedTrace};
 ghost use Rattle.cmh.specs.List.{IsListOf};
+ghost use Rattle.cmh.specs.Status.{NobodyIdleIsNamed};
 ghost use Rattle.cmh.specs.declared.status.TheConstants.{FREE, REFUSED, MISUSED, DEADLOCKED, FAILED};
 
 use crate::command::{PlanWords, Request, read_words};
@@ -76,7 +77,10 @@ fn trace<S: Source, O: Sink, E: Sink>(
     ensures refused { result ≡ REFUSED → (O.taken out.new ≡ O.taken out.old)
         × (f : DumpFault) × IsRefused (S.given source.old) (S.given source.new)
         (S.has_ended source.new) (S.has_failed source.new) f }
-    ensures misused { result ≡ MISUSED → O.taken out.new ≡ O.taken out.old }
+    ensures unwritten { result ≡ MISUSED → O.taken out.new ≡ O.taken out.old }
+    ensures misused { result ≡ MISUSED → (S.given source.new ≡ S.given source.old)
+        ⊎ GaveGraph (S.given source.old) (S.given source.new) (S.has_ended source.new)
+        (NobodyIdleIsNamed name.now) }
 {
     let choices = match read_numbers(alloc, "choices", list, err) {
         Ok(choices) => choices,
@@ -135,7 +139,10 @@ pub fn serve<R: AllocGlobal + Threads + Wait + Sync, T: AsStr, S: Source, O: Sin
     ensures refused { result ≡ REFUSED → (O.taken out.new ≡ O.taken out.old)
         × (f : DumpFault) × IsRefused (S.given source.old) (S.given source.new)
         (S.has_ended source.new) (S.has_failed source.new) f }
-    ensures misused { result ≡ MISUSED → O.taken out.new ≡ O.taken out.old }
+    ensures unwritten { result ≡ MISUSED → O.taken out.new ≡ O.taken out.old }
+    ensures misused { result ≡ MISUSED → (S.given source.new ≡ S.given source.old)
+        ⊎ (name : List ℕ) × GaveGraph (S.given source.old) (S.given source.new)
+        (S.has_ended source.new) (NobodyIdleIsNamed name) }
 {
     let alloc = rt.alloc();
     match read_words(alloc, words) {

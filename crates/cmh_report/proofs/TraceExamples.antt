@@ -1,5 +1,5 @@
 -- Worked traces, by computation.
-use Rattle.std.proofs.Common.{◌≡◌, ℕ, List, [], ◌∷◌, ◌++◌, None, refl, map}
+use Rattle.std.proofs.Common.{◌≡◌, List, [], ◌∷◌, ◌++◌, None, refl, map}
 use Rattle.std.specs.Prelude.{codes}
 use Rattle.cmh_graph.specs.Graph.{Process}
 use Rattle.cmh_process.specs.declared.message.Message.{Message}

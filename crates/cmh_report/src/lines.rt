@@ -42,6 +42,7 @@ pub(crate) fn push_deadlocked(text: &mut String, name: &str, number: u32) -> Res
 }
 
 /// Appends the line of a free process with this path.
+#[tactic(auto, using(crate::proofs::Words::free_pieces))]
 pub(crate) fn push_free(
     text: &mut String,
     graph: &WaitGraph,
@@ -54,7 +55,7 @@ pub(crate) fn push_free(
 {
     write!(text, "free {name} path")?;
     push_names(text, graph, path)?;
-    text.push('\n')?;
+    text.push_str("\n")?;
     Ok(())
 }
 
