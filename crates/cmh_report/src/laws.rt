@@ -3,7 +3,6 @@
 ghost use Rattle.cmh_report.specs.Trace.{OneTrace};
 
 /// The name of a process and a list of choices leave one trace, with one ending.
-#[tactic(auto, using(crate::proofs::Traces::one_trace))]
 pub fn law_one_trace()
     ensures { OneTrace }
 {}

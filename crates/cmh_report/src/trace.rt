@@ -103,7 +103,6 @@ fn plain_run(
 }
 
 /// The trace of a run.
-#[tactic(auto, using(crate::proofs::Traces::whole_trace))]
 fn trace(alloc: Global, graph: &WaitGraph, run: &RunLog) -> Result<String, AllocError>
     requires { HasLines graph.now run.now }
     ensures { IfOk result (λ text. string_bytes text ≡ trace_text graph.now run.now) }
