@@ -1,15 +1,15 @@
 -- What records tell of the graph: how many processes are idle and deadlocked, and who leads whom.
-use Rattle.std.proofs.Common.{◌≡◌, ℕ, ◌+◌, ◌<◌, ◌≤◌, ◌&&◌, Bool, true, false, cond, zero, ◌⊎◌, inl, inr, List, [], ◌∷◌, length, map, take, take_all, get_or, set, replicate, refl, sym, ◌∙◌, ap, subst, arith}
+use Rattle.std.proofs.Common.{◌≡◌, ℕ, ◌+◌, ◌<◌, ◌≤◌, Bool, true, false, cond, zero, inl, inr, List, [], ◌∷◌, length, map, take, take_all, get_or, set, replicate, refl, sym, ◌∙◌, ap, subst, arith}
 use Rattle.std.specs.Prelude.{All, Contains, Option, Some, None, filter, count_by}
 use Rattle.std.specs.Global.{Vec}
 use Rattle.std.proofs.lemmas.Bool.{cases_eq}
-use Rattle.std.proofs.lemmas.List.{get_or-map, get_or_default, get_or-set_same, get_or-set_other, length-map, length-set}
+use Rattle.std.proofs.lemmas.List.{get_or-map, get_or-set_same, get_or-set_other, length-map, length-set}
 use Rattle.std.proofs.lemmas.List.Elements.{All-tail}
 use Rattle.std.proofs.lemmas.List.FromFn.{fill_by_all}
 use Rattle.std.proofs.lemmas.List.Sums.{sum_by-cons}
 use Rattle.cmh_graph.specs.declared.verdict.Verdict.{Verdict}
 use Rattle.cmh_graph.specs.declared.verdict.Verdict.TheVariants.{Deadlocked, Free}
-use Rattle.cmh_graph.specs.Graph.{Graph, process_count, indices, is_awake, is_idle, idle_list, IsWithinGraph}
+use Rattle.cmh_graph.specs.Graph.{Graph, process_count, indices, is_idle, idle_list, IsWithinGraph}
 use Rattle.cmh_graph.specs.ChosenPath.{chosen_path}
 use Rattle.cmh_graph.specs.Core.{leader_of}
 use Rattle.cmh_graph.specs.Verdict.{is_deadlocked, IsDeadlocked}

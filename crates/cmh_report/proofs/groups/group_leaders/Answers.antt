@@ -1,5 +1,5 @@
-use Rattle.std.proofs.Common.{◌<◌, ◌∙◌, arith, length, sym}
-use Rattle.cmh_graph.specs.Graph.{process_count, idle_list}
+use Rattle.std.proofs.Common.{◌∙◌, arith, sym}
+use Rattle.cmh_graph.specs.Graph.{idle_list}
 use Rattle.cmh_graph.proofs.Verdicts.{idle_within}
 use Rattle.cmh_report.proofs.Records.{initiator_at, leaders_all, leaders_more, records_count, shape_leader, tells_at}
 use Rattle.cmh_report.proofs.groups.group_leaders.Goals as goal

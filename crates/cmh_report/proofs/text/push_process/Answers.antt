@@ -1,4 +1,4 @@
-use Rattle.std.proofs.Common.{◌≡◌, ◌∙◌, ◌++◌, ◌<◌, List, [], ℕ, ap, arith, length, subst, sym}
+use Rattle.std.proofs.Common.{◌≡◌, ◌∙◌, ◌++◌, ◌<◌, [], ap, arith, length, subst, sym}
 use Rattle.std.specs.Prelude.{All, OnOk, string_bytes, unwrap_or}
 use Rattle.cmh_graph.specs.Graph.{process_count}
 use Rattle.cmh_graph.proofs.Listing.{by_index, length-by_index}

@@ -1,4 +1,4 @@
-use Rattle.std.proofs.Common.{◌≡◌, ◌∙◌, ◌++◌, ◌-◌, ◌<◌, ◌∷◌, [], ap, arith, length, subst, sym}
+use Rattle.std.proofs.Common.{◌∙◌, ◌++◌, ◌-◌, ◌<◌, ◌∷◌, [], ap, arith, length, subst, sym}
 use Rattle.std.proofs.lemmas.List.{get_or_default}
 use Rattle.cmh_graph.specs.ChosenPath.{distance_of}
 use Rattle.cmh_graph.specs.Search.{IsLeastAt}
