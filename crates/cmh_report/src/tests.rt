@@ -4,6 +4,7 @@ mod cases;
 mod devices;
 mod ends;
 mod memory;
+mod more_cases;
 mod plans;
 mod traces;
 mod tracing;

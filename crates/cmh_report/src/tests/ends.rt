@@ -2,6 +2,7 @@
 
 use super::cases::CASES;
 use super::devices::{Cut, Page};
+use super::more_cases::MORE_CASES;
 use super::plans::PLANS;
 use super::{CYCLE_AND_FOLLOWER_REPORT, KNOT_OF_THREE_REPORT, TWO_IN_A_CYCLE_REPORT, page};
 use crate::{AppFault, analyse_bytes};
@@ -81,13 +82,32 @@ fn choices_change_nothing(rt: HostRuntime) -> Result<(), PlanFault> {
     Ok(())
 }
 
+/// Whether the first ten cases have their reports by the plan.
+fn cases_agree<R: AllocGlobal + Threads + Wait + Sync>(rt: &R, plan: &Plan) -> bool {
+    for (dump, text, deadlocked) in CASES {
+        if !reports(rt, dump, plan, text, deadlocked) {
+            return false;
+        }
+    }
+    true
+}
+
+/// Whether the other ten have theirs.
+fn more_cases_agree<R: AllocGlobal + Threads + Wait + Sync>(rt: &R, plan: &Plan) -> bool {
+    for (dump, text, deadlocked) in MORE_CASES {
+        if !reports(rt, dump, plan, text, deadlocked) {
+            return false;
+        }
+    }
+    true
+}
+
 #[test]
 fn reports_of_another_program(rt: HostRuntime) -> Result<(), PlanFault> {
-    for (case, drawn) in CASES.iter().zip(PLANS.iter()) {
-        let (dump, text, deadlocked) = *case;
-        let (workers, cuts, choices) = *drawn;
-        let plan = Plan::new(rt.alloc(), workers, cuts, choices)?;
-        assert!(rt; reports(&rt, dump, &plan, text, deadlocked), "{text}");
+    for (workers, cuts, choices) in PLANS {
+        let plan = Plan::new(rt.alloc(), workers, &cuts, &choices)?;
+        assert!(rt; cases_agree(&rt, &plan), "{workers}");
+        assert!(rt; more_cases_agree(&rt, &plan), "{workers}");
     }
     Ok(())
 }
