@@ -8,6 +8,8 @@ use super::{
 use crate::MAX_NUMBERS;
 use cmh_work::MAX_CUTS;
 use std::alloc::{AllocError, Global};
+use std::sync::Wait;
+use std::thread::Threads;
 
 const CYCLE_AND_FOLLOWER: &str = r#"{"version":1,"sites":["a","b"],"processes":[
     {"name":"p","site":"a","state":"idle","dependents":["q"]},
@@ -111,39 +113,35 @@ fn plan_limits(rt: HostRuntime) -> Result<(), AllocError> {
     Ok(())
 }
 
-// The source fails at its first byte, so that its fault would be told if it were read.
+/// Whether the words are refused with this line before the dump is read: the source fails at its
+/// first byte, so that its fault would be told.
+fn is_refused_unread<R: AllocGlobal + Threads + Wait + Sync>(
+    rt: &R,
+    words: &[&str],
+    line: &str,
+) -> bool {
+    let pages = (page(rt.alloc(), 100), page(rt.alloc(), 100));
+    let ran = run_on(rt, words, Cut { bytes: &[] }, pages);
+    ran.status == 2 && is(&ran.out, "") && is(&ran.err, line)
+}
+
 #[test]
 fn plans_before_the_dump(rt: HostRuntime) -> Result<(), AllocError> {
-    let cuts = ones(rt.alloc(), MAX_CUTS + 1)?;
+    let words = ["cmh", "analyse", "--cuts", "1,,2"];
+    assert!(rt; is_refused_unread(&rt, &words, "cmh: cuts: bad number 1\n"));
+
+    let words = ["cmh", "analyse", "--choices", "x", "--cuts", "1,y"];
+    assert!(rt; is_refused_unread(&rt, &words, "cmh: cuts: bad number 1\n"));
+
     let numbers = ones(rt.alloc(), MAX_NUMBERS + 1)?;
-    let rows: [(&[&str], &str); 5] = [
-        (
-            &["cmh", "analyse", "--cuts", "1,,2"],
-            "cmh: cuts: bad number 1\n",
-        ),
-        (
-            &["cmh", "analyse", "--choices", "x", "--cuts", "1,y"],
-            "cmh: cuts: bad number 1\n",
-        ),
-        (
-            &["cmh", "analyse", "--choices", "x", "--cuts", &numbers],
-            "cmh: cuts: too many numbers\n",
-        ),
-        (
-            &["cmh", "analyse", "--cuts", &cuts, "--choices", "1,2,x"],
-            "cmh: choices: bad number 2\n",
-        ),
-        (
-            &["cmh", "analyse", "--cuts", &cuts],
-            "cmh: plan: too many cuts\n",
-        ),
-    ];
-    for (words, line) in rows {
-        let pages = (page(rt.alloc(), 100), page(rt.alloc(), 100));
-        let ran = run_on(&rt, words, Cut { bytes: &[] }, pages);
-        assert!(rt; is(&ran.out, ""), "{line}");
-        assert!(rt; is(&ran.err, line), "{line}");
-        assert_eq!(rt; ran.status, 2, "{line}");
-    }
+    let words = ["cmh", "analyse", "--choices", "x", "--cuts", &numbers];
+    assert!(rt; is_refused_unread(&rt, &words, "cmh: cuts: too many numbers\n"));
+
+    let cuts = ones(rt.alloc(), MAX_CUTS + 1)?;
+    let words = ["cmh", "analyse", "--cuts", &cuts, "--choices", "1,2,x"];
+    assert!(rt; is_refused_unread(&rt, &words, "cmh: choices: bad number 2\n"));
+
+    let words = ["cmh", "analyse", "--cuts", &cuts];
+    assert!(rt; is_refused_unread(&rt, &words, "cmh: plan: too many cuts\n"));
     Ok(())
 }
