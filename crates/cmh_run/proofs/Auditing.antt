@@ -1,7 +1,7 @@
 -- What an auditor keeps agrees with the run, from delivery to delivery.
 use Rattle.std.proofs.Common.{◌≡◌, ℕ, ◌+◌, Bool, true, false, not, ◌&&◌, ◌||◌, cond, eqb, List, [], ◌∷◌, ◌++◌, map, remove, replicate, length, slice_get, Option, Some, None, refl, sym, ◌∙◌, ap, subst, inl, inr, ◌⊎◌, ⊎_elim, append-nil}
 use Rattle.std.proofs.lemmas.Bool.{eqb-true, eq-eqb, cases_eq, true≢false, and_parts, and_from}
-use Rattle.std.proofs.lemmas.Option.{same_Some}
+use Rattle.std.proofs.lemmas.Option.{none-some, same_Some}
 use Rattle.std.proofs.lemmas.List.{length-replicate}
 use Rattle.cmh_process.specs.declared.message.Kind.{Kind}
 use Rattle.cmh_process.specs.declared.message.Kind.TheVariants.{Query, Reply}
@@ -100,10 +100,6 @@ pub record Firm (g : Graph) (i : ℕ) (s : Going) : Type 0 where
   pub live : (m : Message) → IsUndelivered s.config m → s.config.ended ≡ None → Live g i s.config.number (proc_at s.config.procs) s.config.bag s.config.engaged
   pub number : (m : Message) → IsUndelivered s.config m → s.config.number ≡ 1
 
--- nothing is never something
-none_some : {A : Type 0} {x : A} → None ≡ Some x → ⊥
-none_some h = cc
-
 module _ (g : Graph) (i : ℕ) (w : IsWellFormed g) (idle : is_idle g i ≡ true) where
   -- an initiator that isn't awake
   firm_asleep : is_awake g i ≡ false → (log : List Delivery) (s : Going) → Leads any_place g i (going_from (start g i (nothing_yet g)) []) log s → Firm g i s
@@ -127,7 +123,7 @@ module _ (g : Graph) (i : ℕ) (w : IsWellFormed g) (idle : is_idle g i ≡ true
     size = length-replicate (process_count g) fresh;
     own = tt;
     no_restart = refl;
-    not_at_rest = λ h. none_some h;
+    not_at_rest = λ h. none-some _ h;
     live = λ m h. absurd (in_nothing m h);
     number = λ m h. absurd (in_nothing m h);
   })

@@ -1,7 +1,7 @@
 -- Without hints the choices leave one run.
-use Rattle.std.proofs.Common.{◌≡◌, ℕ, ◌%◌, List, [], ◌∷◌, length, slice_get, slice_index, Option, Some, None, refl, sym, ◌∙◌, ap, ap₂, subst}
+use Rattle.std.proofs.Common.{◌≡◌, ℕ, ◌%◌, List, [], ◌∷◌, length, slice_get, slice_index, Option, refl, sym, ◌∙◌, ap, ap₂, subst}
 use Rattle.std.proofs.lemmas.Bool.{eqb-true}
-use Rattle.std.proofs.lemmas.Option.{same_Some}
+use Rattle.std.proofs.lemmas.Option.{none-some, same_Some}
 use Rattle.cmh_process.specs.declared.message.Message.{Message}
 use Rattle.cmh_graph.specs.declared.verdict.Verdict.{Verdict}
 use Rattle.cmh_run.specs.declared.delivery.Delivery.{Delivery}
@@ -13,15 +13,11 @@ use Rattle.cmh_run.specs.Run.{Run, OneRun}
 use Rattle.cmh_run.specs.Legal.{Going, begun, ready, after, MayCome, Leads, EndsAs, IsRun}
 use Rattle.cmh_run.specs.Choices.{chosen_place, HasNoHints, ChoicesDecide}
 
--- nothing is never something
-none_some : {A : Type 0} {m : A} → None ≡ Some m → ⊥
-none_some h = cc
-
 -- once a run has ended no delivery may come
 pub over : (g : Graph) (c : Config) (x : ℕ) (d : Delivery) (ending : Ending) → EndsAs c ending → MayCome g c x d → ⊥
-over g c x d Declared e may = none_some (sym may.going ∙ e)
-over g c x d (CutFree k) e may = none_some (sym may.going ∙ e)
-over g c x d AtRest e may = none_some (ap (λ (bag : List Message). slice_get bag x) (sym e.1) ∙ may.there)
+over g c x d Declared e may = none-some _ (sym may.going ∙ e)
+over g c x d (CutFree k) e may = none-some _ (sym may.going ∙ e)
+over g c x d AtRest e may = none-some _ (ap (λ (bag : List Message). slice_get bag x) (sym e.1) ∙ may.there)
 
 -- from the same state, without hints, the choices lead to one end by one list of deliveries
 decides : (choices : List ℕ) (g : Graph) (i : ℕ) (log other : List Delivery) (s end far : Going) (ending last : Ending)
@@ -53,18 +49,18 @@ one_ending c Declared last e f = by_last last f
     by_last : (l : Ending) → EndsAs c l → Declared ≡ l
     by_last Declared f = refl
     by_last (CutFree k) f = same_Some Declared (CutFree k) (sym e ∙ f)
-    by_last AtRest f = absurd (none_some (sym f.0 ∙ e))
+    by_last AtRest f = absurd (none-some _ (sym f.0 ∙ e))
 one_ending c (CutFree p) last e f = by_last last f
   where
     by_last : (l : Ending) → EndsAs c l → CutFree p ≡ l
     by_last Declared f = same_Some (CutFree p) Declared (sym e ∙ f)
     by_last (CutFree k) f = same_Some (CutFree p) (CutFree k) (sym e ∙ f)
-    by_last AtRest f = absurd (none_some (sym f.0 ∙ e))
+    by_last AtRest f = absurd (none-some _ (sym f.0 ∙ e))
 one_ending c AtRest last e f = by_last last f
   where
     by_last : (l : Ending) → EndsAs c l → AtRest ≡ l
-    by_last Declared f = absurd (none_some (sym e.0 ∙ f))
-    by_last (CutFree k) f = absurd (none_some (sym e.0 ∙ f))
+    by_last Declared f = absurd (none-some _ (sym e.0 ∙ f))
+    by_last (CutFree k) f = absurd (none-some _ (sym e.0 ∙ f))
     by_last AtRest f = refl
 
 -- two runs that are kept are equal where all that is kept of them is

@@ -5,7 +5,7 @@ use Rattle.std.proofs.Common.{Result, Ok, Err}
 use Rattle.std.proofs.lemmas.Bool.{true≢false, cases_Bool}
 use Rattle.cmh_process.specs.declared.message.Message.{Message}
 use Rattle.cmh_graph.specs.declared.verdict.Verdict.{Verdict}
-use Rattle.std.proofs.lemmas.Option.{same_Some, slice_get-get_or}
+use Rattle.std.proofs.lemmas.Option.{none-some, same_Some, slice_get-get_or}
 use denote.Enum.Bare.{sameb}
 use Rattle.cmh_graph.specs.contracts.verdict.Verdict.{the_type}
 use Rattle.cmh_graph.specs.Graph.{Graph, process_count, is_idle, is_awake}
@@ -27,10 +27,6 @@ use Rattle.cmh_run.proofs.Tokens.{each_at}
 use Rattle.cmh_run.proofs.Live.{Fine}
 use Rattle.cmh_run.proofs.Places.{IsIn, in_nothing, none_in}
 use Rattle.cmh_run.proofs.Auditing.{Own, Firm, firm, agrees_after}
-
--- nothing is never something
-none_some : {A : Type 0} {x : A} → None ≡ Some x → ⊥
-none_some h = cc
 
 -- a hint is fit whatever is in the bag
 fit_bag : (g : Graph) (c : Config) (bag : List Message) (m : Message) (hint : Option Verdict) → HintIsFit g c m hint → HintIsFit g (with_bag c bag) m hint
@@ -106,8 +102,8 @@ module _ (g : Graph) (i : ℕ) (log : List Delivery) (s : Going) (a : Audit) (h 
     goes_on e some end = by_ending end.0 end.1
       where
         by_ending : (last : Ending) → EndsAs s.config last → ⊥
-        by_ending Declared f = none_some (sym e ∙ same_ended ∙ f)
-        by_ending (CutFree k) f = none_some (sym e ∙ same_ended ∙ f)
+        by_ending Declared f = none-some _ (sym e ∙ same_ended ∙ f)
+        by_ending (CutFree k) f = none-some _ (sym e ∙ same_ended ∙ f)
         by_ending AtRest f = some (λ m. ⊎_elim
             (λ (waits : is_waiting a.undelivered m ≡ true). absurd (in_nothing (own m) (subst (λ (bag : List Message). IsIn bag (own m)) f.1 (h.waiting (own m) refl refl waits))))
             (λ (no_wait : is_waiting a.undelivered m ≡ false). no_wait) (cases_Bool (is_waiting a.undelivered m)))

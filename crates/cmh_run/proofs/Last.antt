@@ -1,5 +1,6 @@
 -- The last computation of a run, taken alone, begins a run.
 use Rattle.std.proofs.Common.{◌≡◌, ℕ, zero, suc, ◌+◌, ◌<◌, ◌≤◌, Bool, true, false, ◌&&◌, cond, eqb, ltb, List, [], ◌∷◌, ◌++◌, length, slice_get, Option, Some, None, is_none, refl, sym, ◌∙◌, ap, subst, arith, ◌⊎◌, inl, inr}
+use Rattle.std.proofs.lemmas.Option.{none-some}
 use Rattle.std.proofs.lemmas.Bool.{eqb-true, eq-eqb, ne_eqb, cases_eq, true≢false, and_parts}
 use Rattle.std.proofs.lemmas.List.{length-replicate}
 use Rattle.cmh_process.specs.declared.message.Message.{Message}
@@ -280,14 +281,10 @@ module _ (rule : Rule) (g : Graph) (i : ℕ) (ok : IsWithinGraph g) (within : i 
       same_ending (CutFree k) u f = absurd u
       same_ending AtRest u f = (ap (λ (c : Config). c.ended) here.2 ∙ still_going end.config.ended here.0 f.0 here.1, ap (λ (c : Config). c.bag) here.2 ∙ ap (λ (bag : List Message). kept end.config.number bag) f.1)
 
--- nothing is never something
-none_some : {A : Type 0} {x : A} → None ≡ Some x → ⊥
-none_some h = cc
-
 -- the empty run of an awake initiator
 awake_is_run : (rule : Rule) (g : Graph) (i : ℕ) (log : List Delivery) (ending : Ending) (end : Going) → is_awake g i ≡ true
     → Leads rule g i (going_from (nothing_yet g) []) log end → EndsAs end.config ending → LastIsRun g i log ending end
-awake_is_run rule g i (d ∷ log) ending end up l e = absurd (none_some l.1.there)
+awake_is_run rule g i (d ∷ log) ending end up l e = absurd (none-some _ l.1.there)
 awake_is_run rule g i [] ending end up l e = record {
   begins = record { rest = []; ending = ending; end = end; legal = record { leads = rw up l; ends = e } };
   whole = λ uncut. record { end = end; legal = record { leads = rw up l; ends = e }; engaged = refl };

@@ -13,7 +13,8 @@ use Rattle.cmh_work.specs.declared.seats.TicketSeat.{TicketSeat}
 use Rattle.cmh_rw.specs.History.{StartsWith}
 use Rattle.cmh_rw.specs.View.{joined}
 use Rattle.cmh_board.specs.Board.{known}
-use Rattle.cmh_work.specs.Tickets.{total, sum_below, joined_views, with_drawn}
+use Rattle.cmh_rw.specs.Machine.{total}
+use Rattle.cmh_work.specs.Tickets.{sum_below, joined_views, with_drawn}
 use Rattle.cmh_work.specs.Cutting.{gathered}
 use Rattle.cmh_work.specs.Seats.{view, IsSeatOf}
 use Rattle.cmh_work.specs.Finding.{finder_of}

@@ -8,7 +8,9 @@ use Rattle.std.proofs.lemmas.List.{set-get_or}
 use Rattle.atomic_table.specs.Table.{State, Me, step, keeps, stepped, Allows, Splits, Joins, opening}
 use Rattle.atomic_table.proofs.Lists.{at_set, at_snoc, set_again}
 use Rattle.cmh_work.specs.declared.ticket_rule.TicketView.{TicketView}
-use Rattle.cmh_work.specs.Tickets.{total, sum_below, share_if, done_share, share_of, opening_view, less_one, newcomer, joined_views, spent, with_drawn, with_done, Has, Dealt, KnowsAll, after_draw, Drew, Measured}
+use Rattle.cmh_rw.specs.Machine.{total}
+use Rattle.cmh_rw.proofs.Lawful.{total-set, total-in, total-snoc}
+use Rattle.cmh_work.specs.Tickets.{sum_below, share_if, done_share, share_of, opening_view, less_one, newcomer, joined_views, spent, with_drawn, with_done, Has, Dealt, KnowsAll, after_draw, Drew, Measured}
 
 -- a state of the table
 abbrev St : Type 0
@@ -18,26 +20,10 @@ St = State (Unit {0}) TicketView
 abbrev Sat : Type 0
 Sat = Me (Unit {0}) TicketView
 
--- the total after a change of one
-pub total-set : {A : Type 0} (f : A → ℕ) (l : List A) (i : ℕ) (a b : A) → get_elem? l i ≡ some a → total f (set l i b) + f a ≡ total f l + f b
-total-set f [] i a b e = absurd (some-ne-none a (sym e))
-total-set f (x ∷ xs) zero a b e = let is : f x ≡ f a = ap f (some-injective x a e) in omega arith
-total-set f (x ∷ xs) (suc i) a b e = let r = total-set f xs i a b e in omega arith
-
--- one is no more than the total
-pub total-in : {A : Type 0} (f : A → ℕ) (l : List A) (i : ℕ) (a : A) → get_elem? l i ≡ some a → f a ≤ total f l
-total-in f [] i a e = absurd (some-ne-none a (sym e))
-total-in f (x ∷ xs) zero a e = let is : f x ≡ f a = ap f (some-injective x a e) in omega arith
-total-in f (x ∷ xs) (suc i) a e = let r = total-in f xs i a e in omega arith
-
 -- the total of two lists is the sum of both
 pub total-append : {A : Type 0} (f : A → ℕ) (l m : List A) → total f (l ++ m) ≡ total f l + total f m
 total-append f [] m = omega arith
 total-append f (x ∷ xs) m = omega (arith, total-append f xs m)
-
--- the total of one more
-pub total-snoc : {A : Type 0} (f : A → ℕ) (l : List A) (a : A) → total f (l ++ a ∷ []) ≡ total f l + f a
-total-snoc f l a = omega (arith, total-append f l (a ∷ []))
 
 -- what is set stands there
 pub set_at : {A : Type 0} (l : List A) (i : ℕ) (a b : A) → get_elem? l i ≡ some a → get_elem? (set l i b) i ≡ some b

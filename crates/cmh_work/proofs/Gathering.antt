@@ -5,7 +5,8 @@ use Rattle.std.proofs.lemmas.List.{take-append-drop, get_or_default}
 use Rattle.std.proofs.lemmas.List.Elements.{All-nil, All-take, All-drop}
 use Rattle.cmh_graph.specs.Graph.{Graph, is_idle, indices, idle_list}
 use Rattle.cmh_graph.proofs.Verdicts.{filter_contains}
-use Rattle.cmh_work.specs.Tickets.{total, sum_below}
+use Rattle.cmh_rw.specs.Machine.{total}
+use Rattle.cmh_work.specs.Tickets.{sum_below}
 use Rattle.cmh_work.specs.Cutting.{chunks_of, joined, gathered, ChunksLaw}
 use Rattle.cmh_work.proofs.Dealing.{total-append}
 

@@ -1,14 +1,9 @@
 -- The list of all verdicts, by index.
-use Rattle.std.proofs.Common.{◌≡◌, ℕ, ◌<◌, List, length, get_or, ◌∙◌, ap, arith}
-use Rattle.std.proofs.lemmas.List.{length-map}
-use Rattle.std.proofs.lemmas.List.FromFn.{length-range_with_len, get_or-map-range_with_len}
+use Rattle.std.proofs.Common.{◌≡◌, ℕ, ◌<◌, List, get_or, ◌∙◌, ap, arith}
+use Rattle.std.proofs.lemmas.List.FromFn.{get_or-map-range_with_len}
 use Rattle.cmh_graph.specs.declared.verdict.Verdict.{Verdict}
-use Rattle.cmh_graph.specs.Graph.{Graph, process_count, indices}
+use Rattle.cmh_graph.specs.Graph.{Graph, process_count}
 use Rattle.cmh_graph.specs.Verdict.{verdict, verdicts}
-
--- there are as many verdicts as processes
-pub verdict_count : (g : Graph) → length (verdicts g) ≡ process_count g
-verdict_count g = length-map (indices g) (verdict g) ∙ length-range_with_len 0 (process_count g)
 
 -- a process's verdict stands at its place
 pub verdict_at : (g : Graph) (known : List Verdict) (p : ℕ) (d : Verdict)

@@ -9,7 +9,7 @@ use Rattle.std.specs.List.{sum_by}
 use Rattle.std.proofs.lemmas.List.Sums.{sum_by-cons}
 use Rattle.std.specs.List.Sorted.{IsNonDecreasingBy, IsPermutation}
 use Rattle.std.proofs.lemmas.List.Sorted.{sum_by-IsPermutation}
-use Rattle.cmh_work.specs.Tickets.{total}
+use Rattle.cmh_rw.specs.Machine.{total}
 
 -- 1 where the test passes
 abbrev bit : Bool → ℕ

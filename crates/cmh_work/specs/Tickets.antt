@@ -1,16 +1,12 @@
 -- Numbers that threads draw: the rule of their word, over what all seats know, and each step.
-use Rattle.std.specs.Prelude.{◌≡◌, ℕ, zero, suc, ◌+◌, ◌-◌, ◌<◌, ◌≤◌, ◌||◌, ◌^◌, Bool, true, false, nat_lt, if◌then◌else◌, List, [], ◌∷◌, ◌++◌, length, slice_index}
+use Rattle.std.specs.Prelude.{◌≡◌, ℕ, zero, suc, ◌+◌, ◌-◌, ◌<◌, ◌≤◌, ◌||◌, ◌^◌, Bool, true, false, nat_lt, if◌then◌else◌, [], ◌∷◌, ◌++◌, length, slice_index}
 use mathlib.Core.Option.{some}
 use lib.ListN.{get_elem?}
 use Rattle.atomic_table.specs.Table.{State, Me, Step}
+use Rattle.cmh_rw.specs.Machine.{total}
 use Rattle.cmh_work.specs.declared.ticket_rule.TicketView.{TicketView}
 
 -- ---- weights
-
--- the weights of all, added up
-abbrev pub total : {A : Type 0} → (A → ℕ) → List A → ℕ
-total weight [] = 0
-total weight (x ∷ xs) = weight x + total weight xs
 
 -- the weights of the numbers below the bound, added up
 abbrev pub sum_below : (ℕ → ℕ) → ℕ → ℕ
