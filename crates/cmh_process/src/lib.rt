@@ -6,12 +6,11 @@
 //! has all its replies is deadlocked.
 #![tactic(auto)]
 
-mod laws;
+pub mod laws;
 mod message;
 mod process;
 #[cfg(test)]
 mod tests;
 
-pub use laws::law_stale;
 pub use message::{Kind, Message};
 pub use process::{Action, Proc};

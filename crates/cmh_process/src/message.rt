@@ -1,7 +1,7 @@
 //! Queries and replies.
 
 /// A query asks whether its receiver can still send; a reply says that its sender can't.
-#[derive(Clone, Copy, Debug, PartialEq, Eq)]
+#[derive(Clone, Copy, PartialEq, Eq, Hash, Debug)]
 pub enum Kind {
     Query,
     Reply,
@@ -9,7 +9,7 @@ pub enum Kind {
 
 /// The paper's query(i, m, j, k) or reply(i, m, k, j): processes are named by their places in the
 /// wait graph.
-#[derive(Clone, Copy, Debug, PartialEq, Eq)]
+#[derive(Clone, Copy, PartialEq, Eq, Hash, Debug)]
 pub struct Message {
     pub kind: Kind,
 

@@ -1,10 +1,10 @@
 //! One process of one initiator's computations, and its three steps.
 
 ghost use Rattle.std.specs.Prelude.{◌≡◌, ◌+◌, ◌<◌, ◌^◌};
-ghost use Rattle.cmh_process.specs.Process.{fresh, proc_started, start_action, proc_engaged, engage_action, proc_queried, query_action, proc_replied, reply_action};
+ghost use Rattle.cmh_process.specs.Process.{fresh, proc_started, start_action, engages, proc_engaged, engage_action, proc_queried, query_action, proc_replied, reply_action};
 
 /// What a process keeps for one initiator, under the paper's names.
-#[derive(Clone, Copy, Debug, PartialEq, Eq)]
+#[derive(Clone, Copy, PartialEq, Eq, Hash, Debug)]
 pub struct Proc {
     /// The greatest number of a computation that it has taken part in, 0 at first.
     pub latest: u32,
@@ -15,12 +15,12 @@ pub struct Proc {
     /// How many replies of that computation it still waits for.
     pub num: u32,
 
-    /// Whether it has been idle ever since it engaged.
+    /// Whether it has started or engaged.
     pub wait: bool,
 }
 
 /// What a process sends after a step.
-#[derive(Clone, Copy, Debug, PartialEq, Eq)]
+#[derive(Clone, Copy, PartialEq, Eq, Hash, Debug)]
 pub enum Action {
     Nothing,
 
@@ -67,13 +67,20 @@ impl Proc {
         }
     }
 
+    /// Whether a query of computation `number` engages it.
+    pub fn is_engaged_by(&self, number: u32) -> bool
+        ensures { result ≡ engages self.now number }
+    {
+        self.latest < number
+    }
+
     /// Takes a query of computation `number` at an idle process with `size` dependents, by the
     /// paper's rule for a query that an idle process receives.
     pub fn on_query(&mut self, number: u32, from: u32, size: u32) -> Action
         ensures proc { self.new ≡ proc_queried self.old number from size }
         ensures action { result ≡ query_action self.old number from size }
     {
-        if self.latest < number {
+        if self.is_engaged_by(number) {
             self.engage(number, from, size)
         } else if self.wait && self.latest == number {
             Action::ReplyTo(from)

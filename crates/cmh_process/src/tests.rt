@@ -1,5 +1,7 @@
 //! Single steps.
 
+mod surface;
+
 use crate::{Action, Proc};
 
 fn state(latest: u32, engager: Option<u32>, num: u32, wait: bool) -> Proc {

@@ -1,13 +1,14 @@
-//! A dump that is read while memory is short.
+//! Dumps and sources that are read while memory is short.
 
 use super::TWO_IN_A_CYCLE;
-use crate::{DumpFault, read_dump};
-use cmh_graph::WaitGraph;
+use crate::{DumpFault, ReadOf, read_all, read_dump};
 use std::alloc::Global;
+use std::io;
+use std::io::Read;
 use std::test::Fail;
 
-/// The most bytes that are left for the dump's reader.
-const ROOM: usize = 16_384;
+/// The most bytes that are left for a call.
+const ROOM: usize = 65_536;
 
 /// Takes all the memory that there is, in blocks of falling sizes.
 fn take_all(alloc: Global, blocks: &mut Vec<Vec<u8>>) {
@@ -27,35 +28,87 @@ fn take_all(alloc: Global, blocks: &mut Vec<Vec<u8>>) {
     }
 }
 
-/// The answer is want of memory, or what it is with memory enough.
-fn is_right(answer: &Result<WaitGraph, DumpFault>) -> bool {
-    match answer {
-        Ok(graph) => graph.len() == 2 && graph.dependents(0) == [1].as_slice(),
-        Err(fault) => matches!(fault, DumpFault::Memory),
+/// A reader that gives at most 64 bytes a call, so that what is read grows often.
+#[derive(Drop)]
+struct Narrow<'a> {
+    bytes: &'a [u8],
+}
+
+impl Read for Narrow<'_> {
+    fn read(&mut self, buf: &mut [u8]) -> io::Result<usize> {
+        let count = buf.len().min(64);
+        self.bytes.read(&mut buf[..count])
     }
 }
 
-#[test]
-fn want_of_memory(rt: HostRuntime) -> Result<(), Fail> {
-    let alloc = rt.alloc();
+/// What is done while memory is short.
+#[derive(Clone, Copy, Debug)]
+enum Call {
+    ReadDump,
+    ReadAll,
+}
+
+/// Whether the call answers what it does with memory enough.
+fn answer(alloc: Global, call: Call) -> Result<bool, DumpFault> {
+    match call {
+        Call::ReadDump => {
+            let graph = read_dump(alloc, TWO_IN_A_CYCLE.as_bytes())?;
+            Ok(graph.len() == 2 && graph.dependents(0) == [1].as_slice())
+        }
+        Call::ReadAll => {
+            let text = [b'x'; 5_000];
+            let bytes = read_all(alloc, &mut ReadOf::new(Narrow { bytes: &text }))?;
+            Ok(bytes.as_slice() == text.as_slice())
+        }
+    }
+}
+
+/// What the answers were.
+#[derive(Clone, Copy, Debug, PartialEq, Eq)]
+struct Answers {
+    right: bool,
+    wrong: bool,
+    refused: bool,
+}
+
+/// Some answers were want of memory, and all others were right.
+const AS_THEY_SHOULD_BE: Answers = Answers {
+    right: true,
+    wrong: false,
+    refused: true,
+};
+
+/// Makes the call with more and more memory.
+fn sweep(alloc: Global, call: Call) -> Result<Answers, Fail> {
     let mut blocks = Vec::with_capacity(alloc, 100_000)?;
     let room: Vec<u8> = Vec::with_capacity(alloc, ROOM)?;
     let _pin: Vec<u8> = Vec::with_capacity(alloc, 64)?;
     take_all(alloc, &mut blocks);
     drop(room);
 
-    let mut was_read = false;
-    let mut was_refused = false;
+    let mut answers = Answers {
+        right: false,
+        wrong: false,
+        refused: false,
+    };
     for k in 0..ROOM / 16 {
         let taken: Result<Vec<u8>, _> = Vec::with_capacity(alloc, ROOM - 16 * k);
-        let answer = read_dump(alloc, TWO_IN_A_CYCLE.as_bytes());
-        assert!(rt; is_right(&answer), "at {k}");
-        was_read = was_read || answer.is_ok();
-        was_refused = was_refused || answer.is_err();
+        match answer(alloc, call) {
+            Ok(true) => answers.right = true,
+            Err(DumpFault::Memory) => answers.refused = true,
+            _ => answers.wrong = true,
+        }
         drop(taken);
     }
     drop(blocks);
-    assert!(rt; was_read);
-    assert!(rt; was_refused);
+    Ok(answers)
+}
+
+#[test]
+fn want_of_memory(rt: HostRuntime) -> Result<(), Fail> {
+    for call in [Call::ReadDump, Call::ReadAll] {
+        let answers = sweep(rt.alloc(), call)?;
+        assert!(rt; answers == AS_THEY_SHOULD_BE, "{call:?}: {answers:?}");
+    }
     Ok(())
 }
