@@ -1,6 +1,8 @@
 //! The devices at the two ends of a program: a source gives its bytes, and a sink takes its answer.
 #![tactic(auto)]
 
+mod noted_reader;
+mod noted_writer;
 mod put;
 mod read_of;
 mod sink;

@@ -9,7 +9,7 @@ use std::error::Error;
 use std::fmt;
 
 /// A sink has failed before it handed on a whole text.
-#[derive(Clone, Copy, Debug, PartialEq, Eq)]
+#[derive(Clone, Copy, PartialEq, Eq, Hash, Debug)]
 pub struct WriteFault {
     /// How many bytes of the text it had taken, from the front.
     pub written: usize,
@@ -40,6 +40,8 @@ pub fn put_all<S: Sink>(sink: &mut S, bytes: &[u8]) -> Result<(), WriteFault>
     ensures front { IfErr result (λ e.
         S.taken sink.new ≡ S.taken sink.old ++ take e.written bytes.now) }
     ensures stops { OnErr result (S.has_failed sink.new ≡ true) }
+    ensures unfinished { IfErr result (λ e. S.is_finished sink.new ≡ true
+        → (S.is_finished sink.old ≡ true) × (e.written ≡ 0)) }
     ensures stays { S.has_failed sink.old ≡ true → IsErrAnd result (λ e. e.written ≡ 0) }
 
     ensures known { MatchResult result

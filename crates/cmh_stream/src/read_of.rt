@@ -2,17 +2,14 @@
 
 ghost use Rattle.std.specs.Prelude.{◌≡◌, [], Some, false, if◌then◌else◌};
 
-use crate::tape::Tape;
+use crate::noted_reader::NotedReader;
 use crate::{Source, Stopped};
 use std::io::Read;
 
-/// A source over a reader. It reads no more once the reader has ended.
+/// A source over a reader. It reads no more once the reader has ended or failed.
 #[derive(Drop)]
 pub struct ReadOf<R> {
-    reader: R,
-    ended: bool,
-    failed: bool,
-    tape: Tape,
+    reader: NotedReader<R>,
 }
 
 impl<R: Read> ReadOf<R> {
@@ -24,41 +21,35 @@ impl<R: Read> ReadOf<R> {
         ensures works { ⟦<ReadOf<R> as Source>⟧.has_failed result ≡ false }
     {
         ReadOf {
-            reader,
-            ended: false,
-            failed: false,
-            tape: Tape::new(),
+            reader: NotedReader::new(reader),
         }
     }
 }
 
 impl<R: Read> Source for ReadOf<R> {
-    ghost given = { λ s. s.tape.bytes };
+    ghost given = { λ s. s.reader.tape.bytes };
 
-    ghost has_ended = { λ s. s.ended };
+    ghost has_ended = { λ s. s.reader.ended };
 
-    ghost has_failed = { λ s. s.failed };
+    ghost has_failed = { λ s. s.reader.failed };
 
-    ghost remaining = { λ s. if s.ended then Some [] else R.remaining s.reader };
+    ghost remaining = { λ s. if s.reader.ended then Some [] else R.remaining s.reader.reader };
 
     /// Each error of the reader is a failure, an interrupted call among them.
     fn fill(&mut self, buf: &mut [u8]) -> Result<usize, Stopped> {
-        if self.failed {
+        if self.reader.has_failed() {
             return Err(Stopped);
         }
-        if self.ended {
+        if self.reader.has_ended() {
             return Ok(0);
         }
-        let Ok(count) = self.reader.read(buf) else {
-            self.failed = true;
-            return Err(Stopped);
-        };
-        self.ended = count == 0 && !buf.is_empty();
-        self.tape = self.tape.then(&buf[..count]);
-        Ok(count)
+        match self.reader.read(buf) {
+            Ok(count) => Ok(count),
+            Err(_) => Err(Stopped),
+        }
     }
 
     fn failed(&self) -> bool {
-        self.failed
+        self.reader.has_failed()
     }
 }

@@ -6,7 +6,7 @@ use std::error::Error;
 use std::fmt;
 
 /// A device has failed, and neither gives nor takes anything more.
-#[derive(Clone, Copy, Debug, PartialEq, Eq)]
+#[derive(Clone, Copy, PartialEq, Eq, Hash, Debug)]
 pub struct Stopped;
 
 impl fmt::Display for Stopped {

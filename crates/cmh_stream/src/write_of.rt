@@ -2,17 +2,14 @@
 
 ghost use Rattle.std.specs.Prelude.{◌≡◌, [], false};
 
-use crate::tape::Tape;
+use crate::noted_writer::NotedWriter;
 use crate::{Sink, Stopped};
 use std::io::Write;
 
 /// A sink over a writer. Its `finish` flushes the writer.
 #[derive(Drop)]
 pub struct WriteOf<W> {
-    writer: W,
-    finished: bool,
-    failed: bool,
-    tape: Tape,
+    writer: NotedWriter<W>,
 }
 
 impl<W: Write> WriteOf<W> {
@@ -24,51 +21,40 @@ impl<W: Write> WriteOf<W> {
         ensures works { ⟦<WriteOf<W> as Sink>⟧.has_failed result ≡ false }
     {
         WriteOf {
-            writer,
-            finished: false,
-            failed: false,
-            tape: Tape::new(),
+            writer: NotedWriter::new(writer),
         }
     }
 }
 
 impl<W: Write> Sink for WriteOf<W> {
-    ghost taken = { λ s. s.tape.bytes };
+    ghost taken = { λ s. s.writer.tape.bytes };
 
-    ghost is_finished = { λ s. s.finished };
+    ghost is_finished = { λ s. s.writer.flushed };
 
-    ghost has_failed = { λ s. s.failed };
+    ghost has_failed = { λ s. s.writer.failed };
 
-    ghost contents = { λ s. W.contents s.writer };
+    ghost contents = { λ s. W.contents s.writer.writer };
 
     /// Each error of the writer is a failure, an interrupted call among them, and so is a call that
     /// takes nothing where there is something.
     fn put(&mut self, bytes: &[u8]) -> Result<usize, Stopped> {
-        if self.failed {
+        if self.writer.has_failed() {
             return Err(Stopped);
         }
-        let count = match self.writer.write(bytes) {
-            Ok(count) if count > 0 || bytes.is_empty() => count,
-            _ => {
-                self.failed = true;
-                return Err(Stopped);
-            }
-        };
-        self.finished = self.finished && count == 0;
-        self.tape = self.tape.then(&bytes[..count]);
-        Ok(count)
+        match self.writer.write(bytes) {
+            Ok(count) if count > 0 || bytes.is_empty() => Ok(count),
+            _ => Err(Stopped),
+        }
     }
 
     fn finish(&mut self) -> Result<(), Stopped> {
-        if self.failed || self.writer.flush().is_err() {
-            self.failed = true;
+        if self.writer.has_failed() || self.writer.flush().is_err() {
             return Err(Stopped);
         }
-        self.finished = true;
         Ok(())
     }
 
     fn failed(&self) -> bool {
-        self.failed
+        self.writer.has_failed()
     }
 }

@@ -1,5 +1,5 @@
 -- One put more takes the next bytes of the text.
-use Rattle.std.proofs.Common.{rules}
+use Rattle.std.proofs.Common.{rules, sym, ◌∙◌}
 use Rattle.std.proofs.KnownBytes.{Appends-trans}
 use Rattle.std.proofs.lemmas.Bool.{false≢true}
 use Rattle.cmh_stream.proofs.Fronts.{take-others, grown-by_others}
@@ -14,4 +14,5 @@ loop-written-preserved g c =
       taken = grown-by_others _ _ _ _ _ _ kept.taken put.takes;
       known = rw take-others (Appends-trans _ _ _ _ _ kept.known put.known);
       failed = λ was. absurd (false≢true (put.stays (kept.failed was).1));
+      finished = λ is. absurd (false≢true (sym (put.opens (put.moves (search rules))) ∙ is));
     }

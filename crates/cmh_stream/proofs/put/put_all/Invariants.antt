@@ -1,4 +1,5 @@
--- The sink took the front of the text, and a sink that had failed before took nothing.
+-- The sink took the front of the text, a sink that had failed before took nothing, and one that took
+-- something isn't finished.
 use Rattle.std.proofs.Common.{◌≡◌, ◌-◌, ◌≤◌, ◌++◌, length, take, true}
 use Rattle.std.specs.Io.KnownBytes.{Appends}
 use Rattle.cmh_stream.proofs.put.put_all.Given as goal
@@ -11,6 +12,8 @@ invariant-loop-written g l = record {
       (take l.written l.bytes);
   failed : g.S.Sink.has_failed l.initial.sink ≡ true
       → (l.written ≡ 0) × (g.S.Sink.has_failed l.sink ≡ true);
+  finished : g.S.Sink.is_finished l.sink ≡ true
+      → (g.S.Sink.is_finished l.initial.sink ≡ true) × (l.written ≡ 0);
 }
 
 abbrev pub decreases-loop-written : goal.decreases-loop-written
