@@ -17,12 +17,12 @@ use Rattle.cmh_dump.proofs.Table.{stands, none_holds, in_stages}
 
 -- what the search through the table finds is the least fault of the tree
 least : (d : Data) (fault : DumpFault) → first_of (holds d) (in_order d) ≡ Some fault → IsLeastOfLists (holds d) (in_order d) fault
-least d fault e = least_of_lists (holds d) (IsOfTree d) 5 (in_order d) fault (in_stages d) e
+least d fault e = least_of_lists (holds d) (IsOfTree d) 4 (in_order d) fault (in_stages d) e
 
 -- it is the first
 found_is_first : (d : Data) (fault : DumpFault) → first_of (holds d) (in_order d) ≡ Some fault → IsFirstFault (Has d) fault
 found_is_first d fault e = record {
-  had = (allowed_in (IsOfTree d) 5 (in_order d) (in_stages d) fault l.stands, l.passes);
+  had = (allowed_in (IsOfTree d) 4 (in_order d) (in_stages d) fault l.stands, l.passes);
   first = λ other h. after other (l.least other (stands d other h.0) h.1);
 }
   where

@@ -37,23 +37,23 @@ stands d (UnknownInTransit i) t = among_at (UnknownInTransit i) (in_order d) 15 
 pub none_holds : (d : Data) → first_of (holds d) (in_order d) ≡ None → (fault : DumpFault) → IsOfTree d fault → holds d fault ≡ false
 none_holds d e fault t = all_fail (holds d) (in_order d) e fault (stands d fault t)
 
--- the table is in stages of faults of the tree, from the fifth kind on
-pub in_stages : (d : Data) → AreStages (IsOfTree d) 5 (in_order d)
+-- the table is in stages of faults of the tree, from kind 4 on
+pub in_stages : (d : Data) → AreStages (IsOfTree d) 4 (in_order d)
 in_stages d =
-    stage_of_one (IsOfTree d) 5 BadTop refl tt
-    and_then stage_of_one (IsOfTree d) 6 BadVersion refl tt
-    and_then stage_below (IsOfTree d) 7 BadSites (length (sites d)) (λ i. refl) (λ i l. l)
-    and_then stage_below (IsOfTree d) 8 RepeatedSite (length (sites d)) (λ i. refl) (λ i l. l)
-    and_then stage_of_one (IsOfTree d) 9 TooManySites refl tt
-    and_then stage_of_one (IsOfTree d) 10 TooManyProcesses refl tt
-    and_then stage_below (IsOfTree d) 11 BadProcess (length (processes d)) (λ i. refl) (λ i l. l)
-    and_then stage_below (IsOfTree d) 12 RepeatedProcess (length (processes d)) (λ i. refl) (λ i l. l)
-    and_then stage_below (IsOfTree d) 13 UnknownSite (length (processes d)) (λ i. refl) (λ i l. l)
-    and_then stage_of_rows (IsOfTree d) 14 UnknownDependent (λ i. length (entry d i).dependents) (length (processes d)) (λ i j. refl) (λ i j l m. (l, m))
-    and_then stage_of_rows (IsOfTree d) 15 RepeatedDependent (λ i. length (entry d i).dependents) (length (processes d)) (λ i j. refl) (λ i j l m. (l, m))
-    and_then stage_below (IsOfTree d) 16 ActiveWithDependents (length (processes d)) (λ i. refl) (λ i l. l)
-    and_then stage_of_one (IsOfTree d) 17 TooManyDependencies refl tt
-    and_then stage_of_one (IsOfTree d) 18 TooManyInTransit refl tt
-    and_then stage_below (IsOfTree d) 19 BadInTransit (length (transits d)) (λ i. refl) (λ i l. l)
-    and_then stage_below (IsOfTree d) 20 UnknownInTransit (length (transits d)) (λ i. refl) (λ i l. l)
+    stage_of_one (IsOfTree d) 4 BadTop refl tt
+    and_then stage_of_one (IsOfTree d) 5 BadVersion refl tt
+    and_then stage_below (IsOfTree d) 6 BadSites (length (sites d)) (λ i. refl) (λ i l. l)
+    and_then stage_below (IsOfTree d) 7 RepeatedSite (length (sites d)) (λ i. refl) (λ i l. l)
+    and_then stage_of_one (IsOfTree d) 8 TooManySites refl tt
+    and_then stage_of_one (IsOfTree d) 9 TooManyProcesses refl tt
+    and_then stage_below (IsOfTree d) 10 BadProcess (length (processes d)) (λ i. refl) (λ i l. l)
+    and_then stage_below (IsOfTree d) 11 RepeatedProcess (length (processes d)) (λ i. refl) (λ i l. l)
+    and_then stage_below (IsOfTree d) 12 UnknownSite (length (processes d)) (λ i. refl) (λ i l. l)
+    and_then stage_of_rows (IsOfTree d) 13 UnknownDependent (λ i. length (entry d i).dependents) (length (processes d)) (λ i j. refl) (λ i j l m. (l, m))
+    and_then stage_of_rows (IsOfTree d) 14 RepeatedDependent (λ i. length (entry d i).dependents) (length (processes d)) (λ i j. refl) (λ i j l m. (l, m))
+    and_then stage_below (IsOfTree d) 15 ActiveWithDependents (length (processes d)) (λ i. refl) (λ i l. l)
+    and_then stage_of_one (IsOfTree d) 16 TooManyDependencies refl tt
+    and_then stage_of_one (IsOfTree d) 17 TooManyInTransit refl tt
+    and_then stage_below (IsOfTree d) 18 BadInTransit (length (transits d)) (λ i. refl) (λ i l. l)
+    and_then stage_below (IsOfTree d) 19 UnknownInTransit (length (transits d)) (λ i. refl) (λ i l. l)
     and_then no_more

@@ -60,28 +60,28 @@ BytesHave bytes fault = (d : Data) × (tree_of bytes ≡ Some d) × Has d fault
 
 -- ---- their order
 
--- the number of the fault's kind, and its places
+-- the number of the fault's kind in the order of the variants, from 0, and its places
 abbrev pub rank : DumpFault → List ℕ
-rank Memory = 1 ∷ []
-rank ReadFault = 2 ∷ []
-rank TooLong = 3 ∷ []
-rank NotJson = 4 ∷ []
-rank BadTop = 5 ∷ []
-rank BadVersion = 6 ∷ []
-rank (BadSites i) = 7 ∷ i ∷ []
-rank (RepeatedSite i) = 8 ∷ i ∷ []
-rank TooManySites = 9 ∷ []
-rank TooManyProcesses = 10 ∷ []
-rank (BadProcess i) = 11 ∷ i ∷ []
-rank (RepeatedProcess i) = 12 ∷ i ∷ []
-rank (UnknownSite i) = 13 ∷ i ∷ []
-rank (UnknownDependent i j) = 14 ∷ i ∷ j ∷ []
-rank (RepeatedDependent i j) = 15 ∷ i ∷ j ∷ []
-rank (ActiveWithDependents i) = 16 ∷ i ∷ []
-rank TooManyDependencies = 17 ∷ []
-rank TooManyInTransit = 18 ∷ []
-rank (BadInTransit i) = 19 ∷ i ∷ []
-rank (UnknownInTransit i) = 20 ∷ i ∷ []
+rank Memory = 0 ∷ []
+rank ReadFault = 1 ∷ []
+rank TooLong = 2 ∷ []
+rank NotJson = 3 ∷ []
+rank BadTop = 4 ∷ []
+rank BadVersion = 5 ∷ []
+rank (BadSites i) = 6 ∷ i ∷ []
+rank (RepeatedSite i) = 7 ∷ i ∷ []
+rank TooManySites = 8 ∷ []
+rank TooManyProcesses = 9 ∷ []
+rank (BadProcess i) = 10 ∷ i ∷ []
+rank (RepeatedProcess i) = 11 ∷ i ∷ []
+rank (UnknownSite i) = 12 ∷ i ∷ []
+rank (UnknownDependent i j) = 13 ∷ i ∷ j ∷ []
+rank (RepeatedDependent i j) = 14 ∷ i ∷ j ∷ []
+rank (ActiveWithDependents i) = 15 ∷ i ∷ []
+rank TooManyDependencies = 16 ∷ []
+rank TooManyInTransit = 17 ∷ []
+rank (BadInTransit i) = 18 ∷ i ∷ []
+rank (UnknownInTransit i) = 19 ∷ i ∷ []
 
 -- faults go by the number of their kind, then by the first place, then by the second
 abbrev pub comes_before : DumpFault → DumpFault → Bool

@@ -1,6 +1,7 @@
 -- Names of sites and processes, and lists of names.
 use Rattle.std.specs.Prelude.{ℕ, ◌&&◌, ◌||◌, ◌==◌, List, [], length, take, slice_index, slice_get, unwrap_or, Bool, nat_le, codes, bytes_eq}
 use Rattle.std.specs.List.{list_all, list_any, position_or_len}
+use Rattle.cmh_dump.specs.declared.TheConstants.{MAX_NAME}
 
 abbrev pub is_letter_or_digit : ℕ → Bool
 is_letter_or_digit b =
@@ -10,10 +11,10 @@ is_letter_or_digit b =
 abbrev pub is_name_byte : ℕ → Bool
 is_name_byte b = is_letter_or_digit b || list_any (λ c. c == b) (codes "_-.:/")
 
--- 1 to 64 bytes, of which the first is a letter or a digit
+-- 1 to `MAX_NAME` bytes, of which the first is a letter or a digit
 abbrev pub is_name : List ℕ → Bool
 is_name text =
-    nat_le 1 (length text) && nat_le (length text) 64
+    nat_le 1 (length text) && nat_le (length text) MAX_NAME
     && is_letter_or_digit (slice_index text 0) && list_all is_name_byte text
 
 -- the name is among those

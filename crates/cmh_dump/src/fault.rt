@@ -7,7 +7,7 @@ use std::alloc::{AllocError, AllocFailed};
 use thiserror::Error;
 
 /// The first condition that refuses a dump, in this order. Places count from 0.
-#[derive(Debug, Drop, Error)]
+#[derive(Clone, Copy, PartialEq, Eq, Hash, Debug, Error)]
 pub enum DumpFault {
     /// Memory was refused. It may come at any growth, before the others.
     #[error("out of memory")]

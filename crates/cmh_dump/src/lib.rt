@@ -7,7 +7,7 @@ mod entry;
 mod fault;
 mod index;
 mod judge;
-mod laws;
+pub mod laws;
 mod names;
 mod parts;
 mod source;
@@ -19,7 +19,6 @@ mod tree;
 pub use cmh_stream::{ReadOf, Source, Stopped};
 pub use dump::read_dump;
 pub use fault::DumpFault;
-pub use laws::{law_first_fault, law_no_fault, law_tree_fault, law_tree_graph, law_well_formed};
 pub use source::read_all;
 
 /// The most bytes that a dump may have.
@@ -27,3 +26,6 @@ pub const MAX_BYTES: usize = 8_388_608;
 
 /// The most sites that a dump may have.
 pub const MAX_SITES: usize = 4_096;
+
+/// The most bytes that a name may have.
+pub const MAX_NAME: usize = 64;

@@ -6,6 +6,7 @@ ghost use Rattle.cmh_dump.specs.Name.{is_name as is_name_lem, is_name_byte as is
 ghost use Rattle.cmh_dump.specs.Tree.{text_of, texts_of, at_key};
 ghost use Rattle.serde_json.specs.View.{view};
 
+use crate::MAX_NAME;
 use crate::tree::{entries_at, text_in};
 use serde_json::Value;
 
@@ -27,13 +28,13 @@ fn all_name_bytes(bytes: &[u8]) -> bool
     bytes.iter().all(|byte| is_name_byte(*byte))
 }
 
-/// A name has 1 to 64 bytes: ASCII letters, digits and `_ - . : /`. The first is a letter or a
-/// digit.
+/// A name has 1 to `MAX_NAME` bytes: ASCII letters, digits and `_ - . : /`. The first is a letter or
+/// a digit.
 pub(crate) fn is_name(text: &str) -> bool
     ensures { result ≡ is_name_lem text.now }
 {
     let bytes = text.as_bytes();
-    if bytes.is_empty() || bytes.len() > 64 {
+    if bytes.is_empty() || bytes.len() > MAX_NAME {
         return false;
     }
     is_letter_or_digit(bytes[0]) && all_name_bytes(bytes)

@@ -8,6 +8,7 @@ mod memory;
 mod outside;
 mod refused;
 mod sources;
+mod surface;
 
 use crate::read_dump;
 use std::alloc::{AllocError, Global};

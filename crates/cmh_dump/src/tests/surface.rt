@@ -1,0 +1,64 @@
+//! Each public item as a client writes it. Answers are compared, not their texts.
+
+use super::TWO_IN_A_CYCLE;
+use crate::laws::{law_first_fault, law_no_fault, law_tree_fault, law_tree_graph, law_well_formed};
+use crate::{DumpFault, MAX_NAME, ReadOf, Source, Stopped, read_all, read_dump};
+use cmh_graph::WaitGraph;
+use std::test::Fail;
+
+const REFUSED: [(&str, DumpFault); 5] = [
+    ("", DumpFault::NotJson),
+    ("[]", DumpFault::BadTop),
+    (
+        r#"{"version":3,"sites":[],"processes":[]}"#,
+        DumpFault::BadVersion,
+    ),
+    (
+        r#"{"version":1,"sites":["a","b","a"],"processes":[]}"#,
+        DumpFault::RepeatedSite(2),
+    ),
+    (
+        r#"{"version":1,"sites":["a"],"processes":[
+            {"name":"p","site":"a","state":"idle","dependents":["p","p"]}]}"#,
+        DumpFault::RepeatedDependent(0, 1),
+    ),
+];
+
+#[test]
+fn from_a_source(rt: HostRuntime) -> Result<(), Fail> {
+    let alloc = rt.alloc();
+    let mut source = ReadOf::new(TWO_IN_A_CYCLE.as_bytes());
+    let bytes: Vec<u8> = read_all(alloc, &mut source)?;
+    assert_eq!(rt; bytes.as_slice(), TWO_IN_A_CYCLE.as_bytes());
+    let mut buf = [0u8; 4];
+    let count: Result<usize, Stopped> = source.fill(&mut buf);
+    assert_eq!(rt; count, Ok(0));
+    assert!(rt; !source.failed());
+    let graph: WaitGraph = read_dump(alloc, &bytes)?;
+    assert_eq!(rt; graph.len(), 2);
+    Ok(())
+}
+
+#[test]
+fn refusals(rt: HostRuntime) {
+    for (dump, fault) in REFUSED {
+        let answer = read_dump(rt.alloc(), dump.as_bytes());
+        assert_eq!(rt; answer.err(), Some(fault));
+    }
+    law_first_fault();
+    law_no_fault();
+    law_tree_fault();
+    law_tree_graph();
+    law_well_formed();
+}
+
+#[test]
+fn the_longest_name(rt: HostRuntime) -> Result<(), Fail> {
+    let alloc = rt.alloc();
+    for (length, fault) in [(64, None), (MAX_NAME + 1, Some(DumpFault::BadSites(0)))] {
+        let name = String::from_utf8(vec![in alloc; b'x'; length]?)?;
+        let dump = format!(in alloc; r#"{{"version":1,"sites":["{name}"],"processes":[]}}"#)?;
+        assert_eq!(rt; read_dump(alloc, dump.as_bytes()).err(), fault);
+    }
+    Ok(())
+}
