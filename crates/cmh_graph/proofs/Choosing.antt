@@ -81,7 +81,7 @@ start_by g test p path true e c =
 start_by g test p path false e c = absurd (omega (arith, c.1))
 
 -- what is listed is a path
-listed_is : (g : Graph) (test : ℕ → Bool) (n p : ℕ) (path : List ℕ) → Contains (paths_to g test n p) path → IsListed g test n p path
+pub listed_is : (g : Graph) (test : ℕ → Bool) (n p : ℕ) (path : List ℕ) → Contains (paths_to g test n p) path → IsListed g test n p path
 listed_is g test zero p path c = start_by g test p path (test p) refl c
 listed_is g test (suc n) p path c =
     let w = contains_flat_map (λ r. map (λ path. p ∷ path) (paths_to g test n r)) (dependencies_of g p) path c in
@@ -123,7 +123,7 @@ least_of (x ∷ xs) path e =
 -- ---- the law
 
 -- a listed path has one process more than dependencies
-length_is : (g : Graph) (p n : ℕ) (path : List ℕ) (l : IsListed g (is_awake g) n p path) → length path ≡ suc n
+pub length_is : (g : Graph) (p n : ℕ) (path : List ℕ) (l : IsListed g (is_awake g) n p path) → length path ≡ suc n
 length_is g p n path l = ap length (sym l.is) ∙ ap suc l.size
 
 -- the least path of the length of the distance is a chosen path in words
@@ -161,7 +161,7 @@ chosen_by g p path (Some n) e r = chosen_at g p n path e r
 chosen_by g p path None e r = absurd cc
 
 -- the chosen path that is computed is a chosen path in words
-chosen_is : (g : Graph) (p : ℕ) (path : List ℕ) → chosen_path g p ≡ Some path → IsChosenPath g p path
+pub chosen_is : (g : Graph) (p : ℕ) (path : List ℕ) → chosen_path g p ≡ Some path → IsChosenPath g p path
 unfolding chosen_path
 chosen_is g p path e = chosen_by g p path (distance_of g p) refl e
 
@@ -179,12 +179,12 @@ some_chosen_by g p (Some n) e s = reduce_some (paths_to g (is_awake g) n p) (fir
 some_chosen_by g p None e s = absurd cc
 
 -- a process that is led to an awake one has a distance
-has_distance : (g : Graph) → IsWithinGraph g → (p q : ℕ) → p < process_count g → (rest : List ℕ) → Leads g p rest q → is_awake g q ≡ true → is_some (distance_of g p) ≡ true
+pub has_distance : (g : Graph) → IsWithinGraph g → (p q : ℕ) → p < process_count g → (rest : List ℕ) → Leads g p rest q → is_awake g q ≡ true → is_some (distance_of g p) ≡ true
 unfolding distance_of
 has_distance g w p q i rest l a = has_steps g (is_awake g) w p q i rest l a
 
 -- a process with a path to an awake one has a chosen path
-some_chosen : (g : Graph) → IsWithinGraph g → (p q : ℕ) (path : List ℕ) → p < process_count g → is_awake g q ≡ true → IsPath g p q path → (other : List ℕ) × (chosen_path g p ≡ Some other)
+pub some_chosen : (g : Graph) → IsWithinGraph g → (p q : ℕ) (path : List ℕ) → p < process_count g → is_awake g q ≡ true → IsPath g p q path → (other : List ℕ) × (chosen_path g p ≡ Some other)
 unfolding chosen_path
 some_chosen g w p q [] i a h = absurd h
 some_chosen g w p q (x ∷ rest) i a h = some_chosen_by g p (distance_of g p) refl (has_distance g w p q i rest h.1 a)
@@ -238,7 +238,7 @@ no_path_law = λ g p w i. (λ e q r. none_then g p q w i e r (is_awake g q) refl
 -- ---- a step of the chosen path
 
 -- it is one longer than the distance
-chosen_length : (g : Graph) (p n : ℕ) (path : List ℕ) → distance_of g p ≡ Some n → IsChosenPath g p path → length path ≡ suc n
+pub chosen_length : (g : Graph) (p n : ℕ) (path : List ℕ) → distance_of g p ≡ Some n → IsChosenPath g p path → length path ≡ suc n
 unfolding distance_of
 chosen_length g p n path e c =
     let s = reduce_some (paths_to g (is_awake g) n p) (near g (is_awake g) p n e) in
@@ -246,7 +246,7 @@ chosen_length g p n path e c =
     ap length (one_chosen g p path s.0 c (unfold distance_of in chosen_at g p n s.0 e s.1)) ∙ length_is g p n s.0 (listed_is g (is_awake g) n p s.0 m.0)
 
 -- every way out is at least as long
-way_out_length : (g : Graph) (p n : ℕ) (other : List ℕ) → distance_of g p ≡ Some n → IsWayOut g p other → suc n ≤ length other
+pub way_out_length : (g : Graph) (p n : ℕ) (other : List ℕ) → distance_of g p ≡ Some n → IsWayOut g p other → suc n ≤ length other
 unfolding distance_of
 way_out_length g p n [] e o = absurd o.2
 way_out_length g p n (x ∷ rest) e o =

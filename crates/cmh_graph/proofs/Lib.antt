@@ -3,6 +3,7 @@ pub mod Choosing
 pub mod Cores
 pub mod Distances
 pub mod Examples
+pub mod Groups
 pub mod Judging
 pub mod Listing
 pub mod Reaching
@@ -11,3 +12,4 @@ pub mod Spreading
 pub mod Stepping
 pub mod Verdicts
 pub mod Waking
+pub mod Ways

@@ -1,5 +1,5 @@
 -- The least number of dependencies to a process that passes a test, and its search by levels.
-use Rattle.std.proofs.Common.{◌≡◌, ℕ, zero, suc, ◌<◌, ◌≤◌, ◌+◌, Bool, true, false, cond, ◌⊎◌, inl, inr, List, [], ◌∷◌, ◌++◌, map, length, get_or, refl, sym, ◌∙◌, ap, subst, arith}
+use Rattle.std.proofs.Common.{◌≡◌, ℕ, zero, suc, ◌<◌, ◌≤◌, ◌+◌, ◌-◌, Bool, true, false, cond, ◌⊎◌, inl, inr, List, [], ◌∷◌, ◌++◌, map, length, get_or, refl, sym, ◌∙◌, ap, subst, arith}
 use Rattle.std.specs.Prelude.{Contains, filter, flat_map, find, Some, None, Option, is_some, unwrap_or}
 use Rattle.std.specs.List.{range_with_len}
 use Rattle.std.specs.Global.{Vec}
@@ -253,17 +253,43 @@ level_within g test n lists ys steps zs level pre s e f q k d l =
     let c : Contains (list_at lists q) p = subst (λ us. Contains (list_at us q) p) e (Contains-get_or (list_at ys q) k d l) in
     omega (arith, idle_within g p (pre.sound p q c).0, s.size, ap length f)
 
--- no number is as large as the number of processes, so all are found
-pub steps_end : (g : Graph) (test : ℕ → Bool) (n : ℕ) (steps : List (Option ℕ)) (level : List ℕ) → process_count g ≤ n → StepsUpTo g test n steps level → steps ≡ map (steps_to g test) (indices g)
-steps_end g test n steps level l s =
+-- some process is at each number up to that of another
+steps_between : (g : Graph) (test : ℕ → Bool) → IsWithinGraph g → (n k p : ℕ) → p < process_count g → steps_to g test p ≡ Some (k + n) → (q : ℕ) × (q < process_count g) × (steps_to g test q ≡ Some n)
+steps_between g test w n zero p i e =
+    let same : 0 + n ≡ n = omega arith in
+    (p, i, e ∙ ap (λ z. Some z) same)
+steps_between g test w n (suc k) p i e =
+    let same : suc k + n ≡ suc (k + n) = omega arith in
+    let back = steps_back g test w p (k + n) i (e ∙ ap (λ z. Some z) same) in
+    steps_between g test w n k back.0 (depends_within g w p back.0 i back.1) back.2
+
+-- a level that has members is below the number of processes
+pub level_below : (g : Graph) (test : ℕ → Bool) (n : ℕ) (steps : List (Option ℕ)) (level : List ℕ) → 0 < length level → StepsUpTo g test n steps level → n < process_count g
+level_below g test n steps level l s =
+    let q = get_or level 0 0 in
+    steps_within g test q n (s.members q (Contains-get_or level 0 0 l)).1
+
+-- past an empty level there is nobody, so all are found
+pub steps_end : (g : Graph) (test : ℕ → Bool) (n : ℕ) (steps : List (Option ℕ)) (level : List ℕ) → IsWithinGraph g → length level ≡ 0 → StepsUpTo g test n steps level → steps ≡ map (steps_to g test) (indices g)
+steps_end g test n steps level w none s =
     fill_by_all (steps_to g test) steps (process_count g) None s.size
     (λ p i. elim (cases_number (steps_to g test p)) [
-      | inl k ↦ s.complete p k.0 i k.1 (omega (arith, steps_within g test p k.0 k.1, l)) ∙ sym k.1
+      | inl k ↦ s.complete p k.0 i k.1 (up_to_level p i k.0 k.1) ∙ sym k.1
       | inr k ↦ elim (cases_number (number_at steps p)) [
         | inl j ↦ let bad : None ≡ Some j.0 = sym k ∙ (s.sound p j.0 j.1).0 in absurd cc
         | inr j ↦ j ∙ sym k
       ]
     ])
+  where
+    up_to_level : (p : ℕ) → p < process_count g → (d : ℕ) → steps_to g test p ≡ Some d → d ≤ n
+    up_to_level p i d e =
+        elim (dec_lt n d) [
+          | yes more ↦
+              let sum : d ≡ (d - n) + n = omega (arith, more) in
+              let at = steps_between g test w n (d - n) p i (e ∙ ap (λ z. Some z) sum) in
+              absurd (omega (arith, none, (s.level_has at.0 at.1 at.2).1))
+          | no less ↦ omega (arith, less)
+        ]
 
 -- ---- the distance
 

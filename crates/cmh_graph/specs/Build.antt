@@ -44,16 +44,16 @@ Has g (TransitOutOfRange i) = (i < length g.in_transit)
     × (IsOutOfRange g (message_at g i).0 ⊎ IsOutOfRange g (message_at g i).1)
 Has g Memory = ⊥
 
--- the number of the fault's kind, and its indices
+-- the number of the fault's kind in the order of the variants, from 1, and its indices
 abbrev pub rank : GraphFault → List ℕ
 rank TooManyProcesses = 1 ∷ []
 rank TooManyDependencies = 2 ∷ []
 rank (DependentOutOfRange i j) = 3 ∷ i ∷ j ∷ []
 rank (RepeatedDependent i j) = 4 ∷ i ∷ j ∷ []
 rank (ActiveWithDependents i) = 5 ∷ i ∷ []
-rank TooManyInTransit = 6 ∷ []
-rank (TransitOutOfRange i) = 7 ∷ i ∷ []
-rank Memory = 8 ∷ []
+rank Memory = 6 ∷ []
+rank TooManyInTransit = 7 ∷ []
+rank (TransitOutOfRange i) = 8 ∷ i ∷ []
 
 -- faults go by the number of their kind, then by the first index, then by the second
 abbrev pub comes_before : GraphFault → GraphFault → Bool

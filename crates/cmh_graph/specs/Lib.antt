@@ -1,6 +1,7 @@
 pub mod Build
 pub mod ChosenPath
 pub mod Core
+pub mod Fault
 pub mod Graph
 pub mod Judge
 pub mod Path

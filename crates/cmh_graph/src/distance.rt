@@ -46,8 +46,7 @@ impl WaitGraph {
             option_map (λ v. v.items) path ≡ chosen_path self.now p) }
         ensures memory { IfErr result (λ e. e ≡ GraphFault.Memory) }
     {
-        // A call that says that the graph is well formed: each step finds a nearer dependent.
-        let _ = self.len();
+        self.has_no_fault();
         let Some(distance) = distances[p as usize] else {
             return Ok(None);
         };

@@ -29,6 +29,11 @@ pub enum GraphFault {
 }
 
 impl fmt::Display for GraphFault {
+    ghost use Rattle.std.specs.Prelude.{Some};
+    ghost use Rattle.cmh_graph.specs.Fault.{fault_text};
+
+    ghost output = { λ e. Some (fault_text e) };
+
     fn fmt<W: fmt::Write>(&self, f: &mut fmt::Formatter<W>) -> fmt::Result {
         match self {
             GraphFault::TooManyProcesses => write!(f, "too many processes"),

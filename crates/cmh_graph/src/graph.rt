@@ -11,7 +11,7 @@ use std::marker::Model;
 
 /// A wait graph: who waits for whom, and which messages are in transit. Processes are named by
 /// their places in the dump, from 0.
-#[derive(Drop)]
+#[derive(Debug, Drop)]
 pub struct WaitGraph {
     parts: Vec<Part>,
     in_transit: Vec<(u32, u32)>,
@@ -94,6 +94,13 @@ impl WaitGraph {
         self.awake[p as usize]
     }
 
+    /// What is true of every graph, for a function that reads no field of it.
+    pub(crate) fn has_no_fault(&self)
+        ensures { IsWellFormed self.now }
+    {
+        let _ = &self.parts;
+    }
+
     /// For each process whether it is awake.
     pub(crate) fn awake(&self) -> &[bool]
         ensures marks { result.now ≡ map (is_awake self.now) (indices self.now) }
@@ -107,6 +114,13 @@ impl WaitGraph {
         ensures { result ≡ site_of self.now p }
     {
         self.parts[p as usize].site
+    }
+
+    /// The messages in transit, each by its sender and its receiver, in the order given.
+    pub fn in_transit(&self) -> &[(u32, u32)]
+        ensures { result.now ≡ self.now.in_transit }
+    {
+        &self.in_transit
     }
 
     /// The dependent set, in the order given.

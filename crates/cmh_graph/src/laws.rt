@@ -2,9 +2,9 @@
 //! body; its contract is the law.
 
 ghost use Rattle.cmh_graph.specs.Path.{ReachLaw};
-ghost use Rattle.cmh_graph.specs.ChosenPath.{ChosenPathLaw, NoPathLaw};
+ghost use Rattle.cmh_graph.specs.ChosenPath.{ChosenPathLaw, DistanceLaw, NoPathLaw, PathLengthLaw};
 ghost use Rattle.cmh_graph.specs.Verdict.{ClosedSetLaw, VerdictLaw};
-ghost use Rattle.cmh_graph.specs.Core.{CoreLaw};
+ghost use Rattle.cmh_graph.specs.Core.{CoreLaw, GroupNumberLaw, LeaderLaw, LeadersLaw, RestLaw, RisingLaw};
 ghost use Rattle.cmh_graph.specs.Build.{WellFormedLaw};
 
 /// A process is deadlocked by paths exactly where it belongs to a deadlocked set: a set of idle
@@ -37,9 +37,46 @@ pub fn law_no_path()
     ensures { NoPathLaw }
 {}
 
+/// The distance of a process is n exactly where a path of n dependencies leads from it to an awake
+/// one and no shorter path does, and there is none exactly where no path does.
+pub fn law_distance()
+    ensures { DistanceLaw }
+{}
+
+/// The chosen path has one process more than its distance.
+pub fn law_path_length()
+    ensures { PathLengthLaw }
+{}
+
 /// A process is in the core of another exactly where each reaches the other.
 pub fn law_core()
     ensures { CoreLaw }
+{}
+
+/// A process is in the rest of another exactly where it is reached and isn't in the core.
+pub fn law_rest()
+    ensures { RestLaw }
+{}
+
+/// What a process reaches, its core and its rest stand by rising index, nobody twice.
+pub fn law_rising()
+    ensures { RisingLaw }
+{}
+
+/// The leader of a process is in its core, and is the least of it. Nobody else is.
+pub fn law_leader()
+    ensures { LeaderLaw }
+{}
+
+/// The leaders are those of the cores of deadlocked processes, by rising index.
+pub fn law_leaders()
+    ensures { LeadersLaw }
+{}
+
+/// Groups are numbered from 1 by their leaders. Deadlocked processes have the same number exactly
+/// where they are of one core, and each number up to that of the last leader is some group's.
+pub fn law_group_number()
+    ensures { GroupNumberLaw }
 {}
 
 /// A graph is well formed exactly where it has no fault.

@@ -9,7 +9,7 @@ mod distance;
 mod fault;
 mod graph;
 mod judge;
-mod laws;
+pub mod laws;
 mod part;
 mod reach;
 mod search;
@@ -19,9 +19,6 @@ mod verdict;
 
 pub use fault::GraphFault;
 pub use graph::WaitGraph;
-pub use laws::{
-    law_chosen_path, law_closed_set, law_core, law_no_path, law_reach, law_verdict, law_well_formed,
-};
 pub use part::{Part, State};
 pub use verdict::Verdict;
 

@@ -10,7 +10,7 @@ pub enum State {
 }
 
 /// One process of a dump. Processes are named by their places in it, from 0.
-#[derive(Debug, Drop)]
+#[derive(PartialEq, Eq, Debug, Drop)]
 pub struct Part {
     pub name: String,
     /// A number for each site. Equal numbers are one site.

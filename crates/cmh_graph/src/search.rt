@@ -37,12 +37,14 @@ impl WaitGraph {
         ensures { IfOk result (λ distances.
             distances.items ≡ map (steps_to self.now (is_marked marks.now)) (indices self.now)) }
     {
-        let count = self.len();
+        self.has_no_fault();
         let predecessors = self.predecessors(alloc)?;
         let mut distances = first_distances(alloc, marks)?;
         let mut level = marked(alloc, marks)?;
-        for distance in 0..count {
-            level = next_level(alloc, &predecessors, &level, distance + 1, &mut distances)?;
+        let mut distance = 0;
+        while !level.is_empty() {
+            distance += 1;
+            level = next_level(alloc, &predecessors, &level, distance, &mut distances)?;
         }
         Ok(distances)
     }

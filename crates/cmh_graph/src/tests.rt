@@ -1,5 +1,8 @@
 //! Worked graphs. Expected values are from the rules, by hand.
 
+mod memory;
+mod surface;
+
 use crate::{GraphFault, MAX_IN_TRANSIT, MAX_PROCESSES, Part, State, Verdict, WaitGraph};
 use std::alloc::{AllocError, Global};
 
@@ -33,6 +36,14 @@ const CYCLE_AND_FOLLOWER: [Row; 3] = [
     ("r", 1, State::Idle, &[0]),
 ];
 
+/// p waits for b or a, and both for z.
+const TWO_SHORTEST_PATHS: [Row; 4] = [
+    ("p", 0, State::Idle, &[2, 1]),
+    ("a", 0, State::Idle, &[3]),
+    ("b", 0, State::Idle, &[3]),
+    ("z", 0, State::Active, &[]),
+];
+
 #[test]
 fn cycle_and_follower(rt: HostRuntime) -> Result<(), GraphFault> {
     let alloc = rt.alloc();
@@ -59,15 +70,7 @@ fn cycle_and_follower(rt: HostRuntime) -> Result<(), GraphFault> {
 #[test]
 fn two_shortest_paths(rt: HostRuntime) -> Result<(), GraphFault> {
     let alloc = rt.alloc();
-    let graph = graph_of(
-        alloc,
-        &[
-            ("p", 0, State::Idle, &[2, 1]),
-            ("a", 0, State::Idle, &[3]),
-            ("b", 0, State::Idle, &[3]),
-            ("z", 0, State::Active, &[]),
-        ],
-    )?;
+    let graph = graph_of(alloc, &TWO_SHORTEST_PATHS)?;
     assert_eq!(rt; graph.len(), 4);
     let distances = [Some(2), Some(1), Some(1), Some(0)];
     assert_eq!(rt; graph.distances(alloc)?.as_slice(), distances.as_slice());

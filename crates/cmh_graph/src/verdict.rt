@@ -39,7 +39,7 @@ impl WaitGraph {
         requires known { distances.now ≡ map (distance_of self.now) (indices self.now) }
         ensures { result ≡ verdict self.now p }
     {
-        let _ = self.len();
+        self.has_no_fault();
         match distances[p as usize] {
             Some(_) => Verdict::Free,
             None => Verdict::Deadlocked,

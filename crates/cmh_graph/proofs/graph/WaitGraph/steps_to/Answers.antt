@@ -1,41 +1,54 @@
-use Rattle.std.proofs.Common.{◌+◌, ◌∙◌, [], arith, drop, length, subst, sym}
+use Rattle.std.proofs.Common.{rules, ◌≡◌, ◌<◌, ◌+◌, ◌∙◌, [], arith, drop, length, subst, sym}
 use Rattle.std.proofs.lemmas.List.{take_at}
+use Rattle.cmh_graph.specs.Graph.{process_count}
 use Rattle.cmh_graph.specs.Search.{is_marked, Numbers, IsNamedBy}
-use Rattle.cmh_graph.proofs.Stepping.{StepsUpTo, steps_start, steps_more, steps_end, level_listed, level_within}
+use Rattle.cmh_graph.proofs.Stepping.{StepsUpTo, steps_start, steps_more, steps_end, level_below, level_listed, level_within}
 use Rattle.cmh_graph.proofs.graph.WaitGraph.steps_to.Goals as goal
 
 pub marked-requires : goal.marked-requires
-marked-requires c = omega (arith, c.requires, c.len-count.ensures.well_formed.processes)
+marked-requires c = omega (arith, c.requires, c.has_no_fault.ensures.processes)
 
-pub loop-distance-init : goal.loop-distance-init
-loop-distance-init c =
+pub loop-alloc-init : goal.loop-alloc-init
+loop-alloc-init c =
     let g = c.args.self.now in
     let marks = c.args.marks.now in
-    steps_start g marks _ _ c.len-count.ensures.well_formed.within c.requires c.in_ok-distances.ensures c.in_ok-level.ensures
+    steps_start g marks _ _ c.has_no_fault.ensures.within c.requires c.in_ok-distances.ensures c.in_ok-level.ensures
+
+pub overflow_add-distance : goal.overflow_add-distance
+overflow_add-distance c =
+    let some : 0 < length c.loop-alloc.level.items = search rules in
+    omega (arith, level_below _ _ _ _ _ some c.loop-alloc.invariant, c.has_no_fault.ensures.processes)
 
 pub next_level-requires-clause-listed : goal.next_level-requires-clause-listed
 next_level-requires-clause-listed c =
-    level_listed _ _ _ _ _ _ _ _ c.in_ok-predecessors.ensures c.loop-distance.invariant c.deref-in-loop-distance.ensures.value c.deref.ensures.value
+    level_listed _ _ _ _ _ _ _ _ c.in_ok-predecessors.ensures c.loop-alloc.invariant c.deref-in-loop-alloc.ensures.value c.deref.ensures.value
 
 pub next_level-requires-clause-within : goal.next_level-requires-clause-within
 next_level-requires-clause-within c =
-    level_within _ _ _ _ _ _ _ _ c.in_ok-predecessors.ensures c.loop-distance.invariant c.deref.ensures.value c.deref_mut.ensures.value
+    level_within _ _ _ _ _ _ _ _ c.in_ok-predecessors.ensures c.loop-alloc.invariant c.deref.ensures.value c.deref_mut.ensures.value
 
-pub loop-distance-preserved : goal.loop-distance-preserved
-loop-distance-preserved c =
+pub loop-alloc-smaller : goal.loop-alloc-smaller
+loop-alloc-smaller c =
+    let some : 0 < length c.loop-alloc.level.items = search rules in
+    omega (arith, level_below _ _ _ _ _ some c.loop-alloc.invariant)
+
+pub loop-alloc-preserved : goal.loop-alloc-preserved
+loop-alloc-preserved c =
     let g = c.args.self.now in
     let test = is_marked c.args.marks.now in
-    let old = c.loop-distance.distances in
+    let old = c.loop-alloc.distances in
     let level = c.in_ok-level-2.level.items in
-    let distance = c.loop-distance.distance in
+    let distance = c.loop-alloc.distance in
     let lists = c.in_ok-predecessors.predecessors.items in
     let new = c.next_level.new.distances in
     let written = take_at new (drop (length new) old.items) old.len (c.next_level.auto.distances ∙ c.deref_mut.ensures.len) in
-    let numbers = subst (λ ds. Numbers (IsNamedBy lists c.loop-distance.level.items) (distance + 1) ds new [] level) c.deref_mut.ensures.value
-    (subst (λ ls. Numbers (IsNamedBy lists ls) (distance + 1) c.deref_mut.result.now new [] level) c.deref-in-loop-distance.ensures.value
-    (subst (λ ls. Numbers (IsNamedBy ls c.deref-in-loop-distance.result.now) (distance + 1) c.deref_mut.result.now new [] level) c.deref.ensures.value c.in_ok-level-2.ensures)) in
+    let numbers = subst (λ ds. Numbers (IsNamedBy lists c.loop-alloc.level.items) (distance + 1) ds new [] level) c.deref_mut.ensures.value
+    (subst (λ ls. Numbers (IsNamedBy lists ls) (distance + 1) c.deref_mut.result.now new [] level) c.deref-in-loop-alloc.ensures.value
+    (subst (λ ls. Numbers (IsNamedBy ls c.deref-in-loop-alloc.result.now) (distance + 1) c.deref_mut.result.now new [] level) c.deref.ensures.value c.in_ok-level-2.ensures)) in
     subst (λ xs. StepsUpTo g test (distance + 1) xs level) (sym written)
-    (steps_more _ _ _ _ _ _ _ _ _ c.len-count.ensures.well_formed.within c.in_ok-predecessors.ensures (omega arith) c.loop-distance.invariant numbers)
+    (steps_more _ _ _ _ _ _ _ _ _ c.has_no_fault.ensures.within c.in_ok-predecessors.ensures (omega arith) c.loop-alloc.invariant numbers)
 
 pub returns : goal.returns
-returns c = steps_end _ _ _ _ _ (omega (arith, c.loop-distance-test.false, c.len-count.ensures.count)) c.loop-distance.invariant
+returns c =
+    let none : length c.loop-alloc.level.items ≡ 0 = search rules in
+    steps_end _ _ _ _ _ c.has_no_fault.ensures.within none c.loop-alloc.invariant
