@@ -7,7 +7,7 @@ use Rattle.cmh_graph.specs.Graph.{Graph}
 use Rattle.cmh_rw.specs.declared.TheConstants.{MAX_SEATS}
 use Rattle.cmh_rw.specs.declared.machine.SeatState.{SeatState}
 use Rattle.cmh_rw.specs.declared.machine.SeatState.TheVariants.{Away, Retreating, Reading, Writing, Spent}
-use Rattle.cmh_rw.specs.declared.view.Row.{Row}
+use Rattle.cmh_rw.specs.declared.row.Row.{Row}
 use Rattle.cmh_rw.specs.declared.view.View.{View}
 use Rattle.cmh_rw.specs.Machine.{total, writes, reads, retreats}
 use Rattle.cmh_rw.specs.History.{laid, weigh, row_code, verdict_code, fold_at}

@@ -10,7 +10,7 @@ use Rattle.cmh_graph.specs.Verdict.{is_deadlocked}
 use Rattle.cmh_rw.specs.declared.machine.SeatState.TheVariants.{Retreating, Reading, Writing}
 use Rattle.cmh_rw.specs.declared.machine.Event.{Event}
 use Rattle.cmh_rw.specs.declared.machine.Event.TheVariants.{Admit, Leave, TryWrite, EndWrite}
-use Rattle.cmh_rw.specs.declared.view.Row.{Row}
+use Rattle.cmh_rw.specs.declared.row.Row.{Row}
 use Rattle.cmh_rw.specs.declared.TheConstants.{FIRST_ROW, FIRST_VERDICT, BOARD_WORDS}
 use Rattle.cmh_rw.specs.Machine.{world, new_world, run_from, IsLawful}
 use Rattle.cmh_rw.specs.History.{row_code, row_of, verdict_code, fold_at, laid, ArePostings, IsPosting, IsTrueOf}

@@ -18,7 +18,7 @@ use Rattle.cmh_rw.specs.Machine.{total, writes, reads, retreats, turn}
 use Rattle.cmh_rw.specs.History.{weigh, fold_at}
 use Rattle.cmh_rw.specs.View.{ended}
 use Rattle.cmh_rw.specs.Rule.{Moment, lock_of, lock_moment, state_of, Kept, Knows, Board}
-use Rattle.cmh_rw.specs.Steps.{TableSeat, after_try, with_lock, Entered, Left, Taken}
+use Rattle.cmh_rw.specs.Steps.{TableSeat, after_try, with_lock, Entered, Ended, Taken}
 use Rattle.cmh_rw.proofs.Folds.{fold-nothing}
 use Rattle.cmh_rw.proofs.Lawful.{total-set}
 use Rattle.cmh_rw.proofs.Lock.{enter_kept, leave_kept, take_kept, end_kept}
@@ -108,7 +108,7 @@ inside-not_writing Writing h = absurd (omega arith)
 inside-not_writing Spent h = (λ e. cc, refl)
 
 -- a reader ends its hold, or a seat retreats
-pub leaves : (key : Graph) (slots id : ℕ) (me : TableSeat) → reads me.0.lock.state + retreats me.0.lock.state ≡ 1 → Allows (Board key) slots id me 0 (λ n. (n + (2 ^ 64 - 1)) % 2 ^ 64) (Left (step slots 0 1 0 none) me)
+pub leaves : (key : Graph) (slots id : ℕ) (me : TableSeat) → reads me.0.lock.state + retreats me.0.lock.state ≡ 1 → Allows (Board key) slots id me 0 (λ n. (n + (2 ^ 64 - 1)) % 2 ^ 64) (Ended (step slots 0 1 0 none) me)
 leaves key slots id me inside s b homes at small = let v = me.0 in let x = get_or s.words 0 0 in let low = leave_kept key (lock_moment s) id (lock_me me) inside b.lock (at_map lock_of s.views id v at) in
     let not = inside-not_writing v.lock.state inside in let bare = (b.each id v at).bare not.0 in (
       ended v,
@@ -120,7 +120,7 @@ leaves key slots id me inside s b homes at small = let v = me.0 in let x = get_o
     )
 
 -- a writer with nothing staged ends its hold
-pub ends : (key : Graph) (slots id : ℕ) (me : TableSeat) → me.0.lock.state ≡ Writing → me.0.staged ≡ [] → Allows (Board key) slots id me 0 (λ n. (n + (2 ^ 64 - 4294967296)) % 2 ^ 64) (Left (step slots 0 4294967296 0 none) me)
+pub ends : (key : Graph) (slots id : ℕ) (me : TableSeat) → me.0.lock.state ≡ Writing → me.0.staged ≡ [] → Allows (Board key) slots id me 0 (λ n. (n + (2 ^ 64 - 4294967296)) % 2 ^ 64) (Ended (step slots 0 4294967296 0 none) me)
 ends key slots id me is clear s b homes at small = let v = me.0 in let x = get_or s.words 0 0 in let low = end_kept key (lock_moment s) id (lock_me me) is b.lock (at_map lock_of s.views id v at) in
     let own = (b.each id v at).writing is in let none_staged = sym own.0 ∙ clear in
     let none_told : b.told ≡ [] = fold-nothing b.told (λ p. ⊎_elim (λ e. e) (λ e. e ∙ ap (λ l. fold_at l p) none_staged) (b.told_of p)) in (

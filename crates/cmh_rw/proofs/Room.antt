@@ -6,7 +6,7 @@ use Rattle.cmh_graph.specs.declared.TheConstants.{MAX_PROCESSES}
 use Rattle.cmh_graph.specs.declared.verdict.Verdict.{Verdict}
 use Rattle.cmh_graph.specs.Graph.{Graph, process_count}
 use Rattle.cmh_graph.proofs.Verdicts.{idle_within}
-use Rattle.cmh_rw.specs.declared.view.Row.{Row}
+use Rattle.cmh_rw.specs.declared.row.Row.{Row}
 use Rattle.cmh_rw.specs.declared.view.View.{View}
 use Rattle.cmh_rw.specs.History.{fold_at, FitsIn, IsTrueOf, StartsWith}
 use Rattle.cmh_rw.specs.View.{AfterLoad, CanStage, with_row, joining, compared}

@@ -12,7 +12,7 @@ use Rattle.cmh_graph.specs.Graph.{Graph, is_idle}
 use Rattle.cmh_graph.specs.Verdict.{verdict}
 use Rattle.cmh_rw.specs.declared.TheConstants.{FIRST_ROW, FIRST_VERDICT}
 use Rattle.cmh_rw.specs.declared.machine.SeatState.TheVariants.{Writing}
-use Rattle.cmh_rw.specs.declared.view.Row.{Row}
+use Rattle.cmh_rw.specs.declared.row.Row.{Row}
 use Rattle.cmh_rw.specs.declared.view.View.{View}
 use Rattle.cmh_rw.specs.History.{laid, weigh, row_code, verdict_code, fold_at, IsOpen, IsTrueOf}
 use Rattle.cmh_rw.specs.View.{CanStage, with_row, with_told, mark}

@@ -5,7 +5,7 @@ use Rattle.cmh_graph.specs.declared.verdict.Verdict.{Verdict}
 use Rattle.cmh_graph.specs.declared.verdict.Verdict.TheVariants.{Deadlocked, Free}
 use Rattle.cmh_graph.specs.Graph.{Graph, process_count, is_idle}
 use Rattle.cmh_graph.specs.Verdict.{verdict}
-use Rattle.cmh_rw.specs.declared.view.Row.{Row}
+use Rattle.cmh_rw.specs.declared.row.Row.{Row}
 
 -- a flag as a number
 abbrev pub bit : Bool → ℕ

@@ -32,8 +32,8 @@ Taken st m found m' = (m' ≡ (with_lock m.0 (after_try (TryWrite 0) found m.0.l
     × (m.0.staged ≡ []) × (m.0.told ≡ [])
 
 -- a seat ended its hold
-abbrev pub Left : Step (Unit {0}) → TableSeat → ℕ → TableSeat → Type 0
-Left st m found m' = m' ≡ (ended m.0, m.1)
+abbrev pub Ended : Step (Unit {0}) → TableSeat → ℕ → TableSeat → Type 0
+Ended st m found m' = m' ≡ (ended m.0, m.1)
 
 -- a seat loaded a word in a hold
 abbrev pub Loaded : Step (Unit {0}) → TableSeat → ℕ → TableSeat → Type 0

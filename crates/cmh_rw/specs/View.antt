@@ -7,9 +7,9 @@ use Rattle.cmh_graph.specs.Verdict.{verdict}
 use Rattle.cmh_rw.specs.declared.TheConstants.{WRITER, MAX_SEATS, FIRST_ROW, FIRST_VERDICT}
 use Rattle.cmh_rw.specs.declared.machine.SeatState.{SeatState}
 use Rattle.cmh_rw.specs.declared.machine.SeatState.TheVariants.{Away, Retreating, Reading, Writing, Spent}
-use Rattle.cmh_rw.specs.declared.view.Row.{Row}
-use Rattle.cmh_rw.specs.declared.view.Entry.{Entry}
-use Rattle.cmh_rw.specs.declared.view.Entry.TheVariants.{Held, Busy}
+use Rattle.cmh_rw.specs.declared.row.Row.{Row}
+use Rattle.cmh_rw.specs.declared.words.Entry.{Entry}
+use Rattle.cmh_rw.specs.declared.words.Entry.TheVariants.{Held, Busy}
 use Rattle.cmh_rw.specs.declared.view.LockView.{LockView}
 use Rattle.cmh_rw.specs.declared.view.View.{View}
 use Rattle.cmh_rw.specs.Machine.{writes, reads}

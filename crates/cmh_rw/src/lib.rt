@@ -7,8 +7,9 @@
 #![tactic(auto)]
 
 mod fault;
-mod laws;
+pub mod laws;
 mod machine;
+mod row;
 mod rows;
 mod rule;
 mod seat;
@@ -19,10 +20,11 @@ mod words;
 
 use cmh_graph::MAX_PROCESSES;
 pub use fault::RwFault;
-pub use laws::{law_one_row_a_word, law_step};
 pub use machine::{Event, LockWorld, SeatState, run_events};
+pub use row::Row;
 pub use seat::{Closed, RwSeat, RwWords};
-pub use view::{Entry, LockView, Row, View};
+pub use view::{LockView, View};
+pub use words::Entry;
 
 /// What the lock word counts a writer as.
 pub const WRITER: u64 = 4_294_967_296;

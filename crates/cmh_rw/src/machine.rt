@@ -34,7 +34,7 @@ pub enum Event {
 }
 
 /// The lock word, and the state of each seat.
-#[derive(Drop)]
+#[derive(Debug, Drop)]
 pub struct LockWorld {
     word: u64,
     seats: Vec<SeatState>,
@@ -48,6 +48,28 @@ impl Model for LockWorld {
     ghost view = { λ w. world w.word w.seats.items };
 
     ghost invariant = { λ w. IsLock (world w.word w.seats.items) };
+}
+
+impl PartialEq for LockWorld {
+    ghost use Rattle.std.specs.Prelude.{◌==◌};
+    ghost use Rattle.std.specs.Ordering.{on, eq_of_both};
+    ghost use Rattle.std.specs.Cmp.{on_per, and_per, nat_eq_equiv, partial_equiv_from_equiv};
+    ghost use Rattle.std.specs.Cmp.Lexicographic.{lists_per};
+    ghost use lib.Pointwise.{pointwise};
+    ghost use Rattle.cmh_rw.specs.contracts.machine.SeatStatePartialEq.TheImpl as states;
+    ghost use Rattle.cmh_rw.specs.contracts.machine.SeatStatePartialEq.TheImpl.Laws.{laws-law};
+
+    ghost eq = { eq_of_both
+        (on (λ w. w.seats) (pointwise (states.ghosts).eq))
+        (on (λ w. w.word) ◌==◌) };
+
+    ghost laws = { and_per
+        (on_per (λ w. w.seats) (lists_per laws-law))
+        (on_per (λ w. w.word) (partial_equiv_from_equiv nat_eq_equiv)) };
+
+    fn eq(&self, other: &LockWorld) -> bool {
+        self.seats == other.seats && self.word == other.word
+    }
 }
 
 impl LockWorld {

@@ -3,7 +3,7 @@
 ghost use Rattle.std.specs.Prelude.{◌≡◌, ◌+◌, ◌<◌, length, Some, IsTrue};
 ghost use Rattle.cmh_graph.specs.declared.TheConstants.{MAX_PROCESSES};
 ghost use Rattle.cmh_rw.specs.declared.machine.SeatState.TheVariants.{Writing};
-ghost use Rattle.cmh_rw.specs.History.{row_code, verdict_code, fold_at, EndsLast, IsPosting, AreTold};
+ghost use Rattle.cmh_rw.specs.History.{verdict_code, fold_at, EndsLast, IsPosting, AreTold};
 ghost use Rattle.cmh_rw.specs.View.{IsHeld, AfterLoad, CanStage, row, with_row, mark, with_told, posted};
 ghost use Rattle.cmh_rw.specs.Seats.{view, IsSeatOf};
 
@@ -72,16 +72,6 @@ impl RwWords {
         self.table
             .shared
             .store::<StoreCount>(&mut seat.seat, 1, n as u64);
-    }
-}
-
-impl Row {
-    /// The word that the row is stored as.
-    pub(crate) fn code(self) -> u64
-        ensures { result ≡ row_code self }
-    {
-        let free = self.verdict == Verdict::Free;
-        4 * u64::from(self.process) + 2 * u64::from(self.last) + u64::from(free)
     }
 }
 

@@ -25,12 +25,12 @@ impl Play<(), View> for Enter {
 }
 
 /// A seat ends its hold, or retreats.
-pub(crate) struct Leave;
+pub(crate) struct End;
 
-impl Play<(), View> for Leave {
-    ghost use Rattle.cmh_rw.specs.Steps.{Left};
+impl Play<(), View> for End {
+    ghost use Rattle.cmh_rw.specs.Steps.{Ended};
 
-    ghost then = { Left };
+    ghost then = { Ended };
 }
 
 /// A seat tries to become the writer.

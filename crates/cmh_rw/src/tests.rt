@@ -3,7 +3,9 @@
 mod faults;
 mod graphs;
 mod machine;
+mod memory;
 mod posting;
 mod steps;
+mod surface;
 mod threads;
 mod words;

@@ -1,23 +1,8 @@
-//! What a seat knows.
+//! What a seat knows, as contracts see it.
 
-use crate::SeatState;
-use cmh_graph::{Verdict, WaitGraph};
+use crate::{Row, SeatState};
+use cmh_graph::WaitGraph;
 use std::collections::LinkedList;
-
-/// A process with its verdict. The final row of a posting has `last`.
-#[derive(Clone, Copy, PartialEq, Eq, Hash, Debug)]
-pub struct Row {
-    pub process: u32,
-    pub verdict: Verdict,
-    pub last: bool,
-}
-
-/// Whether a try got the lock, and else the word that it found.
-#[derive(Clone, Copy, PartialEq, Eq, Hash, Debug)]
-pub enum Entry {
-    Held,
-    Busy(u64),
-}
 
 /// What a seat knows of the lock. It is for contracts alone: no value of it is made.
 pub struct LockView {

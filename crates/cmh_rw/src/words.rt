@@ -6,11 +6,18 @@ ghost use Rattle.cmh_rw.specs.History.{StartsWith};
 ghost use Rattle.cmh_rw.specs.View.{opening_view, AfterRead, AfterWrite, ended, less_one, newcomer, joined};
 ghost use Rattle.cmh_rw.specs.Seats.{view, IsSeatOf, IsAway, graph_of, words_of, ClosedBy, ClosedHistory};
 
-use crate::rule::{Compare, Enter, Leave, Shares, Take};
-use crate::{BOARD_WORDS, Closed, Entry, MAX_SEATS, RwFault, RwSeat, RwWords, WRITER};
+use crate::rule::{Compare, End, Enter, Shares, Take};
+use crate::{BOARD_WORDS, Closed, MAX_SEATS, RwFault, RwSeat, RwWords, WRITER};
 use atomic_table::Table;
 use cmh_graph::WaitGraph;
 use std::alloc::Global;
+
+/// Whether a try got the lock, and else the word that it found.
+#[derive(Clone, Copy, PartialEq, Eq, Hash, Debug)]
+pub enum Entry {
+    Held,
+    Busy(u64),
+}
 
 impl RwWords {
     /// All words are 0. The seat is away and has the whole share.
@@ -72,8 +79,8 @@ impl RwWords {
         seat.share = share;
     }
 
-    /// One try to read. Where a writer holds the lock, the seat takes its count back, and the
-    /// answer has the word that it found.
+    /// One try to read. Where a writer holds the lock, the seat takes its count back by a second
+    /// exchange, and the answer has the word that the first one found.
     pub fn try_read(&self, seat: &mut RwSeat) -> Entry
         requires own { IsSeatOf self.now seat.old }
         requires away { IsAway seat.old }
@@ -84,7 +91,7 @@ impl RwWords {
         if found < WRITER {
             return Entry::Held;
         }
-        let _before = self.table.shared.fetch_sub::<Leave>(&mut seat.seat, 0, 1);
+        let _before = self.table.shared.fetch_sub::<End>(&mut seat.seat, 0, 1);
         Entry::Busy(found)
     }
 
@@ -95,7 +102,7 @@ impl RwWords {
         ensures own { IsSeatOf self.now seat.new }
         ensures ended { view seat.new ≡ ended (view seat.old) }
     {
-        self.table.shared.fetch_sub::<Leave>(&mut seat.seat, 0, 1);
+        self.table.shared.fetch_sub::<End>(&mut seat.seat, 0, 1);
     }
 
     /// One try to write. Where anybody holds the lock or retreats from it, the answer has the word
@@ -126,7 +133,14 @@ impl RwWords {
     {
         self.table
             .shared
-            .fetch_sub::<Leave>(&mut seat.seat, 0, WRITER);
+            .fetch_sub::<End>(&mut seat.seat, 0, WRITER);
+    }
+
+    /// How much of the whole share the seat has. A seat that has all of it is the only one.
+    pub fn share(&self, seat: &RwSeat) -> u32
+        ensures { result ≡ (view seat.now).lock.share }
+    {
+        seat.share()
     }
 
     /// The words at the end. With the whole share no other seat is left, so that the lock is free.
@@ -145,7 +159,7 @@ impl RwWords {
 }
 
 impl RwSeat {
-    /// How much of the whole share the seat has. A seat that has all of it is the only one.
+    /// The same as `RwWords::share` of this seat.
     pub fn share(&self) -> u32
         ensures { result ≡ (view self.now).lock.share }
     {

@@ -1,6 +1,7 @@
 //! Postings of two processes.
 
 ghost use Rattle.std.specs.Prelude.{◌≡◌, ◌≢◌, ◌+◌, ◌<◌, ◌≤◌, [], None, IsTrue, length};
+ghost use Rattle.cmh_graph.specs.declared.TheConstants.{MAX_PROCESSES};
 ghost use Rattle.cmh_graph.specs.Graph.{process_count, is_idle};
 ghost use Rattle.cmh_graph.specs.Verdict.{verdict, verdicts};
 ghost use Rattle.cmh_rw.specs.declared.machine.SeatState.TheVariants.{Writing};
@@ -26,7 +27,7 @@ pub(super) fn is_new(words: &RwWords, seat: &mut RwSeat, p: u32) -> bool
     requires writing { (view seat.old).lock.state ≡ Writing }
     requires loaded { IsTrue (view seat.old).loaded }
     requires clear { (view seat.old).told ≡ [] }
-    requires within { p < 4096 }
+    requires within { p < MAX_PROCESSES }
     ensures own { IsSeatOf words.now seat.new }
     ensures view { view seat.new ≡ loaded (view seat.old) (view seat.old).seen }
     ensures new { IsTrue result → fold_at (view seat.old).seen p ≡ None }
@@ -39,7 +40,7 @@ pub(super) fn is_new(words: &RwWords, seat: &mut RwSeat, p: u32) -> bool
 pub(super) fn finds_one_of_two(words: &RwWords, seat: &mut RwSeat, p: u32, q: u32) -> bool
     requires own { IsSeatOf words.now seat.old }
     requires away { IsAway seat.old }
-    requires within { (p < 4096) × (q < 4096) }
+    requires within { (p < MAX_PROCESSES) × (q < MAX_PROCESSES) }
     ensures own { IsSeatOf words.now seat.new }
     ensures away { IsAway seat.new }
     ensures graph { (view seat.new).lock.graph ≡ (view seat.old).lock.graph }
@@ -66,7 +67,7 @@ pub(super) fn store_two(
     requires writing { (view seat.old).lock.state ≡ Writing }
     requires loaded { IsTrue (view seat.old).loaded }
     requires count { n ≡ length (view seat.old).seen }
-    requires few { n ≤ 4096 }
+    requires few { n ≤ MAX_PROCESSES }
     requires clear { ((view seat.old).staged ≡ []) × ((view seat.old).told ≡ []) }
     requires idle { IsTrue (is_idle (view seat.old).lock.graph first.0)
         × IsTrue (is_idle (view seat.old).lock.graph second.0) }
