@@ -64,7 +64,7 @@ one_ending c AtRest last e f = by_last last f
     by_last AtRest f = refl
 
 -- two runs that are kept are equal where all that is kept of them is
-same_run : (r s : Run) → r.initiator ≡ s.initiator → r.log ≡ s.log → r.ending ≡ s.ending → r.engaged ≡ s.engaged → r.restarted ≡ s.restarted → r ≡ s
+pub same_run : (r s : Run) → r.initiator ≡ s.initiator → r.log ≡ s.log → r.ending ≡ s.ending → r.engaged ≡ s.engaged → r.restarted ≡ s.restarted → r ≡ s
 same_run r s a b c d e =
     let whole : ◌≡◌ {A = Run} (record { initiator = r.initiator; log = r.log; ending = r.ending; engaged = r.engaged; restarted = r.restarted })
     (record { initiator = s.initiator; log = s.log; ending = s.ending; engaged = s.engaged; restarted = s.restarted }) = rw (a, b, c, d, e) refl in

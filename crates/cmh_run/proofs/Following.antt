@@ -11,16 +11,20 @@ use Rattle.cmh_graph.specs.Graph.{Graph, process_count, is_idle, is_awake, IsWit
 use Rattle.cmh_graph.proofs.Verdicts.{idle_within}
 use Rattle.cmh_process.specs.Process.{fresh}
 use Rattle.cmh_run.specs.Config.{proc_at, nothing_yet, start, without}
-use Rattle.cmh_run.specs.Legal.{Going, going_from, begun, restart, restarted_at, ready, after, Rule, MayCome, Leads, EndsAs, HintIsFit, HasNoRepeat, IsRight}
+use Rattle.cmh_run.specs.Legal.{Going, going_from, begun, restart, restarted_at, ready, after, Rule, MayCome, Leads, EndsAs, IsRun, HintIsFit, HasNoRepeat, IsRight}
 use Rattle.cmh_run.specs.Choices.{chosen_place, HasNoHints}
-use Rattle.cmh_run.specs.Run.{Stage, Run, IsRunOf, TellsTruth, verdict_of, MayStart, place_in, IsTakenBy, delivered_to, ending_of}
+use Rattle.cmh_run.specs.Engaged.{AreEngaged}
+use Rattle.cmh_run.specs.Run.{Stage, Run, IsRunOf, TellsTruth, empty_run_of, verdict_of, MayStart, place_in, IsTakenBy, delivered_to, ending_of}
 use Rattle.cmh_run.specs.Follow.{Follows}
+use Rattle.cmh_run.specs.declared.TheConstants.{MAX_RESTARTS}
 use Rattle.cmh_run.specs.Hints.{IsVerdict}
 use Rattle.cmh_run.proofs.Live.{Fine}
 use Rattle.cmh_run.proofs.Tokens.{each_at}
 use Rattle.cmh_run.proofs.Right.{number_kept, runs_are_right}
 use Rattle.cmh_run.proofs.Theorem.{by_test, Status, Stands, first_start, leads_stands, status_none, fresh_at, stepped, ready_stands}
 use Rattle.cmh_run.proofs.Last.{last_computation_is_a_run}
+use Rattle.cmh_run.proofs.Decide.{same_run}
+use Rattle.cmh_run.proofs.Engaging.{who_engages, awake_ones_start_nothing}
 use Rattle.cmh_run.proofs.Bound.{leads_are_short, runs_are_short}
 
 -- a restart changes nothing of how many deliveries there were
@@ -90,7 +94,7 @@ module _ (g : Graph) (i : ℕ) (ok : IsWithinGraph g) (within : i < process_coun
       (number_kept g i (ready g i s).config l.0 d.message d.hint ∙ ready_numbered s s.restarts h e) l.3
 
   -- the initiator may start again while few restarts were
-  pub may_start : (s : Going) → Stands g i s.config → s.config.number ≡ s.restarted + 1 → s.restarted ≤ 16
+  pub may_start : (s : Going) → Stands g i s.config → s.config.number ≡ s.restarted + 1 → s.restarted ≤ MAX_RESTARTS
       → s.config.ended ≡ None → MayStart g i s
   may_start s h e few going =
       let live = status_none g i s.config h going in
@@ -166,16 +170,16 @@ module _ (g : Graph) (i : ℕ) (choices restarts : List ℕ) (s : Stage) (ok : I
       let live = status_none g i s.going.config firm.stands going in
       (each_at (Fine g i s.going.config.number (proc_at s.going.config.procs)) s.going.config.bag x m live.0.fine there).to_in
 
-  -- at most 16 restarts have come if at most 16 were given
-  few_restarts : length restarts ≤ 16 → s.going.restarted ≤ 16
+  -- no more restarts have come than may be given
+  few_restarts : length restarts ≤ MAX_RESTARTS → s.going.restarted ≤ MAX_RESTARTS
   few_restarts few = by_awake (is_awake g i) refl
     where
-      by_awake : (b : Bool) → is_awake g i ≡ b → s.going.restarted ≤ 16
+      by_awake : (b : Bool) → is_awake g i ≡ b → s.going.restarted ≤ MAX_RESTARTS
       by_awake true e = omega (arith, leads_restarts (chosen_place choices) g i s.log (going_from (nothing_yet g) []) s.going (awake_leads e))
       by_awake false e = omega (arith, leads_restarts (chosen_place choices) g i s.log (going_from (start g i (nothing_yet g)) restarts) s.going (asleep_leads e))
 
   -- the initiator may start again after a delivery
-  pub may_start_after : (x : ℕ) (d : Delivery) → length restarts ≤ 16 → MayCome g s.going.config x d
+  pub may_start_after : (x : ℕ) (d : Delivery) → length restarts ≤ MAX_RESTARTS → MayCome g s.going.config x d
       → (after g i s.going x d).config.ended ≡ None → MayStart g i (after g i s.going x d)
   may_start_after x d few may going =
       let firm = steady x d.message may.there in
@@ -185,10 +189,10 @@ module _ (g : Graph) (i : ℕ) (choices restarts : List ℕ) (s : Stage) (ok : I
       (number_kept g i s.going.config x d.message d.hint ∙ firm.numbered) (few_restarts few) going
 
   -- the deliveries are few
-  pub log_bound : length restarts ≤ 16 → length s.log ≤ 2 * dependency_count g * 17
+  pub log_bound : length restarts ≤ MAX_RESTARTS → length s.log ≤ 2 * dependency_count g * (MAX_RESTARTS + 1)
   log_bound few =
       let short = leads_are_short (chosen_place choices) g i restarts s.log s.going ok idle f.leads in
-      let most : s.going.restarted + 1 ≤ 17 = omega (arith, few_restarts few) in
+      let most : s.going.restarted + 1 ≤ MAX_RESTARTS + 1 = omega (arith, few_restarts few) in
       omega (arith, short, mul-le-mul_left (2 * dependency_count g) most)
 
   -- the run goes on by a delivery that the choices name
@@ -259,7 +263,7 @@ module _ (g : Graph) (i : ℕ) (choices restarts : List ℕ) (s t : Stage) (m : 
     is_after = step ∙ ap (λ (w : Stage). delivered_to g i w (record { message = m; hint = hint })) taken.2
 
     -- the initiator may start again after it
-    pub taken_may_start : length restarts ≤ 16 → u.going.config.ended ≡ None → MayStart g i u.going
+    pub taken_may_start : length restarts ≤ MAX_RESTARTS → u.going.config.ended ≡ None → MayStart g i u.going
     taken_may_start few = subst (λ (w : Stage). w.going.config.ended ≡ None → MayStart g i w.going) (sym is_after)
         (may_start_after g i choices restarts s ok idle f (place_in choices s) (record { message = m; hint = hint }) few (taken_may hint fit))
 
@@ -273,8 +277,8 @@ module _ (g : Graph) (i : ℕ) (choices restarts : List ℕ) (s t : Stage) (m : 
     taken_log v e = ap (λ (w : Stage). w.log) e ∙ ap (λ (w : Stage). w.log) is_after
 
     -- the measure of the run falls
-    pub taken_falls : (v : Stage) → v ≡ record { going = ready g i u.going; log = u.log } → length restarts ≤ 16
-        → 2 * dependency_count g * 17 + 1 - length v.log < 2 * dependency_count g * 17 + 1 - length s.log
+    pub taken_falls : (v : Stage) → v ≡ record { going = ready g i u.going; log = u.log } → length restarts ≤ MAX_RESTARTS
+        → 2 * dependency_count g * (MAX_RESTARTS + 1) + 1 - length v.log < 2 * dependency_count g * (MAX_RESTARTS + 1) + 1 - length s.log
     taken_falls v e few =
         let bound = log_bound g i choices restarts v ok idle (taken_follows v e) few in
         let longer : length v.log ≡ length s.log + 1 = ap length (taken_log v e) ∙ length-append s.log (record { message = m; hint = hint } ∷ []) in
@@ -333,3 +337,32 @@ run_is_true g i choices restarts r ok idle same k =
       last = λ rule others end run. last_computation_is_a_run rule g r.initiator others r.log r.ending end ok mine run;
       short = rw k.restarted (runs_are_short (chosen_place choices) g r.initiator restarts r.log r.ending k.end ok mine k.legal);
     }
+
+-- at first no more restarts are to come than were given
+begun_restarts : (g : Graph) (i : ℕ) (restarts : List ℕ) → (begun g i restarts).restarted + length (begun g i restarts).restarts ≤ length restarts
+begun_restarts g i restarts =
+    by_test (is_awake g i)
+    (λ b. (cond b (going_from (nothing_yet g) []) (going_from (start g i (nothing_yet g)) restarts)).restarted
+    + length (cond b (going_from (nothing_yet g) []) (going_from (start g i (nothing_yet g)) restarts)).restarts ≤ length restarts)
+    (λ e. omega arith) (λ e. omega arith)
+
+-- a run that is kept started again no more often than it was to
+pub restarted_few : (g : Graph) (choices restarts : List ℕ) (r : Run) → IsRunOf g choices restarts r → r.restarted ≤ length restarts
+restarted_few g choices restarts r k =
+    omega (arith, k.restarted, leads_restarts (chosen_place choices) g r.initiator r.log (begun g r.initiator restarts) k.end k.legal.leads, begun_restarts g r.initiator restarts)
+
+-- who is engaged in a run that is kept is as it should be
+pub run_engages : (g : Graph) (i : ℕ) (choices restarts : List ℕ) (r : Run) → IsWithinGraph g → is_idle g i ≡ true → r.initiator ≡ i
+    → IsRunOf g choices restarts r → AreEngaged g i r.ending r.engaged
+run_engages g i choices restarts r ok idle same k =
+    let legal : IsRun (chosen_place choices) g i restarts r.log r.ending k.end = subst (λ (x : ℕ). IsRun (chosen_place choices) g x restarts r.log r.ending k.end) same k.legal in
+    subst (λ (xs : List ℕ). AreEngaged g i r.ending xs) (sym k.engaged)
+    (who_engages (chosen_place choices) g i restarts r.log r.ending k.end ok idle legal)
+
+-- what is kept of the run of an awake initiator is the empty run
+pub awake_runs_nothing : (g : Graph) (i : ℕ) (choices restarts : List ℕ) (r : Run) → r.initiator ≡ i → IsRunOf g choices restarts r
+    → is_awake g i ≡ true → r ≡ empty_run_of i
+awake_runs_nothing g i choices restarts r same k up =
+    let legal : IsRun (chosen_place choices) g i restarts r.log r.ending k.end = subst (λ (x : ℕ). IsRun (chosen_place choices) g x restarts r.log r.ending k.end) same k.legal in
+    let none = awake_ones_start_nothing (chosen_place choices) g i restarts r.log r.ending k.end up legal in
+    same_run r (empty_run_of i) same none.silent none.at_rest (k.engaged ∙ none.nobody) (k.restarted ∙ none.once)

@@ -1,7 +1,6 @@
 -- What an auditor answers, against the run that the deliveries make.
 use Rattle.std.proofs.Common.{◌≡◌, ℕ, ◌<◌, Bool, true, false, not, ◌&&◌, cond, List, [], ◌∷◌, ◌++◌, length, get_or, slice_get, Option, Some, None, is_some, refl, sym, ◌∙◌, ap, subst, ◌⊎◌, inr, ⊎_elim}
-use Rattle.std.specs.Prelude.{IfSome, IfNone, IfOk, IfErr, OnOk, ok_or, ◌↔◌, take}
-use Rattle.std.proofs.Common.{Result, Ok, Err}
+use Rattle.std.specs.Prelude.{IfSome, IfNone, IfOk, IfErr, ok_or, ◌↔◌, take}
 use Rattle.std.proofs.lemmas.Bool.{true≢false, cases_Bool}
 use Rattle.cmh_process.specs.declared.message.Message.{Message}
 use Rattle.cmh_graph.specs.declared.verdict.Verdict.{Verdict}
@@ -140,11 +139,6 @@ fit_where_true g c m hint v d truth b w is asked all within test = (
 pub where_none : (o : Option Ending) (P : Type 0) → false ≡ is_some o → IfNone o P → P
 where_none None P e h = h
 where_none (Some x) P e h = absurd (true≢false (sym e))
-
--- what two facts about a success lead to
-pub both_ok : {A E : Type 0} (r : Result A E) (P Q R : Type 0) → OnOk r P → OnOk r Q → (P → Q → R) → OnOk r R
-both_ok (Ok x) P Q R p q f = f p q
-both_ok (Err e) P Q R p q f = tt
 
 module _ (g : Graph) (i : ℕ) (log : List Delivery) (s : Going) (a : Audit) (d : Delivery) (h : Agrees g i log s a) (settled : IsSettled a) (going : ¬ (HasEnded s.config)) (aw : IsAwaited i a d.message) where
   -- the message of the delivery is undelivered

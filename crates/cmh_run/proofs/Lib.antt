@@ -3,6 +3,7 @@ pub mod Answering
 pub mod Auditing
 pub mod Bound
 pub mod Decide
+pub mod Engaging
 pub mod Examples
 pub mod Following
 pub mod Judging

@@ -13,7 +13,7 @@ use Rattle.cmh_process.specs.Process.{fresh, engages, proc_queried, query_action
 use Rattle.cmh_graph.specs.Graph.{Graph, process_count, is_awake, IsWithinGraph}
 use Rattle.cmh_graph.specs.Verdict.{IsDeadlocked}
 use Rattle.cmh_graph.proofs.Verdicts.{idle_within}
-use Rattle.cmh_run.proofs.Paths.{reaches_self}
+use Rattle.cmh_run.proofs.Paths.{reaches_self, reached_deadlocked}
 use Rattle.cmh_run.specs.Config.{Config, proc_at, acted, hinted, received, without, delivered, start, nothing_yet}
 use Rattle.cmh_run.specs.Legal.{Going, ready, after, Leads, EndsAs, IsRight, RunsAreRight}
 use Rattle.cmh_run.proofs.Tally.{tally_from_contains, no_repeat}
@@ -101,7 +101,7 @@ right_at g i restarts AtRest end ok s e one =
     record { declared = λ q. absurd (cc); free = λ q. at_rest g i end.config ok h.0 e.1 h.1; engaged = λ q. absurd (cc); begins = λ q. absurd (cc); once = λ q. absurd (cc); last_delivered = λ q. absurd (cc); all_delivered = λ none q. absurd (cc) }
 right_at g i restarts (CutFree k) end ok s e one =
     let h : Status g i end.config.number (proc_at end.config.procs) end.config.bag end.config.engaged (Some (CutFree k)) = subst (λ (o : Option Ending). Status g i end.config.number (proc_at end.config.procs) end.config.bag end.config.engaged o) e s.status in
-    record { declared = λ q. absurd (cc); free = λ q. h; engaged = λ q. absurd (cc); begins = λ q. absurd (cc); once = λ q. absurd (cc); last_delivered = λ q. absurd (cc); all_delivered = λ none q. absurd (cc) }
+    record { declared = λ q. absurd (cc); free = λ q dead. h.free (reached_deadlocked g i k h.reached dead); engaged = λ q. absurd (cc); begins = λ q. absurd (cc); once = λ q. absurd (cc); last_delivered = λ q. absurd (cc); all_delivered = λ none q. absurd (cc) }
 
 -- nothing is never an ending
 no_ending : {e : Ending} → None ≡ Some e → ⊥

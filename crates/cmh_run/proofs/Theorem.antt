@@ -15,9 +15,9 @@ use Rattle.cmh_run.specs.declared.delivery.Ending.{Ending}
 use Rattle.cmh_run.specs.declared.delivery.Ending.TheVariants.{Declared, AtRest, CutFree}
 use Rattle.cmh_process.specs.Process.{fresh, proc_started, start_action, proc_engaged, engage_action, last_action, engages, proc_queried, query_action, counts, proc_replied, reply_action}
 use Rattle.cmh_graph.specs.Graph.{Graph, process_count, dependents_of, is_awake, Depends, IsWithinGraph}
+use Rattle.cmh_graph.specs.Path.{Reaches}
 use Rattle.cmh_graph.specs.Verdict.{IsDeadlocked}
 use Rattle.cmh_graph.proofs.Verdicts.{asleep_is_idle}
-use Rattle.cmh_run.proofs.Paths.{reached_deadlocked}
 use Rattle.cmh_run.specs.Config.{Config, reply, proc_at, sent, ended_by, acted, engaged_by, hinted, received, without, delivered, start, nothing_yet}
 use Rattle.cmh_run.specs.Legal.{HintIsFit, Going, restarted_at, ready, after, Leads}
 use Rattle.cmh_run.proofs.Tally.{tally, tally-le-length, tally_from_contains, contains_from_tally}
@@ -31,12 +31,33 @@ pub by_test : (b : Bool) (M : Bool → Type 0) → (b ≡ true → M true) → (
 by_test true M f g = f refl
 by_test false M f g = g refl
 
+-- who is engaged in the newest computation, and what is true of whoever has heard of any
+pub record Party (g : Graph) (i n : ℕ) (F : ℕ → Proc) (engaged : List ℕ) : Type 0 where
+  pub positive : 0 < n
+  pub engaged_in : (k : ℕ) → 0 < tally k engaged → (F k).latest ≡ n
+  pub once : (k : ℕ) → tally k engaged ≤ 1
+  pub begins : slice_get engaged 0 ≡ Some i
+  pub rests : (k : ℕ) → 0 < (F k).latest → is_awake g k ≡ false
+  pub reached : (k : ℕ) → 0 < (F k).latest → Reaches g i k
+
+-- the run was cut at k, which was about to engage
+pub record CutAt (g : Graph) (i n : ℕ) (F : ℕ → Proc) (engaged : List ℕ) (k : ℕ) : Type 0 where
+  pub party : Party g i n F engaged
+  pub before : (F k).latest < n
+  pub free : ¬ (IsDeadlocked g k)
+  pub rests : is_awake g k ≡ false
+  pub reached : Reaches g i k
+
+-- what stays true of a run tells who is engaged
+pub party_of : (g : Graph) (i n : ℕ) (F : ℕ → Proc) (bag : List Message) (engaged : List ℕ) → Live g i n F bag engaged → Party g i n F engaged
+party_of g i n F bag engaged L = record { positive = L.sound.positive; engaged_in = L.engaged_in; once = L.once; begins = L.begins; rests = L.sound.rests; reached = L.sound.reached }
+
 -- what is true of a configuration, by how the run ended
 abbrev pub Status : Graph → ℕ → ℕ → (ℕ → Proc) → List Message → List ℕ → Option Ending → Type 0
 Status g i n F bag engaged None = Live g i n F bag engaged × (0 < (F i).num)
 Status g i n F bag engaged (Some Declared) = Live g i n F bag engaged × ((F i).num ≡ 0)
 Status g i n F bag engaged (Some AtRest) = ⊥
-Status g i n F bag engaged (Some (CutFree k)) = ¬ (IsDeadlocked g i)
+Status g i n F bag engaged (Some (CutFree k)) = CutAt g i n F engaged k
 
 pub record Stands (g : Graph) (i : ℕ) (c : Config) : Type 0 where
   pub size : length c.procs ≡ process_count g
@@ -182,7 +203,16 @@ module _ (g : Graph) (i : ℕ) (c : Config) (ok : IsWithinGraph g) (size : lengt
   asked : m.kind ≡ Query → engages (proc_at c.procs m.to) m.number ≡ true → is_awake g m.to ≡ false → (hint : Option Verdict) → HintIsFit g c m hint → Stands g i (hinted g i (without c x) m hint)
   asked kind new rests None fit = engaging (dependents_of g m.to) kind new rests (λ r h. (asleep_is_idle g m.to rests, contains_from_tally r (dependents_of g m.to) h)) (λ r. omega arith) (inr (λ r h. tally_from_contains r (dependents_of g m.to) h))
   asked kind new rests (Some Deadlocked) fit = engaging [] kind new rests (λ r h. absurd (omega arith)) (λ r. omega arith) (inl fit.1)
-  asked kind new rests (Some Free) fit = record { size = size; status = λ dead. fit.1 (reached_deadlocked g i m.to (fine_m.asked kind).1 dead) }
+  asked kind new rests (Some Free) fit = record {
+    size = size;
+    status = record {
+      party = party_of g i c.number (proc_at c.procs) c.bag c.engaged L;
+      before = omega (arith, fine_m.low, ltb-true (proc_at c.procs m.to).latest m.number new);
+      free = fit.1;
+      rests = rests;
+      reached = (fine_m.asked kind).1;
+    };
+  }
 
   -- what m does to a receiver that isn't awake, with a fit hint, keeps it true
   receiving : is_awake g m.to ≡ false → (k : Kind) → m.kind ≡ k → (hint : Option Verdict) → HintIsFit g c m hint → Stands g i (received g i (without c x) m k hint)

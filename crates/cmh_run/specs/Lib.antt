@@ -2,6 +2,7 @@ pub mod Audit
 pub mod Check
 pub mod Choices
 pub mod Config
+pub mod Engaged
 pub mod Follow
 pub mod Hints
 pub mod Last

@@ -83,6 +83,16 @@ pub record IsRunOf (g : Graph) (choices restarts : List ℕ) (r : Run) : Type 0 
   pub engaged : r.engaged ≡ end.config.engaged
   pub restarted : r.restarted ≡ end.restarted
 
+-- what is kept of the run of an awake initiator, which starts nothing
+abbrev pub empty_run_of : ℕ → Run
+empty_run_of i = record {
+  initiator = i;
+  log = [];
+  ending = AtRest;
+  engaged = [];
+  restarted = 0;
+}
+
 -- how a run that is over, or has nothing left to deliver, has ended
 abbrev pub ending_of : Option Ending → Ending
 ending_of None = AtRest

@@ -15,7 +15,7 @@ use crate::undelivered::Undelivered;
 use crate::{CheckFault, Delivery, Ending};
 use cmh_graph::{Verdict, WaitGraph};
 use cmh_process::Message;
-use std::alloc::Global;
+use std::alloc::{AllocError, Global};
 use std::marker::Model;
 
 /// The run that the deliveries of a log make. Its bag is kept as a set, so that a message is found
@@ -40,12 +40,11 @@ impl Auditor {
         alloc: Global,
         graph: &WaitGraph,
         initiator: u32,
-    ) -> Result<Auditor, CheckFault>
+    ) -> Result<Auditor, AllocError>
         requires graph { IsWellFormed graph.now }
         requires within { initiator < process_count graph.now }
         requires idle { IsTrue (is_idle graph.now initiator) }
         ensures ok { IfOk result (IsAudited graph.now initiator []) }
-        ensures memory { IfErr result (λ e. e ≡ CheckFault.Memory) }
     {
         let mut auditor = Auditor {
             network: Network::begun(alloc, graph, initiator)?,
@@ -101,7 +100,8 @@ impl Auditor {
         }
         self.network
             .deliver(graph, initiator, delivery.message, delivery.hint)?;
-        self.settle()
+        self.settle()?;
+        Ok(())
     }
 
     /// Takes the message out of the undelivered ones, if it is among them.
@@ -130,11 +130,10 @@ impl Auditor {
     }
 
     /// Puts what was just sent to the other undelivered messages.
-    fn settle(&mut self) -> Result<(), CheckFault>
+    fn settle(&mut self) -> Result<(), AllocError>
         ensures settled { OnOk result (IsSettled self.new) }
         ensures ok { OnOk result ((g : Graph) (i : ℕ) (log : List Delivery) (s : Going)
             → Agrees g i log s self.old → Agrees g i log s self.new) }
-        ensures memory { IfErr result (λ e. e ≡ CheckFault.Memory) }
     {
         while let Some(message) = self.network.take(0) {
             self.undelivered.add(message)?;

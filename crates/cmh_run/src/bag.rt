@@ -1,15 +1,20 @@
 //! The undelivered messages.
 
 ghost use Rattle.std.specs.Prelude.{◌≡◌, ◌<◌, ◌↔◌, ◌%◌, ◌++◌, [], ◌∷◌, Some, length, remove, slice_get, IsNone, IsSome, IfSome, IfNone, IfErr, IsTrue, OnOk, OnErr};
+ghost use Rattle.std.specs.Cmp.Lexicographic.{pointwise};
+ghost use Rattle.std.specs.Cmp.Rules.{comparing};
+ghost use Rattle.std.proofs.Common.{rules};
+ghost use Rattle.cmh_process.specs.contracts.message.MessageEq.TheImpl.Laws as message_laws;
+ghost use Rattle.cmh_process.specs.contracts.message.MessagePartialEq.TheImpl as message;
 
 use crate::RunFault;
 use cmh_process::Message;
-use std::alloc::Global;
+use std::alloc::{AllocError, Global};
 use std::collections::VecDeque;
 use std::marker::Model;
 
 /// The undelivered messages, in the order in which they were sent.
-#[derive(Drop)]
+#[derive(Clone, Debug, Drop)]
 pub struct Bag {
     messages: VecDeque<Message>,
 }
@@ -58,6 +63,15 @@ impl Bag {
         ensures err { OnErr result (self.new ≡ self.old) }
         ensures memory { IfErr result (λ e. e ≡ RunFault.Memory) }
     {
+        self.add(message)?;
+        Ok(())
+    }
+
+    /// `push`, for a caller that has a fault of its own.
+    pub(crate) fn add(&mut self, message: Message) -> Result<(), AllocError>
+        ensures ok { OnOk result (self.new ≡ self.old ++ message ∷ []) }
+        ensures err { OnErr result (self.new ≡ self.old) }
+    {
         self.messages.push_back(message)?;
         Ok(())
     }
@@ -78,4 +92,18 @@ impl Bag {
         let place = choice % self.messages.len() as u64;
         self.messages.remove(place as usize)
     }
+}
+
+impl PartialEq for Bag {
+    ghost eq = { pointwise message.ghosts.eq };
+
+    ghost laws = { Prim.search (comparing, rules, message_laws.laws-law) };
+
+    fn eq(&self, other: &Bag) -> bool {
+        self.messages == other.messages
+    }
+}
+
+impl Eq for Bag {
+    ghost laws = { Prim.search (comparing, rules, message_laws.laws-law) };
 }

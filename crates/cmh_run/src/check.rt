@@ -6,6 +6,7 @@ ghost use Rattle.cmh_run.specs.declared.delivery.Ending.TheVariants.{Declared};
 ghost use Rattle.cmh_run.specs.Check.{IsLegalRun, IsFirstFault};
 
 use crate::auditor::Auditor;
+use crate::truth::truth_of;
 use crate::{CheckFault, Delivery, Ending};
 use cmh_graph::WaitGraph;
 use std::alloc::Global;
@@ -32,7 +33,7 @@ pub fn check_run(
     if initiator >= graph.len() || !graph.is_idle(initiator) {
         return Err(CheckFault::NotIdle);
     }
-    let truth = graph.verdicts_plain(alloc)?;
+    let truth = truth_of(alloc, graph)?;
     let mut auditor = Auditor::begin(alloc, graph, initiator)?;
     for (t, delivery) in log.iter().enumerate() {
         auditor.deliver(graph, initiator, &truth, t, *delivery)?;

@@ -4,14 +4,14 @@ use cmh_graph::Verdict;
 use cmh_process::Message;
 
 /// A message that was delivered, and what was known of its receiver just before, if it was asked.
-#[derive(Clone, Copy, Debug, PartialEq, Eq)]
+#[derive(Clone, Copy, PartialEq, Eq, Hash, Debug)]
 pub struct Delivery {
     pub message: Message,
     pub hint: Option<Verdict>,
 }
 
 /// How a run ended.
-#[derive(Clone, Copy, Debug, PartialEq, Eq)]
+#[derive(Clone, Copy, PartialEq, Eq, Hash, Debug)]
 pub enum Ending {
     /// The initiator has all its replies: it is deadlocked.
     Declared,

@@ -5,7 +5,6 @@ ghost use Rattle.cmh_run.specs.declared.fault.RunFault.TheVariants.{Memory};
 ghost use Rattle.cmh_run.specs.declared.fault.ScriptFault.TheVariants as script;
 ghost use Rattle.cmh_run.specs.declared.fault.CheckFault.TheVariants as check;
 
-use cmh_graph::GraphFault;
 use std::alloc::{AllocError, AllocFailed};
 use std::error::Error;
 use std::fmt;
@@ -88,15 +87,6 @@ impl From<AllocError> for ScriptFault {
     }
 }
 
-impl From<GraphFault> for ScriptFault {
-    ghost from_gives = { λ _ e. e ≡ script.Memory };
-
-    /// A question to a graph fails by the want of memory alone.
-    fn from(_e: GraphFault) -> ScriptFault {
-        ScriptFault::Memory
-    }
-}
-
 /// The first thing that is wrong with a log, a delivery by its place in it.
 #[derive(Clone, Copy, PartialEq, Eq, Hash, Debug)]
 pub enum CheckFault {
@@ -134,28 +124,10 @@ impl fmt::Display for CheckFault {
 
 impl Error for CheckFault {}
 
-impl<T: Drop> From<AllocFailed<T>> for CheckFault {
+impl From<AllocError> for CheckFault {
     ghost from_gives = { λ _ e. e ≡ check.Memory };
 
-    fn from(_e: AllocFailed<T>) -> CheckFault {
-        CheckFault::Memory
-    }
-}
-
-impl From<GraphFault> for CheckFault {
-    ghost from_gives = { λ _ e. e ≡ check.Memory };
-
-    /// A question to a graph fails by the want of memory alone.
-    fn from(_e: GraphFault) -> CheckFault {
-        CheckFault::Memory
-    }
-}
-
-impl From<RunFault> for CheckFault {
-    ghost from_gives = { λ _ e. e ≡ check.Memory };
-
-    /// A step of a run fails by the want of memory alone.
-    fn from(_e: RunFault) -> CheckFault {
+    fn from(_e: AllocError) -> CheckFault {
         CheckFault::Memory
     }
 }

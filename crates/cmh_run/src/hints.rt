@@ -37,7 +37,7 @@ pub trait Hints {
 }
 
 /// Never answers, and speaks of every graph.
-#[derive(Clone, Copy, Debug, Drop)]
+#[derive(Clone, Copy, PartialEq, Eq, Hash, Debug, Drop)]
 pub struct NoHints;
 
 impl Hints for NoHints {

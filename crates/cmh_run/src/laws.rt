@@ -3,6 +3,7 @@
 
 ghost use Rattle.cmh_run.specs.Check.{LogsHaveOneAnswer};
 ghost use Rattle.cmh_run.specs.Choices.{ChoicesDecide};
+ghost use Rattle.cmh_run.specs.Engaged.{WhoEngages, AwakeOnesStartNothing};
 ghost use Rattle.cmh_run.specs.Last.{LastComputationIsARun};
 ghost use Rattle.cmh_run.specs.Legal.{RunsAreRight, RunsAreShort};
 ghost use Rattle.cmh_run.specs.Run.{OneRun};
@@ -12,6 +13,20 @@ ghost use Rattle.cmh_run.specs.Run.{OneRun};
 #[tactic(auto, using(crate::proofs::Right::runs_are_right))]
 pub fn law_runs_are_right()
     ensures { RunsAreRight }
+{}
+
+/// Whatever the ending, the initiator engaged first, unless it is awake, and nobody twice; the
+/// initiator reaches whoever engaged, and none of them is awake. A run is cut at a free process
+/// that did not engage.
+pub fn law_who_engages()
+    ensures { WhoEngages }
+{}
+
+/// An awake initiator has the empty run: it comes to rest at once, with nobody engaged, and doesn't
+/// start again.
+#[tactic(auto, using(crate::proofs::Engaging::awake_ones_start_nothing))]
+pub fn law_awake_ones_start_nothing()
+    ensures { AwakeOnesStartNothing }
 {}
 
 /// A run has at most two deliveries for each dependency and start.

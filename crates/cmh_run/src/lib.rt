@@ -9,7 +9,7 @@ mod check;
 mod delivery;
 mod fault;
 mod hints;
-mod laws;
+pub mod laws;
 mod log;
 mod network;
 mod progress;
@@ -18,6 +18,7 @@ mod scripted;
 mod send;
 #[cfg(test)]
 mod tests;
+mod truth;
 mod undelivered;
 
 pub use bag::Bag;
@@ -25,10 +26,6 @@ pub use check::check_run;
 pub use delivery::{Delivery, Ending};
 pub use fault::{CheckFault, RunFault, ScriptFault};
 pub use hints::{Hints, NoHints};
-pub use laws::{
-    law_choices_decide, law_last_computation_is_a_run, law_logs_have_one_answer, law_one_run,
-    law_runs_are_right, law_runs_are_short,
-};
 pub use log::RunLog;
 pub use runs::{run, run_again};
 pub use scripted::Scripted;

@@ -1,6 +1,14 @@
 //! What is kept of a run that has ended.
 
-ghost use Rattle.std.specs.Prelude.{◌≡◌};
+ghost use Rattle.std.specs.Prelude.{◌≡◌, ◌==◌};
+ghost use Rattle.std.specs.Cmp.Lexicographic.{pointwise};
+ghost use Rattle.std.specs.Cmp.Rules.{comparing};
+ghost use Rattle.std.specs.Ordering.{on, eq_of_both};
+ghost use Rattle.std.proofs.Common.{rules};
+ghost use Rattle.cmh_run.specs.contracts.delivery.DeliveryPartialEq.TheImpl as delivery;
+ghost use Rattle.cmh_run.specs.contracts.delivery.DeliveryEq.TheImpl.Laws as delivery_laws;
+ghost use Rattle.cmh_run.specs.contracts.delivery.EndingPartialEq.TheImpl as ending;
+ghost use Rattle.cmh_run.specs.contracts.delivery.EndingEq.TheImpl.Laws as ending_laws;
 ghost use Rattle.cmh_run.specs.Run.{verdict_of};
 
 use crate::{Delivery, Ending};
@@ -8,7 +16,7 @@ use cmh_graph::Verdict;
 use std::marker::Model;
 
 /// A run that has ended.
-#[derive(Drop)]
+#[derive(Clone, Debug, Drop)]
 pub struct RunLog {
     pub(crate) initiator: u32,
     pub(crate) log: Vec<Delivery>,
@@ -51,7 +59,8 @@ impl RunLog {
         self.ending
     }
 
-    /// Who engaged in the computation of the last start, in order: the initiator first.
+    /// Who engaged in the computation of the last start, in order: nobody where the initiator is
+    /// awake, else the initiator first.
     pub fn engaged(&self) -> &[u32]
         ensures { result.now ≡ self.now.engaged }
     {
@@ -74,4 +83,25 @@ impl RunLog {
             Ending::AtRest | Ending::CutFree(_) => Verdict::Free,
         }
     }
+}
+
+impl PartialEq for RunLog {
+    ghost eq = { eq_of_both (on (λ r. r.initiator) ◌==◌)
+        (eq_of_both (on (λ r. r.log) (pointwise delivery.ghosts.eq))
+        (eq_of_both (on (λ r. r.ending) ending.ghosts.eq)
+        (eq_of_both (on (λ r. r.engaged) (pointwise ◌==◌)) (on (λ r. r.restarted) ◌==◌)))) };
+
+    ghost laws = { Prim.search (comparing, rules, delivery_laws.laws-law, ending_laws.laws-law) depth 9 };
+
+    fn eq(&self, other: &RunLog) -> bool {
+        self.initiator == other.initiator
+            && self.log == other.log
+            && self.ending == other.ending
+            && self.engaged == other.engaged
+            && self.restarted == other.restarted
+    }
+}
+
+impl Eq for RunLog {
+    ghost laws = { Prim.search (comparing, rules, delivery_laws.laws-law, ending_laws.laws-law) depth 9 };
 }

@@ -1,16 +1,16 @@
 //! One configuration of an initiator's computations, and its steps.
 
-ghost use Rattle.std.specs.Prelude.{◌≡◌, ◌+◌, ◌<◌, ◌^◌, ◌%◌, ◌↔◌, [], None, Some, length, slice_get, IfOk, IfSome, IfNone, IsNone, IsFalse, IfErr, OnOk, if◌then◌else◌};
+ghost use Rattle.std.specs.Prelude.{◌≡◌, ◌+◌, ◌<◌, ◌^◌, ◌%◌, ◌↔◌, [], None, Some, length, slice_get, IfOk, IfSome, IfNone, IsNone, IsFalse, OnOk, if◌then◌else◌};
 ghost use Rattle.cmh_graph.specs.Graph.{process_count, is_awake};
 ghost use Rattle.cmh_graph.specs.Build.{IsWellFormed};
 ghost use Rattle.cmh_run.specs.Legal.{begun};
 ghost use Rattle.cmh_run.specs.Config.{proc_at, nothing_yet, start, does, engaged_by, answered, replied, received, asks, without};
 
 use crate::send::Sender;
-use crate::{Bag, Ending, RunFault};
+use crate::{Bag, Ending};
 use cmh_graph::{Verdict, WaitGraph};
 use cmh_process::{Action, Kind, Message, Proc};
-use std::alloc::Global;
+use std::alloc::{AllocError, Global};
 use std::marker::Model;
 
 /// The undelivered messages and the processes of one initiator's computations.
@@ -39,9 +39,8 @@ impl Model for Network {
 
 impl Network {
     /// Nobody has heard of anything.
-    pub(crate) fn nothing_yet(alloc: Global, graph: &WaitGraph) -> Result<Network, RunFault>
+    pub(crate) fn nothing_yet(alloc: Global, graph: &WaitGraph) -> Result<Network, AllocError>
         ensures ok { IfOk result (λ n. n ≡ nothing_yet graph.now) }
-        ensures memory { IfErr result (λ e. e ≡ RunFault.Memory) }
     {
         Ok(Network {
             bag: Bag::new(alloc),
@@ -57,11 +56,10 @@ impl Network {
         alloc: Global,
         graph: &WaitGraph,
         initiator: u32,
-    ) -> Result<Network, RunFault>
+    ) -> Result<Network, AllocError>
         requires graph { IsWellFormed graph.now }
         requires within { initiator < process_count graph.now }
         ensures ok { IfOk result (λ n. n ≡ (begun graph.now initiator []).config) }
-        ensures memory { IfErr result (λ e. e ≡ RunFault.Memory) }
     {
         let mut network = Network::nothing_yet(alloc, graph)?;
         if !graph.is_awake(initiator) {
@@ -71,14 +69,13 @@ impl Network {
     }
 
     /// The initiator starts with its next number.
-    pub(crate) fn start(&mut self, graph: &WaitGraph, initiator: u32) -> Result<(), RunFault>
+    pub(crate) fn start(&mut self, graph: &WaitGraph, initiator: u32) -> Result<(), AllocError>
         requires graph { IsWellFormed graph.now }
         requires size { length self.old.procs ≡ process_count graph.now }
         requires within { initiator < process_count graph.now }
         requires next { (proc_at self.old.procs initiator).latest + 1 < 2 ^ 32 }
         requires going { self.old.ended ≡ None }
         ensures ok { OnOk result (self.new ≡ start graph.now initiator self.old) }
-        ensures memory { IfErr result (λ e. e ≡ RunFault.Memory) }
     {
         let dependents = graph.dependents(initiator);
         let proc = &mut self.procs[initiator as usize];
@@ -103,7 +100,7 @@ impl Network {
     {
         message.kind == Kind::Query
             && !graph.is_awake(message.to)
-            && self.procs[message.to as usize].latest < message.number
+            && self.procs[message.to as usize].is_engaged_by(message.number)
     }
 
     /// Whether a declaration or a hint has ended the run.
@@ -137,7 +134,7 @@ impl Network {
         initiator: u32,
         message: Message,
         hint: Option<Verdict>,
-    ) -> Result<(), RunFault>
+    ) -> Result<(), AllocError>
         requires graph { IsWellFormed graph.now }
         requires size { length self.old.procs ≡ process_count graph.now }
         requires within { message.to < process_count graph.now }
@@ -145,7 +142,6 @@ impl Network {
         ensures ok { OnOk result (self.new ≡ (if is_awake graph.now message.to
             then self.old
             else received graph.now initiator self.old message message.kind hint)) }
-        ensures memory { IfErr result (λ e. e ≡ RunFault.Memory) }
     {
         if graph.is_awake(message.to) {
             return Ok(());
@@ -170,16 +166,15 @@ impl Network {
         initiator: u32,
         message: Message,
         hint: Option<Verdict>,
-    ) -> Result<(), RunFault>
+    ) -> Result<(), AllocError>
         requires graph { IsWellFormed graph.now }
         requires size { length self.old.procs ≡ process_count graph.now }
         requires within { message.to < process_count graph.now }
         requires going { self.old.ended ≡ None }
         ensures ok { OnOk result (self.new ≡
             received graph.now initiator self.old message Kind.Query hint) }
-        ensures memory { IfErr result (λ e. e ≡ RunFault.Memory) }
     {
-        if self.procs[message.to as usize].latest >= message.number {
+        if !self.procs[message.to as usize].is_engaged_by(message.number) {
             return self.answer(initiator, message);
         }
         match hint {
@@ -198,12 +193,11 @@ impl Network {
         initiator: u32,
         message: Message,
         dependents: &[u32],
-    ) -> Result<(), RunFault>
+    ) -> Result<(), AllocError>
         requires within { message.to < length self.old.procs }
         requires few { length dependents.now < 2 ^ 32 }
         requires going { self.old.ended ≡ None }
         ensures ok { OnOk result (self.new ≡ engaged_by initiator self.old message dependents.now) }
-        ensures memory { IfErr result (λ e. e ≡ RunFault.Memory) }
     {
         let proc = &mut self.procs[message.to as usize];
         let action = proc.on_query(message.number, message.from, dependents.len() as u32);
@@ -213,34 +207,31 @@ impl Network {
         self.act(Sender::answering(initiator, message), dependents, action)
     }
 
-    /// A query engages nobody.
-    fn answer(&mut self, initiator: u32, message: Message) -> Result<(), RunFault>
+    /// A query engages nobody. So it isn't read how many dependents the receiver has.
+    fn answer(&mut self, initiator: u32, message: Message) -> Result<(), AllocError>
         requires within { message.to < length self.old.procs }
         requires going { self.old.ended ≡ None }
         ensures ok { OnOk result (self.new ≡ answered initiator self.old message) }
-        ensures memory { IfErr result (λ e. e ≡ RunFault.Memory) }
     {
         let proc = &mut self.procs[message.to as usize];
         let action = proc.on_query(message.number, message.from, 0);
         self.act(Sender::answering(initiator, message), &[], action)
     }
 
-    fn reply(&mut self, initiator: u32, message: Message) -> Result<(), RunFault>
+    fn reply(&mut self, initiator: u32, message: Message) -> Result<(), AllocError>
         requires within { message.to < length self.old.procs }
         requires going { self.old.ended ≡ None }
         ensures ok { OnOk result (self.new ≡ replied initiator self.old message) }
-        ensures memory { IfErr result (λ e. e ≡ RunFault.Memory) }
     {
         let action = self.procs[message.to as usize].on_reply(message.number);
         self.act(Sender::answering(initiator, message), &[], action)
     }
 
     /// A process sends, or it ends the run.
-    fn act(&mut self, sender: Sender, dependents: &[u32], action: Action) -> Result<(), RunFault>
+    fn act(&mut self, sender: Sender, dependents: &[u32], action: Action) -> Result<(), AllocError>
         requires { self.old.ended ≡ None }
         ensures ok { OnOk result (self.new ≡
             does sender.initiator self.old sender.number sender.from dependents.now action) }
-        ensures memory { IfErr result (λ e. e ≡ RunFault.Memory) }
     {
         if action == Action::Declare {
             self.ended = Some(Ending::Declared);

@@ -1,6 +1,6 @@
 //! A run on its way.
 
-ghost use Rattle.std.specs.Prelude.{◌≡◌, ◌+◌, ◌<◌, ◌^◌, ◌%◌, ◌↔◌, [], ◌∷◌, ◌++◌, None, Some, length, slice_get, slice_index, IfOk, IfSome, IfNone, IfErr, OnOk};
+ghost use Rattle.std.specs.Prelude.{◌≡◌, ◌+◌, ◌<◌, ◌^◌, ◌%◌, ◌↔◌, [], ◌∷◌, ◌++◌, None, Some, length, slice_get, slice_index, IfOk, IfSome, IfNone, OnOk};
 ghost use Rattle.cmh_graph.specs.Graph.{process_count};
 ghost use Rattle.cmh_graph.specs.Build.{IsWellFormed};
 ghost use Rattle.cmh_run.specs.Config.{proc_at, asks};
@@ -8,10 +8,10 @@ ghost use Rattle.cmh_run.specs.Legal.{begun, ready, HintIsFit};
 ghost use Rattle.cmh_run.specs.Run.{MayStart, IsTakenBy, delivered_to, ending_of};
 
 use crate::network::Network;
-use crate::{Delivery, Ending, Hints, RunFault, RunLog};
+use crate::{Delivery, Ending, Hints, RunLog};
 use cmh_graph::{Verdict, WaitGraph};
 use cmh_process::Message;
-use std::alloc::Global;
+use std::alloc::{AllocError, Global};
 use std::marker::Model;
 
 /// A run on its way, with the deliveries that were made and the restarts that are still to come.
@@ -47,12 +47,11 @@ impl<'a> Progress<'a> {
         graph: &WaitGraph,
         initiator: u32,
         restarts: &'a [u32],
-    ) -> Result<Progress<'a>, RunFault>
+    ) -> Result<Progress<'a>, AllocError>
         requires graph { IsWellFormed graph.now }
         requires within { initiator < process_count graph.now }
         ensures ok { IfOk result (λ p.
             p ≡ record { going = begun graph.now initiator restarts.now; log = [] }) }
-        ensures memory { IfErr result (λ e. e ≡ RunFault.Memory) }
     {
         let is_awake = graph.is_awake(initiator);
         let mut network = Network::nothing_yet(alloc, graph)?;
@@ -72,7 +71,7 @@ impl<'a> Progress<'a> {
         &mut self,
         graph: &WaitGraph,
         initiator: u32,
-    ) -> Result<(), RunFault>
+    ) -> Result<(), AllocError>
         requires graph { IsWellFormed graph.now }
         requires may { self.old.going.config.ended ≡ None
             → MayStart graph.now initiator self.old.going }
@@ -80,7 +79,6 @@ impl<'a> Progress<'a> {
           going = ready graph.now initiator self.old.going;
           log = self.old.log;
         }) }
-        ensures memory { IfErr result (λ e. e ≡ RunFault.Memory) }
     {
         if self.network.has_ended() {
             return Ok(());
@@ -135,13 +133,12 @@ impl<'a> Progress<'a> {
         graph: &WaitGraph,
         initiator: u32,
         delivery: Delivery,
-    ) -> Result<(), RunFault>
+    ) -> Result<(), AllocError>
         requires graph { IsWellFormed graph.now }
         requires size { length self.old.going.config.procs ≡ process_count graph.now }
         requires within { delivery.message.to < process_count graph.now }
         requires going { self.old.going.config.ended ≡ None }
         ensures ok { OnOk result (self.new ≡ delivered_to graph.now initiator self.old delivery) }
-        ensures memory { IfErr result (λ e. e ≡ RunFault.Memory) }
     {
         self.network
             .deliver(graph, initiator, delivery.message, delivery.hint)?;

@@ -1,22 +1,27 @@
 //! Runs of one initiator.
 
 ghost use Rattle.std.specs.Prelude.{◌≡◌, ◌⊎◌, [], None, ◌+◌, ◌*◌, ◌<◌, ◌≤◌, ◌↔◌, length, IfOk, IfErr, IsTrue};
-ghost use Rattle.cmh_graph.specs.Graph.{process_count, is_idle, dependency_count};
+ghost use Rattle.cmh_graph.specs.Graph.{process_count, is_idle, is_awake, dependency_count};
 ghost use Rattle.cmh_graph.specs.Build.{IsWellFormed};
 ghost use Rattle.cmh_run.specs.Choices.{HasNoHints};
-ghost use Rattle.cmh_run.specs.Run.{IsRising, IsAccepted, IsFirstFault, IsRunOf, TellsTruth};
+ghost use Rattle.cmh_run.specs.Engaged.{AreEngaged};
+ghost use Rattle.cmh_run.specs.Run.{IsRising, IsAccepted, IsFirstFault, IsRunOf, TellsTruth, empty_run_of};
 
 use crate::progress::Progress;
 use crate::{Delivery, Hints, MAX_CHOICES, MAX_RESTARTS, RunFault, RunLog};
 use cmh_graph::WaitGraph;
-use std::alloc::Global;
+use std::alloc::{AllocError, Global};
 
 /// Runs the computations of an idle initiator, which starts again after each of these numbers of
 /// deliveries, if the run gets that far.
 ///
 /// Delivery `t` takes the undelivered message at place `choices[t]`, modulo how many there are;
 /// past the last choice it takes the first. The hints are asked just before a query would engage an
-/// idle process. A delivery takes constant time at choice 0, its hint apart.
+/// idle process. An awake initiator starts nothing: its run is empty, and it doesn't start again.
+///
+/// Each message that is taken or sent takes constant time at choice 0, and at most time linear in
+/// the undelivered ones at any other choice, hints apart. A process that engages sends a query to
+/// each of its dependents.
 pub fn run_again<H: Hints>(
     alloc: Global,
     graph: &WaitGraph,
@@ -32,15 +37,20 @@ pub fn run_again<H: Hints>(
         ⊎ IsFirstFault graph.now initiator choices.now restarts.now e) }
     ensures initiator { IfOk result (λ r. r.initiator ≡ initiator) }
     ensures legal { IfOk result (IsRunOf graph.now choices.now restarts.now) }
+    ensures restarted { IfOk result (λ r. r.restarted ≤ length restarts.now) }
     ensures true_verdict { IfOk result (TellsTruth graph.now) }
+    ensures engaged { IfOk result (λ r. AreEngaged graph.now initiator r.ending r.engaged) }
+    ensures awake { IsTrue (is_awake graph.now initiator)
+        → IfOk result (λ r. r ≡ empty_run_of initiator) }
     ensures silent { H.is_silent hints.old → IfOk result (λ r. HasNoHints r.log) }
     ensures kept { H.keeps hints.old hints.new }
 {
     judge(graph, initiator, choices, restarts)?;
-    follow(alloc, graph, initiator, choices, hints, restarts)
+    Ok(follow(alloc, graph, initiator, choices, hints, restarts)?)
 }
 
-/// Runs one computation of an idle initiator: `run_again` without restarts.
+/// Runs one computation of an idle initiator: `run_again` without restarts. It delivers at most two
+/// messages for each dependency of the graph.
 pub fn run<H: Hints>(
     alloc: Global,
     graph: &WaitGraph,
@@ -54,7 +64,12 @@ pub fn run<H: Hints>(
         ⊎ IsFirstFault graph.now initiator choices.now [] e) }
     ensures initiator { IfOk result (λ r. r.initiator ≡ initiator) }
     ensures legal { IfOk result (IsRunOf graph.now choices.now []) }
+    ensures once { IfOk result (λ r. r.restarted ≡ 0) }
+    ensures short { IfOk result (λ r. length r.log ≤ 2 * dependency_count graph.now) }
     ensures true_verdict { IfOk result (TellsTruth graph.now) }
+    ensures engaged { IfOk result (λ r. AreEngaged graph.now initiator r.ending r.engaged) }
+    ensures awake { IsTrue (is_awake graph.now initiator)
+        → IfOk result (λ r. r ≡ empty_run_of initiator) }
     ensures silent { H.is_silent hints.old → IfOk result (λ r. HasNoHints r.log) }
     ensures kept { H.keeps hints.old hints.new }
 {
@@ -104,15 +119,18 @@ fn follow<H: Hints>(
     choices: &[u64],
     hints: &mut H,
     restarts: &[u32],
-) -> Result<RunLog, RunFault>
+) -> Result<RunLog, AllocError>
     requires graph { IsWellFormed graph.now }
     requires speaks { H.speaks_of hints.old graph.now }
     requires idle { IsTrue (is_idle graph.now initiator) }
     requires few { length restarts.now ≤ MAX_RESTARTS }
-    ensures memory { IfErr result (λ e. e ≡ RunFault.Memory) }
     ensures initiator { IfOk result (λ r. r.initiator ≡ initiator) }
     ensures legal { IfOk result (IsRunOf graph.now choices.now restarts.now) }
+    ensures restarted { IfOk result (λ r. r.restarted ≤ length restarts.now) }
     ensures true_verdict { IfOk result (TellsTruth graph.now) }
+    ensures engaged { IfOk result (λ r. AreEngaged graph.now initiator r.ending r.engaged) }
+    ensures awake { IsTrue (is_awake graph.now initiator)
+        → IfOk result (λ r. r ≡ empty_run_of initiator) }
     ensures silent { H.is_silent hints.old → IfOk result (λ r. HasNoHints r.log) }
     ensures kept { H.keeps hints.old hints.new }
 {

@@ -1,19 +1,26 @@
 //! Hints by a script.
 
-ghost use Rattle.std.specs.Prelude.{◌≡◌, ◌⊎◌, ◌<◌, [], None, IfOk, IfErr, IfSome, IfNone, length, refl};
+ghost use Rattle.std.specs.Prelude.{◌==◌, ◌≡◌, ◌⊎◌, ◌<◌, [], None, IfOk, IfErr, IfSome, IfNone, length, refl};
 ghost use Rattle.std.proofs.Common.{◌∙◌};
+ghost use Rattle.std.proofs.Common.{rules};
+ghost use Rattle.std.specs.Cmp.Lexicographic.{pointwise};
+ghost use Rattle.std.specs.Cmp.Rules.{comparing};
+ghost use Rattle.std.specs.Ordering.{on, eq_of_both};
+ghost use Rattle.cmh_graph.specs.contracts.verdict.VerdictEq.TheImpl.Laws as verdict_laws;
+ghost use Rattle.cmh_graph.specs.contracts.verdict.VerdictPartialEq.TheImpl as verdict;
 ghost use Rattle.cmh_graph.specs.Judge.{IsFirst};
 ghost use Rattle.cmh_graph.specs.Graph.{Graph, process_count};
 ghost use Rattle.cmh_run.specs.Hints.{IsVerdict};
 ghost use Rattle.cmh_run.specs.Script.{AreTrueOf, scripts_keep_graphs, scripts_keep_silent, IsOutOfRange, Differs, IsNever, IsFirstFault, told_at, answer_of, after_ask};
 
+use crate::truth::truth_of;
 use crate::{Hints, ScriptFault};
 use cmh_graph::{Verdict, WaitGraph};
 use std::alloc::Global;
 use std::marker::Model;
 
 /// Hints that answer by the number of the ask.
-#[derive(Drop)]
+#[derive(Clone, Debug, Drop)]
 pub struct Scripted {
     entries: Vec<(u32, u32, Verdict)>,
     asked: u32,
@@ -45,7 +52,7 @@ impl Scripted {
         if let Some(i) = first_out_of_range(graph.len(), entries) {
             return Err(ScriptFault::ProcessOutOfRange(i));
         }
-        let truth = graph.verdicts_plain(alloc)?;
+        let truth = truth_of(alloc, graph)?;
         if let Some(i) = first_difference(&truth, entries) {
             return Err(ScriptFault::FalseVerdict(i));
         }
@@ -84,6 +91,23 @@ impl Hints for Scripted {
     ghost keeps_graphs = { scripts_keep_graphs };
 
     ghost keeps_silent = { scripts_keep_silent };
+}
+
+impl PartialEq for Scripted {
+    ghost eq = { eq_of_both (on (λ s. s.entries)
+        (pointwise (eq_of_both (on (λ e. e.0) ◌==◌)
+        (eq_of_both (on (λ e. e.1) ◌==◌) (on (λ e. e.2) verdict.ghosts.eq)))))
+        (on (λ s. s.asked) ◌==◌) };
+
+    ghost laws = { Prim.search (comparing, rules, verdict_laws.laws-law) depth 9 };
+
+    fn eq(&self, other: &Scripted) -> bool {
+        self.entries == other.entries && self.asked == other.asked
+    }
+}
+
+impl Eq for Scripted {
+    ghost laws = { Prim.search (comparing, rules, verdict_laws.laws-law) depth 9 };
 }
 
 /// What the entries tell at that ask of `p`.

@@ -1,10 +1,11 @@
 //! What a process puts into the bag by an action.
 
-ghost use Rattle.std.specs.Prelude.{◌≡◌, ◌++◌, map, ℕ, IfErr, OnOk};
+ghost use Rattle.std.specs.Prelude.{◌≡◌, ◌++◌, map, ℕ, OnOk};
 ghost use Rattle.cmh_run.specs.Config.{query, sent};
 
-use crate::{Bag, RunFault};
+use crate::Bag;
 use cmh_process::{Action, Kind, Message};
+use std::alloc::AllocError;
 
 /// The process that acts, and the computation in which it does.
 #[derive(Clone, Copy)]
@@ -36,26 +37,24 @@ impl Sender {
         bag: &mut Bag,
         dependents: &[u32],
         action: Action,
-    ) -> Result<(), RunFault>
+    ) -> Result<(), AllocError>
         ensures ok { OnOk result (bag.new ≡
             bag.old ++ sent self.initiator self.number self.from dependents.now action) }
-        ensures memory { IfErr result (λ e. e ≡ RunFault.Memory) }
     {
         match action {
             Action::Nothing => Ok(()),
             Action::Engage => self.send_queries(bag, dependents),
-            Action::ReplyTo(to) => bag.push(self.message(Kind::Reply, to)),
+            Action::ReplyTo(to) => bag.add(self.message(Kind::Reply, to)),
             Action::Declare => Ok(()),
         }
     }
 
-    fn send_queries(self, bag: &mut Bag, dependents: &[u32]) -> Result<(), RunFault>
+    fn send_queries(self, bag: &mut Bag, dependents: &[u32]) -> Result<(), AllocError>
         ensures ok { OnOk result (bag.new ≡ bag.old
             ++ map (λ (r : ℕ). query self.initiator self.number self.from r) dependents.now) }
-        ensures memory { IfErr result (λ e. e ≡ RunFault.Memory) }
     {
         for to in dependents {
-            bag.push(self.message(Kind::Query, *to))?;
+            bag.add(self.message(Kind::Query, *to))?;
         }
         Ok(())
     }

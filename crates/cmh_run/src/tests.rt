@@ -1,14 +1,17 @@
 //! Runs and logs from outside, written short: a graph is the dependents of each process, `None` of
 //! an active one; a step is the number, the sender and the receiver of a query or a reply.
 
+mod asked;
 mod bag;
 mod cases;
 mod forged;
 mod hinted;
+mod limits;
 mod memory;
 mod restarts;
 mod runs;
 mod scripted;
+mod surface;
 mod verdicts;
 
 use crate::{Delivery, NoHints, RunFault, RunLog};

@@ -1,12 +1,11 @@
 //! The undelivered messages of one computation, as a set.
 
-ghost use Rattle.std.specs.Prelude.{◌≡◌, ◌↔◌, false, not, ◌&&◌, ◌||◌, IsTrue, IfErr, OnOk};
+ghost use Rattle.std.specs.Prelude.{◌≡◌, ◌↔◌, false, not, ◌&&◌, ◌||◌, IsTrue, OnOk};
 ghost use Rattle.cmh_process.specs.declared.message.Message.{Message};
 ghost use Rattle.cmh_run.specs.Audit.{goes_like, is_waiting};
 
-use crate::CheckFault;
 use cmh_process::{Kind, Message};
-use std::alloc::Global;
+use std::alloc::{AllocError, Global};
 use std::collections::BTreeSet;
 use std::marker::Model;
 
@@ -43,10 +42,9 @@ impl Undelivered {
         self.queries.is_empty() && self.replies.is_empty()
     }
 
-    pub(crate) fn add(&mut self, message: Message) -> Result<(), CheckFault>
+    pub(crate) fn add(&mut self, message: Message) -> Result<(), AllocError>
         ensures ok { OnOk result ((m : Message) →
             is_waiting self.new m ≡ (goes_like message m || is_waiting self.old m)) }
-        ensures memory { IfErr result (λ e. e ≡ CheckFault.Memory) }
     {
         let ends = (message.from, message.to);
         match message.kind {

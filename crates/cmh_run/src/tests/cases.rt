@@ -1,4 +1,5 @@
-//! Small wait graphs with the verdicts that an independent program gave.
+//! Small wait graphs, and which of their processes are deadlocked. Anybody can check a row by hand:
+//! strike out the active ones, then, again and again, whoever waits for one that is struck out.
 
 /// The dependents of each process, `None` of an active one, and whether each is deadlocked.
 pub(super) type Case<'a> = (&'a [Option<&'a [u32]>], &'a [bool]);

@@ -2,13 +2,18 @@
 
 use super::Step::{Query, Reply};
 use super::{CYCLE_AND_FOLLOWER, TWO_IN_A_CYCLE, Waits, graph_of, log_of};
-use crate::{CheckFault, Delivery, Ending, NoHints, RunFault, check_run, run, run_again};
-use cmh_graph::WaitGraph;
+use crate::{
+    Bag, CheckFault, Delivery, Ending, Hints, NoHints, RunFault, ScriptFault, Scripted, check_run,
+    run, run_again,
+};
+use cmh_graph::{Verdict, WaitGraph};
 use std::alloc::Global;
 use std::test::Fail;
 
 /// The most bytes that are left for the call.
 const ROOM: usize = 8_192;
+
+const SCRIPT: [(u32, u32, Verdict); 2] = [(1, 0, Verdict::Deadlocked), (0, 1, Verdict::Deadlocked)];
 
 /// Takes all the memory that there is, in blocks of falling sizes.
 fn take_all(alloc: Global, blocks: &mut Vec<Vec<u8>>) {
@@ -39,6 +44,12 @@ enum Call {
 
     /// The judgement of the log of the run of the cycle.
     CheckRun,
+
+    /// A script of two entries about the cycle.
+    Script,
+
+    /// 16 messages, put into a bag one by one.
+    Push,
 }
 
 /// Whether the answer is what it is with memory enough; nothing where memory is refused.
@@ -56,7 +67,24 @@ fn answer(alloc: Global, call: Call, graph: &WaitGraph, log: &[Delivery]) -> Opt
             Ok(ending) => Some(ending == Ending::Declared),
             Err(fault) => refused(fault == CheckFault::Memory),
         },
+        Call::Script => match Scripted::new(alloc, graph, &SCRIPT) {
+            Ok(mut hints) => Some(hints.hint(1) == Some(Verdict::Deadlocked)),
+            Err(fault) => refused(fault == ScriptFault::Memory),
+        },
+        Call::Push => pushed(alloc, log),
     }
+}
+
+/// Whether a bag takes the first message of the log 16 times, and keeps what it had at a refusal.
+fn pushed(alloc: Global, log: &[Delivery]) -> Option<bool> {
+    let message = log.first()?.message;
+    let mut bag = Bag::new(alloc);
+    for count in 0..16usize {
+        if let Err(fault) = bag.push(message) {
+            return refused(fault == RunFault::Memory && bag.len() == count);
+        }
+    }
+    Some(bag.len() == 16 && bag.get(15) == Some(&message))
 }
 
 fn refused(is_memory: bool) -> Option<bool> {
@@ -71,14 +99,15 @@ struct Answers {
     refused: bool,
 }
 
-/// Some calls were refused for want of memory, and all others were right.
+/// Some calls were refused for want of memory. All others were right, and so was the one after all
+/// memory was given back.
 const AS_THEY_SHOULD_BE: Answers = Answers {
     right: true,
     wrong: false,
     refused: true,
 };
 
-/// Makes the call with more and more memory, until there is enough.
+/// Makes the call with each multiple of 16 bytes below `ROOM`, and then with all memory.
 fn sweep(alloc: Global, waits: Waits, call: Call) -> Result<Answers, Fail> {
     let graph = graph_of(alloc, waits, &[])?;
     let steps = [
@@ -109,6 +138,9 @@ fn sweep(alloc: Global, waits: Waits, call: Call) -> Result<Answers, Fail> {
         drop(taken);
     }
     drop(blocks);
+    if answer(alloc, call, &graph, &log) != Some(true) {
+        answers.wrong = true;
+    }
     Ok(answers)
 }
 
@@ -129,6 +161,20 @@ fn want_of_memory_with_a_restart(rt: HostRuntime) -> Result<(), Fail> {
 #[test]
 fn want_of_memory_in_a_judgement(rt: HostRuntime) -> Result<(), Fail> {
     let answers = sweep(rt.alloc(), &TWO_IN_A_CYCLE, Call::CheckRun)?;
+    assert_eq!(rt; answers, AS_THEY_SHOULD_BE);
+    Ok(())
+}
+
+#[test]
+fn want_of_memory_in_a_script(rt: HostRuntime) -> Result<(), Fail> {
+    let answers = sweep(rt.alloc(), &TWO_IN_A_CYCLE, Call::Script)?;
+    assert_eq!(rt; answers, AS_THEY_SHOULD_BE);
+    Ok(())
+}
+
+#[test]
+fn want_of_memory_in_a_bag(rt: HostRuntime) -> Result<(), Fail> {
+    let answers = sweep(rt.alloc(), &TWO_IN_A_CYCLE, Call::Push)?;
     assert_eq!(rt; answers, AS_THEY_SHOULD_BE);
     Ok(())
 }

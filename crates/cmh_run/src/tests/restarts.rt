@@ -1,7 +1,10 @@
 //! Runs with restarts, while messages of older numbers are undelivered.
 
 use super::Step::{self, Query, Reply};
-use super::{ONE_FREE_ONE_STUCK, TWO_IN_A_CYCLE, WAITS_FOR_NOBODY, Waits, graph_of, has_steps};
+use super::{
+    ONE_FREE_ONE_STUCK, TWO_IN_A_CYCLE, WAITS_FOR_ITSELF, WAITS_FOR_NOBODY, Waits, graph_of,
+    has_steps,
+};
 use crate::{Ending, NoHints, RunFault, RunLog, run_again};
 use std::alloc::Global;
 
@@ -60,6 +63,50 @@ fn restarted_at_once(rt: HostRuntime) -> Result<(), RunFault> {
     );
     assert_eq!(rt; run.ending(), Ending::Declared);
     assert_eq!(rt; run.restarted(), 1);
+    Ok(())
+}
+
+#[test]
+fn restarted_twice(rt: HostRuntime) -> Result<(), RunFault> {
+    let run = again(rt.alloc(), &TWO_IN_A_CYCLE, &[0, 1])?;
+    assert!(rt;
+        has_steps(
+            &run,
+            &[
+                Query(1, 0, 1),
+                Query(2, 0, 1),
+                Query(1, 1, 0),
+                Query(3, 0, 1),
+                Query(2, 1, 0),
+                Query(3, 1, 0),
+                Reply(3, 0, 1),
+                Reply(3, 1, 0),
+            ]
+        )
+    );
+    assert_eq!(rt; run.ending(), Ending::Declared);
+    assert_eq!(rt; run.restarted(), 2);
+    assert_eq!(rt; run.engaged(), [0, 1].as_slice());
+    Ok(())
+}
+
+/// Each query of an older number is ignored. The seventeenth is answered.
+#[test]
+fn restarted_sixteen_times(rt: HostRuntime) -> Result<(), RunFault> {
+    let alloc = rt.alloc();
+    let mut restarts: Vec<u32> = Vec::new(alloc);
+    let mut steps = Vec::new(alloc);
+    for n in 0..16u32 {
+        restarts.push(n)?;
+        steps.push(Query(n + 1, 0, 0))?;
+    }
+    steps.push(Query(17, 0, 0))?;
+    steps.push(Reply(17, 0, 0))?;
+    let run = again(alloc, &WAITS_FOR_ITSELF, &restarts)?;
+    assert!(rt; has_steps(&run, &steps));
+    assert_eq!(rt; run.ending(), Ending::Declared);
+    assert_eq!(rt; run.restarted(), 16);
+    assert_eq!(rt; run.engaged(), [0].as_slice());
     Ok(())
 }
 

@@ -1,70 +1,59 @@
 //! Scripts over two processes that wait for each other, and an active one.
 
-use crate::{Hints, NoHints, ScriptFault, Scripted};
-use cmh_graph::{GraphFault, Part, State, Verdict, WaitGraph};
-use std::alloc::{AllocError, Global};
+use super::graph_of;
+use crate::{Hints, NoHints, RunFault, ScriptFault, Scripted};
+use cmh_graph::Verdict::{self, Deadlocked, Free};
 
-fn part(alloc: Global, state: State, dependents: &[u32]) -> Result<Part, AllocError> {
-    Ok(Part {
-        name: String::new(alloc),
-        site: 0,
-        state,
-        dependents: Vec::from_slice(alloc, dependents)?,
-    })
-}
+const WAITS: [Option<&[u32]>; 3] = [Some(&[1]), Some(&[0]), None];
 
-fn graph(alloc: Global) -> Result<WaitGraph, GraphFault> {
-    let mut parts = Vec::new(alloc);
-    parts.push(part(alloc, State::Idle, &[1])?)?;
-    parts.push(part(alloc, State::Idle, &[0])?)?;
-    parts.push(part(alloc, State::Active, &[])?)?;
-    WaitGraph::build(alloc, parts)
-}
+/// A script, and whose fault it is.
+type Judged<'a> = (&'a [(u32, u32, Verdict)], Option<ScriptFault>);
 
-fn refusal(
-    alloc: Global,
-    graph: &WaitGraph,
-    entries: &[(u32, u32, Verdict)],
-) -> Option<ScriptFault> {
-    Scripted::new(alloc, graph, entries).err()
-}
+/// A process out of range goes before an entry that isn't true, wherever they stand.
+const JUDGED: [Judged; 6] = [
+    (&[(0, 2, Free), (0, 1, Deadlocked)], None),
+    (&[(0, 1, Free)], Some(ScriptFault::FalseVerdict(0))),
+    (&[(0, 9, Free)], Some(ScriptFault::ProcessOutOfRange(0))),
+    (
+        &[(0, 0, Deadlocked), (0, 1, Free)],
+        Some(ScriptFault::FalseVerdict(1)),
+    ),
+    (
+        &[(0, 0, Free), (0, 3, Free)],
+        Some(ScriptFault::ProcessOutOfRange(1)),
+    ),
+    (
+        &[(7, 2, Deadlocked), (0, 1, Free)],
+        Some(ScriptFault::FalseVerdict(0)),
+    ),
+];
 
 #[test]
-fn answers_by_the_number_of_the_ask(rt: HostRuntime) -> Result<(), GraphFault> {
+fn refused_scripts(rt: HostRuntime) -> Result<(), RunFault> {
     let alloc = rt.alloc();
-    let graph = graph(alloc)?;
-    let entries = [(1, 0, Verdict::Deadlocked), (0, 2, Verdict::Free)];
-    let mut hints = Scripted::new(alloc, &graph, &entries).map_err(|_| GraphFault::Memory)?;
-    assert_eq!(rt; hints.hint(2), Some(Verdict::Free));
-    assert_eq!(rt; hints.hint(0), Some(Verdict::Deadlocked));
-    assert_eq!(rt; hints.hint(0), None);
-    let mut late = Scripted::new(alloc, &graph, &entries).map_err(|_| GraphFault::Memory)?;
-    assert_eq!(rt; late.hint(0), None);
-    assert_eq!(rt; late.hint(2), None);
-    assert_eq!(rt; NoHints.hint(0), None);
+    let graph = graph_of(alloc, &WAITS, &[])?;
+    for (row, judged) in JUDGED.iter().enumerate() {
+        assert_eq!(rt;
+            Scripted::new(alloc, &graph, judged.0).err(),
+            judged.1,
+            "at {row}"
+        );
+    }
     Ok(())
 }
 
 #[test]
-fn refuses_what_is_not_true(rt: HostRuntime) -> Result<(), GraphFault> {
+fn answers_by_the_number_of_the_ask(rt: HostRuntime) -> Result<(), RunFault> {
     let alloc = rt.alloc();
-    let graph = graph(alloc)?;
-    assert_eq!(rt;
-        refusal(
-            alloc,
-            &graph,
-            &[(0, 0, Verdict::Deadlocked), (0, 1, Verdict::Free)]
-        ),
-        Some(ScriptFault::FalseVerdict(1))
-    );
-    assert_eq!(rt;
-        refusal(
-            alloc,
-            &graph,
-            &[(0, 0, Verdict::Free), (0, 3, Verdict::Free)]
-        ),
-        Some(ScriptFault::ProcessOutOfRange(1))
-    );
-    assert_eq!(rt; refusal(alloc, &graph, &[(0, 2, Verdict::Free)]), None);
+    let graph = graph_of(alloc, &WAITS, &[])?;
+    let entries = [(1, 0, Deadlocked), (0, 2, Free)];
+    let mut hints = Scripted::new(alloc, &graph, &entries).map_err(|_| RunFault::Memory)?;
+    assert_eq!(rt; hints.hint(2), Some(Free));
+    assert_eq!(rt; hints.hint(0), Some(Deadlocked));
+    assert_eq!(rt; hints.hint(0), None);
+    let mut late = Scripted::new(alloc, &graph, &entries).map_err(|_| RunFault::Memory)?;
+    assert_eq!(rt; late.hint(0), None);
+    assert_eq!(rt; late.hint(2), None);
+    assert_eq!(rt; NoHints.hint(0), None);
     Ok(())
 }

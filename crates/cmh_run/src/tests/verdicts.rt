@@ -1,4 +1,4 @@
-//! The verdict of each run of twenty graphs, against those that an independent program gave.
+//! The verdict of each run of twenty graphs.
 
 use super::cases::{CASES, Case};
 use super::graph_of;

@@ -2,7 +2,7 @@ use Rattle.std.proofs.Common.{◌≡◌, ap, subst, sym, List, None}
 use Rattle.cmh_run.specs.declared.delivery.Delivery.{Delivery}
 use Rattle.cmh_run.specs.Run.{Run, Stage, MayStart}
 use Rattle.cmh_run.specs.Choices.{HasNoHints}
-use Rattle.cmh_run.proofs.Following.{may_start_first, taken_size, taken_within, taken_may_start, taken_follows, taken_log, taken_falls, no_hints_on, finished, run_is_true}
+use Rattle.cmh_run.proofs.Following.{may_start_first, taken_size, taken_within, taken_may_start, taken_follows, taken_log, taken_falls, no_hints_on, finished, run_is_true, restarted_few, run_engages, awake_runs_nothing}
 use Rattle.cmh_run.proofs.runs.follow.Goals as goal
 
 -- at first the initiator may start again, if the run isn't over
@@ -95,5 +95,28 @@ pub returns-clause-true_verdict : goal.returns-clause-true_verdict
 returns-clause-true_verdict g c =
     run_is_true c.args.graph.now c.args.initiator c.args.choices.now c.args.restarts.now c.into_log.result
     c.requires.graph.within c.requires.idle (ap (λ (r : Run). r.initiator) c.into_log.ensures)
+    (finished c.args.graph.now c.args.initiator c.args.choices.now c.args.restarts.now c.loop-message.progress c.take.new.self c.into_log.result
+    c.requires.graph.within c.requires.idle c.loop-message.invariant.follows c.in_default.ensures c.into_log.ensures)
+
+-- it started again no more often than it was to
+pub returns-clause-restarted : goal.returns-clause-restarted
+returns-clause-restarted g c =
+    restarted_few c.args.graph.now c.args.choices.now c.args.restarts.now c.into_log.result
+    (finished c.args.graph.now c.args.initiator c.args.choices.now c.args.restarts.now c.loop-message.progress c.take.new.self c.into_log.result
+    c.requires.graph.within c.requires.idle c.loop-message.invariant.follows c.in_default.ensures c.into_log.ensures)
+
+-- who is engaged at the end is as it should be
+pub returns-clause-engaged : goal.returns-clause-engaged
+returns-clause-engaged g c =
+    run_engages c.args.graph.now c.args.initiator c.args.choices.now c.args.restarts.now c.into_log.result
+    c.requires.graph.within c.requires.idle (ap (λ (r : Run). r.initiator) c.into_log.ensures)
+    (finished c.args.graph.now c.args.initiator c.args.choices.now c.args.restarts.now c.loop-message.progress c.take.new.self c.into_log.result
+    c.requires.graph.within c.requires.idle c.loop-message.invariant.follows c.in_default.ensures c.into_log.ensures)
+
+-- an awake initiator has the empty run
+pub returns-clause-awake : goal.returns-clause-awake
+returns-clause-awake g c =
+    awake_runs_nothing c.args.graph.now c.args.initiator c.args.choices.now c.args.restarts.now c.into_log.result
+    (ap (λ (r : Run). r.initiator) c.into_log.ensures)
     (finished c.args.graph.now c.args.initiator c.args.choices.now c.args.restarts.now c.loop-message.progress c.take.new.self c.into_log.result
     c.requires.graph.within c.requires.idle c.loop-message.invariant.follows c.in_default.ensures c.into_log.ensures)

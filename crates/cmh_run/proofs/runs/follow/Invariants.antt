@@ -1,6 +1,7 @@
 use Rattle.std.proofs.Common.{◌+◌, ◌*◌, ◌-◌, length}
 use Rattle.cmh_graph.specs.Graph.{dependency_count}
 use Rattle.cmh_run.specs.Choices.{HasNoHints}
+use Rattle.cmh_run.specs.declared.TheConstants.{MAX_RESTARTS}
 use Rattle.cmh_run.specs.Follow.{Follows}
 use Rattle.cmh_run.proofs.runs.follow.Given as goal
 
@@ -12,4 +13,4 @@ invariant-loop-message g l = record {
 }
 
 abbrev pub decreases-loop-message : goal.decreases-loop-message
-decreases-loop-message g l = 2 * dependency_count l.graph * 17 + 1 - length l.progress.log
+decreases-loop-message g l = 2 * dependency_count l.graph * (MAX_RESTARTS + 1) + 1 - length l.progress.log

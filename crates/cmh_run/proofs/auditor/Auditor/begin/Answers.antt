@@ -4,11 +4,13 @@ use Rattle.cmh_run.proofs.Auditing.{agrees_first}
 use Rattle.cmh_run.proofs.auditor.Auditor.begin.Goals as goal
 
 -- at first nothing was delivered
-pub returns-clause-ok : goal.returns-clause-ok
-returns-clause-ok c = (
-  begun c.args.graph.now c.args.initiator [],
-  c.in_ok-settle.ensures.ok c.args.graph.now c.args.initiator [] (begun c.args.graph.now c.args.initiator [])
-      (agrees_first c.args.graph.now c.args.initiator (record { network = c.in_ok-begun.field-0; undelivered = c.new.result })
-      c.requires.graph c.requires.idle c.in_ok-begun.ensures.ok c.new.ensures),
-  c.in_ok-settle.ensures.settled,
-)
+pub returns : goal.returns
+returns c = record {
+  ok = (
+    begun c.args.graph.now c.args.initiator [],
+    c.in_ok-settle.ensures.ok c.args.graph.now c.args.initiator [] (begun c.args.graph.now c.args.initiator [])
+        (agrees_first c.args.graph.now c.args.initiator (record { network = c.in_ok-begun.field-0; undelivered = c.new.result })
+        c.requires.graph c.requires.idle c.in_ok-begun.ensures.ok c.new.ensures),
+    c.in_ok-settle.ensures.settled,
+  );
+}

@@ -4,7 +4,7 @@ use Rattle.cmh_graph.specs.Graph.{is_awake}
 use Rattle.cmh_run.specs.Config.{Config, received}
 use Rattle.cmh_run.specs.Legal.{after}
 use Rattle.cmh_run.specs.Audit.{Audit}
-use Rattle.cmh_run.proofs.Judging.{audit_size, awaited, where_none, both_ok, is_there, delivery_within, network_going, after_delivery}
+use Rattle.cmh_run.proofs.Judging.{audit_size, awaited, where_none, is_there, delivery_within, network_going, after_delivery}
 use Rattle.cmh_run.proofs.auditor.Auditor.deliver.Goals as goal
 
 -- the message isn't awaited, so it isn't undelivered
@@ -52,12 +52,11 @@ deliver-requires-clause-going c =
 
 -- what is kept agrees with the run that is one delivery longer
 pub returns-clause-ok : goal.returns-clause-ok
-returns-clause-ok c =
-    both_ok c.settle.result _ _ _ c.settle.ensures.settled c.settle.ensures.ok (λ settled on log audited.
+returns-clause-ok c = λ log audited.
     let no_end = where_none c.ending.result _ c.if-is_some.ensures c.ending.ensures.none c.args.graph.now c.args.initiator log audited.0 audited.1 audited.2 in
     let aw = c.if-not-take.ensures.found.0 refl in (
       after c.args.graph.now c.args.initiator audited.0 (is_there c.args.graph.now c.args.initiator log audited.0 c.args.self.now c.args.delivery audited.1 audited.2 no_end aw).0 c.args.delivery,
-      on c.args.graph.now c.args.initiator (log ++ c.args.delivery ∷ [])
+      c.in_ok-settle.ensures.ok c.args.graph.now c.args.initiator (log ++ c.args.delivery ∷ [])
           (after c.args.graph.now c.args.initiator audited.0 (is_there c.args.graph.now c.args.initiator log audited.0 c.args.self.now c.args.delivery audited.1 audited.2 no_end aw).0 c.args.delivery)
           (after_delivery c.args.graph.now c.args.initiator log audited.0 c.args.self.now c.args.delivery audited.1 audited.2 no_end aw
           c.take.new.self (record { network = c.deliver.new.self; undelivered = c.self.inside.undelivered })
@@ -65,5 +64,5 @@ returns-clause-ok c =
           (subst (λ (a : Audit). c.deliver.new.self ≡ cond (is_awake c.args.graph.now c.args.delivery.message.to) a.network (received c.args.graph.now c.args.initiator a.network c.args.delivery.message c.args.delivery.message.kind c.args.delivery.hint))
           c.self.view_is c.in_ok-deliver.ensures.ok)
           (ap (λ (a : Audit). a.undelivered) c.self.view_is)),
-      settled,
-    ))
+      c.in_ok-settle.ensures.settled,
+    )

@@ -7,7 +7,7 @@ use Rattle.cmh_run.proofs.scripted.Scripted.new.Goals as goal
 pub first_difference-requires : goal.first_difference-requires
 first_difference-requires c =
     never_beyond c.args.graph.now c.deref.result.now c.args.entries.now c.len.ensures.well_formed.within
-    (c.deref.ensures.value ∙ c.in_ok-truth.ensures.ok)
+    (c.deref.ensures.value ∙ c.in_ok-truth.ensures)
     (subst (λ (n : ℕ). IsNever (IsOutOfRange n c.args.entries.now)) c.len.ensures.count c.in_default.ensures.none)
 
 -- the first entry that differs from the verdicts is the first fault
@@ -17,7 +17,7 @@ returns-in-Some-first_difference-clause-fault c =
     inr (
       never,
       first_untrue c.args.graph.now c.deref.result.now c.args.entries.now c.len.ensures.well_formed.within
-          (c.deref.ensures.value ∙ c.in_ok-truth.ensures.ok) c.in-Some-first_difference.i never
+          (c.deref.ensures.value ∙ c.in_ok-truth.ensures) c.in-Some-first_difference.i never
           c.in-Some-first_difference.ensures.some,
     )
 
@@ -32,4 +32,4 @@ returns-clause-speaks c =
     let never = subst (λ (n : ℕ). IsNever (IsOutOfRange n c.args.entries.now)) c.len.ensures.count c.in_default.ensures.none in
     subst (λ (xs : List Entry). AreTrueOf c.args.graph.now xs) (sym c.in_ok-entries.ensures.items)
     (true_of c.args.graph.now c.deref.result.now c.args.entries.now c.len.ensures.well_formed.within
-    (c.deref.ensures.value ∙ c.in_ok-truth.ensures.ok) never c.in_default-first_difference.ensures.none)
+    (c.deref.ensures.value ∙ c.in_ok-truth.ensures) never c.in_default-first_difference.ensures.none)

@@ -2,13 +2,17 @@ use Rattle.cmh_run.proofs.Waiting.{query_added, reply_added}
 use Rattle.cmh_run.proofs.undelivered.Undelivered.add.Goals as goal
 
 -- a query is among the queries then
-pub returns-in_ok-insert-in-Query-clause-ok : goal.returns-in_ok-insert-in-Query-clause-ok
-returns-in_ok-insert-in-Query-clause-ok c =
-    rw (← c.self.view_is) (query_added c.self.inside.queries.keys c.insert.new.self.keys c.self.inside.replies.keys c.args.message c.in-Query.is
-    c.in_ok-insert-in-Query.ensures.updates.0)
+pub returns-in_ok-insert-in-Query : goal.returns-in_ok-insert-in-Query
+returns-in_ok-insert-in-Query c =
+    record {
+      ok = rw (← c.self.view_is) (query_added c.self.inside.queries.keys c.insert.new.self.keys c.self.inside.replies.keys c.args.message c.in-Query.is
+          c.in_ok-insert-in-Query.ensures.updates.0);
+    }
 
 -- a reply is among the replies then
-pub returns-in_ok-insert-in-Reply-clause-ok : goal.returns-in_ok-insert-in-Reply-clause-ok
-returns-in_ok-insert-in-Reply-clause-ok c =
-    rw (← c.self.view_is) (reply_added c.self.inside.replies.keys c.insert-in-Reply.new.self.keys c.self.inside.queries.keys c.args.message c.in-Reply.is
-    c.in_ok-insert-in-Reply.ensures.updates.0)
+pub returns-in_ok-insert-in-Reply : goal.returns-in_ok-insert-in-Reply
+returns-in_ok-insert-in-Reply c =
+    record {
+      ok = rw (← c.self.view_is) (reply_added c.self.inside.replies.keys c.insert-in-Reply.new.self.keys c.self.inside.queries.keys c.args.message c.in-Reply.is
+          c.in_ok-insert-in-Reply.ensures.updates.0);
+    }

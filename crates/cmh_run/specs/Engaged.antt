@@ -1,0 +1,50 @@
+-- Who is engaged when a run has ended, and what an awake initiator does.
+use Rattle.std.specs.Prelude.{◌≡◌, ℕ, List, [], slice_get, Contains, Some, IsTrue, IsFalse}
+use Rattle.cmh_graph.specs.Graph.{Graph, is_idle, is_awake, IsWithinGraph}
+use Rattle.cmh_graph.specs.Path.{Reaches}
+use Rattle.cmh_graph.specs.Verdict.{IsDeadlocked}
+use Rattle.cmh_run.specs.declared.delivery.Delivery.{Delivery}
+use Rattle.cmh_run.specs.declared.delivery.Ending.{Ending}
+use Rattle.cmh_run.specs.declared.delivery.Ending.TheVariants.{Declared, AtRest, CutFree}
+use Rattle.cmh_run.specs.Legal.{Going, Rule, IsRun, HasNoRepeat}
+
+-- the run was cut at k: k is free, isn't awake, and is reached, and it didn't engage
+pub record IsCutAt (g : Graph) (i k : ℕ) (engaged : List ℕ) : Type 0 where
+  pub free : ¬ (IsDeadlocked g k)
+  pub asleep : IsFalse (is_awake g k)
+  pub reached : Reaches g i k
+  pub out : ¬ (Contains engaged k)
+
+-- Who is engaged: the initiator first, unless it is awake, and nobody twice. It reaches them all, and
+-- none of them is awake. All are deadlocked where the run was declared, and the process at which it
+-- was cut is none of them.
+pub record AreEngaged (g : Graph) (i : ℕ) (ending : Ending) (engaged : List ℕ) : Type 0 where
+  pub begins : IsFalse (is_awake g i) → slice_get engaged 0 ≡ Some i
+  pub once : HasNoRepeat engaged
+  pub asleep : (k : ℕ) → Contains engaged k → IsFalse (is_awake g k)
+  pub reached : (k : ℕ) → Contains engaged k → Reaches g i k
+  pub deadlocked : ending ≡ Declared → (k : ℕ) → Contains engaged k → IsDeadlocked g k
+  pub cut : (k : ℕ) → ending ≡ CutFree k → IsCutAt g i k engaged
+
+-- the engaged of every legal run are those
+abbrev pub WhoEngages : Type 0
+WhoEngages =
+    (rule : Rule) (g : Graph) (i : ℕ) (restarts : List ℕ)
+    (log : List Delivery) (ending : Ending) (end : Going)
+    → IsWithinGraph g → IsTrue (is_idle g i) → IsRun rule g i restarts log ending end
+    → AreEngaged g i ending end.config.engaged
+
+-- nothing was started, so that nothing is delivered, nobody engages, and nothing starts again
+pub record IsEmptyRun (log : List Delivery) (ending : Ending) (end : Going) : Type 0 where
+  pub silent : log ≡ []
+  pub at_rest : ending ≡ AtRest
+  pub nobody : end.config.engaged ≡ []
+  pub once : end.restarted ≡ 0
+
+-- an awake initiator starts nothing
+abbrev pub AwakeOnesStartNothing : Type 0
+AwakeOnesStartNothing =
+    (rule : Rule) (g : Graph) (i : ℕ) (restarts : List ℕ)
+    (log : List Delivery) (ending : Ending) (end : Going)
+    → IsTrue (is_awake g i) → IsRun rule g i restarts log ending end
+    → IsEmptyRun log ending end

@@ -1,0 +1,158 @@
+//! Calls at their limits: as many processes, dependencies, restarts, entries and messages as there
+//! may be.
+
+use super::{Step, delivery, part_of};
+use crate::{Bag, Ending, NoHints, RunFault, Scripted, check_run, run, run_again};
+use cmh_graph::{MAX_PROCESSES, Verdict, WaitGraph};
+use std::alloc::{AllocError, Global};
+
+const COUNT: u32 = MAX_PROCESSES as u32;
+
+/// Each process waits for the next one, and the last waits as `last` says.
+fn chain(alloc: Global, last: Option<&[u32]>) -> Result<WaitGraph, RunFault> {
+    let mut parts = Vec::new(alloc);
+    for p in 1..COUNT {
+        parts.push(part_of(alloc, Some(&[p]))?)?;
+    }
+    parts.push(part_of(alloc, last)?)?;
+    WaitGraph::build(alloc, parts).map_err(|_| RunFault::Memory)
+}
+
+/// The numbers from `first` up to, but not with, `end`.
+fn numbers(alloc: Global, first: u32, end: u32) -> Result<Vec<u32>, AllocError> {
+    let mut list = Vec::new(alloc);
+    for n in first..end {
+        list.push(n)?;
+    }
+    Ok(list)
+}
+
+/// 256 processes that each wait for all 256: as many dependencies as there may be.
+fn knot(alloc: Global) -> Result<WaitGraph, RunFault> {
+    let all = numbers(alloc, 0, 256)?;
+    let mut parts = Vec::new(alloc);
+    for _ in 0..256u32 {
+        parts.push(part_of(alloc, Some(&all))?)?;
+    }
+    WaitGraph::build(alloc, parts).map_err(|_| RunFault::Memory)
+}
+
+/// The first process waits for all others, and each of them for the first.
+fn wheel(alloc: Global) -> Result<WaitGraph, RunFault> {
+    let spokes = numbers(alloc, 1, COUNT)?;
+    let mut parts = Vec::new(alloc);
+    parts.push(part_of(alloc, Some(&spokes))?)?;
+    for _ in 1..COUNT {
+        parts.push(part_of(alloc, Some(&[0]))?)?;
+    }
+    WaitGraph::build(alloc, parts).map_err(|_| RunFault::Memory)
+}
+
+/// A chain asks and replies once along each dependency; where its last process is active, nobody
+/// replies, and that process doesn't engage.
+#[test]
+fn a_chain_of_all_processes(rt: HostRuntime) -> Result<(), RunFault> {
+    let alloc = rt.alloc();
+    let rows: [(Option<&[u32]>, Ending, usize, usize); 2] = [
+        (Some(&[]), Ending::Declared, 8_190, 4_096),
+        (None, Ending::AtRest, 4_095, 4_095),
+    ];
+    for (last, ending, deliveries, engaged) in rows {
+        let graph = chain(alloc, last)?;
+        let run = run(alloc, &graph, 0, &[], &mut NoHints)?;
+        assert_eq!(rt; run.ending(), ending);
+        assert_eq!(rt; run.log().len(), deliveries);
+        assert_eq!(rt; run.engaged().len(), engaged);
+        assert_eq!(rt; check_run(alloc, &graph, 0, run.log()), Ok(ending));
+    }
+    Ok(())
+}
+
+/// In a knot each dependency carries a query and a reply, however they are delivered.
+#[test]
+fn a_knot_of_all_dependencies(rt: HostRuntime) -> Result<(), RunFault> {
+    let alloc = rt.alloc();
+    let graph = knot(alloc)?;
+    for choices in [[0u64; 3], [5, 1_000, u64::MAX]] {
+        let run = run(alloc, &graph, 255, &choices, &mut NoHints)?;
+        assert_eq!(rt; run.ending(), Ending::Declared);
+        assert_eq!(rt; run.log().len(), 131_072);
+        assert_eq!(rt; run.engaged().len(), 256);
+        assert_eq!(rt;
+            check_run(alloc, &graph, 255, run.log()),
+            Ok(Ending::Declared)
+        );
+    }
+    Ok(())
+}
+
+/// The last computation declares, and is engaged as one without restarts would be.
+#[test]
+fn sixteen_restarts_of_a_wheel(rt: HostRuntime) -> Result<(), RunFault> {
+    let alloc = rt.alloc();
+    let graph = wheel(alloc)?;
+    let plain = run(alloc, &graph, 0, &[], &mut NoHints)?;
+    assert_eq!(rt; plain.log().len(), 16_380);
+    let restarts = [
+        0, 1, 2, 1_000, 2_000, 3_000, 4_000, 5_000, 6_000, 7_000, 8_000, 9_000, 10_000, 11_000,
+        12_000, 13_000,
+    ];
+    let again = run_again(alloc, &graph, 0, &[], &mut NoHints, &restarts)?;
+    assert_eq!(rt; again.restarted(), 16);
+    assert_eq!(rt; again.ending(), Ending::Declared);
+    assert!(rt; again.engaged() == plain.engaged());
+    Ok(())
+}
+
+/// The last of 4,096 entries is told at ask 4,000, of process 4,001, which replies at once; those
+/// before it are about process 0, of which nobody asks.
+#[test]
+fn a_script_of_many_entries(rt: HostRuntime) -> Result<(), RunFault> {
+    let alloc = rt.alloc();
+    let graph = chain(alloc, Some(&[]))?;
+    let mut entries = Vec::new(alloc);
+    for ask in 1..COUNT {
+        entries.push((ask, 0u32, Verdict::Deadlocked))?;
+    }
+    entries.push((4_000, 4_001, Verdict::Deadlocked))?;
+    assert_eq!(rt; entries.len(), 4_096);
+    let mut hints = Scripted::new(alloc, &graph, &entries).map_err(|_| RunFault::Memory)?;
+    let run = run(alloc, &graph, 0, &[], &mut hints)?;
+    assert_eq!(rt; run.ending(), Ending::Declared);
+    assert_eq!(rt; run.log().len(), 8_002);
+    assert_eq!(rt;
+        run.log().get(4_000),
+        Some(&delivery(0, Step::Query(1, 4_000, 4_001), Some(Verdict::Deadlocked)))
+    );
+    Ok(())
+}
+
+#[test]
+fn a_bag_of_many_messages(rt: HostRuntime) -> Result<(), RunFault> {
+    let alloc = rt.alloc();
+    let mut bag = Bag::new(alloc);
+    for to in 0..65_536u32 {
+        bag.push(delivery(0, Step::Query(1, 0, to), None).message)?;
+    }
+    assert_eq!(rt; bag.len(), 65_536);
+    let rows = [
+        (131_071u64, 65_535u32),
+        (30_000, 30_000),
+        (30_000, 30_001),
+        (0, 0),
+        (65_532, 1),
+    ];
+    for (choice, to) in rows {
+        assert_eq!(rt;
+            bag.take(choice),
+            Some(delivery(0, Step::Query(1, 0, to), None).message),
+            "at {choice}"
+        );
+    }
+    assert_eq!(rt; bag.len(), 65_531);
+    assert_eq!(rt;
+        bag.get(65_530),
+        Some(&delivery(0, Step::Query(1, 0, 65_534), None).message)
+    );
+    Ok(())
+}

@@ -1,0 +1,157 @@
+//! Every public call and type, as a caller writes them.
+
+use super::{TWO_IN_A_CYCLE, graph_of};
+use crate::{
+    Bag, CheckFault, Delivery, Ending, Hints, MAX_CHOICES, MAX_RESTARTS, NoHints, RunFault,
+    ScriptFault, Scripted, check_run, laws, run, run_again,
+};
+use cmh_graph::Verdict;
+use cmh_process::{Kind, Message};
+use std::hash::{DefaultHasher, Hash};
+
+const FIRST: Message = Message {
+    kind: Kind::Query,
+    initiator: 0,
+    number: 1,
+    from: 0,
+    to: 1,
+};
+
+#[test]
+fn runs(rt: HostRuntime) -> Result<(), RunFault> {
+    let alloc = rt.alloc();
+    let graph = graph_of(alloc, &TWO_IN_A_CYCLE, &[])?;
+    let choices = [0, 0, 0, 0];
+    let log = run(alloc, &graph, 0, &choices, &mut NoHints)?;
+    let first = Delivery {
+        message: FIRST,
+        hint: None,
+    };
+    assert_eq!(rt; log.initiator(), 0);
+    assert_eq!(rt; log.log().first(), Some(&first));
+    assert_eq!(rt; log.ending(), Ending::Declared);
+    assert_eq!(rt; log.engaged(), [0, 1].as_slice());
+    assert_eq!(rt; log.restarted(), 0);
+    assert_eq!(rt; log.verdict(), Verdict::Deadlocked);
+    assert_eq!(rt;
+        run_again(alloc, &graph, 0, &choices, &mut NoHints, &[]),
+        Ok(log)
+    );
+    assert_eq!(rt;
+        run(alloc, &graph, 2, &[], &mut NoHints),
+        Err(RunFault::NotIdle)
+    );
+    assert_eq!(rt;
+        run_again(alloc, &graph, 0, &[], &mut NoHints, &[2, 2]),
+        Err(RunFault::BadRestarts)
+    );
+    let many = vec![in alloc; 0u64; MAX_CHOICES + 1]?;
+    assert_eq!(rt;
+        run(alloc, &graph, 0, &many, &mut NoHints),
+        Err(RunFault::TooManyChoices)
+    );
+    assert_eq!(rt; MAX_RESTARTS, 16);
+    Ok(())
+}
+
+#[test]
+fn judgements(rt: HostRuntime) -> Result<(), RunFault> {
+    let alloc = rt.alloc();
+    let graph = graph_of(alloc, &TWO_IN_A_CYCLE, &[])?;
+    let known = [
+        Delivery {
+            message: FIRST,
+            hint: Some(Verdict::Deadlocked),
+        },
+        Delivery {
+            message: Message {
+                kind: Kind::Reply,
+                from: 1,
+                to: 0,
+                ..FIRST
+            },
+            hint: None,
+        },
+    ];
+    assert_eq!(rt; check_run(alloc, &graph, 0, &known), Ok(Ending::Declared));
+    assert_eq!(rt;
+        check_run(alloc, &graph, 2, &known),
+        Err(CheckFault::NotIdle)
+    );
+    assert_eq!(rt;
+        check_run(alloc, &graph, 0, &known[..1]),
+        Err(CheckFault::NotEnded)
+    );
+    assert_eq!(rt;
+        check_run(alloc, &graph, 0, &known[1..]),
+        Err(CheckFault::NotUndelivered(0))
+    );
+    let free = [Delivery {
+        hint: Some(Verdict::Free),
+        ..known[0]
+    }];
+    assert_eq!(rt;
+        check_run(alloc, &graph, 0, &free),
+        Err(CheckFault::FalseHint(0))
+    );
+    let longer = [known[0], known[1], known[1]];
+    assert_eq!(rt;
+        check_run(alloc, &graph, 0, &longer),
+        Err(CheckFault::AfterEnd(2))
+    );
+    Ok(())
+}
+
+#[test]
+fn hints(rt: HostRuntime) -> Result<(), RunFault> {
+    let alloc = rt.alloc();
+    let graph = graph_of(alloc, &TWO_IN_A_CYCLE, &[])?;
+    let entries: [(u32, u32, Verdict); 1] = [(0, 1, Verdict::Deadlocked)];
+    let mut hints = Scripted::new(alloc, &graph, &entries).map_err(|_| RunFault::Memory)?;
+    assert_eq!(rt; hints.hint(1), Some(Verdict::Deadlocked));
+    assert_eq!(rt; hints.hint(1), None);
+    assert_eq!(rt; NoHints.hint(1), None);
+    assert_eq!(rt;
+        Scripted::new(alloc, &graph, &[(0, 9, Verdict::Free)]),
+        Err(ScriptFault::ProcessOutOfRange(0))
+    );
+    assert_eq!(rt;
+        Scripted::new(alloc, &graph, &[(0, 1, Verdict::Free)]),
+        Err(ScriptFault::FalseVerdict(0))
+    );
+    Ok(())
+}
+
+#[test]
+fn bags(rt: HostRuntime) {
+    let mut bag = Bag::new(rt.alloc());
+    assert_eq!(rt; bag.push(FIRST), Ok(()));
+    assert_eq!(rt; bag.len(), 1);
+    assert!(rt; !bag.is_empty());
+    assert_eq!(rt; bag.get(0), Some(&FIRST));
+    assert_eq!(rt; bag.take(18_446_744_073_709_551_615), Some(FIRST));
+    assert_eq!(rt; bag, Bag::new(rt.alloc()));
+}
+
+#[test]
+fn values(rt: HostRuntime) {
+    let faults = (RunFault::Memory, ScriptFault::Memory, CheckFault::Memory);
+    let copy = faults;
+    assert_eq!(rt; copy, faults);
+    assert!(rt; Ending::CutFree(1) != Ending::CutFree(2));
+    let mut state = DefaultHasher::new();
+    (faults, Ending::AtRest, NoHints).hash(&mut state);
+    Delivery {
+        message: FIRST,
+        hint: None,
+    }
+    .hash(&mut state);
+    laws::law_runs_are_right();
+    laws::law_runs_are_short();
+    laws::law_who_engages();
+    laws::law_awake_ones_start_nothing();
+    laws::law_choices_decide();
+    laws::law_one_run();
+    laws::law_last_computation_is_a_run();
+    laws::law_logs_have_one_answer();
+}
