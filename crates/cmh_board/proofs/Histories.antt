@@ -10,7 +10,7 @@ use Rattle.cmh_graph.specs.Verdict.{is_deadlocked, verdict}
 use Rattle.cmh_graph.proofs.Verdicts.{test_then, then_test}
 use Rattle.cmh_run.specs.Hints.{IsVerdict}
 use Rattle.cmh_run.proofs.Theorem.{by_test}
-use Rattle.cmh_rw.specs.declared.view.Row.{Row}
+use Rattle.cmh_rw.specs.declared.row.Row.{Row}
 use Rattle.cmh_rw.specs.History.{fold_at, IsTrueOf}
 use Rattle.cmh_board.specs.Board.{times}
 

@@ -4,7 +4,7 @@ use Rattle.cmh_rw.specs.declared.view.View.{View}
 use Rattle.cmh_board.specs.declared.board.Board.{Board}
 use Rattle.cmh_board.specs.declared.board.BoardSeat.{BoardSeat}
 use Rattle.cmh_board.specs.Board.{known, SitsAt, IsHolding, Sees, Reads}
-use Rattle.cmh_board.specs.Hints.{sees_on}
+use Rattle.cmh_board.specs.HintProofs.{sees_on}
 
 -- one reading after another
 pub reads_on : (u v w : View) → Reads u v → Reads v w → Reads u w

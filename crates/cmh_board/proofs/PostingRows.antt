@@ -7,7 +7,7 @@ use Rattle.cmh_graph.specs.Graph.{Graph, is_idle}
 use Rattle.cmh_graph.specs.Verdict.{verdict}
 use Rattle.cmh_graph.proofs.Reaching.{cons_contains, contains_cons}
 use Rattle.cmh_run.proofs.Theorem.{by_test}
-use Rattle.cmh_rw.specs.declared.view.Row.{Row}
+use Rattle.cmh_rw.specs.declared.row.Row.{Row}
 use Rattle.cmh_rw.specs.History.{fold_at, IsOpen, EndsLast, IsPosting, IsHistory, IsTrueOf, AreTold}
 use Rattle.cmh_rw.specs.View.{row, mark}
 use Rattle.cmh_board.specs.Board.{is_empty, rows_of, unposted, times}

@@ -12,7 +12,7 @@ use Rattle.cmh_graph.specs.declared.verdict.Verdict.TheVariants.{Deadlocked, Fre
 use Rattle.cmh_graph.specs.declared.TheConstants.{MAX_PROCESSES}
 use Rattle.cmh_graph.specs.Graph.{Graph, process_count, IsWithinGraph}
 use Rattle.cmh_graph.proofs.Verdicts.{idle_within}
-use Rattle.cmh_rw.specs.declared.view.Row.{Row}
+use Rattle.cmh_rw.specs.declared.row.Row.{Row}
 use Rattle.cmh_rw.specs.History.{bit, free_bit, row_code, row_of, fold_at, IsTrueOf}
 use Rattle.cmh_rw.proofs.Codes.{row_code_law}
 use Rattle.cmh_rw.proofs.Folds.{true-few, true-idle}

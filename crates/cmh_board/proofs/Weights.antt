@@ -6,7 +6,7 @@ use Rattle.cmh_graph.specs.declared.verdict.Verdict.{Verdict}
 use Rattle.cmh_graph.specs.declared.verdict.Verdict.TheVariants.{Deadlocked, Free}
 use Rattle.cmh_graph.proofs.Reaching.{cons_contains, contains_cons}
 use Rattle.cmh_run.proofs.Theorem.{by_test}
-use Rattle.cmh_rw.specs.declared.view.Row.{Row}
+use Rattle.cmh_rw.specs.declared.row.Row.{Row}
 use Rattle.cmh_rw.specs.History.{weigh}
 
 -- ---- a test of equal postings

@@ -6,7 +6,7 @@ use Rattle.cmh_graph.specs.Graph.{Graph, process_count, is_idle}
 use Rattle.cmh_graph.specs.Verdict.{verdict}
 use Rattle.cmh_run.specs.Legal.{HasNoRepeat}
 use Rattle.cmh_rw.specs.declared.machine.SeatState.TheVariants.{Writing}
-use Rattle.cmh_rw.specs.declared.view.Row.{Row}
+use Rattle.cmh_rw.specs.declared.row.Row.{Row}
 use Rattle.cmh_rw.specs.declared.view.View.{View}
 use Rattle.cmh_rw.specs.History.{fold_at, IsHistory, IsTrueOf}
 use Rattle.cmh_rw.specs.View.{mark}

@@ -5,10 +5,10 @@ use Rattle.cmh_graph.specs.Graph.{Graph}
 use Rattle.cmh_run.specs.Hints.{IsVerdict}
 use Rattle.cmh_rw.specs.declared.TheConstants.{WRITER}
 use Rattle.cmh_rw.specs.declared.machine.SeatState.TheVariants.{Away, Reading}
-use Rattle.cmh_rw.specs.declared.view.Row.{Row}
+use Rattle.cmh_rw.specs.declared.row.Row.{Row}
 use Rattle.cmh_rw.specs.declared.view.View.{View}
-use Rattle.cmh_rw.specs.declared.view.Entry.{Entry}
-use Rattle.cmh_rw.specs.declared.view.Entry.TheVariants as entry
+use Rattle.cmh_rw.specs.declared.words.Entry.{Entry}
+use Rattle.cmh_rw.specs.declared.words.Entry.TheVariants as entry
 use Rattle.cmh_rw.specs.History.{fold_at, laid, weigh, IsHistory, ArePostings, IsTrueOf, StartsWith}
 use Rattle.cmh_rw.specs.View.{row}
 use Rattle.cmh_rw.specs.Seats as words

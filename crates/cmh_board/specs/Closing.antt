@@ -1,7 +1,7 @@
 -- What the words show once they are closed.
 use Rattle.std.specs.Prelude.{◌≡◌, ℕ, ◌+◌, ◌<◌, ◌^◌, List, map, length, slice_index}
 use Rattle.cmh_rw.specs.declared.TheConstants.{FIRST_ROW}
-use Rattle.cmh_rw.specs.declared.view.Row.{Row}
+use Rattle.cmh_rw.specs.declared.row.Row.{Row}
 use Rattle.cmh_rw.specs.History.{row_code}
 
 -- they show these rows: how many, and each by its word

@@ -2,6 +2,7 @@
 
 ghost use Rattle.std.specs.Prelude.{◌≡◌};
 ghost use Rattle.cmh_board.specs.declared.fault.BoardFault.TheVariants.{Memory};
+ghost use Rattle.cmh_rw.specs.declared.fault.RwFault.TheVariants as words;
 
 use cmh_rw::RwFault;
 use std::alloc::AllocError;
@@ -18,6 +19,11 @@ pub enum BoardFault {
 }
 
 impl fmt::Display for BoardFault {
+    ghost use Rattle.std.specs.Prelude.{Some};
+    ghost use Rattle.cmh_board.specs.Fault.{fault_text};
+
+    ghost output = { λ e. Some (fault_text e) };
+
     fn fmt<W: fmt::Write>(&self, f: &mut fmt::Formatter<W>) -> fmt::Result {
         match self {
             BoardFault::Busy(found) => write!(f, "busy at lock word {found}"),
@@ -36,11 +42,13 @@ impl From<AllocError> for BoardFault {
     }
 }
 
-impl From<RwFault> for BoardFault {
-    ghost from_gives = { λ _ e. e ≡ Memory };
-
-    /// With all their seats, words fail to open by the want of memory alone.
-    fn from(_e: RwFault) -> BoardFault {
-        BoardFault::Memory
+/// The want of memory for which words weren't opened.
+pub(crate) fn unopened(fault: RwFault) -> BoardFault
+    requires { fault ≡ words.Memory }
+    ensures { result ≡ Memory }
+{
+    match fault {
+        RwFault::Memory => BoardFault::Memory,
+        RwFault::BadSeats => unreachable!(),
     }
 }

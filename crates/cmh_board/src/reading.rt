@@ -4,7 +4,7 @@ ghost use Rattle.std.specs.Prelude.{◌≡◌, ◌<◌, ◌≤◌, ◌^◌, List
 ghost use Rattle.cmh_graph.specs.Graph.{process_count};
 ghost use Rattle.cmh_rw.specs.declared.TheConstants.{MAX_SEATS};
 ghost use Rattle.cmh_rw.specs.History.{row_of, StartsWith, IsHistory, IsTrueOf};
-ghost use Rattle.cmh_rw.specs.declared.view.Row.{Row};
+ghost use Rattle.cmh_rw.specs.declared.row.Row.{Row};
 ghost use Rattle.cmh_rw.specs.Seats.{words_of};
 ghost use Rattle.cmh_board.specs.Board.{known, graph_of, SitsAt, IsAway, IsHolding, Sees, Reads, IsReadOnce, Fails, IsMadeOf};
 ghost use Rattle.cmh_board.specs.Closing.{Show};
@@ -104,6 +104,7 @@ impl Board {
         ensures reads { Reads (known seat.old) (known seat.new) }
         ensures shows { Shows verdicts.new.items (known seat.new).seen }
     {
+        // A graph without processes is looked at too: a look loads at least one word.
         let _rows = self.held_count(seat);
         for p in 0..self.processes {
             verdicts.push_reserved(self.held_verdict(seat, p));

@@ -6,6 +6,7 @@ ghost use Rattle.cmh_rw.specs.History.{StartsWith, IsHistory, IsTrueOf};
 ghost use Rattle.cmh_rw.specs.View.{opening_view, less_one, newcomer, joined};
 ghost use Rattle.cmh_board.specs.Board.{known, graph_of, SitsAt, IsAway, IsMadeOf};
 
+use crate::fault::unopened;
 use crate::{Board, BoardFault, BoardSeat};
 use cmh_graph::WaitGraph;
 use cmh_rw::{Row, RwWords};
@@ -20,7 +21,7 @@ impl Board {
         ensures memory { IfErr result (λ e. e ≡ BoardFault.Memory) }
     {
         let processes = graph.len();
-        let (words, seat) = RwWords::open(alloc, graph)?;
+        let (words, seat) = RwWords::open(alloc, graph).map_err(unopened)?;
         Ok((Board { words, processes }, BoardSeat { seat }))
     }
 

@@ -1,7 +1,9 @@
 //! The board by one thread and by several, and when memory is refused.
 
+mod full;
 mod graphs;
 mod memory;
 mod runs;
 mod seats;
+mod surface;
 mod threads;

@@ -30,6 +30,16 @@ pub(super) fn one_free_one_stuck(alloc: Global) -> Result<WaitGraph, GraphFault>
     WaitGraph::build(alloc, parts)
 }
 
+/// A ring of so many processes, each of which waits for the next.
+pub(super) fn ring(alloc: Global, count: u32) -> Result<WaitGraph, GraphFault> {
+    let mut parts = Vec::new(alloc);
+    for p in 0..count {
+        let next = if p == count - 1 { 0 } else { p + 1 };
+        parts.push(part(alloc, State::Idle, &[next])?)?;
+    }
+    WaitGraph::build(alloc, parts)
+}
+
 /// A ring of 100 processes, each of which waits for the next, and behind it a chain of 99 that ends
 /// at an active process.
 pub(super) fn ring_and_chain(alloc: Global) -> Result<WaitGraph, GraphFault> {

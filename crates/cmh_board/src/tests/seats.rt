@@ -7,6 +7,7 @@ use super::graphs::{cycle_and_follower, one_free_one_stuck};
 use super::runs::{run_with_hints, try_post_run};
 use crate::{Board, BoardSeat, Entry, Look, Post, Posting, Row};
 use cmh_graph::{Verdict, WaitGraph};
+use cmh_process::Kind;
 use cmh_run::{Ending, NoHints, RunLog, run};
 use cmh_rw::FIRST_ROW;
 use std::alloc::Global;
@@ -23,8 +24,8 @@ fn row(process: u32, last: bool) -> Row {
     }
 }
 
-/// Whether the run sent one message from r to p, with the hint that p is deadlocked, and then one
-/// of the other kind back, and was declared.
+/// Whether the run sent a query from r to p, with the hint that p is deadlocked, and then a reply
+/// back, and was declared.
 fn is_hinted_run(run: &RunLog) -> bool {
     let log = run.log();
     if log.len() != 2 || run.ending() != Ending::Declared {
@@ -32,7 +33,7 @@ fn is_hinted_run(run: &RunLog) -> bool {
     }
     let query = log[0].message;
     let reply = log[1].message;
-    query.kind != reply.kind
+    (query.kind, reply.kind) == (Kind::Query, Kind::Reply)
         && (query.number, query.from, query.to) == (1, 2, 0)
         && (reply.number, reply.from, reply.to) == (1, 0, 2)
         && log[0].hint == DEADLOCKED
@@ -125,5 +126,21 @@ fn one_free_one_stuck_posts(rt: HostRuntime) -> Result<(), Fail> {
         last: true,
     };
     assert!(rt; rows.as_slice() == [free, row(1, true)].as_slice());
+    Ok(())
+}
+
+/// A seat that isn't the last one closes the board: what the other has posted is there.
+#[test]
+fn closes_with_less_than_the_whole_share(rt: HostRuntime) -> Result<(), Fail> {
+    let graph = cycle_and_follower(rt.alloc())?;
+    assert!(rt; graph.len() == 3);
+    let (board, mut x) = Board::open(rt.alloc(), &graph)?;
+    let Some(mut y) = board.split(&mut x) else {
+        panic!(rt; "a seat with the whole share is split")
+    };
+    let run_of_p = run(rt.alloc(), &graph, 0, &[], &mut NoHints)?;
+    assert!(rt; try_post_run(&board, &mut y, &run_of_p) == Post::Done);
+    let rows = board.close(rt.alloc(), x)?;
+    assert!(rt; rows.as_slice() == [row(0, false), row(1, true)].as_slice());
     Ok(())
 }

@@ -1,5 +1,5 @@
 use Rattle.std.proofs.Common.{◌≡◌, ◌≤◌, List, take, length, vec_capacity}
-use Rattle.cmh_rw.specs.declared.view.Row.{Row}
+use Rattle.cmh_rw.specs.declared.row.Row.{Row}
 use Rattle.cmh_rw.specs.Seats.{words_of}
 use Rattle.cmh_board.specs.Closing.{Show}
 use Rattle.cmh_board.proofs.reading.read_closed.Given as goal

@@ -1,0 +1,48 @@
+-- What hints keep is kept where nothing changes, and from one change to the next. These two proofs
+-- stand among the definitions since code can cite no others of its own crate.
+use Rattle.std.proofs.Common.{[], ◌++◌, refl, sym, ap, ◌∙◌, append-nil, append_assoc}
+use Rattle.cmh_rw.specs.declared.view.View.{View}
+use Rattle.cmh_board.specs.declared.hints.BoardHints.{BoardHints}
+use Rattle.cmh_board.specs.Board.{known, Sees}
+use Rattle.cmh_board.specs.Hints.{Keeps}
+
+-- nothing has changed
+sees_itself : (v : View) → Sees v v
+sees_itself v = record {
+  seen = ([], sym (append-nil v.seen));
+  mine = refl;
+  share = refl;
+  graph = refl;
+}
+
+-- one change after another is one
+pub sees_on : (u v w : View) → Sees u v → Sees v w → Sees u w
+sees_on u v w a b = record {
+  seen = (
+    a.seen.0 ++ b.seen.0,
+    b.seen.1 ∙ ap (λ l. l ++ b.seen.0) a.seen.1 ∙ append_assoc u.seen a.seen.0 b.seen.0,
+  );
+  mine = b.mine ∙ a.mine;
+  share = b.share ∙ a.share;
+  graph = b.graph ∙ a.graph;
+}
+
+-- hints keep what they are
+pub keeps_itself : (h : BoardHints) → Keeps h h
+keeps_itself h = record {
+  board = refl;
+  seat = refl;
+  sees = sees_itself (known h.seat.now);
+  state = refl;
+  speaks = λ g. (λ s. s, λ s. s);
+}
+
+-- and on from one change to the next
+pub keeps_on : (a b c : BoardHints) → Keeps a b → Keeps b c → Keeps a c
+keeps_on a b c x y = record {
+  board = x.board ∙ y.board;
+  seat = x.seat ∙ y.seat;
+  sees = sees_on (known a.seat.now) (known b.seat.now) (known c.seat.now) x.sees y.sees;
+  state = x.state ∙ y.state;
+  speaks = λ g. (λ s. (y.speaks g).0 ((x.speaks g).0 s), λ s. (x.speaks g).1 ((y.speaks g).1 s));
+}
