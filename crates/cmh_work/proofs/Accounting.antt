@@ -9,7 +9,7 @@ use Rattle.cmh_run.specs.declared.delivery.Ending.{Ending}
 use Rattle.cmh_run.specs.declared.delivery.Ending.TheVariants.{Declared, AtRest, CutFree}
 use Rattle.cmh_run.specs.Hints.{IsVerdict}
 use Rattle.cmh_run.specs.Run.{Run, TellsTruth, verdict_of}
-use Rattle.cmh_rw.specs.declared.view.Row.{Row}
+use Rattle.cmh_rw.specs.declared.row.Row.{Row}
 use Rattle.cmh_rw.specs.declared.view.View.{View}
 use Rattle.cmh_rw.specs.History.{StartsWith, fold_at}
 use Rattle.cmh_board.specs.Board.{Sees, Posts, with_posting}

@@ -14,7 +14,7 @@ use Rattle.cmh_graph.proofs.Reaching.{contains_index}
 use Rattle.cmh_graph.proofs.Verdicts.{contains_filter, idle_within, test_then, then_test}
 use Rattle.cmh_run.specs.Hints.{IsVerdict}
 use Rattle.cmh_run.specs.Run.{Run}
-use Rattle.cmh_rw.specs.declared.view.Row.{Row}
+use Rattle.cmh_rw.specs.declared.row.Row.{Row}
 use Rattle.cmh_rw.specs.History.{StartsWith, IsTrueOf, fold_at}
 use Rattle.cmh_board.specs.Board.{known, IsMadeOf}
 use Rattle.cmh_work.specs.declared.finding.Finding.{Finding}

@@ -3,8 +3,10 @@ pub mod Analysing
 pub mod Closing
 pub mod Collecting
 pub mod Cores
+pub mod Counting
 pub mod Dealing
 pub mod Examples
+pub mod Faults
 pub mod Gathering
 pub mod Hinting
 pub mod Known

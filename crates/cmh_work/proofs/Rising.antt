@@ -73,7 +73,7 @@ module _ {X : Type 0} where
   rises_by f (x ∷ xs) h = (all_from f x xs (λ j d low. h zero (suc j) d (omega arith) (omega arith)), rises_by f xs (λ i j d le low. h (suc i) (suc j) d (omega arith) (omega arith)))
 
   -- a total is a sum
-  total-sum_by : (f : X → ℕ) (xs : List X) → total f xs ≡ sum_by f xs
+  pub total-sum_by : (f : X → ℕ) (xs : List X) → total f xs ≡ sum_by f xs
   total-sum_by f [] = refl
   total-sum_by f (x ∷ xs) = omega (arith, total-sum_by f xs, sum_by-cons f x xs)
 

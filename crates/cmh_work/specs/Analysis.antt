@@ -3,7 +3,7 @@ use Rattle.std.specs.Prelude.{◌≡◌, ℕ, List, [], ◌∷◌, ◌++◌, All
 use Rattle.cmh_graph.specs.Graph.{Graph, is_idle, idle_list}
 use Rattle.cmh_graph.specs.Verdict.{verdict}
 use Rattle.cmh_run.specs.Run.{Run}
-use Rattle.cmh_rw.specs.declared.view.Row.{Row}
+use Rattle.cmh_rw.specs.declared.row.Row.{Row}
 use Rattle.cmh_rw.specs.History.{laid, ArePostings, IsTrueOf, fold_at}
 use Rattle.cmh_board.specs.Board.{rows_of, unposted}
 use Rattle.cmh_board.specs.Posting.{posting_of}

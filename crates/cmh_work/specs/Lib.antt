@@ -1,5 +1,6 @@
 pub mod Analysis
 pub mod Cutting
+pub mod Fault
 pub mod Finding
 pub mod Leaders
 pub mod Numbering

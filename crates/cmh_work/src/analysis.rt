@@ -6,6 +6,7 @@ ghost use Rattle.cmh_work.specs.Seats.{view};
 ghost use Rattle.cmh_work.specs.Working.{IsMadeFor, Sit, AreNew};
 ghost use Rattle.cmh_board.specs.Board.{known};
 
+use crate::fault::{want_at_board, want_in_graph, want_of_tickets};
 use crate::job::{Seats, Shared};
 use crate::number::number_all;
 use crate::record::Analysis;
@@ -42,10 +43,11 @@ pub fn analyse<R: Threads + Wait + Sync, P: Gate>(
     ensures ok { IfOk result (IsAnalysisOf graph.now plan.now.choices) }
     ensures memory { IfErr result (λ e. e ≡ WorkFault.Memory) }
 {
-    let idle = graph.idle_list(alloc)?;
+    let idle = graph.idle_list(alloc).map_err(want_in_graph)?;
     let shapes = Shapes::of_graph(alloc, graph)?;
-    let (board, board_seat) = Board::open(alloc, graph)?;
-    let (tickets, ticket_seat) = Tickets::open(alloc, plan.cuts().len() as u32 + 1)?;
+    let (board, board_seat) = Board::open(alloc, graph).map_err(want_at_board)?;
+    let chunks = plan.cuts().len() as u32 + 1;
+    let (tickets, ticket_seat) = Tickets::open(alloc, chunks).map_err(want_of_tickets)?;
     let shared = Shared {
         idle,
         shapes,
@@ -83,7 +85,10 @@ fn finish<R: Threads + Wait + Sync, P: Gate>(
     let (seats, found) = workers(rt, alloc, graph, plan, &shared, gate, seats, others);
     let mut found = found?;
     found.sort_unstable_by_key(|finding| finding.initiator);
-    let history = shared.board.close(alloc, seats.board)?;
+    let history = shared
+        .board
+        .close(alloc, seats.board)
+        .map_err(want_at_board)?;
     let records = number_all(alloc, &history, found)?;
     Ok(Analysis { records, history })
 }

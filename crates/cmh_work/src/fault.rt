@@ -3,9 +3,13 @@
 ghost use Rattle.std.specs.Prelude.{◌≡◌};
 ghost use Rattle.cmh_work.specs.declared.fault.PlanFault.TheVariants.{Memory};
 ghost use Rattle.cmh_work.specs.declared.fault.WorkFault.TheVariants as work;
+ghost use Rattle.cmh_graph.specs.declared.fault.GraphFault.TheVariants as graph;
+ghost use Rattle.cmh_run.specs.declared.fault.RunFault.TheVariants as run;
+ghost use Rattle.cmh_board.specs.declared.fault.BoardFault.TheVariants as board;
 
 use cmh_board::BoardFault;
 use cmh_graph::GraphFault;
+use cmh_run::RunFault;
 use std::alloc::{AllocError, AllocFailed};
 use std::error::Error;
 use std::fmt;
@@ -27,6 +31,11 @@ pub enum PlanFault {
 }
 
 impl fmt::Display for PlanFault {
+    ghost use Rattle.std.specs.Prelude.{Some};
+    ghost use Rattle.cmh_work.specs.Fault.{plan_fault_text};
+
+    ghost output = { λ e. Some (plan_fault_text e) };
+
     fn fmt<W: fmt::Write>(&self, f: &mut fmt::Formatter<W>) -> fmt::Result {
         match self {
             PlanFault::BadWorkers => write!(f, "bad workers"),
@@ -59,6 +68,11 @@ pub enum WorkFault {
 }
 
 impl fmt::Display for WorkFault {
+    ghost use Rattle.std.specs.Prelude.{Some};
+    ghost use Rattle.cmh_work.specs.Fault.{work_fault_text};
+
+    ghost output = { λ e. Some (work_fault_text e) };
+
     fn fmt<W: fmt::Write>(&self, f: &mut fmt::Formatter<W>) -> fmt::Result {
         match self {
             WorkFault::Memory => write!(f, "out of memory"),
@@ -85,29 +99,46 @@ impl<T: Drop> From<AllocFailed<T>> for WorkFault {
     }
 }
 
-impl From<GraphFault> for WorkFault {
-    ghost from_gives = { λ _ e. e ≡ work.Memory };
-
-    /// Questions to a graph fail for want of memory alone.
-    fn from(_e: GraphFault) -> WorkFault {
-        WorkFault::Memory
+/// The want of memory that a question to a graph met.
+pub(crate) fn want_in_graph(fault: GraphFault) -> WorkFault
+    requires { fault ≡ graph.Memory }
+    ensures { result ≡ work.Memory }
+{
+    match fault {
+        GraphFault::Memory => WorkFault::Memory,
+        _ => unreachable!(),
     }
 }
 
-impl From<BoardFault> for WorkFault {
-    ghost from_gives = { λ _ e. e ≡ work.Memory };
-
-    /// A board fails to open and to close for want of memory alone.
-    fn from(_e: BoardFault) -> WorkFault {
-        WorkFault::Memory
+/// The want of memory that a run met.
+pub(crate) fn want_in_run(fault: RunFault) -> WorkFault
+    requires { fault ≡ run.Memory }
+    ensures { result ≡ work.Memory }
+{
+    match fault {
+        RunFault::Memory => WorkFault::Memory,
+        _ => unreachable!(),
     }
 }
 
-impl From<PlanFault> for WorkFault {
-    ghost from_gives = { λ _ e. e ≡ work.Memory };
+/// The want of memory that a board met at its opening or its close.
+pub(crate) fn want_at_board(fault: BoardFault) -> WorkFault
+    requires { fault ≡ board.Memory }
+    ensures { result ≡ work.Memory }
+{
+    match fault {
+        BoardFault::Memory => WorkFault::Memory,
+        BoardFault::Busy(_) => unreachable!(),
+    }
+}
 
-    /// Tickets fail to open for want of memory alone.
-    fn from(_e: PlanFault) -> WorkFault {
-        WorkFault::Memory
+/// The want of memory that tickets met at their opening.
+pub(crate) fn want_of_tickets(fault: PlanFault) -> WorkFault
+    requires { fault ≡ Memory }
+    ensures { result ≡ work.Memory }
+{
+    match fault {
+        PlanFault::Memory => WorkFault::Memory,
+        _ => unreachable!(),
     }
 }

@@ -7,7 +7,7 @@ pub trait Gate: Sync {
 }
 
 /// Lets everyone pass.
-#[derive(Clone, Copy, Debug)]
+#[derive(Clone, Copy, PartialEq, Eq, Hash, Debug)]
 pub struct NoGate;
 
 impl Gate for NoGate {

@@ -1,8 +1,20 @@
-//! A law of the definitions alone: the function has an empty body, and its contract is the law.
+//! Laws of the definitions alone: each function has an empty body, and its contract is the law.
 
 ghost use Rattle.cmh_work.specs.Cutting.{ChunksLaw};
+ghost use Rattle.cmh_work.specs.Tickets.{DrewEachOnceLaw, DrawnOnceLaw};
 
 /// The chunks of a list are the list, in order, and there is one more than cuts.
 pub fn law_chunks()
     ensures { ChunksLaw }
+{}
+
+/// A seat that drew all drew each number below the number of chunks exactly once, and no other.
+pub fn law_drew_each_once()
+    ensures { DrewEachOnceLaw }
+{}
+
+/// Between any two steps, each number below the bound of what is drawn stands once among the
+/// numbers of all seats, and no other stands there.
+pub fn law_drawn_once()
+    ensures { DrawnOnceLaw }
 {}

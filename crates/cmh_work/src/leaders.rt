@@ -8,6 +8,7 @@ ghost use Rattle.cmh_graph.specs.Verdict.{verdicts};
 ghost use Rattle.cmh_work.specs.Leaders.{group_leader, is_deadlocked_at, leader_at, LeadsEach};
 
 use crate::WorkFault;
+use crate::fault::want_in_graph;
 use cmh_graph::{Verdict, WaitGraph};
 use std::alloc::Global;
 
@@ -27,7 +28,7 @@ pub(crate) fn group_leaders(
     let mut leaders = vec![in alloc; None; known.len()]?;
     for p in 0..graph.len() {
         if is_new_leader(known, &leaders, p) {
-            let core = graph.core_of(alloc, p)?;
+            let core = graph.core_of(alloc, p).map_err(want_in_graph)?;
             lead_each(p, &core, &mut leaders);
         }
     }

@@ -10,7 +10,7 @@ use std::marker::Model;
 
 /// How an analysis is shared out: how many workers there are, where the idle processes are cut into
 /// chunks, and in which order each run delivers its messages. No plan changes what is found.
-#[derive(Drop)]
+#[derive(Debug, Drop)]
 pub struct Plan {
     workers: u32,
     cuts: Vec<u64>,
@@ -33,6 +33,25 @@ impl Model for Plan {
       cuts = p.cuts.items;
       choices = p.choices.items;
     } };
+}
+
+impl PartialEq for Plan {
+    ghost use Rattle.std.specs.Prelude.{◌==◌};
+    ghost use Rattle.std.specs.Ordering.{on, eq_of_both};
+    ghost use Rattle.std.specs.Cmp.Rules.{comparing};
+    ghost use Rattle.std.proofs.Common.{rules};
+    ghost use lib.Pointwise.{pointwise};
+
+    ghost eq = { eq_of_both (on (λ p. p.workers) ◌==◌) (eq_of_both
+        (on (λ p. p.cuts) (pointwise ◌==◌))
+        (on (λ p. p.choices) (pointwise ◌==◌))) };
+
+    ghost laws = { Prim.search (comparing, rules) depth 9 };
+
+    fn eq(&self, other: &Plan) -> bool {
+        let same_workers = self.workers == other.workers;
+        same_workers && self.cuts == other.cuts && self.choices == other.choices
+    }
 }
 
 impl Plan {

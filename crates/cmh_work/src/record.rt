@@ -7,7 +7,7 @@ use cmh_graph::Verdict;
 use cmh_run::RunLog;
 
 /// What is found of one idle process.
-#[derive(Drop)]
+#[derive(PartialEq, Eq, Debug, Drop)]
 pub struct Record {
     pub initiator: u32,
     pub verdict: Verdict,
@@ -16,7 +16,7 @@ pub struct Record {
 }
 
 /// How a worker came to know a verdict.
-#[derive(Drop)]
+#[derive(PartialEq, Eq, Debug, Drop)]
 pub enum Origin {
     /// By this run of the process, which it posted.
     FromRun(RunLog),
@@ -26,7 +26,7 @@ pub enum Origin {
 }
 
 /// What a verdict looks like in the graph.
-#[derive(Drop)]
+#[derive(PartialEq, Eq, Debug, Drop)]
 pub enum Shape {
     /// The chosen path of a free process to an awake one.
     Path(Vec<u32>),
@@ -37,7 +37,7 @@ pub enum Shape {
 }
 
 /// What is found of a wait graph.
-#[derive(Drop)]
+#[derive(PartialEq, Eq, Debug, Drop)]
 pub struct Analysis {
     pub(crate) records: Vec<Record>,
     pub(crate) history: Vec<Row>,

@@ -4,6 +4,7 @@ ghost use Rattle.std.specs.Prelude.{◌≡◌, ◌<◌, IfOk, IfErr};
 ghost use Rattle.cmh_graph.specs.Graph.{process_count};
 
 use crate::WorkFault;
+use crate::fault::want_in_graph;
 use crate::leaders::group_leaders;
 use crate::record::Shape;
 use cmh_graph::{Verdict, WaitGraph};
@@ -27,9 +28,9 @@ impl Shapes {
         ensures ok { IfOk result (AreShapesOf graph.now) }
         ensures memory { IfErr result (λ e. e ≡ WorkFault.Memory) }
     {
-        let known = graph.verdicts_plain(alloc)?;
+        let known = graph.verdicts_plain(alloc).map_err(want_in_graph)?;
         let leaders = group_leaders(alloc, graph, &known)?;
-        let distances = graph.distances(alloc)?;
+        let distances = graph.distances(alloc).map_err(want_in_graph)?;
         Ok(Shapes { distances, leaders })
     }
 
@@ -53,7 +54,9 @@ impl Shapes {
         match known {
             Verdict::Deadlocked => Ok(Shape::Leader(self.leaders[p as usize].unwrap())),
             Verdict::Free => {
-                let path = graph.path_by(alloc, &self.distances, p)?;
+                let path = graph
+                    .path_by(alloc, &self.distances, p)
+                    .map_err(want_in_graph)?;
                 Ok(Shape::Path(path.unwrap()))
             }
         }

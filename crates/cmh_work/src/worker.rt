@@ -10,6 +10,7 @@ ghost use Rattle.cmh_work.specs.Finding.{finder_of, IsAnswered, IsRecorded, Acco
 ghost use Rattle.cmh_work.specs.Working.{IsMadeFor, SitsIn, Sit, AreNew, AreBack, IsWorked};
 
 use crate::chunks::chunk_at;
+use crate::fault::want_in_run;
 use crate::finding::{Answer, Finding};
 use crate::job::{Job, Seats, Shared};
 use crate::{Gate, Plan, WorkFault};
@@ -38,7 +39,7 @@ fn run_of(
     let mut hints = BoardHints::new(&job.shared.board, seat);
     match run(alloc, job.graph, initiator, job.plan.choices(), &mut hints) {
         Ok(run) => Ok(run),
-        Err(_) => Err(WorkFault::Memory),
+        Err(fault) => Err(want_in_run(fault)),
     }
 }
 

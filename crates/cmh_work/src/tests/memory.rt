@@ -3,7 +3,7 @@
 ghost use Rattle.std.specs.Prelude.{◌<◌};
 
 use super::graphs::{CYCLE_AND_FOLLOWER, graph_of, is_led};
-use crate::{Analysis, NoGate, Plan, PlanFault, WorkFault, analyse};
+use crate::{Analysis, NoGate, Plan, PlanFault, Tickets, WorkFault, analyse};
 use cmh_graph::WaitGraph;
 use std::alloc::Global;
 use std::sync::Wait;
@@ -33,6 +33,9 @@ fn take_all(alloc: Global, blocks: &mut Vec<Vec<u8>>) {
 enum Call {
     /// A plan is made.
     Plan,
+
+    /// Tickets are opened.
+    Tickets,
 
     /// The cycle and its follower are analysed, by so many workers.
     Analyse(u32),
@@ -75,6 +78,10 @@ fn answer<R: Threads + Wait + Sync>(
             Ok(plan) => Some(plan.cuts().len() == 3 && plan.choices().len() == 2),
             Err(fault) => refused(fault == PlanFault::Memory),
         },
+        Call::Tickets => match Tickets::open(alloc, 3) {
+            Ok((tickets, mut seat)) => Some(tickets.draw(&mut seat) == Some(0)),
+            Err(fault) => refused(fault == PlanFault::Memory),
+        },
         Call::Analyse(_) => match analyse(rt, alloc, graph, plan, &NoGate) {
             Ok(analysis) => Some(is_right(&analysis)),
             Err(fault) => refused(fault == WorkFault::Memory || fault == WorkFault::WorkerLost),
@@ -99,7 +106,7 @@ fn sweep<R: Threads + Wait + Sync>(
 {
     let graph = graph_of(alloc, &CYCLE_AND_FOLLOWER, &[])?;
     let workers = match call {
-        Call::Plan => 1,
+        Call::Plan | Call::Tickets => 1,
         Call::Analyse(workers) => workers,
     };
     let plan = Plan::new(alloc, workers, &[1, 1], &[])?;
@@ -135,6 +142,13 @@ fn sweep<R: Threads + Wait + Sync>(
 #[test]
 fn want_of_memory_in_a_plan(rt: HostRuntime) -> Result<(), Fail> {
     let answers = sweep(&rt, rt.alloc(), Call::Plan, 8_192, 16)?;
+    assert_eq!(rt; answers, AS_THEY_SHOULD_BE);
+    Ok(())
+}
+
+#[test]
+fn want_of_memory_for_tickets(rt: HostRuntime) -> Result<(), Fail> {
+    let answers = sweep(&rt, rt.alloc(), Call::Tickets, 8_192, 16)?;
     assert_eq!(rt; answers, AS_THEY_SHOULD_BE);
     Ok(())
 }

@@ -9,6 +9,7 @@ use Rattle.cmh_work.specs.Finding.{finder_of}
 use Rattle.cmh_work.specs.Numbering.{Stands, AreNumbered}
 use Rattle.cmh_work.specs.Working.{IsWorked}
 use Rattle.cmh_work.proofs.Analysing.{all_stand, analysed}
+use Rattle.cmh_work.proofs.Faults.{given}
 use Rattle.cmh_work.proofs.analysis.finish.Goals as goal
 
 pub number_all-requires-clause-stand : goal.number_all-requires-clause-stand
@@ -20,13 +21,13 @@ number_all-requires-clause-stand g c =
     let sorted = c.sort_unstable_by_key.new.self.items in
     let w : IsWorked gr plan c.args.shared seats c.in_ok-found.found.items =
     subst (λ r. IfOk r (λ f. IsWorked gr plan c.args.shared seats f.items)) c.in_ok-found.was c.workers-seats.ensures.worked in
-    let sound = all_stand gr plan.choices rows (known seats.board).seen c.in_ok-found.found.items sorted c.sort_unstable_by_key.ensures.permutation c.in_ok-history.ensures.begins w.of.accounts.sound in
+    let sound = all_stand gr plan.choices rows (known seats.board).seen c.in_ok-found.found.items sorted c.sort_unstable_by_key.ensures.permutation (given c.close.result c.map_err.result c.in_ok-history.history _ _ c.map_err.ensures.cases c.in_ok-history.was c.close.ensures.begins) w.of.accounts.sound in
     subst (λ l. All (Stands l) sorted) (sym c.deref.ensures.value) (λ k d low. (sound k d low).stands)
 
 pub number_all-requires-clause-few : goal.number_all-requires-clause-few
 number_all-requires-clause-few g c =
     let gr = c.args.graph.now in
-    let true_of : IsTrueOf gr c.in_ok-history.history.items = subst (λ x. IsTrueOf x c.in_ok-history.history.items) c.requires.made.board c.in_ok-history.ensures.true_of in
+    let true_of : IsTrueOf gr c.in_ok-history.history.items = subst (λ x. IsTrueOf x c.in_ok-history.history.items) c.requires.made.board (given c.close.result c.map_err.result c.in_ok-history.history _ _ c.map_err.ensures.cases c.in_ok-history.was c.close.ensures.true_of) in
     let few : length c.in_ok-history.history.items ≤ process_count gr = true-few gr c.in_ok-history.history.items true_of in
     let count = c.len-others.ensures.count in
     let small = c.len-others.type_inv in
@@ -44,10 +45,10 @@ returns-clause-ok g c =
     subst (λ r. IfOk r (λ f. IsWorked gr plan c.args.shared seats f.items)) c.in_ok-found.was c.workers-seats.ensures.worked in
     let up : IsNonDecreasingBy finder_of sorted =
     IsNonDecreasingBy-from_sort finder_of _ (c.sort_unstable_by_key.ensures.sorted finder_of (answers_always _ _ _ (λ f a r x h. search rules))) in
-    let true_of : IsTrueOf gr rows = subst (λ x. IsTrueOf x rows) c.requires.made.board c.in_ok-history.ensures.true_of in
-    let made : IsMadeOf (known seats.board).mine rows = c.in_ok-history.ensures.own (back.board ∙ c.requires.board) in
+    let true_of : IsTrueOf gr rows = subst (λ x. IsTrueOf x rows) c.requires.made.board (given c.close.result c.map_err.result c.in_ok-history.history _ _ c.map_err.ensures.cases c.in_ok-history.was c.close.ensures.true_of) in
+    let made : IsMadeOf (known seats.board).mine rows = given c.close.result c.map_err.result c.in_ok-history.history _ _ c.map_err.ensures.cases c.in_ok-history.was c.close.ensures.own (back.board ∙ c.requires.board) in
     let numbered : AreNumbered rows sorted c.in_ok-records.records.items =
     subst (λ l. AreNumbered l sorted c.in_ok-records.records.items) c.deref.ensures.value c.in_ok-records.ensures.ok in
     analysed gr plan c.args.shared seats c.in_ok-found.found.items sorted record { records = c.in_ok-records.records; history = c.in_ok-history.history }
     c.len-others.ensures.well_formed c.requires.made c.sort_unstable_by_key.ensures.permutation up back.sit (back.tickets ∙ c.requires.tickets) w
-    c.in_ok-history.ensures.begins true_of made numbered
+    (given c.close.result c.map_err.result c.in_ok-history.history _ _ c.map_err.ensures.cases c.in_ok-history.was c.close.ensures.begins) true_of made numbered

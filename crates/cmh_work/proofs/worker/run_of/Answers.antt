@@ -1,5 +1,7 @@
-use Rattle.std.proofs.Common.{rules, subst}
+use Rattle.std.proofs.Common.{◌≤◌, length, rules, subst, sym}
+use Rattle.cmh_run.specs.declared.TheConstants.{MAX_CHOICES}
 use Rattle.cmh_work.specs.Working.{SitsIn}
+use Rattle.cmh_work.proofs.Faults.{only_memory}
 use Rattle.cmh_work.proofs.Hinting.{still_sits}
 use Rattle.cmh_work.proofs.worker.run_of.Goals as goal
 
@@ -14,3 +16,8 @@ returns-in-Err-clause-sits c =
     let t = still_sits c.args.job.now.shared.now.board c.new-hints.result c.run.new.hints c.new-hints.ensures.board c.new-hints.ensures.speaks c.run.ensures.kept in
     let u : SitsIn c.args.job.now.shared.now c.run.new.hints.seat.now = record { sits = t.0; away = t.1 } in
     subst (SitsIn c.args.job.now.shared.now) (search rules) u
+
+pub want_in_run-requires : goal.want_in_run-requires
+want_in_run-requires c =
+    let few = c.choices.ensures.accepted.choices_few in
+    only_memory c.args.job.now.graph.now c.args.initiator c.choices.result.now c.in-Err.fault c.requires.idle (subst (λ l. length l ≤ MAX_CHOICES) (sym c.choices.ensures.choices) few) c.in-Err.ensures.fault

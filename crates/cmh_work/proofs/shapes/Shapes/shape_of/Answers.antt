@@ -7,6 +7,7 @@ use Rattle.cmh_run.specs.Hints.{IsVerdict}
 use Rattle.cmh_work.specs.declared.record.Shape.TheVariants.{Leader}
 use Rattle.cmh_work.specs.Leaders.{group_leader}
 use Rattle.cmh_work.specs.Shape.{IsShape}
+use Rattle.cmh_work.proofs.Faults.{given}
 use Rattle.cmh_work.proofs.Shaping.{leader_stands, some_before, way_out}
 use Rattle.cmh_work.proofs.shapes.Shapes.shape_of.Goals as goal
 
@@ -22,7 +23,7 @@ unwrap-requires c =
 pub unwrap-requires-in-Free : goal.unwrap-requires-in-Free
 unwrap-requires-in-Free c =
     let free : ¬ (IsDeadlocked c.args.graph.now c.args.p) = subst (IsVerdict c.args.graph.now c.args.p) c.in-Free.is c.requires.known in
-    some_before (λ v. v.items) c.in_ok-path-in-Free.path _ c.in_ok-path-in-Free.ensures.ok
+    some_before (λ v. v.items) c.in_ok-path-in-Free.path _ (given c.path_by.result c.map_err.result c.in_ok-path-in-Free.path _ _ c.map_err.ensures.cases c.in_ok-path-in-Free.was c.path_by.ensures.ok)
     (way_out c.args.graph.now c.args.p _ c.len.ensures.well_formed.within c.requires.within free refl)
 
 pub returns-in-Deadlocked-clause-ok : goal.returns-in-Deadlocked-clause-ok

@@ -1,0 +1,5 @@
+use Rattle.cmh_work.proofs.Counting.{drawn_once}
+use Rattle.cmh_work.proofs.laws.law_drawn_once.Goals as goal
+
+pub returns : goal.returns
+returns c = drawn_once

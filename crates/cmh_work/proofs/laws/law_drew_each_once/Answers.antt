@@ -1,0 +1,5 @@
+use Rattle.cmh_work.proofs.Counting.{drew_each_once}
+use Rattle.cmh_work.proofs.laws.law_drew_each_once.Goals as goal
+
+pub returns : goal.returns
+returns c = drew_each_once
