@@ -1,5 +1,6 @@
 pub mod Counts
 pub mod Examples
+pub mod Joining
 pub mod Members
 pub mod Numbers
 pub mod Paths

@@ -72,17 +72,7 @@ group_words g p number sites core rest e1 e2 e3 e4 = rw (e1, e2, e3, e4) refl
 
 -- ---- lines
 
--- the line of one group more
-pub groups_more : (first : List ℕ) (words_of : ℕ → List (List ℕ)) (ps : List ℕ) (p : ℕ) → (first ++ flat_map line (map words_of ps)) ++ line (words_of p) ≡ first ++ flat_map line (map words_of (ps ++ p ∷ []))
-groups_more first words_of ps p = rw (map-append, flat_map-append) (rw (append_assoc, append-nil) refl)
-
 -- the totals, the lines of processes and those of groups are the whole text
 pub whole_text : (g : Graph) → (line (totals_line g) ++ flat_map line (map (process_line g) (idle_list g))) ++ flat_map line (map (group_line g) (leaders g)) ≡ report_text g
 unfolding report_text
 whole_text g = sym (flat_map-append line (totals_line g ∷ map (process_line g) (idle_list g)) (map (group_line g) (leaders g)))
-
--- the line of one process more
-pub lines_more : (first : List ℕ) (words_of : ℕ → List (List ℕ)) (ps : List ℕ) (i : ℕ) → i < length ps
-    → (first ++ flat_map line (map words_of (take i ps))) ++ line (words_of (get_or ps i 0)) ≡ first ++ flat_map line (map words_of (take (i + 1) ps))
-lines_more first words_of ps i l =
-    rw (take_more ps i 0 l, map-append, flat_map-append) (rw (append_assoc, append-nil) refl)

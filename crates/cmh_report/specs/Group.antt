@@ -4,7 +4,7 @@ use Rattle.std.specs.Option.{option_eq}
 use Rattle.cmh_graph.specs.Graph.{Graph, indices}
 use Rattle.cmh_graph.specs.Build.{IsWellFormed}
 use Rattle.cmh_graph.specs.Path.{reach_of}
-use Rattle.cmh_graph.specs.Core.{core_of, rest_of, leaders, group_number}
+use Rattle.cmh_graph.specs.Core.{core_of, rest_of, leaders as all_leaders, group_number}
 use Rattle.cmh_work.specs.Leaders.{group_leader, leader_at}
 use Rattle.cmh_report.specs.Report.{site_count}
 use Rattle.cmh_report.specs.declared.group.Group.{Group}
@@ -12,7 +12,7 @@ use Rattle.cmh_report.specs.declared.groups.Groups.{Groups}
 
 -- how many leaders there are up to this place
 unfoldable pub leaders_up_to : Graph → ℕ → ℕ
-leaders_up_to g p = count_by (λ q. nat_le q p) (leaders g)
+leaders_up_to g p = count_by (λ q. nat_le q p) (all_leaders g)
 
 -- whether that leader stands at the place
 abbrev pub is_led_by : List (Option ℕ) → ℕ → ℕ → Bool
@@ -23,6 +23,7 @@ pub record AreGroupsOf (g : Graph) (groups : Groups) : Type 0 where
   pub well_formed : IsWellFormed g
   pub leaders : groups.leaders.items ≡ map (group_leader g) (indices g)
   pub numbers : groups.numbers.items ≡ map (leaders_up_to g) (indices g)
+  pub list : groups.list.items ≡ all_leaders g
 
 -- the group of that leader
 pub record IsGroupOf (g : Graph) (leader : ℕ) (group : Group) : Type 0 where

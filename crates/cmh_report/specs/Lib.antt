@@ -1,6 +1,7 @@
 pub mod Ends
 pub mod Fault
 pub mod Group
+pub mod Lines
 pub mod Records
 pub mod Report
 pub mod Trace

@@ -1,10 +1,11 @@
 //! An analysis from end to end: a dump comes in, and its report goes out.
 
-ghost use Rattle.std.specs.Prelude.{◌≡◌, ◌+◌, ◌⊎◌, true, IfOk, IfErr, string_bytes};
+ghost use Rattle.std.specs.Prelude.{◌≡◌, ◌+◌, true, IfOk, IfErr, string_bytes};
 ghost use Rattle.cmh_dump.specs.Source.{GaveAtMost};
 ghost use Rattle.cmh_dump.specs.declared.TheConstants.{MAX_BYTES};
 ghost use Rattle.cmh_report.specs.Ends.{IsAnswer, IsCutShort, IsRefused};
 ghost use Rattle.cmh_report.specs.Fault.{IfDump, IfNoSuchProcess, IfRun, IfUnwritten, IfWork, IfWriteFault};
+ghost use Rattle.cmh_report.specs.Records.{IsSomeAnalysisOf};
 ghost use Rattle.cmh_report.specs.Report.{IsCountedReport, IsReport, report_text, deadlocked_count};
 
 use crate::fault::{AppFault, ReportFault};
@@ -13,7 +14,7 @@ use crate::text::{count_deadlocked, report};
 use cmh_dump::Source;
 use cmh_graph::WaitGraph;
 use cmh_stream::{Sink, put_all};
-use cmh_work::{Gate, Plan, WorkFault, analyse};
+use cmh_work::{Analysis, Gate, Plan, WorkFault, analyse};
 use std::alloc::Global;
 use std::sync::Wait;
 use std::thread::Threads;
@@ -25,22 +26,34 @@ struct Report {
     deadlocked: u32,
 }
 
-/// Analyses a graph by workers, and reports on it.
-#[tactic(auto, using(crate::proofs::Records::analysed, crate::proofs::Records::records_few, crate::proofs::Records::deadlocked_told))]
-fn report_on<R: Threads + Wait + Sync, G: Gate>(
+/// The workers' analysis of a graph. Want of memory is told as theirs.
+fn analysed<R: Threads + Wait + Sync, G: Gate>(
     rt: &R,
     alloc: Global,
     graph: &WaitGraph,
     plan: &Plan,
     gate: &G,
+) -> Result<Analysis, AppFault>
+    ensures analysis { IfOk result (IsSomeAnalysisOf graph.now) }
+    ensures memory { IfErr result (λ e. e ≡ AppFault.Work WorkFault.Memory) }
+{
+    Ok(analyse(rt, alloc, graph, plan, gate)?)
+}
+
+/// The report on a graph that was analysed. Want of memory is told as the text's.
+#[tactic(auto, using(crate::proofs::Records::analysed, crate::proofs::Records::records_few, crate::proofs::Records::deadlocked_told))]
+fn reported<R: Threads + Sync>(
+    rt: &R,
+    alloc: Global,
+    graph: &WaitGraph,
+    analysis: &Analysis,
 ) -> Result<Report, AppFault>
+    requires { IsSomeAnalysisOf graph.now analysis.now }
     ensures text { IfOk result (λ r. string_bytes r.text ≡ report_text graph.now) }
     ensures deadlocked { IfOk result (λ r. r.deadlocked ≡ deadlocked_count graph.now) }
-    ensures memory { IfErr result (λ e. (e ≡ AppFault.Work WorkFault.Memory)
-        ⊎ (e ≡ AppFault.Report ReportFault.Memory)) }
+    ensures memory { IfErr result (λ e. e ≡ AppFault.Report ReportFault.Memory) }
 {
-    let analysis = analyse(rt, alloc, graph, plan, gate)?;
-    let text = report(alloc, graph, &analysis)?;
+    let text = report(rt, alloc, graph, analysis)?;
     let _well_formed = graph.len();
     Ok(Report {
         text,
@@ -77,15 +90,19 @@ pub fn analyse_bytes<R: Threads + Wait + Sync, S: Source, K: Sink, G: Gate>(
     ensures no_run { IfErr result (λ e. IfRun e (λ _. ⊥)) }
     ensures unwritten { IfErr result (λ e.
         IfUnwritten e (K.taken sink.new ≡ K.taken sink.old)) }
+    ensures untouched { IfErr result (λ e. IfUnwritten e (sink.new ≡ sink.old)) }
     ensures cut_short { IfErr result (λ e. IfWriteFault e (IsCutShort IsReport
         (S.given source.old) (S.given source.new) (S.has_ended source.new)
         (K.taken sink.old) (K.taken sink.new))) }
     ensures stopped { IfErr result (λ e. IfWriteFault e (λ _. K.has_failed sink.new ≡ true)) }
+    ensures unfinished { IfErr result (λ e. IfWriteFault e (λ written.
+        K.is_finished sink.new ≡ true → (K.is_finished sink.old ≡ true) × (written ≡ 0))) }
 
     ensures at_most { GaveAtMost (MAX_BYTES + 1) (S.given source.old) (S.given source.new) }
 {
     let graph = read_graph(alloc, source)?;
-    let report = report_on(rt, alloc, &graph, plan, gate)?;
+    let analysis = analysed(rt, alloc, &graph, plan, gate)?;
+    let report = reported(rt, alloc, &graph, &analysis)?;
     put_all(sink, report.text.as_bytes())?;
     Ok(report.deadlocked)
 }

@@ -2,17 +2,14 @@
 
 ghost use Rattle.std.specs.Prelude.{◌≡◌};
 ghost use Rattle.cmh_report.specs.declared.fault.AppFault.TheVariants.{Dump, Work, Run, Report, WriteFault};
-ghost use Rattle.cmh_report.specs.declared.fault.ReportFault.TheVariants.{Memory};
 
 use cmh_dump::DumpFault;
-use cmh_graph::GraphFault;
 use cmh_run::RunFault;
 use cmh_work::WorkFault;
-use std::alloc::AllocError;
 use thiserror::Error;
 
 /// Why a graph has no report.
-#[derive(Debug, Drop, Error)]
+#[derive(Clone, Copy, PartialEq, Eq, Hash, Debug, Error)]
 pub enum ReportFault {
     /// Memory was refused.
     #[error("out of memory")]
@@ -20,7 +17,7 @@ pub enum ReportFault {
 }
 
 /// Why an analysis or a trace gives no answer.
-#[derive(Debug, Drop, Error)]
+#[derive(Clone, Copy, PartialEq, Eq, Hash, Debug, Error)]
 pub enum AppFault {
     /// The source gave no dump.
     #[error("dump: {0}")]
@@ -40,23 +37,6 @@ pub enum AppFault {
     /// The sink has failed after it had taken this many bytes.
     #[error("write fault after {0} bytes")]
     WriteFault(usize),
-}
-
-impl From<AllocError> for ReportFault {
-    ghost from_gives = { λ _ e. e ≡ Memory };
-
-    fn from(_e: AllocError) -> ReportFault {
-        ReportFault::Memory
-    }
-}
-
-impl From<GraphFault> for ReportFault {
-    ghost from_gives = { λ _ e. e ≡ Memory };
-
-    /// Questions to a graph fail for want of memory alone.
-    fn from(_fault: GraphFault) -> ReportFault {
-        ReportFault::Memory
-    }
 }
 
 impl From<DumpFault> for AppFault {
@@ -80,15 +60,6 @@ impl From<RunFault> for AppFault {
 
     fn from(fault: RunFault) -> AppFault {
         AppFault::Run(fault)
-    }
-}
-
-impl From<AllocError> for AppFault {
-    ghost from_gives = { λ _ e. e ≡ Report Memory };
-
-    /// Once the run is over, memory is asked for the text alone.
-    fn from(_e: AllocError) -> AppFault {
-        AppFault::Report(ReportFault::Memory)
     }
 }
 

@@ -3,12 +3,12 @@
 ghost use Rattle.std.specs.Prelude.{◌≡◌, ◌<◌, length, filter, map, nat_eq, not, All, IfOk, IsTrue};
 ghost use Rattle.std.specs.HashSet.{IsFromIterResult};
 ghost use Rattle.cmh_graph.specs.Graph.{process_count, site_of};
+ghost use Rattle.cmh_graph.specs.Path.{reach_of};
 ghost use Rattle.cmh_report.specs.Group.{is_led_by, AreGroupsOf, IsGroupOf};
 ghost use Rattle.cmh_report.specs.Report.{site_count};
 
-use crate::ReportFault;
 use crate::groups::{Groups, is_led_by};
-use cmh_graph::WaitGraph;
+use cmh_graph::{GraphFault, WaitGraph};
 use std::alloc::{AllocError, Global};
 use std::collections::HashSet;
 
@@ -27,13 +27,13 @@ pub(crate) fn group_of(
     graph: &WaitGraph,
     groups: &Groups,
     leader: u32,
-) -> Result<Group, ReportFault>
+) -> Result<Group, AllocError>
     requires within { leader < process_count graph.now }
     requires groups { AreGroupsOf graph.now groups.now }
     requires leads { IsTrue (is_led_by groups.now.leaders.items leader leader) }
     ensures { IfOk result (IsGroupOf graph.now leader) }
 {
-    let reach = graph.reach_of(alloc, leader)?;
+    let reach = reached(alloc, graph, leader)?;
     let (core, rest) = core_and_rest(alloc, &groups.leaders, leader, &reach)?;
     let site_count = count_sites(alloc, graph, &reach)?;
     Ok(Group {
@@ -42,6 +42,21 @@ pub(crate) fn group_of(
         rest,
         site_count,
     })
+}
+
+/// The processes that one reaches.
+fn reached(alloc: Global, graph: &WaitGraph, p: u32) -> Result<Vec<u32>, AllocError>
+    requires { p < process_count graph.now }
+    ensures { IfOk result (λ list. list.items ≡ reach_of graph.now p) }
+{
+    graph.reach_of(alloc, p).map_err(out_of_memory)
+}
+
+/// A question to a graph fails for want of memory alone.
+fn out_of_memory(_fault: GraphFault) -> AllocError
+    requires { _fault ≡ GraphFault.Memory }
+{
+    AllocError
 }
 
 /// The core and the rest of a group, by the processes that its leader reaches.

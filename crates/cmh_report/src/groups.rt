@@ -2,6 +2,7 @@
 
 ghost use Rattle.std.specs.Prelude.{◌≡◌, ◌<◌, map, length, IfOk};
 ghost use Rattle.cmh_graph.specs.Build.{IsWellFormed};
+ghost use Rattle.cmh_graph.specs.Core.{leaders as all_leaders};
 ghost use Rattle.cmh_graph.specs.Graph.{indices};
 ghost use Rattle.cmh_work.specs.Leaders.{group_leader};
 ghost use Rattle.cmh_report.specs.Group.{is_led_by, leaders_up_to};
@@ -18,6 +19,8 @@ pub(crate) struct Groups {
     pub(crate) leaders: Vec<Option<u32>>,
     /// For each process how many leaders there are up to it: for a leader the number of its group.
     pub(crate) numbers: Vec<u32>,
+    /// The leaders, by rising index.
+    pub(crate) list: Vec<u32>,
 }
 
 impl Groups {
@@ -34,7 +37,12 @@ impl Groups {
     {
         let leaders = group_leaders(alloc, graph, records)?;
         let numbers = group_numbers(alloc, graph, &leaders)?;
-        Ok(Groups { leaders, numbers })
+        let list = leader_list(alloc, graph, &leaders)?;
+        Ok(Groups {
+            leaders,
+            numbers,
+            list,
+        })
     }
 }
 
@@ -84,6 +92,24 @@ fn group_numbers(
         numbers.push(count)?;
     }
     Ok(numbers)
+}
+
+/// The leaders, by rising index.
+fn leader_list(
+    alloc: Global,
+    graph: &WaitGraph,
+    leaders: &[Option<u32>],
+) -> Result<Vec<u32>, AllocError>
+    requires { leaders.now ≡ map (group_leader graph.now) (indices graph.now) }
+    ensures { IfOk result (λ list. list.items ≡ all_leaders graph.now) }
+{
+    let mut list = Vec::new(alloc);
+    for p in 0..graph.len() {
+        if is_led_by(leaders, p, p) {
+            list.push(p)?;
+        }
+    }
+    Ok(list)
 }
 
 /// Whether that leader leads the process.

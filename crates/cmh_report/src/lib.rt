@@ -7,15 +7,17 @@ mod fault;
 mod group;
 mod groups;
 mod input;
-mod laws;
+pub mod laws;
 mod lines;
+mod parallel;
+mod pieces;
 #[cfg(test)]
 mod tests;
 mod text;
 mod trace;
 
 pub use analyse::analyse_bytes;
+pub use cmh_stream::{ReadOf, Sink, Source, Stopped, WriteOf};
 pub use fault::{AppFault, ReportFault};
-pub use laws::law_one_trace;
 pub use text::report;
 pub use trace::trace_bytes;

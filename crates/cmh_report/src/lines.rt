@@ -1,12 +1,17 @@
-//! The lines of the report, each appended to the text before it.
+//! The lines of the report, each appended to the text before it. What a line takes is reserved at
+//! once.
 
 ghost use Rattle.std.specs.Prelude.{◌≡◌, ◌++◌, ◌∷◌, [], ◌<◌, All, OnOk, codes, decimal, string_bytes};
 ghost use Rattle.cmh_graph.specs.Graph.{process_count};
 ghost use Rattle.cmh_report.specs.Report.{line, names, names_or_dash, spaced};
 
 use crate::group::Group;
+use crate::pieces::names_room;
 use cmh_graph::WaitGraph;
 use std::alloc::AllocError;
+
+/// The room for the words and the numbers of a line, names apart.
+const WORDS_ROOM: usize = 32;
 
 /// Appends the name of each process after a space.
 fn push_names(text: &mut String, graph: &WaitGraph, list: &[u32]) -> Result<(), AllocError>
@@ -38,6 +43,7 @@ pub(crate) fn push_deadlocked(text: &mut String, name: &str, number: u32) -> Res
     ensures { OnOk result (string_bytes text.new ≡ string_bytes text.old
         ++ line (codes "deadlocked" ∷ name.now ∷ codes "group" ∷ decimal number ∷ [])) }
 {
+    text.reserve(name.len().saturating_add(WORDS_ROOM))?;
     write!(text, "deadlocked {name} group {number}\n")
 }
 
@@ -53,6 +59,8 @@ pub(crate) fn push_free(
     ensures { OnOk result (string_bytes text.new ≡ string_bytes text.old
         ++ line (codes "free" ∷ name.now ∷ codes "path" ∷ names graph.now path.now)) }
 {
+    let names = names_room(graph, path).saturating_add(name.len());
+    text.reserve(names.saturating_add(WORDS_ROOM))?;
     write!(text, "free {name} path")?;
     push_names(text, graph, path)?;
     text.push_str("\n")?;
@@ -73,6 +81,8 @@ pub(crate) fn push_group(
         ++ codes "|" ∷ names_or_dash graph.now group.now.rest.items
         ++ codes "|" ∷ codes "sites" ∷ decimal group.now.site_count ∷ [])) }
 {
+    let names = names_room(graph, &group.core).saturating_add(names_room(graph, &group.rest));
+    text.reserve(names.saturating_add(WORDS_ROOM))?;
     write!(text, "group {} |", group.number)?;
     push_names(text, graph, &group.core)?;
     text.push_str(" |")?;

@@ -3,9 +3,11 @@
 mod cases;
 mod devices;
 mod ends;
+mod large;
 mod memory;
 mod more_cases;
 mod plans;
+mod surface;
 mod traces;
 mod tracing;
 
@@ -80,7 +82,7 @@ fn report_of<R: AllocGlobal + Threads + Wait + Sync>(
     let Ok(analysis) = analyse(rt, rt.alloc(), graph, &plan, &NoGate) else {
         return None;
     };
-    report(rt.alloc(), graph, &analysis).ok()
+    report(rt, rt.alloc(), graph, &analysis).ok()
 }
 
 /// Whether this is the report on the graph, however many workers analyse it.

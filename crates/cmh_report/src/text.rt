@@ -1,38 +1,55 @@
 //! The report as text.
 
-ghost use Rattle.std.specs.Prelude.{◌≡◌, ◌++◌, ◌<◌, ◌^◌, length, IfOk, OnOk, count_by, flat_map, map, string_bytes};
-ghost use Rattle.cmh_graph.specs.Core.{leaders};
-ghost use Rattle.cmh_graph.specs.Graph.{idle_list};
-ghost use Rattle.cmh_report.specs.Group.{AreGroupsOf};
-ghost use Rattle.cmh_report.specs.Records.{AreRecordsOf, IsSomeAnalysisOf, TellsOf, tells_deadlocked};
-ghost use Rattle.cmh_report.specs.Report.{line, counts_line, totals_line, process_line, group_line, report_text};
+ghost use Rattle.std.specs.Prelude.{◌≡◌, ◌++◌, ◌<◌, ◌^◌, length, IfOk, OnOk, count_by, flat_map, reverse, string_bytes};
+ghost use Rattle.cmh_report.specs.Records.{AreRecordsOf, IsSomeAnalysisOf, tells_deadlocked};
+ghost use Rattle.cmh_report.specs.Report.{line, counts_line, totals_line, report_text};
 
 use crate::ReportFault;
-use crate::group::group_of;
-use crate::groups::{Groups, is_led_by};
-use crate::lines::{push_deadlocked, push_free, push_group};
+use crate::groups::Groups;
+use crate::parallel::{group_lines, process_lines};
+use crate::pieces::lines_room;
 use cmh_graph::{Verdict, WaitGraph};
-use cmh_work::{Analysis, Record, Shape};
+use cmh_work::{Analysis, Record};
 use std::alloc::{AllocError, Global};
+use std::thread::Threads;
 
 /// The report on a graph that was analysed: a line of counts, a line for each idle process, and a
 /// line for each group of deadlocked processes. The analysis is of this graph. The graph is searched
-/// once for each group; the rest takes time close to linear in the processes and in the text.
+/// once for each group; the rest takes time close to linear in the processes and in the text. Where
+/// there is much to do, the lines are made by as many threads as there are processors. Memory is
+/// taken for the lines and for the whole text; a line is given back once it stands in the text.
 ///
 /// # Errors
 ///
 /// `Memory` where memory is refused.
 #[tactic(auto, using(crate::proofs::Records::analysed))]
-pub fn report(alloc: Global, graph: &WaitGraph, analysis: &Analysis) -> Result<String, ReportFault>
+pub fn report<R: Threads + Sync>(
+    rt: &R,
+    alloc: Global,
+    graph: &WaitGraph,
+    analysis: &Analysis,
+) -> Result<String, ReportFault>
     requires { IsSomeAnalysisOf graph.now analysis.now }
     ensures { IfOk result (λ text. string_bytes text ≡ report_text graph.now) }
 {
-    let records = analysis.records();
+    text_of(rt, alloc, graph, analysis.records()).map_err(|_| ReportFault::Memory)
+}
+
+/// The report, by the records.
+fn text_of<R: Threads + Sync>(
+    rt: &R,
+    alloc: Global,
+    graph: &WaitGraph,
+    records: &[Record],
+) -> Result<String, AllocError>
+    requires { AreRecordsOf graph.now records.now }
+    ensures { IfOk result (λ text. string_bytes text ≡ report_text graph.now) }
+{
     let groups = Groups::of_records(alloc, graph, records)?;
-    let mut text = totals(alloc, graph, records)?;
-    push_processes(&mut text, graph, &groups, records)?;
-    push_groups(alloc, &mut text, graph, &groups)?;
-    Ok(text)
+    let first = totals(alloc, graph, records)?;
+    let of_processes = process_lines(rt, alloc, graph, &groups, records)?;
+    let of_groups = group_lines(rt, alloc, graph, &groups)?;
+    joined(alloc, &first, of_processes, of_groups)
 }
 
 /// How many processes the records tell to be deadlocked.
@@ -75,59 +92,32 @@ fn totals(alloc: Global, graph: &WaitGraph, records: &[Record]) -> Result<String
     counts(alloc, all, all - idle, idle, count_deadlocked(records))
 }
 
-/// Appends the lines of the idle processes.
-fn push_processes(
-    text: &mut String,
-    graph: &WaitGraph,
-    groups: &Groups,
-    records: &[Record],
-) -> Result<(), AllocError>
-    requires groups { AreGroupsOf graph.now groups.now }
-    requires records { AreRecordsOf graph.now records.now }
-    ensures { OnOk result (string_bytes text.new ≡ string_bytes text.old
-        ++ flat_map line (map (process_line graph.now) (idle_list graph.now))) }
-{
-    for record in records {
-        push_process(text, graph, groups, record)?;
-    }
-    Ok(())
-}
-
-/// Appends the line of an idle process.
-fn push_process(
-    text: &mut String,
-    graph: &WaitGraph,
-    groups: &Groups,
-    record: &Record,
-) -> Result<(), AllocError>
-    requires groups { AreGroupsOf graph.now groups.now }
-    requires tells { TellsOf graph.now «record».now }
-    ensures { OnOk result (string_bytes text.new
-        ≡ string_bytes text.old ++ line (process_line graph.now «record».now.initiator)) }
-{
-    let name = graph.name(record.initiator);
-    match &record.shape {
-        Shape::Leader(leader) => push_deadlocked(text, name, groups.numbers[*leader as usize]),
-        Shape::Path(path) => push_free(text, graph, name, path),
-    }
-}
-
-/// Appends the lines of the groups.
-fn push_groups(
+/// The lines one after the other, where those of processes and those of groups come in falling order.
+fn joined(
     alloc: Global,
-    text: &mut String,
-    graph: &WaitGraph,
-    groups: &Groups,
-) -> Result<(), ReportFault>
-    requires { AreGroupsOf graph.now groups.now }
-    ensures { OnOk result (string_bytes text.new
-        ≡ string_bytes text.old ++ flat_map line (map (group_line graph.now) (leaders graph.now))) }
+    first: &str,
+    of_processes: Vec<String>,
+    of_groups: Vec<String>,
+) -> Result<String, AllocError>
+    ensures { IfOk result (λ text. string_bytes text ≡ first.now
+        ++ flat_map (λ s. string_bytes s) (reverse of_processes.items)
+        ++ flat_map (λ s. string_bytes s) (reverse of_groups.items)) }
 {
-    for p in 0..graph.len() {
-        if is_led_by(&groups.leaders, p, p) {
-            let group = group_of(alloc, graph, groups, p)?;
-            push_group(text, graph, &group)?;
-        }
+    let room = lines_room(&of_processes).saturating_add(lines_room(&of_groups));
+    let mut text = String::with_capacity(alloc, room.saturating_add(first.len()))?;
+    text.push_str(first)?;
+    append(&mut text, of_processes)?;
+    append(&mut text, of_groups)?;
+    Ok(text)
+}
+
+/// Appends the lines, the last first. Each is given back once it stands in the text.
+fn append(text: &mut String, mut lines: Vec<String>) -> Result<(), AllocError>
+    ensures { OnOk result (string_bytes text.new
+        ≡ string_bytes text.old ++ flat_map (λ s. string_bytes s) (reverse lines.items)) }
+{
+    while let Some(line) = lines.pop() {
+        text.push_str(&line)?;
     }
     Ok(())
 }

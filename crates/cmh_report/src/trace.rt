@@ -4,17 +4,18 @@ ghost use Rattle.std.specs.Prelude.{◌≡◌, ◌≢◌, ◌++◌, ◌<◌, ◌
 ghost use Rattle.cmh_dump.specs.Source.{GaveAtMost};
 ghost use Rattle.cmh_dump.specs.declared.TheConstants.{MAX_BYTES};
 ghost use Rattle.cmh_run.specs.Run.{IsFirstFault};
+ghost use Rattle.cmh_run.specs.declared.fault.RunFault.{RunFault};
 ghost use Rattle.cmh_report.specs.Ends.{GaveGraph, IsAnswer, IsCutShort, IsRefused};
 ghost use Rattle.cmh_report.specs.Fault.{IfDump, IfNoSuchProcess, IfRun, IfUnwritten, IfWork, IfWriteFault};
 ghost use Rattle.cmh_report.specs.Report.{line};
 ghost use Rattle.cmh_report.specs.Trace.{ending_lines, message_line, trace_text, HasLines, HasNoRun, IsBetween, IsEndedTrace, IsFirstNamed, IsPlainRun, IsSomeTrace, NobodyIsNamed};
 
-use crate::fault::AppFault;
+use crate::fault::{AppFault, ReportFault};
 use crate::input::read_graph;
 use cmh_dump::Source;
 use cmh_graph::WaitGraph;
 use cmh_process::{Kind, Message};
-use cmh_run::{Ending, NoHints, RunFault, RunLog, run};
+use cmh_run::{Ending, NoHints, RunLog, run};
 use cmh_stream::{Sink, put_all};
 use std::alloc::{AllocError, Global};
 
@@ -53,11 +54,14 @@ pub fn trace_bytes<S: Source, K: Sink>(
         (HasNoRun name.now choices.now fault))) }
     ensures unwritten { IfErr result (λ e.
         IfUnwritten e (K.taken sink.new ≡ K.taken sink.old)) }
+    ensures untouched { IfErr result (λ e. IfUnwritten e (sink.new ≡ sink.old)) }
     ensures cut_short { IfErr result (λ e. IfWriteFault e (IsCutShort
         (IsSomeTrace name.now choices.now)
         (S.given source.old) (S.given source.new) (S.has_ended source.new)
         (K.taken sink.old) (K.taken sink.new))) }
     ensures stopped { IfErr result (λ e. IfWriteFault e (λ _. K.has_failed sink.new ≡ true)) }
+    ensures unfinished { IfErr result (λ e. IfWriteFault e (λ written.
+        K.is_finished sink.new ≡ true → (K.is_finished sink.old ≡ true) × (written ≡ 0))) }
 
     ensures at_most { GaveAtMost (MAX_BYTES + 1) (S.given source.old) (S.given source.new) }
 {
@@ -66,7 +70,7 @@ pub fn trace_bytes<S: Source, K: Sink>(
         return Err(AppFault::NoSuchProcess);
     };
     let run = plain_run(alloc, &graph, initiator, choices)?;
-    let text = trace(alloc, &graph, &run)?;
+    let text = traced(alloc, &graph, &run)?;
     put_all(sink, text.as_bytes())?;
     Ok(run.ending())
 }
@@ -84,22 +88,31 @@ fn find_process(graph: &WaitGraph, name: &str) -> Option<u32>
     None
 }
 
-/// The run of a process that follows the choices without hints.
+/// The run of a process that follows the choices without hints. Want of memory is told as the run's.
 #[tactic(auto, using(crate::proofs::Traces::has_lines))]
 fn plain_run(
     alloc: Global,
     graph: &WaitGraph,
     initiator: u32,
     choices: &[u64],
-) -> Result<RunLog, RunFault>
+) -> Result<RunLog, AppFault>
     ensures initiator { IfOk result (λ r. r.initiator ≡ initiator) }
     ensures plain { IfOk result (IsPlainRun choices.now graph.now) }
     ensures lines { IfOk result (HasLines graph.now) }
-    ensures fault { IfErr result (λ e. (e ≡ RunFault.Memory)
-        ⊎ IsFirstFault graph.now initiator choices.now [] e) }
+    ensures fault { IfErr result (λ e. (fault : RunFault) × (e ≡ AppFault.Run fault)
+        × ((fault ≡ RunFault.Memory) ⊎ IsFirstFault graph.now initiator choices.now [] fault)) }
 {
     let _well_formed = graph.len();
-    run(alloc, graph, initiator, choices, &mut NoHints)
+    Ok(run(alloc, graph, initiator, choices, &mut NoHints)?)
+}
+
+/// The trace of a run. Want of memory is told as the text's.
+fn traced(alloc: Global, graph: &WaitGraph, run: &RunLog) -> Result<String, AppFault>
+    requires { HasLines graph.now run.now }
+    ensures text { IfOk result (λ text. string_bytes text ≡ trace_text graph.now run.now) }
+    ensures memory { IfErr result (λ e. e ≡ AppFault.Report ReportFault.Memory) }
+{
+    trace(alloc, graph, run).map_err(|_| AppFault::Report(ReportFault::Memory))
 }
 
 /// The trace of a run.

@@ -115,7 +115,7 @@ fn reports_of_another_program(rt: HostRuntime) -> Result<(), PlanFault> {
 #[test]
 fn a_failing_source(rt: HostRuntime) -> Result<(), PlanFault> {
     let plan = Plan::new(rt.alloc(), 2, &[1], &[])?;
-    for length in 0..TWO_IN_A_CYCLE_DUMP.len() {
+    for length in 0..=TWO_IN_A_CYCLE_DUMP.len() {
         let mut out = page(rt.alloc(), 1_000);
         let reader = Cut {
             bytes: &TWO_IN_A_CYCLE_DUMP.as_bytes()[..length],

@@ -1,13 +1,16 @@
-//! Dumps that are analysed and traced while memory is short.
+//! Dumps that are analysed and traced, and reports that are made, while memory is short.
+
+ghost use Rattle.cmh_report.specs.Records.{IsSomeAnalysisOf};
 
 use super::devices::Page;
 use super::ends::TWO_IN_A_CYCLE_DUMP;
-use super::{TWO_IN_A_CYCLE_REPORT, page};
-use crate::{AppFault, ReportFault, analyse_bytes, trace_bytes};
+use super::{CYCLE_AND_FOLLOWER, CYCLE_AND_FOLLOWER_REPORT, TWO_IN_A_CYCLE_REPORT, graph, page};
+use crate::{AppFault, ReportFault, analyse_bytes, report, trace_bytes};
 use cmh_dump::DumpFault;
+use cmh_graph::WaitGraph;
 use cmh_run::{Ending, RunFault};
 use cmh_stream::{ReadOf, WriteOf};
-use cmh_work::{NoGate, Plan, WorkFault};
+use cmh_work::{Analysis, NoGate, Plan, WorkFault, analyse};
 use std::alloc::Global;
 use std::sync::Wait;
 use std::test::Fail;
@@ -25,10 +28,16 @@ const PIECE: usize = 32_768;
 
 const PIECES: usize = 16;
 
-/// How many bytes more a call has than the one before.
+/// How many calls are made, each with so many bytes more than the one before: a whole analysis or
+/// trace, and a report alone.
+const CALLS: usize = 1_024;
+
 const STEP: usize = 512;
 
-/// Takes all the memory that there is, in blocks of falling sizes.
+const REPORT_STEP: usize = 16;
+
+/// Takes all the memory that there is, in blocks of falling sizes: of the small ones each size, since
+/// the heap keeps small blocks that were given back by their size.
 fn take_all(alloc: Global, blocks: &mut Vec<Vec<u8>>) {
     let mut size = 1usize << 46;
     for _ in 0..100_000 {
@@ -41,15 +50,16 @@ fn take_all(alloc: Global, blocks: &mut Vec<Vec<u8>>) {
                     return;
                 }
             }
-            Err(_) => size /= 2,
+            Err(_) if size > 1_024 => size /= 2,
+            Err(_) => size -= 16,
         }
     }
 }
 
 /// Pieces of the heap that lie side by side, so that they are one once they are given back.
-fn heap(alloc: Global) -> Result<Vec<Vec<u8>>, Fail> {
+fn heap(alloc: Global, count: usize) -> Result<Vec<Vec<u8>>, Fail> {
     let mut pieces = Vec::with_capacity(alloc, PIECES)?;
-    for _ in 0..PIECES {
+    for _ in 0..count {
         pieces.push(Vec::with_capacity(alloc, PIECE)?)?;
     }
     Ok(pieces)
@@ -109,8 +119,42 @@ const AS_THEY_SHOULD_BE: Answers = Answers {
     refused: true,
 };
 
-/// Makes the call with more and more memory, until there is enough. Nothing is written where memory
-/// is refused.
+impl Answers {
+    fn none() -> Answers {
+        Answers {
+            right: false,
+            wrong: false,
+            refused: false,
+        }
+    }
+
+    /// Notes an answer, and whether the output was the whole text and whether it was empty.
+    fn note(&mut self, answer: Result<bool, AppFault>, whole: bool, empty: bool) {
+        match answer {
+            Ok(right) if right && whole => self.right = true,
+            Err(fault) if is_memory(&fault) && empty => self.refused = true,
+            _ => self.wrong = true,
+        }
+    }
+}
+
+/// All the memory that there is, but for so many pieces of the heap, and what keeps these apart.
+#[derive(Drop)]
+struct Shortage {
+    blocks: Vec<Vec<u8>>,
+    pin: Vec<u8>,
+}
+
+fn all_but(alloc: Global, count: usize) -> Result<Shortage, Fail> {
+    let mut blocks = Vec::with_capacity(alloc, 100_000)?;
+    let room = heap(alloc, count)?;
+    let pin = Vec::with_capacity(alloc, 64)?;
+    take_all(alloc, &mut blocks);
+    drop(room);
+    Ok(Shortage { blocks, pin })
+}
+
+/// Makes the call with more and more memory. Nothing is written where memory is refused.
 fn sweep<R: AllocGlobal + Threads + Wait + Sync>(
     rt: &R,
     call: Call,
@@ -121,28 +165,42 @@ fn sweep<R: AllocGlobal + Threads + Wait + Sync>(
         bytes: Vec::with_capacity(alloc, 1_000)?,
         ..page(alloc, 1_000)
     };
-    let mut blocks = Vec::with_capacity(alloc, 100_000)?;
-    let room = heap(alloc)?;
-    let _pin: Vec<u8> = Vec::with_capacity(alloc, 64)?;
-    take_all(alloc, &mut blocks);
-    drop(room);
-
-    let mut answers = Answers {
-        right: false,
-        wrong: false,
-        refused: false,
-    };
-    for k in 0..PIECE * PIECES / STEP {
+    let mut answers = Answers::none();
+    let shortage = all_but(alloc, PIECES)?;
+    for k in 0..CALLS {
         let taken: Result<Vec<u8>, _> = Vec::with_capacity(alloc, PIECE * PIECES - STEP * k);
         out.bytes.clear();
-        match answer(rt, call, &mut out) {
-            Ok(right) if right && out.bytes.as_slice() == text.as_bytes() => answers.right = true,
-            Err(fault) if is_memory(&fault) && out.bytes.is_empty() => answers.refused = true,
-            _ => answers.wrong = true,
-        }
+        let answer = answer(rt, call, &mut out);
+        let whole = out.bytes.as_slice() == text.as_bytes();
+        answers.note(answer, whole, out.bytes.is_empty());
         drop(taken);
     }
-    drop(blocks);
+    drop(shortage);
+    Ok(answers)
+}
+
+/// Makes the report with more and more memory, of one piece: it takes less than that.
+fn sweep_report<R: AllocGlobal + Threads + Sync>(
+    rt: &R,
+    graph: &WaitGraph,
+    analysis: &Analysis,
+    text: &str,
+) -> Result<Answers, Fail>
+    requires { IsSomeAnalysisOf graph.now analysis.now }
+{
+    let alloc = rt.alloc();
+    let mut answers = Answers::none();
+    let shortage = all_but(alloc, 1)?;
+    for k in 0..CALLS {
+        let taken: Result<Vec<u8>, _> = Vec::with_capacity(alloc, PIECE - REPORT_STEP * k);
+        let answer = match report(rt, alloc, graph, analysis) {
+            Ok(made) => Ok(made.as_str() == text),
+            Err(fault) => Err(AppFault::Report(fault)),
+        };
+        answers.note(answer, true, true);
+        drop(taken);
+    }
+    drop(shortage);
     Ok(answers)
 }
 
@@ -169,6 +227,16 @@ fn want_of_memory_with_two_workers(rt: HostRuntime) -> Result<(), Fail> {
 #[test]
 fn want_of_memory_in_a_trace(rt: HostRuntime) -> Result<(), Fail> {
     let answers = sweep(&rt, Call::Trace, TRACE)?;
+    assert_eq!(rt; answers, AS_THEY_SHOULD_BE);
+    Ok(())
+}
+
+#[test]
+fn want_of_memory_in_a_report(rt: HostRuntime) -> Result<(), Fail> {
+    let graph = graph(rt.alloc(), &CYCLE_AND_FOLLOWER, &[])?;
+    let plan = Plan::new(rt.alloc(), 1, &[], &[])?;
+    let analysis = analyse(&rt, rt.alloc(), &graph, &plan, &NoGate)?;
+    let answers = sweep_report(&rt, &graph, &analysis, CYCLE_AND_FOLLOWER_REPORT)?;
     assert_eq!(rt; answers, AS_THEY_SHOULD_BE);
     Ok(())
 }

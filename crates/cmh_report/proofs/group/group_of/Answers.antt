@@ -11,12 +11,12 @@ use Rattle.cmh_report.proofs.group.group_of.Goals as goal
 pub core_and_rest-requires : goal.core_and_rest-requires
 core_and_rest-requires c =
     let g = c.args.graph.now in
-    reach_within g c.args.leader _ _ (c.deref-2.ensures.value ∙ c.in_ok-reach.ensures.ok) (ap length (c.deref.ensures.value ∙ c.requires.groups.leaders) ∙ length-by_index g (group_leader g))
+    reach_within g c.args.leader _ _ (c.deref-2.ensures.value ∙ c.in_ok-reach.ensures) (ap length (c.deref.ensures.value ∙ c.requires.groups.leaders) ∙ length-by_index g (group_leader g))
 
 pub count_sites-requires : goal.count_sites-requires
 count_sites-requires c =
     let g = c.args.graph.now in
-    reach_within g c.args.leader _ _ (c.deref-3.ensures.value ∙ c.in_ok-reach.ensures.ok) (λ i. length g.processes)
+    reach_within g c.args.leader _ _ (c.deref-3.ensures.value ∙ c.in_ok-reach.ensures) (λ i. length g.processes)
 
 pub returns : goal.returns
 returns c =
@@ -24,7 +24,7 @@ returns c =
     let leader = c.args.leader in
     let groups = c.requires.groups in
     let list = c.args.groups.now.leaders.items in
-    let all = c.deref-2.ensures.value ∙ c.in_ok-reach.ensures.ok in
+    let all = c.deref-2.ensures.value ∙ c.in_ok-reach.ensures in
     record {
       number = c.index.ensures ∙ by_index g (leaders_up_to g) _ leader _ groups.numbers c.requires.within ∙ own_number g list leader groups.leaders c.requires.within c.requires.leads;
       core =
@@ -35,5 +35,5 @@ returns c =
           c.in_ok-core.ensures.rest
           ∙ ap (λ xs. filter (λ q. not (is_led_by xs leader q)) c.deref-2.result.now) c.deref.ensures.value
           ∙ led_rest g list leader _ groups.well_formed.within c.requires.within groups.leaders c.requires.leads all;
-      sites = c.in_ok-site_count.ensures ∙ ap (site_count g) (c.deref-3.ensures.value ∙ c.in_ok-reach.ensures.ok);
+      sites = c.in_ok-site_count.ensures ∙ ap (site_count g) (c.deref-3.ensures.value ∙ c.in_ok-reach.ensures);
     }

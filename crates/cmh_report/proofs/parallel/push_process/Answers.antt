@@ -10,7 +10,7 @@ use Rattle.cmh_report.proofs.Numbers.{number_is}
 use Rattle.cmh_report.proofs.Paths.{path_within}
 use Rattle.cmh_report.proofs.Records.{told_leader, told_path}
 use Rattle.cmh_report.proofs.Words.{deadlocked_words, free_words}
-use Rattle.cmh_report.proofs.text.push_process.Goals as goal
+use Rattle.cmh_report.proofs.parallel.push_process.Goals as goal
 
 pub index-requires : goal.index-requires
 index-requires c =
