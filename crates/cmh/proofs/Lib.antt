@@ -1,2 +1,4 @@
 pub mod Examples
 pub mod Lists
+pub mod Outcomes
+pub mod Requests

@@ -1,18 +1,32 @@
--- The status with which the program ends after a fault.
-use Rattle.std.specs.Prelude.{ℕ, List, IsFalse}
+-- The table of statuses: what each says of what was asked for and of the two ends of the program.
+use Rattle.std.specs.Prelude.{◌≡◌, ◌⊎◌, ◌<◌, ◌≤◌, ◌++◌, ℕ, List, length, replicate, take, Bool, true, Option, None, Some, IsFalse, MatchOption, string_bytes}
+use Rattle.std.specs.Borrow.{Bor}
+use Rattle.clap.specs.Words.{Text}
 use Rattle.cmh_graph.specs.Graph.{Graph, is_idle}
 use Rattle.cmh_dump.specs.declared.fault.DumpFault.{DumpFault}
 use Rattle.cmh_dump.specs.declared.fault.DumpFault.TheVariants as dump
+use Rattle.cmh_run.specs.declared.delivery.Ending.{Ending}
 use Rattle.cmh_run.specs.declared.fault.RunFault.{RunFault}
 use Rattle.cmh_run.specs.declared.fault.RunFault.TheVariants as run
+use Rattle.cmh_work.specs.Plan.{Setup, IsFirstFault as IsPlanFault}
+use Rattle.cmh_work.specs.declared.TheConstants.{MAX_CUTS}
 use Rattle.cmh_work.specs.declared.fault.PlanFault.{PlanFault}
 use Rattle.cmh_work.specs.declared.fault.PlanFault.TheVariants as plan
 use Rattle.cmh_report.specs.declared.fault.AppFault.{AppFault}
 use Rattle.cmh_report.specs.declared.fault.AppFault.TheVariants.{Dump, Work, NoSuchProcess, Run, Report, WriteFault}
-use Rattle.cmh_report.specs.Trace.{IsFirstNamed}
+use Rattle.cmh_report.specs.Ends.{GaveGraph, IsAnswer, IsCutShort, IsRefused}
+use Rattle.cmh_report.specs.Report.{IsCountedReport, IsReport}
+use Rattle.cmh_report.specs.Trace.{IsEndedTrace, IsFirstNamed, IsSomeTrace}
+use Rattle.cmh.specs.List.{IsFirstFault, IsListOf}
+use Rattle.cmh.specs.Words.{IsRequest}
 use Rattle.cmh.specs.declared.list.ListFault.{ListFault}
 use Rattle.cmh.specs.declared.list.ListFault.TheVariants as list
-use Rattle.cmh.specs.declared.status.TheConstants.{REFUSED, MISUSED, FAILED}
+use Rattle.cmh.specs.declared.request.PlanWords.{PlanWords}
+use Rattle.cmh.specs.declared.request.Request.{Request}
+use Rattle.cmh.specs.declared.request.Request.TheVariants.{Analyse, Trace, Show, Refused}
+use Rattle.cmh.specs.declared.status.TheConstants.{FREE, REFUSED, MISUSED, DEADLOCKED, FAILED}
+
+-- ---- the status after a fault
 
 -- want of memory and a failed source are no fault of the dump
 abbrev pub status_of_dump : DumpFault → ℕ
@@ -41,6 +55,138 @@ abbrev pub status_of_plan : PlanFault → ℕ
 status_of_plan plan.Memory = FAILED
 status_of_plan fault = MISUSED
 
+-- ---- the two ends
+
+-- The source before and after a call, and standard output: the bytes given and taken, whether the
+-- source has ended or failed, and whether the output was handed on or has failed.
+pub record Ends : Type 0 where
+  pub given_old : List ℕ
+  pub given_new : List ℕ
+  pub has_ended : Bool
+  pub source_failed : Bool
+  pub taken_old : List ℕ
+  pub taken_new : List ℕ
+  pub is_finished : Bool
+  pub out_failed : Bool
+
+abbrev pub IsUnread : Ends → Type 0
+IsUnread e = e.given_new ≡ e.given_old
+
+abbrev pub IsUnwritten : Ends → Type 0
+IsUnwritten e = e.taken_new ≡ e.taken_old
+
+-- the source gave a dump, and the output took just a text that fits its graph, and handed it on
+abbrev pub HasAnswered : (Graph → List ℕ → Type 0) → Ends → Type 0
+HasAnswered Fits e =
+    IsAnswer Fits e.given_old e.given_new e.has_ended e.taken_old e.taken_new e.is_finished
+
+-- the source gave a dump, and the output failed after it had taken the front of such a text
+abbrev pub HasStopped : (Graph → List ℕ → Type 0) → Ends → Type 0
+HasStopped Fits e = (e.out_failed ≡ true) × ((written : ℕ)
+    × IsCutShort Fits e.given_old e.given_new e.has_ended e.taken_old e.taken_new written)
+
+-- ---- what is said of the dump, of lists and of plans
+
+-- the dump has a fault of its own, whose status is that of a refusal
+abbrev pub IsDumpRefused : Ends → Type 0
+IsDumpRefused e = (fault : DumpFault) × (status_of_dump fault ≡ REFUSED)
+    × IsRefused e.given_old e.given_new e.has_ended e.source_failed fault
+
 -- no idle process has that name
 abbrev pub NobodyIdleIsNamed : List ℕ → Graph → Type 0
 NobodyIdleIsNamed name g = (p : ℕ) → IsFirstNamed g name p → IsFalse (is_idle g p)
+
+-- a trace of the process of that name, by the choices that the text lists
+abbrev pub FitsTrace : List ℕ → List ℕ → Graph → List ℕ → Type 0
+FitsTrace name list g text =
+    (choices : List ℕ) × IsListOf list choices × IsSomeTrace name choices g text
+
+-- the text is no list
+abbrev pub IsBadList : List ℕ → Type 0
+IsBadList text = (fault : ListFault) × IsFirstFault text fault
+
+-- the cuts that the text lists; where nothing is said, as many ones as there may be
+abbrev pub HasCuts : Option (Bor Text) → List ℕ → Type 0
+HasCuts words cuts =
+    MatchOption words (cuts ≡ replicate MAX_CUTS 1) (λ text. IsListOf text.now cuts)
+
+-- cuts and choices are lists, but there is no such plan
+pub record IsBadPlan (words : PlanWords) : Type 0 where
+  pub cuts : List ℕ
+  pub choices : List ℕ
+  pub cuts_listed : HasCuts words.cuts cuts
+  pub choices_listed : IsListOf words.choices.now choices
+  pub fault : PlanFault
+  pub first : IsPlanFault record { workers = words.workers; cuts = cuts; choices = choices } fault
+
+-- the words for a plan have a fault
+abbrev pub AreBadPlanWords : PlanWords → Type 0
+AreBadPlanWords words = MatchOption words.cuts ⊥ (λ text. IsBadList text.now)
+    ⊎ IsBadList words.choices.now ⊎ IsBadPlan words
+
+-- the status of a refused list, or of one for which there was no memory
+abbrev pub IsListStatus : List ℕ → ℕ → Type 0
+IsListStatus text status = (status ≡ FAILED) ⊎ ((status ≡ MISUSED) × IsBadList text)
+
+-- the same of a list of cuts that was given
+abbrev pub IsCutsStatus : Option (Bor Text) → ℕ → Type 0
+IsCutsStatus words status = (status ≡ FAILED)
+    ⊎ ((status ≡ MISUSED) × MatchOption words ⊥ (λ text. IsBadList text.now))
+
+-- the same of the words for a plan
+abbrev pub IsPlanStatus : PlanWords → ℕ → Type 0
+IsPlanStatus words status = (status ≡ FAILED) ⊎ ((status ≡ MISUSED) × AreBadPlanWords words)
+
+-- ---- the rows of the table, by what was asked for
+
+-- nothing is deadlocked, or the trace or the text that was asked for is out
+abbrev pub IsDone : Request → Ends → Type 0
+IsDone (Analyse plan) e = HasAnswered (IsCountedReport 0) e
+IsDone (Trace name choices) e = HasAnswered (FitsTrace name.now choices.now) e
+IsDone (Show text) e = IsUnread e × (e.taken_new ≡ e.taken_old ++ string_bytes text)
+    × (e.is_finished ≡ true)
+IsDone (Refused text) e = ⊥
+
+-- the dump is refused, and nothing was written
+abbrev pub HasRefusedDump : Request → Ends → Type 0
+HasRefusedDump (Analyse plan) e = IsUnwritten e × IsDumpRefused e
+HasRefusedDump (Trace name choices) e = IsUnwritten e × IsDumpRefused e
+HasRefusedDump request e = ⊥
+
+-- the words, a list or the plan are refused before anything is read, or the name is of no idle
+-- process of the dump; nothing was written
+abbrev pub IsMisused : Request → Ends → Type 0
+IsMisused (Analyse plan) e = IsUnwritten e × IsUnread e × AreBadPlanWords plan
+IsMisused (Trace name choices) e = IsUnwritten e × ((IsUnread e × IsBadList choices.now)
+    ⊎ GaveGraph e.given_old e.given_new e.has_ended (NobodyIdleIsNamed name.now))
+IsMisused (Show text) e = ⊥
+IsMisused (Refused text) e = IsUnwritten e × IsUnread e
+
+-- some process is deadlocked, and the report is out
+abbrev pub HasDeadlock : Request → Ends → Type 0
+HasDeadlock (Analyse plan) e = (d : ℕ) × (0 < d) × HasAnswered (IsCountedReport d) e
+HasDeadlock request e = ⊥
+
+-- Memory was refused, a worker was lost or the source failed, and nothing was written; or the output
+-- failed, after it had taken the front of the text.
+abbrev pub HasFailed : Request → Ends → Type 0
+HasFailed (Analyse plan) e = IsUnwritten e ⊎ HasStopped IsReport e
+HasFailed (Trace name choices) e = IsUnwritten e ⊎ HasStopped (FitsTrace name.now choices.now) e
+HasFailed (Show text) e = IsUnread e × (e.out_failed ≡ true) × ((written : ℕ)
+    × (e.taken_new ≡ e.taken_old ++ take written (string_bytes text)))
+HasFailed (Refused text) e = ⊥
+
+-- the table of statuses
+pub record IsOutcome (request : Request) (status : ℕ) (e : Ends) : Type 0 where
+  pub free : status ≡ FREE → IsDone request e
+  pub refused : status ≡ REFUSED → HasRefusedDump request e
+  pub misused : status ≡ MISUSED → IsMisused request e
+  pub deadlocked : status ≡ DEADLOCKED → HasDeadlock request e
+  pub failed : status ≡ FAILED → HasFailed request e
+  pub known : status ≤ FAILED
+
+-- The outcome of what the words ask for. There may be no memory to read them: then nothing else was
+-- done.
+abbrev pub IsOutcomeOf : List Text → ℕ → Ends → Type 0
+IsOutcomeOf words status e = ((request : Request) × IsRequest words request × IsOutcome request status e)
+    ⊎ ((status ≡ FAILED) × IsUnread e × IsUnwritten e)

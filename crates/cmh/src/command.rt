@@ -1,113 +1,123 @@
-//! The words of the command line.
+//! What `clap` is told of the command line.
 
-use clap::error::ErrorKind;
-use clap::{Arg, ArgMatches, Command, Error, value_parser};
+ghost use Rattle.std.specs.Prelude.{◌≡◌, true, false, codes, IfOk};
+ghost use Rattle.clap.specs.Words.{app_of, rule_of};
+ghost use Rattle.clap.specs.declared.builder.command.Command.TheViews.{out-Command};
+ghost use Rattle.cmh.specs.Words.{analyse_app, name_rule, option_rule, program, trace_app, workers_rule};
+
+use clap::{Arg, Command, value_parser};
+use cmh_work::MAX_WORKERS;
 use std::alloc::{AllocError, Global};
-use std::convert::AsStr;
 
-/// How many workers there are where nothing is said.
-const DEFAULT_WORKERS: u32 = 4;
+const AFTER_HELP: &str = "\
+Examples:
+  cmh analyse < dump.json
+  cmh trace NAME < dump.json
 
-/// How an analysis is to be shared out. Lists of numbers are still as they were written.
-#[derive(Drop)]
-pub(crate) struct PlanWords<'a> {
-    pub(crate) workers: u32,
-    pub(crate) cuts: Option<&'a str>,
-    pub(crate) choices: &'a str,
-}
+Exit status:
+  0  no process is deadlocked, or the trace was made
+  1  the dump is refused
+  2  the command line is refused, or NAME is no idle process of the dump
+  3  some process is deadlocked
+  4  want of memory, or a fault of a device
 
-/// What the words ask for.
-#[derive(Drop)]
-pub(crate) enum Request<'a> {
-    /// To analyse a dump.
-    Analyse(PlanWords<'a>),
-    /// To trace the process of this name by these choices.
-    Trace { name: &'a str, choices: &'a str },
-    /// To print this text.
-    Show(String),
-    /// Nothing: the words are refused with this text.
-    Refused(String),
-}
+The dump is one JSON text on standard input, read up to its end.
+docs/DUMPS.md says how to write one, docs/FORMATS.md what is read and printed.";
 
-fn command<'a>(alloc: Global) -> Result<Command<'a>, AllocError> {
+const AFTER_ANALYSE: &str = "\
+None of these options changes a byte of the report.
+For a large dump try --workers 64, and cuts of a 64th of the idle processes each.
+
+Examples:
+  cmh analyse < dump.json
+  cmh analyse --workers 64 --cuts 64,64,64 < dump.json
+
+Exit status: 0 no process is deadlocked, 3 some process is; 1 the dump is refused,
+2 the command line is, 4 want of memory or a fault of a device.
+
+docs/DUMPS.md says how to write a dump, docs/FORMATS.md how to read the report.";
+
+const AFTER_TRACE: &str = "\
+Examples:
+  cmh trace NAME < dump.json
+  cmh trace NAME --choices 1,0,2 < dump.json
+
+Exit status: 0 the trace was made; 1 the dump is refused, 2 the command line is, or
+NAME is no idle process of the dump, 4 want of memory or a fault of a device.
+
+docs/DUMPS.md says how to write a dump, docs/FORMATS.md how to read the trace.";
+
+/// The whole command line.
+pub(crate) fn command<'a>(alloc: Global) -> Result<Command<'a>, AllocError>
+    ensures app { IfOk result (λ c. app_of c ≡ program) }
+    ensures required { IfOk result (λ c. (out-Command c).subcommand_required ≡ true) }
+    ensures local { IfOk result (λ c. (out-Command c).has_globals ≡ false) }
+{
     Command::new(alloc, "cmh")
         .version("0.1.0")
         .about("Finds the processes of a stalled message-passing program that can never go on")
+        .after_help(AFTER_HELP)
         .subcommand_required(true)
         .disable_help_subcommand(true)
         .subcommand(analyse_command(alloc)?)?
         .subcommand(trace_command(alloc)?)
 }
 
-fn analyse_command<'a>(alloc: Global) -> Result<Command<'a>, AllocError> {
-    let workers = Arg::new(alloc, "workers")
-        .long("workers")
-        .value_name("N")
-        .value_parser(value_parser!(u32).range(1..=64))
-        .help("How many workers share the idle processes, 1 to 64; 4 where nothing is said");
-    let cuts = Arg::new(alloc, "cuts").long("cuts").value_name("LIST").help(
-        "How many idle processes each chunk takes: numbers parted by commas",
-    );
+fn analyse_command<'a>(alloc: Global) -> Result<Command<'a>, AllocError>
+    ensures app { IfOk result (λ c. app_of c ≡ analyse_app) }
+    ensures local { IfOk result (λ c. (out-Command c).has_globals ≡ false) }
+{
+    let cuts = "How many idle processes each chunk takes: numbers parted by commas";
     Command::new(alloc, "analyse")
         .about("Reads a dump from standard input and says which idle processes are deadlocked")
-        .arg(workers)?
-        .arg(cuts)?
+        .override_usage("cmh analyse [OPTIONS] < DUMP")
+        .after_help(AFTER_ANALYSE)
+        .arg(workers_option(alloc))?
+        .arg(list_option(alloc, "cuts", cuts))?
         .arg(choices_option(alloc))
 }
 
-fn trace_command<'a>(alloc: Global) -> Result<Command<'a>, AllocError> {
+fn trace_command<'a>(alloc: Global) -> Result<Command<'a>, AllocError>
+    ensures app { IfOk result (λ c. app_of c ≡ trace_app) }
+    ensures local { IfOk result (λ c. (out-Command c).has_globals ≡ false) }
+{
     let name = Arg::new(alloc, "NAME")
         .required(true)
         .help("The idle process that asks");
     Command::new(alloc, "trace")
         .about("Reads a dump from standard input and prints the queries and replies of one process")
+        .override_usage("cmh trace [OPTIONS] NAME < DUMP")
+        .after_help(AFTER_TRACE)
         .arg(name)?
         .arg(choices_option(alloc))
 }
 
-fn choices_option<'a>(alloc: Global) -> Arg<'a> {
-    Arg::new(alloc, "choices")
-        .long("choices")
+fn workers_option<'a>(alloc: Global) -> Arg<'a>
+    ensures rule { rule_of result ≡ workers_rule }
+    ensures local { result.global ≡ false }
+{
+    Arg::new(alloc, "workers")
+        .long("workers")
+        .value_name("N")
+        .value_parser(value_parser!(u32).range(1..=i64::from(MAX_WORKERS)))
+        .help("How many workers share the idle processes, 1 to 64; 4 where nothing is said")
+}
+
+fn choices_option<'a>(alloc: Global) -> Arg<'a>
+    ensures rule { rule_of result ≡ option_rule (codes "choices") }
+    ensures local { result.global ≡ false }
+{
+    let help = "Which undelivered message comes next, by its place: numbers parted by commas";
+    list_option(alloc, "choices", help)
+}
+
+/// An option that takes a list of numbers.
+fn list_option<'a>(alloc: Global, name: &'a str, help: &'a str) -> Arg<'a>
+    ensures rule { rule_of result ≡ option_rule name.entry.now }
+    ensures local { result.global ≡ false }
+{
+    Arg::new(alloc, name)
+        .long(name)
         .value_name("LIST")
-        .help("Which undelivered message comes next, by its place: numbers parted by commas")
-}
-
-/// What the matches of a command ask for.
-fn request_in<'a>(options: &ArgMatches<'a>) -> Request<'a> {
-    let choices = options.get_str("choices").unwrap_or("");
-    match options.get_str("NAME") {
-        Some(name) => Request::Trace { name, choices },
-        None => Request::Analyse(PlanWords {
-            workers: options.get_one("workers").unwrap_or(DEFAULT_WORKERS),
-            cuts: options.get_str("cuts"),
-            choices,
-        }),
-    }
-}
-
-/// What an error of `clap` asks to be printed.
-fn request_of<'a>(alloc: Global, error: &Error) -> Result<Request<'a>, AllocError> {
-    if error.kind() == ErrorKind::OutOfMemory {
-        return Err(AllocError);
-    }
-    let text = error.to_string(alloc)?;
-    if error.use_stderr() {
-        Ok(Request::Refused(text))
-    } else {
-        Ok(Request::Show(text))
-    }
-}
-
-/// What the words ask for, of which the first is the program's name.
-pub(crate) fn read_words<'a, T: AsStr>(
-    alloc: Global,
-    words: &'a [T],
-) -> Result<Request<'a>, AllocError> {
-    match command(alloc)?.try_get_matches_from(words) {
-        Ok(matches) => match matches.subcommand() {
-            Some((_, options)) => Ok(request_in(options)),
-            None => Ok(request_in(&matches)),
-        },
-        Err(error) => request_of(alloc, &error),
-    }
+        .help(help)
 }

@@ -10,8 +10,8 @@ use std::alloc::{AllocError, AllocFailed, Global};
 use thiserror::Error;
 
 /// The first fault of a list from the left. Places count from 0.
-#[derive(Debug, Drop, Error)]
-pub(crate) enum ListFault {
+#[derive(Clone, Copy, Debug, PartialEq, Eq, Error)]
+pub enum ListFault {
     /// This item is no number.
     #[error("bad number {0}")]
     BadNumber(usize),
@@ -45,7 +45,7 @@ impl<T: Drop> From<AllocFailed<T>> for ListFault {
 /// # Errors
 ///
 /// The first fault from the left, or `Memory` where memory is refused.
-pub(crate) fn read_list(alloc: Global, text: &str) -> Result<Vec<u64>, ListFault>
+pub fn read_list(alloc: Global, text: &str) -> Result<Vec<u64>, ListFault>
     ensures ok { IfOk result (λ list. IsListOf text.now list.items) }
     ensures few { IfOk result (λ list. length list.items ≤ MAX_NUMBERS) }
     ensures fault { IfErr result (λ e. (e ≡ Memory) ⊎ IsFirstFault text.now e) }
@@ -75,7 +75,7 @@ fn items_of<'a>(alloc: Global, text: &'a str) -> Result<Vec<&'a str>, AllocError
 }
 
 /// The number that an item writes, if it writes one.
-fn read_number(item: &str) -> Option<u64>
+pub(crate) fn read_number(item: &str) -> Option<u64>
     ensures { result ≡ number_of item.now }
 {
     // `parse` alone would take a sign.

@@ -1,19 +1,19 @@
 //! Lists of numbers and plans, read from the words of the command line.
 
-ghost use Rattle.std.specs.Prelude.{◌≡◌, ◌⊎◌, ◌≤◌, length, replicate, IfOk, IfErr, OnOk, MatchOption};
-ghost use Rattle.cmh_work.specs.declared.TheConstants.{MAX_CUTS};
+ghost use Rattle.std.specs.Prelude.{◌≡◌, ◌≤◌, length, IfOk, IfErr, OnOk};
 ghost use Rattle.cmh.specs.List.{IsListOf};
+ghost use Rattle.cmh.specs.Status.{HasCuts, IsCutsStatus, IsListStatus, IsPlanStatus};
 ghost use Rattle.cmh.specs.declared.TheConstants.{MAX_NUMBERS};
-ghost use Rattle.cmh.specs.declared.status.TheConstants.{MISUSED, FAILED};
 
-use crate::command::PlanWords;
 use crate::list::{ListFault, read_list};
+use crate::request::PlanWords;
 use crate::tell::{refuse_list, refuse_plan};
 use cmh_stream::Sink;
 use cmh_work::{MAX_CUTS, Plan};
 use std::alloc::Global;
 
 /// The numbers that the list of this option writes, or the status after its fault, which is told.
+#[tactic(auto, using(crate::proofs::Outcomes::list_status))]
 pub(crate) fn read_numbers<E: Sink>(
     alloc: Global,
     option: &str,
@@ -23,46 +23,44 @@ pub(crate) fn read_numbers<E: Sink>(
     ensures listed { IfOk result (λ numbers. IsListOf list.now numbers.items) }
     ensures few { IfOk result (λ numbers. length numbers.items ≤ MAX_NUMBERS) }
     ensures quiet { OnOk result (E.taken err.new ≡ E.taken err.old) }
-    ensures refused { IfErr result (λ status. (status ≡ MISUSED) ⊎ (status ≡ FAILED)) }
+    ensures refused { IfErr result (IsListStatus list.now) }
 {
     match read_list(alloc, list) {
         Ok(numbers) => Ok(numbers),
-        Err(fault) => Err(refuse_list(alloc, option, &fault, err)),
+        Err(fault) => Err(refuse_list(option, &fault, err)),
     }
 }
 
 /// The cuts that are asked for. Where there is no list of them, each initiator is a chunk of its own,
 /// up to the most cuts of a plan.
 fn read_cuts<E: Sink>(alloc: Global, list: Option<&str>, err: &mut E) -> Result<Vec<u64>, u8>
-    ensures cuts { IfOk result (λ cuts. MatchOption list.entry (cuts.items ≡ replicate MAX_CUTS 1)
-        (λ text. IsListOf text.now cuts.items)) }
+    ensures cuts { IfOk result (λ cuts. HasCuts list.entry cuts.items) }
     ensures quiet { OnOk result (E.taken err.new ≡ E.taken err.old) }
-    ensures refused { IfErr result (λ status. (status ≡ MISUSED) ⊎ (status ≡ FAILED)) }
+    ensures refused { IfErr result (IsCutsStatus list.entry) }
 {
     if let Some(list) = list {
         return read_numbers(alloc, "cuts", list, err);
     }
     match vec![in alloc; 1; MAX_CUTS] {
         Ok(cuts) => Ok(cuts),
-        Err(_) => Err(refuse_list(alloc, "cuts", &ListFault::Memory, err)),
+        Err(_) => Err(refuse_list("cuts", &ListFault::Memory, err)),
     }
 }
 
 /// The plan that the words ask for, or the status after the first fault, which is told. Cuts are
 /// read before choices.
+#[tactic(auto, using(crate::proofs::Outcomes::cuts_first, crate::proofs::Outcomes::choices_next, crate::proofs::Outcomes::plan_status))]
 pub(crate) fn read_plan<E: Sink>(alloc: Global, words: &PlanWords, err: &mut E) -> Result<Plan, u8>
     ensures workers { IfOk result (λ plan. plan.workers ≡ words.now.workers) }
-    ensures cuts { IfOk result (λ plan.
-        MatchOption words.now.cuts (plan.cuts ≡ replicate MAX_CUTS 1)
-        (λ text. IsListOf text.now plan.cuts)) }
+    ensures cuts { IfOk result (λ plan. HasCuts words.now.cuts plan.cuts) }
     ensures choices { IfOk result (λ plan. IsListOf words.now.choices.now plan.choices) }
     ensures quiet { OnOk result (E.taken err.new ≡ E.taken err.old) }
-    ensures refused { IfErr result (λ status. (status ≡ MISUSED) ⊎ (status ≡ FAILED)) }
+    ensures refused { IfErr result (IsPlanStatus words.now) }
 {
     let cuts = read_cuts(alloc, words.cuts, err)?;
     let choices = read_numbers(alloc, "choices", words.choices, err)?;
     match Plan::new(alloc, words.workers, &cuts, &choices) {
         Ok(plan) => Ok(plan),
-        Err(fault) => Err(refuse_plan(alloc, &fault, err)),
+        Err(fault) => Err(refuse_plan(&fault, err)),
     }
 }

@@ -2,12 +2,18 @@
 
 mod cases;
 mod devices;
+mod input;
+mod limits;
 mod lists;
+mod memory;
 mod plans;
+mod rows;
+mod surface;
 mod texts;
 mod tracing;
+mod words;
 
-use crate::serve::serve;
+use crate::serve;
 use cases::CASES;
 use cmh_stream::{ReadOf, WriteOf};
 use devices::{Cut, Page};

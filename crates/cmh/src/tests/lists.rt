@@ -1,7 +1,6 @@
 //! Lists of numbers.
 
-use crate::MAX_NUMBERS;
-use crate::list::{ListFault, read_list};
+use crate::{ListFault, MAX_NUMBERS, read_list};
 use std::alloc::AllocError;
 
 #[test]

@@ -2,7 +2,7 @@
 
 use super::devices::Page;
 use super::{is, page};
-use crate::list::ListFault;
+use crate::ListFault;
 use crate::tell::{fail, refuse_list, refuse_plan};
 use cmh_dump::DumpFault;
 use cmh_report::{AppFault, ReportFault};
@@ -13,7 +13,7 @@ use cmh_work::{PlanFault, WorkFault};
 /// Whether the fault is told by this line, with this status.
 fn tells(rt: HostRuntime, fault: &AppFault, line: &str, status: u8) -> bool {
     let mut err: Page = page(rt.alloc(), 100);
-    let answer = fail(rt.alloc(), fault, &mut WriteOf::new(&mut err));
+    let answer = fail(fault, &mut WriteOf::new(&mut err));
     answer == status && is(&err, line)
 }
 
@@ -124,7 +124,7 @@ fn faults_of_lists(rt: HostRuntime) {
     ];
     for (option, fault, line, status) in rows {
         let mut err = page(rt.alloc(), 100);
-        let answer = refuse_list(rt.alloc(), option, &fault, &mut WriteOf::new(&mut err));
+        let answer = refuse_list(option, &fault, &mut WriteOf::new(&mut err));
         assert!(rt; is(&err, line), "{line}");
         assert_eq!(rt; answer, status, "{line}");
     }
@@ -144,7 +144,7 @@ fn faults_of_plans(rt: HostRuntime) {
     ];
     for (fault, line, status) in rows {
         let mut err = page(rt.alloc(), 100);
-        let answer = refuse_plan(rt.alloc(), &fault, &mut WriteOf::new(&mut err));
+        let answer = refuse_plan(&fault, &mut WriteOf::new(&mut err));
         assert!(rt; is(&err, line), "{line}");
         assert_eq!(rt; answer, status, "{line}");
     }

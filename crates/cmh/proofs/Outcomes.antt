@@ -1,0 +1,319 @@
+-- What each fault and each answer says of the table of statuses.
+use Rattle.std.proofs.Common.{◌≡◌, ◌≢◌, ◌⊎◌, inl, inr, ℕ, ◌<◌, ◌≤◌, ◌++◌, List, [], length, Bool, true, take, refl, sym, subst, arith, Bor}
+use Rattle.std.proofs.lemmas.Bool.{cases_order}
+use Rattle.std.specs.Prelude.{IsFalse, String, string_bytes}
+use Rattle.std.specs.Global.{Global}
+use Rattle.clap.specs.Words.{Text}
+use Rattle.cmh_graph.specs.Graph.{Graph, is_idle}
+use Rattle.cmh_dump.specs.declared.fault.DumpFault.{DumpFault}
+use Rattle.cmh_dump.specs.declared.fault.DumpFault.TheVariants as dump
+use Rattle.cmh_run.specs.Run.{AreRestarts, IsFirstFault as IsRunFault}
+use Rattle.cmh_run.specs.declared.TheConstants.{MAX_CHOICES}
+use Rattle.cmh_run.specs.declared.delivery.Ending.{Ending}
+use Rattle.cmh_run.specs.declared.fault.RunFault.{RunFault}
+use Rattle.cmh_run.specs.declared.fault.RunFault.TheVariants as run
+use Rattle.cmh_work.specs.Plan.{Setup, IsFirstFault as IsPlanFault}
+use Rattle.cmh_work.specs.declared.fault.PlanFault.{PlanFault}
+use Rattle.cmh_work.specs.declared.fault.PlanFault.TheVariants as plan
+use Rattle.cmh_report.specs.declared.fault.AppFault.{AppFault}
+use Rattle.cmh_report.specs.declared.fault.AppFault.TheVariants.{Dump, Work, NoSuchProcess, Run, Report, WriteFault}
+use Rattle.cmh_report.specs.Ends.{GaveGraph, IsCutShort, IsRefused}
+use Rattle.cmh_report.specs.Fault.{IfDump, IfNoSuchProcess, IfRun, IfUnwritten, IfWriteFault}
+use Rattle.cmh_report.specs.Report.{IsCountedReport, IsReport}
+use Rattle.cmh_report.specs.Trace.{HasNoRun, IsEndedTrace, IsFirstNamed, IsSomeTrace, NobodyIsNamed}
+use Rattle.cmh.specs.List.{IsFirstFault, IsListOf}
+use Rattle.cmh.specs.Status.{status_of, status_of_dump, status_of_run, status_of_list, status_of_plan, AreBadPlanWords, Ends, FitsTrace, HasAnswered, HasCuts, HasDeadlock, HasFailed, HasRefusedDump, IsBadList, IsBadPlan, IsCutsStatus, IsDone, IsListStatus, IsMisused, IsOutcome, IsOutcomeOf, IsPlanStatus, IsUnread, IsUnwritten, NobodyIdleIsNamed}
+use Rattle.cmh.specs.Words.{IsRequest}
+use Rattle.cmh.specs.declared.list.ListFault.{ListFault}
+use Rattle.cmh.specs.declared.list.ListFault.TheVariants as list
+use Rattle.cmh.specs.declared.request.PlanWords.{PlanWords}
+use Rattle.cmh.specs.declared.request.Request.{Request}
+use Rattle.cmh.specs.declared.request.Request.TheVariants.{Analyse, Trace, Show, Refused}
+use Rattle.cmh.specs.declared.status.TheConstants.{FREE, REFUSED, MISUSED, DEADLOCKED, FAILED}
+
+-- ---- one row of the table at a time
+
+pub is_done : (r : Request) (e : Ends) → IsDone r e → IsOutcome r FREE e
+is_done r e h = record {
+  free = λ x. h;
+  refused = λ x. absurd (omega arith);
+  misused = λ x. absurd (omega arith);
+  deadlocked = λ x. absurd (omega arith);
+  failed = λ x. absurd (omega arith);
+  known = omega arith;
+}
+
+pub is_misused : (r : Request) (e : Ends) → IsMisused r e → IsOutcome r MISUSED e
+is_misused r e h = record {
+  free = λ x. absurd (omega arith);
+  refused = λ x. absurd (omega arith);
+  misused = λ x. h;
+  deadlocked = λ x. absurd (omega arith);
+  failed = λ x. absurd (omega arith);
+  known = omega arith;
+}
+
+pub has_deadlock : (r : Request) (e : Ends) → HasDeadlock r e → IsOutcome r DEADLOCKED e
+has_deadlock r e h = record {
+  free = λ x. absurd (omega arith);
+  refused = λ x. absurd (omega arith);
+  misused = λ x. absurd (omega arith);
+  deadlocked = λ x. h;
+  failed = λ x. absurd (omega arith);
+  known = omega arith;
+}
+
+pub has_failed : (r : Request) (e : Ends) → HasFailed r e → IsOutcome r FAILED e
+has_failed r e h = record {
+  free = λ x. absurd (omega arith);
+  refused = λ x. absurd (omega arith);
+  misused = λ x. absurd (omega arith);
+  deadlocked = λ x. absurd (omega arith);
+  failed = λ x. h;
+  known = omega arith;
+}
+
+-- a fault of the dump is its own, or one of memory or of the source
+dump_status : (f : DumpFault) → (status_of_dump f ≡ REFUSED) ⊎ (status_of_dump f ≡ FAILED)
+dump_status dump.Memory = inr refl
+dump_status dump.ReadFault = inr refl
+dump_status dump.TooLong = inl refl
+dump_status dump.NotJson = inl refl
+dump_status dump.BadTop = inl refl
+dump_status dump.BadVersion = inl refl
+dump_status (dump.BadSites i) = inl refl
+dump_status (dump.RepeatedSite i) = inl refl
+dump_status dump.TooManySites = inl refl
+dump_status dump.TooManyProcesses = inl refl
+dump_status (dump.BadProcess i) = inl refl
+dump_status (dump.RepeatedProcess i) = inl refl
+dump_status (dump.UnknownSite i) = inl refl
+dump_status (dump.UnknownDependent i j) = inl refl
+dump_status (dump.RepeatedDependent i j) = inl refl
+dump_status (dump.ActiveWithDependents i) = inl refl
+dump_status dump.TooManyDependencies = inl refl
+dump_status dump.TooManyInTransit = inl refl
+dump_status (dump.BadInTransit i) = inl refl
+dump_status (dump.UnknownInTransit i) = inl refl
+
+-- where the dump is refused, the status says whether by a fault of its own
+refused_dump : (r : Request) (e : Ends) (f : DumpFault) → (status_of_dump f ≡ REFUSED → HasRefusedDump r e) → HasFailed r e → IsOutcome r (status_of_dump f) e
+refused_dump r e f own failed = by_status (status_of_dump f) (dump_status f) own
+  where
+    by_status : (s : ℕ) → (s ≡ REFUSED) ⊎ (s ≡ FAILED) → (s ≡ REFUSED → HasRefusedDump r e) → IsOutcome r s e
+    by_status s (inl is) own = record {
+      free = λ x. absurd (omega arith);
+      refused = own;
+      misused = λ x. absurd (omega arith);
+      deadlocked = λ x. absurd (omega arith);
+      failed = λ x. failed;
+      known = omega arith;
+    }
+    by_status s (inr is) own = record {
+      free = λ x. absurd (omega arith);
+      refused = own;
+      misused = λ x. absurd (omega arith);
+      deadlocked = λ x. absurd (omega arith);
+      failed = λ x. failed;
+      known = omega arith;
+    }
+
+-- ---- lists and plans
+
+-- a list is refused for want of memory, or for its own fault
+pub list_status : (text : List ℕ) (f : ListFault) → (f ≡ list.Memory) ⊎ IsFirstFault text f → IsListStatus text (status_of_list f)
+list_status text list.Memory h = inl refl
+list_status text (list.BadNumber i) (inl h) = cc
+list_status text (list.BadNumber i) (inr h) = inr (refl, (list.BadNumber i, h))
+list_status text list.TooManyNumbers (inl h) = cc
+list_status text list.TooManyNumbers (inr h) = inr (refl, (list.TooManyNumbers, h))
+
+-- the status of refused cuts is one of the plan
+pub cuts_first : (w : PlanWords) (s : ℕ) → IsCutsStatus w.cuts s → IsPlanStatus w s
+cuts_first w s (inl h) = inl h
+cuts_first w s (inr h) = inr (h.0, inl h.1)
+
+-- and so is that of refused choices
+pub choices_next : (w : PlanWords) (s : ℕ) → IsListStatus w.choices.now s → IsPlanStatus w s
+choices_next w s (inl h) = inl h
+choices_next w s (inr h) = inr (h.0, inr (inl h.1))
+
+-- a plan is refused for want of memory, or for its own fault
+pub plan_status : (w : PlanWords) (cuts choices : List ℕ) (f : PlanFault) → HasCuts w.cuts cuts → IsListOf w.choices.now choices
+    → (f ≡ plan.Memory) ⊎ IsPlanFault record { workers = w.workers; cuts = cuts; choices = choices } f → IsPlanStatus w (status_of_plan f)
+plan_status w cuts choices f listed next h = by_fault f h
+  where
+    bad : (f : PlanFault) → IsPlanFault record { workers = w.workers; cuts = cuts; choices = choices } f → AreBadPlanWords w
+    bad f first = inr (inr (record { cuts = cuts; choices = choices; cuts_listed = listed; choices_listed = next; fault = f; first = first }))
+
+    by_fault : (f : PlanFault) → (f ≡ plan.Memory) ⊎ IsPlanFault record { workers = w.workers; cuts = cuts; choices = choices } f → IsPlanStatus w (status_of_plan f)
+    by_fault plan.Memory h = inl refl
+    by_fault plan.BadWorkers (inl h) = cc
+    by_fault plan.BadWorkers (inr h) = inr (refl, bad plan.BadWorkers h)
+    by_fault plan.TooManyCuts (inl h) = cc
+    by_fault plan.TooManyCuts (inr h) = inr (refl, bad plan.TooManyCuts h)
+    by_fault plan.TooManyChoices (inl h) = cc
+    by_fault plan.TooManyChoices (inr h) = inr (refl, bad plan.TooManyChoices h)
+
+-- ---- an analysis
+
+-- the plan is refused before anything is read
+pub misplanned : (w : PlanWords) (s : ℕ) (e : Ends) → IsPlanStatus w s → IsUnread e → IsUnwritten e → IsOutcome (Analyse w) s e
+misplanned w s e (inl h) unread unwritten = subst (λ (n : ℕ). IsOutcome (Analyse w) n e) (sym h) (has_failed (Analyse w) e (inl unwritten))
+misplanned w s e (inr h) unread unwritten = subst (λ (n : ℕ). IsOutcome (Analyse w) n e) (sym h.0) (is_misused (Analyse w) e (unwritten, unread, h.1))
+
+-- the report says that nothing is deadlocked
+pub nothing_deadlocked : (w : PlanWords) (e : Ends) → HasAnswered (IsCountedReport 0) e → IsOutcome (Analyse w) FREE e
+nothing_deadlocked w e h = is_done (Analyse w) e h
+
+-- the report says that something is
+pub something_deadlocked : (w : PlanWords) (e : Ends) (d : ℕ) → d ≢ 0 → HasAnswered (IsCountedReport d) e → IsOutcome (Analyse w) DEADLOCKED e
+something_deadlocked w e d some h = has_deadlock (Analyse w) e (d, omega (arith, some), h)
+
+-- the analysis has a fault
+pub analysis_failed : (w : PlanWords) (e : Ends) (f : AppFault)
+    → IfDump f (IsRefused e.given_old e.given_new e.has_ended e.source_failed)
+    → IfNoSuchProcess f ⊥ → IfRun f (λ _. ⊥) → IfUnwritten f (IsUnwritten e)
+    → IfWriteFault f (IsCutShort IsReport e.given_old e.given_new e.has_ended e.taken_old e.taken_new)
+    → IfWriteFault f (λ _. e.out_failed ≡ true) → IsOutcome (Analyse w) (status_of f) e
+analysis_failed w e (Dump f) refused nobody no_run unwritten cut stopped =
+    refused_dump (Analyse w) e f (λ own. (unwritten, (f, own, refused))) (inl unwritten)
+analysis_failed w e (Work f) refused nobody no_run unwritten cut stopped = has_failed (Analyse w) e (inl unwritten)
+analysis_failed w e NoSuchProcess refused nobody no_run unwritten cut stopped = absurd nobody
+analysis_failed w e (Run f) refused nobody no_run unwritten cut stopped = absurd no_run
+analysis_failed w e (Report f) refused nobody no_run unwritten cut stopped = has_failed (Analyse w) e (inl unwritten)
+analysis_failed w e (WriteFault n) refused nobody no_run unwritten cut stopped = has_failed (Analyse w) e (inr (stopped, (n, cut)))
+
+-- ---- a trace
+
+-- the list of choices is refused before anything is read
+pub mislisted : (name list : Bor (List ℕ)) (s : ℕ) (e : Ends) → IsListStatus list.now s → IsUnread e → IsUnwritten e → IsOutcome (Trace name list) s e
+mislisted name list s e (inl h) unread unwritten = subst (λ (n : ℕ). IsOutcome (Trace name list) n e) (sym h) (has_failed (Trace name list) e (inl unwritten))
+mislisted name list s e (inr h) unread unwritten = subst (λ (n : ℕ). IsOutcome (Trace name list) n e) (sym h.0) (is_misused (Trace name list) e (unwritten, inl (unread, h.1)))
+
+-- however its run has ended, a trace fits
+any_ending : (name list choices : List ℕ) (ending : Ending) (g : Graph) (text : List ℕ) → IsListOf list choices
+    → IsEndedTrace name choices ending g text → FitsTrace name list g text
+any_ending name list choices ending g text listed h =
+    (choices, listed, record { run = h.run; named = h.named; plain = h.plain; ends = tt; lines = h.lines })
+
+-- the trace is out
+pub traced : (name list : Bor (List ℕ)) (choices : List ℕ) (ending : Ending) (e : Ends) → IsListOf list.now choices
+    → HasAnswered (IsEndedTrace name.now choices ending) e → IsOutcome (Trace name list) FREE e
+traced name list choices ending e listed h = is_done (Trace name list) e (record {
+  graph = h.graph;
+  dump = h.dump;
+  text = h.text;
+  fits = any_ending name.now list.now choices ending h.graph h.text listed h.fits;
+  taken = h.taken;
+  finished = h.finished;
+})
+
+-- where nobody has the name, nobody idle has it
+nobody_named : (name : List ℕ) (g : Graph) → NobodyIsNamed g name → NobodyIdleIsNamed name g
+nobody_named name g none p h = absurd (none p h.within h.named)
+
+-- one process alone is the first of its name
+first_alone : (name : List ℕ) (g : Graph) (p q : ℕ) → IsFirstNamed g name p → IsFirstNamed g name q → p ≡ q
+first_alone name g p q one other = by_order (cases_order p q)
+  where
+    by_order : (p ≡ q) ⊎ ((p < q) ⊎ (q < p)) → p ≡ q
+    by_order (inl same) = same
+    by_order (inr (inl below)) = absurd (other.first p below one.named)
+    by_order (inr (inr above)) = absurd (one.first q above other.named)
+
+-- no restarts are restarts that a run may be given
+no_restarts : AreRestarts []
+no_restarts = record {
+  few = omega arith;
+  rising = λ k l. absurd (omega arith);
+}
+
+-- a process that has no run by few choices isn't idle
+not_idle : (name choices : List ℕ) (f : RunFault) (g : Graph) → length choices ≤ MAX_CHOICES → HasNoRun name choices f g
+    → (f ≡ run.Memory) ⊎ NobodyIdleIsNamed name g
+not_idle name choices f g few h = by_fault f h.cause
+  where
+    by_fault : (f : RunFault) → (f ≡ run.Memory) ⊎ IsRunFault g h.initiator choices [] f → (f ≡ run.Memory) ⊎ NobodyIdleIsNamed name g
+    by_fault f (inl memory) = inl memory
+    by_fault run.NotIdle (inr active) = inr (λ p first. subst (λ (q : ℕ). IsFalse (is_idle g q)) (first_alone name g h.initiator p h.named first) active)
+    by_fault run.TooManyChoices (inr many) = let l : MAX_CHOICES < length choices = many.1 in absurd (omega arith)
+    by_fault run.BadRestarts (inr bad) = absurd (bad.2 no_restarts)
+    by_fault run.Memory (inr none) = absurd none
+
+-- the trace has a fault
+pub trace_failed : (name list : Bor (List ℕ)) (choices : List ℕ) (e : Ends) (f : AppFault) → IsListOf list.now choices → length choices ≤ MAX_CHOICES
+    → IfDump f (IsRefused e.given_old e.given_new e.has_ended e.source_failed)
+    → IfNoSuchProcess f (GaveGraph e.given_old e.given_new e.has_ended (λ g. NobodyIsNamed g name.now))
+    → IfRun f (λ fault. GaveGraph e.given_old e.given_new e.has_ended (HasNoRun name.now choices fault))
+    → IfUnwritten f (IsUnwritten e)
+    → IfWriteFault f (IsCutShort (IsSomeTrace name.now choices) e.given_old e.given_new e.has_ended e.taken_old e.taken_new)
+    → IfWriteFault f (λ _. e.out_failed ≡ true) → IsOutcome (Trace name list) (status_of f) e
+trace_failed name list choices e (Dump f) listed few refused nobody no_run unwritten cut stopped =
+    refused_dump (Trace name list) e f (λ own. (unwritten, (f, own, refused))) (inl unwritten)
+trace_failed name list choices e (Work f) listed few refused nobody no_run unwritten cut stopped = has_failed (Trace name list) e (inl unwritten)
+trace_failed name list choices e NoSuchProcess listed few refused nobody no_run unwritten cut stopped =
+    is_misused (Trace name list) e (unwritten, inr (record { graph = nobody.graph; dump = nobody.dump; holds = nobody_named name.now nobody.graph nobody.holds }))
+trace_failed name list choices e (Run f) listed few refused nobody no_run unwritten cut stopped = by_run f (not_idle name.now choices f no_run.graph few no_run.holds)
+  where
+    misused : NobodyIdleIsNamed name.now no_run.graph → IsOutcome (Trace name list) MISUSED e
+    misused none = is_misused (Trace name list) e (unwritten, inr (record { graph = no_run.graph; dump = no_run.dump; holds = none }))
+
+    by_run : (f : RunFault) → (f ≡ run.Memory) ⊎ NobodyIdleIsNamed name.now no_run.graph → IsOutcome (Trace name list) (status_of_run f) e
+    by_run run.Memory h = has_failed (Trace name list) e (inl unwritten)
+    by_run run.NotIdle (inl memory) = cc
+    by_run run.NotIdle (inr none) = misused none
+    by_run run.TooManyChoices (inl memory) = cc
+    by_run run.TooManyChoices (inr none) = misused none
+    by_run run.BadRestarts (inl memory) = cc
+    by_run run.BadRestarts (inr none) = misused none
+trace_failed name list choices e (Report f) listed few refused nobody no_run unwritten cut stopped = has_failed (Trace name list) e (inl unwritten)
+trace_failed name list choices e (WriteFault n) listed few refused nobody no_run unwritten cut stopped =
+    has_failed (Trace name list) e (inr (
+      stopped,
+      (
+        n,
+        record {
+          graph = cut.graph;
+          dump = cut.dump;
+          text = cut.text;
+          fits = (choices, listed, cut.fits);
+          within = cut.within;
+          taken = cut.taken;
+        },
+      ),
+    ))
+
+-- ---- a text that was asked for
+
+-- the text is out, or its front where the output failed
+pub shown : (text : String Global) (s : ℕ) (e : Ends) → (s ≡ FREE) ⊎ (s ≡ FAILED) → IsUnread e
+    → (s ≡ FREE → e.taken_new ≡ e.taken_old ++ string_bytes text) → (s ≡ FREE → e.is_finished ≡ true)
+    → (s ≡ FAILED → (e.out_failed ≡ true) × ((written : ℕ) × (e.taken_new ≡ e.taken_old ++ take written (string_bytes text))))
+    → IsOutcome (Show text) s e
+shown text s e (inl is) unread taken finished front = record {
+  free = λ x. (unread, taken x, finished x);
+  refused = λ x. absurd (omega arith);
+  misused = λ x. absurd (omega arith);
+  deadlocked = λ x. absurd (omega arith);
+  failed = λ x. absurd (omega arith);
+  known = omega arith;
+}
+shown text s e (inr is) unread taken finished front = record {
+  free = λ x. absurd (omega arith);
+  refused = λ x. absurd (omega arith);
+  misused = λ x. absurd (omega arith);
+  deadlocked = λ x. absurd (omega arith);
+  failed = λ x. (unread, (front x).0, (front x).1);
+  known = omega arith;
+}
+
+-- ---- the whole program
+
+-- the request is what the words ask for
+pub requested : (words : List Text) (r : Request) (s : ℕ) (e : Ends) → IsRequest words r → IsOutcome r s e → IsOutcomeOf words s e
+requested words r s e asked h = inl (r, asked, h)
+
+-- the words are refused, and nothing is touched
+pub refused_words : (words : List Text) (text : String Global) (e : Ends) → IsRequest words (Refused text) → IsUnread e → IsUnwritten e → IsOutcomeOf words MISUSED e
+refused_words words text e asked unread unwritten = inl (Refused text, asked, is_misused (Refused text) e (unwritten, unread))

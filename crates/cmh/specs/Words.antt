@@ -1,0 +1,117 @@
+-- The command line: what `clap` is told of it, and what the words then ask for.
+use Rattle.std.specs.Prelude.{◌≡◌, ◌⊎◌, ◌≤◌, ◌^◌, ℕ, List, [], Option, Some, None, MatchOption, option_map, unwrap_or, codes, pos, true, ⊤}
+use Rattle.clap.specs.Words.{App, IsAmong, Row, Rule, Shape, Text, fault_of, first_of, new_app, new_rule, subcommand_of, with_rule, with_subcommand}
+use Rattle.clap.specs.declared.error.kind.ErrorKind.{ErrorKind}
+use Rattle.clap.specs.declared.error.kind.ErrorKind.TheVariants.{DisplayHelp, DisplayVersion}
+use Rattle.clap.specs.declared.builder.value_parser.ValueParser.TheVariants as parser
+use Rattle.cmh_work.specs.declared.TheConstants.{MAX_WORKERS}
+use Rattle.cmh.specs.List.{number_of}
+use Rattle.cmh.specs.declared.request.PlanWords.{PlanWords}
+use Rattle.cmh.specs.declared.request.Request.{Request}
+use Rattle.cmh.specs.declared.request.Request.TheVariants.{Analyse, Trace, Show, Refused}
+use Rattle.cmh.specs.declared.request.TheConstants.{DEFAULT_WORKERS}
+
+-- ---- what clap is told
+
+-- an option of this name that takes one value
+abbrev pub option_rule : Text → Rule
+option_rule name = record (new_rule name) { long = Some name; value_names = 1 }
+
+abbrev pub workers_rule : Rule
+workers_rule =
+    record (option_rule (codes "workers")) { parser = Some (parser.Signed (pos 1) (pos MAX_WORKERS)) }
+
+abbrev pub name_rule : Rule
+name_rule = record (new_rule (codes "NAME")) { required = true }
+
+abbrev pub analyse_app : App
+analyse_app = with_rule (with_rule (with_rule (new_app (codes "analyse")) workers_rule)
+    (option_rule (codes "cuts"))) (option_rule (codes "choices"))
+
+abbrev pub trace_app : App
+trace_app = with_rule (with_rule (new_app (codes "trace")) name_rule) (option_rule (codes "choices"))
+
+abbrev pub top_app : App
+top_app = record (new_app (codes "cmh")) {
+  top = record (new_app (codes "cmh")).top {
+    has_version = true;
+    subcommand_required = true;
+    disable_help_subcommand = true;
+  };
+}
+
+abbrev pub program : App
+program = with_subcommand (with_subcommand top_app analyse_app.top) trace_app.top
+
+-- ---- what the words ask for
+
+-- what stands with an option or a name, the empty text where it isn't given
+abbrev pub text_of : List ℕ → List Row → Text
+text_of name options = unwrap_or (first_of name options) []
+
+-- the number of workers is written as in a list, and fits; without the option it is the default
+abbrev pub HasWorkers : ℕ → List Row → Type 0
+HasWorkers n options = MatchOption (first_of (codes "workers") options) (n ≡ DEFAULT_WORKERS)
+    (λ text. number_of text ≡ Some n)
+
+-- what is written as the number of workers is none, or too large
+abbrev pub HasBadWorkers : List Row → Type 0
+HasBadWorkers options = (text : Text) × (first_of (codes "workers") options ≡ Some text)
+    × MatchOption (number_of text) ⊤ (λ n. 2 ^ 32 ≤ n)
+
+-- the options of an analysis are these
+pub record ArePlanWords (words : PlanWords) (options : List Row) : Type 0 where
+  pub workers : HasWorkers words.workers options
+  pub cuts : option_map (λ text. text.now) words.cuts ≡ first_of (codes "cuts") options
+  pub choices : words.choices.now ≡ text_of (codes "choices") options
+
+-- the name and the choices of a trace are these
+pub record AreTraceWords (name choices : Text) (options : List Row) : Type 0 where
+  pub named : name ≡ text_of (codes "NAME") options
+  pub listed : choices ≡ text_of (codes "choices") options
+
+-- what is asked for by the command `analyse` with these options
+abbrev pub IsAnalysis : List Row → Request → Type 0
+IsAnalysis options (Analyse plan) = ArePlanWords plan options
+IsAnalysis options (Refused text) = HasBadWorkers options
+IsAnalysis options request = ⊥
+
+-- what is asked for by the command `trace` with these options
+abbrev pub IsTracing : List Row → Request → Type 0
+IsTracing options (Trace name choices) = AreTraceWords name.now choices.now options
+IsTracing options request = ⊥
+
+-- the command of that name was entered, and the fact holds of its options
+abbrev pub Enters : Text → (List Row → Type 0) → Option (Text × List Row) → Type 0
+Enters name Holds entered =
+    (options : List Row) × (entered ≡ Some (name, options)) × Holds options
+
+-- what is asked for by the command that was entered
+abbrev pub IsCommand : Option (Text × List Row) → Request → Type 0
+IsCommand entered request = Enters (codes "analyse") (λ options. IsAnalysis options request) entered
+    ⊎ Enters (codes "trace") (λ options. IsTracing options request) entered
+
+-- one of the commands was entered
+abbrev pub IsKnown : Option (Text × List Row) → Type 0
+IsKnown entered = Enters (codes "analyse") (λ options. ⊤) entered ⊎ Enters (codes "trace") (λ options. ⊤) entered
+
+-- some kind of fault that `clap` finds in the words is such a kind
+abbrev pub HaveFault : (ErrorKind → Type 0) → List Text → Type 0
+HaveFault Holds words = (kind : ErrorKind) × IsAmong kind (fault_of program words) × Holds kind
+
+-- the kinds by which `clap` answers a request for help or for the version
+abbrev pub AsksForText : ErrorKind → Type 0
+AsksForText kind = (kind ≡ DisplayHelp) ⊎ (kind ≡ DisplayVersion)
+
+-- what is asked for where `clap` answers with an error of this kind: its text, or nothing
+abbrev pub IsOfKind : ErrorKind → Request → Type 0
+IsOfKind kind (Show text) = AsksForText kind
+IsOfKind kind (Refused text) = ¬ (AsksForText kind)
+IsOfKind kind request = ⊥
+
+-- This is what the words ask for: a command where `clap` finds no fault in them, and else a text or
+-- nothing.
+abbrev pub IsRequest : List Text → Request → Type 0
+IsRequest words request =
+    ((fault_of program words ≡ []) × IsCommand (subcommand_of program words) request)
+    ⊎ HaveFault (λ kind. IsOfKind kind request) words

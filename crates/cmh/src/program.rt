@@ -1,0 +1,139 @@
+//! The whole program as one call: words and streams in, a status out.
+
+ghost use Rattle.std.specs.Prelude.{◌≡◌, ◌⊎◌, ◌++◌, ℕ, map, take, true};
+ghost use Rattle.cmh.specs.Status.{IsOutcome, IsOutcomeOf};
+ghost use Rattle.cmh.specs.declared.request.Request.TheVariants.{Analyse, Trace};
+ghost use Rattle.cmh.specs.declared.status.TheConstants.{FREE, DEADLOCKED, FAILED};
+
+use crate::plan::{read_numbers, read_plan};
+use crate::request::{PlanWords, Request, read_words};
+use crate::status::{DEADLOCKED, FREE, MISUSED};
+use crate::tell::{fail, refuse_memory, tell};
+use cmh_report::{AppFault, analyse_bytes, trace_bytes};
+use cmh_stream::{Sink, Source, put_all};
+use cmh_work::NoGate;
+use std::alloc::Global;
+use std::convert::AsStr;
+use std::sync::Wait;
+use std::thread::Threads;
+
+/// The command `analyse`. The plan is read before the dump.
+#[tactic(auto, using(crate::proofs::Outcomes::misplanned, crate::proofs::Outcomes::nothing_deadlocked, crate::proofs::Outcomes::something_deadlocked, crate::proofs::Outcomes::analysis_failed))]
+fn analyse<R: Threads + Wait + Sync, S: Source, O: Sink, E: Sink>(
+    rt: &R,
+    alloc: Global,
+    words: &PlanWords,
+    source: &mut S,
+    out: &mut O,
+    err: &mut E,
+) -> u8
+    ensures outcome { IsOutcome (Analyse words.now) result record {
+      given_old = S.given source.old;
+      given_new = S.given source.new;
+      has_ended = S.has_ended source.new;
+      source_failed = S.has_failed source.new;
+      taken_old = O.taken out.old;
+      taken_new = O.taken out.new;
+      is_finished = O.is_finished out.new;
+      out_failed = O.has_failed out.new;
+    } }
+    ensures quiet { (result ≡ FREE) ⊎ (result ≡ DEADLOCKED)
+        → E.taken err.new ≡ E.taken err.old }
+{
+    let plan = match read_plan(alloc, words, err) {
+        Ok(plan) => plan,
+        Err(status) => return status,
+    };
+    match analyse_bytes(rt, alloc, source, out, &plan, &NoGate) {
+        Ok(0) => FREE,
+        Ok(_) => DEADLOCKED,
+        Err(fault) => fail(&fault, err),
+    }
+}
+
+/// The command `trace`. The list of choices is read before the dump.
+#[tactic(auto, using(crate::proofs::Outcomes::mislisted, crate::proofs::Outcomes::traced, crate::proofs::Outcomes::trace_failed))]
+fn trace<S: Source, O: Sink, E: Sink>(
+    alloc: Global,
+    name: &str,
+    list: &str,
+    source: &mut S,
+    out: &mut O,
+    err: &mut E,
+) -> u8
+    ensures outcome { IsOutcome (Trace name.entry list.entry) result record {
+      given_old = S.given source.old;
+      given_new = S.given source.new;
+      has_ended = S.has_ended source.new;
+      source_failed = S.has_failed source.new;
+      taken_old = O.taken out.old;
+      taken_new = O.taken out.new;
+      is_finished = O.is_finished out.new;
+      out_failed = O.has_failed out.new;
+    } }
+    ensures quiet { result ≡ FREE → E.taken err.new ≡ E.taken err.old }
+{
+    let choices = match read_numbers(alloc, "choices", list, err) {
+        Ok(choices) => choices,
+        Err(status) => return status,
+    };
+    match trace_bytes(alloc, source, out, name, &choices) {
+        Ok(_) => FREE,
+        Err(fault) => fail(&fault, err),
+    }
+}
+
+/// Writes a text that was asked for.
+fn show<O: Sink, E: Sink>(text: &str, out: &mut O, err: &mut E) -> u8
+    ensures shown { (result ≡ FREE) ⊎ (result ≡ FAILED) }
+    ensures text { result ≡ FREE → O.taken out.new ≡ O.taken out.old ++ text.now }
+    ensures handed_on { result ≡ FREE → O.is_finished out.new ≡ true }
+    ensures front { result ≡ FAILED → (O.has_failed out.new ≡ true) × ((written : ℕ)
+        × (O.taken out.new ≡ O.taken out.old ++ take written text.now)) }
+    ensures quiet { result ≡ FREE → E.taken err.new ≡ E.taken err.old }
+{
+    match put_all(out, text.as_bytes()) {
+        Ok(()) => FREE,
+        Err(fault) => fail(&AppFault::from(fault), err),
+    }
+}
+
+/// Does what the words ask for, of which the first is the program's name, and answers the status of
+/// the program: 0 where no process is deadlocked, a process was traced or a text was asked for, 1
+/// where the dump is refused, 2 where the words, a list or a plan are, or the name is of no idle
+/// process of the dump, 3 where some process is deadlocked, and 4 where memory is refused or a
+/// device fails. Lists and plan are read before the dump. A fault is told on `err` in one line;
+/// where `err` fails, the status stays. An analysis waits for its workers.
+#[tactic(auto, using(crate::proofs::Outcomes::requested, crate::proofs::Outcomes::refused_words, crate::proofs::Outcomes::shown))]
+pub fn serve<R: AllocGlobal + Threads + Wait + Sync, T: AsStr, S: Source, O: Sink, E: Sink>(
+    rt: &R,
+    words: &[T],
+    source: &mut S,
+    out: &mut O,
+    err: &mut E,
+) -> u8
+    ensures outcome { IsOutcomeOf (map T.text words.now) result record {
+      given_old = S.given source.old;
+      given_new = S.given source.new;
+      has_ended = S.has_ended source.new;
+      source_failed = S.has_failed source.new;
+      taken_old = O.taken out.old;
+      taken_new = O.taken out.new;
+      is_finished = O.is_finished out.new;
+      out_failed = O.has_failed out.new;
+    } }
+    ensures quiet { (result ≡ FREE) ⊎ (result ≡ DEADLOCKED)
+        → E.taken err.new ≡ E.taken err.old }
+{
+    let alloc = rt.alloc();
+    match read_words(alloc, words) {
+        Ok(Request::Analyse(words)) => analyse(rt, alloc, &words, source, out, err),
+        Ok(Request::Trace { name, choices }) => trace(alloc, name, choices, source, out, err),
+        Ok(Request::Show(text)) => show(&text, out, err),
+        Ok(Request::Refused(text)) => {
+            tell(&text, err);
+            MISUSED
+        }
+        Err(_) => refuse_memory(err),
+    }
+}

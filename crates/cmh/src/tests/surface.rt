@@ -1,0 +1,30 @@
+//! Every public call, as a client writes it.
+
+use crate::{ListFault, MAX_NUMBERS, read_list, serve};
+use cmh_stream::{ReadOf, WriteOf};
+
+#[test]
+fn a_client(rt: HostRuntime) {
+    let mut source = ReadOf::new(b"{\"version\":1,\"sites\":[],\"processes\":[]}".as_slice());
+    let mut text = [0u8; 64];
+    let mut line = [0u8; 64];
+    let mut out = WriteOf::new(text.as_mut_slice());
+    let mut err = WriteOf::new(line.as_mut_slice());
+    let status = serve(&rt, &["cmh", "analyse"], &mut source, &mut out, &mut err);
+    assert_eq!(rt; status, 0);
+    assert!(rt; text.starts_with(b"processes 0 active 0 idle 0 deadlocked 0\n"));
+    assert_eq!(rt; line[0], 0);
+}
+
+#[test]
+fn answers_are_compared_and_shown(rt: HostRuntime) {
+    let list = read_list(rt.alloc(), "007,2");
+    assert!(rt; list.is_ok_and(|list| list.as_slice() == [7, 2].as_slice()));
+    let fault = read_list(rt.alloc(), "1,,2").err();
+    assert_eq!(rt; fault, Some(ListFault::BadNumber(1)));
+    let copy = fault;
+    assert_eq!(rt; copy, fault);
+    assert!(rt; ListFault::BadNumber(1) != ListFault::BadNumber(2));
+    assert!(rt; ListFault::Memory != ListFault::TooManyNumbers);
+    assert_eq!(rt; MAX_NUMBERS, 65_536);
+}

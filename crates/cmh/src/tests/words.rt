@@ -1,0 +1,99 @@
+//! The words of the command line, and the texts that answer them.
+
+use super::{ANALYSE, EMPTY, has, is, run};
+use crate::command::command;
+use crate::request::{PlanWords, Request, read_words};
+use std::test::Fail;
+
+#[test]
+fn four_workers_by_default(rt: HostRuntime) {
+    let asked = read_words(rt.alloc(), &ANALYSE);
+    let is_four = matches!(
+        asked,
+        Ok(Request::Analyse(PlanWords {
+            workers: 4,
+            cuts: None,
+            ..
+        }))
+    );
+    assert!(rt; is_four);
+}
+
+/// The output is just the text with which `clap` answers.
+#[test]
+fn texts_of_clap(rt: HostRuntime) -> Result<(), Fail> {
+    let rows: [&[&str]; 5] = [
+        &["cmh", "--help"],
+        &["cmh", "--version"],
+        &["cmh", "analyse", "--help"],
+        &["cmh", "trace", "-h"],
+        &["cmh", "-V"],
+    ];
+    for words in rows {
+        let answer = command(rt.alloc())?.try_get_matches_from(words);
+        let text = match answer {
+            Ok(_) => String::new(rt.alloc()),
+            Err(error) => error.to_string(rt.alloc())?,
+        };
+        let ran = run(&rt, words, EMPTY);
+        assert!(rt; is(&ran.out, &text), "{text}");
+        assert!(rt; text.len() > 9, "{text}");
+        assert_eq!(rt; ran.status, 0, "{text}");
+    }
+    Ok(())
+}
+
+#[test]
+fn what_help_says(rt: HostRuntime) {
+    let rows: [(&[&str], &str); 6] = [
+        (&["cmh", "--help"], "cmh analyse < dump.json"),
+        (&["cmh", "--help"], "  3  some process is deadlocked"),
+        (&["cmh", "--help"], "docs/DUMPS.md"),
+        (
+            &["cmh", "analyse", "--help"],
+            "None of these options changes a byte of the report.",
+        ),
+        (
+            &["cmh", "analyse", "--help"],
+            "Usage: cmh analyse [OPTIONS] < DUMP",
+        ),
+        (
+            &["cmh", "trace", "--help"],
+            "Usage: cmh trace [OPTIONS] NAME < DUMP",
+        ),
+    ];
+    for (words, text) in rows {
+        let ran = run(&rt, words, EMPTY);
+        assert!(rt; has(&ran.out, text), "{text}");
+        assert_eq!(rt; ran.status, 0, "{text}");
+    }
+}
+
+#[test]
+fn refused_words_lead_on(rt: HostRuntime) {
+    let rows: [(&[&str], &str); 6] = [
+        (
+            &["cmh", "analyse", "dump.json"],
+            "cmh analyse [OPTIONS] < DUMP",
+        ),
+        (
+            &["cmh", "trace", "p", "dump.json"],
+            "cmh trace [OPTIONS] NAME < DUMP",
+        ),
+        (&["cmh", "analyse", "--workers", "+4"], "'--workers <N>'"),
+        (
+            &["cmh", "analyse", "--workers", "0", "--cuts", "1,1"],
+            "--workers",
+        ),
+        (&["cmh", "analyse", "\u{1b}[31m"], "\\u{1b}[31m"),
+        (&["cmh", "\u{7}"], "\\u{7}"),
+    ];
+    for (words, text) in rows {
+        let ran = run(&rt, words, EMPTY);
+        assert!(rt; has(&ran.err, text), "{text}");
+        let raw = ran.err.bytes.iter().any(|b| *b < 32 && *b != 10);
+        assert!(rt; !raw, "{text}");
+        assert!(rt; is(&ran.out, ""), "{text}");
+        assert_eq!(rt; ran.status, 2, "{text}");
+    }
+}
