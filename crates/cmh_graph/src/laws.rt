@@ -1,11 +1,13 @@
-//! Laws: the definitions that compute say what the relations say. Each function here has an empty
-//! body; its contract is the law.
+//! Laws: the definitions that compute say what the relations say. Each function here does nothing;
+//! its contract is the law.
 
 ghost use Rattle.cmh_graph.specs.Path.{ReachLaw};
 ghost use Rattle.cmh_graph.specs.ChosenPath.{ChosenPathLaw, DistanceLaw, NoPathLaw, PathLengthLaw};
 ghost use Rattle.cmh_graph.specs.Verdict.{ClosedSetLaw, VerdictLaw};
 ghost use Rattle.cmh_graph.specs.Core.{CoreLaw, GroupNumberLaw, LeaderLaw, LeadersLaw, RestLaw, RisingLaw};
-ghost use Rattle.cmh_graph.specs.Build.{WellFormedLaw};
+ghost use Rattle.cmh_graph.specs.Build.{IsWellFormed, WellFormedLaw};
+
+use crate::WaitGraph;
 
 /// A process is deadlocked by paths exactly where it belongs to a deadlocked set: a set of idle
 /// processes, none awake, in which each one's dependent set is a subset.
@@ -83,3 +85,10 @@ pub fn law_group_number()
 pub fn law_well_formed()
     ensures { WellFormedLaw }
 {}
+
+/// A graph that was built is well formed. For a caller whose own contract rests on it.
+pub fn law_built_graph(graph: &WaitGraph)
+    ensures { IsWellFormed graph.now }
+{
+    graph.has_no_fault()
+}

@@ -13,6 +13,7 @@ use crate::input::read_graph;
 use crate::text::{count_deadlocked, report};
 use cmh_dump::Source;
 use cmh_graph::WaitGraph;
+use cmh_graph::laws::law_built_graph;
 use cmh_stream::{Sink, put_all};
 use cmh_work::{Analysis, Gate, Plan, WorkFault, analyse};
 use std::alloc::Global;
@@ -54,7 +55,7 @@ fn reported<R: Threads + Sync>(
     ensures memory { IfErr result (λ e. e ≡ AppFault.Report ReportFault.Memory) }
 {
     let text = report(rt, alloc, graph, analysis)?;
-    let _well_formed = graph.len();
+    law_built_graph(graph);
     Ok(Report {
         text,
         deadlocked: count_deadlocked(analysis.records()),

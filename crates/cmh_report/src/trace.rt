@@ -14,6 +14,7 @@ use crate::fault::{AppFault, ReportFault};
 use crate::input::read_graph;
 use cmh_dump::Source;
 use cmh_graph::WaitGraph;
+use cmh_graph::laws::law_built_graph;
 use cmh_process::{Kind, Message};
 use cmh_run::{Ending, NoHints, RunLog, run};
 use cmh_stream::{Sink, put_all};
@@ -102,7 +103,7 @@ fn plain_run(
     ensures fault { IfErr result (λ e. (fault : RunFault) × (e ≡ AppFault.Run fault)
         × ((fault ≡ RunFault.Memory) ⊎ IsFirstFault graph.now initiator choices.now [] fault)) }
 {
-    let _well_formed = graph.len();
+    law_built_graph(graph);
     Ok(run(alloc, graph, initiator, choices, &mut NoHints)?)
 }
 

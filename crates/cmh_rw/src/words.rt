@@ -10,6 +10,7 @@ use crate::rule::{Compare, End, Enter, Shares, Take};
 use crate::{BOARD_WORDS, Closed, MAX_SEATS, RwFault, RwSeat, RwWords, WRITER};
 use atomic_table::Table;
 use cmh_graph::WaitGraph;
+use cmh_graph::laws::law_built_graph;
 use std::alloc::Global;
 
 /// Whether a try got the lock, and else the word that it found.
@@ -27,8 +28,7 @@ impl RwWords {
         ensures view { IfOk result (λ r. view r.1 ≡ opening_view graph.now) }
         ensures memory { IfErr result (λ e. e ≡ RwFault.Memory) }
     {
-        // A graph tells by its length that it is well formed, so that its rows have room.
-        let _ = graph.len();
+        law_built_graph(graph);
         let (table, seat) = Table::of_words(alloc, &[0; BOARD_WORDS], graph)?;
         let seat = RwSeat {
             seat,

@@ -16,6 +16,7 @@ use crate::workers::workers;
 use crate::{Gate, Plan, WorkFault};
 use cmh_board::Board;
 use cmh_graph::WaitGraph;
+use cmh_graph::laws::law_built_graph;
 use std::alloc::Global;
 use std::sync::Wait;
 use std::thread::Threads;
@@ -79,8 +80,7 @@ fn finish<R: Threads + Wait + Sync, P: Gate>(
     ensures ok { IfOk result (IsAnalysisOf graph.now plan.now.choices) }
     ensures memory { IfErr result (λ e. e ≡ WorkFault.Memory) }
 {
-    // A call that says how many processes there are, and so how many rows at most.
-    let _ = graph.len();
+    law_built_graph(graph);
     let others = plan.workers() - 1;
     let (seats, found) = workers(rt, alloc, graph, plan, &shared, gate, seats, others);
     let mut found = found?;

@@ -7,6 +7,7 @@ use crate::WorkFault;
 use crate::fault::want_in_graph;
 use crate::leaders::group_leaders;
 use crate::record::Shape;
+use cmh_graph::laws::law_built_graph;
 use cmh_graph::{Verdict, WaitGraph};
 use std::alloc::Global;
 
@@ -49,8 +50,7 @@ impl Shapes {
         ensures ok { IfOk result (IsShape graph.now p known) }
         ensures memory { IfErr result (λ e. e ≡ WorkFault.Memory) }
     {
-        // A call that says that the graph is well formed: a free process has a path.
-        let _ = graph.len();
+        law_built_graph(graph);
         match known {
             Verdict::Deadlocked => Ok(Shape::Leader(self.leaders[p as usize].unwrap())),
             Verdict::Free => {

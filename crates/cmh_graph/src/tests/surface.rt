@@ -2,9 +2,9 @@
 
 use super::{CYCLE_AND_FOLLOWER, Row, TWO_IN_A_CYCLE, TWO_SHORTEST_PATHS, graph_of, parts_of};
 use crate::laws::{
-    law_chosen_path, law_closed_set, law_core, law_distance, law_group_number, law_leader,
-    law_leaders, law_no_path, law_path_length, law_reach, law_rest, law_rising, law_verdict,
-    law_well_formed,
+    law_built_graph, law_chosen_path, law_closed_set, law_core, law_distance, law_group_number,
+    law_leader, law_leaders, law_no_path, law_path_length, law_reach, law_rest, law_rising,
+    law_verdict, law_well_formed,
 };
 use crate::{GraphFault, Part, State, Verdict, WaitGraph};
 
@@ -28,6 +28,7 @@ fn values_of_a_graph(rt: HostRuntime) -> Result<(), GraphFault> {
     let alloc = rt.alloc();
     let parts: Vec<Part> = parts_of(alloc, &TWO_SHORTEST_PATHS)?;
     let graph: WaitGraph = WaitGraph::build(alloc, parts)?;
+    law_built_graph(&graph);
     assert_eq!(rt; (graph.len(), graph.is_empty()), (4u32, false));
     assert_eq!(rt; (graph.name(0), graph.site(0)), ("p", 0u32));
     assert_eq!(rt; (graph.is_idle(0), graph.is_awake(3)), (true, true));

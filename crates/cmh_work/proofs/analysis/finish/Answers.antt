@@ -29,8 +29,7 @@ number_all-requires-clause-few g c =
     let gr = c.args.graph.now in
     let true_of : IsTrueOf gr c.in_ok-history.history.items = subst (λ x. IsTrueOf x c.in_ok-history.history.items) c.requires.made.board (given c.close.result c.map_err.result c.in_ok-history.history _ _ c.map_err.ensures.cases c.in_ok-history.was c.close.ensures.true_of) in
     let few : length c.in_ok-history.history.items ≤ process_count gr = true-few gr c.in_ok-history.history.items true_of in
-    let count = c.len-others.ensures.count in
-    let small = c.len-others.type_inv in
+    let small = c.law_built_graph.ensures.processes in
     omega (arith, ap length c.deref.ensures.value)
 
 pub returns-clause-ok : goal.returns-clause-ok
@@ -50,5 +49,5 @@ returns-clause-ok g c =
     let numbered : AreNumbered rows sorted c.in_ok-records.records.items =
     subst (λ l. AreNumbered l sorted c.in_ok-records.records.items) c.deref.ensures.value c.in_ok-records.ensures.ok in
     analysed gr plan c.args.shared seats c.in_ok-found.found.items sorted record { records = c.in_ok-records.records; history = c.in_ok-history.history }
-    c.len-others.ensures.well_formed c.requires.made c.sort_unstable_by_key.ensures.permutation up back.sit (back.tickets ∙ c.requires.tickets) w
+    c.law_built_graph.ensures c.requires.made c.sort_unstable_by_key.ensures.permutation up back.sit (back.tickets ∙ c.requires.tickets) w
     (given c.close.result c.map_err.result c.in_ok-history.history _ _ c.map_err.ensures.cases c.in_ok-history.was c.close.ensures.begins) true_of made numbered

@@ -2,4 +2,4 @@ use Rattle.cmh_rw.proofs.Seating.{opens}
 use Rattle.cmh_rw.proofs.seat.RwWords.open.Goals as goal
 
 pub of_words-requires : goal.of_words-requires
-of_words-requires c = opens c.args.graph.now c.len.ensures.well_formed.processes
+of_words-requires c = opens c.args.graph.now c.law_built_graph.ensures.processes

@@ -24,7 +24,7 @@ pub unwrap-requires-in-Free : goal.unwrap-requires-in-Free
 unwrap-requires-in-Free c =
     let free : ¬ (IsDeadlocked c.args.graph.now c.args.p) = subst (IsVerdict c.args.graph.now c.args.p) c.in-Free.is c.requires.known in
     some_before (λ v. v.items) c.in_ok-path-in-Free.path _ (given c.path_by.result c.map_err.result c.in_ok-path-in-Free.path _ _ c.map_err.ensures.cases c.in_ok-path-in-Free.was c.path_by.ensures.ok)
-    (way_out c.args.graph.now c.args.p _ c.len.ensures.well_formed.within c.requires.within free refl)
+    (way_out c.args.graph.now c.args.p _ c.law_built_graph.ensures.within c.requires.within free refl)
 
 pub returns-in-Deadlocked-clause-ok : goal.returns-in-Deadlocked-clause-ok
 returns-in-Deadlocked-clause-ok c =
