@@ -1,5 +1,7 @@
 //! Dumps and sources that are read while memory is short.
 
+ghost use Rattle.std.specs.Prelude.{◌<◌};
+
 use super::TWO_IN_A_CYCLE;
 use crate::{DumpFault, ReadOf, read_all, read_dump};
 use std::alloc::Global;
@@ -28,7 +30,7 @@ fn take_all(alloc: Global, blocks: &mut Vec<Vec<u8>>) {
     }
 }
 
-/// A reader that gives at most 64 bytes a call, so that what is read grows often.
+/// A reader that gives at most 2,048 bytes a call, so that what is read grows often.
 #[derive(Drop)]
 struct Narrow<'a> {
     bytes: &'a [u8],
@@ -36,7 +38,7 @@ struct Narrow<'a> {
 
 impl Read for Narrow<'_> {
     fn read(&mut self, buf: &mut [u8]) -> io::Result<usize> {
-        let count = buf.len().min(64);
+        let count = buf.len().min(2_048);
         self.bytes.read(&mut buf[..count])
     }
 }
@@ -48,6 +50,17 @@ enum Call {
     ReadAll,
 }
 
+/// How many bytes more a call has than the one before. What `read_all` asks for are whole blocks of
+/// 2,048 bytes; after a smaller step the heap would keep what is left over, under a kilobyte, apart.
+fn step(call: Call) -> usize
+    ensures { 0 < result }
+{
+    match call {
+        Call::ReadDump => 16,
+        Call::ReadAll => 2_048,
+    }
+}
+
 /// Whether the call answers what it does with memory enough.
 fn answer(alloc: Global, call: Call) -> Result<bool, DumpFault> {
     match call {
@@ -56,7 +69,7 @@ fn answer(alloc: Global, call: Call) -> Result<bool, DumpFault> {
             Ok(graph.len() == 2 && graph.dependents(0) == [1].as_slice())
         }
         Call::ReadAll => {
-            let text = [b'x'; 5_000];
+            let text = [b'x'; 20_000];
             let bytes = read_all(alloc, &mut ReadOf::new(Narrow { bytes: &text }))?;
             Ok(bytes.as_slice() == text.as_slice())
         }
@@ -91,8 +104,8 @@ fn sweep(alloc: Global, call: Call) -> Result<Answers, Fail> {
         wrong: false,
         refused: false,
     };
-    for k in 0..ROOM / 16 {
-        let taken: Result<Vec<u8>, _> = Vec::with_capacity(alloc, ROOM - 16 * k);
+    for left in (0..ROOM).step_by(step(call)) {
+        let taken: Result<Vec<u8>, _> = Vec::with_capacity(alloc, ROOM - left);
         match answer(alloc, call) {
             Ok(true) => answers.right = true,
             Err(DumpFault::Memory) => answers.refused = true,
