@@ -3,6 +3,7 @@ pub mod Check
 pub mod Choices
 pub mod Config
 pub mod Engaged
+pub mod Fault
 pub mod Follow
 pub mod Hints
 pub mod Last

@@ -26,6 +26,11 @@ pub enum RunFault {
 }
 
 impl fmt::Display for RunFault {
+    ghost use Rattle.std.specs.Prelude.{Some};
+    ghost use Rattle.cmh_run.specs.Fault.{run_fault_text};
+
+    ghost output = { λ e. Some (run_fault_text e) };
+
     fn fmt<W: fmt::Write>(&self, f: &mut fmt::Formatter<W>) -> fmt::Result {
         match self {
             RunFault::NotIdle => write!(f, "not idle"),
@@ -68,6 +73,11 @@ pub enum ScriptFault {
 }
 
 impl fmt::Display for ScriptFault {
+    ghost use Rattle.std.specs.Prelude.{Some};
+    ghost use Rattle.cmh_run.specs.Fault.{script_fault_text};
+
+    ghost output = { λ e. Some (script_fault_text e) };
+
     fn fmt<W: fmt::Write>(&self, f: &mut fmt::Formatter<W>) -> fmt::Result {
         match self {
             ScriptFault::ProcessOutOfRange(i) => write!(f, "process out of range {i}"),
@@ -110,6 +120,11 @@ pub enum CheckFault {
 }
 
 impl fmt::Display for CheckFault {
+    ghost use Rattle.std.specs.Prelude.{Some};
+    ghost use Rattle.cmh_run.specs.Fault.{check_fault_text};
+
+    ghost output = { λ e. Some (check_fault_text e) };
+
     fn fmt<W: fmt::Write>(&self, f: &mut fmt::Formatter<W>) -> fmt::Result {
         match self {
             CheckFault::NotIdle => write!(f, "not idle"),
