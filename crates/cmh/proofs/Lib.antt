@@ -1,4 +1,1 @@
-pub mod Examples
-pub mod Lists
 pub mod Outcomes
-pub mod Requests

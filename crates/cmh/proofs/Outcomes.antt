@@ -3,7 +3,6 @@ use Rattle.std.proofs.Common.{◌≡◌, ◌≢◌, ◌⊎◌, inl, inr, ℕ, �
 use Rattle.std.proofs.lemmas.Bool.{cases_order}
 use Rattle.std.specs.Prelude.{IsFalse, String, string_bytes}
 use Rattle.std.specs.Global.{Global}
-use Rattle.clap.specs.Words.{Text}
 use Rattle.cmh_graph.specs.Graph.{Graph, is_idle}
 use Rattle.cmh_dump.specs.declared.fault.DumpFault.{DumpFault}
 use Rattle.cmh_dump.specs.declared.fault.DumpFault.TheVariants as dump
@@ -21,14 +20,14 @@ use Rattle.cmh_report.specs.Ends.{GaveGraph, IsCutShort, IsRefused}
 use Rattle.cmh_report.specs.Fault.{IfDump, IfNoSuchProcess, IfRun, IfUnwritten, IfWriteFault}
 use Rattle.cmh_report.specs.Report.{IsCountedReport, IsReport}
 use Rattle.cmh_report.specs.Trace.{HasNoRun, IsEndedTrace, IsFirstNamed, IsSomeTrace, NobodyIsNamed}
-use Rattle.cmh.specs.List.{IsFirstFault, IsListOf}
+use Rattle.cmh_command.specs.List.{IsFirstFault, IsListOf}
 use Rattle.cmh.specs.Status.{status_of, status_of_dump, status_of_run, status_of_list, status_of_plan, AreBadPlanWords, Ends, FitsTrace, HasAnswered, HasCuts, HasDeadlock, HasFailed, HasRefusedDump, IsBadList, IsBadPlan, IsCutsStatus, IsDone, IsListStatus, IsMisused, IsOutcome, IsOutcomeOf, IsPlanStatus, IsUnread, IsUnwritten, NobodyIdleIsNamed}
-use Rattle.cmh.specs.Words.{IsRequest}
-use Rattle.cmh.specs.declared.list.ListFault.{ListFault}
-use Rattle.cmh.specs.declared.list.ListFault.TheVariants as list
-use Rattle.cmh.specs.declared.request.PlanWords.{PlanWords}
-use Rattle.cmh.specs.declared.request.Request.{Request}
-use Rattle.cmh.specs.declared.request.Request.TheVariants.{Analyse, Trace, Show, Refused}
+use Rattle.cmh_command.specs.Words.{IsRequest}
+use Rattle.cmh_command.specs.declared.list.ListFault.{ListFault}
+use Rattle.cmh_command.specs.declared.list.ListFault.TheVariants as list
+use Rattle.cmh_command.specs.declared.request.PlanWords.{PlanWords}
+use Rattle.cmh_command.specs.declared.request.Request.{Request}
+use Rattle.cmh_command.specs.declared.request.Request.TheVariants.{Analyse, Trace, Show, Refused}
 use Rattle.cmh.specs.declared.status.TheConstants.{FREE, REFUSED, MISUSED, DEADLOCKED, FAILED}
 
 -- ---- one row of the table at a time
@@ -311,9 +310,9 @@ shown text s e (inr is) unread taken finished front = record {
 -- ---- the whole program
 
 -- the request is what the words ask for
-pub requested : (words : List Text) (r : Request) (s : ℕ) (e : Ends) → IsRequest words r → IsOutcome r s e → IsOutcomeOf words s e
+pub requested : (words : List (List ℕ)) (r : Request) (s : ℕ) (e : Ends) → IsRequest words r → IsOutcome r s e → IsOutcomeOf words s e
 requested words r s e asked h = inl (r, asked, h)
 
 -- the words are refused, and nothing is touched
-pub refused_words : (words : List Text) (text : String Global) (e : Ends) → IsRequest words (Refused text) → IsUnread e → IsUnwritten e → IsOutcomeOf words MISUSED e
+pub refused_words : (words : List (List ℕ)) (text : String Global) (e : Ends) → IsRequest words (Refused text) → IsUnread e → IsUnwritten e → IsOutcomeOf words MISUSED e
 refused_words words text e asked unread unwritten = inl (Refused text, asked, is_misused (Refused text) e (unwritten, unread))

@@ -1,3 +1,1 @@
-pub mod List
 pub mod Status
-pub mod Words

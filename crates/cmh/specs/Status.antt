@@ -1,7 +1,6 @@
 -- The table of statuses: what each says of what was asked for and of the two ends of the program.
 use Rattle.std.specs.Prelude.{◌≡◌, ◌⊎◌, ◌<◌, ◌≤◌, ◌++◌, ℕ, List, length, replicate, take, Bool, true, Option, None, Some, IsFalse, MatchOption, string_bytes}
 use Rattle.std.specs.Borrow.{Bor}
-use Rattle.clap.specs.Words.{Text}
 use Rattle.cmh_graph.specs.Graph.{Graph, is_idle}
 use Rattle.cmh_dump.specs.declared.fault.DumpFault.{DumpFault}
 use Rattle.cmh_dump.specs.declared.fault.DumpFault.TheVariants as dump
@@ -17,13 +16,13 @@ use Rattle.cmh_report.specs.declared.fault.AppFault.TheVariants.{Dump, Work, NoS
 use Rattle.cmh_report.specs.Ends.{GaveGraph, IsAnswer, IsCutShort, IsRefused}
 use Rattle.cmh_report.specs.Report.{IsCountedReport, IsReport}
 use Rattle.cmh_report.specs.Trace.{IsEndedTrace, IsFirstNamed, IsSomeTrace}
-use Rattle.cmh.specs.List.{IsFirstFault, IsListOf}
-use Rattle.cmh.specs.Words.{IsRequest}
-use Rattle.cmh.specs.declared.list.ListFault.{ListFault}
-use Rattle.cmh.specs.declared.list.ListFault.TheVariants as list
-use Rattle.cmh.specs.declared.request.PlanWords.{PlanWords}
-use Rattle.cmh.specs.declared.request.Request.{Request}
-use Rattle.cmh.specs.declared.request.Request.TheVariants.{Analyse, Trace, Show, Refused}
+use Rattle.cmh_command.specs.List.{IsFirstFault, IsListOf}
+use Rattle.cmh_command.specs.Words.{IsRequest}
+use Rattle.cmh_command.specs.declared.list.ListFault.{ListFault}
+use Rattle.cmh_command.specs.declared.list.ListFault.TheVariants as list
+use Rattle.cmh_command.specs.declared.request.PlanWords.{PlanWords}
+use Rattle.cmh_command.specs.declared.request.Request.{Request}
+use Rattle.cmh_command.specs.declared.request.Request.TheVariants.{Analyse, Trace, Show, Refused}
 use Rattle.cmh.specs.declared.status.TheConstants.{FREE, REFUSED, MISUSED, DEADLOCKED, FAILED}
 
 -- ---- the status after a fault
@@ -106,7 +105,7 @@ abbrev pub IsBadList : List ℕ → Type 0
 IsBadList text = (fault : ListFault) × IsFirstFault text fault
 
 -- the cuts that the text lists; where nothing is said, as many ones as there may be
-abbrev pub HasCuts : Option (Bor Text) → List ℕ → Type 0
+abbrev pub HasCuts : Option (Bor (List ℕ)) → List ℕ → Type 0
 HasCuts words cuts =
     MatchOption words (cuts ≡ replicate MAX_CUTS 1) (λ text. IsListOf text.now cuts)
 
@@ -129,7 +128,7 @@ abbrev pub IsListStatus : List ℕ → ℕ → Type 0
 IsListStatus text status = (status ≡ FAILED) ⊎ ((status ≡ MISUSED) × IsBadList text)
 
 -- the same of a list of cuts that was given
-abbrev pub IsCutsStatus : Option (Bor Text) → ℕ → Type 0
+abbrev pub IsCutsStatus : Option (Bor (List ℕ)) → ℕ → Type 0
 IsCutsStatus words status = (status ≡ FAILED)
     ⊎ ((status ≡ MISUSED) × MatchOption words ⊥ (λ text. IsBadList text.now))
 
@@ -187,6 +186,6 @@ pub record IsOutcome (request : Request) (status : ℕ) (e : Ends) : Type 0 wher
 
 -- The outcome of what the words ask for. There may be no memory to read them: then nothing else was
 -- done.
-abbrev pub IsOutcomeOf : List Text → ℕ → Ends → Type 0
+abbrev pub IsOutcomeOf : List (List ℕ) → ℕ → Ends → Type 0
 IsOutcomeOf words status e = ((request : Request) × IsRequest words request × IsOutcome request status e)
     ⊎ ((status ≡ FAILED) × IsUnread e × IsUnwritten e)

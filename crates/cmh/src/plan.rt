@@ -1,13 +1,12 @@
 //! Lists of numbers and plans, read from the words of the command line.
 
 ghost use Rattle.std.specs.Prelude.{◌≡◌, ◌≤◌, length, IfOk, IfErr, OnOk};
-ghost use Rattle.cmh.specs.List.{IsListOf};
+ghost use Rattle.cmh_command.specs.List.{IsListOf};
 ghost use Rattle.cmh.specs.Status.{HasCuts, IsCutsStatus, IsListStatus, IsPlanStatus};
-ghost use Rattle.cmh.specs.declared.TheConstants.{MAX_NUMBERS};
+ghost use Rattle.cmh_command.specs.declared.TheConstants.{MAX_NUMBERS};
 
-use crate::list::{ListFault, read_list};
-use crate::request::PlanWords;
 use crate::tell::{refuse_list, refuse_plan};
+use cmh_command::{ListFault, PlanWords, read_list};
 use cmh_stream::Sink;
 use cmh_work::{MAX_CUTS, Plan};
 use std::alloc::Global;

@@ -2,13 +2,13 @@
 
 ghost use Rattle.std.specs.Prelude.{◌≡◌, ◌⊎◌, ◌++◌, ℕ, map, take, true};
 ghost use Rattle.cmh.specs.Status.{IsOutcome, IsOutcomeOf};
-ghost use Rattle.cmh.specs.declared.request.Request.TheVariants.{Analyse, Trace};
+ghost use Rattle.cmh_command.specs.declared.request.Request.TheVariants.{Analyse, Trace};
 ghost use Rattle.cmh.specs.declared.status.TheConstants.{FREE, DEADLOCKED, FAILED};
 
 use crate::plan::{read_numbers, read_plan};
-use crate::request::{PlanWords, Request, read_words};
 use crate::status::{DEADLOCKED, FREE, MISUSED};
 use crate::tell::{fail, refuse_memory, tell};
+use cmh_command::{PlanWords, Request, read_words};
 use cmh_report::{AppFault, analyse_bytes, trace_bytes};
 use cmh_stream::{Sink, Source, put_all};
 use cmh_work::NoGate;

@@ -3,7 +3,7 @@
 ghost use Rattle.std.specs.Prelude.{◌≡◌};
 ghost use Rattle.cmh.specs.Status.{status_of as status_of_lem, status_of_list as status_of_list_lem, status_of_plan as status_of_plan_lem};
 
-use crate::list::ListFault;
+use cmh_command::ListFault;
 use cmh_dump::DumpFault;
 use cmh_report::AppFault;
 use cmh_run::RunFault;

@@ -4,8 +4,8 @@
 ghost use Rattle.std.specs.Prelude.{◌≡◌};
 ghost use Rattle.cmh.specs.Status.{status_of as status_of_lem, status_of_list as status_of_list_lem, status_of_plan as status_of_plan_lem};
 
-use crate::list::ListFault;
 use crate::status::{FAILED, MISUSED, status_of, status_of_list, status_of_plan};
+use cmh_command::ListFault;
 use cmh_report::AppFault;
 use cmh_stream::{Sink, put_all};
 use cmh_work::PlanFault;
@@ -33,6 +33,12 @@ pub(crate) fn tell<E: Sink>(text: &str, err: &mut E) {
     let _ = put_all(err, text.as_bytes());
 }
 
+/// Tells a fault, whatever it is of, in one line.
+fn tell_fault<F: fmt::Display, E: Sink>(fault: &F, err: &mut E) {
+    let mut line = Pieces { sink: err };
+    let _ = write!(line, "cmh: {fault}\n");
+}
+
 /// Says that there was no memory to read the words, and answers the status.
 pub(crate) fn refuse_memory<E: Sink>(err: &mut E) -> u8
     ensures { result ≡ FAILED }
@@ -54,8 +60,7 @@ pub(crate) fn refuse_words<E: Sink>(error: &io::Error, err: &mut E) -> u8 {
 pub(crate) fn fail<E: Sink>(fault: &AppFault, err: &mut E) -> u8
     ensures { result ≡ status_of_lem fault.now }
 {
-    let mut line = Pieces { sink: err };
-    let _ = write!(line, "cmh: {fault}\n");
+    tell_fault(fault, err);
     status_of(fault)
 }
 

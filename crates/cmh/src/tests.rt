@@ -4,7 +4,6 @@ mod cases;
 mod devices;
 mod input;
 mod limits;
-mod lists;
 mod memory;
 mod plans;
 mod rows;

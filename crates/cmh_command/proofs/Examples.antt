@@ -1,7 +1,7 @@
 -- Worked lists of numbers, by computation.
 use Rattle.std.proofs.Common.{◌≡◌, [], ◌∷◌, map, Some, refl, false}
 use Rattle.std.specs.Prelude.{codes}
-use Rattle.cmh.specs.List.{items_of, item_at, is_number, number_of}
+use Rattle.cmh_command.specs.List.{items_of, item_at, is_number, number_of}
 
 ones : map number_of (items_of (codes "1,1,1")) ≡ map Some (1 ∷ 1 ∷ 1 ∷ [])
 unfolding is_number

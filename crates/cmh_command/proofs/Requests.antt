@@ -15,10 +15,10 @@ use Rattle.clap.specs.declared.parser.matches.ArgMatches.{ArgMatches}
 use Rattle.clap.specs.declared.parser.matches.ArgMatches.TheViews.{out-ArgMatches, out-SubCommand}
 use Rattle.clap.specs.declared.parser.matches.Found.{Found}
 use Rattle.clap.proofs.WalkLemmas.{first_value-rows}
-use Rattle.cmh.specs.List.{number_of}
-use Rattle.cmh.specs.Words.{HasBadWorkers, HasWorkers, IsAnalysis, IsCommand, IsKnown, IsOfKind, IsRequest, IsTracing, program, text_of}
-use Rattle.cmh.specs.declared.request.Request.{Request}
-use Rattle.cmh.specs.declared.request.TheConstants.{DEFAULT_WORKERS}
+use Rattle.cmh_command.specs.List.{number_of}
+use Rattle.cmh_command.specs.Words.{HasBadWorkers, HasWorkers, IsAnalysis, IsCommand, IsKnown, IsOfKind, IsRequest, IsTracing, program, text_of}
+use Rattle.cmh_command.specs.declared.request.Request.{Request}
+use Rattle.cmh_command.specs.declared.request.TheConstants.{DEFAULT_WORKERS}
 
 -- the command line is one of which `clap` says all
 pub is_free : is_simple_and_free program ≡ true

@@ -3,9 +3,9 @@ use Rattle.std.specs.Prelude.{◌≡◌, ℕ, ◌<◌, ◌≤◌, ◌^◌, ◌==
 use Rattle.std.specs.List.{slice_split}
 use Rattle.std.specs.Str.{all_ascii_digits}
 use Rattle.std.specs.Str.Parse.{digits_value}
-use Rattle.cmh.specs.declared.TheConstants.{MAX_NUMBERS}
-use Rattle.cmh.specs.declared.list.ListFault.{ListFault}
-use Rattle.cmh.specs.declared.list.ListFault.TheVariants.{BadNumber, TooManyNumbers, Memory}
+use Rattle.cmh_command.specs.declared.TheConstants.{MAX_NUMBERS}
+use Rattle.cmh_command.specs.declared.list.ListFault.{ListFault}
+use Rattle.cmh_command.specs.declared.list.ListFault.TheVariants.{BadNumber, TooManyNumbers, Memory}
 
 abbrev pub items_of : List ℕ → List (List ℕ)
 items_of [] = []

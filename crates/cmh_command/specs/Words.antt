@@ -5,11 +5,11 @@ use Rattle.clap.specs.declared.error.kind.ErrorKind.{ErrorKind}
 use Rattle.clap.specs.declared.error.kind.ErrorKind.TheVariants.{DisplayHelp, DisplayVersion}
 use Rattle.clap.specs.declared.builder.value_parser.ValueParser.TheVariants as parser
 use Rattle.cmh_work.specs.declared.TheConstants.{MAX_WORKERS}
-use Rattle.cmh.specs.List.{number_of}
-use Rattle.cmh.specs.declared.request.PlanWords.{PlanWords}
-use Rattle.cmh.specs.declared.request.Request.{Request}
-use Rattle.cmh.specs.declared.request.Request.TheVariants.{Analyse, Trace, Show, Refused}
-use Rattle.cmh.specs.declared.request.TheConstants.{DEFAULT_WORKERS}
+use Rattle.cmh_command.specs.List.{number_of}
+use Rattle.cmh_command.specs.declared.request.PlanWords.{PlanWords}
+use Rattle.cmh_command.specs.declared.request.Request.{Request}
+use Rattle.cmh_command.specs.declared.request.Request.TheVariants.{Analyse, Trace, Show, Refused}
+use Rattle.cmh_command.specs.declared.request.TheConstants.{DEFAULT_WORKERS}
 
 -- ---- what clap is told
 

@@ -3,7 +3,7 @@
 ghost use Rattle.std.specs.Prelude.{◌≡◌, true, false, codes, IfOk};
 ghost use Rattle.clap.specs.Words.{app_of, rule_of};
 ghost use Rattle.clap.specs.declared.builder.command.Command.TheViews.{out-Command};
-ghost use Rattle.cmh.specs.Words.{analyse_app, name_rule, option_rule, program, trace_app, workers_rule};
+ghost use Rattle.cmh_command.specs.Words.{analyse_app, name_rule, option_rule, program, top_app, trace_app, workers_rule};
 
 use clap::{Arg, Command, value_parser};
 use cmh_work::MAX_WORKERS;
@@ -23,6 +23,14 @@ Exit status:
 
 The dump is one JSON text on standard input, read up to its end.
 docs/DUMPS.md says how to write one, docs/FORMATS.md what is read and printed.";
+
+const ABOUT: &str = "Finds the processes of a stalled message-passing program that can never go on";
+
+const ABOUT_ANALYSE: &str =
+    "Reads a dump from standard input and says which idle processes are deadlocked";
+
+const ABOUT_TRACE: &str =
+    "Reads a dump from standard input and prints the queries and replies of one process";
 
 const AFTER_ANALYSE: &str = "\
 None of these options changes a byte of the report.
@@ -53,14 +61,31 @@ pub(crate) fn command<'a>(alloc: Global) -> Result<Command<'a>, AllocError>
     ensures required { IfOk result (λ c. (out-Command c).subcommand_required ≡ true) }
     ensures local { IfOk result (λ c. (out-Command c).has_globals ≡ false) }
 {
+    let analyse = analyse_command(alloc)?;
+    let trace = trace_command(alloc)?;
+    described(top_command(alloc), ABOUT, AFTER_HELP)
+        .subcommand(analyse)?
+        .subcommand(trace)
+}
+
+fn top_command<'a>(alloc: Global) -> Command<'a>
+    ensures app { app_of result ≡ top_app }
+    ensures required { (out-Command result).subcommand_required ≡ true }
+    ensures local { (out-Command result).has_globals ≡ false }
+{
     Command::new(alloc, "cmh")
         .version("0.1.0")
-        .about("Finds the processes of a stalled message-passing program that can never go on")
-        .after_help(AFTER_HELP)
         .subcommand_required(true)
         .disable_help_subcommand(true)
-        .subcommand(analyse_command(alloc)?)?
-        .subcommand(trace_command(alloc)?)
+}
+
+/// The command with what it says of itself.
+fn described<'a>(command: Command<'a>, about: &'a str, after: &'a str) -> Command<'a>
+    ensures app { app_of result ≡ app_of command.entry }
+    ensures required { (out-Command result).subcommand_required ≡ (out-Command command.entry).subcommand_required }
+    ensures local { (out-Command result).has_globals ≡ (out-Command command.entry).has_globals }
+{
+    command.about(about).after_help(after)
 }
 
 fn analyse_command<'a>(alloc: Global) -> Result<Command<'a>, AllocError>
@@ -68,10 +93,8 @@ fn analyse_command<'a>(alloc: Global) -> Result<Command<'a>, AllocError>
     ensures local { IfOk result (λ c. (out-Command c).has_globals ≡ false) }
 {
     let cuts = "How many idle processes each chunk takes: numbers parted by commas";
-    Command::new(alloc, "analyse")
-        .about("Reads a dump from standard input and says which idle processes are deadlocked")
-        .override_usage("cmh analyse [OPTIONS] < DUMP")
-        .after_help(AFTER_ANALYSE)
+    let command = Command::new(alloc, "analyse").override_usage("cmh analyse [OPTIONS] < DUMP");
+    described(command, ABOUT_ANALYSE, AFTER_ANALYSE)
         .arg(workers_option(alloc))?
         .arg(list_option(alloc, "cuts", cuts))?
         .arg(choices_option(alloc))
@@ -84,10 +107,8 @@ fn trace_command<'a>(alloc: Global) -> Result<Command<'a>, AllocError>
     let name = Arg::new(alloc, "NAME")
         .required(true)
         .help("The idle process that asks");
-    Command::new(alloc, "trace")
-        .about("Reads a dump from standard input and prints the queries and replies of one process")
-        .override_usage("cmh trace [OPTIONS] NAME < DUMP")
-        .after_help(AFTER_TRACE)
+    let command = Command::new(alloc, "trace").override_usage("cmh trace [OPTIONS] NAME < DUMP");
+    described(command, ABOUT_TRACE, AFTER_TRACE)
         .arg(name)?
         .arg(choices_option(alloc))
 }

@@ -1,9 +1,9 @@
 //! Lists of numbers on the command line.
 
 ghost use Rattle.std.specs.Prelude.{◌≡◌, ◌⊎◌, ◌≤◌, length, map, IfOk, IfErr};
-ghost use Rattle.cmh.specs.List.{items_of, number_of, IsFirstFault, IsListOf};
-ghost use Rattle.cmh.specs.declared.TheConstants.{MAX_NUMBERS};
-ghost use Rattle.cmh.specs.declared.list.ListFault.TheVariants.{Memory};
+ghost use Rattle.cmh_command.specs.List.{items_of, number_of, IsFirstFault, IsListOf};
+ghost use Rattle.cmh_command.specs.declared.TheConstants.{MAX_NUMBERS};
+ghost use Rattle.cmh_command.specs.declared.list.ListFault.TheVariants.{Memory};
 
 use crate::MAX_NUMBERS;
 use std::alloc::{AllocError, AllocFailed, Global};

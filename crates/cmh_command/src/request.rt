@@ -2,7 +2,7 @@
 
 ghost use Rattle.std.specs.Prelude.{◌≢◌, map, IfOk, MatchOption};
 ghost use Rattle.clap.specs.Words.{found_of, kind_of, rows_of, subcommand_rows_of};
-ghost use Rattle.cmh.specs.Words.{HasBadWorkers, HasWorkers, IsAnalysis, IsCommand, IsKnown, IsOfKind, IsRequest, IsTracing};
+ghost use Rattle.cmh_command.specs.Words.{HasBadWorkers, HasWorkers, IsAnalysis, IsCommand, IsKnown, IsOfKind, IsRequest, IsTracing};
 
 use crate::command::command;
 use crate::list::read_number;
@@ -12,7 +12,7 @@ use std::alloc::{AllocError, Global};
 use std::convert::AsStr;
 
 /// How many workers there are where nothing is said.
-pub(crate) const DEFAULT_WORKERS: u32 = 4;
+pub const DEFAULT_WORKERS: u32 = 4;
 
 const BAD_WORKERS: &str = "\
 error: invalid value for '--workers <N>': a number has digits alone
@@ -22,15 +22,15 @@ For more information, try '--help'.
 
 /// How an analysis is to be shared out. Lists of numbers are still as they were written.
 #[derive(Drop)]
-pub(crate) struct PlanWords<'a> {
-    pub(crate) workers: u32,
-    pub(crate) cuts: Option<&'a str>,
-    pub(crate) choices: &'a str,
+pub struct PlanWords<'a> {
+    pub workers: u32,
+    pub cuts: Option<&'a str>,
+    pub choices: &'a str,
 }
 
 /// What the words ask for.
 #[derive(Drop)]
-pub(crate) enum Request<'a> {
+pub enum Request<'a> {
     /// To analyse a dump.
     Analyse(PlanWords<'a>),
     /// To trace the process of this name by these choices.
@@ -42,10 +42,7 @@ pub(crate) enum Request<'a> {
 }
 
 /// What the words ask for, of which the first is the program's name.
-pub(crate) fn read_words<'a, T: AsStr>(
-    alloc: Global,
-    words: &'a [T],
-) -> Result<Request<'a>, AllocError>
+pub fn read_words<'a, T: AsStr>(alloc: Global, words: &'a [T]) -> Result<Request<'a>, AllocError>
     ensures { IfOk result (IsRequest (map T.text words.entry.now)) }
 {
     match command(alloc)?.try_get_matches_from(words) {

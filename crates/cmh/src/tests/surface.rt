@@ -17,14 +17,12 @@ fn a_client(rt: HostRuntime) {
 }
 
 #[test]
-fn answers_are_compared_and_shown(rt: HostRuntime) {
+fn lists_are_passed_on(rt: HostRuntime) {
     let list = read_list(rt.alloc(), "007,2");
     assert!(rt; list.is_ok_and(|list| list.as_slice() == [7, 2].as_slice()));
-    let fault = read_list(rt.alloc(), "1,,2").err();
-    assert_eq!(rt; fault, Some(ListFault::BadNumber(1)));
-    let copy = fault;
-    assert_eq!(rt; copy, fault);
-    assert!(rt; ListFault::BadNumber(1) != ListFault::BadNumber(2));
-    assert!(rt; ListFault::Memory != ListFault::TooManyNumbers);
+    assert_eq!(rt;
+        read_list(rt.alloc(), "1,,2").err(),
+        Some(ListFault::BadNumber(1))
+    );
     assert_eq!(rt; MAX_NUMBERS, 65_536);
 }

@@ -1,27 +1,12 @@
 //! The words of the command line, and the texts that answer them.
 
-use super::{ANALYSE, EMPTY, has, is, run};
-use crate::command::command;
-use crate::request::{PlanWords, Request, read_words};
+use super::{EMPTY, has, is, run};
+use cmh_command::{Request, read_words};
 use std::test::Fail;
 
+/// The output is just the text that is asked for.
 #[test]
-fn four_workers_by_default(rt: HostRuntime) {
-    let asked = read_words(rt.alloc(), &ANALYSE);
-    let is_four = matches!(
-        asked,
-        Ok(Request::Analyse(PlanWords {
-            workers: 4,
-            cuts: None,
-            ..
-        }))
-    );
-    assert!(rt; is_four);
-}
-
-/// The output is just the text with which `clap` answers.
-#[test]
-fn texts_of_clap(rt: HostRuntime) -> Result<(), Fail> {
+fn texts_that_are_asked_for(rt: HostRuntime) -> Result<(), Fail> {
     let rows: [&[&str]; 5] = [
         &["cmh", "--help"],
         &["cmh", "--version"],
@@ -30,10 +15,9 @@ fn texts_of_clap(rt: HostRuntime) -> Result<(), Fail> {
         &["cmh", "-V"],
     ];
     for words in rows {
-        let answer = command(rt.alloc())?.try_get_matches_from(words);
-        let text = match answer {
-            Ok(_) => String::new(rt.alloc()),
-            Err(error) => error.to_string(rt.alloc())?,
+        let text = match read_words(rt.alloc(), words)? {
+            Request::Show(text) => text,
+            _ => String::new(rt.alloc()),
         };
         let ran = run(&rt, words, EMPTY);
         assert!(rt; is(&ran.out, &text), "{text}");

@@ -1,6 +1,6 @@
 use Rattle.std.proofs.Common.{rules, map}
-use Rattle.cmh.specs.Words.{IsRequest}
-use Rattle.cmh.specs.declared.request.Request.TheVariants.{Trace}
+use Rattle.cmh_command.specs.Words.{IsRequest}
+use Rattle.cmh_command.specs.declared.request.Request.TheVariants.{Trace}
 use Rattle.cmh.proofs.Outcomes.{requested}
 use Rattle.cmh.proofs.program.serve.Goals as goal
 

@@ -2,8 +2,8 @@ use Rattle.std.proofs.Common.{◌≢◌, lit<, length, sym}
 use Rattle.std.proofs.lemmas.Bool.{eqb-false}
 use Rattle.std.proofs.lemmas.Iterator.Consumers.{map_from_collect}
 use Rattle.std.proofs.lemmas.Iterator.Splits.{YieldsList-from_str_split}
-use Rattle.cmh.proofs.Lists.{cut_items}
-use Rattle.cmh.proofs.list.items_of.Goals as goal
+use Rattle.cmh_command.proofs.Lists.{cut_items}
+use Rattle.cmh_command.proofs.list.items_of.Goals as goal
 
 pub returns : goal.returns
 returns c =

@@ -1,8 +1,8 @@
 use Rattle.std.proofs.Common.{◌≡◌, ◌∙◌, Bor, List, ℕ, length, map, sym, ap, arith, below_more, Some}
 use Rattle.std.proofs.lemmas.List.{length-map}
-use Rattle.cmh.specs.List.{items_of, item_at, number_of}
-use Rattle.cmh.proofs.Lists.{item_is, number_is, written_more}
-use Rattle.cmh.proofs.list.read_list.Goals as goal
+use Rattle.cmh_command.specs.List.{items_of, item_at, number_of}
+use Rattle.cmh_command.proofs.Lists.{item_is, number_is, written_more}
+use Rattle.cmh_command.proofs.list.read_list.Goals as goal
 
 pub loop-i-preserved : goal.loop-i-preserved
 loop-i-preserved c =

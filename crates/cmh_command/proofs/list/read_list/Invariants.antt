@@ -1,7 +1,7 @@
 use Rattle.std.proofs.Common.{◌≡◌, ◌≤◌, map, take, Some}
-use Rattle.cmh.specs.List.{items_of, number_of, AreNumbersBefore}
-use Rattle.cmh.specs.declared.TheConstants.{MAX_NUMBERS}
-use Rattle.cmh.proofs.list.read_list.Given as goal
+use Rattle.cmh_command.specs.List.{items_of, number_of, AreNumbersBefore}
+use Rattle.cmh_command.specs.declared.TheConstants.{MAX_NUMBERS}
+use Rattle.cmh_command.proofs.list.read_list.Given as goal
 
 abbrev pub invariant-loop-i : goal.invariant-loop-i
 invariant-loop-i l = record {

@@ -1,8 +1,8 @@
 use Rattle.std.proofs.Common.{◌∙◌, lit<, sym}
 use Rattle.std.proofs.lemmas.Bool.{true≢false}
 use Rattle.std.proofs.lemmas.Str.Pattern.{starts_char}
-use Rattle.cmh.proofs.Lists.{parsed, signed_none}
-use Rattle.cmh.proofs.list.read_number.Goals as goal
+use Rattle.cmh_command.proofs.Lists.{parsed, signed_none}
+use Rattle.cmh_command.proofs.list.read_number.Goals as goal
 
 pub returns-then-starts_with : goal.returns-then-starts_with
 returns-then-starts_with c =

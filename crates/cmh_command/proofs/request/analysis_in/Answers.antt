@@ -1,7 +1,7 @@
 use Rattle.std.proofs.Common.{rules, codes}
 use Rattle.clap.specs.Words.{found_of, rows_of}
-use Rattle.cmh.proofs.Requests.{some_workers, text_is, value_is}
-use Rattle.cmh.proofs.request.analysis_in.Goals as goal
+use Rattle.cmh_command.proofs.Requests.{some_workers, text_is, value_is}
+use Rattle.cmh_command.proofs.request.analysis_in.Goals as goal
 
 pub returns : goal.returns
 returns c =

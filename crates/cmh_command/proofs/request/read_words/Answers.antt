@@ -1,8 +1,8 @@
 use Rattle.std.proofs.Common.{map}
 use Rattle.std.proofs.lemmas.Result.{IfOk-weaker}
 use Rattle.clap.proofs.CallerLemmas.{subcommand_required}
-use Rattle.cmh.proofs.Requests.{answered, commanded, is_known}
-use Rattle.cmh.proofs.request.read_words.Goals as goal
+use Rattle.cmh_command.proofs.Requests.{answered, commanded, is_known}
+use Rattle.cmh_command.proofs.request.read_words.Goals as goal
 
 pub request_in-requires : goal.request_in-requires
 request_in-requires g c =

@@ -1,7 +1,7 @@
 use Rattle.std.proofs.Common.{rules, arith}
 use Rattle.clap.specs.Words.{found_of}
-use Rattle.cmh.proofs.Requests.{has_large, has_none}
-use Rattle.cmh.proofs.request.read_workers.Goals as goal
+use Rattle.cmh_command.proofs.Requests.{has_large, has_none}
+use Rattle.cmh_command.proofs.request.read_workers.Goals as goal
 
 pub returns-in_default-read_number : goal.returns-in_default-read_number
 returns-in_default-read_number c = has_large (found_of c.args.options.now) c.get_str.result c.in-Some.text c.read_number.result c.in-Some-read_number.n

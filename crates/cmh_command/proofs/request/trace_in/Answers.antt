@@ -1,7 +1,7 @@
 use Rattle.std.proofs.Common.{rules, codes}
 use Rattle.clap.specs.Words.{found_of}
-use Rattle.cmh.proofs.Requests.{text_is}
-use Rattle.cmh.proofs.request.trace_in.Goals as goal
+use Rattle.cmh_command.proofs.Requests.{text_is}
+use Rattle.cmh_command.proofs.request.trace_in.Goals as goal
 
 pub returns : goal.returns
 returns c =

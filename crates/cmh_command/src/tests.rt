@@ -1,0 +1,5 @@
+//! Words and lists, as a client writes them.
+
+mod lists;
+mod surface;
+mod words;
