@@ -2,6 +2,7 @@
 
 mod full;
 mod graphs;
+mod load;
 mod memory;
 mod runs;
 mod seats;

@@ -40,6 +40,16 @@ pub(super) fn ring(alloc: Global, count: u32) -> Result<WaitGraph, GraphFault> {
     WaitGraph::build(alloc, parts)
 }
 
+/// 16 rings of 256 processes, each of which waits for the next of its ring.
+pub(super) fn rings(alloc: Global) -> Result<WaitGraph, GraphFault> {
+    let mut parts = Vec::new(alloc);
+    for p in 0..4_096 {
+        let next = if p % 256 == 255 { p - 255 } else { p + 1 };
+        parts.push(part(alloc, State::Idle, &[next])?)?;
+    }
+    WaitGraph::build(alloc, parts)
+}
+
 /// A ring of 100 processes, each of which waits for the next, and behind it a chain of 99 that ends
 /// at an active process.
 pub(super) fn ring_and_chain(alloc: Global) -> Result<WaitGraph, GraphFault> {

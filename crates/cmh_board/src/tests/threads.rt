@@ -90,7 +90,7 @@ fn two_threads_hold_at_once(rt: HostRuntime) -> Result<(), Fail> {
 }
 
 /// Posts a run.
-fn post_run<R: Wait>(rt: &R, board: &Board, seat: BoardSeat, run: &RunLog) -> BoardSeat
+pub(super) fn post_run<R: Wait>(rt: &R, board: &Board, seat: BoardSeat, run: &RunLog) -> BoardSeat
     requires sits { SitsAt board.now seat × IsAway seat }
     requires truth { TellsTruth (graph_of board.now) run.now }
     ensures { SitsAt board.now result × IsAway result }
