@@ -1,13 +1,18 @@
 -- Dumps whose meaning is known, by computation. In their texts ' stands for a double quote.
-use Rattle.std.proofs.Common.{◌≡◌, ℕ, List, [], ◌∷◌, ◌++◌, codes, map, Ok, Err, refl}
+use Rattle.std.proofs.Common.{◌≡◌, ℕ, ◌+◌, ◌≤◌, List, [], ◌∷◌, ◌++◌, codes, map, None, Ok, Err, refl, subst, arith}
 use Rattle.std.specs.Prelude.{replicate, ◌==◌, if◌then◌else◌}
 use Rattle.std.specs.Str.{is_utf8, chars}
+use Rattle.std.proofs.lemmas.List.{length-replicate, replicate-append-replicate}
+use Rattle.serde_json.specs.Read.{read}
 use Rattle.serde_json.proofs.OnLiterals.{serde_json_on_literals}
 use Rattle.cmh_graph.specs.declared.part.State.TheVariants.{Idle, Active}
 use Rattle.cmh_graph.specs.Graph.{Process}
 use Rattle.cmh_dump.specs.declared.fault.DumpFault.{DumpFault}
 use Rattle.cmh_dump.specs.declared.fault.DumpFault.TheVariants.{NotJson, BadTop, BadVersion, BadSites, RepeatedSite, BadProcess, RepeatedProcess, UnknownSite, UnknownDependent, RepeatedDependent, ActiveWithDependents, BadInTransit, UnknownInTransit}
+use Rattle.cmh_dump.specs.declared.TheConstants.{MAX_BYTES}
 use Rattle.cmh_dump.specs.Dump.{dump, dump_of_tree}
+use Rattle.cmh_dump.proofs.Trees.{no_tree}
+use Rattle.cmh_dump.proofs.Whole.{no_json}
 
 abbrev quoted : List ℕ → List ℕ
 quoted text = map (λ c. if c == 39 then 34 else c) text
@@ -164,10 +169,20 @@ not_json_lone_surrogate : IsRefused (with_processes (running (codes "\\ud800")))
 unfolding dump dump_of_tree serde_json_on_literals is_utf8 chars
 not_json_lone_surrogate = refl
 
--- nested too deep
+-- 128 arrays in one another are nested too deep, whatever follows
+deep : (rest : List ℕ) → read (replicate 128 91 ++ rest) ≡ None
+unfolding serde_json_on_literals
+deep rest = refl
+
+too_deep : (n : ℕ) → 128 + n ≤ MAX_BYTES → dump (replicate (128 + n) 91) ≡ Err NotJson
+too_deep n few =
+    let none : read (replicate (128 + n) 91) ≡ None =
+    subst (λ (bytes : List ℕ). read bytes ≡ None) (replicate-append-replicate 128 n 91) (deep (replicate n 91)) in
+    no_json (replicate (128 + n) 91) (omega (arith, few, length-replicate {A = ℕ} (128 + n) 91))
+    (no_tree (replicate (128 + n) 91) (λ is_text. none))
+
 not_json_deep : dump (replicate 100000 91) ≡ Err NotJson
-unfolding dump dump_of_tree serde_json_on_literals is_utf8 chars
-not_json_deep = refl
+not_json_deep = too_deep 99872 (omega arith)
 
 -- ---- the top
 

@@ -1,10 +1,16 @@
 -- The limits of a dump, by computation on trees.
-use Rattle.std.proofs.Common.{◌≡◌, ℕ, zero, suc, codes, true, false, Err, refl, arith}
-use Rattle.std.specs.Prelude.{replicate}
+use Rattle.std.proofs.Common.{◌≡◌, ℕ, zero, suc, ◌<◌, [], ◌∷◌, codes, length, map, true, false, None, Some, Err, refl, arith}
+use Rattle.std.specs.Prelude.{find, replicate}
 use Rattle.std.proofs.lemmas.List.{length-replicate}
 use Rattle.serde_json.specs.Data.{Data, null, number, unsigned, string, array, object, Items, no_items, item, no_members, member}
-use Rattle.cmh_dump.specs.declared.fault.DumpFault.TheVariants.{TooLong, TooManySites, TooManyProcesses, TooManyDependencies, TooManyInTransit, BadProcess, BadInTransit}
-use Rattle.cmh_dump.specs.Dump.{dump, dump_of_tree, holds}
+use Rattle.cmh_dump.specs.declared.fault.DumpFault.{DumpFault}
+use Rattle.cmh_dump.specs.declared.fault.DumpFault.TheVariants.{TooLong, TooManySites, TooManyProcesses, TooManyDependencies, TooManyInTransit, BadProcess, BadInTransit, UnknownInTransit}
+use Rattle.cmh_dump.specs.Dump.{dump, dump_of_tree, holds, first_of, below, each_process, each_transit}
+use Rattle.cmh_dump.specs.Entry.{processes, transits}
+use Rattle.cmh_dump.specs.Read.{top_faults, site_faults, process_faults, name_faults, entry_faults, transit_faults, faults_from_entries, faults_from_names}
+use Rattle.cmh_dump.proofs.Composed.{refused, refused_here, refused_later, refused_past_sites}
+use Rattle.cmh_dump.proofs.Faults.{found_at}
+use Rattle.cmh_dump.proofs.Searches.{first_here, first_later, alone}
 use Rattle.cmh_dump.proofs.Whole.{too_long}
 
 -- n equal copies
@@ -38,6 +44,35 @@ process n =
     (member (codes "site") (string (codes "a"))
     (member (codes "state") (string (codes "idle")) no_members))))
 
+-- Where a kind of many faults is the first that holds, and its fault 0 does, the rest of the kind
+-- needn't be written out.
+module _ (d : Data) (top : first_of (holds d) (top_faults d) ≡ None) (apart : first_of (holds d) (site_faults d) ≡ None) where
+  -- fault 0 of a kind is its first
+  first_of_kind : (F : ℕ → DumpFault) (n : ℕ) → 0 < n → holds d (F 0) ≡ true → find (holds d) (map F (below n)) ≡ Some (F 0)
+  first_of_kind F n l h = found_at (holds d) F n 0 l (λ k before. absurd (omega arith)) h
+
+  -- the first process is what is wrong
+  first_process_bad : holds d TooManyProcesses ≡ false → 0 < length (processes d) → holds d (BadProcess 0) ≡ true → dump_of_tree d ≡ Err (BadProcess 0)
+  first_process_bad few l h =
+      let bad = first_later (holds d) (TooManyProcesses ∷ []) (each_process d BadProcess ∷ []) _ _ (alone (holds d) TooManyProcesses false few) refl
+      (first_here (holds d) (each_process d BadProcess) [] _ (BadProcess 0) (first_of_kind BadProcess (length (processes d)) l h) refl) in
+      refused d (BadProcess 0)
+      (refused_past_sites d (BadProcess 0) top apart (refused_here d (process_faults d) (faults_from_names d) (BadProcess 0) (λ m. bad)))
+      (λ m. cc)
+
+  -- the first message is what is wrong
+  first_message_bad : first_of (holds d) (process_faults d) ≡ None → first_of (holds d) (name_faults d) ≡ None → first_of (holds d) (entry_faults d) ≡ None → holds d TooManyInTransit ≡ false → 0 < length (transits d) → holds d (BadInTransit 0) ≡ true → dump_of_tree d ≡ Err (BadInTransit 0)
+  first_message_bad p n e few l h =
+      let rest = each_transit d BadInTransit ∷ each_transit d UnknownInTransit ∷ [] in
+      let bad = first_later (holds d) (TooManyInTransit ∷ []) rest _ _ (alone (holds d) TooManyInTransit false few) refl
+      (first_here (holds d) (each_transit d BadInTransit) (each_transit d UnknownInTransit ∷ []) _ (BadInTransit 0) (first_of_kind BadInTransit (length (transits d)) l h) refl) in
+      refused d (BadInTransit 0)
+      (refused_past_sites d (BadInTransit 0) top apart
+      (refused_later d (process_faults d) (faults_from_names d) (BadInTransit 0) p
+      (refused_later d (name_faults d) (faults_from_entries d) (BadInTransit 0) n
+      (refused_later d (entry_faults d) (transit_faults d) (BadInTransit 0) e (λ m. bad)))))
+      (λ m. cc)
+
 -- 4,096 sites are not too many
 most_sites : holds (tree (copies 4096 (string (codes "a"))) no_items) TooManySites ≡ false
 most_sites = refl
@@ -48,8 +83,7 @@ too_many_sites = refl
 
 -- 4,096 processes are judged one by one
 most_processes : dump_of_tree (tree no_items (copies 4096 null)) ≡ Err (BadProcess 0)
-unfolding dump_of_tree
-most_processes = refl
+most_processes = first_process_bad (tree no_items (copies 4096 null)) refl refl refl (omega arith) refl
 
 -- 4,097 are not
 too_many_processes : dump_of_tree (tree no_items (copies 4097 null)) ≡ Err TooManyProcesses
@@ -66,8 +100,7 @@ too_many_dependencies = refl
 
 -- 4,096 messages are judged one by one
 most_messages : dump_of_tree (tree_of_messages (copies 4096 null)) ≡ Err (BadInTransit 0)
-unfolding dump_of_tree
-most_messages = refl
+most_messages = first_message_bad (tree_of_messages (copies 4096 null)) refl refl refl refl refl refl (omega arith) refl
 
 -- 4,097 are not
 too_many_messages : dump_of_tree (tree_of_messages (copies 4097 null)) ≡ Err TooManyInTransit

@@ -1,13 +1,16 @@
 -- What is read of a dump before it becomes a graph, and what each stage of reading answers.
-use Rattle.std.specs.Prelude.{◌≡◌, ◌≢◌, ℕ, ◌+◌, List, [], ◌∷◌, map, Option, Some, None, option_map, Result, Ok, Err}
+use Rattle.std.specs.Prelude.{◌≡◌, ◌≢◌, ℕ, ◌+◌, List, [], ◌∷◌, ◌++◌, map, Option, Some, None, option_map, Result, Ok, Err}
+use Rattle.std.specs.Global.{Vec}
 use Rattle.std.specs.Option.{option_or}
 use Rattle.serde_json.specs.Data.{Data}
+use Rattle.cmh_graph.specs.Build as graph
 use Rattle.cmh_graph.specs.Graph.{Process}
+use Rattle.cmh_graph.specs.declared.part.Part.{Part}
 use Rattle.cmh_dump.specs.declared.entry.Entry as declared
 use Rattle.cmh_dump.specs.declared.fault.DumpFault.{DumpFault}
 use Rattle.cmh_dump.specs.declared.fault.DumpFault.TheVariants.{Memory, BadTop, BadVersion, BadSites, RepeatedSite, TooManySites, TooManyProcesses, BadProcess, RepeatedProcess, UnknownSite, UnknownDependent, RepeatedDependent, ActiveWithDependents, TooManyDependencies, TooManyInTransit, BadInTransit, UnknownInTransit}
-use Rattle.cmh_dump.specs.Dump.{holds, first_of, each_site, each_process, each_dependent, each_transit}
-use Rattle.cmh_dump.specs.Entry.{Entry}
+use Rattle.cmh_dump.specs.Dump.{holds, first_of, graph_of, each_site, each_process, each_dependent, each_transit}
+use Rattle.cmh_dump.specs.Entry.{Entry, sites, entries}
 use Rattle.cmh_dump.specs.Name.{place_of, nth}
 use Rattle.cmh_dump.specs.Texts.{texts}
 use Rattle.cmh_dump.specs.Tree.{texts_of}
@@ -73,3 +76,24 @@ entry_faults d =
 abbrev pub transit_faults : Data → List (List DumpFault)
 transit_faults d =
     (TooManyInTransit ∷ []) ∷ each_transit d BadInTransit ∷ each_transit d UnknownInTransit ∷ []
+
+-- the kinds that are judged once sites, processes and their names are read
+abbrev pub faults_from_entries : Data → List (List DumpFault)
+faults_from_entries d = entry_faults d ++ transit_faults d
+
+-- the kinds that are judged once sites and processes are read
+abbrev pub faults_from_names : Data → List (List DumpFault)
+faults_from_names d = name_faults d ++ faults_from_entries d
+
+-- ---- what the graph is built of
+
+-- the processes and the names of the sites are those of the tree
+pub record AreRead (d : Data) (es : List declared.Entry) (site_names : List (List ℕ)) : Type 0 where
+  pub written : map entry_view es ≡ entries d
+  pub are_sites : site_names ≡ sites d
+
+-- The same as `Judges`, of parts and messages in transit: at Ok they make the graph of the tree.
+abbrev pub Builds : Data → List (List DumpFault) → Result (Vec Part × Vec (ℕ × ℕ)) DumpFault → Type 0
+Builds d kinds (Ok parts) =
+    (first_of (holds d) kinds ≡ None) × (graph.graph_of parts.0.items parts.1.items ≡ graph_of d)
+Builds d kinds (Err e) = e ≢ Memory → first_of (holds d) kinds ≡ Some e

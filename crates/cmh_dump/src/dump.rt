@@ -1,30 +1,78 @@
 //! Dumps.
 
-ghost use Rattle.std.specs.Prelude.{◌≡◌, ◌≢◌, Ok, Err, IfOk, IfErr};
-ghost use Rattle.cmh_dump.specs.Dump.{dump, dump_of_tree};
+ghost use Rattle.std.specs.Prelude.{◌≡◌, ◌≢◌, ◌<◌, ◌^◌, length, Ok, Err, IfOk, IfErr};
+ghost use Rattle.cmh_dump.specs.Dump.{in_order, dump, dump_of_tree};
+ghost use Rattle.cmh_dump.specs.Entry.{names as names_lem};
+ghost use Rattle.cmh_dump.specs.Read.{AreRead, Builds, faults_from_entries, faults_from_names};
+ghost use Rattle.cmh_dump.specs.Texts.{texts};
 ghost use Rattle.serde_json.specs.View.{view};
 
+use crate::entry::Entry;
 use crate::judge::{index_names, judge_entries, judge_top, read_processes, read_sites};
 use crate::parts::parts_of;
 use crate::transit::read_in_transit;
 use crate::tree::tree_of;
 use crate::{DumpFault, MAX_BYTES};
-use cmh_graph::{GraphFault, WaitGraph};
+use cmh_graph::{GraphFault, Part, WaitGraph};
+use indexmap::IndexSet;
 use serde_json::Value;
 use std::alloc::Global;
+
+/// What a wait graph is built of.
+type GraphParts = (Vec<Part>, Vec<(u32, u32)>);
+
+/// What the graph of a tree is built of, once sites, processes and their names are read.
+fn read_linked(
+    alloc: Global,
+    tree: &Value,
+    entries: &[Entry<'_>],
+    sites: &IndexSet<&str>,
+    names: &IndexSet<&str>,
+) -> Result<GraphParts, DumpFault>
+    requires few_sites { length (texts sites.now.keys) < 2 ^ 32 }
+    requires few_names { length (texts names.now.keys) < 2 ^ 32 }
+    ensures { AreRead (view tree.now) entries.now (texts sites.now.keys)
+        → texts names.now.keys ≡ names_lem (view tree.now)
+        → Builds (view tree.now) (faults_from_entries (view tree.now)) result }
+{
+    judge_entries(alloc, entries, sites, names)?;
+    let in_transit = read_in_transit(alloc, tree, names)?;
+    let parts = parts_of(alloc, entries, sites, names)?;
+    Ok((parts, in_transit))
+}
+
+/// What the graph of a tree is built of, once sites and processes are read.
+fn read_named(
+    alloc: Global,
+    tree: &Value,
+    entries: &[Entry<'_>],
+    sites: &IndexSet<&str>,
+) -> Result<GraphParts, DumpFault>
+    requires few_sites { length (texts sites.now.keys) < 2 ^ 32 }
+    requires few_processes { length entries.now < 2 ^ 32 }
+    ensures { AreRead (view tree.now) entries.now (texts sites.now.keys)
+        → Builds (view tree.now) (faults_from_names (view tree.now)) result }
+{
+    let names = index_names(alloc, entries)?;
+    read_linked(alloc, tree, entries, sites, &names)
+}
+
+/// What the graph of a tree is built of, or the first condition that refuses the tree.
+fn read_parts(alloc: Global, tree: &Value) -> Result<GraphParts, DumpFault>
+    ensures { Builds (view tree.now) (in_order (view tree.now)) result }
+{
+    judge_top(tree)?;
+    let sites = read_sites(alloc, tree)?;
+    let entries = read_processes(alloc, tree)?;
+    read_named(alloc, tree, &entries, &sites)
+}
 
 /// The wait graph that a tree means, or the first condition that refuses it.
 fn read_tree(alloc: Global, tree: &Value) -> Result<WaitGraph, DumpFault>
     ensures ok { IfOk result (λ g. dump_of_tree (view tree.now) ≡ Ok g) }
     ensures err { IfErr result (λ e. e ≢ DumpFault.Memory → dump_of_tree (view tree.now) ≡ Err e) }
 {
-    judge_top(tree)?;
-    let sites = read_sites(alloc, tree)?;
-    let entries = read_processes(alloc, tree)?;
-    let names = index_names(alloc, &entries)?;
-    judge_entries(alloc, &entries, &sites, &names)?;
-    let in_transit = read_in_transit(alloc, tree, &names)?;
-    let parts = parts_of(alloc, &entries, &sites, &names)?;
+    let (parts, in_transit) = read_parts(alloc, tree)?;
     match WaitGraph::build_with(alloc, parts, &in_transit) {
         Ok(graph) => Ok(graph),
         Err(fault) => {

@@ -1,0 +1,34 @@
+use Rattle.std.proofs.Common.{◌++◌, map, ap, ◌∙◌}
+use Rattle.std.proofs.lemmas.Result.{err_from_is_err_and}
+use Rattle.serde_json.specs.View.{view}
+use Rattle.cmh_dump.specs.Read.{entry_view, top_faults, site_faults, process_faults, faults_from_names}
+use Rattle.cmh_dump.proofs.Composed.{refused_here, refused_later, refused_past_sites, built_later}
+use Rattle.cmh_dump.proofs.dump.read_parts.Goals as goal
+
+pub returns-in_err-judge_top : goal.returns-in_err-judge_top
+returns-in_err-judge_top c =
+    let d = view c.args.tree.now in
+    let p = err_from_is_err_and c.from_residual.result c.from_residual.ensures.1 in
+    rw (p.1, p.2) (refused_here d (top_faults d) (site_faults d ++ process_faults d ++ faults_from_names d) _ c.in_err-judge_top.ensures)
+
+pub returns-in_err-sites : goal.returns-in_err-sites
+returns-in_err-sites c =
+    let d = view c.args.tree.now in
+    let p = err_from_is_err_and c.from_residual-in_err-sites.result c.from_residual-in_err-sites.ensures.1 in
+    rw (p.1, p.2) (refused_later d (top_faults d) (site_faults d ++ process_faults d ++ faults_from_names d) _ c.in_ok-judge_top.ensures
+    (refused_here d (site_faults d) (process_faults d ++ faults_from_names d) _ c.in_err-sites.ensures.judges))
+
+pub returns-in_err-entries : goal.returns-in_err-entries
+returns-in_err-entries c =
+    let d = view c.args.tree.now in
+    let p = err_from_is_err_and c.from_residual-in_err-entries.result c.from_residual-in_err-entries.ensures.1 in
+    rw (p.1, p.2) (refused_past_sites d _ c.in_ok-judge_top.ensures c.in_ok-sites.ensures.judges
+    (refused_here d (process_faults d) (faults_from_names d) _ c.in_err-entries.ensures.judges))
+
+pub returns : goal.returns
+returns c =
+    let d = view c.args.tree.now in
+    built_later d (top_faults d) (site_faults d ++ process_faults d ++ faults_from_names d) c.read_named.result c.in_ok-judge_top.ensures
+    (built_later d (site_faults d) (process_faults d ++ faults_from_names d) c.read_named.result c.in_ok-sites.ensures.judges
+    (built_later d (process_faults d) (faults_from_names d) c.read_named.result c.in_ok-entries.ensures.judges
+    (c.read_named.ensures (record { written = ap (map entry_view) c.deref.ensures.value ∙ c.in_ok-entries.ensures.read; are_sites = c.in_ok-sites.ensures.read }))))
