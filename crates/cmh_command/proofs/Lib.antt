@@ -1,3 +1,4 @@
+pub mod Commands
 pub mod Examples
 pub mod Lists
 pub mod Requests

@@ -1,13 +1,18 @@
 -- Items of a list, and the numbers that they write.
-use Rattle.std.proofs.Common.{◌≡◌, ◌≢◌, ℕ, ◌+◌, ◌<◌, ◌^◌, Bool, true, false, ◌&&◌, cond, eqb, ltb, List, [], ◌∷◌, ◌++◌, length, map, get_or, take, Some, None, Result, Ok, Err, refl, sym, ◌∙◌, ap, subst, arith, Bor}
+use Rattle.std.proofs.Common.{◌≡◌, ◌≢◌, ◌⊎◌, inl, ℕ, ◌+◌, ◌<◌, ◌≤◌, ◌^◌, Bool, true, false, ◌&&◌, cond, eqb, ltb, List, [], ◌∷◌, ◌++◌, length, map, get_or, take, Some, None, Result, Ok, Err, refl, sym, ◌∙◌, ap, subst, arith, Bor}
+use Rattle.std.specs.Prelude.{IfOk, IfErr}
+use Rattle.std.specs.Global.{Vec}
 use Rattle.std.specs.List.{slice_split}
-use Rattle.std.specs.Result.{OkIff, result_ok}
+use Rattle.std.specs.Result.{IsErrAnd, OkIff, result_ok}
 use Rattle.std.specs.Str.{all_ascii_digits}
 use Rattle.std.specs.Str.Parse.{digits_value, ParsesUnsigned}
 use Rattle.std.proofs.lemmas.Bool.{and_parts, and_from, ltb-true, lt-ltb, true≢false}
 use Rattle.std.proofs.lemmas.List.{get_or-map, take_more, map-append}
 use Rattle.std.proofs.lemmas.Str.Parse.{IsNumeralModel, numerals_by_value, tells_all_ascii_digits, parse_plain}
-use Rattle.cmh_command.specs.List.{items_of, item_at, is_number, number_of}
+use Rattle.cmh_command.specs.List.{IsFirstFault, IsListOf, items_of, item_at, is_number, number_of}
+use Rattle.cmh_command.specs.declared.TheConstants.{MAX_NUMBERS}
+use Rattle.cmh_command.specs.declared.list.ListFault.{ListFault}
+use Rattle.cmh_command.specs.declared.list.ListFault.TheVariants.{Memory}
 
 -- ---- one item
 
@@ -94,3 +99,9 @@ pub written_more : (items : List (List ℕ)) (numbers : List ℕ) (i n : ℕ) �
 written_more items numbers i n l e h = ap (map number_of) (take_more items i [] l)
     ∙ map-append number_of (take i items) (get_or items i [] ∷ [])
     ∙ rw (e, h) (sym (map-append Some numbers (n ∷ [])))
+
+-- the fault is want of memory, whatever the items are
+pub out_of_memory : (text : List ℕ) (r : Result (Vec ℕ) ListFault) → IsErrAnd r (λ e. e ≡ Memory)
+    → IfOk r (λ list. IsListOf text list.items) × IfOk r (λ list. length list.items ≤ MAX_NUMBERS) × IfErr r (λ e. (e ≡ Memory) ⊎ IsFirstFault text e)
+out_of_memory text (Ok list) h = absurd h
+out_of_memory text (Err e) h = (tt, tt, inl h)

@@ -1,5 +1,5 @@
 -- What the getters of `clap` and the kinds of its errors say of what the words ask for.
-use Rattle.std.proofs.Common.{◌≡◌, ◌≢◌, ◌⊎◌, ◌∙◌, inl, inr, ℕ, ◌<◌, ◌≤◌, ◌^◌, Bool, true, false, cond, List, [], ◌∷◌, Option, None, Some, option_map, refl, sym, ap, subst, arith, Bor}
+use Rattle.std.proofs.Common.{◌≡◌, ◌≢◌, ◌⊎◌, ◌∙◌, inl, inr, ℕ, ◌≤◌, ◌^◌, Bool, true, false, cond, List, [], ◌∷◌, Option, None, Some, option_map, refl, sym, ap, subst, Bor}
 use Rattle.std.specs.Prelude.{MatchOption, unwrap_or, codes, find, is_some, ⊤}
 use Rattle.std.specs.Global.{Box}
 use Rattle.std.specs.Box.{box_value}

@@ -1,7 +1,7 @@
 //! What `clap` is told of the command line.
 
 ghost use Rattle.std.specs.Prelude.{◌≡◌, true, false, codes, IfOk};
-ghost use Rattle.clap.specs.Words.{app_of, rule_of};
+ghost use Rattle.clap.specs.Words.{app_of, new_app, rule_of, with_subcommand};
 ghost use Rattle.clap.specs.declared.builder.command.Command.TheViews.{out-Command};
 ghost use Rattle.cmh_command.specs.Words.{analyse_app, name_rule, option_rule, program, top_app, trace_app, workers_rule};
 
@@ -61,11 +61,18 @@ pub(crate) fn command<'a>(alloc: Global) -> Result<Command<'a>, AllocError>
     ensures required { IfOk result (λ c. (out-Command c).subcommand_required ≡ true) }
     ensures local { IfOk result (λ c. (out-Command c).has_globals ≡ false) }
 {
-    let analyse = analyse_command(alloc)?;
+    let command = with_analyse(alloc)?;
     let trace = trace_command(alloc)?;
-    described(top_command(alloc), ABOUT, AFTER_HELP)
-        .subcommand(analyse)?
-        .subcommand(trace)
+    command.subcommand(trace)
+}
+
+/// The command line, as yet without the command `trace`.
+fn with_analyse<'a>(alloc: Global) -> Result<Command<'a>, AllocError>
+    ensures app { IfOk result (λ c. app_of c ≡ with_subcommand top_app analyse_app.top) }
+    ensures local { IfOk result (λ c. (out-Command c).has_globals ≡ false) }
+{
+    let analyse = analyse_command(alloc)?;
+    described(top_command(alloc), ABOUT, AFTER_HELP).subcommand(analyse)
 }
 
 fn top_command<'a>(alloc: Global) -> Command<'a>
@@ -88,12 +95,20 @@ fn described<'a>(command: Command<'a>, about: &'a str, after: &'a str) -> Comman
     command.about(about).after_help(after)
 }
 
+/// A command with its name and how it is called, and no option yet.
+fn subcommand<'a>(alloc: Global, name: &'a str, usage: &'a str) -> Command<'a>
+    ensures app { app_of result ≡ new_app name.entry.now }
+    ensures local { (out-Command result).has_globals ≡ false }
+{
+    Command::new(alloc, name).override_usage(usage)
+}
+
 fn analyse_command<'a>(alloc: Global) -> Result<Command<'a>, AllocError>
     ensures app { IfOk result (λ c. app_of c ≡ analyse_app) }
     ensures local { IfOk result (λ c. (out-Command c).has_globals ≡ false) }
 {
     let cuts = "How many idle processes each chunk takes: numbers parted by commas";
-    let command = Command::new(alloc, "analyse").override_usage("cmh analyse [OPTIONS] < DUMP");
+    let command = subcommand(alloc, "analyse", "cmh analyse [OPTIONS] < DUMP");
     described(command, ABOUT_ANALYSE, AFTER_ANALYSE)
         .arg(workers_option(alloc))?
         .arg(list_option(alloc, "cuts", cuts))?
@@ -104,13 +119,19 @@ fn trace_command<'a>(alloc: Global) -> Result<Command<'a>, AllocError>
     ensures app { IfOk result (λ c. app_of c ≡ trace_app) }
     ensures local { IfOk result (λ c. (out-Command c).has_globals ≡ false) }
 {
-    let name = Arg::new(alloc, "NAME")
-        .required(true)
-        .help("The idle process that asks");
-    let command = Command::new(alloc, "trace").override_usage("cmh trace [OPTIONS] NAME < DUMP");
+    let command = subcommand(alloc, "trace", "cmh trace [OPTIONS] NAME < DUMP");
     described(command, ABOUT_TRACE, AFTER_TRACE)
-        .arg(name)?
+        .arg(name_argument(alloc))?
         .arg(choices_option(alloc))
+}
+
+fn name_argument<'a>(alloc: Global) -> Arg<'a>
+    ensures rule { rule_of result ≡ name_rule }
+    ensures local { result.global ≡ false }
+{
+    Arg::new(alloc, "NAME")
+        .required(true)
+        .help("The idle process that asks")
 }
 
 fn workers_option<'a>(alloc: Global) -> Arg<'a>

@@ -57,3 +57,18 @@ fn too_many_numbers(rt: HostRuntime) -> Result<(), AllocError> {
     assert!(rt; matches!(list, Err(ListFault::TooManyNumbers)));
     Ok(())
 }
+
+/// As many numbers as there may be, each of twenty digits: 1,376,255 bytes.
+#[test]
+fn the_longest_list(rt: HostRuntime) -> Result<(), AllocError> {
+    let mut text = String::from_str(rt.alloc(), "18446744073709551615")?;
+    for _ in 1..MAX_NUMBERS {
+        text.push_str(",18446744073709551615")?;
+    }
+    assert_eq!(rt; text.len(), 1_376_255);
+    let list = read_list(rt.alloc(), &text);
+    let is_right = list.is_ok_and(|list| list.len() == 65_536
+        && list.iter().all(|n| *n == u64::MAX));
+    assert!(rt; is_right);
+    Ok(())
+}
