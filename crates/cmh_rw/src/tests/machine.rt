@@ -1,6 +1,7 @@
 //! Events on a lock with two seats.
 
 use crate::{Event, LockWorld, RwFault, SeatState, run_events};
+use std::test::Fail;
 
 /// A writer has to wait for a reader. The reader, who comes again, retreats from the writer.
 const LOCK_EVENTS: [Event; 5] = [
@@ -48,4 +49,31 @@ fn seats_are_1_to_64(rt: HostRuntime) {
     assert!(rt; run_events(alloc, 65, &[]).err() == Some(RwFault::BadSeats));
     assert!(rt; LockWorld::new(alloc, 1).is_ok());
     assert!(rt; LockWorld::new(alloc, 64).is_ok());
+}
+
+/// Each seat in turn comes and goes, but for the last, which stays while the first comes.
+#[test]
+fn as_many_events_as_choices(rt: HostRuntime) -> Result<(), Fail> {
+    let alloc = rt.alloc();
+    let mut events = Vec::new(alloc);
+    for turn in 0..32_768u32 {
+        events.push(Event::Admit(turn % 64))?;
+        events.push(Event::Leave(turn % 64))?;
+    }
+    assert_eq!(rt; events.len(), 65_536);
+    let world = run_events(alloc, 64, &events)?;
+    assert_eq!(rt; (world.word(), world.seats()), (0, 64));
+    events.pop();
+    events.push(Event::Admit(0))?;
+    let world = run_events(alloc, 64, &events)?;
+    assert_eq!(rt; (world.word(), world.seats()), (2, 64));
+    for seat in 0..64 {
+        let state = if seat == 0 || seat == 63 {
+            SeatState::Reading
+        } else {
+            SeatState::Away
+        };
+        assert_eq!(rt; world.state(seat), Some(state), "at {seat}");
+    }
+    Ok(())
 }
