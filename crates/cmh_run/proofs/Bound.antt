@@ -16,6 +16,9 @@ use Rattle.cmh_run.specs.declared.delivery.Delivery.{Delivery}
 use Rattle.cmh_run.specs.declared.delivery.Ending.{Ending}
 use Rattle.cmh_process.specs.Process.{fresh, proc_started, start_action, proc_engaged, engage_action, last_action, engages, proc_queried, query_action, repeat_action, counts, proc_replied, reply_action}
 use Rattle.cmh_graph.specs.Graph.{Graph, process_count, dependents_of, dependencies_of, is_idle, is_awake, IsWithinGraph, dependency_count}
+use Rattle.cmh_graph.specs.Graph.{Process, nobody}
+use Rattle.cmh_graph.specs.Build.{IsWellFormed}
+use Rattle.cmh_graph.specs.declared.TheConstants.{MAX_PROCESSES, MAX_DEPENDENCIES}
 use Rattle.cmh_graph.proofs.Verdicts.{asleep_is_idle, idle_within}
 use Rattle.cmh_run.specs.Config.{Config, query, proc_at, sent, acted, engaged_by, hinted, received, without, delivered, start, nothing_yet}
 use Rattle.cmh_run.specs.Legal.{begun, Going, restarted_at, ready, after, Leads, RunsAreShort}
@@ -24,7 +27,7 @@ use Rattle.cmh_run.proofs.Tokens.{each_at, set_is}
 use Rattle.cmh_run.proofs.Live.{Live, Fine}
 use Rattle.cmh_run.proofs.Right.{number_kept}
 use Rattle.cmh_run.proofs.Theorem.{by_test, Stands, first_start, status_none, fresh_at, stepped, ready_stands}
-use Rattle.std.proofs.lemmas.List.Sums.{sum_by-remove, sum_by-append, sum_by-cons}
+use Rattle.std.proofs.lemmas.List.Sums.{get_or-le-sum_by, sum_by-remove, sum_by-append, sum_by-cons}
 use Rattle.std.proofs.Common.{mul-le-mul_left, mul-suc, ◌*◌, add-one}
 use Rattle.std.proofs.lemmas.Option.{slice_get_within, get_or_from_slice_get}
 
@@ -206,6 +209,23 @@ sum_by_more f n m e =
 width_below_is : (g : Graph) (n : ℕ) → width_below g n ≡ sum_by (width g) (range_with_len 0 n)
 width_below_is g zero = refl
 width_below_is g (suc n) = omega (arith, sum_by_more (width g) n (suc n) (omega arith), width_below_is g n)
+
+-- a process has no more dependencies than a graph may have
+width_small : (g : Graph) (p : ℕ) → IsWellFormed g → p < process_count g → width g p ≤ MAX_DEPENDENCIES
+width_small g p w h =
+    by_test (is_idle g p) (λ b. length (cond b (dependents_of g p) []) ≤ MAX_DEPENDENCIES)
+    (λ e. omega (arith, w.dependencies, get_or-le-sum_by (λ (q : Process). length q.dependents) g.processes p nobody h))
+    (λ e. omega arith)
+
+-- nor do the first processes have more than so many each
+widths_small : (g : Graph) (n : ℕ) → IsWellFormed g → n ≤ process_count g → width_below g n ≤ MAX_DEPENDENCIES * n
+widths_small g zero w h = omega arith
+widths_small g (suc n) w h = omega (arith, widths_small g n w (omega arith), width_small g n w (omega arith))
+
+-- all dependencies of a graph are few enough for each delivery of a run to be counted
+pub few_dependencies : (g : Graph) → IsWellFormed g → dependency_count g ≤ MAX_DEPENDENCIES * MAX_PROCESSES
+few_dependencies g w =
+    omega (arith, width_below_is g (process_count g), widths_small g (process_count g) w (omega arith), w.processes)
 
 -- with the number one greater, the total rises by at most two for each dependency
 width_edges : (g : Graph) (n m : ℕ) (F : ℕ → Proc) (l : ℕ) → m ≤ n + 1 → total g m F l ≤ total g n F l + 2 * width_below g l

@@ -1,5 +1,5 @@
 -- A run that goes on by one delivery, and what its steps may count on.
-use Rattle.std.proofs.Common.{◌≡◌, ℕ, ◌+◌, ◌-◌, ◌*◌, ◌<◌, ◌≤◌, ◌≢◌, Bool, true, false, ◌&&◌, cond, eqb, List, [], ◌∷◌, ◌++◌, length, slice_get, Contains, Option, Some, None, is_none, refl, sym, ◌∙◌, ap, subst, arith, ◌⊎◌, ⊎_elim, length-append, mul-le-mul_left}
+use Rattle.std.proofs.Common.{◌≡◌, ℕ, ◌+◌, ◌-◌, ◌*◌, ◌^◌, ◌<◌, ◌≤◌, ◌≢◌, Bool, true, false, ◌&&◌, cond, eqb, List, [], ◌∷◌, ◌++◌, length, slice_get, Contains, Option, Some, None, is_none, refl, sym, ◌∙◌, ap, subst, arith, ◌⊎◌, ⊎_elim, length-append, mul-le-mul_left}
 use Rattle.std.proofs.lemmas.Bool.{eq-eqb, true≢false, and_parts}
 use Rattle.std.proofs.lemmas.List.{length-replicate}
 use Rattle.cmh_process.specs.declared.message.Message.{Message}
@@ -10,7 +10,7 @@ use Rattle.cmh_run.specs.declared.delivery.Ending.TheVariants.{Declared, AtRest,
 use Rattle.cmh_graph.specs.Graph.{Graph, process_count, is_idle, is_awake, IsWithinGraph, dependency_count}
 use Rattle.cmh_graph.proofs.Verdicts.{idle_within}
 use Rattle.cmh_process.specs.Process.{fresh}
-use Rattle.cmh_run.specs.Config.{proc_at, nothing_yet, start, without}
+use Rattle.cmh_run.specs.Config.{Config, blank, proc_at, nothing_yet, start, without}
 use Rattle.cmh_run.specs.Legal.{Going, going_from, begun, restart, restarted_at, ready, after, Rule, MayCome, Leads, EndsAs, IsRun, HintIsFit, HasNoRepeat, IsRight}
 use Rattle.cmh_run.specs.Choices.{chosen_place, HasNoHints}
 use Rattle.cmh_run.specs.Engaged.{AreEngaged}
@@ -25,7 +25,8 @@ use Rattle.cmh_run.proofs.Theorem.{by_test, Status, Stands, first_start, leads_s
 use Rattle.cmh_run.proofs.Last.{last_computation_is_a_run}
 use Rattle.cmh_run.proofs.Decide.{same_run}
 use Rattle.cmh_run.proofs.Engaging.{who_engages, awake_ones_start_nothing}
-use Rattle.cmh_run.proofs.Bound.{leads_are_short, runs_are_short}
+use Rattle.cmh_run.proofs.Bound.{leads_are_short, runs_are_short, few_dependencies}
+use Rattle.cmh_graph.specs.Build.{IsWellFormed}
 
 -- a restart changes nothing of how many deliveries there were
 restart_keeps_count : (g : Graph) (i : ℕ) (s : Going) (ns : List ℕ) → (restarted_at g i s ns).done ≡ s.done
@@ -163,6 +164,16 @@ module _ (g : Graph) (i : ℕ) (choices restarts : List ℕ) (s : Stage) (ok : I
         numbered = follows_numbered g i ok within e (chosen_place choices) restarts s.log s.going (asleep_leads e);
       }
 
+  -- there are as many processes as the graph has
+  pub all_there : length s.going.config.procs ≡ process_count g
+  all_there = by_awake (is_awake g i) refl
+    where
+      by_awake : (b : Bool) → is_awake g i ≡ b → length s.going.config.procs ≡ process_count g
+      by_awake true e =
+          ap (λ (t : Going). length t.config.procs) (nothing_comes (chosen_place choices) g i s.log s.going (awake_leads e))
+          ∙ length-replicate (process_count g) fresh
+      by_awake false e = (follows_stands g i ok within e (chosen_place choices) restarts s.log s.going (asleep_leads e)).size
+
   -- an undelivered message goes to a process of the graph
   pub receiver_within : (x : ℕ) (m : Message) → s.going.config.ended ≡ None → slice_get s.going.config.bag x ≡ Some m → m.to < process_count g
   receiver_within x m going there =
@@ -204,7 +215,7 @@ module _ (g : Graph) (i : ℕ) (choices restarts : List ℕ) (s : Stage) (ok : I
   }
     where
       chosen : chosen_place choices s.going.done s.going.config (place_in choices s) ≡ true
-      chosen = rw f.count (eq-eqb (place_in choices s) (place_in choices s) refl)
+      chosen = eq-eqb (place_in choices s) (place_in choices s) refl
 
       longer : s.going.done + 1 ≡ length (s.log ++ d ∷ [])
       longer = rw (length-append s.log (d ∷ []), f.count) refl
@@ -244,6 +255,12 @@ module _ (g : Graph) (i : ℕ) (choices restarts : List ℕ) (s t : Stage) (m : 
   -- its receiver is one of them
   pub taken_within : m.to < process_count g
   taken_within = receiver_within g i choices restarts s ok idle f (place_in choices s) m taken.0 taken.1
+
+  -- it can be counted
+  pub taken_room : IsWellFormed g → length restarts ≤ MAX_RESTARTS → t.going.done + 1 < 2 ^ 64
+  taken_room w few =
+      let same : t.going.done ≡ s.going.done = rw taken.2 refl in
+      omega (arith, same, f.count, log_bound g i choices restarts s ok idle f few, few_dependencies g w)
 
   -- it may be delivered with what the hints say
   taken_may : (hint : Option Verdict) → HintIsFit g t.going.config m hint → MayCome g s.going.config (place_in choices s) (record { message = m; hint = hint })
@@ -305,6 +322,12 @@ ends_as g i choices restarts s ok idle f over = by_ended s.going.config.ended re
     by_ended (Some Declared) e = e
     by_ended (Some (CutFree k)) e = e
     by_ended (Some AtRest) e = absurd (not_at_rest (is_awake g i) refl e)
+
+-- its network is then as at first
+pub cleared : (g : Graph) (i : ℕ) (choices restarts : List ℕ) (s t : Stage) (c : Config) → IsWithinGraph g → is_idle g i ≡ true → Follows g i choices restarts s
+    → IsTakenBy choices s t None → c ≡ blank (length t.going.config.procs) → c ≡ nothing_yet g
+cleared g i choices restarts s t c ok idle f over e =
+    e ∙ ap (λ (w : Stage). blank (length w.going.config.procs)) over.0 ∙ ap blank (all_there g i choices restarts s ok idle f)
 
 -- what is kept of it is a legal run
 pub finished : (g : Graph) (i : ℕ) (choices restarts : List ℕ) (s t : Stage) (r : Run) → IsWithinGraph g → is_idle g i ≡ true → Follows g i choices restarts s

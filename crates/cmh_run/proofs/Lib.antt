@@ -1,6 +1,7 @@
 pub mod Alike
 pub mod Answering
 pub mod Auditing
+pub mod Blank
 pub mod Bound
 pub mod Decide
 pub mod Engaging
@@ -18,7 +19,9 @@ pub mod Sizes
 pub mod Sound
 pub mod Steps
 pub mod Tally
+pub mod Taking
 pub mod Theorem
 pub mod Tokens
+pub mod Touching
 pub mod Verdicts
 pub mod Waiting

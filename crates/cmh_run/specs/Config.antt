@@ -48,15 +48,19 @@ ended_by Nothing = None
 ended_by Engage = None
 ended_by (ReplyTo to) = None
 
--- nobody has heard of anything
-abbrev pub nothing_yet : Graph → Config
-nothing_yet g = record {
+-- none of so many processes has heard of anything
+abbrev pub blank : ℕ → Config
+blank count = record {
   bag = [];
-  procs = replicate (process_count g) fresh;
+  procs = replicate count fresh;
   number = 0;
   engaged = [];
   ended = None;
 }
+
+-- nobody has heard of anything
+abbrev pub nothing_yet : Graph → Config
+nothing_yet g = blank (process_count g)
 
 -- the initiator starts with its next number
 abbrev pub start : Graph → ℕ → Config → Config

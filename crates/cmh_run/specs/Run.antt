@@ -31,7 +31,7 @@ pub record MayStart (g : Graph) (i : ℕ) (s : Going) : Type 0 where
 
 -- the place that the choices name
 abbrev pub place_in : List ℕ → Stage → ℕ
-place_in choices s = slice_index choices (length s.log) % length s.going.config.bag
+place_in choices s = slice_index choices s.going.done % length s.going.config.bag
 
 -- the stage with another configuration
 abbrev pub with_config : Stage → Config → Stage

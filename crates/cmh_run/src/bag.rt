@@ -1,6 +1,7 @@
 //! The undelivered messages.
 
 ghost use Rattle.std.specs.Prelude.{◌≡◌, ◌<◌, ◌↔◌, ◌%◌, ◌++◌, [], ◌∷◌, Some, length, remove, slice_get, IsNone, IsSome, IfSome, IfNone, IfErr, IsTrue, OnOk, OnErr};
+ghost use Rattle.cmh_process.specs.declared.message.Message.{Message};
 ghost use Rattle.std.specs.Cmp.Lexicographic.{pointwise};
 ghost use Rattle.std.specs.Cmp.Rules.{comparing};
 ghost use Rattle.std.proofs.Common.{rules};
@@ -76,8 +77,16 @@ impl Bag {
         Ok(())
     }
 
+    /// No message is left. It keeps its memory.
+    pub(crate) fn clear(&mut self)
+        ensures { self.new ≡ [] }
+    {
+        self.messages.clear();
+    }
+
     /// Takes the message at place `choice` modulo the number of messages; the others keep their
     /// order. It takes constant time at choice 0, and else at most linear time.
+    #[inline(always)]
     pub fn take(&mut self, choice: u64) -> Option<Message>
         ensures none { IsNone result ↔ (self.old ≡ []) }
         ensures taken { IfSome result (λ m.
@@ -86,11 +95,34 @@ impl Bag {
             self.new ≡ remove self.old (choice % length self.old)) }
         ensures unchanged { IfNone result (self.new ≡ self.old) }
     {
-        if self.messages.is_empty() {
-            return None;
+        self.arrange(choice);
+        self.messages.pop_front()
+    }
+
+    /// Puts the message that the choice names before the others, if there is any.
+    #[inline(always)]
+    fn arrange(&mut self, choice: u64)
+        ensures none { self.old ≡ [] → self.new ≡ [] }
+        ensures first { (m : Message) → slice_get self.old (choice % length self.old) ≡ Some m
+            → self.new ≡ m ∷ remove self.old (choice % length self.old) }
+    {
+        if choice != 0 && !self.messages.is_empty() {
+            let place = choice % self.messages.len() as u64;
+            self.bring_to_front(place);
         }
-        let place = choice % self.messages.len() as u64;
-        self.messages.remove(place as usize)
+    }
+
+    /// Puts the message at that place, which there is, before the others. It stands apart, so that
+    /// the loop of a run has the first message's way alone in it.
+    #[inline(never)]
+    fn bring_to_front(&mut self, place: u64)
+        requires { place < length self.old }
+        ensures { (m : Message) → slice_get self.old place ≡ Some m
+            → self.new ≡ m ∷ remove self.old place }
+    {
+        if let Some(message) = self.messages.remove(place as usize) {
+            self.messages.push_front_reserved(message);
+        }
     }
 }
 

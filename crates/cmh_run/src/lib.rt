@@ -12,10 +12,14 @@ mod hints;
 pub mod laws;
 mod log;
 mod network;
+mod procs;
 mod progress;
+mod run_log;
+mod runner;
 mod runs;
 mod scripted;
 mod send;
+mod tape;
 #[cfg(test)]
 mod tests;
 mod truth;
@@ -26,7 +30,9 @@ pub use check::check_run;
 pub use delivery::{Delivery, Ending};
 pub use fault::{CheckFault, RunFault, ScriptFault};
 pub use hints::{Hints, NoHints};
-pub use log::RunLog;
+pub use log::{Log, NoLog};
+pub use run_log::RunLog;
+pub use runner::Runner;
 pub use runs::{run, run_again};
 pub use scripted::Scripted;
 

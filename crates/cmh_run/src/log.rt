@@ -1,107 +1,63 @@
-//! What is kept of a run that has ended.
+//! Where the deliveries of a run are kept, if anywhere.
 
-ghost use Rattle.std.specs.Prelude.{◌≡◌, ◌==◌};
-ghost use Rattle.std.specs.Cmp.Lexicographic.{pointwise};
-ghost use Rattle.std.specs.Cmp.Rules.{comparing};
-ghost use Rattle.std.specs.Ordering.{on, eq_of_both};
-ghost use Rattle.std.proofs.Common.{rules};
-ghost use Rattle.cmh_run.specs.contracts.delivery.DeliveryPartialEq.TheImpl as delivery;
-ghost use Rattle.cmh_run.specs.contracts.delivery.DeliveryEq.TheImpl.Laws as delivery_laws;
-ghost use Rattle.cmh_run.specs.contracts.delivery.EndingPartialEq.TheImpl as ending;
-ghost use Rattle.cmh_run.specs.contracts.delivery.EndingEq.TheImpl.Laws as ending_laws;
-ghost use Rattle.cmh_run.specs.Run.{verdict_of};
+ghost use Rattle.std.specs.Prelude.{◌≡◌, [], ◌∷◌, ◌++◌, List, OnOk};
+ghost use Rattle.cmh_run.specs.declared.delivery.Delivery.{Delivery};
 
-use crate::{Delivery, Ending};
-use cmh_graph::Verdict;
-use std::marker::Model;
+use crate::Delivery;
+use crate::tape::Tape;
+use std::alloc::{AllocError, Global};
 
-/// A run that has ended.
-#[derive(Clone, Debug, Drop)]
-pub struct RunLog {
-    pub(crate) initiator: u32,
-    pub(crate) log: Vec<Delivery>,
-    pub(crate) ending: Ending,
-    pub(crate) engaged: Vec<u32>,
-    pub(crate) restarted: u32,
+/// Where the deliveries of a run are kept: all of them in a `Vec`, or none in `NoLog`.
+///
+/// Code that serves any log gets one that speaks of deliveries only by adding each of them, so what
+/// is proved of it is proved of a run that was made, whether or not anything is left to read.
+pub trait Log: Drop + Sized {
+    ghost use Rattle.cmh_run.specs.declared.delivery.Delivery.{Delivery};
+
+    /// The deliveries of which it speaks, in their order.
+    ghost deliveries: { Self → List Delivery };
+
+    /// A log of no delivery, which takes no memory.
+    fn empty(alloc: Global) -> Self
+        ensures { deliveries result ≡ [] };
+
+    /// Adds a delivery as the last.
+    fn add(&mut self, delivery: Delivery) -> Result<(), AllocError>
+        ensures { OnOk result (deliveries self.new ≡ deliveries self.old ++ delivery ∷ []) };
 }
 
-impl Model for RunLog {
-    ghost use Rattle.cmh_run.specs.Run.{Run};
+impl Log for Vec<Delivery> {
+    ghost use Rattle.cmh_run.specs.declared.delivery.Delivery.{Delivery};
 
-    ghost Value = { Run };
+    ghost deliveries = { λ log. log.items };
 
-    ghost view = { λ r. record {
-      initiator = r.initiator;
-      log = r.log.items;
-      ending = r.ending;
-      engaged = r.engaged.items;
-      restarted = r.restarted;
-    } };
-}
-
-impl RunLog {
-    pub fn initiator(&self) -> u32
-        ensures { result ≡ self.now.initiator }
-    {
-        self.initiator
+    fn empty(alloc: Global) -> Vec<Delivery> {
+        Vec::new(alloc)
     }
 
-    /// The deliveries, in their order.
-    pub fn log(&self) -> &[Delivery]
-        ensures { result.now ≡ self.now.log }
-    {
-        &self.log
-    }
-
-    pub fn ending(&self) -> Ending
-        ensures { result ≡ self.now.ending }
-    {
-        self.ending
-    }
-
-    /// Who engaged in the computation of the last start, in order: nobody where the initiator is
-    /// awake, else the initiator first.
-    pub fn engaged(&self) -> &[u32]
-        ensures { result.now ≡ self.now.engaged }
-    {
-        &self.engaged
-    }
-
-    /// How often the initiator started again.
-    pub fn restarted(&self) -> u32
-        ensures { result ≡ self.now.restarted }
-    {
-        self.restarted
-    }
-
-    /// What the run says of its initiator.
-    pub fn verdict(&self) -> Verdict
-        ensures { result ≡ verdict_of self.now.ending }
-    {
-        match self.ending {
-            Ending::Declared => Verdict::Deadlocked,
-            Ending::AtRest | Ending::CutFree(_) => Verdict::Free,
-        }
+    fn add(&mut self, delivery: Delivery) -> Result<(), AllocError> {
+        self.push(delivery)?;
+        Ok(())
     }
 }
 
-impl PartialEq for RunLog {
-    ghost eq = { eq_of_both (on (λ r. r.initiator) ◌==◌)
-        (eq_of_both (on (λ r. r.log) (pointwise delivery.ghosts.eq))
-        (eq_of_both (on (λ r. r.ending) ending.ghosts.eq)
-        (eq_of_both (on (λ r. r.engaged) (pointwise ◌==◌)) (on (λ r. r.restarted) ◌==◌)))) };
-
-    ghost laws = { Prim.search (comparing, rules, delivery_laws.laws-law, ending_laws.laws-law) depth 9 };
-
-    fn eq(&self, other: &RunLog) -> bool {
-        self.initiator == other.initiator
-            && self.log == other.log
-            && self.ending == other.ending
-            && self.engaged == other.engaged
-            && self.restarted == other.restarted
-    }
+/// Keeps no delivery. Which ones it was told of is known in proofs alone.
+#[derive(Drop)]
+pub struct NoLog {
+    tape: Tape,
 }
 
-impl Eq for RunLog {
-    ghost laws = { Prim.search (comparing, rules, delivery_laws.laws-law, ending_laws.laws-law) depth 9 };
+impl Log for NoLog {
+    ghost use Rattle.cmh_run.specs.declared.delivery.Delivery.{Delivery};
+
+    ghost deliveries = { λ log. log.tape.deliveries };
+
+    fn empty(_alloc: Global) -> NoLog {
+        NoLog { tape: Tape::new() }
+    }
+
+    fn add(&mut self, delivery: Delivery) -> Result<(), AllocError> {
+        self.tape = self.tape.then(&delivery);
+        Ok(())
+    }
 }

@@ -3,13 +3,15 @@
 ghost use Rattle.std.specs.Prelude.{◌≡◌, ◌+◌, ◌<◌, ◌^◌, ◌%◌, ◌↔◌, [], None, Some, length, slice_get, IfOk, IfSome, IfNone, IsNone, IsFalse, OnOk, if◌then◌else◌};
 ghost use Rattle.cmh_graph.specs.Graph.{process_count, is_awake};
 ghost use Rattle.cmh_graph.specs.Build.{IsWellFormed};
+ghost use Rattle.cmh_process.specs.Process.{engages};
 ghost use Rattle.cmh_run.specs.Legal.{begun};
-ghost use Rattle.cmh_run.specs.Config.{proc_at, nothing_yet, start, does, engaged_by, answered, replied, received, asks, without};
+ghost use Rattle.cmh_run.specs.Config.{blank, proc_at, nothing_yet, start, does, engaged_by, answered, replied, received, asks, without};
 
+use crate::procs::Procs;
 use crate::send::Sender;
 use crate::{Bag, Ending};
 use cmh_graph::{Verdict, WaitGraph};
-use cmh_process::{Action, Kind, Message, Proc};
+use cmh_process::{Action, Kind, Message};
 use std::alloc::{AllocError, Global};
 use std::marker::Model;
 
@@ -17,7 +19,7 @@ use std::marker::Model;
 #[derive(Drop)]
 pub(crate) struct Network {
     bag: Bag,
-    procs: Vec<Proc>,
+    procs: Procs,
     number: u32,
     engaged: Vec<u32>,
     ended: Option<Ending>,
@@ -30,7 +32,7 @@ impl Model for Network {
 
     ghost view = { λ n. record {
       bag = n.bag;
-      procs = n.procs.items;
+      procs = n.procs;
       number = n.number;
       engaged = n.engaged.items;
       ended = n.ended;
@@ -44,7 +46,7 @@ impl Network {
     {
         Ok(Network {
             bag: Bag::new(alloc),
-            procs: vec![in alloc; Proc::new(); graph.len() as usize]?,
+            procs: Procs::new(alloc, graph.len() as usize)?,
             number: 0,
             engaged: Vec::new(alloc),
             ended: None,
@@ -78,9 +80,8 @@ impl Network {
         ensures ok { OnOk result (self.new ≡ start graph.now initiator self.old) }
     {
         let dependents = graph.dependents(initiator);
-        let proc = &mut self.procs[initiator as usize];
-        let action = proc.start(dependents.len() as u32);
-        let number = proc.latest;
+        let action = self.procs.start(initiator, dependents.len() as u32)?;
+        let number = self.procs.latest(initiator);
         self.number = number;
         self.engaged.clear();
         self.engaged.push(initiator)?;
@@ -93,6 +94,7 @@ impl Network {
     }
 
     /// Whether hints are asked about the message before it is delivered.
+    #[inline(always)]
     pub(crate) fn asks(&self, graph: &WaitGraph, message: Message) -> bool
         requires size { length self.now.procs ≡ process_count graph.now }
         requires within { message.to < process_count graph.now }
@@ -100,7 +102,7 @@ impl Network {
     {
         message.kind == Kind::Query
             && !graph.is_awake(message.to)
-            && self.procs[message.to as usize].is_engaged_by(message.number)
+            && self.procs.is_engaged_by(message.to, message.number)
     }
 
     /// Whether a declaration or a hint has ended the run.
@@ -118,6 +120,7 @@ impl Network {
     }
 
     /// Takes the message that the choice names out of the bag.
+    #[inline(always)]
     pub(crate) fn take(&mut self, choice: u64) -> Option<Message>
         ensures none { IsNone result ↔ (self.old.bag ≡ []) }
         ensures unchanged { IfNone result (self.new ≡ self.old) }
@@ -128,6 +131,7 @@ impl Network {
     }
 
     /// The delivery of a message that was taken out of the bag. An awake process discards it.
+    #[inline(always)]
     pub(crate) fn deliver(
         &mut self,
         graph: &WaitGraph,
@@ -152,14 +156,27 @@ impl Network {
         }
     }
 
-    /// Who is engaged, and how the run ended.
-    pub(crate) fn into_parts(self) -> (Vec<u32>, Option<Ending>)
-        ensures engaged { result.0.items ≡ self.engaged }
-        ensures ended { result.1 ≡ self.ended }
+    /// Who is engaged, and nobody from then on.
+    pub(crate) fn take_engaged(&mut self, alloc: Global) -> Vec<u32>
+        ensures engaged { result.items ≡ self.old.engaged }
+        ensures procs { self.new.procs ≡ self.old.procs }
     {
-        (self.engaged, self.ended)
+        std::mem::replace(&mut self.engaged, Vec::new(alloc))
     }
 
+    /// Nobody has heard of anything, as at first. It takes time linear in the processes that took
+    /// part.
+    pub(crate) fn clear(&mut self)
+        ensures { self.new ≡ blank (length self.old.procs) }
+    {
+        self.bag.clear();
+        self.procs.clear();
+        self.number = 0;
+        self.engaged.clear();
+        self.ended = None;
+    }
+
+    #[inline(always)]
     fn query(
         &mut self,
         graph: &WaitGraph,
@@ -174,7 +191,7 @@ impl Network {
         ensures ok { OnOk result (self.new ≡
             received graph.now initiator self.old message Kind.Query hint) }
     {
-        if !self.procs[message.to as usize].is_engaged_by(message.number) {
+        if !self.procs.is_engaged_by(message.to, message.number) {
             return self.answer(initiator, message);
         }
         match hint {
@@ -188,6 +205,7 @@ impl Network {
     }
 
     /// A query engages its receiver, which asks these.
+    #[inline(never)]
     fn engage(
         &mut self,
         initiator: u32,
@@ -199,8 +217,10 @@ impl Network {
         requires going { self.old.ended ≡ None }
         ensures ok { OnOk result (self.new ≡ engaged_by initiator self.old message dependents.now) }
     {
-        let proc = &mut self.procs[message.to as usize];
-        let action = proc.on_query(message.number, message.from, dependents.len() as u32);
+        let size = dependents.len() as u32;
+        let action = self
+            .procs
+            .engage(message.to, message.number, message.from, size)?;
         if message.number == self.number {
             self.engaged.push(message.to)?;
         }
@@ -208,26 +228,29 @@ impl Network {
     }
 
     /// A query engages nobody. So it isn't read how many dependents the receiver has.
+    #[inline(always)]
     fn answer(&mut self, initiator: u32, message: Message) -> Result<(), AllocError>
         requires within { message.to < length self.old.procs }
+        requires stale { IsFalse (engages (proc_at self.old.procs message.to) message.number) }
         requires going { self.old.ended ≡ None }
         ensures ok { OnOk result (self.new ≡ answered initiator self.old message) }
     {
-        let proc = &mut self.procs[message.to as usize];
-        let action = proc.on_query(message.number, message.from, 0);
+        let action = self.procs.answer(message.to, message.number, message.from);
         self.act(Sender::answering(initiator, message), &[], action)
     }
 
+    #[inline(always)]
     fn reply(&mut self, initiator: u32, message: Message) -> Result<(), AllocError>
         requires within { message.to < length self.old.procs }
         requires going { self.old.ended ≡ None }
         ensures ok { OnOk result (self.new ≡ replied initiator self.old message) }
     {
-        let action = self.procs[message.to as usize].on_reply(message.number);
+        let action = self.procs.reply(message.to, message.number);
         self.act(Sender::answering(initiator, message), &[], action)
     }
 
     /// A process sends, or it ends the run.
+    #[inline(always)]
     fn act(&mut self, sender: Sender, dependents: &[u32], action: Action) -> Result<(), AllocError>
         requires { self.old.ended ≡ None }
         ensures ok { OnOk result (self.new ≡

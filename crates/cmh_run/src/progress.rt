@@ -3,12 +3,12 @@
 ghost use Rattle.std.specs.Prelude.{◌≡◌, ◌+◌, ◌<◌, ◌^◌, ◌%◌, ◌↔◌, [], ◌∷◌, ◌++◌, None, Some, length, slice_get, slice_index, IfOk, IfSome, IfNone, OnOk};
 ghost use Rattle.cmh_graph.specs.Graph.{process_count};
 ghost use Rattle.cmh_graph.specs.Build.{IsWellFormed};
-ghost use Rattle.cmh_run.specs.Config.{proc_at, asks};
+ghost use Rattle.cmh_run.specs.Config.{blank, nothing_yet, proc_at, asks};
 ghost use Rattle.cmh_run.specs.Legal.{begun, ready, HintIsFit};
 ghost use Rattle.cmh_run.specs.Run.{MayStart, IsTakenBy, delivered_to, ending_of};
 
 use crate::network::Network;
-use crate::{Delivery, Ending, Hints, RunLog};
+use crate::{Delivery, Ending, Hints, Log, RunLog};
 use cmh_graph::{Verdict, WaitGraph};
 use cmh_process::Message;
 use std::alloc::{AllocError, Global};
@@ -16,14 +16,15 @@ use std::marker::Model;
 
 /// A run on its way, with the deliveries that were made and the restarts that are still to come.
 #[derive(Drop)]
-pub(crate) struct Progress<'a> {
+pub(crate) struct Progress<'a, L: Log> {
     network: Network,
-    log: Vec<Delivery>,
+    log: L,
+    made: usize,
     restarts: &'a [u32],
     restarted: u32,
 }
 
-impl<'a> Model for Progress<'a> {
+impl<'a, L: Log> Model for Progress<'a, L> {
     ghost use Rattle.std.specs.Prelude.{length};
     ghost use Rattle.cmh_run.specs.Run.{Stage};
 
@@ -32,41 +33,44 @@ impl<'a> Model for Progress<'a> {
     ghost view = { λ p. record {
       going = record {
         config = p.network;
-        done = length p.log.items;
+        done = p.made;
         restarts = p.restarts.now;
         restarted = p.restarted;
       };
-      log = p.log.items;
+      log = L.deliveries p.log;
     } };
 }
 
-impl<'a> Progress<'a> {
+impl<'a, L: Log> Progress<'a, L> {
     /// The start of an idle process. An awake one asks nobody.
     pub(crate) fn begin(
         alloc: Global,
         graph: &WaitGraph,
+        mut network: Network,
         initiator: u32,
         restarts: &'a [u32],
-    ) -> Result<Progress<'a>, AllocError>
+    ) -> Result<Progress<'a, L>, AllocError>
+        requires blank { network ≡ nothing_yet graph.now }
         requires graph { IsWellFormed graph.now }
         requires within { initiator < process_count graph.now }
         ensures ok { IfOk result (λ p.
             p ≡ record { going = begun graph.now initiator restarts.now; log = [] }) }
     {
         let is_awake = graph.is_awake(initiator);
-        let mut network = Network::nothing_yet(alloc, graph)?;
         if !is_awake {
             network.start(graph, initiator)?;
         }
         Ok(Progress {
             network,
-            log: Vec::new(alloc),
+            log: L::empty(alloc),
+            made: 0,
             restarts: if is_awake { &[] } else { restarts },
             restarted: 0,
         })
     }
 
     /// The initiator starts again, if that is due now.
+    #[inline(always)]
     pub(crate) fn restart_if_due(
         &mut self,
         graph: &WaitGraph,
@@ -86,7 +90,7 @@ impl<'a> Progress<'a> {
         let Some(next) = self.restarts.first() else {
             return Ok(());
         };
-        if *next as usize != self.log.len() {
+        if *next as usize != self.made {
             return Ok(());
         }
         self.network.start(graph, initiator)?;
@@ -96,17 +100,19 @@ impl<'a> Progress<'a> {
     }
 
     /// Takes the message that comes next by the choices, unless the run is over.
+    #[inline(always)]
     pub(crate) fn take(&mut self, choices: &[u64]) -> Option<Message>
         ensures { IsTakenBy choices.now self.old self.new result }
     {
         if self.network.has_ended() {
             return None;
         }
-        let choice = choices.get(self.log.len()).copied().unwrap_or(0);
+        let choice = choices.get(self.made).copied().unwrap_or(0);
         self.network.take(choice)
     }
 
     /// What the hints say of the receiver of a message, if they are asked about it.
+    #[inline(always)]
     pub(crate) fn hint_for<H: Hints>(
         &self,
         graph: &WaitGraph,
@@ -128,6 +134,7 @@ impl<'a> Progress<'a> {
     }
 
     /// The delivery of a message that was taken.
+    #[inline(always)]
     pub(crate) fn deliver(
         &mut self,
         graph: &WaitGraph,
@@ -138,31 +145,39 @@ impl<'a> Progress<'a> {
         requires size { length self.old.going.config.procs ≡ process_count graph.now }
         requires within { delivery.message.to < process_count graph.now }
         requires going { self.old.going.config.ended ≡ None }
+        requires few { self.old.going.done + 1 < 2 ^ 64 }
         ensures ok { OnOk result (self.new ≡ delivered_to graph.now initiator self.old delivery) }
     {
         self.network
             .deliver(graph, initiator, delivery.message, delivery.hint)?;
-        self.log.push(delivery)?;
+        self.log.add(delivery)?;
+        self.made += 1;
         Ok(())
     }
 
-    /// What is kept of the run, which is over or has nothing left to deliver.
-    pub(crate) fn into_log(self, initiator: u32) -> RunLog
-        ensures { result ≡ record {
+    /// What is kept of the run, which is over or has nothing left to deliver, and the network for
+    /// the next run.
+    pub(crate) fn finish(self, alloc: Global, initiator: u32) -> (RunLog<L>, Network)
+        ensures log { result.0 ≡ record {
           initiator = initiator;
           log = self.entry.log;
           ending = ending_of self.entry.going.config.ended;
           engaged = self.entry.going.config.engaged;
           restarted = self.entry.going.restarted;
         } }
+        ensures network { result.1 ≡ blank (length self.entry.going.config.procs) }
     {
-        let (engaged, ended) = self.network.into_parts();
-        RunLog {
+        let mut network = self.network;
+        let ending = network.ended().unwrap_or(Ending::AtRest);
+        let engaged = network.take_engaged(alloc);
+        network.clear();
+        let log = RunLog {
             initiator,
             log: self.log,
-            ending: ended.unwrap_or(Ending::AtRest),
+            ending,
             engaged,
             restarted: self.restarted,
-        }
+        };
+        (log, network)
     }
 }

@@ -7,10 +7,10 @@ ghost use Rattle.cmh_run.specs.Choices.{HasNoHints};
 ghost use Rattle.cmh_run.specs.Engaged.{AreEngaged};
 ghost use Rattle.cmh_run.specs.Run.{IsRising, IsAccepted, IsFirstFault, IsRunOf, TellsTruth, empty_run_of};
 
-use crate::progress::Progress;
-use crate::{Delivery, Hints, MAX_CHOICES, MAX_RESTARTS, RunFault, RunLog};
+use crate::runner::Runner;
+use crate::{Hints, RunFault, RunLog};
 use cmh_graph::WaitGraph;
-use std::alloc::{AllocError, Global};
+use std::alloc::Global;
 
 /// Runs the computations of an idle initiator, which starts again after each of these numbers of
 /// deliveries, if the run gets that far.
@@ -45,8 +45,7 @@ pub fn run_again<H: Hints>(
     ensures silent { H.is_silent hints.old → IfOk result (λ r. HasNoHints r.log) }
     ensures kept { H.keeps hints.old hints.new }
 {
-    judge(graph, initiator, choices, restarts)?;
-    Ok(follow(alloc, graph, initiator, choices, hints, restarts)?)
+    Runner::new(graph).run_again(alloc, initiator, choices, hints, restarts)
 }
 
 /// Runs one computation of an idle initiator: `run_again` without restarts. It delivers at most two
@@ -73,73 +72,5 @@ pub fn run<H: Hints>(
     ensures silent { H.is_silent hints.old → IfOk result (λ r. HasNoHints r.log) }
     ensures kept { H.keeps hints.old hints.new }
 {
-    run_again(alloc, graph, initiator, choices, hints, &[])
-}
-
-/// Whether there is a run.
-fn judge(
-    graph: &WaitGraph,
-    initiator: u32,
-    choices: &[u64],
-    restarts: &[u32],
-) -> Result<(), RunFault>
-    ensures graph { IfOk result (λ u. IsWellFormed graph.now) }
-    ensures ok { IfOk result (λ u. IsAccepted graph.now initiator choices.now restarts.now) }
-    ensures fault { IfErr result (λ e.
-        IsFirstFault graph.now initiator choices.now restarts.now e) }
-{
-    if initiator >= graph.len() || !graph.is_idle(initiator) {
-        return Err(RunFault::NotIdle);
-    }
-    if choices.len() > MAX_CHOICES {
-        return Err(RunFault::TooManyChoices);
-    }
-    if restarts.len() > MAX_RESTARTS || !is_rising(restarts) {
-        return Err(RunFault::BadRestarts);
-    }
-    Ok(())
-}
-
-fn is_rising(list: &[u32]) -> bool
-    ensures { IsTrue result ↔ IsRising list.now }
-{
-    for i in 1..list.len() {
-        if list[i - 1] >= list[i] {
-            return false;
-        }
-    }
-    true
-}
-
-/// The run of what was judged.
-fn follow<H: Hints>(
-    alloc: Global,
-    graph: &WaitGraph,
-    initiator: u32,
-    choices: &[u64],
-    hints: &mut H,
-    restarts: &[u32],
-) -> Result<RunLog, AllocError>
-    requires graph { IsWellFormed graph.now }
-    requires speaks { H.speaks_of hints.old graph.now }
-    requires idle { IsTrue (is_idle graph.now initiator) }
-    requires few { length restarts.now ≤ MAX_RESTARTS }
-    ensures initiator { IfOk result (λ r. r.initiator ≡ initiator) }
-    ensures legal { IfOk result (IsRunOf graph.now choices.now restarts.now) }
-    ensures restarted { IfOk result (λ r. r.restarted ≤ length restarts.now) }
-    ensures true_verdict { IfOk result (TellsTruth graph.now) }
-    ensures engaged { IfOk result (λ r. AreEngaged graph.now initiator r.ending r.engaged) }
-    ensures awake { IsTrue (is_awake graph.now initiator)
-        → IfOk result (λ r. r ≡ empty_run_of initiator) }
-    ensures silent { H.is_silent hints.old → IfOk result (λ r. HasNoHints r.log) }
-    ensures kept { H.keeps hints.old hints.new }
-{
-    let mut progress = Progress::begin(alloc, graph, initiator, restarts)?;
-    progress.restart_if_due(graph, initiator)?;
-    while let Some(message) = progress.take(choices) {
-        let hint = progress.hint_for(graph, message, hints);
-        progress.deliver(graph, initiator, Delivery { message, hint })?;
-        progress.restart_if_due(graph, initiator)?;
-    }
-    Ok(progress.into_log(initiator))
+    Runner::new(graph).run(alloc, initiator, choices, hints)
 }

@@ -32,6 +32,7 @@ impl Sender {
     }
 
     /// Sends what the action says: queries in the order of the dependents, or one reply.
+    #[inline(always)]
     pub(crate) fn send(
         self,
         bag: &mut Bag,
@@ -49,6 +50,7 @@ impl Sender {
         }
     }
 
+    #[inline(never)]
     fn send_queries(self, bag: &mut Bag, dependents: &[u32]) -> Result<(), AllocError>
         ensures ok { OnOk result (bag.new ≡ bag.old
             ++ map (λ (r : ℕ). query self.initiator self.number self.from r) dependents.now) }

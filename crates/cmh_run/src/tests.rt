@@ -9,6 +9,7 @@ mod hinted;
 mod limits;
 mod memory;
 mod restarts;
+mod runner;
 mod runs;
 mod scripted;
 mod surface;

@@ -3,7 +3,7 @@ use Rattle.cmh_graph.specs.Graph.{dependency_count}
 use Rattle.cmh_run.specs.Choices.{HasNoHints}
 use Rattle.cmh_run.specs.declared.TheConstants.{MAX_RESTARTS}
 use Rattle.cmh_run.specs.Follow.{Follows}
-use Rattle.cmh_run.proofs.runs.follow.Given as goal
+use Rattle.cmh_run.proofs.runner.follow.Given as goal
 
 abbrev pub invariant-loop-message : goal.invariant-loop-message
 invariant-loop-message g l = record {

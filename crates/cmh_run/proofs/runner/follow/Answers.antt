@@ -2,8 +2,8 @@ use Rattle.std.proofs.Common.{◌≡◌, ap, subst, sym, List, None}
 use Rattle.cmh_run.specs.declared.delivery.Delivery.{Delivery}
 use Rattle.cmh_run.specs.Run.{Run, Stage, MayStart}
 use Rattle.cmh_run.specs.Choices.{HasNoHints}
-use Rattle.cmh_run.proofs.Following.{may_start_first, taken_size, taken_within, taken_may_start, taken_follows, taken_log, taken_falls, no_hints_on, finished, run_is_true, restarted_few, run_engages, awake_runs_nothing}
-use Rattle.cmh_run.proofs.runs.follow.Goals as goal
+use Rattle.cmh_run.proofs.Following.{may_start_first, taken_size, taken_within, taken_room, taken_may_start, taken_follows, taken_log, taken_falls, no_hints_on, cleared, finished, run_is_true, restarted_few, run_engages, awake_runs_nothing}
+use Rattle.cmh_run.proofs.runner.follow.Goals as goal
 
 -- at first the initiator may start again, if the run isn't over
 pub restart_if_due-requires-clause-may : goal.restart_if_due-requires-clause-may
@@ -35,6 +35,12 @@ pub deliver-requires-clause-within : goal.deliver-requires-clause-within
 deliver-requires-clause-within g c =
     taken_within c.args.graph.now c.args.initiator c.args.choices.now c.args.restarts.now c.loop-message.progress c.take.new.self c.in-Some.message
     c.requires.graph.within c.requires.idle c.loop-message.invariant.follows c.in-Some.ensures
+
+-- the deliveries can be counted
+pub deliver-requires-clause-few : goal.deliver-requires-clause-few
+deliver-requires-clause-few g c =
+    taken_room c.args.graph.now c.args.initiator c.args.choices.now c.args.restarts.now c.loop-message.progress c.take.new.self c.in-Some.message
+    c.requires.graph.within c.requires.idle c.loop-message.invariant.follows c.in-Some.ensures c.requires.graph c.requires.few
 
 -- the hints are kept where a delivery runs out of memory
 pub returns-in_err-deliver-clause-kept : goal.returns-in_err-deliver-clause-kept
@@ -87,36 +93,42 @@ loop-message-preserved g c = record {
 -- what is kept at the end is a legal run that followed the choices
 pub returns-clause-legal : goal.returns-clause-legal
 returns-clause-legal g c =
-    finished c.args.graph.now c.args.initiator c.args.choices.now c.args.restarts.now c.loop-message.progress c.take.new.self c.into_log.result
-    c.requires.graph.within c.requires.idle c.loop-message.invariant.follows c.in_default.ensures c.into_log.ensures
+    finished c.args.graph.now c.args.initiator c.args.choices.now c.args.restarts.now c.loop-message.progress c.take.new.self c.finish.result.0
+    c.requires.graph.within c.requires.idle c.loop-message.invariant.follows c.in_default.ensures c.finish.ensures.log
 
 -- what is kept at the end tells the truth
 pub returns-clause-true_verdict : goal.returns-clause-true_verdict
 returns-clause-true_verdict g c =
-    run_is_true c.args.graph.now c.args.initiator c.args.choices.now c.args.restarts.now c.into_log.result
-    c.requires.graph.within c.requires.idle (ap (λ (r : Run). r.initiator) c.into_log.ensures)
-    (finished c.args.graph.now c.args.initiator c.args.choices.now c.args.restarts.now c.loop-message.progress c.take.new.self c.into_log.result
-    c.requires.graph.within c.requires.idle c.loop-message.invariant.follows c.in_default.ensures c.into_log.ensures)
+    run_is_true c.args.graph.now c.args.initiator c.args.choices.now c.args.restarts.now c.finish.result.0
+    c.requires.graph.within c.requires.idle (ap (λ (r : Run). r.initiator) c.finish.ensures.log)
+    (finished c.args.graph.now c.args.initiator c.args.choices.now c.args.restarts.now c.loop-message.progress c.take.new.self c.finish.result.0
+    c.requires.graph.within c.requires.idle c.loop-message.invariant.follows c.in_default.ensures c.finish.ensures.log)
 
 -- it started again no more often than it was to
 pub returns-clause-restarted : goal.returns-clause-restarted
 returns-clause-restarted g c =
-    restarted_few c.args.graph.now c.args.choices.now c.args.restarts.now c.into_log.result
-    (finished c.args.graph.now c.args.initiator c.args.choices.now c.args.restarts.now c.loop-message.progress c.take.new.self c.into_log.result
-    c.requires.graph.within c.requires.idle c.loop-message.invariant.follows c.in_default.ensures c.into_log.ensures)
+    restarted_few c.args.graph.now c.args.choices.now c.args.restarts.now c.finish.result.0
+    (finished c.args.graph.now c.args.initiator c.args.choices.now c.args.restarts.now c.loop-message.progress c.take.new.self c.finish.result.0
+    c.requires.graph.within c.requires.idle c.loop-message.invariant.follows c.in_default.ensures c.finish.ensures.log)
 
 -- who is engaged at the end is as it should be
 pub returns-clause-engaged : goal.returns-clause-engaged
 returns-clause-engaged g c =
-    run_engages c.args.graph.now c.args.initiator c.args.choices.now c.args.restarts.now c.into_log.result
-    c.requires.graph.within c.requires.idle (ap (λ (r : Run). r.initiator) c.into_log.ensures)
-    (finished c.args.graph.now c.args.initiator c.args.choices.now c.args.restarts.now c.loop-message.progress c.take.new.self c.into_log.result
-    c.requires.graph.within c.requires.idle c.loop-message.invariant.follows c.in_default.ensures c.into_log.ensures)
+    run_engages c.args.graph.now c.args.initiator c.args.choices.now c.args.restarts.now c.finish.result.0
+    c.requires.graph.within c.requires.idle (ap (λ (r : Run). r.initiator) c.finish.ensures.log)
+    (finished c.args.graph.now c.args.initiator c.args.choices.now c.args.restarts.now c.loop-message.progress c.take.new.self c.finish.result.0
+    c.requires.graph.within c.requires.idle c.loop-message.invariant.follows c.in_default.ensures c.finish.ensures.log)
+
+-- the network is as at first
+pub returns-clause-blank : goal.returns-clause-blank
+returns-clause-blank g c =
+    cleared c.args.graph.now c.args.initiator c.args.choices.now c.args.restarts.now c.loop-message.progress c.take.new.self c.finish.result.1
+    c.requires.graph.within c.requires.idle c.loop-message.invariant.follows c.in_default.ensures c.finish.ensures.network
 
 -- an awake initiator has the empty run
 pub returns-clause-awake : goal.returns-clause-awake
 returns-clause-awake g c =
-    awake_runs_nothing c.args.graph.now c.args.initiator c.args.choices.now c.args.restarts.now c.into_log.result
-    (ap (λ (r : Run). r.initiator) c.into_log.ensures)
-    (finished c.args.graph.now c.args.initiator c.args.choices.now c.args.restarts.now c.loop-message.progress c.take.new.self c.into_log.result
-    c.requires.graph.within c.requires.idle c.loop-message.invariant.follows c.in_default.ensures c.into_log.ensures)
+    awake_runs_nothing c.args.graph.now c.args.initiator c.args.choices.now c.args.restarts.now c.finish.result.0
+    (ap (λ (r : Run). r.initiator) c.finish.ensures.log)
+    (finished c.args.graph.now c.args.initiator c.args.choices.now c.args.restarts.now c.loop-message.progress c.take.new.self c.finish.result.0
+    c.requires.graph.within c.requires.idle c.loop-message.invariant.follows c.in_default.ensures c.finish.ensures.log)

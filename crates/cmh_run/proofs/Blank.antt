@@ -1,0 +1,16 @@
+-- A tape in memory: a struct with no bytes, which owns nothing. So one is had for nothing.
+use seplogic.Ra.Ura.{Ura}
+use mir.Val.{Val, vstruct, vnil}
+use types.Logic.{Logic}
+use denote.Laws.{Is, Makes}
+use denote.Shadow.{makes_shadow}
+use Rattle.cmh_run.specs.contracts.tape.Tape.{the_row}
+
+-- the machine value of every tape
+abbrev pub blank : Val
+blank = vstruct vnil
+
+-- a tape of any deliveries is made of nothing
+pub tape_made : {M : Type 1} {𝓤 : Ura M} (𝓛 : Logic 𝓤) → Makes 𝓛 the_row (Is the_row)
+tape_made 𝓛 tape values is =
+    makes_shadow 𝓛 (the_row.own_val tape values) (λ fields. (tt, tt), tt) is

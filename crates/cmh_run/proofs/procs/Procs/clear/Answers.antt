@@ -1,0 +1,26 @@
+use Rattle.std.proofs.Common.{◌≡◌, ◌∙◌, ◌++◌, ◌∷◌, [], ap, rules, subst, sym}
+use Rattle.std.specs.Prelude.{option_to_list, replicate, slice_set}
+use Rattle.std.proofs.lemmas.List.{length-set}
+use Rattle.cmh_process.specs.Process.{fresh}
+use Rattle.cmh_run.specs.Procs.{AreTouched}
+use Rattle.cmh_run.proofs.Touching.{all_clear, last_cleared}
+use Rattle.cmh_run.proofs.procs.Procs.clear.Goals as goal
+
+pub loop-k-preserved : goal.loop-k-preserved
+loop-k-preserved c =
+    let all = c.loop-k.self-inside.all.items in
+    let left = c.pop.new.self.items in
+    let popped : c.loop-k.self-inside.touched.items ≡ left ++ c.in-Some.k ∷ [] = c.pop.ensures.items ∙ ap (λ o. left ++ option_to_list o) c.in-Some.is in
+    record {
+      touched = subst (λ p. AreTouched left (slice_set all c.in-Some.k p)) (sym c.new.ensures)
+          (last_cleared left all c.in-Some.k (subst (λ ts. AreTouched ts all) popped c.loop-k.invariant.touched));
+      size = length-set all c.in-Some.k c.new.result ∙ c.loop-k.invariant.size;
+    }
+
+-- all who took part are cleared, so nobody is left
+pub returns : goal.returns
+returns c =
+    let all = c.loop-k.self-inside.all.items in
+    let none : c.loop-k.self-inside.touched.items ≡ [] = search rules in
+    all_clear all (subst (λ ts. AreTouched ts all) none c.loop-k.invariant.touched)
+    ∙ ap (λ n. replicate n fresh) c.loop-k.invariant.size

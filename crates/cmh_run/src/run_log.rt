@@ -1,0 +1,109 @@
+//! What is kept of a run that has ended.
+
+ghost use Rattle.std.specs.Prelude.{◌≡◌, ◌==◌};
+ghost use Rattle.std.specs.Cmp.Lexicographic.{pointwise};
+ghost use Rattle.std.specs.Cmp.Rules.{comparing};
+ghost use Rattle.std.specs.Ordering.{on, eq_of_both};
+ghost use Rattle.std.proofs.Common.{rules};
+ghost use Rattle.cmh_run.specs.contracts.delivery.DeliveryPartialEq.TheImpl as delivery;
+ghost use Rattle.cmh_run.specs.contracts.delivery.DeliveryEq.TheImpl.Laws as delivery_laws;
+ghost use Rattle.cmh_run.specs.contracts.delivery.EndingPartialEq.TheImpl as ending;
+ghost use Rattle.cmh_run.specs.contracts.delivery.EndingEq.TheImpl.Laws as ending_laws;
+ghost use Rattle.cmh_run.specs.Run.{verdict_of};
+
+use crate::{Delivery, Ending, Log};
+use cmh_graph::Verdict;
+use std::marker::Model;
+
+/// A run that has ended, with its deliveries in a log of this kind.
+#[derive(Clone, Debug, Drop)]
+pub struct RunLog<L: Log = Vec<Delivery>> {
+    pub(crate) initiator: u32,
+    pub(crate) log: L,
+    pub(crate) ending: Ending,
+    pub(crate) engaged: Vec<u32>,
+    pub(crate) restarted: u32,
+}
+
+impl<L: Log> Model for RunLog<L> {
+    ghost use Rattle.cmh_run.specs.Run.{Run};
+
+    ghost Value = { Run };
+
+    ghost view = { λ r. record {
+      initiator = r.initiator;
+      log = L.deliveries r.log;
+      ending = r.ending;
+      engaged = r.engaged.items;
+      restarted = r.restarted;
+    } };
+}
+
+impl<L: Log> RunLog<L> {
+    pub fn initiator(&self) -> u32
+        ensures { result ≡ self.now.initiator }
+    {
+        self.initiator
+    }
+
+    pub fn ending(&self) -> Ending
+        ensures { result ≡ self.now.ending }
+    {
+        self.ending
+    }
+
+    /// Who engaged in the computation of the last start, in order: nobody where the initiator is
+    /// awake, else the initiator first.
+    pub fn engaged(&self) -> &[u32]
+        ensures { result.now ≡ self.now.engaged }
+    {
+        &self.engaged
+    }
+
+    /// How often the initiator started again.
+    pub fn restarted(&self) -> u32
+        ensures { result ≡ self.now.restarted }
+    {
+        self.restarted
+    }
+
+    /// What the run says of its initiator.
+    pub fn verdict(&self) -> Verdict
+        ensures { result ≡ verdict_of self.now.ending }
+    {
+        match self.ending {
+            Ending::Declared => Verdict::Deadlocked,
+            Ending::AtRest | Ending::CutFree(_) => Verdict::Free,
+        }
+    }
+}
+
+impl RunLog {
+    /// The deliveries, in their order.
+    pub fn log(&self) -> &[Delivery]
+        ensures { result.now ≡ self.now.log }
+    {
+        &self.log
+    }
+}
+
+impl PartialEq for RunLog {
+    ghost eq = { eq_of_both (on (λ r. r.initiator) ◌==◌)
+        (eq_of_both (on (λ r. r.log) (pointwise delivery.ghosts.eq))
+        (eq_of_both (on (λ r. r.ending) ending.ghosts.eq)
+        (eq_of_both (on (λ r. r.engaged) (pointwise ◌==◌)) (on (λ r. r.restarted) ◌==◌)))) };
+
+    ghost laws = { Prim.search (comparing, rules, delivery_laws.laws-law, ending_laws.laws-law) depth 9 };
+
+    fn eq(&self, other: &RunLog) -> bool {
+        self.initiator == other.initiator
+            && self.log == other.log
+            && self.ending == other.ending
+            && self.engaged == other.engaged
+            && self.restarted == other.restarted
+    }
+}
+
+impl Eq for RunLog {
+    ghost laws = { Prim.search (comparing, rules, delivery_laws.laws-law, ending_laws.laws-law) depth 9 };
+}

@@ -1,0 +1,190 @@
+//! Runs one after another, in memory that is taken once.
+
+ghost use Rattle.std.specs.Prelude.{◌≡◌, ◌⊎◌, [], Some, ◌+◌, ◌*◌, ◌<◌, ◌≤◌, ◌↔◌, length, IfOk, IfErr, IsTrue};
+ghost use Rattle.cmh_graph.specs.Graph.{process_count, is_idle, is_awake, dependency_count};
+ghost use Rattle.cmh_graph.specs.Build.{IsWellFormed};
+ghost use Rattle.cmh_run.specs.Choices.{HasNoHints};
+ghost use Rattle.cmh_run.specs.Config.{nothing_yet};
+ghost use Rattle.cmh_run.specs.Engaged.{AreEngaged};
+ghost use Rattle.cmh_run.specs.Run.{IsRising, IsAccepted, IsFirstFault, IsRunOf, TellsTruth, empty_run_of};
+
+use crate::network::Network;
+use crate::progress::Progress;
+use crate::{Delivery, Hints, Log, MAX_CHOICES, MAX_RESTARTS, RunFault, RunLog};
+use cmh_graph::WaitGraph;
+use std::alloc::{AllocError, Global};
+use std::marker::Model;
+
+/// Makes one run after another over a graph. Its network is made at the first run, and used again:
+/// each other run takes time and memory for the processes that take part, however many there are.
+#[derive(Drop)]
+pub struct Runner<'a> {
+    graph: &'a WaitGraph,
+    network: Option<Network>,
+}
+
+impl<'a> Model for Runner<'a> {
+    ghost use Rattle.std.specs.Prelude.{◌≡◌, Some};
+    ghost use Rattle.cmh_graph.specs.Graph.{Graph};
+    ghost use Rattle.cmh_run.specs.Config.{Config, nothing_yet};
+
+    ghost Value = { Graph };
+
+    ghost view = { λ r. r.graph.now };
+
+    ghost invariant = { λ r. (c : Config) → r.network ≡ Some c → c ≡ nothing_yet r.graph.now };
+}
+
+impl<'a> Runner<'a> {
+    /// Takes no memory yet.
+    pub fn new(graph: &'a WaitGraph) -> Runner<'a>
+        ensures { result ≡ graph.now }
+    {
+        Runner {
+            graph,
+            network: None,
+        }
+    }
+
+    /// As the function `run`, with a log of any kind: in `NoLog` no delivery takes memory.
+    pub fn run<L: Log, H: Hints>(
+        &mut self,
+        alloc: Global,
+        initiator: u32,
+        choices: &[u64],
+        hints: &mut H,
+    ) -> Result<RunLog<L>, RunFault>
+        requires { H.speaks_of hints.old self.old }
+        ensures same { self.new ≡ self.old }
+        ensures accepted { IfOk result (λ r. IsAccepted self.old initiator choices.now []) }
+        ensures fault { IfErr result (λ e. (e ≡ RunFault.Memory)
+            ⊎ IsFirstFault self.old initiator choices.now [] e) }
+        ensures initiator { IfOk result (λ r. r.initiator ≡ initiator) }
+        ensures legal { IfOk result (IsRunOf self.old choices.now []) }
+        ensures once { IfOk result (λ r. r.restarted ≡ 0) }
+        ensures short { IfOk result (λ r. length r.log ≤ 2 * dependency_count self.old) }
+        ensures true_verdict { IfOk result (TellsTruth self.old) }
+        ensures engaged { IfOk result (λ r. AreEngaged self.old initiator r.ending r.engaged) }
+        ensures awake { IsTrue (is_awake self.old initiator)
+            → IfOk result (λ r. r ≡ empty_run_of initiator) }
+        ensures silent { H.is_silent hints.old → IfOk result (λ r. HasNoHints r.log) }
+        ensures kept { H.keeps hints.old hints.new }
+    {
+        self.run_again(alloc, initiator, choices, hints, &[])
+    }
+
+    /// As the function `run_again`, with a log of any kind.
+    pub fn run_again<L: Log, H: Hints>(
+        &mut self,
+        alloc: Global,
+        initiator: u32,
+        choices: &[u64],
+        hints: &mut H,
+        restarts: &[u32],
+    ) -> Result<RunLog<L>, RunFault>
+        requires { H.speaks_of hints.old self.old }
+        ensures same { self.new ≡ self.old }
+        ensures accepted { IfOk result (λ r. IsAccepted self.old initiator choices.now restarts.now) }
+        ensures fault { IfErr result (λ e. (e ≡ RunFault.Memory)
+            ⊎ IsFirstFault self.old initiator choices.now restarts.now e) }
+        ensures initiator { IfOk result (λ r. r.initiator ≡ initiator) }
+        ensures legal { IfOk result (IsRunOf self.old choices.now restarts.now) }
+        ensures restarted { IfOk result (λ r. r.restarted ≤ length restarts.now) }
+        ensures true_verdict { IfOk result (TellsTruth self.old) }
+        ensures engaged { IfOk result (λ r. AreEngaged self.old initiator r.ending r.engaged) }
+        ensures awake { IsTrue (is_awake self.old initiator)
+            → IfOk result (λ r. r ≡ empty_run_of initiator) }
+        ensures silent { H.is_silent hints.old → IfOk result (λ r. HasNoHints r.log) }
+        ensures kept { H.keeps hints.old hints.new }
+    {
+        judge(self.graph, initiator, choices, restarts)?;
+        let network = self.take_network(alloc)?;
+        let (log, network) = follow(
+            alloc, self.graph, network, initiator, choices, hints, restarts,
+        )?;
+        self.network = Some(network);
+        Ok(log)
+    }
+
+    /// The network of the run before, or a new one.
+    fn take_network(&mut self, alloc: Global) -> Result<Network, AllocError>
+        ensures same { self.new ≡ self.old }
+        ensures blank { IfOk result (λ n. n ≡ nothing_yet self.old) }
+    {
+        match self.network.take() {
+            Some(network) => Ok(network),
+            None => Network::nothing_yet(alloc, self.graph),
+        }
+    }
+}
+
+/// Whether there is a run.
+fn judge(
+    graph: &WaitGraph,
+    initiator: u32,
+    choices: &[u64],
+    restarts: &[u32],
+) -> Result<(), RunFault>
+    ensures graph { IfOk result (λ u. IsWellFormed graph.now) }
+    ensures ok { IfOk result (λ u. IsAccepted graph.now initiator choices.now restarts.now) }
+    ensures fault { IfErr result (λ e.
+        IsFirstFault graph.now initiator choices.now restarts.now e) }
+{
+    if initiator >= graph.len() || !graph.is_idle(initiator) {
+        return Err(RunFault::NotIdle);
+    }
+    if choices.len() > MAX_CHOICES {
+        return Err(RunFault::TooManyChoices);
+    }
+    if restarts.len() > MAX_RESTARTS || !is_rising(restarts) {
+        return Err(RunFault::BadRestarts);
+    }
+    Ok(())
+}
+
+fn is_rising(list: &[u32]) -> bool
+    ensures { IsTrue result ↔ IsRising list.now }
+{
+    for i in 1..list.len() {
+        if list[i - 1] >= list[i] {
+            return false;
+        }
+    }
+    true
+}
+
+/// The run of what was judged.
+fn follow<L: Log, H: Hints>(
+    alloc: Global,
+    graph: &WaitGraph,
+    network: Network,
+    initiator: u32,
+    choices: &[u64],
+    hints: &mut H,
+    restarts: &[u32],
+) -> Result<(RunLog<L>, Network), AllocError>
+    requires blank { network ≡ nothing_yet graph.now }
+    requires graph { IsWellFormed graph.now }
+    requires speaks { H.speaks_of hints.old graph.now }
+    requires idle { IsTrue (is_idle graph.now initiator) }
+    requires few { length restarts.now ≤ MAX_RESTARTS }
+    ensures initiator { IfOk result (λ r. r.0.initiator ≡ initiator) }
+    ensures legal { IfOk result (λ r. IsRunOf graph.now choices.now restarts.now r.0) }
+    ensures restarted { IfOk result (λ r. r.0.restarted ≤ length restarts.now) }
+    ensures true_verdict { IfOk result (λ r. TellsTruth graph.now r.0) }
+    ensures engaged { IfOk result (λ r. AreEngaged graph.now initiator r.0.ending r.0.engaged) }
+    ensures awake { IsTrue (is_awake graph.now initiator)
+        → IfOk result (λ r. r.0 ≡ empty_run_of initiator) }
+    ensures silent { H.is_silent hints.old → IfOk result (λ r. HasNoHints r.0.log) }
+    ensures kept { H.keeps hints.old hints.new }
+    ensures blank { IfOk result (λ r. r.1 ≡ nothing_yet graph.now) }
+{
+    let mut progress = Progress::begin(alloc, graph, network, initiator, restarts)?;
+    progress.restart_if_due(graph, initiator)?;
+    while let Some(message) = progress.take(choices) {
+        let hint = progress.hint_for(graph, message, hints);
+        progress.deliver(graph, initiator, Delivery { message, hint })?;
+        progress.restart_if_due(graph, initiator)?;
+    }
+    Ok(progress.finish(alloc, initiator))
+}

@@ -1,0 +1,146 @@
+//! One run after another over the same graph, with and without logs.
+
+use super::{
+    KNOT_OF_THREE, ONE_FREE_ONE_STUCK, TWO_IN_A_CYCLE, WAITS_FOR_ITSELF, WAITS_FOR_NOBODY, Waits,
+    graph_of,
+};
+use crate::{Delivery, Ending, NoHints, NoLog, RunFault, Runner, Scripted};
+use cmh_graph::Verdict;
+
+/// A run of an initiator, and what comes of it.
+struct Made<'a> {
+    waits: Waits<'a>,
+    initiator: u32,
+    deliveries: usize,
+    ending: Ending,
+    engaged: &'a [u32],
+}
+
+const MADE: [Made; 8] = [
+    Made {
+        waits: &WAITS_FOR_NOBODY,
+        initiator: 0,
+        deliveries: 0,
+        ending: Ending::Declared,
+        engaged: &[0],
+    },
+    Made {
+        waits: &WAITS_FOR_ITSELF,
+        initiator: 0,
+        deliveries: 2,
+        ending: Ending::Declared,
+        engaged: &[0],
+    },
+    Made {
+        waits: &TWO_IN_A_CYCLE,
+        initiator: 0,
+        deliveries: 4,
+        ending: Ending::Declared,
+        engaged: &[0, 1],
+    },
+    Made {
+        waits: &TWO_IN_A_CYCLE,
+        initiator: 1,
+        deliveries: 4,
+        ending: Ending::Declared,
+        engaged: &[1, 0],
+    },
+    Made {
+        waits: &ONE_FREE_ONE_STUCK,
+        initiator: 0,
+        deliveries: 5,
+        ending: Ending::AtRest,
+        engaged: &[0, 1],
+    },
+    Made {
+        waits: &ONE_FREE_ONE_STUCK,
+        initiator: 1,
+        deliveries: 2,
+        ending: Ending::Declared,
+        engaged: &[1],
+    },
+    Made {
+        waits: &KNOT_OF_THREE,
+        initiator: 0,
+        deliveries: 8,
+        ending: Ending::Declared,
+        engaged: &[0, 1, 2],
+    },
+    Made {
+        waits: &KNOT_OF_THREE,
+        initiator: 2,
+        deliveries: 4,
+        ending: Ending::Declared,
+        engaged: &[2, 1],
+    },
+];
+
+/// The first of two that it waits for waits for an active one.
+const FIRST_IS_FREE: [Option<&[u32]>; 4] = [Some(&[1, 2]), Some(&[3]), Some(&[0]), None];
+
+#[test]
+fn each_run_is_as_the_first(rt: HostRuntime) -> Result<(), RunFault> {
+    for made in &MADE {
+        let graph = graph_of(rt.alloc(), made.waits, &[])?;
+        let mut runner = Runner::new(&graph);
+        for _ in 0..3u32 {
+            let run = runner.run::<Vec<Delivery>, _>(
+                rt.alloc(),
+                made.initiator,
+                &[],
+                &mut NoHints,
+            )?;
+            assert_eq!(rt; run.log().len(), made.deliveries);
+            assert_eq!(rt; run.ending(), made.ending);
+            assert_eq!(rt; run.engaged(), made.engaged);
+        }
+    }
+    Ok(())
+}
+
+#[test]
+fn one_network_serves_all_initiators(rt: HostRuntime) -> Result<(), RunFault> {
+    for first in &MADE {
+        let graph = graph_of(rt.alloc(), first.waits, &[])?;
+        let mut runner = Runner::new(&graph);
+        for made in &MADE {
+            if made.waits == first.waits {
+                let run = runner.run::<NoLog, _>(rt.alloc(), made.initiator, &[], &mut NoHints)?;
+                assert_eq!(rt; run.initiator(), made.initiator);
+                assert_eq!(rt; run.ending(), made.ending);
+                assert_eq!(rt; run.engaged(), made.engaged);
+            }
+        }
+    }
+    Ok(())
+}
+
+#[test]
+fn a_run_that_was_cut_leaves_nothing(rt: HostRuntime) -> Result<(), RunFault> {
+    let graph = graph_of(rt.alloc(), &FIRST_IS_FREE, &[])?;
+    let Ok(mut hints) = Scripted::new(rt.alloc(), &graph, &[(0, 1, Verdict::Free)]) else {
+        panic!(rt; "the script is true")
+    };
+    let mut runner = Runner::new(&graph);
+    let cut = runner.run::<NoLog, _>(rt.alloc(), 0, &[], &mut hints)?;
+    assert_eq!(rt; cut.ending(), Ending::CutFree(1));
+    assert_eq!(rt; cut.engaged(), [0].as_slice());
+    let whole = runner.run::<NoLog, _>(rt.alloc(), 2, &[], &mut NoHints)?;
+    assert_eq!(rt; whole.ending(), Ending::AtRest);
+    assert_eq!(rt; whole.engaged(), [2, 0, 1].as_slice());
+    Ok(())
+}
+
+#[test]
+fn a_refused_run_leaves_nothing(rt: HostRuntime) -> Result<(), RunFault> {
+    let graph = graph_of(rt.alloc(), &ONE_FREE_ONE_STUCK, &[])?;
+    let mut runner = Runner::new(&graph);
+    for _ in 0..2u32 {
+        let refused = runner.run::<NoLog, _>(rt.alloc(), 2, &[], &mut NoHints);
+        assert!(rt; matches!(refused, Err(RunFault::NotIdle)));
+        let made = runner.run::<NoLog, _>(rt.alloc(), 1, &[], &mut NoHints)?;
+        assert_eq!(rt; made.ending(), Ending::Declared);
+        assert_eq!(rt; made.engaged(), [1].as_slice());
+    }
+    Ok(())
+}
