@@ -6,7 +6,7 @@ ghost use Rattle.cmh_run.specs.Run.{TellsTruth};
 ghost use Rattle.cmh_board.specs.Posting.{posting_of, IsTruth};
 
 use cmh_graph::Verdict;
-use cmh_run::RunLog;
+use cmh_run::{Log, RunLog};
 use std::marker::Model;
 
 /// What one run tells of processes: one verdict, and whom it is about. It borrows the run.
@@ -28,7 +28,7 @@ impl<'a> Model for Posting<'a> {
 impl<'a> Posting<'a> {
     /// All processes that are engaged, as deadlocked, where the run is declared. Else the initiator
     /// alone, as free.
-    pub fn of_run(run: &'a RunLog) -> Posting<'a>
+    pub fn of_run<L: Log>(run: &'a RunLog<L>) -> Posting<'a>
         ensures whole { result ≡ posting_of run.now }
         ensures truth { (g : Graph) → TellsTruth g run.now → IsTruth g result }
     {
