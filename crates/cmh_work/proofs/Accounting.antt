@@ -79,7 +79,7 @@ ran g choices p v v1 v2 w run s t is truth post =
     }
 
 -- an answer with its shape is a finding
-pub recorded : (g : Graph) (choices : List ℕ) (p : ℕ) (v w : View) (a : Answer) (shape : Shape) → IsTrue (is_idle g p) → IsAnswered g choices p v w a → IsShape g p a.verdict shape
+pub recorded : (g : Graph) (choices : List ℕ) (p : ℕ) (v w : View) (a : Answer Run) (shape : Shape) → IsTrue (is_idle g p) → IsAnswered g choices p v w a → IsShape g p a.verdict shape
     → IsRecorded g choices v w record { initiator = p; verdict = a.verdict; run = a.run; shape = shape }
 recorded g choices p v w a shape idle is shaped = record {
   sees = is.sees;
@@ -90,7 +90,7 @@ recorded g choices p v w a shape idle is shaped = record {
 -- ---- many
 
 -- a sound finding stays sound when more is seen
-pub sound_more : (g : Graph) (choices : List ℕ) (a b : List Row) (f : Finding) → StartsWith a b → IsSound g choices b f → IsSound g choices a f
+pub sound_more : (g : Graph) (choices : List ℕ) (a b : List Row) (f : Finding Run) → StartsWith a b → IsSound g choices b f → IsSound g choices a f
 sound_more g choices a b f h s = record {
   idle = s.idle;
   verdict = s.verdict;
@@ -100,22 +100,22 @@ sound_more g choices a b f h s = record {
 }
 
 -- an explained posting stays explained when more is seen, by more findings
-explained_more : (a b : List Row) (found all : List Finding) (m : List Row) → StartsWith a b → ((f : Finding) → Contains found f → Contains all f) → IsExplained b found m → IsExplained a all m
+explained_more : (a b : List Row) (found all : List (Finding Run)) (m : List Row) → StartsWith a b → ((f : Finding Run) → Contains found f → Contains all f) → IsExplained b found m → IsExplained a all m
 explained_more a b found all m h more (f, there, run, is, from) =
     (f, more f there, run, is, record { before = from.before; place = starts_trans a b (from.before ++ m) h from.place; posted = from.posted })
 
 -- so do all
-pub all_explained_more : (a b : List Row) (found all : List Finding) (ms : List (List Row)) → StartsWith a b → ((f : Finding) → Contains found f → Contains all f) → AreExplained b found ms → AreExplained a all ms
+pub all_explained_more : (a b : List Row) (found all : List (Finding Run)) (ms : List (List Row)) → StartsWith a b → ((f : Finding Run) → Contains found f → Contains all f) → AreExplained b found ms → AreExplained a all ms
 all_explained_more a b found all [] h more e = tt
 all_explained_more a b found all (m ∷ ms) h more e = (explained_more a b found all m h more e.0, all_explained_more a b found all ms h more e.1)
 
 -- two lists of explained postings are one
-all_explained_append : (a : List Row) (found : List Finding) (ms ns : List (List Row)) → AreExplained a found ms → AreExplained a found ns → AreExplained a found (ms ++ ns)
+all_explained_append : (a : List Row) (found : List (Finding Run)) (ms ns : List (List Row)) → AreExplained a found ms → AreExplained a found ns → AreExplained a found (ms ++ ns)
 all_explained_append a found [] ns e f = f
 all_explained_append a found (m ∷ ms) ns e f = (e.0, all_explained_append a found ms ns e.1 f)
 
 -- what holds of one thing holds of the list of it
-all_one : (P : Finding → Type 0) (f : Finding) → P f → All P (f ∷ [])
+all_one : (P : Finding Run → Type 0) (f : Finding Run) → P f → All P (f ∷ [])
 all_one P f p zero d low = p
 all_one P f p (suc k) d low = absurd (omega arith)
 
@@ -127,7 +127,7 @@ accounts_none g choices v none = record {
 }
 
 -- one finding more
-pub accounts_more : (g : Graph) (choices : List ℕ) (v w : View) (found : List Finding) (f : Finding) → Accounts g choices v found → IsRecorded g choices v w f → Accounts g choices w (found ++ f ∷ [])
+pub accounts_more : (g : Graph) (choices : List ℕ) (v w : View) (found : List (Finding Run)) (f : Finding Run) → Accounts g choices v found → IsRecorded g choices v w f → Accounts g choices w (found ++ f ∷ [])
 accounts_more g choices v w found f a h =
     let all = found ++ f ∷ [] in
     let old : AreExplained w.seen all v.mine = all_explained_more w.seen v.seen found all v.mine h.sees (λ q c. Contains-append_left found (f ∷ []) q c) a.explained in record {
@@ -143,7 +143,7 @@ accounts_more g choices v w found f a h =
     }
 
 -- the findings of two workers whose seats are joined
-pub accounts_joined : (g : Graph) (choices : List ℕ) (v w u : View) (xs ys : List Finding) → StartsWith u.seen v.seen → StartsWith u.seen w.seen → u.mine ≡ v.mine ++ w.mine → Accounts g choices v xs → Accounts g choices w ys → Accounts g choices u (xs ++ ys)
+pub accounts_joined : (g : Graph) (choices : List ℕ) (v w u : View) (xs ys : List (Finding Run)) → StartsWith u.seen v.seen → StartsWith u.seen w.seen → u.mine ≡ v.mine ++ w.mine → Accounts g choices v xs → Accounts g choices w ys → Accounts g choices u (xs ++ ys)
 accounts_joined g choices v w u xs ys first second mine a b = record {
   sound = All-append (IsSound g choices u.seen) xs ys
       (λ k d low. sound_more g choices u.seen v.seen (get_or xs k d) first (a.sound k d low))

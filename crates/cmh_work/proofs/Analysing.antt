@@ -39,12 +39,12 @@ use Rattle.cmh_work.proofs.Rising.{Rises, rises_from, sorted_same}
 -- ---- records
 
 -- a sound finding's source is that of its record
-source_of : (g : Graph) (choices : List ℕ) (rows : List Row) (p : ℕ) (v : Verdict) (run : Option Run) (source : Origin) → IfSome run (IsRunFor g choices p v) → IsNamed rows p v run source → IsSource g choices rows p v source
+source_of : (g : Graph) (choices : List ℕ) (rows : List Row) (p : ℕ) (v : Verdict) (run : Option Run) (source : Origin Run) → IfSome run (IsRunFor g choices p v) → IsNamed rows p v run source → IsSource g choices rows p v source
 source_of g choices rows p v (Some run) source ran is = subst (IsSource g choices rows p v) (sym is) ran
 source_of g choices rows p v None source ran (n, is, row) = subst (IsSource g choices rows p v) (sym is) row
 
 -- the record of a sound finding is true
-record_true : (g : Graph) (choices : List ℕ) (rows : List Row) (f : Finding) (r : Record) → IsSound g choices rows f → IsNumbered rows f r → IsTrueRecord g choices rows r
+record_true : (g : Graph) (choices : List ℕ) (rows : List Row) (f : Finding Run) (r : Record Run) → IsSound g choices rows f → IsNumbered rows f r → IsTrueRecord g choices rows r
 record_true g choices rows f r s n = record {
   idle = subst (λ p. IsTrue (is_idle g p)) (sym n.initiator) s.idle;
   verdict = subst (λ p. IsVerdict g p r.verdict) (sym n.initiator) (subst (IsVerdict g f.initiator) (sym n.verdict) s.verdict);
@@ -55,19 +55,19 @@ record_true g choices rows f r s n = record {
 }
 
 -- a sound finding's verdict is what the history says of the process of its record
-record_agrees : (g : Graph) (choices : List ℕ) (rows : List Row) (f : Finding) (r : Record) → IsSound g choices rows f → IsNumbered rows f r → fold_at rows r.initiator ≡ Some r.verdict
+record_agrees : (g : Graph) (choices : List ℕ) (rows : List Row) (f : Finding Run) (r : Record Run) → IsSound g choices rows f → IsNumbered rows f r → fold_at rows r.initiator ≡ Some r.verdict
 record_agrees g choices rows f r s n = ap (fold_at rows) n.initiator ∙ s.stands ∙ ap Some (sym n.verdict)
 
 -- what each sound finding gives its record, all have
-each_record : (g : Graph) (choices : List ℕ) (rows : List Row) (P : Record → Type 0) → ((f : Finding) (r : Record) → IsSound g choices rows f → IsNumbered rows f r → P r)
-    → (fs : List Finding) (rs : List Record) → All (IsSound g choices rows) fs → AreNumbered rows fs rs → All P rs
+each_record : (g : Graph) (choices : List ℕ) (rows : List Row) (P : Record Run → Type 0) → ((f : Finding Run) (r : Record Run) → IsSound g choices rows f → IsNumbered rows f r → P r)
+    → (fs : List (Finding Run)) (rs : List (Record Run)) → All (IsSound g choices rows) fs → AreNumbered rows fs rs → All P rs
 each_record g choices rows P each fs [] sound n = All-nil P
 each_record g choices rows P each [] (r ∷ rs) sound n = absurd n
 each_record g choices rows P each (f ∷ fs) (r ∷ rs) sound n =
     All-cons P r rs (each f r (sound 0 f (omega arith)) n.0) (each_record g choices rows P each fs rs (λ k d low. sound (suc k) d (omega arith)) n.1)
 
 -- records are of those of whom findings are
-same_order : (rows : List Row) (fs : List Finding) (rs : List Record) → AreNumbered rows fs rs → map initiator_of rs ≡ map finder_of fs
+same_order : (rows : List Row) (fs : List (Finding Run)) (rs : List (Record Run)) → AreNumbered rows fs rs → map initiator_of rs ≡ map finder_of fs
 same_order rows [] [] n = refl
 same_order rows [] (r ∷ rs) n = absurd n
 same_order rows (f ∷ fs) [] n = absurd n
@@ -85,7 +85,7 @@ verdict_is g p Free w is = free_is (is_deadlocked g p) refl
     free_is false e = refl
 
 -- where the history says each record's verdict, and there is a record of each idle process, it says the verdict of each
-says_each : (g : Graph) (rows : List Row) (rs : List Record) → IsWithinGraph g → map initiator_of rs ≡ idle_list g → All (λ r. IsVerdict g r.initiator r.verdict) rs → All (λ r. fold_at rows r.initiator ≡ Some r.verdict) rs
+says_each : (g : Graph) (rows : List Row) (rs : List (Record Run)) → IsWithinGraph g → map initiator_of rs ≡ idle_list g → All (λ r. IsVerdict g r.initiator r.verdict) rs → All (λ r. fold_at rows r.initiator ≡ Some r.verdict) rs
     → (p : ℕ) → IsTrue (is_idle g p) → fold_at rows p ≡ Some (verdict g p)
 says_each g rows rs w order verdicts agrees p idle =
     let P : ℕ → Type 0 = λ q. fold_at rows q ≡ Some (verdict g q) in
@@ -97,12 +97,12 @@ says_each g rows rs w order verdicts agrees p idle =
 -- ---- at the close
 
 -- each finding stands in the closed history
-pub all_stand : (g : Graph) (choices : List ℕ) (rows seen : List Row) (found sorted : List Finding) → IsPermutation found sorted → StartsWith rows seen → All (IsSound g choices seen) found → All (IsSound g choices rows) sorted
+pub all_stand : (g : Graph) (choices : List ℕ) (rows seen : List Row) (found sorted : List (Finding Run)) → IsPermutation found sorted → StartsWith rows seen → All (IsSound g choices seen) found → All (IsSound g choices rows) sorted
 all_stand g choices rows seen found sorted p begins sound =
     All-permutation (IsSound g choices rows) found sorted p (λ k d low. sound_more g choices rows seen (get_or found k d) begins (sound k d low))
 
 -- what workers found, sorted and numbered over the history that they posted, is an analysis
-pub analysed : (g : Graph) (plan : Setup) (j : Shared) (s : Seats) (found sorted : List Finding) (a : Analysis) → IsWellFormed g → IsMadeFor g plan j → IsPermutation found sorted → IsNonDecreasingBy finder_of sorted
+pub analysed : (g : Graph) (plan : Setup) (j : Shared) (s : Seats) (found sorted : List (Finding Run)) (a : Analysis Run) → IsWellFormed g → IsMadeFor g plan j → IsPermutation found sorted → IsNonDecreasingBy finder_of sorted
     → Sit j s → (view s.tickets).share ≡ 64 → IsWorked g plan j s found
     → StartsWith (history_of a) (known s.board).seen → IsTrueOf g (history_of a) → IsMadeOf (known s.board).mine (history_of a)
     → AreNumbered (history_of a) sorted (records_of a) → IsAnalysisOf g plan.choices a

@@ -1,8 +1,9 @@
 -- What workers give back, put together.
-use Rattle.std.proofs.Common.{◌≡◌, ℕ, ◌+◌, ◌||◌, List, [], ◌++◌, length, map, slice_index_or, sym, ap, ◌∙◌, subst, Result, Ok, Err, IfOk}
+use Rattle.std.proofs.Common.{arith, refl, ◌≡◌, ℕ, ◌+◌, ◌||◌, List, [], ◌++◌, length, map, slice_index_or, sym, ap, ◌∙◌, subst, Result, Ok, Err, IfOk}
 use Rattle.std.specs.Prelude.{IsOkAnd}
 use Rattle.std.specs.Global.{Vec}
 use Rattle.std.proofs.lemmas.List.{map-append}
+use Rattle.cmh_run.specs.Run.{Run}
 use Rattle.cmh_work.specs.declared.fault.WorkFault.{WorkFault}
 use Rattle.cmh_work.specs.declared.finding.Finding.{Finding}
 use Rattle.cmh_graph.specs.Graph.{Graph}
@@ -18,24 +19,24 @@ use Rattle.cmh_work.specs.Tickets.{sum_below, joined_views, with_drawn}
 use Rattle.cmh_work.specs.Cutting.{gathered}
 use Rattle.cmh_work.specs.Seats.{view, IsSeatOf}
 use Rattle.cmh_work.specs.Finding.{finder_of}
-use Rattle.cmh_work.specs.Working.{chunks_in, IsMadeFor, IsWorked}
+use Rattle.cmh_work.specs.Working.{chunks_in, AreNew, AreOf, IsMadeFor, IsWorked}
 use Rattle.cmh_work.proofs.Accounting.{accounts_joined}
 use Rattle.cmh_work.proofs.Gathering.{gathered-append, gathered_snoc, gathered_once}
 
 -- what a worker gives back
 abbrev Found : Type 0
-Found = Result (Vec Finding) WorkFault
+Found = Result (Vec (Finding Run)) WorkFault
 
 -- where both have an answer, what holds of the two holds of what is made of them
-pub collected : (r first second : Found) (P Q : Vec Finding → Type 0) (S : List Finding → Type 0) → IfOk first P → IfOk second Q
-    → IfOk r (λ v. IsOkAnd first (λ a. IsOkAnd second (λ b. v.items ≡ a.items ++ b.items))) → ((a b : Vec Finding) → P a → Q b → S (a.items ++ b.items)) → IfOk r (λ v. S v.items)
+pub collected : (r first second : Found) (P Q : Vec (Finding Run) → Type 0) (S : List (Finding Run) → Type 0) → IfOk first P → IfOk second Q
+    → IfOk r (λ v. IsOkAnd first (λ a. IsOkAnd second (λ b. v.items ≡ a.items ++ b.items))) → ((a b : Vec (Finding Run)) → P a → Q b → S (a.items ++ b.items)) → IfOk r (λ v. S v.items)
 collected (Err e) first second P Q S p q c f = tt
 collected (Ok v) (Ok a) (Ok b) P Q S p q c f = subst S (sym c) (f a b p q)
 collected (Ok v) (Ok a) (Err e) P Q S p q c f = absurd c
 collected (Ok v) (Err e) second P Q S p q c f = absurd c
 
 -- the findings of two workers, once their seats are joined
-pub joined_worked : (g : Graph) (plan : Setup) (j : Shared) (s t u : Seats) (a b : List Finding) → view u.tickets ≡ joined_views (view s.tickets) (view t.tickets) → known u.board ≡ joined (known s.board) (known t.board)
+pub joined_worked : (g : Graph) (plan : Setup) (j : Shared) (s t u : Seats) (a b : List (Finding Run)) → view u.tickets ≡ joined_views (view s.tickets) (view t.tickets) → known u.board ≡ joined (known s.board) (known t.board)
     → StartsWith (known u.board).seen (known s.board).seen → StartsWith (known u.board).seen (known t.board).seen
     → IsWorked g plan j s a → IsWorked g plan j t b → IsWorked g plan j u (a ++ b)
 joined_worked g plan j s t u a b is jo first second w x = record {
@@ -48,14 +49,21 @@ joined_worked g plan j s t u a b is jo first second w x = record {
   done = ap (λ v. v.done) is ∙ ap (λ d. d || (view t.tickets).done) w.done;
 }
 
+-- at first nothing is found
+pub nothing_found : (g : Graph) (plan : Setup) (j : Shared) (s : Seats) → AreNew s → AreOf g plan j s []
+nothing_found g plan j s new = record {
+  accounts = record { sound = λ k d l. absurd (omega (arith, l)); explained = rw new.mine tt };
+  order = rw new.drawn refl;
+}
+
 -- a chunk more
-pub drawn_more : (plan : Setup) (j : Shared) (s u : TicketSeat) (n : ℕ) (a b : List Finding) → view u ≡ with_drawn (view s) n → map finder_of a ≡ gathered (chunks_in plan j) (view s).drawn
+pub drawn_more : (plan : Setup) (j : Shared) (s u : TicketSeat) (n : ℕ) (a b : List (Finding Run)) → view u ≡ with_drawn (view s) n → map finder_of a ≡ gathered (chunks_in plan j) (view s).drawn
     → map finder_of b ≡ map finder_of a ++ slice_index_or (chunks_in plan j) n [] → map finder_of b ≡ gathered (chunks_in plan j) (view u).drawn
 drawn_more plan j s u n a b is was more =
     more ∙ ap (λ l. l ++ slice_index_or (chunks_in plan j) n []) was ∙ sym (gathered_snoc (chunks_in plan j) (view s).drawn n) ∙ ap (λ v. gathered (chunks_in plan j) v.drawn) (sym is)
 
 -- with the whole share, the findings weigh what the idle processes do
-pub all_worked : (g : Graph) (plan : Setup) (j : Shared) (s : Seats) (found : List Finding) → IsMadeFor g plan j → IsSeatOf j.tickets s.tickets → (view s.tickets).share ≡ 64 → IsWorked g plan j s found
+pub all_worked : (g : Graph) (plan : Setup) (j : Shared) (s : Seats) (found : List (Finding Run)) → IsMadeFor g plan j → IsSeatOf j.tickets s.tickets → (view s.tickets).share ≡ 64 → IsWorked g plan j s found
     → (weight : ℕ → ℕ) → total weight (map finder_of found) ≡ total weight j.idle.items
 all_worked g plan j s found made own whole w weight =
     let all = s.tickets.knows w.done whole in

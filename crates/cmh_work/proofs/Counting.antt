@@ -1,11 +1,10 @@
 -- What the weights of drawn numbers mean: how often each number stands among them.
-use Rattle.std.proofs.Common.{◌≡◌, ℕ, zero, suc, ◌+◌, ◌<◌, ◌≤◌, ◌⊎◌, ⊎_elim, Bool, true, false, eqb, leb, slice_index, cond, List, [], ◌∷◌, refl, sym, ap, ◌∙◌, arith}
+use Rattle.std.proofs.Common.{◌≡◌, ℕ, zero, suc, ◌<◌, ◌≤◌, ⊎_elim, Bool, true, false, eqb, leb, slice_index, cond, List, [], ◌∷◌, refl, sym, ap, ◌∙◌, arith}
 use Rattle.std.proofs.lemmas.Bool.{ne_eqb}
 use Rattle.std.proofs.lemmas.Bool.Decides.{eqb_tells, leb_tells}
-use Rattle.atomic_table.specs.Table.{State}
 use Rattle.cmh_rw.specs.Machine.{total}
 use Rattle.cmh_work.specs.declared.ticket_rule.TicketView.{TicketView}
-use Rattle.cmh_work.specs.Tickets.{sum_below, times, DrewAll, Dealt, DrewEachOnceLaw, DrawnOnceLaw}
+use Rattle.cmh_work.specs.Tickets.{sum_below, times, DrewEachOnceLaw, DrawnOnceLaw}
 use Rattle.cmh_work.proofs.Rising.{total-sum_by}
 
 -- 1 at that number, and 0 elsewhere

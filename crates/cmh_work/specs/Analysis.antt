@@ -12,13 +12,13 @@ use Rattle.cmh_work.specs.declared.record.Origin.TheVariants.{FromRun}
 use Rattle.cmh_work.specs.declared.record.Analysis.{Analysis}
 use Rattle.cmh_work.specs.Record.{IsTrueRecord}
 
-abbrev pub records_of : Analysis → List Record
+abbrev pub records_of : Analysis Run → List (Record Run)
 records_of a = a.records.items
 
-abbrev pub history_of : Analysis → List Row
+abbrev pub history_of : Analysis Run → List Row
 history_of a = a.history.items
 
-abbrev pub initiator_of : Record → ℕ
+abbrev pub initiator_of : Record Run → ℕ
 initiator_of r = r.initiator
 
 -- the posting is what this run tells, but for whom stood in a row before
@@ -27,24 +27,24 @@ IsPostedBy before posting run = let told = posting_of run in
     posting ≡ rows_of told.verdict (unposted before told.processes)
 
 -- and the run is that of a record
-abbrev pub IsOfRecord : List Record → List Row → List Row → Type 0
-IsOfRecord records before posting = (r : Record) × Contains records r
+abbrev pub IsOfRecord : List (Record Run) → List Row → List Row → Type 0
+IsOfRecord records before posting = (r : Record Run) × Contains records r
     × (run : Run) × (r.source ≡ FromRun run) × IsPostedBy before posting run
 
 -- each posting, with what stands before it, is of a record's run
-abbrev pub AreOfRecords : List Record → List Row → List (List Row) → Type 0
+abbrev pub AreOfRecords : List (Record Run) → List Row → List (List Row) → Type 0
 AreOfRecords records before [] = Unit {0}
 AreOfRecords records before (posting ∷ postings) = IsOfRecord records before posting
     × AreOfRecords records (before ++ posting) postings
 
 -- the history is postings, end to end, each of a record's run
-abbrev pub IsPostedByRecords : List Record → List Row → Type 0
+abbrev pub IsPostedByRecords : List (Record Run) → List Row → Type 0
 IsPostedByRecords records history = (postings : List (List Row))
     × (history ≡ laid postings) × ArePostings postings × AreOfRecords records [] postings
 
 -- The records are of the idle processes, one of each, by rising index, and true. The history holds
 -- each idle process once, and no other, with the verdict that its record tells.
-pub record IsAnalysisOf (g : Graph) (choices : List ℕ) (a : Analysis) : Type 0 where
+pub record IsAnalysisOf (g : Graph) (choices : List ℕ) (a : Analysis Run) : Type 0 where
   pub order : map initiator_of (records_of a) ≡ idle_list g
   pub records : All (IsTrueRecord g choices (history_of a)) (records_of a)
   pub history : IsTrueOf g (history_of a)

@@ -11,24 +11,24 @@ use Rattle.cmh_work.specs.declared.record.Origin.TheVariants.{FromRun, FromBoard
 use Rattle.cmh_work.specs.Record.{IsRowFor}
 
 -- what was found stands in the history
-abbrev pub Stands : List Row → Finding → Type 0
+abbrev pub Stands : List Row → Finding Run → Type 0
 Stands history f = fold_at history f.initiator ≡ Some f.verdict
 
 -- the run of a finding is kept, and where there is none, the row is named
-abbrev pub IsNamed : List Row → ℕ → Verdict → Option Run → Origin → Type 0
+abbrev pub IsNamed : List Row → ℕ → Verdict → Option Run → Origin Run → Type 0
 IsNamed history p verdict (Some run) source = source ≡ FromRun run
 IsNamed history p verdict None source =
     (n : ℕ) × (source ≡ FromBoard n) × IsRowFor history n p verdict
 
 -- the record tells what was found
-pub record IsNumbered (history : List Row) (f : Finding) (r : Record) : Type 0 where
+pub record IsNumbered (history : List Row) (f : Finding Run) (r : Record Run) : Type 0 where
   pub initiator : r.initiator ≡ f.initiator
   pub verdict : r.verdict ≡ f.verdict
   pub shape : r.shape ≡ f.shape
   pub source : IsNamed history f.initiator f.verdict f.run r.source
 
 -- each record tells what was found at its place
-abbrev pub AreNumbered : List Row → List Finding → List Record → Type 0
+abbrev pub AreNumbered : List Row → List (Finding Run) → List (Record Run) → Type 0
 AreNumbered history [] [] = Unit {0}
 AreNumbered history [] (r ∷ rs) = ⊥
 AreNumbered history (f ∷ fs) [] = ⊥

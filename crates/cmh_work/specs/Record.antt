@@ -23,12 +23,12 @@ IsRowFor history n p verdict = (last : Bool)
     × (slice_get history n ≡ Some (record { process = p; verdict = verdict; last = last }))
 
 -- the verdict of p is known by such a run, or by that row
-abbrev pub IsSource : Graph → List ℕ → List Row → ℕ → Verdict → Origin → Type 0
+abbrev pub IsSource : Graph → List ℕ → List Row → ℕ → Verdict → Origin Run → Type 0
 IsSource g choices history p verdict (FromRun run) = IsRunFor g choices p verdict run
 IsSource g choices history p verdict (FromBoard n) = IsRowFor history n p verdict
 
 -- the record of an idle process tells its verdict, its shape, and how the verdict is known
-pub record IsTrueRecord (g : Graph) (choices : List ℕ) (history : List Row) (r : Record)
+pub record IsTrueRecord (g : Graph) (choices : List ℕ) (history : List Row) (r : Record Run)
     : Type 0 where
   pub idle : IsTrue (is_idle g r.initiator)
   pub verdict : IsVerdict g r.initiator r.verdict

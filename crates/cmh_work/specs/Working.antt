@@ -3,6 +3,7 @@ use Rattle.std.specs.Prelude.{◌≡◌, ℕ, ◌+◌, List, [], length, map, tr
 use Rattle.cmh_graph.specs.Graph.{Graph, idle_list}
 use Rattle.cmh_board.specs.declared.board.BoardSeat.{BoardSeat}
 use Rattle.cmh_board.specs.Board.{known, graph_of, SitsAt, IsAway}
+use Rattle.cmh_run.specs.Run.{Run}
 use Rattle.cmh_work.specs.declared.finding.Finding.{Finding}
 use Rattle.cmh_work.specs.declared.job.Shared.{Shared}
 use Rattle.cmh_work.specs.declared.job.Seats.{Seats}
@@ -44,13 +45,13 @@ pub record AreBack (s : Shared) (old new : Seats) : Type 0 where
   pub board : (known new.board).lock.share ≡ (known old.board).lock.share
 
 -- what was found is of the chunks that the seat drew, in order, and explains what it added
-pub record AreOf (g : Graph) (plan : Setup) (s : Shared) (seats : Seats) (found : List Finding)
+pub record AreOf (g : Graph) (plan : Setup) (s : Shared) (seats : Seats) (found : List (Finding Run))
     : Type 0 where
   pub accounts : Accounts g plan.choices (known seats.board) found
   pub order : map finder_of found ≡ gathered (chunks_in plan s) (view seats.tickets).drawn
 
 -- and no chunk is left
-pub record IsWorked (g : Graph) (plan : Setup) (s : Shared) (seats : Seats) (found : List Finding)
+pub record IsWorked (g : Graph) (plan : Setup) (s : Shared) (seats : Seats) (found : List (Finding Run))
     : Type 0 where
   pub of : AreOf g plan s seats found
   pub done : (view seats.tickets).done ≡ true

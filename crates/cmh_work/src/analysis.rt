@@ -17,6 +17,7 @@ use crate::{Gate, Plan, WorkFault};
 use cmh_board::Board;
 use cmh_graph::WaitGraph;
 use cmh_graph::laws::law_built_graph;
+use cmh_run::{Log, RunLog};
 use std::alloc::Global;
 use std::sync::Wait;
 use std::thread::Threads;
@@ -44,6 +45,25 @@ pub fn analyse<R: Threads + Wait + Sync, P: Gate>(
     ensures ok { IfOk result (IsAnalysisOf graph.now plan.now.choices) }
     ensures memory { IfErr result (λ e. e ≡ WorkFault.Memory) }
 {
+    analyse_keeping(rt, alloc, graph, plan, gate)
+}
+
+/// `analyse`, with a log of any kind for each run: `analyse_keeping::<NoLog, _, _>` takes no memory
+/// for deliveries.
+///
+/// # Errors
+///
+/// As `analyse`.
+pub fn analyse_keeping<L: Log + Send, R: Threads + Wait + Sync, P: Gate>(
+    rt: &R,
+    alloc: Global,
+    graph: &WaitGraph,
+    plan: &Plan,
+    gate: &P,
+) -> Result<Analysis<RunLog<L>>, WorkFault>
+    ensures ok { IfOk result (IsAnalysisOf graph.now plan.now.choices) }
+    ensures memory { IfErr result (λ e. e ≡ WorkFault.Memory) }
+{
     let idle = graph.idle_list(alloc).map_err(want_in_graph)?;
     let shapes = Shapes::of_graph(alloc, graph)?;
     let (board, board_seat) = Board::open(alloc, graph).map_err(want_at_board)?;
@@ -63,7 +83,7 @@ pub fn analyse<R: Threads + Wait + Sync, P: Gate>(
 }
 
 /// The analysis, by workers that share this.
-fn finish<R: Threads + Wait + Sync, P: Gate>(
+fn finish<L: Log + Send, R: Threads + Wait + Sync, P: Gate>(
     rt: &R,
     alloc: Global,
     graph: &WaitGraph,
@@ -71,7 +91,7 @@ fn finish<R: Threads + Wait + Sync, P: Gate>(
     shared: Shared,
     gate: &P,
     seats: Seats,
-) -> Result<Analysis, WorkFault>
+) -> Result<Analysis<RunLog<L>>, WorkFault>
     requires made { IsMadeFor graph.now plan.now shared }
     requires sit { Sit shared seats }
     requires new { AreNew seats }

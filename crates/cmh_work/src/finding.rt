@@ -2,20 +2,19 @@
 
 use crate::record::Shape;
 use cmh_graph::Verdict;
-use cmh_run::RunLog;
 
 /// The verdict of a process, and the run that told it, where the board didn't.
 #[derive(Drop)]
-pub(crate) struct Answer {
+pub(crate) struct Answer<R> {
     pub(crate) verdict: Verdict,
-    pub(crate) run: Option<RunLog>,
+    pub(crate) run: Option<R>,
 }
 
 /// What was found of one idle process. Where there is no run, the verdict stands on the board.
 #[derive(Drop)]
-pub(crate) struct Finding {
+pub(crate) struct Finding<R> {
     pub(crate) initiator: u32,
     pub(crate) verdict: Verdict,
-    pub(crate) run: Option<RunLog>,
+    pub(crate) run: Option<R>,
     pub(crate) shape: Shape,
 }

@@ -21,7 +21,7 @@ mod tickets;
 mod worker;
 mod workers;
 
-pub use analysis::analyse;
+pub use analysis::{analyse, analyse_keeping};
 pub use cmh_board::Row;
 pub use fault::{PlanFault, WorkFault};
 pub use gate::{Gate, NoGate};

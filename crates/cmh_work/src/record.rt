@@ -4,22 +4,22 @@ ghost use Rattle.std.specs.Prelude.{◌≡◌};
 
 use cmh_board::Row;
 use cmh_graph::Verdict;
-use cmh_run::RunLog;
+use cmh_run::{Log, RunLog};
 
-/// What is found of one idle process.
+/// What is found of one idle process, with its run as an `R`.
 #[derive(PartialEq, Eq, Debug, Drop)]
-pub struct Record {
+pub struct Record<R = RunLog> {
     pub initiator: u32,
     pub verdict: Verdict,
-    pub source: Origin,
+    pub source: Origin<R>,
     pub shape: Shape,
 }
 
 /// How a worker came to know a verdict.
 #[derive(PartialEq, Eq, Debug, Drop)]
-pub enum Origin {
+pub enum Origin<R = RunLog> {
     /// By this run of the process, which it posted.
-    FromRun(RunLog),
+    FromRun(R),
 
     /// By the row of this number of the history, from 0.
     FromBoard(u32),
@@ -36,18 +36,18 @@ pub enum Shape {
     Leader(u32),
 }
 
-/// What is found of a wait graph.
+/// What is found of a wait graph, with each run as an `R`.
 #[derive(PartialEq, Eq, Debug, Drop)]
-pub struct Analysis {
-    pub(crate) records: Vec<Record>,
+pub struct Analysis<R = RunLog> {
+    pub(crate) records: Vec<Record<R>>,
     pub(crate) history: Vec<Row>,
 }
 
-impl Analysis {
+impl<L: Log> Analysis<RunLog<L>> {
     ghost use Rattle.cmh_work.specs.Analysis.{records_of, history_of};
 
     /// A record of each idle process, by rising index.
-    pub fn records(&self) -> &[Record]
+    pub fn records(&self) -> &[Record<RunLog<L>>]
         ensures { result.now ≡ records_of self.now }
     {
         &self.records

@@ -16,19 +16,22 @@ use crate::job::{Job, Seats, Shared};
 use crate::{Gate, Plan, WorkFault};
 use cmh_board::{BoardHints, BoardSeat, Look, Posting};
 use cmh_graph::WaitGraph;
-use cmh_run::{RunLog, run};
+use cmh_run::{Log, RunLog, Runner};
 use std::alloc::Global;
 use std::sync::Wait;
 
 /// A run of the initiator, which asks the board as it goes.
-fn run_of(
+fn run_of<L: Log>(
     alloc: Global,
     job: &Job,
+    runner: &mut Runner,
     seat: &mut BoardSeat,
     initiator: u32,
-) -> Result<RunLog, WorkFault>
+) -> Result<RunLog<L>, WorkFault>
+    requires runner { runner.old ≡ job.now.graph.now }
     requires sits { SitsIn job.now.shared.now seat.old }
     requires idle { IsTrue (is_idle job.now.graph.now initiator) }
+    ensures runner { runner.new ≡ runner.old }
     ensures sits { SitsIn job.now.shared.now seat.new }
     ensures sees { Sees (known seat.old) (known seat.new) }
     ensures run { IfOk result (λ r. IsRunFor
@@ -37,22 +40,25 @@ fn run_of(
     ensures memory { IfErr result (λ e. e ≡ WorkFault.Memory) }
 {
     let mut hints = BoardHints::new(&job.shared.board, seat);
-    match run(alloc, job.graph, initiator, job.plan.choices(), &mut hints) {
+    match runner.run(alloc, initiator, job.plan.choices(), &mut hints) {
         Ok(run) => Ok(run),
         Err(fault) => Err(want_in_run(fault)),
     }
 }
 
 /// The verdict of an initiator: the board's, or else that of a run, which is posted.
-fn ask<R: Wait>(
+fn ask<L: Log, R: Wait>(
     rt: &R,
     alloc: Global,
     job: &Job,
+    runner: &mut Runner,
     seat: &mut BoardSeat,
     initiator: u32,
-) -> Result<Answer, WorkFault>
+) -> Result<Answer<RunLog<L>>, WorkFault>
+    requires runner { runner.old ≡ job.now.graph.now }
     requires sits { SitsIn job.now.shared.now seat.old }
     requires idle { IsTrue (is_idle job.now.graph.now initiator) }
+    ensures runner { runner.new ≡ runner.old }
     ensures sits { SitsIn job.now.shared.now seat.new }
     ensures share { (known seat.new).lock.share ≡ (known seat.old).lock.share }
     ensures answered { IfOk result (IsAnswered
@@ -62,7 +68,7 @@ fn ask<R: Wait>(
     if let Look::Known(verdict) = job.shared.board.look(seat, initiator) {
         return Ok(Answer { verdict, run: None });
     }
-    let run = run_of(alloc, job, seat, initiator)?;
+    let run = run_of(alloc, job, runner, seat, initiator)?;
     job.shared.board.post(rt, seat, &Posting::of_run(&run));
     Ok(Answer {
         verdict: run.verdict(),
@@ -71,16 +77,19 @@ fn ask<R: Wait>(
 }
 
 /// What is found of one initiator.
-fn find_one<R: Wait, P: Gate>(
+fn find_one<L: Log, R: Wait, P: Gate>(
     rt: &R,
     alloc: Global,
     job: &Job,
     gate: &P,
+    runner: &mut Runner,
     seat: &mut BoardSeat,
     initiator: u32,
-) -> Result<Finding, WorkFault>
+) -> Result<Finding<RunLog<L>>, WorkFault>
+    requires runner { runner.old ≡ job.now.graph.now }
     requires sits { SitsIn job.now.shared.now seat.old }
     requires idle { IsTrue (is_idle job.now.graph.now initiator) }
+    ensures runner { runner.new ≡ runner.old }
     ensures sits { SitsIn job.now.shared.now seat.new }
     ensures share { (known seat.new).lock.share ≡ (known seat.old).lock.share }
     ensures is { IfOk result (λ f. f.initiator ≡ initiator) }
@@ -89,7 +98,7 @@ fn find_one<R: Wait, P: Gate>(
     ensures memory { IfErr result (λ e. e ≡ WorkFault.Memory) }
 {
     gate.pass(initiator);
-    let Answer { verdict, run } = ask(rt, alloc, job, seat, initiator)?;
+    let Answer { verdict, run } = ask(rt, alloc, job, runner, seat, initiator)?;
     let shape = job
         .shared
         .shapes
@@ -103,19 +112,22 @@ fn find_one<R: Wait, P: Gate>(
 }
 
 /// Adds what is found of each initiator of the chunk, in order.
-fn find_each<R: Wait, P: Gate>(
+fn find_each<L: Log, R: Wait, P: Gate>(
     rt: &R,
     alloc: Global,
     job: &Job,
     gate: &P,
+    runner: &mut Runner,
     seat: &mut BoardSeat,
-    found: &mut Vec<Finding>,
+    found: &mut Vec<Finding<RunLog<L>>>,
     chunk: &[u32],
 ) -> Result<(), WorkFault>
+    requires runner { runner.old ≡ job.now.graph.now }
     requires sits { SitsIn job.now.shared.now seat.old }
     requires idle { All (λ p. IsTrue (is_idle job.now.graph.now p)) chunk.now }
     requires accounts { Accounts
         job.now.graph.now job.now.plan.now.choices (known seat.old) found.old.items }
+    ensures runner { runner.new ≡ runner.old }
     ensures sits { SitsIn job.now.shared.now seat.new }
     ensures share { (known seat.new).lock.share ≡ (known seat.old).lock.share }
     ensures accounts { OnOk result (Accounts
@@ -125,20 +137,20 @@ fn find_each<R: Wait, P: Gate>(
     ensures memory { IfErr result (λ e. e ≡ WorkFault.Memory) }
 {
     for initiator in chunk {
-        let finding = find_one(rt, alloc, job, gate, seat, *initiator)?;
+        let finding = find_one(rt, alloc, job, gate, runner, seat, *initiator)?;
         found.push(finding)?;
     }
     Ok(())
 }
 
 /// Works on chunks until there are no more, or memory is refused.
-fn draw_all<R: Wait, P: Gate>(
+fn draw_all<L: Log, R: Wait, P: Gate>(
     rt: &R,
     alloc: Global,
     job: &Job,
     gate: &P,
     seats: &mut Seats,
-) -> Result<Vec<Finding>, WorkFault>
+) -> Result<Vec<Finding<RunLog<L>>>, WorkFault>
     requires sit { Sit job.now.shared.now seats.old }
     requires new { AreNew seats.old }
     ensures back { AreBack job.now.shared.now seats.old seats.new }
@@ -146,16 +158,26 @@ fn draw_all<R: Wait, P: Gate>(
         job.now.graph.now job.now.plan.now job.now.shared.now seats.new found.items) }
     ensures memory { IfErr result (λ e. e ≡ WorkFault.Memory) }
 {
+    let mut runner = Runner::new(job.graph);
     let mut found = Vec::new(alloc);
     while let Some(number) = job.shared.tickets.draw(&mut seats.tickets) {
         let chunk = chunk_at(job.plan.cuts(), &job.shared.idle, number as usize);
-        find_each(rt, alloc, job, gate, &mut seats.board, &mut found, chunk)?;
+        find_each(
+            rt,
+            alloc,
+            job,
+            gate,
+            &mut runner,
+            &mut seats.board,
+            &mut found,
+            chunk,
+        )?;
     }
     Ok(found)
 }
 
 /// One worker. Its seats come back on every path.
-pub(crate) fn work<R: Wait, P: Gate>(
+pub(crate) fn work<L: Log, R: Wait, P: Gate>(
     rt: &R,
     alloc: Global,
     graph: &WaitGraph,
@@ -163,7 +185,7 @@ pub(crate) fn work<R: Wait, P: Gate>(
     shared: &Shared,
     gate: &P,
     seats: Seats,
-) -> (Seats, Result<Vec<Finding>, WorkFault>)
+) -> (Seats, Result<Vec<Finding<RunLog<L>>>, WorkFault>)
     requires made { IsMadeFor graph.now plan.now shared.now }
     requires sit { Sit shared.now seats }
     requires new { AreNew seats }

@@ -1,8 +1,9 @@
 //! Gates that count: how many workers there are, and how often the gate is told of each process.
 
+use super::generated::{Family, Seed, waiting_of};
 use super::graphs::{ONE_FREE_ONE_STUCK, Waits, graph_of};
 use crate::{Gate, Plan, analyse};
-use std::alloc::Global;
+use std::alloc::{AllocError, Global};
 use std::sync::Wait;
 use std::sync::atomic::{AtomicU64, Ordering};
 use std::test::Fail;
@@ -130,6 +131,65 @@ fn the_gate_is_told_of_each_idle_process_once(rt: HostRuntime) -> Result<(), Fai
         assert_eq!(rt; times, [1, 1, 1, 0, 1]);
         let (times, _) = told_of_each(&rt, rt.alloc(), &ONE_FREE_ONE_STUCK, workers)?;
         assert_eq!(rt; times, [1, 1, 0, 0, 0]);
+    }
+    Ok(())
+}
+
+/// Counts of each of many processes how often the gate was told of it.
+#[derive(Drop)]
+pub(super) struct Each {
+    times: Vec<AtomicU64>,
+}
+
+impl Gate for Each {
+    fn pass(&self, initiator: u32) {
+        if let Some(times) = self.times.get(initiator as usize) {
+            times.fetch_add(1, Ordering::SeqCst);
+        }
+    }
+}
+
+impl Each {
+    pub(super) fn new(alloc: Global, count: u32) -> Result<Each, AllocError> {
+        let mut times = Vec::new(alloc);
+        for _ in 0..count {
+            times.push(AtomicU64::new(0))?;
+        }
+        Ok(Each { times })
+    }
+
+    pub(super) fn clear(&self) {
+        for times in &self.times {
+            times.store(0, Ordering::SeqCst);
+        }
+    }
+
+    pub(super) fn times(&self, p: u32) -> u64 {
+        match self.times.get(p as usize) {
+            Some(times) => times.load(Ordering::SeqCst),
+            None => 0,
+        }
+    }
+}
+
+#[test]
+fn the_gate_is_told_of_each_of_many_once(rt: HostRuntime) -> Result<(), Fail> {
+    let seed = Seed {
+        count: 200,
+        family: Family::Random(2, 6),
+        messages: 20,
+        start: 41,
+    };
+    let waiting = waiting_of(rt.alloc(), seed)?;
+    let graph = waiting.graph(rt.alloc())?;
+    for workers in [1, 3, 64] {
+        let plan = Plan::new(rt.alloc(), workers, &[3; 64], &[])?;
+        let gate = Each::new(rt.alloc(), 200)?;
+        analyse(&rt, rt.alloc(), &graph, &plan, &gate)?;
+        for p in 0..200 {
+            let times = u64::from(!waiting.is_active(p));
+            assert_eq!(rt; gate.times(p), times, "{p} by {workers}");
+        }
     }
     Ok(())
 }

@@ -142,7 +142,7 @@ fn what_one_worker_finds(rt: HostRuntime) -> Result<(), Fail> {
 }
 
 /// A graph of 4,096 idle processes, each with this many dependents after it, around a ring.
-fn knot(alloc: Global, dependents: u32) -> Result<WaitGraph, GraphFault> {
+pub(super) fn knot(alloc: Global, dependents: u32) -> Result<WaitGraph, GraphFault> {
     let mut parts = Vec::new(alloc);
     for p in 0..4_096u32 {
         let mut list = Vec::new(alloc);
@@ -160,12 +160,16 @@ fn knot(alloc: Global, dependents: u32) -> Result<WaitGraph, GraphFault> {
 }
 
 /// Whether each process has a record that names its leader, and stands in one row.
-fn has_each_once(alloc: Global, analysis: &Analysis, leads_itself: bool) -> Result<bool, Fail> {
+pub(super) fn has_each_once(
+    alloc: Global,
+    analysis: &Analysis,
+    leads_itself: bool,
+) -> Result<bool, Fail> {
     let are_led = has_leaders(analysis.records(), leads_itself);
     Ok(are_led && stand_once(alloc, analysis.history())?)
 }
 
-fn has_leaders(records: &[Record], leads_itself: bool) -> bool {
+pub(super) fn has_leaders(records: &[Record], leads_itself: bool) -> bool {
     let mut p = 0u32;
     for record in records {
         let leader = if leads_itself { p } else { 0 };

@@ -11,7 +11,7 @@ use std::test::Fail;
 use std::thread::{Threads, join};
 
 /// Takes all the memory that there is, in blocks of falling sizes.
-fn take_all(alloc: Global, blocks: &mut Vec<Vec<u8>>) {
+pub(super) fn take_all(alloc: Global, blocks: &mut Vec<Vec<u8>>) {
     let mut size = 1usize << 46;
     for _ in 0..100_000 {
         if size < 16 {

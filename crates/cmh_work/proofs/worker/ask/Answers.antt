@@ -13,6 +13,7 @@ returns g c =
     let run = c.in_ok-run.run' in
     let w = known c.post.new.seat in
     let posts = subst (λ t. Posts t (known c.run_of.new.seat) w) c.of_run.ensures.whole c.post.ensures.posts in record {
+      runner = search rules;
       sits = search rules;
       share = search rules;
       answered = subst (λ v. IsAnswered gr choices p (known c.args.seat.now) w record { verdict = v; run = Some run }) (sym c.verdict.ensures)

@@ -1,7 +1,8 @@
 use Rattle.std.proofs.Common.{◌∙◌, ℕ, rules, sym, subst, All}
 use Rattle.std.specs.Prelude.{IsTrue}
 use Rattle.cmh_graph.specs.Graph.{is_idle}
-use Rattle.cmh_work.proofs.Collecting.{drawn_more}
+use Rattle.cmh_work.specs.Working.{AreOf}
+use Rattle.cmh_work.proofs.Collecting.{drawn_more, nothing_found}
 use Rattle.cmh_work.proofs.Gathering.{all_chunk, all_idle}
 use Rattle.cmh_work.proofs.worker.draw_all.Goals as goal
 
@@ -12,8 +13,17 @@ find_each-requires-clause-idle g c =
     let all : All P c.deref.result.now = subst (All P) (sym (c.deref.ensures.value ∙ j.initiators)) (all_idle j.graph.now) in
     λ κs m. subst (All P) (sym c.chunk_at-chunk.ensures) (all_chunk P c.cuts.result.now c.deref.result.now c.in-Some.number all)
 
+pub loop-number-init : goal.loop-number-init
+loop-number-init g c = record {
+  runner = search rules;
+  back = search rules;
+  of = subst (AreOf c.args.job.now.graph.now c.args.job.now.plan.now c.args.job.now.shared.now c.args.seats.now) (sym c.new-found.ensures.items)
+      (nothing_found c.args.job.now.graph.now c.args.job.now.plan.now c.args.job.now.shared.now c.args.seats.now c.requires.new);
+}
+
 pub loop-number-preserved : goal.loop-number-preserved
 loop-number-preserved g c = record {
+  runner = search rules;
   back = search rules;
   of = record {
     accounts = search rules;

@@ -1,10 +1,11 @@
-use Rattle.std.proofs.Common.{◌-◌, length}
+use Rattle.std.proofs.Common.{◌≡◌, ◌-◌, length}
 use Rattle.cmh_work.specs.Seats.{view}
 use Rattle.cmh_work.specs.Working.{AreBack, AreOf}
 use Rattle.cmh_work.proofs.worker.draw_all.Given as goal
 
 abbrev pub invariant-loop-number : goal.invariant-loop-number
 invariant-loop-number g l = record {
+  runner : l.runner ≡ l.job.graph.now;
   back : AreBack l.job.shared.now l.fn.seats l.seats;
   of : AreOf l.job.graph.now l.job.plan.now l.job.shared.now l.seats l.found.items;
 }

@@ -12,6 +12,7 @@ loop-initiator-preserved g c =
     let v = known c.loop-initiator.seat in
     let w = known c.find_one.new.seat in
     let pushed : c.push.new.self.items ≡ c.loop-initiator.found.items ++ c.in_ok-finding.finding ∷ [] = search rules in record {
+      runner = search rules;
       sits = search rules;
       share = search rules;
       accounts = subst (Accounts gr choices w) (sym pushed)

@@ -6,6 +6,7 @@ use Rattle.cmh_work.proofs.worker.find_each.Given as goal
 
 abbrev pub invariant-loop-initiator : goal.invariant-loop-initiator
 invariant-loop-initiator g l = record {
+  runner : l.runner ≡ l.fn.runner;
   sits : SitsIn l.job.shared.now l.seat;
   share : (known l.seat).lock.share ≡ (known l.fn.seat).lock.share;
   accounts : Accounts l.job.graph.now l.job.plan.now.choices (known l.seat) l.found.items;
