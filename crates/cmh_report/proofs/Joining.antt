@@ -6,16 +6,13 @@ use Rattle.std.specs.Global.{Global, Vec}
 use Rattle.std.specs.List.{AllZip}
 use Rattle.std.proofs.lemmas.List.Folds.{flat_map-map}
 use Rattle.std.proofs.lemmas.List.{get_or_default, map-append, reverse-append, reverse-reverse}
-use Rattle.cmh_graph.specs.Graph.{Graph, indices, process_count, idle_list}
+use Rattle.cmh_graph.specs.Graph.{is_idle, Graph, indices, process_count, idle_list}
 use Rattle.cmh_graph.specs.Core.{leaders}
-use Rattle.cmh_work.specs.declared.record.Record.{Record}
 use Rattle.cmh_graph.proofs.Reaching.{index_within}
 use Rattle.cmh_graph.proofs.Verdicts.{filter_contains}
-use Rattle.cmh_work.specs.Analysis.{initiator_of}
 use Rattle.cmh_work.specs.Leaders.{group_leader}
 use Rattle.cmh_report.specs.Group.{is_led_by}
 use Rattle.cmh_report.specs.Lines.{AreLines}
-use Rattle.cmh_report.specs.Records.{AreRecordsOf}
 use Rattle.cmh_report.specs.Report.{line, report_text, totals_line, process_line, group_line}
 use Rattle.cmh_report.proofs.Numbers.{leads_itself, led_test}
 use Rattle.cmh_report.proofs.Words.{whole_text}
@@ -64,14 +61,11 @@ reversed {X} slice items shown same long turned =
     ∙ map_reverse (λ (z : Bor X). z.now) shown
     ∙ ap reverse (same ∙ take_all (length shown) slice (omega arith))
 
--- the lines of the records, from the last on, are those of the idle processes
-pub of_processes : (g : Graph) (records : List Record) → AreRecordsOf g records → map (λ r. line (process_line g (initiator_of r))) (reverse records) ≡ map line (reverse (map (process_line g) (idle_list g)))
-of_processes g records are =
-    map_reverse (λ r. line (process_line g (initiator_of r))) records
-    ∙ ap reverse
-    (sym (map_map (λ p. line (process_line g p)) initiator_of records)
-    ∙ ap (map (λ p. line (process_line g p))) are.order
-    ∙ sym (map_map line (process_line g) (idle_list g)))
+-- the lines of a list of the idle processes, from the last on
+pub of_processes : (g : Graph) (list : List ℕ) → list ≡ idle_list g → map (λ p. line (process_line g p)) (reverse list) ≡ map line (reverse (map (process_line g) (idle_list g)))
+of_processes g list is =
+    map_reverse (λ p. line (process_line g p)) list
+    ∙ ap reverse (ap (map (λ p. line (process_line g p))) is ∙ sym (map_map line (process_line g) (idle_list g)))
     ∙ sym (map_reverse line (map (process_line g) (idle_list g)))
 
 -- the lines of leaders, from the last on, are those of their groups
@@ -80,6 +74,14 @@ of_groups g list is =
     map_reverse (λ p. line (group_line g p)) list
     ∙ ap reverse (ap (map (λ p. line (group_line g p))) is ∙ sym (map_map line (group_line g) (leaders g)))
     ∙ sym (map_reverse line (map (group_line g) (leaders g)))
+
+-- each process of the list of the idle ones is one of the graph's
+pub idle_within_list : (g : Graph) (list : List ℕ) → list ≡ idle_list g → All (λ p. p < process_count g) list
+idle_within_list g list is =
+    subst (All (λ p. p < process_count g)) (sym is)
+    (λ k d l.
+    let there : Contains (idle_list g) (get_or (idle_list g) k d) = (k, l, get_or_default (idle_list g) k (get_or (idle_list g) k d) d l) in
+    index_within (process_count g) (get_or (idle_list g) k d) (filter_contains (is_idle g) (indices g) (get_or (idle_list g) k d) there).0)
 
 -- each leader of the list is a process that leads itself
 pub leaders_lead : (g : Graph) (table : List (Option ℕ)) (list : List ℕ) → table ≡ map (group_leader g) (indices g) → list ≡ leaders g

@@ -1,9 +1,9 @@
+pub mod ChosenPaths
 pub mod Counts
 pub mod Examples
 pub mod Joining
 pub mod Members
 pub mod Numbers
-pub mod Paths
 pub mod Records
 pub mod TraceExamples
 pub mod Traces

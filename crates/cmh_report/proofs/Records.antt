@@ -1,7 +1,6 @@
 -- What records tell of the graph: how many processes are idle and deadlocked, and who leads whom.
 use Rattle.std.proofs.Common.{◌≡◌, ℕ, ◌+◌, ◌<◌, ◌≤◌, Bool, true, false, cond, zero, inl, inr, List, [], ◌∷◌, length, map, take, take_all, get_or, set, replicate, refl, sym, ◌∙◌, ap, subst, arith}
 use Rattle.std.specs.Prelude.{All, Contains, Option, Some, None, filter, count_by}
-use Rattle.std.specs.Global.{Vec}
 use Rattle.std.proofs.lemmas.Bool.{cases_eq}
 use Rattle.std.proofs.lemmas.List.{get_or-map, get_or-set_same, get_or-set_other, length-map, length-set}
 use Rattle.std.proofs.lemmas.List.Elements.{All-tail}
@@ -10,13 +9,12 @@ use Rattle.std.proofs.lemmas.List.Sums.{sum_by-cons}
 use Rattle.cmh_graph.specs.declared.verdict.Verdict.{Verdict}
 use Rattle.cmh_graph.specs.declared.verdict.Verdict.TheVariants.{Deadlocked, Free}
 use Rattle.cmh_graph.specs.Graph.{Graph, process_count, indices, is_idle, idle_list, IsWithinGraph}
-use Rattle.cmh_graph.specs.ChosenPath.{chosen_path}
-use Rattle.cmh_graph.specs.Core.{leader_of}
 use Rattle.cmh_graph.specs.Verdict.{is_deadlocked, IsDeadlocked}
 use Rattle.cmh_graph.proofs.Searching.{taken_last, taken_more, taken_stays}
 use Rattle.cmh_graph.proofs.Reaching.{contains_index}
 use Rattle.cmh_graph.proofs.Verdicts.{contains_filter, filter_contains, then_test, test_then}
 use Rattle.cmh_run.specs.Hints.{IsVerdict}
+use Rattle.cmh_run.specs.Run.{Run}
 use Rattle.cmh_work.specs.declared.record.Analysis.{Analysis}
 use Rattle.cmh_work.specs.declared.record.Record.{Record}
 use Rattle.cmh_work.specs.declared.record.Shape.{Shape}
@@ -30,29 +28,29 @@ use Rattle.cmh_report.specs.Report.{deadlocked_count}
 use Rattle.cmh_report.proofs.Counts.{active_and_idle}
 
 -- the records of an analysis are those of the graph
-pub analysed : (g : Graph) (a : Analysis) → IsSomeAnalysisOf g a → AreRecordsOf g (records_of a)
+pub analysed : (g : Graph) (a : Analysis Run) → IsSomeAnalysisOf g a → AreRecordsOf g (records_of a)
 analysed g a (choices, is) = record {
   order = is.order;
   tell = λ k d l. let r = is.records k d l in record { idle = r.idle; verdict = r.verdict; shape = r.shape };
 }
 
 -- there are as many records as idle processes
-pub records_count : (g : Graph) (records : List Record) → AreRecordsOf g records → length records ≡ length (idle_list g)
+pub records_count : (g : Graph) (records : List (Record Run)) → AreRecordsOf g records → length records ≡ length (idle_list g)
 records_count g records are = sym (length-map records initiator_of) ∙ ap length are.order
 
 -- and no more than processes
-pub records_few : (g : Graph) (records : List Record) → AreRecordsOf g records → length records ≤ process_count g
+pub records_few : (g : Graph) (records : List (Record Run)) → AreRecordsOf g records → length records ≤ process_count g
 records_few g records are = omega (arith, records_count g records are, active_and_idle g)
 
 -- a record is of the idle process at its place
-pub initiator_at : (g : Graph) (records : List Record) (i : ℕ) (r : Record) → AreRecordsOf g records → i < length records → get_or records i r ≡ r → get_or (idle_list g) i 0 ≡ r.initiator
+pub initiator_at : (g : Graph) (records : List (Record Run)) (i : ℕ) (r : Record Run) → AreRecordsOf g records → i < length records → get_or records i r ≡ r → get_or (idle_list g) i 0 ≡ r.initiator
 initiator_at g records i r are l is =
     ap (λ xs. get_or xs i 0) (sym are.order)
     ∙ get_or-map initiator_of records i r 0 l
     ∙ ap initiator_of is
 
 -- and tells of it
-pub tells_at : (g : Graph) (records : List Record) (i : ℕ) (r : Record) → AreRecordsOf g records → i < length records → get_or records i r ≡ r → TellsOf g r
+pub tells_at : (g : Graph) (records : List (Record Run)) (i : ℕ) (r : Record Run) → AreRecordsOf g records → i < length records → get_or records i r ≡ r → TellsOf g r
 tells_at g records i r are l is = subst (TellsOf g) is (are.tell i r l)
 
 -- ---- verdicts
@@ -72,7 +70,7 @@ count_cons : {X : Type 0} (p : X → Bool) (x : X) (xs : List X) → count_by p 
 count_cons p x xs = sum_by-cons (λ y. cond {A = ℕ} (p y) 1 0) x xs
 
 -- so many records tell of a deadlocked process as are of one
-counted : (g : Graph) (records : List Record) → IsWithinGraph g → All (TellsOf g) records → count_by tells_deadlocked records ≡ count_by (is_deadlocked g) (map initiator_of records)
+counted : (g : Graph) (records : List (Record Run)) → IsWithinGraph g → All (TellsOf g) records → count_by tells_deadlocked records ≡ count_by (is_deadlocked g) (map initiator_of records)
 counted g [] w tell = refl
 counted g (r ∷ rs) w tell =
     let here = tell zero r (omega arith) in
@@ -103,29 +101,13 @@ count_idle g [] = refl
 count_idle g (p ∷ ps) = count_more g p ps (is_idle g p) refl (count_idle g ps)
 
 -- so many processes are deadlocked as records tell
-pub deadlocked_told : (g : Graph) (records : List Record) → IsWithinGraph g → AreRecordsOf g records → count_by tells_deadlocked records ≡ deadlocked_count g
+pub deadlocked_told : (g : Graph) (records : List (Record Run)) → IsWithinGraph g → AreRecordsOf g records → count_by tells_deadlocked records ≡ deadlocked_count g
 deadlocked_told g records w are =
     counted g records w are.tell
     ∙ ap (count_by (is_deadlocked g)) are.order
     ∙ count_idle g (indices g)
 
 -- ---- shapes
-
--- the process whose shape is a leader is deadlocked, and that is its leader
-pub told_leader : (g : Graph) (p leader : ℕ) (v : Verdict) (s : Shape) → IsVerdict g p v → IsShape g p v s → s ≡ Leader leader → (is_deadlocked g p ≡ true) × (leader ≡ leader_of g p)
-told_leader g p leader Deadlocked (Leader l) is e same = let own : leader ≡ l = cc in (then_test g p is, own ∙ e)
-told_leader g p leader Deadlocked (Path path) is e same = absurd e
-told_leader g p leader Free (Leader l) is e same = absurd e
-told_leader g p leader Free (Path path) is e same = cc
-
--- the process whose shape is a path is free, and that is its chosen path
-pub told_path : (g : Graph) (p : ℕ) (path : Vec ℕ) (v : Verdict) (s : Shape) → IsWithinGraph g → IsVerdict g p v → IsShape g p v s → s ≡ Path path → (is_deadlocked g p ≡ false) × (chosen_path g p ≡ Some path.items)
-told_path g p path Deadlocked (Leader l) w is e same = cc
-told_path g p path Deadlocked (Path other) w is e same = absurd e
-told_path g p path Free (Leader l) w is e same = absurd e
-told_path g p path Free (Path other) w is e same =
-    let own : other ≡ path = cc in
-    (verdict_test g p Free w is, e ∙ ap (λ v. Some v.items) own)
 
 -- ---- leaders
 

@@ -2,6 +2,7 @@
 use Rattle.std.specs.Prelude.{◌≡◌, ℕ, Bool, List, map, All, IsTrue, Option, Some, None}
 use Rattle.cmh_graph.specs.Graph.{Graph, is_idle, idle_list}
 use Rattle.cmh_run.specs.Hints.{IsVerdict}
+use Rattle.cmh_run.specs.Run.{Run}
 use Rattle.cmh_work.specs.declared.record.Analysis.{Analysis}
 use Rattle.cmh_work.specs.declared.record.Record.{Record}
 use Rattle.cmh_work.specs.declared.record.Shape.{Shape}
@@ -11,21 +12,21 @@ use Rattle.cmh_work.specs.Leaders.{says_deadlocked}
 use Rattle.cmh_work.specs.Shape.{IsShape}
 
 -- it is an analysis of this graph, by some choices
-abbrev pub IsSomeAnalysisOf : Graph → Analysis → Type 0
+abbrev pub IsSomeAnalysisOf : Graph → Analysis Run → Type 0
 IsSomeAnalysisOf g a = (choices : List ℕ) × IsAnalysisOf g choices a
 
 -- the verdict and the shape of an idle process are told as they are
-pub record TellsOf (g : Graph) (r : Record) : Type 0 where
+pub record TellsOf (g : Graph) (r : Record Run) : Type 0 where
   pub idle : IsTrue (is_idle g r.initiator)
   pub verdict : IsVerdict g r.initiator r.verdict
   pub shape : IsShape g r.initiator r.verdict r.shape
 
 -- such a record of each idle process, by rising index
-pub record AreRecordsOf (g : Graph) (records : List Record) : Type 0 where
+pub record AreRecordsOf (g : Graph) (records : List (Record Run)) : Type 0 where
   pub order : map initiator_of records ≡ idle_list g
   pub tell : All (TellsOf g) records
 
-abbrev pub tells_deadlocked : Record → Bool
+abbrev pub tells_deadlocked : Record Run → Bool
 tells_deadlocked r = says_deadlocked r.verdict
 
 -- the leader that a shape names

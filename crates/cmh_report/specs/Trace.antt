@@ -11,6 +11,8 @@ use Rattle.cmh_run.specs.declared.fault.RunFault.{RunFault}
 use Rattle.cmh_run.specs.declared.fault.RunFault.TheVariants.{Memory}
 use Rattle.cmh_run.specs.Run.{Run, IsRunOf, IsFirstFault}
 use Rattle.cmh_report.specs.Report.{line}
+use Rattle.cmh_report.specs.declared.fault.AppFault.{AppFault}
+use Rattle.cmh_report.specs.declared.fault.AppFault.TheVariants as app
 
 abbrev pub kind_word : Kind → List ℕ
 kind_word Query = codes "query"
@@ -81,6 +83,13 @@ pub record HasNoRun (name choices : List ℕ) (fault : RunFault) (g : Graph) : T
   pub initiator : ℕ
   pub named : IsFirstNamed g name initiator
   pub cause : (fault ≡ Memory) ⊎ IsFirstFault g initiator choices [] fault
+
+-- why a graph has no trace of that name by these choices: the name, the run, or memory for the text
+abbrev pub IsTraceFault : List ℕ → List ℕ → Graph → AppFault → Type 0
+IsTraceFault name choices g app.NoSuchProcess = NobodyIsNamed g name
+IsTraceFault name choices g (app.Run fault) = HasNoRun name choices fault g
+IsTraceFault name choices g (app.Report fault) = ⊤
+IsTraceFault name choices g fault = ⊥
 
 -- the message goes from a process of the graph to another, or to itself
 abbrev pub IsBetween : Graph → Message → Type 0

@@ -14,8 +14,9 @@ use crate::text::{count_deadlocked, report};
 use cmh_dump::Source;
 use cmh_graph::WaitGraph;
 use cmh_graph::laws::law_built_graph;
+use cmh_run::{NoLog, RunLog};
 use cmh_stream::{Sink, put_all};
-use cmh_work::{Analysis, Gate, Plan, WorkFault, analyse};
+use cmh_work::{Analysis, Gate, Plan, WorkFault, analyse_keeping};
 use std::alloc::Global;
 use std::sync::Wait;
 use std::thread::Threads;
@@ -34,11 +35,11 @@ fn analysed<R: Threads + Wait + Sync, G: Gate>(
     graph: &WaitGraph,
     plan: &Plan,
     gate: &G,
-) -> Result<Analysis, AppFault>
+) -> Result<Analysis<RunLog<NoLog>>, AppFault>
     ensures analysis { IfOk result (IsSomeAnalysisOf graph.now) }
     ensures memory { IfErr result (λ e. e ≡ AppFault.Work WorkFault.Memory) }
 {
-    Ok(analyse(rt, alloc, graph, plan, gate)?)
+    Ok(analyse_keeping(rt, alloc, graph, plan, gate)?)
 }
 
 /// The report on a graph that was analysed. Want of memory is told as the text's.
@@ -47,7 +48,7 @@ fn reported<R: Threads + Sync>(
     rt: &R,
     alloc: Global,
     graph: &WaitGraph,
-    analysis: &Analysis,
+    analysis: &Analysis<RunLog<NoLog>>,
 ) -> Result<Report, AppFault>
     requires { IsSomeAnalysisOf graph.now analysis.now }
     ensures text { IfOk result (λ r. string_bytes r.text ≡ report_text graph.now) }

@@ -53,7 +53,7 @@ fn reached(alloc: Global, graph: &WaitGraph, p: u32) -> Result<Vec<u32>, AllocEr
 }
 
 /// A question to a graph fails for want of memory alone.
-fn out_of_memory(_fault: GraphFault) -> AllocError
+pub(crate) fn out_of_memory(_fault: GraphFault) -> AllocError
     requires { _fault ≡ GraphFault.Memory }
 {
     AllocError

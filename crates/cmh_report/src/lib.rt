@@ -10,6 +10,7 @@ mod input;
 pub mod laws;
 mod lines;
 mod parallel;
+mod paths;
 mod pieces;
 #[cfg(test)]
 mod tests;

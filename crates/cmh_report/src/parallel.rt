@@ -7,15 +7,15 @@ ghost use Rattle.cmh_graph.specs.Core.{leaders};
 ghost use Rattle.cmh_graph.specs.Graph.{idle_list, process_count};
 ghost use Rattle.cmh_report.specs.Group.{AreGroupsOf, is_led_by};
 ghost use Rattle.cmh_report.specs.Lines.{AreLines};
-ghost use Rattle.cmh_report.specs.Records.{AreRecordsOf, TellsOf};
+ghost use Rattle.cmh_report.specs.Paths.{ArePathsOf};
 ghost use Rattle.cmh_report.specs.Report.{line, process_line, group_line};
 
 use crate::group::group_of;
 use crate::groups::Groups;
 use crate::lines::{push_deadlocked, push_free, push_group};
+use crate::paths::Paths;
 use crate::pieces::{group_piece, process_piece};
 use cmh_graph::WaitGraph;
-use cmh_work::{Record, Shape};
 use rayon::prelude::*;
 use std::alloc::{AllocError, Global};
 use std::thread::Threads;
@@ -26,23 +26,25 @@ pub(crate) fn process_lines<R: Threads + Sync>(
     alloc: Global,
     graph: &WaitGraph,
     groups: &Groups,
-    records: &[Record],
+    paths: &Paths,
 ) -> Result<Vec<String>, AllocError>
     requires groups { AreGroupsOf graph.now groups.now }
-    requires records { AreRecordsOf graph.now records.now }
+    requires paths { ArePathsOf graph.now paths.now }
     ensures { IfOk result (λ lines.
         AreLines (reverse (map (process_line graph.now) (idle_list graph.now))) lines.items) }
 {
-    records
+    paths
+        .idle
         .par_iter()
         .rev()
-        .with_min_len(process_piece(records))
+        .with_min_len(process_piece(paths))
         .map(
-            |record: &Record| -> Result<String, AllocError>
-                requires { AreGroupsOf graph.now groups.now × TellsOf graph.now «record».now }
+            |p: &u32| -> Result<String, AllocError>
+                requires { AreGroupsOf graph.now groups.now × ArePathsOf graph.now paths.now
+                    × (p.now < process_count graph.now) }
                 ensures { IfOk result (λ text. string_bytes text
-                    ≡ line (process_line graph.entry.now «record».now.initiator)) }
-            { line_of_process(alloc, graph, groups, record) },
+                    ≡ line (process_line graph.entry.now p.now)) }
+            { line_of_process(alloc, graph, groups, paths, *p) },
         )
         .collect::<Result<Vec<String>, AllocError>>(rt, alloc)?
 }
@@ -74,40 +76,30 @@ pub(crate) fn group_lines<R: Threads + Sync>(
         .collect::<Result<Vec<String>, AllocError>>(rt, alloc)?
 }
 
-/// The line of an idle process.
+/// The line of an idle process, which is free where nobody leads it.
 fn line_of_process(
     alloc: Global,
     graph: &WaitGraph,
     groups: &Groups,
-    record: &Record,
+    paths: &Paths,
+    p: u32,
 ) -> Result<String, AllocError>
     requires groups { AreGroupsOf graph.now groups.now }
-    requires tells { TellsOf graph.now «record».now }
-    ensures { IfOk result (λ text.
-        string_bytes text ≡ line (process_line graph.now «record».now.initiator)) }
+    requires paths { ArePathsOf graph.now paths.now }
+    requires within { p < process_count graph.now }
+    ensures { IfOk result (λ text. string_bytes text ≡ line (process_line graph.now p)) }
 {
     let mut text = String::new(alloc);
-    push_process(&mut text, graph, groups, record)?;
-    Ok(text)
-}
-
-/// Appends the line of an idle process.
-fn push_process(
-    text: &mut String,
-    graph: &WaitGraph,
-    groups: &Groups,
-    record: &Record,
-) -> Result<(), AllocError>
-    requires groups { AreGroupsOf graph.now groups.now }
-    requires tells { TellsOf graph.now «record».now }
-    ensures { OnOk result (string_bytes text.new
-        ≡ string_bytes text.old ++ line (process_line graph.now «record».now.initiator)) }
-{
-    let name = graph.name(record.initiator);
-    match &record.shape {
-        Shape::Leader(leader) => push_deadlocked(text, name, groups.numbers[*leader as usize]),
-        Shape::Path(path) => push_free(text, graph, name, path),
+    match groups.leaders[p as usize] {
+        Some(leader) => {
+            push_deadlocked(&mut text, graph.name(p), groups.numbers[leader as usize])?;
+        }
+        None => {
+            let path = paths.path_of(alloc, graph, p)?;
+            push_free(&mut text, graph, graph.name(p), &path)?;
+        }
     }
+    Ok(text)
 }
 
 /// The line of the group of a leader. The graph is searched once.

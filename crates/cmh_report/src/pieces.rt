@@ -4,21 +4,21 @@
 ghost use Rattle.std.specs.Prelude.{◌<◌, All};
 ghost use Rattle.cmh_graph.specs.Graph.{process_count};
 
+use crate::paths::Paths;
 use cmh_graph::WaitGraph;
-use cmh_work::{Record, Shape};
 
 /// About how many steps, each a few instructions, take as long as a thread takes to start.
 const THREAD_STEPS: usize = 65_536;
 
 /// How few lines of processes are worth a thread: the fewer, the longer their paths are.
-pub(crate) fn process_piece(records: &[Record]) -> usize {
+pub(crate) fn process_piece(paths: &Paths) -> usize {
     let mut names = 0usize;
-    for record in records {
-        if let Shape::Path(path) = &record.shape {
-            names = names.saturating_add(path.len());
+    for distance in &paths.distances {
+        if let Some(distance) = distance {
+            names = names.saturating_add(*distance as usize);
         }
     }
-    piece(records.len(), names)
+    piece(paths.idle.len(), names)
 }
 
 /// How few lines of groups are worth a thread, where each takes a search of the whole graph.

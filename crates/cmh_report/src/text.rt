@@ -7,27 +7,30 @@ ghost use Rattle.cmh_report.specs.Report.{line, counts_line, totals_line, report
 use crate::ReportFault;
 use crate::groups::Groups;
 use crate::parallel::{group_lines, process_lines};
+use crate::paths::Paths;
 use crate::pieces::lines_room;
 use cmh_graph::{Verdict, WaitGraph};
+use cmh_run::{Log, RunLog};
 use cmh_work::{Analysis, Record};
 use std::alloc::{AllocError, Global};
 use std::thread::Threads;
 
 /// The report on a graph that was analysed: a line of counts, a line for each idle process, and a
 /// line for each group of deadlocked processes. The analysis is of this graph. The graph is searched
-/// once for each group; the rest takes time close to linear in the processes and in the text. Where
-/// there is much to do, the lines are made by as many threads as there are processors. Memory is
-/// taken for the lines and for the whole text; a line is given back once it stands in the text.
+/// once for each group and once for all distances, by which each path is walked; the rest takes time
+/// close to linear in the processes and in the text. Where there is much to do, the lines are made by
+/// as many threads as there are processors. Memory is taken for the lines and for the whole text; a
+/// line is given back once it stands in the text.
 ///
 /// # Errors
 ///
 /// `Memory` where memory is refused.
 #[tactic(auto, using(crate::proofs::Records::analysed))]
-pub fn report<R: Threads + Sync>(
+pub fn report<L: Log, R: Threads + Sync>(
     rt: &R,
     alloc: Global,
     graph: &WaitGraph,
-    analysis: &Analysis,
+    analysis: &Analysis<RunLog<L>>,
 ) -> Result<String, ReportFault>
     requires { IsSomeAnalysisOf graph.now analysis.now }
     ensures { IfOk result (λ text. string_bytes text ≡ report_text graph.now) }
@@ -36,24 +39,25 @@ pub fn report<R: Threads + Sync>(
 }
 
 /// The report, by the records.
-fn text_of<R: Threads + Sync>(
+fn text_of<L: Log, R: Threads + Sync>(
     rt: &R,
     alloc: Global,
     graph: &WaitGraph,
-    records: &[Record],
+    records: &[Record<RunLog<L>>],
 ) -> Result<String, AllocError>
     requires { AreRecordsOf graph.now records.now }
     ensures { IfOk result (λ text. string_bytes text ≡ report_text graph.now) }
 {
     let groups = Groups::of_records(alloc, graph, records)?;
     let first = totals(alloc, graph, records)?;
-    let of_processes = process_lines(rt, alloc, graph, &groups, records)?;
+    let paths = Paths::of_graph(alloc, graph)?;
+    let of_processes = process_lines(rt, alloc, graph, &groups, &paths)?;
     let of_groups = group_lines(rt, alloc, graph, &groups)?;
     joined(alloc, &first, of_processes, of_groups)
 }
 
 /// How many processes the records tell to be deadlocked.
-pub(crate) fn count_deadlocked(records: &[Record]) -> u32
+pub(crate) fn count_deadlocked<L: Log>(records: &[Record<RunLog<L>>]) -> u32
     requires { length records.now < 2 ^ 32 }
     ensures { result ≡ count_by tells_deadlocked records.now }
 {
@@ -83,7 +87,11 @@ fn counts(
 
 /// The first line.
 #[tactic(auto, using(crate::proofs::Counts::active_and_idle))]
-fn totals(alloc: Global, graph: &WaitGraph, records: &[Record]) -> Result<String, AllocError>
+fn totals<L: Log>(
+    alloc: Global,
+    graph: &WaitGraph,
+    records: &[Record<RunLog<L>>],
+) -> Result<String, AllocError>
     requires { AreRecordsOf graph.now records.now }
     ensures { IfOk result (λ text. string_bytes text ≡ line (totals_line graph.now)) }
 {

@@ -8,7 +8,7 @@ ghost use Rattle.cmh_run.specs.declared.fault.RunFault.{RunFault};
 ghost use Rattle.cmh_report.specs.Ends.{GaveGraph, IsAnswer, IsCutShort, IsRefused};
 ghost use Rattle.cmh_report.specs.Fault.{IfDump, IfNoSuchProcess, IfRun, IfUnwritten, IfWork, IfWriteFault};
 ghost use Rattle.cmh_report.specs.Report.{line};
-ghost use Rattle.cmh_report.specs.Trace.{ending_lines, message_line, trace_text, HasLines, HasNoRun, IsBetween, IsEndedTrace, IsFirstNamed, IsPlainRun, IsSomeTrace, NobodyIsNamed};
+ghost use Rattle.cmh_report.specs.Trace.{ending_lines, message_line, trace_text, HasLines, HasNoRun, IsBetween, IsEndedTrace, IsFirstNamed, IsPlainRun, IsSomeTrace, IsTraceFault, NobodyIsNamed};
 
 use crate::fault::{AppFault, ReportFault};
 use crate::input::read_graph;
@@ -19,6 +19,13 @@ use cmh_process::{Kind, Message};
 use cmh_run::{Ending, NoHints, RunLog, run};
 use cmh_stream::{Sink, put_all};
 use std::alloc::{AllocError, Global};
+
+/// The trace of a run, and how the run has ended.
+#[derive(Drop)]
+struct EndedTrace {
+    text: String,
+    ending: Ending,
+}
 
 /// Reads a dump from the source up to its end, runs the computation of the process of that name by
 /// the choices and without hints, writes its trace to the sink, and answers how the run ended. The
@@ -67,13 +74,32 @@ pub fn trace_bytes<S: Source, K: Sink>(
     ensures at_most { GaveAtMost (MAX_BYTES + 1) (S.given source.old) (S.given source.new) }
 {
     let graph = read_graph(alloc, source)?;
-    let Some(initiator) = find_process(&graph, name) else {
+    let trace = trace_of(alloc, &graph, name, choices)?;
+    put_all(sink, trace.text.as_bytes())?;
+    Ok(trace.ending)
+}
+
+/// The trace of the process of that name.
+fn trace_of(
+    alloc: Global,
+    graph: &WaitGraph,
+    name: &str,
+    choices: &[u64],
+) -> Result<EndedTrace, AppFault>
+    ensures trace { IfOk result (λ t.
+        IsEndedTrace name.now choices.now t.ending graph.now (string_bytes t.text)) }
+    ensures never_cut { IfOk result (λ t. (k : ℕ) → t.ending ≢ Ending.CutFree k) }
+    ensures fault { IfErr result (IsTraceFault name.now choices.now graph.now) }
+{
+    let Some(initiator) = find_process(graph, name) else {
         return Err(AppFault::NoSuchProcess);
     };
-    let run = plain_run(alloc, &graph, initiator, choices)?;
-    let text = traced(alloc, &graph, &run)?;
-    put_all(sink, text.as_bytes())?;
-    Ok(run.ending())
+    let run = plain_run(alloc, graph, initiator, choices)?;
+    let text = traced(alloc, graph, &run)?;
+    Ok(EndedTrace {
+        text,
+        ending: run.ending(),
+    })
 }
 
 /// The first process of that name.

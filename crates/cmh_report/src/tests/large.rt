@@ -1,7 +1,11 @@
 //! Reports at full size, beside the lines of the format made one by one.
 
-use super::report_of;
+use super::{page, report_of};
+use crate::{AppFault, analyse_bytes};
+use cmh_dump::DumpFault;
 use cmh_graph::{GraphFault, Part, State, WaitGraph};
+use cmh_stream::{ReadOf, WriteOf};
+use cmh_work::{NoGate, Plan};
 use std::alloc::{AllocError, Global};
 use std::sync::Wait;
 use std::test::Fail;
@@ -16,6 +20,8 @@ enum Family {
     Knot,
     /// Each waits for the next, and the last for nobody.
     Chain,
+    /// Each waits for the 16 after it, and where there aren't so many, for the first 16.
+    Woven,
 }
 
 /// The places from the first number on and below the second.
@@ -28,13 +34,17 @@ fn dependents(family: Family, count: u32, p: u32) -> Span {
         Family::Alone => NOBODY,
         Family::Knot => (0, count),
         Family::Chain => (p.saturating_add(1), p.saturating_add(2).min(count)),
+        Family::Woven if p.saturating_add(16) < count => {
+            (p.saturating_add(1), p.saturating_add(17))
+        }
+        Family::Woven => (0, 16),
     }
 }
 
 /// The core of the group of this number, from 0.
 fn core(family: Family, count: u32, number: u32) -> Span {
     match family {
-        Family::Knot => (0, count),
+        Family::Knot | Family::Woven => (0, count),
         Family::Alone | Family::Chain => (number, number.saturating_add(1)),
     }
 }
@@ -42,14 +52,14 @@ fn core(family: Family, count: u32, number: u32) -> Span {
 /// The rest of that group.
 fn rest(family: Family, count: u32, number: u32) -> Span {
     match family {
-        Family::Alone | Family::Knot => NOBODY,
+        Family::Alone | Family::Knot | Family::Woven => NOBODY,
         Family::Chain => (number.saturating_add(1), count),
     }
 }
 
 fn group_count(family: Family, count: u32) -> u32 {
     match family {
-        Family::Knot => 1,
+        Family::Knot | Family::Woven => 1,
         Family::Alone | Family::Chain => count,
     }
 }
@@ -78,7 +88,7 @@ fn graph_of(alloc: Global, family: Family, count: u32) -> Result<WaitGraph, Grap
 
 fn process_line(alloc: Global, family: Family, p: u32) -> Result<String, AllocError> {
     let number = match family {
-        Family::Knot => 1,
+        Family::Knot | Family::Woven => 1,
         Family::Alone | Family::Chain => p.saturating_add(1),
     };
     format!(in alloc; "deadlocked process-{p} group {number}\n")
@@ -187,5 +197,97 @@ fn each_waits_for_all(rt: HostRuntime) -> Result<(), Fail> {
 #[test]
 fn each_waits_for_the_next(rt: HostRuntime) -> Result<(), Fail> {
     assert_eq!(rt; length_of(&rt, Family::Chain, 4_096)?, Some(108_815_411));
+    Ok(())
+}
+
+/// A dump of so many processes.
+fn dump_of(alloc: Global, family: Family, count: u32) -> Result<String, AllocError> {
+    let mut dump = String::from_str(alloc, "{\"version\":1,\"sites\":[\"a\"],\"processes\":[")?;
+    for p in 0..count {
+        let comma = if p == 0 { "" } else { "," };
+        write!(
+            dump,
+            "{comma}{{\"name\":\"process-{p}\",\"site\":\"a\",\"state\":\"idle\","
+        )?;
+        dump.push_str("\"dependents\":[")?;
+        push_quoted(&mut dump, dependents(family, count, p))?;
+        dump.push_str("]}")?;
+    }
+    dump.push_str("]}")?;
+    Ok(dump)
+}
+
+fn push_quoted(dump: &mut String, span: Span) -> Result<(), AllocError> {
+    for p in span.0..span.1 {
+        let comma = if p == span.0 { "" } else { "," };
+        write!(dump, "{comma}\"process-{p}\"")?;
+    }
+    Ok(())
+}
+
+/// Whether so many workers make the report of the dump, from end to end.
+fn reports_by<R: AllocGlobal + Threads + Wait + Sync>(
+    rt: &R,
+    dump: &str,
+    family: Family,
+    count: u32,
+    workers: u32,
+) -> Result<bool, Fail> {
+    let alloc = rt.alloc();
+    let plan = Plan::new(alloc, workers, &[64; 64], &[])?;
+    let mut out = page(alloc, 1_000_000);
+    let answer = analyse_bytes(
+        rt,
+        alloc,
+        &mut ReadOf::new(dump.as_bytes()),
+        &mut WriteOf::new(&mut out),
+        &plan,
+        &NoGate,
+    );
+    let Ok(text) = str::from_utf8(&out.bytes) else {
+        return Ok(false);
+    };
+    Ok(answer == Ok(count) && is_report(alloc, text, family, count)?)
+}
+
+#[test]
+fn dumps_with_as_many_parts_as_there_may_be(rt: HostRuntime) -> Result<(), Fail> {
+    let rows = [
+        (Family::Alone, 4_096),
+        (Family::Knot, 256),
+        (Family::Woven, 4_096),
+    ];
+    for (family, count) in rows {
+        let dump = dump_of(rt.alloc(), family, count)?;
+        for workers in [1, 64] {
+            assert!(rt;
+                reports_by(&rt, &dump, family, count, workers)?,
+                "{count} by {workers}"
+            );
+        }
+    }
+    Ok(())
+}
+
+/// The longest dump is that of the knot, with blanks behind it.
+#[test]
+fn a_dump_of_all_bytes(rt: HostRuntime) -> Result<(), Fail> {
+    let mut dump = dump_of(rt.alloc(), Family::Knot, 256)?;
+    for _ in dump.len()..8_388_608 {
+        dump.push(' ')?;
+    }
+    assert!(rt; reports_by(&rt, &dump, Family::Knot, 256, 4)?);
+    dump.push(' ')?;
+    let mut out = page(rt.alloc(), 1_000);
+    let answer = analyse_bytes(
+        &rt,
+        rt.alloc(),
+        &mut ReadOf::new(dump.as_bytes()),
+        &mut WriteOf::new(&mut out),
+        &Plan::new(rt.alloc(), 4, &[], &[])?,
+        &NoGate,
+    );
+    assert_eq!(rt; answer, Err(AppFault::Dump(DumpFault::TooLong)));
+    assert!(rt; out.bytes.is_empty());
     Ok(())
 }

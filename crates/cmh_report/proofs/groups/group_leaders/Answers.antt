@@ -1,11 +1,20 @@
-use Rattle.std.proofs.Common.{◌∙◌, arith, sym}
+use Rattle.std.proofs.Common.{◌∙◌, arith, rules, sym}
 use Rattle.cmh_graph.specs.Graph.{idle_list}
 use Rattle.cmh_graph.proofs.Verdicts.{idle_within}
-use Rattle.cmh_report.proofs.Records.{initiator_at, leaders_all, leaders_more, records_count, shape_leader, tells_at}
+use Rattle.cmh_report.proofs.Records.{initiator_at, leaders_all, leaders_more, leaders_none, records_count, shape_leader, tells_at}
 use Rattle.cmh_report.proofs.groups.group_leaders.Goals as goal
 
+pub loop-record-init : goal.loop-record-init
+loop-record-init _ c =
+    leaders_none c.args.graph.now c.len.result c.in_ok-leaders.leaders.items c.len.ensures.count (search rules) (search rules)
+
+pub index_mut-requires : goal.index_mut-requires
+index_mut-requires _ c =
+    let tells = tells_at c.args.graph.now c.args.records.now c.loop-record.record-index c.record-item.result c.requires c.loop-record-test.true (sym c.record-item.is) in
+    omega (arith, c.loop-record.invariant.size, idle_within c.args.graph.now c.record-item.result.initiator tells.idle)
+
 pub loop-record-preserved : goal.loop-record-preserved
-loop-record-preserved c =
+loop-record-preserved _ c =
     let g = c.args.graph.now in
     let i = c.loop-record.record-index in
     let r = c.record-item.result in
@@ -19,7 +28,7 @@ loop-record-preserved c =
     c.loop-record.invariant
 
 pub returns-clause-leaders : goal.returns-clause-leaders
-returns-clause-leaders c =
+returns-clause-leaders _ c =
     leaders_all c.args.graph.now c.loop-record.record-index _
     (omega (arith, c.loop-record-test.false, records_count c.args.graph.now c.args.records.now c.requires))
     c.loop-record.invariant

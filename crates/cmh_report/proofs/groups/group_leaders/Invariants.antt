@@ -4,4 +4,4 @@ use Rattle.cmh_report.proofs.Records.{AreLeadersOf}
 use Rattle.cmh_report.proofs.groups.group_leaders.Given as goal
 
 abbrev pub invariant-loop-record : goal.invariant-loop-record
-invariant-loop-record l = AreLeadersOf l.graph (take l.record-index (idle_list l.graph)) l.leaders.items
+invariant-loop-record _ l = AreLeadersOf l.graph (take l.record-index (idle_list l.graph)) l.leaders.items

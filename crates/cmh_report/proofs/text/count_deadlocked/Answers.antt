@@ -7,7 +7,7 @@ use Rattle.cmh_report.proofs.text.count_deadlocked.Goals as goal
 use Rattle.cmh_report.proofs.text.count_deadlocked.Goals.{in-Deadlocked, in-Free}
 
 pub loop-record-preserved : goal.loop-record-preserved
-loop-record-preserved c =
+loop-record-preserved _ c =
     let rs = c.args.records.now in
     let i = c.loop-record.record-index in
     let r = c.record-item.result in
@@ -21,6 +21,6 @@ loop-record-preserved c =
     ]
 
 pub returns : goal.returns
-returns c =
+returns _ c =
     c.loop-record.invariant
     ∙ ap (count_by tells_deadlocked) (take_all c.loop-record.record-index c.args.records.now (omega arith))

@@ -5,16 +5,16 @@ use Rattle.cmh_report.proofs.Records.{deadlocked_told, records_count, records_fe
 use Rattle.cmh_report.proofs.text.totals.Goals as goal
 
 pub overflow_cast-idle : goal.overflow_cast-idle
-overflow_cast-idle c = omega (arith, records_few c.args.graph.now c.args.records.now c.requires, c.len-all.ensures.count, c.len-all.type_inv)
+overflow_cast-idle _ c = omega (arith, records_few c.args.graph.now c.args.records.now c.requires, c.len-all.ensures.count, c.len-all.type_inv)
 
 pub overflow_sub-all : goal.overflow_sub-all
-overflow_sub-all c = omega (arith, records_few c.args.graph.now c.args.records.now c.requires, c.len-all.ensures.count)
+overflow_sub-all _ c = omega (arith, records_few c.args.graph.now c.args.records.now c.requires, c.len-all.ensures.count)
 
 pub count_deadlocked-requires : goal.count_deadlocked-requires
-count_deadlocked-requires c = omega (arith, records_few c.args.graph.now c.args.records.now c.requires, c.len-all.ensures.count, c.len-all.type_inv)
+count_deadlocked-requires _ c = omega (arith, records_few c.args.graph.now c.args.records.now c.requires, c.len-all.ensures.count, c.len-all.type_inv)
 
 pub returns : goal.returns
-returns c =
+returns _ c =
     let g = c.args.graph.now in
     let rs = c.args.records.now in
     let well = c.len-all.ensures.well_formed.within in

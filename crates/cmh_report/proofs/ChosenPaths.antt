@@ -1,8 +1,11 @@
 -- Chosen paths.
-use Rattle.std.proofs.Common.{◌≡◌, ℕ, zero, suc, ◌<◌, List, [], ◌∷◌, arith, sym, subst}
+use Rattle.std.proofs.Common.{◌≡◌, ◌∙◌, ℕ, zero, suc, ◌<◌, false, List, [], ◌∷◌, arith, sym, subst}
+use Rattle.std.proofs.lemmas.Bool.{true≢false}
 use Rattle.std.specs.Prelude.{All, Some}
 use Rattle.cmh_graph.specs.ChosenPath.{chosen_path, IsWayOut}
 use Rattle.cmh_graph.specs.Graph.{Graph, process_count, IsWithinGraph}
+use Rattle.cmh_graph.specs.Verdict.{is_deadlocked, IsDeadlocked}
+use Rattle.cmh_graph.proofs.Verdicts.{then_test}
 use Rattle.cmh_graph.proofs.Choosing.{chosen_path_law}
 use Rattle.cmh_graph.proofs.Reaching.{AllBelow, within}
 
@@ -21,3 +24,7 @@ way_within g p (x ∷ rest) w i (q, awake, (e, leads)) =
 -- a chosen path goes along processes of the graph
 pub path_within : (g : Graph) (p : ℕ) (path : List ℕ) → IsWithinGraph g → p < process_count g → chosen_path g p ≡ Some path → All (λ q. q < process_count g) path
 path_within g p path w i e = way_within g p path w i ((chosen_path_law g p path w i).0 e).awake
+
+-- who isn't found deadlocked isn't deadlocked
+pub not_deadlocked : (g : Graph) (p : ℕ) → is_deadlocked g p ≡ false → ¬ (IsDeadlocked g p)
+not_deadlocked g p free dead = true≢false (sym (then_test g p dead) ∙ free)
