@@ -2,6 +2,7 @@
 
 mod cases;
 mod devices;
+mod full;
 mod input;
 mod limits;
 mod memory;
