@@ -11,21 +11,21 @@ ghost use Rattle.cmh_run.specs.contracts.delivery.EndingPartialEq.TheImpl as end
 ghost use Rattle.cmh_run.specs.contracts.delivery.EndingEq.TheImpl.Laws as ending_laws;
 ghost use Rattle.cmh_run.specs.Run.{verdict_of};
 
-use crate::{Delivery, Ending, Log};
+use crate::{Delivery, Ending, Log, ProcessList};
 use cmh_graph::Verdict;
 use std::marker::Model;
 
-/// A run that has ended, with its deliveries in a log of this kind.
+/// A run that has ended, with its deliveries in a log of this kind, and who engaged in such a list.
 #[derive(Clone, Debug, Drop)]
-pub struct RunLog<L: Log = Vec<Delivery>> {
+pub struct RunLog<L: Log = Vec<Delivery>, E: ProcessList = Vec<u32>> {
     pub(crate) initiator: u32,
     pub(crate) log: L,
     pub(crate) ending: Ending,
-    pub(crate) engaged: Vec<u32>,
+    pub(crate) engaged: E,
     pub(crate) restarted: u32,
 }
 
-impl<L: Log> Model for RunLog<L> {
+impl<L: Log, E: ProcessList> Model for RunLog<L, E> {
     ghost use Rattle.cmh_run.specs.Run.{Run};
 
     ghost Value = { Run };
@@ -34,12 +34,12 @@ impl<L: Log> Model for RunLog<L> {
       initiator = r.initiator;
       log = L.deliveries r.log;
       ending = r.ending;
-      engaged = r.engaged.items;
+      engaged = E.processes r.engaged;
       restarted = r.restarted;
     } };
 }
 
-impl<L: Log> RunLog<L> {
+impl<L: Log, E: ProcessList> RunLog<L, E> {
     pub fn initiator(&self) -> u32
         ensures { result ≡ self.now.initiator }
     {
@@ -50,14 +50,6 @@ impl<L: Log> RunLog<L> {
         ensures { result ≡ self.now.ending }
     {
         self.ending
-    }
-
-    /// Who engaged in the computation of the last start, in order: nobody where the initiator is
-    /// awake, else the initiator first.
-    pub fn engaged(&self) -> &[u32]
-        ensures { result.now ≡ self.now.engaged }
-    {
-        &self.engaged
     }
 
     /// How often the initiator started again.
@@ -74,6 +66,36 @@ impl<L: Log> RunLog<L> {
         match self.ending {
             Ending::Declared => Verdict::Deadlocked,
             Ending::AtRest | Ending::CutFree(_) => Verdict::Free,
+        }
+    }
+}
+
+impl<L: Log> RunLog<L> {
+    /// Who engaged in the computation of the last start, in order: nobody where the initiator is
+    /// awake, else the initiator first.
+    pub fn engaged(&self) -> &[u32]
+        ensures { result.now ≡ self.now.engaged }
+    {
+        &self.engaged
+    }
+
+    /// The same run, with who engaged in a list of any kind.
+    pub fn keeping<E: ProcessList>(self) -> RunLog<L, E>
+        ensures { result ≡ self }
+    {
+        let RunLog {
+            initiator,
+            log,
+            ending,
+            engaged,
+            restarted,
+        } = self;
+        RunLog {
+            initiator,
+            log,
+            ending,
+            engaged: E::of(engaged),
+            restarted,
         }
     }
 }

@@ -1,7 +1,7 @@
-//! The deliveries that were made. They exist only in proofs.
+//! The deliveries that were made, and processes that were named. They exist only in proofs.
 
-ghost use Rattle.std.specs.Prelude.{◌≡◌, List, [], ◌∷◌, ◌++◌};
-ghost use Rattle.std.specs.Coded.{coded_list};
+ghost use Rattle.std.specs.Prelude.{◌≡◌, ℕ, List, [], ◌∷◌, ◌++◌};
+ghost use Rattle.std.specs.Coded.{coded_list, coded_ℕ};
 ghost use Rattle.std.specs.Borrow.{ftrue};
 ghost use Rattle.cmh_run.specs.declared.delivery.Delivery.{Delivery};
 ghost use Rattle.cmh_run.specs.Tape.{delivery_code};
@@ -9,7 +9,7 @@ ghost use Rattle.cmh_run.specs.Tape.{delivery_code};
 use crate::Delivery;
 use std::marker::Model;
 
-// It has no bytes of its own, and its methods do nothing when they run.
+// Neither has bytes of its own, and their methods do nothing when they run.
 #[derive(Drop)]
 pub(crate) struct Tape {
     ghost deliveries: { List Delivery } by { coded_list delivery_code },
@@ -30,5 +30,22 @@ impl Tape {
         ensures { result.deliveries ≡ self.now.deliveries ++ _delivery.now ∷ [] }
     {
         Tape {}
+    }
+}
+
+#[derive(Drop)]
+pub(crate) struct ListTape {
+    ghost processes: { List ℕ } by { coded_list coded_ℕ },
+}
+
+impl Model for ListTape {
+    ghost also_owns = { λ _. ftrue };
+}
+
+impl ListTape {
+    pub(crate) fn of(_processes: &[u32]) -> ListTape
+        ensures { result.processes ≡ _processes.now }
+    {
+        ListTape {}
     }
 }
