@@ -14,7 +14,7 @@ use crate::text::{count_deadlocked, report};
 use cmh_dump::Source;
 use cmh_graph::WaitGraph;
 use cmh_graph::laws::law_built_graph;
-use cmh_run::{NoLog, RunLog};
+use cmh_run::{NoList, NoLog, RunLog};
 use cmh_stream::{Sink, put_all};
 use cmh_work::{Analysis, Gate, Plan, WorkFault, analyse_keeping};
 use std::alloc::Global;
@@ -35,7 +35,7 @@ fn analysed<R: Threads + Wait + Sync, G: Gate>(
     graph: &WaitGraph,
     plan: &Plan,
     gate: &G,
-) -> Result<Analysis<RunLog<NoLog>>, AppFault>
+) -> Result<Analysis<RunLog<NoLog, NoList>>, AppFault>
     ensures analysis { IfOk result (IsSomeAnalysisOf graph.now) }
     ensures memory { IfErr result (λ e. e ≡ AppFault.Work WorkFault.Memory) }
 {
@@ -48,7 +48,7 @@ fn reported<R: Threads + Sync>(
     rt: &R,
     alloc: Global,
     graph: &WaitGraph,
-    analysis: &Analysis<RunLog<NoLog>>,
+    analysis: &Analysis<RunLog<NoLog, NoList>>,
 ) -> Result<Report, AppFault>
     requires { IsSomeAnalysisOf graph.now analysis.now }
     ensures text { IfOk result (λ r. string_bytes r.text ≡ report_text graph.now) }

@@ -9,7 +9,7 @@ ghost use Rattle.cmh_report.specs.Group.{is_led_by, leaders_up_to};
 ghost use Rattle.cmh_report.specs.Records.{AreRecordsOf, leader_in};
 
 use cmh_graph::WaitGraph;
-use cmh_run::{Log, RunLog};
+use cmh_run::{Log, ProcessList, RunLog};
 use cmh_work::{Record, Shape};
 use std::alloc::{AllocError, Global};
 
@@ -28,10 +28,10 @@ impl Groups {
     ghost use Rattle.cmh_report.specs.Group.{AreGroupsOf};
 
     /// The groups that the records name. The graph isn't searched.
-    pub(crate) fn of_records<L: Log>(
+    pub(crate) fn of_records<L: Log, E: ProcessList>(
         alloc: Global,
         graph: &WaitGraph,
-        records: &[Record<RunLog<L>>],
+        records: &[Record<RunLog<L, E>>],
     ) -> Result<Groups, AllocError>
         requires { AreRecordsOf graph.now records.now }
         ensures { IfOk result (AreGroupsOf graph.now) }
@@ -48,10 +48,10 @@ impl Groups {
 }
 
 /// For each process the leader of its group, if it is deadlocked.
-fn group_leaders<L: Log>(
+fn group_leaders<L: Log, E: ProcessList>(
     alloc: Global,
     graph: &WaitGraph,
-    records: &[Record<RunLog<L>>],
+    records: &[Record<RunLog<L, E>>],
 ) -> Result<Vec<Option<u32>>, AllocError>
     requires { AreRecordsOf graph.now records.now }
     ensures leaders { IfOk result (λ list.

@@ -10,7 +10,7 @@ use crate::parallel::{group_lines, process_lines};
 use crate::paths::Paths;
 use crate::pieces::lines_room;
 use cmh_graph::{Verdict, WaitGraph};
-use cmh_run::{Log, RunLog};
+use cmh_run::{Log, ProcessList, RunLog};
 use cmh_work::{Analysis, Record};
 use std::alloc::{AllocError, Global};
 use std::thread::Threads;
@@ -26,11 +26,11 @@ use std::thread::Threads;
 ///
 /// `Memory` where memory is refused.
 #[tactic(auto, using(crate::proofs::Records::analysed))]
-pub fn report<L: Log, R: Threads + Sync>(
+pub fn report<L: Log, E: ProcessList, R: Threads + Sync>(
     rt: &R,
     alloc: Global,
     graph: &WaitGraph,
-    analysis: &Analysis<RunLog<L>>,
+    analysis: &Analysis<RunLog<L, E>>,
 ) -> Result<String, ReportFault>
     requires { IsSomeAnalysisOf graph.now analysis.now }
     ensures { IfOk result (λ text. string_bytes text ≡ report_text graph.now) }
@@ -39,11 +39,11 @@ pub fn report<L: Log, R: Threads + Sync>(
 }
 
 /// The report, by the records.
-fn text_of<L: Log, R: Threads + Sync>(
+fn text_of<L: Log, E: ProcessList, R: Threads + Sync>(
     rt: &R,
     alloc: Global,
     graph: &WaitGraph,
-    records: &[Record<RunLog<L>>],
+    records: &[Record<RunLog<L, E>>],
 ) -> Result<String, AllocError>
     requires { AreRecordsOf graph.now records.now }
     ensures { IfOk result (λ text. string_bytes text ≡ report_text graph.now) }
@@ -57,7 +57,7 @@ fn text_of<L: Log, R: Threads + Sync>(
 }
 
 /// How many processes the records tell to be deadlocked.
-pub(crate) fn count_deadlocked<L: Log>(records: &[Record<RunLog<L>>]) -> u32
+pub(crate) fn count_deadlocked<L: Log, E: ProcessList>(records: &[Record<RunLog<L, E>>]) -> u32
     requires { length records.now < 2 ^ 32 }
     ensures { result ≡ count_by tells_deadlocked records.now }
 {
@@ -87,10 +87,10 @@ fn counts(
 
 /// The first line.
 #[tactic(auto, using(crate::proofs::Counts::active_and_idle))]
-fn totals<L: Log>(
+fn totals<L: Log, E: ProcessList>(
     alloc: Global,
     graph: &WaitGraph,
-    records: &[Record<RunLog<L>>],
+    records: &[Record<RunLog<L, E>>],
 ) -> Result<String, AllocError>
     requires { AreRecordsOf graph.now records.now }
     ensures { IfOk result (λ text. string_bytes text ≡ line (totals_line graph.now)) }

@@ -9,14 +9,13 @@ use Rattle.std.proofs.Math.Seq.{drop-cons}
 use Rattle.cmh_graph.specs.declared.verdict.Verdict.{Verdict}
 use Rattle.cmh_rw.specs.declared.row.Row.{Row}
 use Rattle.cmh_rw.specs.History.{fold_at}
-use Rattle.cmh_run.specs.Run.{Run}
 use Rattle.cmh_work.specs.declared.finding.Finding.{Finding}
 use Rattle.cmh_work.specs.declared.record.Record.{Record}
 use Rattle.cmh_work.specs.Record.{IsRowFor}
 use Rattle.cmh_work.specs.Numbering.{IsNumbered, AreNumbered}
 
 -- a finding and its record more
-pub numbered_more : (rows : List Row) (fs : List (Finding Run)) (rs : List (Record Run)) (f : Finding Run) (r : Record Run) → AreNumbered rows fs rs → IsNumbered rows f r → AreNumbered rows (fs ++ f ∷ []) (rs ++ r ∷ [])
+pub numbered_more : {R : Type 0} (rows : List Row) (fs : List (Finding R)) (rs : List (Record R)) (f : Finding R) (r : Record R) → AreNumbered rows fs rs → IsNumbered rows f r → AreNumbered rows (fs ++ f ∷ []) (rs ++ r ∷ [])
 numbered_more rows [] [] f r h k = (k, tt)
 numbered_more rows [] (x ∷ xs) f r h k = absurd h
 numbered_more rows (y ∷ ys) [] f r h k = absurd h

@@ -1,7 +1,6 @@
 -- Findings as they are given out, once the history is closed.
 use Rattle.std.specs.Prelude.{◌≡◌, ℕ, List, [], ◌∷◌, Option, Some, None}
 use Rattle.cmh_graph.specs.declared.verdict.Verdict.{Verdict}
-use Rattle.cmh_run.specs.Run.{Run}
 use Rattle.cmh_rw.specs.declared.row.Row.{Row}
 use Rattle.cmh_rw.specs.History.{fold_at}
 use Rattle.cmh_work.specs.declared.finding.Finding.{Finding}
@@ -11,24 +10,24 @@ use Rattle.cmh_work.specs.declared.record.Origin.TheVariants.{FromRun, FromBoard
 use Rattle.cmh_work.specs.Record.{IsRowFor}
 
 -- what was found stands in the history
-abbrev pub Stands : List Row → Finding Run → Type 0
+abbrev pub Stands : {R : Type 0} → List Row → Finding R → Type 0
 Stands history f = fold_at history f.initiator ≡ Some f.verdict
 
 -- the run of a finding is kept, and where there is none, the row is named
-abbrev pub IsNamed : List Row → ℕ → Verdict → Option Run → Origin Run → Type 0
+abbrev pub IsNamed : {R : Type 0} → List Row → ℕ → Verdict → Option R → Origin R → Type 0
 IsNamed history p verdict (Some run) source = source ≡ FromRun run
 IsNamed history p verdict None source =
     (n : ℕ) × (source ≡ FromBoard n) × IsRowFor history n p verdict
 
 -- the record tells what was found
-pub record IsNumbered (history : List Row) (f : Finding Run) (r : Record Run) : Type 0 where
+pub record IsNumbered {R : Type 0} (history : List Row) (f : Finding R) (r : Record R) : Type 0 where
   pub initiator : r.initiator ≡ f.initiator
   pub verdict : r.verdict ≡ f.verdict
   pub shape : r.shape ≡ f.shape
   pub source : IsNamed history f.initiator f.verdict f.run r.source
 
 -- each record tells what was found at its place
-abbrev pub AreNumbered : List Row → List (Finding Run) → List (Record Run) → Type 0
+abbrev pub AreNumbered : {R : Type 0} → List Row → List (Finding R) → List (Record R) → Type 0
 AreNumbered history [] [] = Unit {0}
 AreNumbered history [] (r ∷ rs) = ⊥
 AreNumbered history (f ∷ fs) [] = ⊥

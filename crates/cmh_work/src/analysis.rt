@@ -17,7 +17,7 @@ use crate::{Gate, Plan, WorkFault};
 use cmh_board::Board;
 use cmh_graph::WaitGraph;
 use cmh_graph::laws::law_built_graph;
-use cmh_run::{Log, RunLog};
+use cmh_run::{Log, ProcessList, RunLog};
 use std::alloc::Global;
 use std::sync::Wait;
 use std::thread::Threads;
@@ -54,13 +54,13 @@ pub fn analyse<R: Threads + Wait + Sync, P: Gate>(
 /// # Errors
 ///
 /// As `analyse`.
-pub fn analyse_keeping<L: Log + Send, R: Threads + Wait + Sync, P: Gate>(
+pub fn analyse_keeping<L: Log + Send, E: ProcessList + Send, R: Threads + Wait + Sync, P: Gate>(
     rt: &R,
     alloc: Global,
     graph: &WaitGraph,
     plan: &Plan,
     gate: &P,
-) -> Result<Analysis<RunLog<L>>, WorkFault>
+) -> Result<Analysis<RunLog<L, E>>, WorkFault>
     ensures ok { IfOk result (IsAnalysisOf graph.now plan.now.choices) }
     ensures memory { IfErr result (λ e. e ≡ WorkFault.Memory) }
 {
@@ -83,7 +83,7 @@ pub fn analyse_keeping<L: Log + Send, R: Threads + Wait + Sync, P: Gate>(
 }
 
 /// The analysis, by workers that share this.
-fn finish<L: Log + Send, R: Threads + Wait + Sync, P: Gate>(
+fn finish<L: Log + Send, E: ProcessList + Send, R: Threads + Wait + Sync, P: Gate>(
     rt: &R,
     alloc: Global,
     graph: &WaitGraph,
@@ -91,7 +91,7 @@ fn finish<L: Log + Send, R: Threads + Wait + Sync, P: Gate>(
     shared: Shared,
     gate: &P,
     seats: Seats,
-) -> Result<Analysis<RunLog<L>>, WorkFault>
+) -> Result<Analysis<RunLog<L, E>>, WorkFault>
     requires made { IsMadeFor graph.now plan.now shared }
     requires sit { Sit shared seats }
     requires new { AreNew seats }

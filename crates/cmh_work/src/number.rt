@@ -10,7 +10,6 @@ use crate::WorkFault;
 use crate::finding::Finding;
 use crate::record::{Origin, Record};
 use cmh_board::Row;
-use cmh_run::{Log, RunLog};
 use std::alloc::Global;
 
 /// The number of the row of a process that stands in the history.
@@ -27,7 +26,7 @@ fn row_number(history: &[Row], p: u32) -> usize
     unreachable!()
 }
 
-fn number_one<L: Log>(history: &[Row], finding: Finding<RunLog<L>>) -> Record<RunLog<L>>
+fn number_one<R: Drop>(history: &[Row], finding: Finding<R>) -> Record<R>
     requires stands { Stands history.now finding }
     requires few { length history.now < 2 ^ 32 }
     ensures { IsNumbered history.now finding result }
@@ -51,11 +50,11 @@ fn number_one<L: Log>(history: &[Row], finding: Finding<RunLog<L>>) -> Record<Ru
 }
 
 /// Each finding as a record.
-pub(crate) fn number_all<L: Log>(
+pub(crate) fn number_all<R: Drop>(
     alloc: Global,
     history: &[Row],
-    found: Vec<Finding<RunLog<L>>>,
-) -> Result<Vec<Record<RunLog<L>>>, WorkFault>
+    found: Vec<Finding<R>>,
+) -> Result<Vec<Record<R>>, WorkFault>
     requires stand { All (Stands history.now) found.items }
     requires few { length history.now < 2 ^ 32 }
     ensures ok { IfOk result (λ records. AreNumbered history.now found.items records.items) }

@@ -4,7 +4,7 @@ ghost use Rattle.std.specs.Prelude.{◌≡◌};
 
 use cmh_board::Row;
 use cmh_graph::Verdict;
-use cmh_run::{Log, RunLog};
+use cmh_run::{Log, ProcessList, RunLog};
 
 /// What is found of one idle process, with its run as an `R`.
 #[derive(PartialEq, Eq, Debug, Drop)]
@@ -43,11 +43,11 @@ pub struct Analysis<R = RunLog> {
     pub(crate) history: Vec<Row>,
 }
 
-impl<L: Log> Analysis<RunLog<L>> {
+impl<L: Log, E: ProcessList> Analysis<RunLog<L, E>> {
     ghost use Rattle.cmh_work.specs.Analysis.{records_of, history_of};
 
     /// A record of each idle process, by rising index.
-    pub fn records(&self) -> &[Record<RunLog<L>>]
+    pub fn records(&self) -> &[Record<RunLog<L, E>>]
         ensures { result.now ≡ records_of self.now }
     {
         &self.records

@@ -16,7 +16,7 @@ use crate::job::{Job, Seats, Shared};
 use crate::{Gate, Plan, WorkFault};
 use cmh_board::{BoardHints, BoardSeat, Look, Posting};
 use cmh_graph::WaitGraph;
-use cmh_run::{Log, RunLog, Runner};
+use cmh_run::{Log, ProcessList, RunLog, Runner};
 use std::alloc::Global;
 use std::sync::Wait;
 
@@ -47,14 +47,14 @@ fn run_of<L: Log>(
 }
 
 /// The verdict of an initiator: the board's, or else that of a run, which is posted.
-fn ask<L: Log, R: Wait>(
+fn ask<L: Log, E: ProcessList, R: Wait>(
     rt: &R,
     alloc: Global,
     job: &Job,
     runner: &mut Runner,
     seat: &mut BoardSeat,
     initiator: u32,
-) -> Result<Answer<RunLog<L>>, WorkFault>
+) -> Result<Answer<RunLog<L, E>>, WorkFault>
     requires runner { runner.old ≡ job.now.graph.now }
     requires sits { SitsIn job.now.shared.now seat.old }
     requires idle { IsTrue (is_idle job.now.graph.now initiator) }
@@ -68,16 +68,16 @@ fn ask<L: Log, R: Wait>(
     if let Look::Known(verdict) = job.shared.board.look(seat, initiator) {
         return Ok(Answer { verdict, run: None });
     }
-    let run = run_of(alloc, job, runner, seat, initiator)?;
+    let run: RunLog<L> = run_of(alloc, job, runner, seat, initiator)?;
     job.shared.board.post(rt, seat, &Posting::of_run(&run));
     Ok(Answer {
         verdict: run.verdict(),
-        run: Some(run),
+        run: Some(run.keeping()),
     })
 }
 
 /// What is found of one initiator.
-fn find_one<L: Log, R: Wait, P: Gate>(
+fn find_one<L: Log, E: ProcessList, R: Wait, P: Gate>(
     rt: &R,
     alloc: Global,
     job: &Job,
@@ -85,7 +85,7 @@ fn find_one<L: Log, R: Wait, P: Gate>(
     runner: &mut Runner,
     seat: &mut BoardSeat,
     initiator: u32,
-) -> Result<Finding<RunLog<L>>, WorkFault>
+) -> Result<Finding<RunLog<L, E>>, WorkFault>
     requires runner { runner.old ≡ job.now.graph.now }
     requires sits { SitsIn job.now.shared.now seat.old }
     requires idle { IsTrue (is_idle job.now.graph.now initiator) }
@@ -112,14 +112,14 @@ fn find_one<L: Log, R: Wait, P: Gate>(
 }
 
 /// Adds what is found of each initiator of the chunk, in order.
-fn find_each<L: Log, R: Wait, P: Gate>(
+fn find_each<L: Log, E: ProcessList, R: Wait, P: Gate>(
     rt: &R,
     alloc: Global,
     job: &Job,
     gate: &P,
     runner: &mut Runner,
     seat: &mut BoardSeat,
-    found: &mut Vec<Finding<RunLog<L>>>,
+    found: &mut Vec<Finding<RunLog<L, E>>>,
     chunk: &[u32],
 ) -> Result<(), WorkFault>
     requires runner { runner.old ≡ job.now.graph.now }
@@ -144,13 +144,13 @@ fn find_each<L: Log, R: Wait, P: Gate>(
 }
 
 /// Works on chunks until there are no more, or memory is refused.
-fn draw_all<L: Log, R: Wait, P: Gate>(
+fn draw_all<L: Log, E: ProcessList, R: Wait, P: Gate>(
     rt: &R,
     alloc: Global,
     job: &Job,
     gate: &P,
     seats: &mut Seats,
-) -> Result<Vec<Finding<RunLog<L>>>, WorkFault>
+) -> Result<Vec<Finding<RunLog<L, E>>>, WorkFault>
     requires sit { Sit job.now.shared.now seats.old }
     requires new { AreNew seats.old }
     ensures back { AreBack job.now.shared.now seats.old seats.new }
@@ -177,7 +177,7 @@ fn draw_all<L: Log, R: Wait, P: Gate>(
 }
 
 /// One worker. Its seats come back on every path.
-pub(crate) fn work<L: Log, R: Wait, P: Gate>(
+pub(crate) fn work<L: Log, E: ProcessList, R: Wait, P: Gate>(
     rt: &R,
     alloc: Global,
     graph: &WaitGraph,
@@ -185,7 +185,7 @@ pub(crate) fn work<L: Log, R: Wait, P: Gate>(
     shared: &Shared,
     gate: &P,
     seats: Seats,
-) -> (Seats, Result<Vec<Finding<RunLog<L>>>, WorkFault>)
+) -> (Seats, Result<Vec<Finding<RunLog<L, E>>>, WorkFault>)
     requires made { IsMadeFor graph.now plan.now shared.now }
     requires sit { Sit shared.now seats }
     requires new { AreNew seats }

@@ -14,16 +14,16 @@ use crate::job::{Seats, Shared};
 use crate::worker::work;
 use crate::{Gate, Plan, WorkFault};
 use cmh_graph::WaitGraph;
-use cmh_run::{Log, RunLog};
+use cmh_run::{Log, ProcessList, RunLog};
 use std::alloc::Global;
 use std::sync::Wait;
 use std::thread::{Threads, join};
 
 /// What both found, or the fault of one.
-fn both<L: Log>(
-    first: Result<Vec<Finding<RunLog<L>>>, WorkFault>,
-    second: Result<Vec<Finding<RunLog<L>>>, WorkFault>,
-) -> Result<Vec<Finding<RunLog<L>>>, WorkFault>
+fn both<L: Log, E: ProcessList>(
+    first: Result<Vec<Finding<RunLog<L, E>>>, WorkFault>,
+    second: Result<Vec<Finding<RunLog<L, E>>>, WorkFault>,
+) -> Result<Vec<Finding<RunLog<L, E>>>, WorkFault>
     requires first { IfErr first (λ e. e ≡ WorkFault.Memory) }
     requires second { IfErr second (λ e. e ≡ WorkFault.Memory) }
     ensures all { IfOk result (λ v.
@@ -76,7 +76,7 @@ fn take_back(shared: &Shared, seats: &mut Seats, other: Seats)
 
 /// So many workers in threads of their own, and one in this thread. All are joined on every path,
 /// and their seats come back.
-pub(crate) fn workers<L: Log + Send, R: Threads + Wait + Sync, P: Gate>(
+pub(crate) fn workers<L: Log + Send, E: ProcessList + Send, R: Threads + Wait + Sync, P: Gate>(
     rt: &R,
     alloc: Global,
     graph: &WaitGraph,
@@ -85,7 +85,7 @@ pub(crate) fn workers<L: Log + Send, R: Threads + Wait + Sync, P: Gate>(
     gate: &P,
     seats: Seats,
     others: u32,
-) -> (Seats, Result<Vec<Finding<RunLog<L>>>, WorkFault>)
+) -> (Seats, Result<Vec<Finding<RunLog<L, E>>>, WorkFault>)
     requires made { IsMadeFor graph.now plan.now shared.now }
     requires sit { Sit shared.now seats }
     requires same { (known seats.board).lock.share ≡ (view seats.tickets).share }
@@ -106,14 +106,14 @@ pub(crate) fn workers<L: Log + Send, R: Threads + Wait + Sync, P: Gate>(
     };
     let ((one, found), (mut rest, more)) = join(
         rt,
-        || -> (Seats, Result<Vec<Finding<RunLog<L>>>, WorkFault>)
+        || -> (Seats, Result<Vec<Finding<RunLog<L, E>>>, WorkFault>)
             requires { IsSync R.row × IsMadeFor graph.now plan.now shared.now
                 × Sit shared.now one × AreNew one }
             ensures { AreBack shared.entry.now one result.0 × IfOk result.1 (λ found. IsWorked
                 graph.entry.now plan.entry.now shared.entry.now result.0 found.items)
                 × IfErr result.1 (λ e. e ≡ WorkFault.Memory) }
         { work(rt, alloc, graph, plan, shared, gate, one) },
-        || -> (Seats, Result<Vec<Finding<RunLog<L>>>, WorkFault>)
+        || -> (Seats, Result<Vec<Finding<RunLog<L, E>>>, WorkFault>)
             requires { IsSync R.row × IsMadeFor graph.now plan.now shared.now
                 × Sit shared.now rest
                 × ((known rest.board).lock.share ≡ (view rest.tickets).share)
