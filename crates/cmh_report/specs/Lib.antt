@@ -2,6 +2,7 @@ pub mod Ends
 pub mod Fault
 pub mod Group
 pub mod Lines
+pub mod Outline
 pub mod Paths
 pub mod Records
 pub mod Report

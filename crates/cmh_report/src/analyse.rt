@@ -5,19 +5,20 @@ ghost use Rattle.cmh_dump.specs.Source.{GaveAtMost};
 ghost use Rattle.cmh_dump.specs.declared.TheConstants.{MAX_BYTES};
 ghost use Rattle.cmh_report.specs.Ends.{IsAnswer, IsCutShort, IsRefused};
 ghost use Rattle.cmh_report.specs.Fault.{IfDump, IfNoSuchProcess, IfRun, IfUnwritten, IfWork, IfWriteFault};
+ghost use Rattle.cmh_report.specs.Outline.{IsOutlineOf};
 ghost use Rattle.cmh_report.specs.Records.{IsSomeAnalysisOf};
 ghost use Rattle.cmh_report.specs.Report.{IsCountedReport, IsReport, report_text, deadlocked_count};
 
 use crate::fault::{AppFault, ReportFault};
 use crate::input::read_graph;
-use crate::text::{count_deadlocked, report};
+use crate::outline::Outline;
+use crate::text::text_of;
 use cmh_dump::Source;
 use cmh_graph::WaitGraph;
-use cmh_graph::laws::law_built_graph;
 use cmh_run::{NoList, NoLog, RunLog};
 use cmh_stream::{Sink, put_all};
 use cmh_work::{Analysis, Gate, Plan, WorkFault, analyse_keeping};
-use std::alloc::Global;
+use std::alloc::{AllocError, Global};
 use std::sync::Wait;
 use std::thread::Threads;
 
@@ -42,24 +43,36 @@ fn analysed<R: Threads + Wait + Sync, G: Gate>(
     Ok(analyse_keeping(rt, alloc, graph, plan, gate)?)
 }
 
-/// The report on a graph that was analysed. Want of memory is told as the text's.
-#[tactic(auto, using(crate::proofs::Records::analysed, crate::proofs::Records::records_few, crate::proofs::Records::deadlocked_told))]
+/// What the text takes from the analysis, which is given back.
+#[tactic(auto, using(crate::proofs::Records::analysed))]
+fn outlined(
+    alloc: Global,
+    graph: &WaitGraph,
+    analysis: Analysis<RunLog<NoLog, NoList>>,
+) -> Result<Outline, AllocError>
+    requires { IsSomeAnalysisOf graph.now analysis }
+    ensures { IfOk result (IsOutlineOf graph.now) }
+{
+    Outline::of_records(alloc, graph, analysis.records())
+}
+
+/// The report on a graph that was analysed. The analysis is given back before the text is made, so
+/// that both aren't held at once. Want of memory is told as the text's.
 fn reported<R: Threads + Sync>(
     rt: &R,
     alloc: Global,
     graph: &WaitGraph,
-    analysis: &Analysis<RunLog<NoLog, NoList>>,
-) -> Result<Report, AppFault>
-    requires { IsSomeAnalysisOf graph.now analysis.now }
+    analysis: Analysis<RunLog<NoLog, NoList>>,
+) -> Result<Report, ReportFault>
+    requires { IsSomeAnalysisOf graph.now analysis }
     ensures text { IfOk result (λ r. string_bytes r.text ≡ report_text graph.now) }
     ensures deadlocked { IfOk result (λ r. r.deadlocked ≡ deadlocked_count graph.now) }
-    ensures memory { IfErr result (λ e. e ≡ AppFault.Report ReportFault.Memory) }
 {
-    let text = report(rt, alloc, graph, analysis)?;
-    law_built_graph(graph);
+    let outline = outlined(alloc, graph, analysis).map_err(|_| ReportFault::Memory)?;
+    let text = text_of(rt, alloc, graph, &outline).map_err(|_| ReportFault::Memory)?;
     Ok(Report {
         text,
-        deadlocked: count_deadlocked(analysis.records()),
+        deadlocked: outline.deadlocked,
     })
 }
 
@@ -104,7 +117,7 @@ pub fn analyse_bytes<R: Threads + Wait + Sync, S: Source, K: Sink, G: Gate>(
 {
     let graph = read_graph(alloc, source)?;
     let analysis = analysed(rt, alloc, &graph, plan, gate)?;
-    let report = reported(rt, alloc, &graph, &analysis)?;
+    let report = reported(rt, alloc, &graph, analysis)?;
     put_all(sink, report.text.as_bytes())?;
     Ok(report.deadlocked)
 }

@@ -9,6 +9,7 @@ mod groups;
 mod input;
 pub mod laws;
 mod lines;
+mod outline;
 mod parallel;
 mod paths;
 mod pieces;

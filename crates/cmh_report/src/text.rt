@@ -1,17 +1,18 @@
 //! The report as text.
 
-ghost use Rattle.std.specs.Prelude.{◌≡◌, ◌++◌, ◌<◌, ◌^◌, length, IfOk, OnOk, count_by, flat_map, reverse, string_bytes};
-ghost use Rattle.cmh_report.specs.Records.{AreRecordsOf, IsSomeAnalysisOf, tells_deadlocked};
-ghost use Rattle.cmh_report.specs.Report.{line, counts_line, totals_line, report_text};
+ghost use Rattle.std.specs.Prelude.{◌≡◌, ◌++◌, IfOk, OnOk, flat_map, reverse, string_bytes};
+ghost use Rattle.cmh_report.specs.Outline.{IsOutlineOf};
+ghost use Rattle.cmh_report.specs.Records.{IsSomeAnalysisOf};
+ghost use Rattle.cmh_report.specs.Report.{report_text};
 
 use crate::ReportFault;
-use crate::groups::Groups;
+use crate::outline::Outline;
 use crate::parallel::{group_lines, process_lines};
 use crate::paths::Paths;
 use crate::pieces::lines_room;
-use cmh_graph::{Verdict, WaitGraph};
+use cmh_graph::WaitGraph;
 use cmh_run::{Log, ProcessList, RunLog};
-use cmh_work::{Analysis, Record};
+use cmh_work::Analysis;
 use std::alloc::{AllocError, Global};
 use std::thread::Threads;
 
@@ -35,69 +36,26 @@ pub fn report<L: Log, E: ProcessList, R: Threads + Sync>(
     requires { IsSomeAnalysisOf graph.now analysis.now }
     ensures { IfOk result (λ text. string_bytes text ≡ report_text graph.now) }
 {
-    text_of(rt, alloc, graph, analysis.records()).map_err(|_| ReportFault::Memory)
+    let outline = Outline::of_records(alloc, graph, analysis.records()).map_err(
+        |_| ReportFault::Memory,
+    )?;
+    text_of(rt, alloc, graph, &outline).map_err(|_| ReportFault::Memory)
 }
 
-/// The report, by the records.
-fn text_of<L: Log, E: ProcessList, R: Threads + Sync>(
+/// The report, by what was taken from the records.
+pub(crate) fn text_of<R: Threads + Sync>(
     rt: &R,
     alloc: Global,
     graph: &WaitGraph,
-    records: &[Record<RunLog<L, E>>],
+    outline: &Outline,
 ) -> Result<String, AllocError>
-    requires { AreRecordsOf graph.now records.now }
+    requires { IsOutlineOf graph.now outline.now }
     ensures { IfOk result (λ text. string_bytes text ≡ report_text graph.now) }
 {
-    let groups = Groups::of_records(alloc, graph, records)?;
-    let first = totals(alloc, graph, records)?;
     let paths = Paths::of_graph(alloc, graph)?;
-    let of_processes = process_lines(rt, alloc, graph, &groups, &paths)?;
-    let of_groups = group_lines(rt, alloc, graph, &groups)?;
-    joined(alloc, &first, of_processes, of_groups)
-}
-
-/// How many processes the records tell to be deadlocked.
-pub(crate) fn count_deadlocked<L: Log, E: ProcessList>(records: &[Record<RunLog<L, E>>]) -> u32
-    requires { length records.now < 2 ^ 32 }
-    ensures { result ≡ count_by tells_deadlocked records.now }
-{
-    let mut count = 0;
-    for record in records {
-        match record.verdict {
-            Verdict::Deadlocked => count += 1,
-            Verdict::Free => {}
-        }
-    }
-    count
-}
-
-/// A line of counts.
-fn counts(
-    alloc: Global,
-    all: u32,
-    active: u32,
-    idle: u32,
-    deadlocked: u32,
-) -> Result<String, AllocError>
-    ensures { IfOk result (λ text.
-        string_bytes text ≡ line (counts_line all active idle deadlocked)) }
-{
-    format!(in alloc; "processes {all} active {active} idle {idle} deadlocked {deadlocked}\n")
-}
-
-/// The first line.
-#[tactic(auto, using(crate::proofs::Counts::active_and_idle))]
-fn totals<L: Log, E: ProcessList>(
-    alloc: Global,
-    graph: &WaitGraph,
-    records: &[Record<RunLog<L, E>>],
-) -> Result<String, AllocError>
-    requires { AreRecordsOf graph.now records.now }
-    ensures { IfOk result (λ text. string_bytes text ≡ line (totals_line graph.now)) }
-{
-    let all = graph.len();
-    let idle = records.len() as u32;
-    counts(alloc, all, all - idle, idle, count_deadlocked(records))
+    let of_processes = process_lines(rt, alloc, graph, &outline.groups, &paths)?;
+    let of_groups = group_lines(rt, alloc, graph, &outline.groups)?;
+    joined(alloc, &outline.totals, of_processes, of_groups)
 }
 
 /// The lines one after the other, where those of processes and those of groups come in falling order.

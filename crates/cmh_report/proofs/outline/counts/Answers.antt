@@ -1,5 +1,5 @@
 use Rattle.std.proofs.Common.{rules, append_assoc}
-use Rattle.cmh_report.proofs.text.counts.Goals as goal
+use Rattle.cmh_report.proofs.outline.counts.Goals as goal
 
 -- the pieces of a format stand in brackets that differ from the line's
 pub returns : goal.returns
