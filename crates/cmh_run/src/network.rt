@@ -5,7 +5,7 @@ ghost use Rattle.cmh_graph.specs.Graph.{process_count, is_awake};
 ghost use Rattle.cmh_graph.specs.Build.{IsWellFormed};
 ghost use Rattle.cmh_process.specs.Process.{engages};
 ghost use Rattle.cmh_run.specs.Legal.{begun};
-ghost use Rattle.cmh_run.specs.Config.{blank, proc_at, nothing_yet, start, does, engaged_by, answered, replied, received, asks, without};
+ghost use Rattle.cmh_run.specs.Config.{blank, proc_at, nothing_yet, start, does, engaged_by, query, answered, replied, received, asks, without};
 
 use crate::procs::Procs;
 use crate::send::Sender;
@@ -194,37 +194,50 @@ impl Network {
         if !self.procs.is_engaged_by(message.to, message.number) {
             return self.answer(initiator, message);
         }
+        let Message {
+            number,
+            from,
+            to,
+            ..
+        } = message;
         match hint {
-            None => self.engage(initiator, message, graph.dependents(message.to)),
-            Some(Verdict::Deadlocked) => self.engage(initiator, message, &[]),
+            None => self.engage(initiator, number, from, to, graph.dependents(to)),
+            Some(Verdict::Deadlocked) => self.engage(initiator, number, from, to, &[]),
             Some(Verdict::Free) => {
-                self.ended = Some(Ending::CutFree(message.to));
+                self.ended = Some(Ending::CutFree(to));
                 Ok(())
             }
         }
     }
 
-    /// A query engages its receiver, which asks these.
+    /// A query of `from` engages `to`, which asks these. It stands apart, since few deliveries engage,
+    /// and takes the query's parts, so that no message is copied for it at the others.
     #[inline(never)]
     fn engage(
         &mut self,
         initiator: u32,
-        message: Message,
+        number: u32,
+        from: u32,
+        to: u32,
         dependents: &[u32],
     ) -> Result<(), AllocError>
-        requires within { message.to < length self.old.procs }
+        requires within { to < length self.old.procs }
         requires few { length dependents.now < 2 ^ 32 }
         requires going { self.old.ended ≡ None }
-        ensures ok { OnOk result (self.new ≡ engaged_by initiator self.old message dependents.now) }
+        ensures ok { OnOk result (self.new ≡
+            engaged_by initiator self.old (query initiator number from to) dependents.now) }
     {
         let size = dependents.len() as u32;
-        let action = self
-            .procs
-            .engage(message.to, message.number, message.from, size)?;
-        if message.number == self.number {
-            self.engaged.push(message.to)?;
+        let action = self.procs.engage(to, number, from, size)?;
+        if number == self.number {
+            self.engaged.push(to)?;
         }
-        self.act(Sender::answering(initiator, message), dependents, action)
+        let sender = Sender {
+            initiator,
+            number,
+            from: to,
+        };
+        self.act(sender, dependents, action)
     }
 
     /// A query engages nobody. So it isn't read how many dependents the receiver has.
