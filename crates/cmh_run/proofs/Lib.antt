@@ -1,5 +1,6 @@
 pub mod Alike
 pub mod Answering
+pub mod Asking
 pub mod Auditing
 pub mod Blank
 pub mod Bound

@@ -13,7 +13,7 @@ use Rattle.cmh_run.specs.declared.TheConstants.{MAX_CHOICES, MAX_RESTARTS}
 use Rattle.cmh_run.specs.Config.{Config, proc_at, without, received}
 use Rattle.cmh_graph.specs.Verdict.{IsDeadlocked}
 use Rattle.cmh_run.specs.Hints.{IsVerdict}
-use Rattle.cmh_run.specs.Legal.{Going, Rule, IsRun, HasNoRepeat, IsRight}
+use Rattle.cmh_run.specs.Legal.{Going, Rule, HintIsFit, IsRun, HasNoRepeat, IsRight}
 use Rattle.cmh_run.specs.Choices.{chosen_place, HasNoHints}
 use Rattle.cmh_run.specs.Last.{LastIsRun}
 
@@ -67,6 +67,14 @@ delivered_to g i s d = record {
   };
   log = s.log ++ d ∷ [];
 }
+
+-- the message is delivered, with a hint that fits, and with none where nobody answers
+pub record IsDelivered (g : Graph) (i : ℕ) (old new : Stage) (m : Message)
+    (nobody_answers : Type 0) : Type 0 where
+  pub hint : Option Verdict
+  pub fit : HintIsFit g old.going.config m hint
+  pub is : new ≡ delivered_to g i old (record { message = m; hint = hint })
+  pub silent : nobody_answers → hint ≡ None
 
 -- what is kept of a run that has ended
 pub record Run : Type 0 where

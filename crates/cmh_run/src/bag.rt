@@ -1,7 +1,8 @@
 //! The undelivered messages.
 
-ghost use Rattle.std.specs.Prelude.{◌≡◌, ◌<◌, ◌↔◌, ◌%◌, ◌++◌, [], ◌∷◌, Some, length, remove, slice_get, IsNone, IsSome, IfSome, IfNone, IfErr, IsTrue, OnOk, OnErr};
+ghost use Rattle.std.specs.Prelude.{◌≡◌, ℕ, ◌<◌, ◌↔◌, ◌%◌, ◌++◌, [], ◌∷◌, Some, length, map, remove, slice_get, IsNone, IsSome, IfSome, IfNone, IfErr, IsTrue, OnOk, OnErr};
 ghost use Rattle.cmh_process.specs.declared.message.Message.{Message};
+ghost use Rattle.cmh_run.specs.Config.{query};
 ghost use Rattle.std.specs.Cmp.Lexicographic.{pointwise};
 ghost use Rattle.std.specs.Cmp.Rules.{comparing};
 ghost use Rattle.std.proofs.Common.{rules};
@@ -9,7 +10,8 @@ ghost use Rattle.cmh_process.specs.contracts.message.MessageEq.TheImpl.Laws as m
 ghost use Rattle.cmh_process.specs.contracts.message.MessagePartialEq.TheImpl as message;
 
 use crate::RunFault;
-use cmh_process::Message;
+use crate::send::Sender;
+use cmh_process::{Kind, Message};
 use std::alloc::{AllocError, Global};
 use std::collections::VecDeque;
 use std::marker::Model;
@@ -74,6 +76,23 @@ impl Bag {
         ensures err { OnErr result (self.new ≡ self.old) }
     {
         self.messages.push_back(message)?;
+        Ok(())
+    }
+
+    /// Adds the sender's query to each of these, in their order. Memory is taken for all at once.
+    pub(crate) fn add_queries(
+        &mut self,
+        sender: Sender,
+        receivers: &[u32],
+    ) -> Result<(), AllocError>
+        ensures ok { OnOk result (self.new ≡ self.old
+            ++ map (λ (r : ℕ). query sender.initiator sender.number sender.from r) receivers.now) }
+    {
+        self.messages.reserve(receivers.len())?;
+        for to in receivers {
+            self.messages
+                .push_back_reserved(sender.message(Kind::Query, *to));
+        }
         Ok(())
     }
 

@@ -4,12 +4,13 @@ ghost use Rattle.std.specs.Prelude.{◌≡◌, ◌+◌, ◌<◌, ◌^◌, ◌%�
 ghost use Rattle.cmh_graph.specs.Graph.{process_count, is_awake};
 ghost use Rattle.cmh_graph.specs.Build.{IsWellFormed};
 ghost use Rattle.cmh_process.specs.Process.{engages};
-ghost use Rattle.cmh_run.specs.Legal.{begun};
-ghost use Rattle.cmh_run.specs.Config.{blank, proc_at, nothing_yet, start, does, engaged_by, query, answered, replied, received, asks, without};
+ghost use Rattle.cmh_run.specs.Hints.{IsVerdict};
+ghost use Rattle.cmh_run.specs.Legal.{begun, HintIsFit};
+ghost use Rattle.cmh_run.specs.Config.{blank, proc_at, nothing_yet, start, does, engaged_by, hinted, query, answered, replied, received, asks, without};
 
 use crate::procs::Procs;
 use crate::send::Sender;
-use crate::{Bag, Ending};
+use crate::{Bag, Ending, Hints};
 use cmh_graph::{Verdict, WaitGraph};
 use cmh_process::{Action, Kind, Message};
 use std::alloc::{AllocError, Global};
@@ -156,6 +157,41 @@ impl Network {
         }
     }
 
+    /// `deliver`, with what hints say of the receiver, who are asked just before it engages.
+    #[inline(always)]
+    #[tactic(auto, using(crate::proofs::Asking::fit_where_asked, crate::proofs::Asking::asked_receives))]
+    pub(crate) fn deliver_asking<H: Hints>(
+        &mut self,
+        graph: &WaitGraph,
+        initiator: u32,
+        message: Message,
+        hints: &mut H,
+    ) -> Result<Option<Verdict>, AllocError>
+        requires graph { IsWellFormed graph.now }
+        requires size { length self.old.procs ≡ process_count graph.now }
+        requires within { message.to < process_count graph.now }
+        requires going { self.old.ended ≡ None }
+        requires speaks { H.speaks_of hints.old graph.now }
+        ensures fit { IfOk result (HintIsFit graph.now self.old message) }
+        ensures ok { IfOk result (λ hint. self.new ≡ (if is_awake graph.now message.to
+            then self.old
+            else received graph.now initiator self.old message message.kind hint)) }
+        ensures silent { H.is_silent hints.old → IfOk result (λ hint. hint ≡ None) }
+        ensures kept { H.keeps hints.old hints.new }
+    {
+        if self.asks(graph, message) {
+            let Message {
+                number,
+                from,
+                to,
+                ..
+            } = message;
+            return self.engage_asking(graph, initiator, number, from, to, hints);
+        }
+        self.deliver(graph, initiator, message, None)?;
+        Ok(None)
+    }
+
     /// Who is engaged, and nobody from then on.
     pub(crate) fn take_engaged(&mut self, alloc: Global) -> Vec<u32>
         ensures engaged { result.items ≡ self.old.engaged }
@@ -200,6 +236,55 @@ impl Network {
             to,
             ..
         } = message;
+        self.engage_hinted(graph, initiator, number, from, to, hint)
+    }
+
+    /// A query of `from` is about to engage `to`, of which hints are asked. It stands apart, since few
+    /// deliveries engage, and takes the query's parts, so that no message is copied for it at the
+    /// others.
+    #[inline(never)]
+    fn engage_asking<H: Hints>(
+        &mut self,
+        graph: &WaitGraph,
+        initiator: u32,
+        number: u32,
+        from: u32,
+        to: u32,
+        hints: &mut H,
+    ) -> Result<Option<Verdict>, AllocError>
+        requires graph { IsWellFormed graph.now }
+        requires size { length self.old.procs ≡ process_count graph.now }
+        requires within { to < process_count graph.now }
+        requires going { self.old.ended ≡ None }
+        requires speaks { H.speaks_of hints.old graph.now }
+        ensures verdict { IfOk result (λ hint. IfSome hint (IsVerdict graph.now to)) }
+        ensures ok { IfOk result (λ hint. self.new ≡
+            hinted graph.now initiator self.old (query initiator number from to) hint) }
+        ensures silent { H.is_silent hints.old → IfOk result (λ hint. hint ≡ None) }
+        ensures kept { H.keeps hints.old hints.new }
+    {
+        let hint = hints.hint(to);
+        self.engage_hinted(graph, initiator, number, from, to, hint)?;
+        Ok(hint)
+    }
+
+    /// What a query of `from` does that engages `to`, of which this is known.
+    fn engage_hinted(
+        &mut self,
+        graph: &WaitGraph,
+        initiator: u32,
+        number: u32,
+        from: u32,
+        to: u32,
+        hint: Option<Verdict>,
+    ) -> Result<(), AllocError>
+        requires graph { IsWellFormed graph.now }
+        requires size { length self.old.procs ≡ process_count graph.now }
+        requires within { to < process_count graph.now }
+        requires going { self.old.ended ≡ None }
+        ensures ok { OnOk result (self.new ≡
+            hinted graph.now initiator self.old (query initiator number from to) hint) }
+    {
         match hint {
             None => self.engage(initiator, number, from, to, graph.dependents(to)),
             Some(Verdict::Deadlocked) => self.engage(initiator, number, from, to, &[]),
@@ -210,9 +295,7 @@ impl Network {
         }
     }
 
-    /// A query of `from` engages `to`, which asks these. It stands apart, since few deliveries engage,
-    /// and takes the query's parts, so that no message is copied for it at the others.
-    #[inline(never)]
+    /// A query of `from` engages `to`, which asks these.
     fn engage(
         &mut self,
         initiator: u32,

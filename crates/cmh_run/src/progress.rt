@@ -3,13 +3,13 @@
 ghost use Rattle.std.specs.Prelude.{◌≡◌, ◌+◌, ◌<◌, ◌^◌, ◌%◌, ◌↔◌, [], ◌∷◌, ◌++◌, None, Some, length, slice_get, slice_index, IfOk, IfSome, IfNone, OnOk};
 ghost use Rattle.cmh_graph.specs.Graph.{process_count};
 ghost use Rattle.cmh_graph.specs.Build.{IsWellFormed};
-ghost use Rattle.cmh_run.specs.Config.{blank, nothing_yet, proc_at, asks};
-ghost use Rattle.cmh_run.specs.Legal.{begun, ready, HintIsFit};
-ghost use Rattle.cmh_run.specs.Run.{MayStart, IsTakenBy, delivered_to, ending_of};
+ghost use Rattle.cmh_run.specs.Config.{blank, nothing_yet, proc_at};
+ghost use Rattle.cmh_run.specs.Legal.{begun, ready};
+ghost use Rattle.cmh_run.specs.Run.{MayStart, IsTakenBy, IsDelivered, ending_of};
 
 use crate::network::Network;
 use crate::{Delivery, Ending, Hints, Log, RunLog};
-use cmh_graph::{Verdict, WaitGraph};
+use cmh_graph::WaitGraph;
 use cmh_process::Message;
 use std::alloc::{AllocError, Global};
 use std::marker::Model;
@@ -84,13 +84,10 @@ impl<'a, L: Log> Progress<'a, L> {
           log = self.old.log;
         }) }
     {
-        if self.network.has_ended() {
-            return Ok(());
-        }
         let Some(next) = self.restarts.first() else {
             return Ok(());
         };
-        if *next as usize != self.made {
+        if self.network.has_ended() || *next as usize != self.made {
             return Ok(());
         }
         self.network.start(graph, initiator)?;
@@ -111,46 +108,30 @@ impl<'a, L: Log> Progress<'a, L> {
         self.network.take(choice)
     }
 
-    /// What the hints say of the receiver of a message, if they are asked about it.
+    /// The delivery of a message that was taken. Hints are asked about the receiver, if it is about
+    /// to engage.
     #[inline(always)]
-    pub(crate) fn hint_for<H: Hints>(
-        &self,
-        graph: &WaitGraph,
-        message: Message,
-        hints: &mut H,
-    ) -> Option<Verdict>
-        requires speaks { H.speaks_of hints.old graph.now }
-        requires size { length self.now.going.config.procs ≡ process_count graph.now }
-        requires within { message.to < process_count graph.now }
-        ensures fit { HintIsFit graph.now self.now.going.config message result }
-        ensures silent { H.is_silent hints.old → result ≡ None }
-        ensures kept { H.keeps hints.old hints.new }
-    {
-        if self.network.asks(graph, message) {
-            hints.hint(message.to)
-        } else {
-            None
-        }
-    }
-
-    /// The delivery of a message that was taken.
-    #[inline(always)]
-    pub(crate) fn deliver(
+    pub(crate) fn deliver<H: Hints>(
         &mut self,
         graph: &WaitGraph,
         initiator: u32,
-        delivery: Delivery,
+        message: Message,
+        hints: &mut H,
     ) -> Result<(), AllocError>
         requires graph { IsWellFormed graph.now }
         requires size { length self.old.going.config.procs ≡ process_count graph.now }
-        requires within { delivery.message.to < process_count graph.now }
+        requires within { message.to < process_count graph.now }
         requires going { self.old.going.config.ended ≡ None }
         requires few { self.old.going.done + 1 < 2 ^ 64 }
-        ensures ok { OnOk result (self.new ≡ delivered_to graph.now initiator self.old delivery) }
+        requires speaks { H.speaks_of hints.old graph.now }
+        ensures ok { OnOk result
+            (IsDelivered graph.now initiator self.old self.new message (H.is_silent hints.old)) }
+        ensures kept { H.keeps hints.old hints.new }
     {
-        self.network
-            .deliver(graph, initiator, delivery.message, delivery.hint)?;
-        self.log.add(delivery)?;
+        let hint = self
+            .network
+            .deliver_asking(graph, initiator, message, hints)?;
+        self.log.add(Delivery { message, hint })?;
         self.made += 1;
         Ok(())
     }

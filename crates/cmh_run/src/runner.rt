@@ -10,7 +10,7 @@ ghost use Rattle.cmh_run.specs.Run.{IsRising, IsAccepted, IsFirstFault, IsRunOf,
 
 use crate::network::Network;
 use crate::progress::Progress;
-use crate::{Delivery, Hints, Log, MAX_CHOICES, MAX_RESTARTS, RunFault, RunLog};
+use crate::{Hints, Log, MAX_CHOICES, MAX_RESTARTS, RunFault, RunLog};
 use cmh_graph::WaitGraph;
 use std::alloc::{AllocError, Global};
 use std::marker::Model;
@@ -182,8 +182,7 @@ fn follow<L: Log, H: Hints>(
     let mut progress = Progress::begin(alloc, graph, network, initiator, restarts)?;
     progress.restart_if_due(graph, initiator)?;
     while let Some(message) = progress.take(choices) {
-        let hint = progress.hint_for(graph, message, hints);
-        progress.deliver(graph, initiator, Delivery { message, hint })?;
+        progress.deliver(graph, initiator, message, hints)?;
         progress.restart_if_due(graph, initiator)?;
     }
     Ok(progress.finish(alloc, initiator))

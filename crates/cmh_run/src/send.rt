@@ -1,7 +1,7 @@
 //! What a process puts into the bag by an action.
 
-ghost use Rattle.std.specs.Prelude.{◌≡◌, ◌++◌, map, ℕ, OnOk};
-ghost use Rattle.cmh_run.specs.Config.{query, sent};
+ghost use Rattle.std.specs.Prelude.{◌≡◌, ◌++◌, OnOk};
+ghost use Rattle.cmh_run.specs.Config.{sent};
 
 use crate::Bag;
 use cmh_process::{Action, Kind, Message};
@@ -44,24 +44,13 @@ impl Sender {
     {
         match action {
             Action::Nothing => Ok(()),
-            Action::Engage => self.send_queries(bag, dependents),
+            Action::Engage => bag.add_queries(self, dependents),
             Action::ReplyTo(to) => bag.add(self.message(Kind::Reply, to)),
             Action::Declare => Ok(()),
         }
     }
 
-    #[inline(never)]
-    fn send_queries(self, bag: &mut Bag, dependents: &[u32]) -> Result<(), AllocError>
-        ensures ok { OnOk result (bag.new ≡ bag.old
-            ++ map (λ (r : ℕ). query self.initiator self.number self.from r) dependents.now) }
-    {
-        for to in dependents {
-            bag.add(self.message(Kind::Query, *to))?;
-        }
-        Ok(())
-    }
-
-    fn message(self, kind: Kind, to: u32) -> Message
+    pub(crate) fn message(self, kind: Kind, to: u32) -> Message
         ensures { result ≡ record {
           kind = kind;
           initiator = self.initiator;

@@ -12,18 +12,6 @@ restart_if_due-requires-clause-may g c =
     (sym c.in_ok-progress.ensures.ok)
     (may_start_first c.args.graph.now c.args.initiator c.args.restarts.now c.requires.graph.within c.requires.idle)
 
--- when hints are asked there are as many processes as the graph has
-pub hint_for-hint-requires-clause-size : goal.hint_for-hint-requires-clause-size
-hint_for-hint-requires-clause-size g c =
-    taken_size c.args.graph.now c.args.initiator c.args.choices.now c.args.restarts.now c.loop-message.progress c.take.new.self c.in-Some.message
-    c.requires.graph.within c.requires.idle c.loop-message.invariant.follows c.in-Some.ensures
-
--- hints are asked about a process of the graph
-pub hint_for-hint-requires-clause-within : goal.hint_for-hint-requires-clause-within
-hint_for-hint-requires-clause-within g c =
-    taken_within c.args.graph.now c.args.initiator c.args.choices.now c.args.restarts.now c.loop-message.progress c.take.new.self c.in-Some.message
-    c.requires.graph.within c.requires.idle c.loop-message.invariant.follows c.in-Some.ensures
-
 -- at a delivery there are as many processes as the graph has
 pub deliver-requires-clause-size : goal.deliver-requires-clause-size
 deliver-requires-clause-size g c =
@@ -45,28 +33,28 @@ deliver-requires-clause-few g c =
 -- the hints are kept where a delivery runs out of memory
 pub returns-in_err-deliver-clause-kept : goal.returns-in_err-deliver-clause-kept
 returns-in_err-deliver-clause-kept g c =
-    g.met.H.Hints.keeps_on c.args.hints.now c.loop-message.hints c.hint_for-hint.new.hints
-    c.loop-message.invariant.kept c.hint_for-hint.ensures.kept
+    g.met.H.Hints.keeps_on c.args.hints.now c.loop-message.hints c.deliver.new.hints
+    c.loop-message.invariant.kept c.deliver.ensures.kept
 
 -- after a delivery the initiator may start again, if the run isn't over
 pub restart_if_due-requires-in-Some-clause-may : goal.restart_if_due-requires-in-Some-clause-may
 restart_if_due-requires-in-Some-clause-may g c =
     taken_may_start c.args.graph.now c.args.initiator c.args.choices.now c.args.restarts.now c.loop-message.progress c.take.new.self c.in-Some.message
     c.requires.graph.within c.requires.idle c.loop-message.invariant.follows c.in-Some.ensures
-    c.hint_for-hint.result c.hint_for-hint.ensures.fit c.deliver.new.self c.in_ok-deliver.ensures.ok c.requires.few
+    c.in_ok-deliver.ensures.ok.hint c.in_ok-deliver.ensures.ok.fit c.deliver.new.self c.in_ok-deliver.ensures.ok.is c.requires.few
 
 -- the hints are kept where a restart runs out of memory
 pub returns-in_err-restart_if_due-2-clause-kept : goal.returns-in_err-restart_if_due-2-clause-kept
 returns-in_err-restart_if_due-2-clause-kept g c =
-    g.met.H.Hints.keeps_on c.args.hints.now c.loop-message.hints c.hint_for-hint.new.hints
-    c.loop-message.invariant.kept c.hint_for-hint.ensures.kept
+    g.met.H.Hints.keeps_on c.args.hints.now c.loop-message.hints c.deliver.new.hints
+    c.loop-message.invariant.kept c.deliver.ensures.kept
 
 -- each delivery makes the measure of the run smaller
 pub loop-message-smaller : goal.loop-message-smaller
 loop-message-smaller g c =
     taken_falls c.args.graph.now c.args.initiator c.args.choices.now c.args.restarts.now c.loop-message.progress c.take.new.self c.in-Some.message
     c.requires.graph.within c.requires.idle c.loop-message.invariant.follows c.in-Some.ensures
-    c.hint_for-hint.result c.hint_for-hint.ensures.fit c.deliver.new.self c.in_ok-deliver.ensures.ok
+    c.in_ok-deliver.ensures.ok.hint c.in_ok-deliver.ensures.ok.fit c.deliver.new.self c.in_ok-deliver.ensures.ok.is
     c.restart_if_due-in-Some.new.self c.in_ok-restart_if_due-2.ensures.ok c.requires.few
 
 -- each delivery leads on by the choices, keeps the hints, and stays silent where they are
@@ -74,19 +62,19 @@ pub loop-message-preserved : goal.loop-message-preserved
 loop-message-preserved g c = record {
   follows = taken_follows c.args.graph.now c.args.initiator c.args.choices.now c.args.restarts.now c.loop-message.progress c.take.new.self c.in-Some.message
       c.requires.graph.within c.requires.idle c.loop-message.invariant.follows c.in-Some.ensures
-      c.hint_for-hint.result c.hint_for-hint.ensures.fit c.deliver.new.self c.in_ok-deliver.ensures.ok
+      c.in_ok-deliver.ensures.ok.hint c.in_ok-deliver.ensures.ok.fit c.deliver.new.self c.in_ok-deliver.ensures.ok.is
       c.restart_if_due-in-Some.new.self c.in_ok-restart_if_due-2.ensures.ok;
-  kept = g.met.H.Hints.keeps_on c.args.hints.now c.loop-message.hints c.hint_for-hint.new.hints
-      c.loop-message.invariant.kept c.hint_for-hint.ensures.kept;
+  kept = g.met.H.Hints.keeps_on c.args.hints.now c.loop-message.hints c.deliver.new.hints
+      c.loop-message.invariant.kept c.deliver.ensures.kept;
   silent = λ q.
       subst (λ (xs : List Delivery). HasNoHints xs)
       (sym (taken_log c.args.graph.now c.args.initiator c.args.choices.now c.args.restarts.now c.loop-message.progress c.take.new.self c.in-Some.message
       c.requires.graph.within c.requires.idle c.loop-message.invariant.follows c.in-Some.ensures
-      c.hint_for-hint.result c.hint_for-hint.ensures.fit c.deliver.new.self c.in_ok-deliver.ensures.ok
+      c.in_ok-deliver.ensures.ok.hint c.in_ok-deliver.ensures.ok.fit c.deliver.new.self c.in_ok-deliver.ensures.ok.is
       c.restart_if_due-in-Some.new.self c.in_ok-restart_if_due-2.ensures.ok))
-      (no_hints_on c.loop-message.progress.log (record { message = c.in-Some.message; hint = c.hint_for-hint.result })
+      (no_hints_on c.loop-message.progress.log (record { message = c.in-Some.message; hint = c.in_ok-deliver.ensures.ok.hint })
       (c.loop-message.invariant.silent q)
-      (c.hint_for-hint.ensures.silent
+      (c.in_ok-deliver.ensures.ok.silent
       (g.met.H.Hints.keeps_silent c.args.hints.now c.loop-message.hints c.loop-message.invariant.kept q)));
 }
 
