@@ -7,6 +7,7 @@ pub mod Groups
 pub mod Judging
 pub mod Listing
 pub mod Reaching
+pub mod Returning
 pub mod Searching
 pub mod Spreading
 pub mod Stepping

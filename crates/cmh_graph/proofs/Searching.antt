@@ -1,16 +1,17 @@
 -- Lists that places join, and numbers that places are given.
-use Rattle.std.proofs.Common.{◌≡◌, ◌≢◌, Bool, true, false, not, cond, ℕ, zero, suc, ◌+◌, ◌<◌, ◌≤◌, ◌⊎◌, ◌↔◌, inl, inr, List, [], ◌∷◌, ◌++◌, map, take, length, get_or, set, refl, sym, ◌∙◌, ap, subst, arith, eqb, eqb-true, eq-eqb}
-use Rattle.std.specs.Prelude.{Contains, MatchOption, Option, Some, None, is_some, IsSome}
+use Rattle.std.proofs.Common.{◌≡◌, ◌≢◌, Bool, true, false, not, cond, ℕ, zero, suc, ◌+◌, ◌<◌, ◌≤◌, ◌⊎◌, ◌↔◌, inl, inr, List, [], ◌∷◌, ◌++◌, map, take, length, get_or, set, refl, sym, ◌∙◌, ap, append-nil, subst, arith, eqb, eqb-true, eq-eqb}
+use Rattle.std.specs.Prelude.{Contains, filter, MatchOption, Option, Some, None, is_some, IsSome}
 use Rattle.std.specs.Option.{option_eq}
 use Rattle.std.specs.Global.{Vec}
 use Rattle.std.proofs.lemmas.Bool.{cases_eq, cases_lt}
 use Rattle.std.proofs.lemmas.List.{length_push, get_or-map, map-set, get_or-set_same, get_or-set_other, length-set, length-map, take_more}
-use Rattle.std.proofs.lemmas.List.Elements.{Contains-append_left, Contains-append_right, Contains-append_cases, Contains-push, Contains-push_cases}
+use Rattle.std.proofs.lemmas.List.Elements.{Contains-append_left, Contains-append_right, Contains-append_cases, Contains-push, Contains-push_cases, filter_more}
 use Rattle.std.proofs.lemmas.List.Sums.{sum_by-set}
 use Rattle.cmh_graph.specs.Build.{IsWellFormed}
 use Rattle.cmh_graph.specs.Graph.{Graph, Depends, dependents_of, is_idle, process_count}
-use Rattle.cmh_graph.specs.Search.{is_marked, list_at, number_at, unmarked_count, JoinsEach, IsLeastAt, IsNamedBy, MarksEach, Numbers}
+use Rattle.cmh_graph.specs.Search.{is_marked, list_at, number_at, predecessors_at, unmarked_count, ArePredecessors, JoinsEach, IsLeastAt, IsNamedBy, MarksEach, Numbers}
 use Rattle.cmh_graph.proofs.Reaching.{cons_contains}
+use Rattle.cmh_graph.proofs.Verdicts.{idle_within}
 
 -- ---- a list that is one longer
 
@@ -30,6 +31,10 @@ taken_stays xs i q l c = subst (λ ys. Contains ys q) (sym (take_more xs i 0 l))
 pub taken_last : (xs : List ℕ) (i q : ℕ) → i < length xs → q ≡ get_or xs i 0 → Contains (take (i + 1) xs) q
 taken_last xs i q l e = subst (λ ys. Contains ys q) (sym (take_more xs i 0 l)) (subst (λ z. Contains (take i xs ++ get_or xs i 0 ∷ []) z) (sym e) (Contains-push (take i xs) (get_or xs i 0)))
 
+-- a member more of a list is filtered
+filtered_more : (t : ℕ → Bool) (xs : List ℕ) (i : ℕ) (b : Bool) → i < length xs → b ≡ t (get_or xs i 0) → filter t (take (i + 1) xs) ≡ filter t (take i xs) ++ cond b (get_or xs i 0 ∷ []) []
+filtered_more t xs i b l e = filter_more t xs i 0 l ∙ ap (λ c. filter t (take i xs) ++ cond c (get_or xs i 0 ∷ []) []) (sym e)
+
 -- ---- marks
 
 -- a mark makes one unmarked place fewer
@@ -46,60 +51,81 @@ mark_keeps marks x p l e = elim (cases_eq p x) [
   | inr h ↦ get_or-set_other marks x p true false h ∙ e
 ]
 
+-- a member more, that is marked already
+marks_stay : (xs : List ℕ) (x : ℕ) (old marks : List Bool) (before pending : List ℕ) → MarksEach xs old marks before pending → is_marked marks x ≡ true → MarksEach (xs ++ x ∷ []) old marks before pending
+marks_stay xs x old marks before pending h k = record {
+  size = h.size;
+  kept = h.kept;
+  marked = λ p c. elim (Contains-push_cases xs x p c) [
+    | inl d ↦ h.marked p d
+    | inr e ↦ ap (is_marked marks) (sym e) ∙ k
+  ];
+  made = λ p m. elim (h.made p m) [
+    | inl o ↦ inl o
+    | inr o ↦ inr (Contains-append_left xs (x ∷ []) p o.0, o.1)
+  ];
+  stays = h.stays;
+  only = h.only;
+  count = h.count;
+}
+
+-- a member more, that is marked now
+marks_one : (xs : List ℕ) (x : ℕ) (old marks : List Bool) (before pending : List ℕ) → MarksEach xs old marks before pending → x < length marks → is_marked marks x ≡ false → MarksEach (xs ++ x ∷ []) old (set marks x true) before (pending ++ x ∷ [])
+marks_one xs x old marks before pending h m k =
+    let here : is_marked (set marks x true) x ≡ true = get_or-set_same marks x true false m in
+    record {
+      size = length-set marks x true ∙ h.size;
+      kept = λ p o. mark_keeps marks x p m (h.kept p o);
+      marked = λ p c. elim (Contains-push_cases xs x p c) [
+        | inl d ↦ mark_keeps marks x p m (h.marked p d)
+        | inr e ↦ ap (is_marked (set marks x true)) (sym e) ∙ here
+      ];
+      made = λ p n. elim (cases_eq p x) [
+        | inl e ↦ inr (subst (λ z. Contains (xs ++ x ∷ []) z) (sym e) (Contains-push xs x), subst (λ z. Contains (pending ++ x ∷ []) z) (sym e) (Contains-push pending x))
+        | inr e ↦ elim (h.made p (sym (get_or-set_other marks x p true false e) ∙ n)) [
+          | inl o ↦ inl o
+          | inr o ↦ inr (Contains-append_left xs (x ∷ []) p o.0, Contains-append_left pending (x ∷ []) p o.1)
+        ]
+      ];
+      stays = λ p c. Contains-append_left pending (x ∷ []) p (h.stays p c);
+      only = λ p c. elim (Contains-push_cases pending x p c) [
+        | inl d ↦ elim (h.only p d) [ inl o ↦ inl o | inr o ↦ inr (mark_keeps marks x p m o) ]
+        | inr e ↦ inr (ap (is_marked (set marks x true)) (sym e) ∙ here)
+      ];
+      count = omega (arith, h.count, count_marked marks x m k, length_push pending x);
+    }
+
+-- the same, by what the list, the marks and the pending are
+marks_are : (xs ys : List ℕ) (old marks new : List Bool) (before pending after : List ℕ) → ys ≡ xs → new ≡ marks → after ≡ pending → MarksEach xs old marks before pending → MarksEach ys old new before after
+marks_are xs ys old marks new before pending after d e f h =
+    subst (λ zs. MarksEach zs old new before after) (sym d)
+    (subst (λ m. MarksEach xs old m before after) (sym e)
+    (subst (λ zs. MarksEach xs old marks before zs) (sym f) h))
+
 -- one place more of a list, that is marked already
 pub marks_kept_more : (i : ℕ) (list : List ℕ) (old marks new : List Bool) (before xs after : List ℕ) → i < length list → MarksEach (take i list) old marks before xs → is_marked marks (get_or list i 0) ≡ true → new ≡ marks → after ≡ xs → MarksEach (take (i + 1) list) old new before after
 marks_kept_more i list old marks new before xs after l h k e f =
-    subst (λ m. MarksEach (take (i + 1) list) old m before after) (sym e)
-    (subst (λ zs. MarksEach (take (i + 1) list) old marks before zs) (sym f) (kept i list old marks before xs l h k))
-  where
-    kept : (i : ℕ) (list : List ℕ) (old marks : List Bool) (before xs : List ℕ) → i < length list → MarksEach (take i list) old marks before xs → is_marked marks (get_or list i 0) ≡ true → MarksEach (take (i + 1) list) old marks before xs
-    kept i list old marks before xs l h k = record {
-      size = h.size;
-      kept = h.kept;
-      marked = λ p c. elim (taken_more list i p l c) [
-        | inl d ↦ h.marked p d
-        | inr e ↦ ap (is_marked marks) e ∙ k
-      ];
-      made = λ p m. elim (h.made p m) [
-        | inl o ↦ inl o
-        | inr o ↦ inr (taken_stays list i p l o.0, o.1)
-      ];
-      stays = h.stays;
-      only = h.only;
-      count = h.count;
-    }
+    marks_are _ _ old marks new before xs after (take_more list i 0 l) e f (marks_stay (take i list) (get_or list i 0) old marks before xs h k)
 
 -- one place more of a list, that is marked now
 pub marks_more : (i : ℕ) (list : List ℕ) (old marks new : List Bool) (before xs after : List ℕ) → i < length list → MarksEach (take i list) old marks before xs → get_or list i 0 < length marks → is_marked marks (get_or list i 0) ≡ false → new ≡ set marks (get_or list i 0) true → after ≡ xs ++ get_or list i 0 ∷ [] → MarksEach (take (i + 1) list) old new before after
 marks_more i list old marks new before xs after l h m k e f =
-    subst (λ z. MarksEach (take (i + 1) list) old z before after) (sym e)
-    (subst (λ zs. MarksEach (take (i + 1) list) old (set marks (get_or list i 0) true) before zs) (sym f) (more i list old marks before xs l h m k))
-  where
-    more : (i : ℕ) (list : List ℕ) (old marks : List Bool) (before xs : List ℕ) → i < length list → MarksEach (take i list) old marks before xs → get_or list i 0 < length marks → is_marked marks (get_or list i 0) ≡ false → MarksEach (take (i + 1) list) old (set marks (get_or list i 0) true) before (xs ++ get_or list i 0 ∷ [])
-    more i list old marks before xs l h m k =
-        let x = get_or list i 0 in
-        let here : is_marked (set marks x true) x ≡ true = get_or-set_same marks x true false m in
-        record {
-          size = length-set marks x true ∙ h.size;
-          kept = λ p o. mark_keeps marks x p m (h.kept p o);
-          marked = λ p c. elim (taken_more list i p l c) [
-            | inl d ↦ mark_keeps marks x p m (h.marked p d)
-            | inr e ↦ ap (is_marked (set marks x true)) e ∙ here
-          ];
-          made = λ p n. elim (cases_eq p x) [
-            | inl e ↦ inr (taken_last list i p l e, subst (λ z. Contains (xs ++ x ∷ []) z) (sym e) (Contains-push xs x))
-            | inr e ↦ elim (h.made p (sym (get_or-set_other marks x p true false e) ∙ n)) [
-              | inl o ↦ inl o
-              | inr o ↦ inr (taken_stays list i p l o.0, Contains-append_left xs (x ∷ []) p o.1)
-            ]
-          ];
-          stays = λ p c. Contains-append_left xs (x ∷ []) p (h.stays p c);
-          only = λ p c. elim (Contains-push_cases xs x p c) [
-            | inl d ↦ elim (h.only p d) [ inl o ↦ inl o | inr o ↦ inr (mark_keeps marks x p m o) ]
-            | inr e ↦ inr (ap (is_marked (set marks x true)) (sym e) ∙ here)
-          ];
-          count = omega (arith, h.count, count_marked marks x m k, length_push xs x);
-        }
+    marks_are _ _ old _ new before _ after (take_more list i 0 l) e f (marks_one (take i list) (get_or list i 0) old marks before xs h m k)
+
+-- one place more of a list, that passes the test and is marked already
+pub marks_inside_kept : (t : ℕ → Bool) (i : ℕ) (list : List ℕ) (old marks new : List Bool) (before xs after : List ℕ) → i < length list → MarksEach (filter t (take i list)) old marks before xs → t (get_or list i 0) ≡ true → is_marked marks (get_or list i 0) ≡ true → new ≡ marks → after ≡ xs → MarksEach (filter t (take (i + 1) list)) old new before after
+marks_inside_kept t i list old marks new before xs after l h b k e f =
+    marks_are _ _ old marks new before xs after (filtered_more t list i true l (sym b)) e f (marks_stay (filter t (take i list)) (get_or list i 0) old marks before xs h k)
+
+-- one place more of a list, that passes the test and is marked now
+pub marks_inside_more : (t : ℕ → Bool) (i : ℕ) (list : List ℕ) (old marks new : List Bool) (before xs after : List ℕ) → i < length list → MarksEach (filter t (take i list)) old marks before xs → t (get_or list i 0) ≡ true → get_or list i 0 < length marks → is_marked marks (get_or list i 0) ≡ false → new ≡ set marks (get_or list i 0) true → after ≡ xs ++ get_or list i 0 ∷ [] → MarksEach (filter t (take (i + 1) list)) old new before after
+marks_inside_more t i list old marks new before xs after l h b m k e f =
+    marks_are _ _ old _ new before _ after (filtered_more t list i true l (sym b)) e f (marks_one (filter t (take i list)) (get_or list i 0) old marks before xs h m k)
+
+-- one place more of a list, that doesn't pass the test
+pub marks_outside : (t : ℕ → Bool) (i : ℕ) (list : List ℕ) (old marks new : List Bool) (before xs after : List ℕ) → i < length list → MarksEach (filter t (take i list)) old marks before xs → t (get_or list i 0) ≡ false → new ≡ marks → after ≡ xs → MarksEach (filter t (take (i + 1) list)) old new before after
+marks_outside t i list old marks new before xs after l h b e f =
+    marks_are _ _ old marks new before xs after (filtered_more t list i false l (sym b) ∙ append-nil (filter t (take i list))) e f h
 
 -- ---- lists at places
 
@@ -211,6 +237,14 @@ predecessors_more g n old new w h j = record {
   ];
 }
 
+-- once all have joined, they are the predecessors
+pub predecessors_all : (g : Graph) (n : ℕ) (lists : List (Vec ℕ)) → process_count g ≤ n → PredecessorsBelow g n lists → ArePredecessors g (map (λ v. v.items) lists)
+predecessors_all g n lists l h = record {
+  size = length-map lists (λ v. v.items) ∙ h.size;
+  sound = h.sound;
+  complete = λ p r d. h.complete p r (omega (arith, l, idle_within g p d.0)) d;
+}
+
 -- ---- numbers at places
 
 -- a place with a number is within the list
@@ -316,12 +350,12 @@ numbers_more n i list old numbers new before xs after l h m k e f =
     h (numbers_one n (get_or list i 0) numbers xs m k)))
 
 -- the list of one member more of a level
-pub level_more : (lists : List (Vec ℕ)) (level : List ℕ) (n i : ℕ) (a b c : List (Option ℕ)) (x y z : List ℕ) → i < length level → Numbers (IsNamedBy lists (take i level)) n a b x y → Numbers (Contains (list_at lists (get_or level i 0))) n b c y z → Numbers (IsNamedBy lists (take (i + 1) level)) n a c x z
+pub level_more : (lists : List (List ℕ)) (level : List ℕ) (n i : ℕ) (a b c : List (Option ℕ)) (x y z : List ℕ) → i < length level → Numbers (IsNamedBy lists (take i level)) n a b x y → Numbers (Contains (predecessors_at lists (get_or level i 0))) n b c y z → Numbers (IsNamedBy lists (take (i + 1) level)) n a c x z
 level_more lists level n i a b c x y z l =
-    numbers_both (IsNamedBy lists (take i level)) (Contains (list_at lists (get_or level i 0))) (IsNamedBy lists (take (i + 1) level)) n a b c x y z
+    numbers_both (IsNamedBy lists (take i level)) (Contains (predecessors_at lists (get_or level i 0))) (IsNamedBy lists (take (i + 1) level)) n a b c x y z
     (λ p (q, k, m). elim (taken_more level i q l k) [
       | inl h ↦ inl (q, h, m)
-      | inr e ↦ inr (subst (λ r. Contains (list_at lists r) p) e m)
+      | inr e ↦ inr (subst (λ r. Contains (predecessors_at lists r) p) e m)
     ])
     (λ p (q, k, m). (q, taken_stays level i q l k, m))
     (λ p k. (get_or level i 0, taken_last level i (get_or level i 0) l refl, k))

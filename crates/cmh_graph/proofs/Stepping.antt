@@ -1,16 +1,17 @@
 -- The least number of dependencies to a process that passes a test, and its search by levels.
 use Rattle.std.proofs.Common.{◌≡◌, ℕ, zero, suc, ◌<◌, ◌≤◌, ◌+◌, ◌-◌, Bool, true, false, cond, ◌⊎◌, inl, inr, List, [], ◌∷◌, ◌++◌, map, length, get_or, refl, sym, ◌∙◌, ap, subst, arith}
-use Rattle.std.specs.Prelude.{Contains, filter, flat_map, find, Some, None, Option, is_some, unwrap_or}
-use Rattle.std.specs.List.{range_with_len}
+use Rattle.std.specs.Prelude.{Contains, filter, flat_map, find, Some, None, Option, Result, Ok, Err, IfOk, is_some, unwrap_or}
 use Rattle.std.specs.Global.{Vec}
+use Rattle.std.specs.List.{range_with_len}
 use Rattle.std.proofs.lemmas.List.{length-map}
 use Rattle.std.proofs.lemmas.List.Elements.{Contains-get_or}
 use Rattle.std.proofs.lemmas.List.FromFn.{fill_by_all}
 use native.Mathlib.Decide.{dec_lt}
+use Rattle.cmh_graph.specs.declared.fault.GraphFault.{GraphFault}
 use Rattle.cmh_graph.specs.Graph.{IsWithinGraph, Graph, Depends, process_count, dependencies_of, indices, is_awake}
 use Rattle.cmh_graph.specs.ChosenPath.{distance_of}
 use Rattle.cmh_graph.specs.Path.{Leads, paths_to, is_nonempty, steps_to}
-use Rattle.cmh_graph.specs.Search.{is_marked, list_at, number_at, ArePredecessors, IsNamedBy, Numbers}
+use Rattle.cmh_graph.specs.Search.{is_marked, number_at, predecessors_at, ArePredecessors, IsNamedBy, Numbers}
 use Rattle.cmh_graph.proofs.Reaching.{Simple, simple, length_apart, within, listed, walk, Walk, contains_index, is_some_find, nonempty_flat_map, nonempty_map, flat_map_nonempty, map_nonempty, depends, dependency, depends_within, start_by, start_nonempty, contains_cons}
 use Rattle.cmh_graph.proofs.Listing.{by_index, by_index_agree}
 use Rattle.cmh_graph.proofs.Searching.{cases_number, numbered, numbered_within}
@@ -190,7 +191,7 @@ some_same : (a b : ℕ) → Some a ≡ Some b → a ≡ b
 some_same a b e = ap (λ o. unwrap_or o 0) e
 
 -- a number that the level gives is right
-level_sound : (g : Graph) (test : ℕ → Bool) (n m : ℕ) (lists : List (Vec ℕ)) (old new : List (Option ℕ)) (level next : List ℕ) → IsWithinGraph g → ArePredecessors g lists → m ≡ suc n → StepsUpTo g test n old level → Numbers (IsNamedBy lists level) m old new [] next → (p d : ℕ) → number_at new p ≡ Some d → (steps_to g test p ≡ Some d) × (d ≤ m)
+level_sound : (g : Graph) (test : ℕ → Bool) (n m : ℕ) (lists : List (List ℕ)) (old new : List (Option ℕ)) (level next : List ℕ) → IsWithinGraph g → ArePredecessors g lists → m ≡ suc n → StepsUpTo g test n old level → Numbers (IsNamedBy lists level) m old new [] next → (p d : ℕ) → number_at new p ≡ Some d → (steps_to g test p ≡ Some d) × (d ≤ m)
 level_sound g test n m lists old new level next w pre e s h p d f =
     elim (cases_number (number_at old p)) [
       | inl k ↦ let same = some_same d k.0 (sym f ∙ h.kept p k.0 k.1) in
@@ -207,7 +208,7 @@ level_sound g test n m lists old new level next w pre e s h p d f =
     ]
 
 -- and each process of that number gets it
-level_complete : (g : Graph) (test : ℕ → Bool) (n m : ℕ) (lists : List (Vec ℕ)) (old new : List (Option ℕ)) (level next : List ℕ) → IsWithinGraph g → ArePredecessors g lists → m ≡ suc n → StepsUpTo g test n old level → Numbers (IsNamedBy lists level) m old new [] next → (p d : ℕ) → p < process_count g → steps_to g test p ≡ Some d → d ≤ m → number_at new p ≡ Some d
+level_complete : (g : Graph) (test : ℕ → Bool) (n m : ℕ) (lists : List (List ℕ)) (old new : List (Option ℕ)) (level next : List ℕ) → IsWithinGraph g → ArePredecessors g lists → m ≡ suc n → StepsUpTo g test n old level → Numbers (IsNamedBy lists level) m old new [] next → (p d : ℕ) → p < process_count g → steps_to g test p ≡ Some d → d ≤ m → number_at new p ≡ Some d
 level_complete g test n m lists old new level next w pre e s h p d i f l =
     elim (dec_lt n d) [
       | yes k ↦ let is : d ≡ suc n = omega (arith, k, l, e) in
@@ -221,7 +222,7 @@ level_complete g test n m lists old new level next w pre e s h p d i f l =
     ]
 
 -- a level more
-pub steps_more : (g : Graph) (test : ℕ → Bool) (n m : ℕ) (lists : List (Vec ℕ)) (old new : List (Option ℕ)) (level next : List ℕ) → IsWithinGraph g → ArePredecessors g lists → m ≡ suc n → StepsUpTo g test n old level → Numbers (IsNamedBy lists level) m old new [] next → StepsUpTo g test m new next
+pub steps_more : (g : Graph) (test : ℕ → Bool) (n m : ℕ) (lists : List (List ℕ)) (old new : List (Option ℕ)) (level next : List ℕ) → IsWithinGraph g → ArePredecessors g lists → m ≡ suc n → StepsUpTo g test n old level → Numbers (IsNamedBy lists level) m old new [] next → StepsUpTo g test m new next
 steps_more g test n m lists old new level next w pre e s h = record {
   size = h.size ∙ s.size;
   sound = level_sound g test n m lists old new level next w pre e s h;
@@ -240,18 +241,18 @@ steps_more g test n m lists old new level next w pre e s h = record {
       ];
 }
 
--- the members of a level have lists
-pub level_listed : (g : Graph) (test : ℕ → Bool) (n : ℕ) (lists ys : List (Vec ℕ)) (steps : List (Option ℕ)) (level xs : List ℕ) → ArePredecessors g lists → StepsUpTo g test n steps level → xs ≡ level → ys ≡ lists → (k d : ℕ) → k < length xs → get_or xs k d < length ys
-level_listed g test n lists ys steps level xs pre s e f k d l =
+-- the members of a level have predecessors
+pub level_listed : (g : Graph) (test : ℕ → Bool) (n : ℕ) (lists : List (List ℕ)) (steps : List (Option ℕ)) (level xs : List ℕ) → ArePredecessors g lists → StepsUpTo g test n steps level → xs ≡ level → (k d : ℕ) → k < length xs → get_or xs k d < length lists
+level_listed g test n lists steps level xs pre s e k d l =
     let c : Contains level (get_or xs k d) = subst (λ zs. Contains zs (get_or xs k d)) e (Contains-get_or xs k d l) in
-    omega (arith, (s.members (get_or xs k d) c).0, pre.size, ap length f)
+    omega (arith, (s.members (get_or xs k d) c).0, pre.size)
 
--- the members of a list have numbers
-pub level_within : (g : Graph) (test : ℕ → Bool) (n : ℕ) (lists ys : List (Vec ℕ)) (steps zs : List (Option ℕ)) (level : List ℕ) → ArePredecessors g lists → StepsUpTo g test n steps level → ys ≡ lists → zs ≡ steps → (q k d : ℕ) → k < length (list_at ys q) → get_or (list_at ys q) k d < length zs
-level_within g test n lists ys steps zs level pre s e f q k d l =
-    let p = get_or (list_at ys q) k d in
-    let c : Contains (list_at lists q) p = subst (λ us. Contains (list_at us q) p) e (Contains-get_or (list_at ys q) k d l) in
-    omega (arith, idle_within g p (pre.sound p q c).0, s.size, ap length f)
+-- a predecessor is one of the graph
+pub listed_within : (g : Graph) (lists : List (List ℕ)) (q : ℕ) (row : List ℕ) (n : ℕ) → ArePredecessors g lists → row ≡ predecessors_at lists q → n ≡ process_count g → (k d : ℕ) → k < length row → get_or row k d < n
+listed_within g lists q row n pre e f k d l =
+    let p = get_or row k d in
+    let c = subst (λ xs. Contains xs p) e (Contains-get_or row k d l) in
+    omega (arith, idle_within g p (pre.sound p q c).0, f)
 
 -- some process is at each number up to that of another
 steps_between : (g : Graph) (test : ℕ → Bool) → IsWithinGraph g → (n k p : ℕ) → p < process_count g → steps_to g test p ≡ Some (k + n) → (q : ℕ) × (q < process_count g) × (steps_to g test q ≡ Some n)
@@ -300,3 +301,8 @@ unfolding distance_of
 steps_to_awake g marks w e =
     by_index_agree g (steps_to g (is_marked marks)) (steps_to g (is_awake g)) None
     (steps_agree g (is_marked marks) (is_awake g) w (λ r l. by_index g (is_awake g) marks r false e l))
+
+-- a search that gives the ones gives the others
+pub distances_found : (g : Graph) (marks : List Bool) (found : Result (Vec (Option ℕ)) GraphFault) → IsWithinGraph g → marks ≡ map (is_awake g) (indices g) → IfOk found (λ steps. steps.items ≡ map (steps_to g (is_marked marks)) (indices g)) → IfOk found (λ steps. steps.items ≡ map (distance_of g) (indices g))
+distances_found g marks (Ok steps) w e h = h ∙ steps_to_awake g marks w e
+distances_found g marks (Err fault) w e h = tt

@@ -23,15 +23,19 @@ pub record JoinsEach (p : ℕ) (places : List ℕ) (old new : List (Vec ℕ)) : 
   pub only : (r q : ℕ) → Contains (list_at new r) q
       → Contains (list_at old r) q ⊎ ((q ≡ p) × Contains places r)
 
--- p is on the list of r just where it depends on r
-pub record ArePredecessors (g : Graph) (lists : List (Vec ℕ)) : Type 0 where
-  pub size : length lists ≡ process_count g
-  pub sound : (p r : ℕ) → Contains (list_at lists r) p → Depends g p r
-  pub complete : (p r : ℕ) → Depends g p r → Contains (list_at lists r) p
+-- the predecessors of a process, of which each process has a list; past the end there are none
+abbrev pub predecessors_at : List (List ℕ) → ℕ → List ℕ
+predecessors_at lists r = slice_index_or lists r []
 
--- the list of a member of the level has p
-abbrev pub IsNamedBy : List (Vec ℕ) → List ℕ → ℕ → Type 0
-IsNamedBy lists level p = (q : ℕ) × Contains level q × Contains (list_at lists q) p
+-- p is on the list of r just where it depends on r
+pub record ArePredecessors (g : Graph) (lists : List (List ℕ)) : Type 0 where
+  pub size : length lists ≡ process_count g
+  pub sound : (p r : ℕ) → Contains (predecessors_at lists r) p → Depends g p r
+  pub complete : (p r : ℕ) → Depends g p r → Contains (predecessors_at lists r) p
+
+-- p is a predecessor of a member of the level
+abbrev pub IsNamedBy : List (List ℕ) → List ℕ → ℕ → Type 0
+IsNamedBy lists level p = (q : ℕ) × Contains level q × Contains (predecessors_at lists q) p
 
 -- Each named place that had no number has this one now, and has joined the list of places.
 -- Nothing else has changed.

@@ -16,7 +16,7 @@ impl WaitGraph {
             list.items ≡ map (distance_of self.now) (indices self.now)) }
         ensures memory { IfErr result (λ e. e ≡ GraphFault.Memory) }
     {
-        Ok(self.steps_to(alloc, self.awake())?)
+        self.steps_to(alloc, self.awake())
     }
 
     /// Of the shortest paths from `p` to an awake process the one whose indices are least, from

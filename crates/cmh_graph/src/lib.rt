@@ -11,6 +11,7 @@ mod graph;
 mod judge;
 pub mod laws;
 mod part;
+mod predecessors;
 mod reach;
 mod search;
 #[cfg(test)]
@@ -20,6 +21,7 @@ mod verdict;
 pub use fault::GraphFault;
 pub use graph::WaitGraph;
 pub use part::{Part, State};
+pub use predecessors::Predecessors;
 pub use verdict::Verdict;
 
 /// The most processes that a graph may have.

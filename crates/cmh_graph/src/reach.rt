@@ -4,9 +4,10 @@ ghost use Rattle.std.specs.Prelude.{◌≡◌, ◌<◌, IfOk, IfErr};
 ghost use Rattle.cmh_graph.specs.Graph.{process_count};
 ghost use Rattle.cmh_graph.specs.Path.{reach_of};
 ghost use Rattle.cmh_graph.specs.Core.{core_of};
+ghost use Rattle.cmh_graph.specs.Search.{ArePredecessors};
 
-use crate::search::{mark_alone, marked};
-use crate::{GraphFault, WaitGraph};
+use crate::search::marked;
+use crate::{GraphFault, Predecessors, WaitGraph};
 use std::alloc::Global;
 
 impl WaitGraph {
@@ -28,15 +29,25 @@ impl WaitGraph {
         ensures ok { IfOk result (λ list. list.items ≡ core_of self.now p) }
         ensures memory { IfErr result (λ e. e ≡ GraphFault.Memory) }
     {
-        let reach = self.reach_of(alloc, p)?;
-        let alone = mark_alone(alloc, self.len(), p)?;
-        let steps_back = self.steps_to(alloc, &alone)?;
-        let mut core = Vec::new(alloc);
-        for q in &reach {
-            if steps_back[*q as usize].is_some() {
-                core.push(*q)?;
-            }
-        }
-        Ok(core)
+        let predecessors = Predecessors::of_graph(alloc, self)?;
+        self.core_by(alloc, &predecessors, p)
+    }
+
+    /// The core of `p`, as `core_of` gives it, by the predecessors of all processes. It takes time
+    /// linear in the processes, the dependencies of those that `p` reaches and the predecessors of
+    /// those in the core, and memory linear in the processes.
+    pub fn core_by(
+        &self,
+        alloc: Global,
+        predecessors: &Predecessors,
+        p: u32,
+    ) -> Result<Vec<u32>, GraphFault>
+        requires within { p < process_count self.now }
+        requires known { ArePredecessors self.now predecessors.now }
+        ensures ok { IfOk result (λ list. list.items ≡ core_of self.now p) }
+        ensures memory { IfErr result (λ e. e ≡ GraphFault.Memory) }
+    {
+        let core = self.core_from(alloc, predecessors, p)?;
+        Ok(marked(alloc, &core)?)
     }
 }

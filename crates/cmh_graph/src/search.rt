@@ -1,12 +1,12 @@
 //! Searches along dependencies.
 
-ghost use Rattle.std.specs.Prelude.{◌≡◌, ◌==◌, ◌<◌, ◌≤◌, ◌^◌, ℕ, [], map, length, filter, if◌then◌else◌, All, Contains, IfOk, OnOk, Some, None};
+ghost use Rattle.std.specs.Prelude.{◌≡◌, ◌==◌, ◌&&◌, ◌<◌, ◌≤◌, ◌^◌, ℕ, [], map, length, filter, if◌then◌else◌, All, Contains, IfOk, IfErr, OnOk, Some, None};
 ghost use Rattle.std.specs.List.{range_with_len};
 ghost use Rattle.cmh_graph.specs.Graph.{indices, process_count};
 ghost use Rattle.cmh_graph.specs.Path.{reaches, steps_to};
-ghost use Rattle.cmh_graph.specs.Search.{is_marked, list_at, JoinsEach, ArePredecessors, IsNamedBy, MarksEach, Numbers};
+ghost use Rattle.cmh_graph.specs.Search.{is_marked, predecessors_at, ArePredecessors, IsNamedBy, MarksEach, Numbers};
 
-use crate::{MAX_PROCESSES, WaitGraph};
+use crate::{GraphFault, MAX_PROCESSES, Predecessors, WaitGraph};
 use std::alloc::{AllocError, Global};
 
 impl WaitGraph {
@@ -26,19 +26,45 @@ impl WaitGraph {
         Ok(marks)
     }
 
+    /// For each process whether it is in the core of `p`. The search goes against the dependencies,
+    /// and stays among those that `p` reaches: each on a way from `p` back to `p` is one of them, so
+    /// it visits the core alone.
+    pub(crate) fn core_from(
+        &self,
+        alloc: Global,
+        predecessors: &Predecessors,
+        p: u32,
+    ) -> Result<Vec<bool>, AllocError>
+        requires within { p < process_count self.now }
+        requires known { ArePredecessors self.now predecessors.now }
+        ensures marks { IfOk result (λ marks.
+            marks.items ≡ map (λ q. reaches self.now p q && reaches self.now q p) (indices self.now)) }
+        ensures few { process_count self.now ≤ MAX_PROCESSES }
+    {
+        let reached = self.reached_from(alloc, p)?;
+        let mut core = mark_alone(alloc, self.len(), p)?;
+        let mut pending = Vec::new(alloc);
+        pending.push(p)?;
+        while let Some(q) = pending.pop() {
+            mark_each_within(predecessors.at(q), &reached, &mut core, &mut pending)?;
+        }
+        Ok(core)
+    }
+
     /// For each process the least number of dependencies to a marked one, where there is one. The
     /// search goes against the dependencies, from each distance to the next.
     pub(crate) fn steps_to(
         &self,
         alloc: Global,
         marks: &[bool],
-    ) -> Result<Vec<Option<u32>>, AllocError>
+    ) -> Result<Vec<Option<u32>>, GraphFault>
         requires { length marks.now ≡ process_count self.now }
-        ensures { IfOk result (λ distances.
+        ensures ok { IfOk result (λ distances.
             distances.items ≡ map (steps_to self.now (is_marked marks.now)) (indices self.now)) }
+        ensures memory { IfErr result (λ e. e ≡ GraphFault.Memory) }
     {
         self.has_no_fault();
-        let predecessors = self.predecessors(alloc)?;
+        let predecessors = Predecessors::of_graph(alloc, self)?;
         let mut distances = first_distances(alloc, marks)?;
         let mut level = marked(alloc, marks)?;
         let mut distance = 0;
@@ -47,17 +73,6 @@ impl WaitGraph {
             level = next_level(alloc, &predecessors, &level, distance, &mut distances)?;
         }
         Ok(distances)
-    }
-
-    /// For each process those that depend on it.
-    fn predecessors(&self, alloc: Global) -> Result<Vec<Vec<u32>>, AllocError>
-        ensures { IfOk result (λ lists. ArePredecessors self.now lists.items) }
-    {
-        let mut lists = empty_lists(alloc, self.len())?;
-        for p in 0..self.len() {
-            join_each(p, self.dependents(p), &mut lists)?;
-        }
-        Ok(lists)
     }
 }
 
@@ -103,35 +118,33 @@ fn mark_each(list: &[u32], marks: &mut [bool], pending: &mut Vec<u32>) -> Result
     Ok(())
 }
 
+/// Marks each process of the list that is inside. Those that were not marked become pending.
+fn mark_each_within(
+    list: &[u32],
+    inside: &[bool],
+    marks: &mut [bool],
+    pending: &mut Vec<u32>,
+) -> Result<(), AllocError>
+    requires listed { All (λ p. p < length marks.old) list.now }
+    requires alike { length inside.now ≡ length marks.old }
+    ensures { OnOk result (MarksEach (filter (is_marked inside.now) list.now)
+        marks.old marks.new pending.old.items pending.new.items) }
+{
+    for p in list {
+        if inside[*p as usize] && !marks[*p as usize] {
+            marks[*p as usize] = true;
+            pending.push(*p)?;
+        }
+    }
+    Ok(())
+}
+
 /// The distance 0 for each marked process, and none yet for another.
 fn first_distances(alloc: Global, marks: &[bool]) -> Result<Vec<Option<u32>>, AllocError>
     ensures { IfOk result (λ distances.
         distances.items ≡ map (λ mark. if mark then Some 0 else None) marks.now) }
 {
     marks.iter().map(|mark| mark.then_some(0)).collect(alloc)
-}
-
-/// So many empty lists.
-fn empty_lists(alloc: Global, count: u32) -> Result<Vec<Vec<u32>>, AllocError>
-    ensures size { IfOk result (λ lists. length lists.items ≡ count) }
-    ensures empty { IfOk result (λ lists. (r : ℕ) → list_at lists.items r ≡ []) }
-{
-    let mut lists = Vec::new(alloc);
-    for _ in 0..count {
-        lists.push(Vec::new(alloc))?;
-    }
-    Ok(lists)
-}
-
-/// Adds `p` to the list of each of these places.
-fn join_each(p: u32, places: &[u32], lists: &mut [Vec<u32>]) -> Result<(), AllocError>
-    requires { All (λ r. r < length lists.old) places.now }
-    ensures { OnOk result (JoinsEach p places.now lists.old lists.new) }
-{
-    for r in places {
-        lists[*r as usize].push(p)?;
-    }
-    Ok(())
 }
 
 /// Gives `distance` to each process of the list that has none, and adds it to the next level.
@@ -154,22 +167,23 @@ fn number_each(
     Ok(())
 }
 
-/// The processes without a distance that the lists of the level have. They get this one.
+/// The processes without a distance that depend on one of the level. They get this one.
 fn next_level(
     alloc: Global,
-    lists: &[Vec<u32>],
+    predecessors: &Predecessors,
     level: &[u32],
     distance: u32,
     distances: &mut [Option<u32>],
 ) -> Result<Vec<u32>, AllocError>
-    requires listed { All (λ q. q < length lists.now) level.now }
-    requires within { (q : ℕ) → All (λ p. p < length distances.old) (list_at lists.now q) }
-    ensures { IfOk result (λ next. Numbers (IsNamedBy lists.now level.now) distance
+    requires listed { All (λ q. q < length predecessors.now) level.now }
+    requires within { (q : ℕ) →
+        All (λ p. p < length distances.old) (predecessors_at predecessors.now q) }
+    ensures { IfOk result (λ next. Numbers (IsNamedBy predecessors.now level.now) distance
         distances.old distances.new [] next.items) }
 {
     let mut next = Vec::new(alloc);
     for q in level {
-        number_each(&lists[*q as usize], distance, distances, &mut next)?;
+        number_each(predecessors.at(*q), distance, distances, &mut next)?;
     }
     Ok(next)
 }

@@ -1,5 +1,6 @@
 //! Worked graphs. Expected values are from the rules, by hand.
 
+mod cores;
 mod limits;
 mod memory;
 mod surface;

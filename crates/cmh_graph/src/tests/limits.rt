@@ -2,7 +2,9 @@
 
 ghost use Rattle.std.specs.Prelude.{◌<◌};
 
-use crate::{GraphFault, MAX_IN_TRANSIT, MAX_PROCESSES, Part, State, Verdict, WaitGraph};
+use crate::{
+    GraphFault, MAX_IN_TRANSIT, MAX_PROCESSES, Part, Predecessors, State, Verdict, WaitGraph,
+};
 use std::alloc::{AllocError, Global};
 
 const COUNT: u32 = MAX_PROCESSES as u32;
@@ -68,6 +70,37 @@ fn a_chain_with_its_last_active(rt: HostRuntime) -> Result<(), GraphFault> {
     assert_eq!(rt; distances.len(), 4_096);
     for (p, distance) in distances.iter().enumerate() {
         assert_eq!(rt; *distance, 4_095u32.checked_sub(p as u32));
+    }
+    Ok(())
+}
+
+/// The first half of the processes are a ring, and each of them waits for a sink of its own too.
+fn ring_with_sinks(alloc: Global) -> Result<WaitGraph, GraphFault> {
+    let half = COUNT / 2;
+    let mut parts = Vec::new(alloc);
+    for p in 0..half {
+        parts.push(part(alloc, State::Idle, &[(p + 1) % half, half + p])?)?;
+    }
+    for _ in 0..half {
+        parts.push(part(alloc, State::Idle, &[])?)?;
+    }
+    WaitGraph::build(alloc, parts)
+}
+
+#[test]
+fn a_ring_with_a_sink_for_each(rt: HostRuntime) -> Result<(), GraphFault> {
+    let alloc = rt.alloc();
+    let graph = ring_with_sinks(alloc)?;
+    assert_eq!(rt; graph.len(), 4_096);
+    let predecessors = Predecessors::of_graph(alloc, &graph)?;
+    let core = graph.core_by(alloc, &predecessors, 1_000)?;
+    assert_eq!(rt; core.len(), 2_048);
+    for (place, p) in core.iter().enumerate() {
+        assert_eq!(rt; *p as usize, place);
+    }
+    for sink in 2_048..graph.len() {
+        let core = graph.core_by(alloc, &predecessors, sink)?;
+        assert_eq!(rt; core.as_slice(), [sink].as_slice());
     }
     Ok(())
 }

@@ -6,7 +6,7 @@ use crate::laws::{
     law_leader, law_leaders, law_no_path, law_path_length, law_reach, law_rest, law_rising,
     law_verdict, law_well_formed,
 };
-use crate::{GraphFault, Part, State, Verdict, WaitGraph};
+use crate::{GraphFault, Part, Predecessors, State, Verdict, WaitGraph};
 
 #[test]
 fn parts(rt: HostRuntime) -> Result<(), GraphFault> {
@@ -49,6 +49,17 @@ fn a_path_by_distances(rt: HostRuntime) -> Result<(), GraphFault> {
         path.as_ref().map(|path| path.as_slice()),
         Some([0, 1, 3].as_slice())
     );
+    Ok(())
+}
+
+#[test]
+fn a_core_by_predecessors(rt: HostRuntime) -> Result<(), GraphFault> {
+    let alloc = rt.alloc();
+    let graph = graph_of(alloc, &CYCLE_AND_FOLLOWER)?;
+    assert_eq!(rt; graph.len(), 3);
+    let predecessors: Predecessors = Predecessors::of_graph(alloc, &graph)?;
+    let core: Vec<u32> = graph.core_by(alloc, &predecessors, 1)?;
+    assert_eq!(rt; core.as_slice(), [0, 1].as_slice());
     Ok(())
 }
 

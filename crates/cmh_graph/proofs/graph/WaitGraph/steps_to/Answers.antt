@@ -1,8 +1,7 @@
-use Rattle.std.proofs.Common.{rules, ◌≡◌, ◌<◌, ◌+◌, ◌∙◌, [], arith, drop, length, subst, sym}
+use Rattle.std.proofs.Common.{rules, ◌≡◌, ◌<◌, ◌+◌, ◌∙◌, [], arith, drop, length, refl, subst, sym}
 use Rattle.std.proofs.lemmas.List.{take_at}
-use Rattle.cmh_graph.specs.Graph.{process_count}
 use Rattle.cmh_graph.specs.Search.{is_marked, Numbers, IsNamedBy}
-use Rattle.cmh_graph.proofs.Stepping.{StepsUpTo, steps_start, steps_more, steps_end, level_below, level_listed, level_within}
+use Rattle.cmh_graph.proofs.Stepping.{StepsUpTo, steps_start, steps_more, steps_end, level_below, level_listed, listed_within}
 use Rattle.cmh_graph.proofs.graph.WaitGraph.steps_to.Goals as goal
 
 pub marked-requires : goal.marked-requires
@@ -21,11 +20,11 @@ overflow_add-distance c =
 
 pub next_level-requires-clause-listed : goal.next_level-requires-clause-listed
 next_level-requires-clause-listed c =
-    level_listed _ _ _ _ _ _ _ _ c.in_ok-predecessors.ensures c.loop-alloc.invariant c.deref-in-loop-alloc.ensures.value c.deref.ensures.value
+    level_listed _ _ _ _ _ _ _ c.in_ok-predecessors.ensures.ok c.loop-alloc.invariant c.deref.ensures.value
 
 pub next_level-requires-clause-within : goal.next_level-requires-clause-within
 next_level-requires-clause-within c =
-    level_within _ _ _ _ _ _ _ _ c.in_ok-predecessors.ensures c.loop-alloc.invariant c.deref.ensures.value c.deref_mut.ensures.value
+    λ q. listed_within c.args.self.now _ q _ _ c.in_ok-predecessors.ensures.ok refl (c.deref_mut.ensures.len ∙ c.loop-alloc.distances.ok.0 ∙ c.loop-alloc.invariant.size)
 
 pub loop-alloc-smaller : goal.loop-alloc-smaller
 loop-alloc-smaller c =
@@ -39,16 +38,15 @@ loop-alloc-preserved c =
     let old = c.loop-alloc.distances in
     let level = c.in_ok-level-2.level.items in
     let distance = c.loop-alloc.distance in
-    let lists = c.in_ok-predecessors.predecessors.items in
+    let predecessors = c.in_ok-predecessors.predecessors in
     let new = c.next_level.new.distances in
     let written = take_at new (drop (length new) old.items) old.len (c.next_level.auto.distances ∙ c.deref_mut.ensures.len) in
-    let numbers = subst (λ ds. Numbers (IsNamedBy lists c.loop-alloc.level.items) (distance + 1) ds new [] level) c.deref_mut.ensures.value
-    (subst (λ ls. Numbers (IsNamedBy lists ls) (distance + 1) c.deref_mut.result.now new [] level) c.deref-in-loop-alloc.ensures.value
-    (subst (λ ls. Numbers (IsNamedBy ls c.deref-in-loop-alloc.result.now) (distance + 1) c.deref_mut.result.now new [] level) c.deref.ensures.value c.in_ok-level-2.ensures)) in
+    let numbers = subst (λ ds. Numbers (IsNamedBy predecessors c.loop-alloc.level.items) (distance + 1) ds new [] level) c.deref_mut.ensures.value
+    (subst (λ ls. Numbers (IsNamedBy predecessors ls) (distance + 1) c.deref_mut.result.now new [] level) c.deref.ensures.value c.in_ok-level-2.ensures) in
     subst (λ xs. StepsUpTo g test (distance + 1) xs level) (sym written)
-    (steps_more _ _ _ _ _ _ _ _ _ c.has_no_fault.ensures.within c.in_ok-predecessors.ensures (omega arith) c.loop-alloc.invariant numbers)
+    (steps_more _ _ _ _ _ _ _ _ _ c.has_no_fault.ensures.within c.in_ok-predecessors.ensures.ok (omega arith) c.loop-alloc.invariant numbers)
 
-pub returns : goal.returns
-returns c =
+pub returns-clause-ok : goal.returns-clause-ok
+returns-clause-ok c =
     let none : length c.loop-alloc.level.items ≡ 0 = search rules in
     steps_end _ _ _ _ _ c.has_no_fault.ensures.within none c.loop-alloc.invariant

@@ -1,6 +1,6 @@
 use Rattle.std.proofs.Common.{arith}
 use Rattle.cmh_graph.proofs.Searching.{joins_more}
-use Rattle.cmh_graph.proofs.search.join_each.Goals as goal
+use Rattle.cmh_graph.proofs.predecessors.join_each.Goals as goal
 
 pub loop-r-preserved : goal.loop-r-preserved
 loop-r-preserved c =

@@ -2,7 +2,7 @@ use Rattle.std.proofs.Common.{length, ap, arith, ◌∙◌}
 use Rattle.std.proofs.lemmas.List.{length_push}
 use Rattle.cmh_graph.specs.Search.{list_at}
 use Rattle.cmh_graph.proofs.Searching.{empty_more}
-use Rattle.cmh_graph.proofs.search.empty_lists.Goals as goal
+use Rattle.cmh_graph.proofs.predecessors.empty_lists.Goals as goal
 
 pub loop-init : goal.loop-init
 loop-init c = (ap length c.new-lists.ensures.items, λ r. ap (λ xs. list_at xs r) c.new-lists.ensures.items)
