@@ -9,11 +9,12 @@ ghost use Rattle.cmh_work.specs.Leaders.{group_leader, is_deadlocked_at, leader_
 
 use crate::WorkFault;
 use crate::fault::want_in_graph;
-use cmh_graph::{Verdict, WaitGraph};
+use cmh_graph::{Predecessors, Verdict, WaitGraph};
 use std::alloc::Global;
 
 /// For each process the leader of its group, if it is deadlocked. One core is computed for each
-/// group.
+/// group, all by predecessors that are made once: it takes the time of a reach for each group, and
+/// of one search of the graph for all groups together.
 pub(crate) fn group_leaders(
     alloc: Global,
     graph: &WaitGraph,
@@ -25,10 +26,13 @@ pub(crate) fn group_leaders(
     ensures well_formed { IfOk result (λ _. IsWellFormed graph.now) }
     ensures memory { IfErr result (λ e. e ≡ WorkFault.Memory) }
 {
+    let predecessors = Predecessors::of_graph(alloc, graph).map_err(want_in_graph)?;
     let mut leaders = vec![in alloc; None; known.len()]?;
     for p in 0..graph.len() {
         if is_new_leader(known, &leaders, p) {
-            let core = graph.core_of(alloc, p).map_err(want_in_graph)?;
+            let core = graph
+                .core_by(alloc, &predecessors, p)
+                .map_err(want_in_graph)?;
             lead_each(p, &core, &mut leaders);
         }
     }
