@@ -48,7 +48,7 @@ rest_law = λ g p q w i. (
 -- ---- rising lists
 
 -- the places of all processes rise
-indices_rise : (n : ℕ) → IsStrictlyIncreasing (range_with_len 0 n)
+pub indices_rise : (n : ℕ) → IsStrictlyIncreasing (range_with_len 0 n)
 indices_rise n k l =
     let within : k + 1 < n = omega (arith, l, length-range_with_len 0 n) in
     omega (arith, get_or-range_with_len 0 n k 0 (omega (arith, within)), get_or-range_with_len 0 n (k + 1) 0 within)
@@ -294,11 +294,11 @@ up_to_none (x ∷ xs) n h =
     none_by x n a false e l z = z
 
 -- the others of a rising list rise
-tail_rises : (x : ℕ) (xs : List ℕ) → AllPairs (λ a b. a < b) (x ∷ xs) → AllPairs (λ a b. a < b) xs
+pub tail_rises : (x : ℕ) (xs : List ℕ) → AllPairs (λ a b. a < b) (x ∷ xs) → AllPairs (λ a b. a < b) xs
 tail_rises x xs pairs i j d l k = pairs (suc i) (suc j) d (omega (arith, l)) (omega (arith, k))
 
 -- and are above the first
-head_below : (x : ℕ) (xs : List ℕ) → AllPairs (λ a b. a < b) (x ∷ xs) → (y : ℕ) → Contains xs y → x < y
+pub head_below : (x : ℕ) (xs : List ℕ) → AllPairs (λ a b. a < b) (x ∷ xs) → (y : ℕ) → Contains xs y → x < y
 head_below x xs pairs y c = let less = pairs 0 (suc c.0) y (omega arith) (omega (arith, c.1)) in omega (arith, less, c.2)
 
 -- up to the member at place k of a rising list there are k + 1

@@ -47,7 +47,6 @@ impl WaitGraph {
         ensures ok { IfOk result (λ list. list.items ≡ core_of self.now p) }
         ensures memory { IfErr result (λ e. e ≡ GraphFault.Memory) }
     {
-        let core = self.core_from(alloc, predecessors, p)?;
-        Ok(marked(alloc, &core)?)
+        Ok(self.core_from(alloc, predecessors, p)?)
     }
 }

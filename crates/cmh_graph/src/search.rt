@@ -1,9 +1,10 @@
 //! Searches along dependencies.
 
-ghost use Rattle.std.specs.Prelude.{◌≡◌, ◌==◌, ◌&&◌, ◌<◌, ◌≤◌, ◌^◌, ℕ, [], map, length, filter, if◌then◌else◌, All, Contains, IfOk, IfErr, OnOk, Some, None};
+ghost use Rattle.std.specs.Prelude.{◌≡◌, ◌==◌, ◌<◌, ◌≤◌, ◌^◌, ℕ, [], map, length, filter, if◌then◌else◌, All, Contains, IfOk, IfErr, OnOk, Some, None};
 ghost use Rattle.std.specs.List.{range_with_len};
 ghost use Rattle.cmh_graph.specs.Graph.{indices, process_count};
 ghost use Rattle.cmh_graph.specs.Path.{reaches, steps_to};
+ghost use Rattle.cmh_graph.specs.Core.{core_of};
 ghost use Rattle.cmh_graph.specs.Search.{is_marked, predecessors_at, ArePredecessors, IsNamedBy, MarksEach, Numbers};
 
 use crate::{GraphFault, MAX_PROCESSES, Predecessors, WaitGraph};
@@ -26,28 +27,29 @@ impl WaitGraph {
         Ok(marks)
     }
 
-    /// For each process whether it is in the core of `p`. The search goes against the dependencies,
-    /// and stays among those that `p` reaches: each on a way from `p` back to `p` is one of them, so
-    /// it visits the core alone.
+    /// The core of `p`, by rising index. The search goes against the dependencies, and stays among
+    /// those that `p` reaches: each on a way from `p` back to `p` is one of them, so it visits the
+    /// core alone.
     pub(crate) fn core_from(
         &self,
         alloc: Global,
         predecessors: &Predecessors,
         p: u32,
-    ) -> Result<Vec<bool>, AllocError>
+    ) -> Result<Vec<u32>, AllocError>
         requires within { p < process_count self.now }
         requires known { ArePredecessors self.now predecessors.now }
-        ensures marks { IfOk result (λ marks.
-            marks.items ≡ map (λ q. reaches self.now p q && reaches self.now q p) (indices self.now)) }
-        ensures few { process_count self.now ≤ MAX_PROCESSES }
+        ensures { IfOk result (λ core. core.items ≡ core_of self.now p) }
     {
         let reached = self.reached_from(alloc, p)?;
-        let mut core = mark_alone(alloc, self.len(), p)?;
+        let mut marks = mark_alone(alloc, self.len(), p)?;
         let mut pending = Vec::new(alloc);
         pending.push(p)?;
+        let mut core = Vec::new(alloc);
         while let Some(q) = pending.pop() {
-            mark_each_within(predecessors.at(q), &reached, &mut core, &mut pending)?;
+            core.push(q)?;
+            mark_each_within(predecessors.at(q), &reached, &mut marks, &mut pending)?;
         }
+        core.sort_unstable();
         Ok(core)
     }
 

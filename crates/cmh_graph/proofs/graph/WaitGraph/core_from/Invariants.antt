@@ -4,7 +4,7 @@ use Rattle.cmh_graph.proofs.Returning.{ReturnsTo}
 use Rattle.cmh_graph.proofs.graph.WaitGraph.core_from.Given as goal
 
 abbrev pub invariant-loop-q : goal.invariant-loop-q
-invariant-loop-q l = ReturnsTo l.self l.p l.core.items l.pending.items
+invariant-loop-q l = ReturnsTo l.self l.p l.marks.items l.pending.items l.core.items
 
 abbrev pub decreases-loop-q : goal.decreases-loop-q
-decreases-loop-q l = unmarked_count l.core.items + length l.pending.items
+decreases-loop-q l = unmarked_count l.marks.items + length l.pending.items
