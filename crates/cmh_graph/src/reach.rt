@@ -22,8 +22,8 @@ impl WaitGraph {
         Ok(marked(alloc, &reached)?)
     }
 
-    /// The processes that `p` reaches and that reach `p`, by rising index. It takes time and
-    /// memory linear in processes and dependencies.
+    /// The processes that `p` reaches and that reach `p`, by rising index. It takes time linear in
+    /// processes and dependencies, beside sorting the core, and memory linear in both.
     pub fn core_of(&self, alloc: Global, p: u32) -> Result<Vec<u32>, GraphFault>
         requires { p < process_count self.now }
         ensures ok { IfOk result (λ list. list.items ≡ core_of self.now p) }
@@ -35,7 +35,7 @@ impl WaitGraph {
 
     /// The core of `p`, as `core_of` gives it, by the predecessors of all processes. It takes time
     /// linear in the processes, the dependencies of those that `p` reaches and the predecessors of
-    /// those in the core, and memory linear in the processes.
+    /// those in the core, beside sorting the core, and memory linear in the processes.
     pub fn core_by(
         &self,
         alloc: Global,
