@@ -27,30 +27,23 @@ use Rattle.cmh_report.specs.Records.{AreRecordsOf, IsSomeAnalysisOf, leader_in, 
 use Rattle.cmh_report.specs.Report.{deadlocked_count}
 use Rattle.cmh_report.proofs.Counts.{active_and_idle}
 
--- the records of an analysis are those of the graph
-pub analysed : (g : Graph) (a : Analysis Run) → IsSomeAnalysisOf g a → AreRecordsOf g (records_of a)
-analysed g a (choices, is) = record {
-  order = is.order;
-  tell = λ k d l. let r = is.records k d l in record { idle = r.idle; verdict = r.verdict; shape = r.shape };
-}
-
 -- there are as many records as idle processes
-pub records_count : (g : Graph) (records : List (Record Run)) → AreRecordsOf g records → length records ≡ length (idle_list g)
+pub records_count : {L : Type 0} (g : Graph) (records : List (Record Run L)) → AreRecordsOf g records → length records ≡ length (idle_list g)
 records_count g records are = sym (length-map records initiator_of) ∙ ap length are.order
 
 -- and no more than processes
-pub records_few : (g : Graph) (records : List (Record Run)) → AreRecordsOf g records → length records ≤ process_count g
+pub records_few : {L : Type 0} (g : Graph) (records : List (Record Run L)) → AreRecordsOf g records → length records ≤ process_count g
 records_few g records are = omega (arith, records_count g records are, active_and_idle g)
 
 -- a record is of the idle process at its place
-pub initiator_at : (g : Graph) (records : List (Record Run)) (i : ℕ) (r : Record Run) → AreRecordsOf g records → i < length records → get_or records i r ≡ r → get_or (idle_list g) i 0 ≡ r.initiator
+pub initiator_at : {L : Type 0} (g : Graph) (records : List (Record Run L)) (i : ℕ) (r : Record Run L) → AreRecordsOf g records → i < length records → get_or records i r ≡ r → get_or (idle_list g) i 0 ≡ r.initiator
 initiator_at g records i r are l is =
     ap (λ xs. get_or xs i 0) (sym are.order)
     ∙ get_or-map initiator_of records i r 0 l
     ∙ ap initiator_of is
 
 -- and tells of it
-pub tells_at : (g : Graph) (records : List (Record Run)) (i : ℕ) (r : Record Run) → AreRecordsOf g records → i < length records → get_or records i r ≡ r → TellsOf g r
+pub tells_at : {L : Type 0} (g : Graph) (records : List (Record Run L)) (i : ℕ) (r : Record Run L) → AreRecordsOf g records → i < length records → get_or records i r ≡ r → TellsOf g r
 tells_at g records i r are l is = subst (TellsOf g) is (are.tell i r l)
 
 -- ---- verdicts
@@ -70,7 +63,7 @@ count_cons : {X : Type 0} (p : X → Bool) (x : X) (xs : List X) → count_by p 
 count_cons p x xs = sum_by-cons (λ y. cond {A = ℕ} (p y) 1 0) x xs
 
 -- so many records tell of a deadlocked process as are of one
-counted : (g : Graph) (records : List (Record Run)) → IsWithinGraph g → All (TellsOf g) records → count_by tells_deadlocked records ≡ count_by (is_deadlocked g) (map initiator_of records)
+counted : {L : Type 0} (g : Graph) (records : List (Record Run L)) → IsWithinGraph g → All (TellsOf g) records → count_by tells_deadlocked records ≡ count_by (is_deadlocked g) (map initiator_of records)
 counted g [] w tell = refl
 counted g (r ∷ rs) w tell =
     let here = tell zero r (omega arith) in
@@ -101,23 +94,32 @@ count_idle g [] = refl
 count_idle g (p ∷ ps) = count_more g p ps (is_idle g p) refl (count_idle g ps)
 
 -- so many processes are deadlocked as records tell
-pub deadlocked_told : (g : Graph) (records : List (Record Run)) → IsWithinGraph g → AreRecordsOf g records → count_by tells_deadlocked records ≡ deadlocked_count g
+pub deadlocked_told : {L : Type 0} (g : Graph) (records : List (Record Run L)) → IsWithinGraph g → AreRecordsOf g records → count_by tells_deadlocked records ≡ deadlocked_count g
 deadlocked_told g records w are =
     counted g records w are.tell
     ∙ ap (count_by (is_deadlocked g)) are.order
     ∙ count_idle g (indices g)
 
--- ---- shapes
-
 -- ---- leaders
 
 -- a true shape names the leader, if there is one
-pub shape_leader : (g : Graph) (p : ℕ) (v : Verdict) (s : Shape) → IsWithinGraph g → IsVerdict g p v → IsShape g p v s → leader_in s ≡ group_leader g p
+shape_leader : {L : Type 0} (listed : L → List ℕ) (g : Graph) (p : ℕ) (v : Verdict) (s : Shape L) → IsWithinGraph g → IsVerdict g p v → IsShape listed g p v s → leader_in s ≡ group_leader g p
 unfolding group_leader
-shape_leader g p Deadlocked (Leader leader) w is e = rw (then_test g p is) (ap Some e)
-shape_leader g p Deadlocked (Path path) w is e = absurd e
-shape_leader g p Free (Leader leader) w is e = absurd e
-shape_leader g p Free (Path path) w is e = rw (verdict_test g p Free w is) refl
+shape_leader listed g p Deadlocked (Leader leader) w is e = rw (then_test g p is) (ap Some e)
+shape_leader listed g p Deadlocked (Path path) w is e = absurd e
+shape_leader listed g p Free (Leader leader) w is e = absurd e
+shape_leader listed g p Free (Path path) w is e = rw (verdict_test g p Free w is) refl
+
+-- the records of an analysis are those of the graph
+pub analysed : {L : Type 0} (g : Graph) (a : Analysis Run L) → IsSomeAnalysisOf g a → AreRecordsOf g (records_of a)
+analysed g a (listed, choices, is) = record {
+  order = is.order;
+  tell = λ k d l. let r = is.records k d l in let told = get_or (records_of a) k d in record {
+    idle = r.idle;
+    verdict = r.verdict;
+    leader = λ w. shape_leader listed g told.initiator told.verdict told.shape w r.verdict r.shape;
+  };
+}
 
 -- The table of leaders has a place for each process, the leader of each of these, if it is
 -- deadlocked, and nothing for any other.

@@ -36,7 +36,7 @@ fn analysed<R: Threads + Wait + Sync, G: Gate>(
     graph: &WaitGraph,
     plan: &Plan,
     gate: &G,
-) -> Result<Analysis<RunLog<NoLog, NoList>>, AppFault>
+) -> Result<Analysis<RunLog<NoLog, NoList>, NoList>, AppFault>
     ensures analysis { IfOk result (IsSomeAnalysisOf graph.now) }
     ensures memory { IfErr result (λ e. e ≡ AppFault.Work WorkFault.Memory) }
 {
@@ -48,7 +48,7 @@ fn analysed<R: Threads + Wait + Sync, G: Gate>(
 fn outlined(
     alloc: Global,
     graph: &WaitGraph,
-    analysis: Analysis<RunLog<NoLog, NoList>>,
+    analysis: Analysis<RunLog<NoLog, NoList>, NoList>,
 ) -> Result<Outline, AllocError>
     requires { IsSomeAnalysisOf graph.now analysis }
     ensures { IfOk result (IsOutlineOf graph.now) }
@@ -62,7 +62,7 @@ fn reported<R: Threads + Sync>(
     rt: &R,
     alloc: Global,
     graph: &WaitGraph,
-    analysis: Analysis<RunLog<NoLog, NoList>>,
+    analysis: Analysis<RunLog<NoLog, NoList>, NoList>,
 ) -> Result<Report, ReportFault>
     requires { IsSomeAnalysisOf graph.now analysis }
     ensures text { IfOk result (λ r. string_bytes r.text ≡ report_text graph.now) }

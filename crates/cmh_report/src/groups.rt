@@ -1,6 +1,6 @@
 //! The groups of deadlocked processes: who leads each, and its number.
 
-ghost use Rattle.std.specs.Prelude.{◌≡◌, ◌<◌, map, length, IfOk};
+ghost use Rattle.std.specs.Prelude.{◌≡◌, ◌<◌, map, length, replicate, None, IfOk};
 ghost use Rattle.cmh_graph.specs.Build.{IsWellFormed};
 ghost use Rattle.cmh_graph.specs.Core.{leaders as all_leaders};
 ghost use Rattle.cmh_graph.specs.Graph.{indices};
@@ -31,7 +31,7 @@ impl Groups {
     pub(crate) fn of_records<L: Log, E: ProcessList>(
         alloc: Global,
         graph: &WaitGraph,
-        records: &[Record<RunLog<L, E>>],
+        records: &[Record<RunLog<L, E>, E>],
     ) -> Result<Groups, AllocError>
         requires { AreRecordsOf graph.now records.now }
         ensures { IfOk result (AreGroupsOf graph.now) }
@@ -51,22 +51,29 @@ impl Groups {
 fn group_leaders<L: Log, E: ProcessList>(
     alloc: Global,
     graph: &WaitGraph,
-    records: &[Record<RunLog<L, E>>],
+    records: &[Record<RunLog<L, E>, E>],
 ) -> Result<Vec<Option<u32>>, AllocError>
     requires { AreRecordsOf graph.now records.now }
     ensures leaders { IfOk result (λ list.
         list.items ≡ map (group_leader graph.now) (indices graph.now)) }
     ensures well_formed { IfOk result (λ _. IsWellFormed graph.now) }
 {
-    let mut leaders = vec![in alloc; None; graph.len() as usize]?;
+    let mut leaders = nobody_leads(alloc, graph.len())?;
     for record in records {
         leaders[record.initiator as usize] = leader_in(&record.shape);
     }
     Ok(leaders)
 }
 
+/// No leader for each of so many processes.
+fn nobody_leads(alloc: Global, count: u32) -> Result<Vec<Option<u32>>, AllocError>
+    ensures { IfOk result (λ list. list.items ≡ replicate count None) }
+{
+    Ok(vec![in alloc; None; count as usize]?)
+}
+
 /// The leader that a shape names.
-fn leader_in(shape: &Shape) -> Option<u32>
+fn leader_in<P>(shape: &Shape<P>) -> Option<u32>
     ensures { result ≡ leader_in shape.now }
 {
     match shape {

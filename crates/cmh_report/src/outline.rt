@@ -29,7 +29,7 @@ impl Outline {
     pub(crate) fn of_records<L: Log, E: ProcessList>(
         alloc: Global,
         graph: &WaitGraph,
-        records: &[Record<RunLog<L, E>>],
+        records: &[Record<RunLog<L, E>, E>],
     ) -> Result<Outline, AllocError>
         requires { AreRecordsOf graph.now records.now }
         ensures { IfOk result (IsOutlineOf graph.now) }
@@ -47,7 +47,7 @@ impl Outline {
 }
 
 /// How many processes the records tell to be deadlocked.
-fn count_deadlocked<L: Log, E: ProcessList>(records: &[Record<RunLog<L, E>>]) -> u32
+fn count_deadlocked<L: Log, E: ProcessList>(records: &[Record<RunLog<L, E>, E>]) -> u32
     requires { length records.now < 2 ^ 32 }
     ensures { result ≡ count_by tells_deadlocked records.now }
 {

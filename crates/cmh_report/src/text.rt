@@ -2,7 +2,7 @@
 
 ghost use Rattle.std.specs.Prelude.{◌≡◌, ◌++◌, IfOk, OnOk, flat_map, reverse, string_bytes};
 ghost use Rattle.cmh_report.specs.Outline.{IsOutlineOf};
-ghost use Rattle.cmh_report.specs.Records.{IsSomeAnalysisOf};
+ghost use Rattle.cmh_report.specs.Records.{AreRecordsOf, IsSomeAnalysisOf};
 ghost use Rattle.cmh_report.specs.Report.{report_text};
 
 use crate::ReportFault;
@@ -12,7 +12,7 @@ use crate::paths::Paths;
 use crate::pieces::lines_room;
 use cmh_graph::WaitGraph;
 use cmh_run::{Log, ProcessList, RunLog};
-use cmh_work::Analysis;
+use cmh_work::{Analysis, Record};
 use std::alloc::{AllocError, Global};
 use std::thread::Threads;
 
@@ -26,20 +26,30 @@ use std::thread::Threads;
 /// # Errors
 ///
 /// `Memory` where memory is refused.
-#[tactic(auto, using(crate::proofs::Records::analysed))]
 pub fn report<L: Log, E: ProcessList, R: Threads + Sync>(
     rt: &R,
     alloc: Global,
     graph: &WaitGraph,
-    analysis: &Analysis<RunLog<L, E>>,
+    analysis: &Analysis<RunLog<L, E>, E>,
 ) -> Result<String, ReportFault>
     requires { IsSomeAnalysisOf graph.now analysis.now }
     ensures { IfOk result (λ text. string_bytes text ≡ report_text graph.now) }
 {
-    let outline = Outline::of_records(alloc, graph, analysis.records()).map_err(
-        |_| ReportFault::Memory,
-    )?;
-    text_of(rt, alloc, graph, &outline).map_err(|_| ReportFault::Memory)
+    told(rt, alloc, graph, analysis.records()).map_err(|_| ReportFault::Memory)
+}
+
+/// The report, by the records.
+fn told<L: Log, E: ProcessList, R: Threads + Sync>(
+    rt: &R,
+    alloc: Global,
+    graph: &WaitGraph,
+    records: &[Record<RunLog<L, E>, E>],
+) -> Result<String, AllocError>
+    requires { AreRecordsOf graph.now records.now }
+    ensures { IfOk result (λ text. string_bytes text ≡ report_text graph.now) }
+{
+    let outline = Outline::of_records(alloc, graph, records)?;
+    text_of(rt, alloc, graph, &outline)
 }
 
 /// The report, by what was taken from the records.

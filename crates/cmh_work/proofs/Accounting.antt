@@ -79,9 +79,9 @@ ran g choices p v v1 v2 w run s t is truth post =
     }
 
 -- an answer with its shape is a finding
-pub recorded : (g : Graph) (choices : List ℕ) (p : ℕ) (v w : View) (a : Answer Run) (shape : Shape) → IsTrue (is_idle g p) → IsAnswered g choices p v w a → IsShape g p a.verdict shape
-    → IsRecorded g choices v w record { initiator = p; verdict = a.verdict; run = a.run; shape = shape }
-recorded g choices p v w a shape idle is shaped = record {
+pub recorded : {L : Type 0} (listed : L → List ℕ) (g : Graph) (choices : List ℕ) (p : ℕ) (v w : View) (a : Answer Run) (shape : Shape L) → IsTrue (is_idle g p) → IsAnswered g choices p v w a → IsShape listed g p a.verdict shape
+    → IsRecorded listed g choices v w record { initiator = p; verdict = a.verdict; run = a.run; shape = shape }
+recorded listed g choices p v w a shape idle is shaped = record {
   sees = is.sees;
   sound = record { idle = idle; verdict = is.verdict; shape = shaped; run = is.run; stands = is.stands };
   mine = is.mine;
@@ -90,8 +90,8 @@ recorded g choices p v w a shape idle is shaped = record {
 -- ---- many
 
 -- a sound finding stays sound when more is seen
-pub sound_more : (g : Graph) (choices : List ℕ) (a b : List Row) (f : Finding Run) → StartsWith a b → IsSound g choices b f → IsSound g choices a f
-sound_more g choices a b f h s = record {
+pub sound_more : {L : Type 0} (listed : L → List ℕ) (g : Graph) (choices : List ℕ) (a b : List Row) (f : Finding Run L) → StartsWith a b → IsSound listed g choices b f → IsSound listed g choices a f
+sound_more listed g choices a b f h s = record {
   idle = s.idle;
   verdict = s.verdict;
   shape = s.shape;
@@ -100,40 +100,40 @@ sound_more g choices a b f h s = record {
 }
 
 -- an explained posting stays explained when more is seen, by more findings
-explained_more : (a b : List Row) (found all : List (Finding Run)) (m : List Row) → StartsWith a b → ((f : Finding Run) → Contains found f → Contains all f) → IsExplained b found m → IsExplained a all m
+explained_more : {L : Type 0} (a b : List Row) (found all : List (Finding Run L)) (m : List Row) → StartsWith a b → ((f : Finding Run L) → Contains found f → Contains all f) → IsExplained b found m → IsExplained a all m
 explained_more a b found all m h more (f, there, run, is, from) =
     (f, more f there, run, is, record { before = from.before; place = starts_trans a b (from.before ++ m) h from.place; posted = from.posted })
 
 -- so do all
-pub all_explained_more : (a b : List Row) (found all : List (Finding Run)) (ms : List (List Row)) → StartsWith a b → ((f : Finding Run) → Contains found f → Contains all f) → AreExplained b found ms → AreExplained a all ms
+pub all_explained_more : {L : Type 0} (a b : List Row) (found all : List (Finding Run L)) (ms : List (List Row)) → StartsWith a b → ((f : Finding Run L) → Contains found f → Contains all f) → AreExplained b found ms → AreExplained a all ms
 all_explained_more a b found all [] h more e = tt
 all_explained_more a b found all (m ∷ ms) h more e = (explained_more a b found all m h more e.0, all_explained_more a b found all ms h more e.1)
 
 -- two lists of explained postings are one
-all_explained_append : (a : List Row) (found : List (Finding Run)) (ms ns : List (List Row)) → AreExplained a found ms → AreExplained a found ns → AreExplained a found (ms ++ ns)
+all_explained_append : {L : Type 0} (a : List Row) (found : List (Finding Run L)) (ms ns : List (List Row)) → AreExplained a found ms → AreExplained a found ns → AreExplained a found (ms ++ ns)
 all_explained_append a found [] ns e f = f
 all_explained_append a found (m ∷ ms) ns e f = (e.0, all_explained_append a found ms ns e.1 f)
 
 -- what holds of one thing holds of the list of it
-all_one : (P : Finding Run → Type 0) (f : Finding Run) → P f → All P (f ∷ [])
+all_one : {L : Type 0} (P : Finding Run L → Type 0) (f : Finding Run L) → P f → All P (f ∷ [])
 all_one P f p zero d low = p
 all_one P f p (suc k) d low = absurd (omega arith)
 
 -- nothing is found yet, and nothing added
-pub accounts_none : (g : Graph) (choices : List ℕ) (v : View) → v.mine ≡ [] → Accounts g choices v []
-accounts_none g choices v none = record {
+pub accounts_none : {L : Type 0} (listed : L → List ℕ) (g : Graph) (choices : List ℕ) (v : View) → v.mine ≡ [] → Accounts listed g choices v []
+accounts_none listed g choices v none = record {
   sound = λ k d low. absurd (omega arith);
   explained = subst (AreExplained v.seen []) (sym none) tt;
 }
 
 -- one finding more
-pub accounts_more : (g : Graph) (choices : List ℕ) (v w : View) (found : List (Finding Run)) (f : Finding Run) → Accounts g choices v found → IsRecorded g choices v w f → Accounts g choices w (found ++ f ∷ [])
-accounts_more g choices v w found f a h =
+pub accounts_more : {L : Type 0} (listed : L → List ℕ) (g : Graph) (choices : List ℕ) (v w : View) (found : List (Finding Run L)) (f : Finding Run L) → Accounts listed g choices v found → IsRecorded listed g choices v w f → Accounts listed g choices w (found ++ f ∷ [])
+accounts_more listed g choices v w found f a h =
     let all = found ++ f ∷ [] in
     let old : AreExplained w.seen all v.mine = all_explained_more w.seen v.seen found all v.mine h.sees (λ q c. Contains-append_left found (f ∷ []) q c) a.explained in record {
-      sound = All-append (IsSound g choices w.seen) found (f ∷ [])
-          (λ k d low. sound_more g choices w.seen v.seen (get_or found k d) h.sees (a.sound k d low))
-          (all_one (IsSound g choices w.seen) f h.sound);
+      sound = All-append (IsSound listed g choices w.seen) found (f ∷ [])
+          (λ k d low. sound_more listed g choices w.seen v.seen (get_or found k d) h.sees (a.sound k d low))
+          (all_one (IsSound listed g choices w.seen) f h.sound);
       explained = ⊎_elim
           (λ same. subst (AreExplained w.seen all) (sym same) old)
           (λ (m, is, run, ran, from). subst (AreExplained w.seen all) (sym is)
@@ -143,11 +143,11 @@ accounts_more g choices v w found f a h =
     }
 
 -- the findings of two workers whose seats are joined
-pub accounts_joined : (g : Graph) (choices : List ℕ) (v w u : View) (xs ys : List (Finding Run)) → StartsWith u.seen v.seen → StartsWith u.seen w.seen → u.mine ≡ v.mine ++ w.mine → Accounts g choices v xs → Accounts g choices w ys → Accounts g choices u (xs ++ ys)
-accounts_joined g choices v w u xs ys first second mine a b = record {
-  sound = All-append (IsSound g choices u.seen) xs ys
-      (λ k d low. sound_more g choices u.seen v.seen (get_or xs k d) first (a.sound k d low))
-      (λ k d low. sound_more g choices u.seen w.seen (get_or ys k d) second (b.sound k d low));
+pub accounts_joined : {L : Type 0} (listed : L → List ℕ) (g : Graph) (choices : List ℕ) (v w u : View) (xs ys : List (Finding Run L)) → StartsWith u.seen v.seen → StartsWith u.seen w.seen → u.mine ≡ v.mine ++ w.mine → Accounts listed g choices v xs → Accounts listed g choices w ys → Accounts listed g choices u (xs ++ ys)
+accounts_joined listed g choices v w u xs ys first second mine a b = record {
+  sound = All-append (IsSound listed g choices u.seen) xs ys
+      (λ k d low. sound_more listed g choices u.seen v.seen (get_or xs k d) first (a.sound k d low))
+      (λ k d low. sound_more listed g choices u.seen w.seen (get_or ys k d) second (b.sound k d low));
   explained = subst (AreExplained u.seen (xs ++ ys)) (sym mine)
       (all_explained_append u.seen (xs ++ ys) v.mine w.mine
       (all_explained_more u.seen v.seen xs (xs ++ ys) v.mine first (λ q c. Contains-append_left xs ys q c) a.explained)

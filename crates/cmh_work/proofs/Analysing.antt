@@ -44,30 +44,30 @@ source_of g choices rows p v (Some run) source ran is = subst (IsSource g choice
 source_of g choices rows p v None source ran (n, is, row) = subst (IsSource g choices rows p v) (sym is) row
 
 -- the record of a sound finding is true
-record_true : (g : Graph) (choices : List ℕ) (rows : List Row) (f : Finding Run) (r : Record Run) → IsSound g choices rows f → IsNumbered rows f r → IsTrueRecord g choices rows r
-record_true g choices rows f r s n = record {
+record_true : {L : Type 0} (listed : L → List ℕ) (g : Graph) (choices : List ℕ) (rows : List Row) (f : Finding Run L) (r : Record Run L) → IsSound listed g choices rows f → IsNumbered rows f r → IsTrueRecord listed g choices rows r
+record_true listed g choices rows f r s n = record {
   idle = subst (λ p. IsTrue (is_idle g p)) (sym n.initiator) s.idle;
   verdict = subst (λ p. IsVerdict g p r.verdict) (sym n.initiator) (subst (IsVerdict g f.initiator) (sym n.verdict) s.verdict);
-  shape = subst (λ p. IsShape g p r.verdict r.shape) (sym n.initiator)
-      (subst (λ v. IsShape g f.initiator v r.shape) (sym n.verdict) (subst (IsShape g f.initiator f.verdict) (sym n.shape) s.shape));
+  shape = subst (λ p. IsShape listed g p r.verdict r.shape) (sym n.initiator)
+      (subst (λ v. IsShape listed g f.initiator v r.shape) (sym n.verdict) (subst (IsShape listed g f.initiator f.verdict) (sym n.shape) s.shape));
   source = subst (λ p. IsSource g choices rows p r.verdict r.source) (sym n.initiator)
       (subst (λ v. IsSource g choices rows f.initiator v r.source) (sym n.verdict) (source_of g choices rows f.initiator f.verdict f.run r.source s.run n.source));
 }
 
 -- a sound finding's verdict is what the history says of the process of its record
-record_agrees : (g : Graph) (choices : List ℕ) (rows : List Row) (f : Finding Run) (r : Record Run) → IsSound g choices rows f → IsNumbered rows f r → fold_at rows r.initiator ≡ Some r.verdict
-record_agrees g choices rows f r s n = ap (fold_at rows) n.initiator ∙ s.stands ∙ ap Some (sym n.verdict)
+record_agrees : {L : Type 0} (listed : L → List ℕ) (g : Graph) (choices : List ℕ) (rows : List Row) (f : Finding Run L) (r : Record Run L) → IsSound listed g choices rows f → IsNumbered rows f r → fold_at rows r.initiator ≡ Some r.verdict
+record_agrees listed g choices rows f r s n = ap (fold_at rows) n.initiator ∙ s.stands ∙ ap Some (sym n.verdict)
 
 -- what each sound finding gives its record, all have
-each_record : (g : Graph) (choices : List ℕ) (rows : List Row) (P : Record Run → Type 0) → ((f : Finding Run) (r : Record Run) → IsSound g choices rows f → IsNumbered rows f r → P r)
-    → (fs : List (Finding Run)) (rs : List (Record Run)) → All (IsSound g choices rows) fs → AreNumbered rows fs rs → All P rs
-each_record g choices rows P each fs [] sound n = All-nil P
-each_record g choices rows P each [] (r ∷ rs) sound n = absurd n
-each_record g choices rows P each (f ∷ fs) (r ∷ rs) sound n =
-    All-cons P r rs (each f r (sound 0 f (omega arith)) n.0) (each_record g choices rows P each fs rs (λ k d low. sound (suc k) d (omega arith)) n.1)
+each_record : {L : Type 0} (listed : L → List ℕ) (g : Graph) (choices : List ℕ) (rows : List Row) (P : Record Run L → Type 0) → ((f : Finding Run L) (r : Record Run L) → IsSound listed g choices rows f → IsNumbered rows f r → P r)
+    → (fs : List (Finding Run L)) (rs : List (Record Run L)) → All (IsSound listed g choices rows) fs → AreNumbered rows fs rs → All P rs
+each_record listed g choices rows P each fs [] sound n = All-nil P
+each_record listed g choices rows P each [] (r ∷ rs) sound n = absurd n
+each_record listed g choices rows P each (f ∷ fs) (r ∷ rs) sound n =
+    All-cons P r rs (each f r (sound 0 f (omega arith)) n.0) (each_record listed g choices rows P each fs rs (λ k d low. sound (suc k) d (omega arith)) n.1)
 
 -- records are of those of whom findings are
-same_order : (rows : List Row) (fs : List (Finding Run)) (rs : List (Record Run)) → AreNumbered rows fs rs → map initiator_of rs ≡ map finder_of fs
+same_order : {L : Type 0} (rows : List Row) (fs : List (Finding Run L)) (rs : List (Record Run L)) → AreNumbered rows fs rs → map initiator_of rs ≡ map finder_of fs
 same_order rows [] [] n = refl
 same_order rows [] (r ∷ rs) n = absurd n
 same_order rows (f ∷ fs) [] n = absurd n
@@ -85,7 +85,7 @@ verdict_is g p Free w is = free_is (is_deadlocked g p) refl
     free_is false e = refl
 
 -- where the history says each record's verdict, and there is a record of each idle process, it says the verdict of each
-says_each : (g : Graph) (rows : List Row) (rs : List (Record Run)) → IsWithinGraph g → map initiator_of rs ≡ idle_list g → All (λ r. IsVerdict g r.initiator r.verdict) rs → All (λ r. fold_at rows r.initiator ≡ Some r.verdict) rs
+says_each : {L : Type 0} (g : Graph) (rows : List Row) (rs : List (Record Run L)) → IsWithinGraph g → map initiator_of rs ≡ idle_list g → All (λ r. IsVerdict g r.initiator r.verdict) rs → All (λ r. fold_at rows r.initiator ≡ Some r.verdict) rs
     → (p : ℕ) → IsTrue (is_idle g p) → fold_at rows p ≡ Some (verdict g p)
 says_each g rows rs w order verdicts agrees p idle =
     let P : ℕ → Type 0 = λ q. fold_at rows q ≡ Some (verdict g q) in
@@ -97,27 +97,27 @@ says_each g rows rs w order verdicts agrees p idle =
 -- ---- at the close
 
 -- each finding stands in the closed history
-pub all_stand : (g : Graph) (choices : List ℕ) (rows seen : List Row) (found sorted : List (Finding Run)) → IsPermutation found sorted → StartsWith rows seen → All (IsSound g choices seen) found → All (IsSound g choices rows) sorted
-all_stand g choices rows seen found sorted p begins sound =
-    All-permutation (IsSound g choices rows) found sorted p (λ k d low. sound_more g choices rows seen (get_or found k d) begins (sound k d low))
+pub all_stand : {L : Type 0} (listed : L → List ℕ) (g : Graph) (choices : List ℕ) (rows seen : List Row) (found sorted : List (Finding Run L)) → IsPermutation found sorted → StartsWith rows seen → All (IsSound listed g choices seen) found → All (IsSound listed g choices rows) sorted
+all_stand listed g choices rows seen found sorted p begins sound =
+    All-permutation (IsSound listed g choices rows) found sorted p (λ k d low. sound_more listed g choices rows seen (get_or found k d) begins (sound k d low))
 
 -- what workers found, sorted and numbered over the history that they posted, is an analysis
-pub analysed : (g : Graph) (plan : Setup) (j : Shared) (s : Seats) (found sorted : List (Finding Run)) (a : Analysis Run) → IsWellFormed g → IsMadeFor g plan j → IsPermutation found sorted → IsNonDecreasingBy finder_of sorted
-    → Sit j s → (view s.tickets).share ≡ 64 → IsWorked g plan j s found
+pub analysed : {L : Type 0} (listed : L → List ℕ) (g : Graph) (plan : Setup) (j : Shared) (s : Seats) (found sorted : List (Finding Run L)) (a : Analysis Run L) → IsWellFormed g → IsMadeFor g plan j → IsPermutation found sorted → IsNonDecreasingBy finder_of sorted
+    → Sit j s → (view s.tickets).share ≡ 64 → IsWorked listed g plan j s found
     → StartsWith (history_of a) (known s.board).seen → IsTrueOf g (history_of a) → IsMadeOf (known s.board).mine (history_of a)
-    → AreNumbered (history_of a) sorted (records_of a) → IsAnalysisOf g plan.choices a
-analysed g plan j s found sorted a well for p up sit whole w begins true_of made n =
+    → AreNumbered (history_of a) sorted (records_of a) → IsAnalysisOf listed g plan.choices a
+analysed listed g plan j s found sorted a well for p up sit whole w begins true_of made n =
     let choices = plan.choices in
     let rows = history_of a in
-    let sound = all_stand g choices rows (known s.board).seen found sorted p begins w.of.accounts.sound in
+    let sound = all_stand listed g choices rows (known s.board).seen found sorted p begins w.of.accounts.sound in
     let order : map initiator_of (records_of a) ≡ idle_list g =
     same_order rows sorted (records_of a) n
-    ∙ sorted_same finder_of found sorted j.idle.items p up (subst Rises (sym for.idle) (rises_from g)) (all_worked g plan j s found for sit.tickets whole w)
+    ∙ sorted_same finder_of found sorted j.idle.items p up (subst Rises (sym for.idle) (rises_from g)) (all_worked listed g plan j s found for sit.tickets whole w)
     ∙ for.idle in
     let explained = all_explained_more rows (known s.board).seen found found (known s.board).mine begins (λ f c. c) w.of.accounts.explained in
     let each = explained_permuted rows found sorted made.postings p (each_explained rows found (known s.board).mine made.postings explained (λ m c. (made.same m).0 c)) in
-    let agrees = each_record g choices rows (λ r. fold_at rows r.initiator ≡ Some r.verdict) (record_agrees g choices rows) sorted (records_of a) sound n in
-    let records = each_record g choices rows (IsTrueRecord g choices rows) (record_true g choices rows) sorted (records_of a) sound n in record {
+    let agrees = each_record listed g choices rows (λ r. fold_at rows r.initiator ≡ Some r.verdict) (record_agrees listed g choices rows) sorted (records_of a) sound n in
+    let records = each_record listed g choices rows (IsTrueRecord listed g choices rows) (record_true listed g choices rows) sorted (records_of a) sound n in record {
       order = order;
       records = records;
       history = true_of;

@@ -69,7 +69,7 @@ posting_place g a b m c d posting once e =
 -- ---- each posting
 
 -- postings that are explained one by one are explained by those that the history is made of
-pub each_explained : (rows : List Row) (found : List (Finding Run)) (mine postings : List (List Row)) → AreExplained rows found mine → ((m : List Row) → Contains postings m → Contains mine m) → AreExplained rows found postings
+pub each_explained : {L : Type 0} (rows : List Row) (found : List (Finding Run L)) (mine postings : List (List Row)) → AreExplained rows found mine → ((m : List Row) → Contains postings m → Contains mine m) → AreExplained rows found postings
 each_explained rows found mine [] e in_mine = tt
 each_explained rows found mine (m ∷ ms) e in_mine =
     (pick mine e (in_mine m (0, omega arith, refl)), each_explained rows found mine ms e (λ n c. in_mine n (later c)))
@@ -83,7 +83,7 @@ each_explained rows found mine (m ∷ ms) e in_mine =
     pick (n ∷ ns) e (suc k, low, at) = pick ns e.1 (k, omega arith, at)
 
 -- the record of a finding with a run has that run
-record_of : (rows : List Row) (fs : List (Finding Run)) (rs : List (Record Run)) (f : Finding Run) (run : Run) → AreNumbered rows fs rs → Contains fs f → f.run ≡ Some run → (r : Record Run) × Contains rs r × (r.source ≡ FromRun run)
+record_of : {L : Type 0} (rows : List Row) (fs : List (Finding Run L)) (rs : List (Record Run L)) (f : Finding Run L) (run : Run) → AreNumbered rows fs rs → Contains fs f → f.run ≡ Some run → (r : Record Run L) × Contains rs r × (r.source ≡ FromRun run)
 record_of rows [] rs f run h (k, low, at) is = absurd (omega arith)
 record_of rows (x ∷ xs) [] f run h there is = absurd h
 record_of rows (x ∷ xs) (y ∷ ys) f run h (zero, low, at) is =
@@ -93,7 +93,7 @@ record_of rows (x ∷ xs) (y ∷ ys) f run h (suc k, low, at) is =
     (r, (suc n, omega arith, here), ran)
 
 -- explained postings of a history, laid end to end, are of records' runs, with what stands before each
-pub of_records : (g : Graph) (rows : List Row) (found : List (Finding Run)) (records : List (Record Run)) (before : List Row) (postings : List (List Row)) → IsTrueOf g rows → rows ≡ before ++ laid postings → ArePostings postings → AreExplained rows found postings → AreNumbered rows found records → AreOfRecords records before postings
+pub of_records : {L : Type 0} (g : Graph) (rows : List Row) (found : List (Finding Run L)) (records : List (Record Run L)) (before : List Row) (postings : List (List Row)) → IsTrueOf g rows → rows ≡ before ++ laid postings → ArePostings postings → AreExplained rows found postings → AreNumbered rows found records → AreOfRecords records before postings
 of_records g rows found records before [] true_of e whole explained n = tt
 of_records g rows found records before (m ∷ ms) true_of e whole explained n =
     let (f, there, run, is, from) = explained.0 in
@@ -105,7 +105,7 @@ of_records g rows found records before (m ∷ ms) true_of e whole explained n =
     )
 
 -- the order of findings is of no matter
-pub explained_permuted : (rows : List Row) (found sorted : List (Finding Run)) (postings : List (List Row)) → IsPermutation found sorted → AreExplained rows found postings → AreExplained rows sorted postings
+pub explained_permuted : {L : Type 0} (rows : List Row) (found sorted : List (Finding Run L)) (postings : List (List Row)) → IsPermutation found sorted → AreExplained rows found postings → AreExplained rows sorted postings
 explained_permuted rows found sorted [] p e = tt
 explained_permuted rows found sorted (m ∷ ms) p e =
     let (f, there, run, is, from) = e.0 in

@@ -1,6 +1,7 @@
 -- The definitions on worked examples, by computation.
 use Rattle.std.proofs.Common.{◌≡◌, ℕ, zero, suc, ◌<◌, Bool, true, false, Some, None, List, [], ◌∷◌, ◌++◌, map, All, refl, sym, ap, subst, ◌∙◌, arith}
 use Rattle.std.specs.Prelude.{IsTrue, Contains}
+use Rattle.std.specs.Global.{Vec}
 use Rattle.std.proofs.lemmas.List.Elements.{All-nil, All-cons}
 use mathlib.Core.Option.{some, some-injective, some-ne-none}
 use lib.ListN.{get_elem?}
@@ -111,18 +112,18 @@ abbrev rows : List Row
 rows = row 0 Deadlocked false ∷ row 1 Deadlocked true ∷ row 2 Deadlocked true ∷ []
 
 -- a deadlocked process with this source and leader
-abbrev found : ℕ → Origin Run → ℕ → Record Run
+abbrev found : ℕ → Origin Run → ℕ → Record Run (Vec ℕ)
 found p source leader =
     record { initiator = p; verdict = Deadlocked; source = source; shape = Leader leader }
 
 -- p is known by its run, q by its row, r by its run
-abbrev of_p : Record Run
+abbrev of_p : Record Run (Vec ℕ)
 of_p = found 0 (FromRun run_of_p) 0
 
-abbrev of_q : Record Run
+abbrev of_q : Record Run (Vec ℕ)
 of_q = found 1 (FromBoard 1) 0
 
-abbrev of_r : Record Run
+abbrev of_r : Record Run (Vec ℕ)
 of_r = found 2 (FromRun run_of_r) 2
 
 -- each dependent is a process
@@ -191,15 +192,15 @@ legal_r = record {
 }
 
 -- each of these records is true
-true_p : IsTrueRecord cycle_and_follower [] rows of_p
+true_p : IsTrueRecord (λ path. path.items) cycle_and_follower [] rows of_p
 unfolding reaches
 true_p = record { idle = refl; verdict = dead_p; shape = refl; source = legal_p }
 
-true_q : IsTrueRecord cycle_and_follower [] rows of_q
+true_q : IsTrueRecord (λ path. path.items) cycle_and_follower [] rows of_q
 unfolding reaches
 true_q = record { idle = refl; verdict = dead_q; shape = refl; source = (true, refl) }
 
-true_r : IsTrueRecord cycle_and_follower [] rows of_r
+true_r : IsTrueRecord (λ path. path.items) cycle_and_follower [] rows of_r
 unfolding reaches
 true_r = record { idle = refl; verdict = dead_r; shape = refl; source = legal_r }
 
@@ -226,25 +227,25 @@ posted = (
 )
 
 -- what holds of three holds of each
-all_three : (P : Record Run → Type 0) (a b c : Record Run) → P a → P b → P c → All P (a ∷ b ∷ c ∷ [])
+all_three : (P : Record Run (Vec ℕ) → Type 0) (a b c : Record Run (Vec ℕ)) → P a → P b → P c → All P (a ∷ b ∷ c ∷ [])
 all_three P a b c x y z = All-cons P a (b ∷ c ∷ []) x (All-cons P b (c ∷ []) y (All-cons P c [] z (All-nil P)))
 
 -- these records with this history are an analysis
-pub is_analysis : (a : Analysis Run) → records_of a ≡ of_p ∷ of_q ∷ of_r ∷ [] → history_of a ≡ rows → IsAnalysisOf cycle_and_follower [] a
+pub is_analysis : (a : Analysis Run (Vec ℕ)) → records_of a ≡ of_p ∷ of_q ∷ of_r ∷ [] → history_of a ≡ rows → IsAnalysisOf (λ path. path.items) cycle_and_follower [] a
 unfolding reaches
 is_analysis a is has = record {
   order = ap (map initiator_of) is;
-  records = subst (λ h. All (IsTrueRecord cycle_and_follower [] h) (records_of a)) (sym has)
-      (subst (All (IsTrueRecord cycle_and_follower [] rows)) (sym is) (all_three (IsTrueRecord cycle_and_follower [] rows) of_p of_q of_r true_p true_q true_r));
+  records = subst (λ h. All (IsTrueRecord (λ path. path.items) cycle_and_follower [] h) (records_of a)) (sym has)
+      (subst (All (IsTrueRecord (λ path. path.items) cycle_and_follower [] rows)) (sym is) (all_three (IsTrueRecord (λ path. path.items) cycle_and_follower [] rows) of_p of_q of_r true_p true_q true_r));
   history = subst (IsTrueOf cycle_and_follower) (sym has) true_rows;
   whole = λ p idle. ap (λ h. fold_at h p) has ∙ whole_rows p idle;
-  agrees = subst (λ h. All (λ (r : Record Run). fold_at h r.initiator ≡ Some r.verdict) (records_of a)) (sym has)
-      (subst (All (λ (r : Record Run). fold_at rows r.initiator ≡ Some r.verdict)) (sym is) (all_three (λ (r : Record Run). fold_at rows r.initiator ≡ Some r.verdict) of_p of_q of_r refl refl refl));
+  agrees = subst (λ h. All (λ (r : Record Run (Vec ℕ)). fold_at h r.initiator ≡ Some r.verdict) (records_of a)) (sym has)
+      (subst (All (λ (r : Record Run (Vec ℕ)). fold_at rows r.initiator ≡ Some r.verdict)) (sym is) (all_three (λ (r : Record Run (Vec ℕ)). fold_at rows r.initiator ≡ Some r.verdict) of_p of_q of_r refl refl refl));
   postings = subst (λ h. IsPostedByRecords (records_of a) h) (sym has) (subst (λ l. IsPostedByRecords l rows) (sym is) posted);
 }
 
 -- without the record of r they are none
-pub lost_record : (a : Analysis Run) → records_of a ≡ of_p ∷ of_q ∷ [] → IsAnalysisOf cycle_and_follower [] a → ⊥
+pub lost_record : (a : Analysis Run (Vec ℕ)) → records_of a ≡ of_p ∷ of_q ∷ [] → IsAnalysisOf (λ path. path.items) cycle_and_follower [] a → ⊥
 lost_record a is h = let e : ◌≡◌ {A = List ℕ} (0 ∷ 1 ∷ []) (0 ∷ 1 ∷ 2 ∷ []) = sym (ap (map initiator_of) is) ∙ h.order in cc
 
 -- the posting of p and q, cut in two
@@ -257,7 +258,7 @@ is_cut [] = false
 is_cut (r ∷ rs) = r.last
 
 -- what a run of one of the three records posts first is two rows, of which the first is no last one
-begins_open : (r : Record Run) (posting rest : List Row) (run : Run) → Contains (of_p ∷ of_q ∷ of_r ∷ []) r → r.source ≡ FromRun run → IsPostedBy [] posting run → is_cut (posting ++ rest) ≡ false
+begins_open : (r : Record Run (Vec ℕ)) (posting rest : List Row) (run : Run) → Contains (of_p ∷ of_q ∷ of_r ∷ []) r → r.source ≡ FromRun run → IsPostedBy [] posting run → is_cut (posting ++ rest) ≡ false
 begins_open r posting rest run (zero, low, is) source told = let e : run ≡ run_of_p = cc in let p : posting ≡ p_and_q = subst (IsPostedBy [] posting) e told in ap (λ l. is_cut (l ++ rest)) p
 begins_open r posting rest run (suc zero, low, is) source told = cc
 begins_open r posting rest run (suc (suc zero), low, is) source told =
@@ -265,7 +266,7 @@ begins_open r posting rest run (suc (suc zero), low, is) source told =
 begins_open r posting rest run (suc (suc (suc k)), low, is) source told = absurd (omega arith)
 
 -- with a posting cut in two they are none
-pub cut_posting : (a : Analysis Run) → records_of a ≡ of_p ∷ of_q ∷ of_r ∷ [] → history_of a ≡ cut_rows → IsAnalysisOf cycle_and_follower [] a → ⊥
+pub cut_posting : (a : Analysis Run (Vec ℕ)) → records_of a ≡ of_p ∷ of_q ∷ of_r ∷ [] → history_of a ≡ cut_rows → IsAnalysisOf (λ path. path.items) cycle_and_follower [] a → ⊥
 cut_posting a is has h = refuted (subst (λ l. IsPostedByRecords l cut_rows) is (subst (IsPostedByRecords (records_of a)) has h.postings))
   where
     refuted : IsPostedByRecords (of_p ∷ of_q ∷ of_r ∷ []) cut_rows → ⊥

@@ -15,7 +15,7 @@ use Rattle.cmh_work.specs.Record.{IsRowFor}
 use Rattle.cmh_work.specs.Numbering.{IsNumbered, AreNumbered}
 
 -- a finding and its record more
-pub numbered_more : {R : Type 0} (rows : List Row) (fs : List (Finding R)) (rs : List (Record R)) (f : Finding R) (r : Record R) → AreNumbered rows fs rs → IsNumbered rows f r → AreNumbered rows (fs ++ f ∷ []) (rs ++ r ∷ [])
+pub numbered_more : {L : Type 0} {R : Type 0} (rows : List Row) (fs : List (Finding R L)) (rs : List (Record R L)) (f : Finding R L) (r : Record R L) → AreNumbered rows fs rs → IsNumbered rows f r → AreNumbered rows (fs ++ f ∷ []) (rs ++ r ∷ [])
 numbered_more rows [] [] f r h k = (k, tt)
 numbered_more rows [] (x ∷ xs) f r h k = absurd h
 numbered_more rows (y ∷ ys) [] f r h k = absurd h

@@ -12,13 +12,13 @@ use Rattle.cmh_work.specs.declared.record.Origin.TheVariants.{FromRun}
 use Rattle.cmh_work.specs.declared.record.Analysis.{Analysis}
 use Rattle.cmh_work.specs.Record.{IsTrueRecord}
 
-abbrev pub records_of : Analysis Run → List (Record Run)
+abbrev pub records_of : {L : Type 0} → Analysis Run L → List (Record Run L)
 records_of a = a.records.items
 
-abbrev pub history_of : Analysis Run → List Row
+abbrev pub history_of : {L : Type 0} → Analysis Run L → List Row
 history_of a = a.history.items
 
-abbrev pub initiator_of : Record Run → ℕ
+abbrev pub initiator_of : {L : Type 0} → Record Run L → ℕ
 initiator_of r = r.initiator
 
 -- the posting is what this run tells, but for whom stood in a row before
@@ -27,26 +27,26 @@ IsPostedBy before posting run = let told = posting_of run in
     posting ≡ rows_of told.verdict (unposted before told.processes)
 
 -- and the run is that of a record
-abbrev pub IsOfRecord : List (Record Run) → List Row → List Row → Type 0
-IsOfRecord records before posting = (r : Record Run) × Contains records r
+abbrev pub IsOfRecord : {L : Type 0} → List (Record Run L) → List Row → List Row → Type 0
+IsOfRecord {L = L} records before posting = (r : Record Run L) × Contains records r
     × (run : Run) × (r.source ≡ FromRun run) × IsPostedBy before posting run
 
 -- each posting, with what stands before it, is of a record's run
-abbrev pub AreOfRecords : List (Record Run) → List Row → List (List Row) → Type 0
+abbrev pub AreOfRecords : {L : Type 0} → List (Record Run L) → List Row → List (List Row) → Type 0
 AreOfRecords records before [] = Unit {0}
 AreOfRecords records before (posting ∷ postings) = IsOfRecord records before posting
     × AreOfRecords records (before ++ posting) postings
 
 -- the history is postings, end to end, each of a record's run
-abbrev pub IsPostedByRecords : List (Record Run) → List Row → Type 0
+abbrev pub IsPostedByRecords : {L : Type 0} → List (Record Run L) → List Row → Type 0
 IsPostedByRecords records history = (postings : List (List Row))
     × (history ≡ laid postings) × ArePostings postings × AreOfRecords records [] postings
 
 -- The records are of the idle processes, one of each, by rising index, and true. The history holds
 -- each idle process once, and no other, with the verdict that its record tells.
-pub record IsAnalysisOf (g : Graph) (choices : List ℕ) (a : Analysis Run) : Type 0 where
+pub record IsAnalysisOf {L : Type 0} (listed : L → List ℕ) (g : Graph) (choices : List ℕ) (a : Analysis Run L) : Type 0 where
   pub order : map initiator_of (records_of a) ≡ idle_list g
-  pub records : All (IsTrueRecord g choices (history_of a)) (records_of a)
+  pub records : All (IsTrueRecord listed g choices (history_of a)) (records_of a)
   pub history : IsTrueOf g (history_of a)
   pub whole : (p : ℕ) → IsTrue (is_idle g p) → fold_at (history_of a) p ≡ Some (verdict g p)
   pub agrees : All (λ r. fold_at (history_of a) r.initiator ≡ Some r.verdict) (records_of a)

@@ -12,7 +12,7 @@ use Rattle.cmh_work.specs.Shape.{IsShape}
 use Rattle.cmh_work.specs.Record.{IsRunFor}
 use Rattle.cmh_work.specs.Analysis.{IsPostedBy}
 
-abbrev pub finder_of : Finding Run → ℕ
+abbrev pub finder_of : {L : Type 0} → Finding Run L → ℕ
 finder_of f = f.initiator
 
 -- the posting stands in what is seen, and is this run's
@@ -34,33 +34,33 @@ pub record IsAnswered (g : Graph) (choices : List ℕ) (p : ℕ) (v w : View) (a
       × (run : Run) × (a.run ≡ Some run) × IsSeenFrom w.seen posting run)
 
 -- what was found of a process is true, and stands in what is seen
-pub record IsSound (g : Graph) (choices : List ℕ) (seen : List Row) (f : Finding Run) : Type 0 where
+pub record IsSound {L : Type 0} (listed : L → List ℕ) (g : Graph) (choices : List ℕ) (seen : List Row) (f : Finding Run L) : Type 0 where
   pub idle : IsTrue (is_idle g f.initiator)
   pub verdict : IsVerdict g f.initiator f.verdict
-  pub shape : IsShape g f.initiator f.verdict f.shape
+  pub shape : IsShape listed g f.initiator f.verdict f.shape
   pub run : IfSome f.run (IsRunFor g choices f.initiator f.verdict)
   pub stands : fold_at seen f.initiator ≡ Some f.verdict
 
 -- the seat that knew v before and w after, and found this, has added a posting of its run, or none
-pub record IsRecorded (g : Graph) (choices : List ℕ) (v w : View) (f : Finding Run) : Type 0 where
+pub record IsRecorded {L : Type 0} (listed : L → List ℕ) (g : Graph) (choices : List ℕ) (v w : View) (f : Finding Run L) : Type 0 where
   pub sees : StartsWith w.seen v.seen
-  pub sound : IsSound g choices w.seen f
+  pub sound : IsSound listed g choices w.seen f
   pub mine : (w.mine ≡ v.mine)
       ⊎ ((posting : List Row) × (w.mine ≡ v.mine ++ posting ∷ [])
       × (run : Run) × (f.run ≡ Some run) × IsSeenFrom w.seen posting run)
 
 -- the posting is of the run of something that was found
-abbrev pub IsExplained : List Row → List (Finding Run) → List Row → Type 0
-IsExplained seen found posting = (f : Finding Run) × Contains found f
+abbrev pub IsExplained : {L : Type 0} → List Row → List (Finding Run L) → List Row → Type 0
+IsExplained {L = L} seen found posting = (f : Finding Run L) × Contains found f
     × (run : Run) × (f.run ≡ Some run) × IsSeenFrom seen posting run
 
-abbrev pub AreExplained : List Row → List (Finding Run) → List (List Row) → Type 0
+abbrev pub AreExplained : {L : Type 0} → List Row → List (Finding Run L) → List (List Row) → Type 0
 AreExplained seen found [] = Unit {0}
 AreExplained seen found (posting ∷ postings) =
     IsExplained seen found posting × AreExplained seen found postings
 
 -- what was found is sound, and explains the postings that the seat added
-pub record Accounts (g : Graph) (choices : List ℕ) (v : View) (found : List (Finding Run))
+pub record Accounts {L : Type 0} (listed : L → List ℕ) (g : Graph) (choices : List ℕ) (v : View) (found : List (Finding Run L))
     : Type 0 where
-  pub sound : All (IsSound g choices v.seen) found
+  pub sound : All (IsSound listed g choices v.seen) found
   pub explained : AreExplained v.seen found v.mine

@@ -10,7 +10,7 @@ use Rattle.cmh_work.specs.declared.record.Origin.TheVariants.{FromRun, FromBoard
 use Rattle.cmh_work.specs.Record.{IsRowFor}
 
 -- what was found stands in the history
-abbrev pub Stands : {R : Type 0} → List Row → Finding R → Type 0
+abbrev pub Stands : {R L : Type 0} → List Row → Finding R L → Type 0
 Stands history f = fold_at history f.initiator ≡ Some f.verdict
 
 -- the run of a finding is kept, and where there is none, the row is named
@@ -20,14 +20,14 @@ IsNamed history p verdict None source =
     (n : ℕ) × (source ≡ FromBoard n) × IsRowFor history n p verdict
 
 -- the record tells what was found
-pub record IsNumbered {R : Type 0} (history : List Row) (f : Finding R) (r : Record R) : Type 0 where
+pub record IsNumbered {R L : Type 0} (history : List Row) (f : Finding R L) (r : Record R L) : Type 0 where
   pub initiator : r.initiator ≡ f.initiator
   pub verdict : r.verdict ≡ f.verdict
   pub shape : r.shape ≡ f.shape
   pub source : IsNamed history f.initiator f.verdict f.run r.source
 
 -- each record tells what was found at its place
-abbrev pub AreNumbered : {R : Type 0} → List Row → List (Finding R) → List (Record R) → Type 0
+abbrev pub AreNumbered : {R L : Type 0} → List Row → List (Finding R L) → List (Record R L) → Type 0
 AreNumbered history [] [] = Unit {0}
 AreNumbered history [] (r ∷ rs) = ⊥
 AreNumbered history (f ∷ fs) [] = ⊥

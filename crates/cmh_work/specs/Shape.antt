@@ -1,5 +1,5 @@
 -- What a record shows of its process, and what that is read from.
-use Rattle.std.specs.Prelude.{◌≡◌, ℕ, map, Some}
+use Rattle.std.specs.Prelude.{◌≡◌, ℕ, List, map, Some}
 use Rattle.cmh_graph.specs.declared.verdict.Verdict.{Verdict}
 use Rattle.cmh_graph.specs.declared.verdict.Verdict.TheVariants.{Deadlocked, Free}
 use Rattle.cmh_graph.specs.Graph.{Graph, indices}
@@ -10,12 +10,12 @@ use Rattle.cmh_work.specs.declared.record.Shape.TheVariants.{Path, Leader}
 use Rattle.cmh_work.specs.declared.shapes.Shapes.{Shapes}
 use Rattle.cmh_work.specs.Leaders.{group_leader}
 
--- a free process has its chosen path, and a deadlocked one the leader of its group
-abbrev pub IsShape : Graph → ℕ → Verdict → Shape → Type 0
-IsShape g p Free (Path path) = chosen_path g p ≡ Some path.items
-IsShape g p Deadlocked (Leader leader) = leader ≡ leader_of g p
-IsShape g p Free (Leader leader) = ⊥
-IsShape g p Deadlocked (Path path) = ⊥
+-- a free process has its chosen path, as it is listed, and a deadlocked one the leader of its group
+abbrev pub IsShape : {L : Type 0} → (L → List ℕ) → Graph → ℕ → Verdict → Shape L → Type 0
+IsShape listed g p Free (Path path) = chosen_path g p ≡ Some (listed path)
+IsShape listed g p Deadlocked (Leader leader) = leader ≡ leader_of g p
+IsShape listed g p Free (Leader leader) = ⊥
+IsShape listed g p Deadlocked (Path path) = ⊥
 
 -- distances and leaders of all processes of this graph
 pub record AreShapesOf (g : Graph) (shapes : Shapes) : Type 0 where

@@ -42,7 +42,7 @@ pub fn analyse<R: Threads + Wait + Sync, P: Gate>(
     plan: &Plan,
     gate: &P,
 ) -> Result<Analysis, WorkFault>
-    ensures ok { IfOk result (IsAnalysisOf graph.now plan.now.choices) }
+    ensures ok { IfOk result (IsAnalysisOf (λ path. path.items) graph.now plan.now.choices) }
     ensures memory { IfErr result (λ e. e ≡ WorkFault.Memory) }
 {
     analyse_keeping(rt, alloc, graph, plan, gate)
@@ -60,8 +60,8 @@ pub fn analyse_keeping<L: Log + Send, E: ProcessList + Send, R: Threads + Wait +
     graph: &WaitGraph,
     plan: &Plan,
     gate: &P,
-) -> Result<Analysis<RunLog<L, E>>, WorkFault>
-    ensures ok { IfOk result (IsAnalysisOf graph.now plan.now.choices) }
+) -> Result<Analysis<RunLog<L, E>, E>, WorkFault>
+    ensures ok { IfOk result (IsAnalysisOf E.processes graph.now plan.now.choices) }
     ensures memory { IfErr result (λ e. e ≡ WorkFault.Memory) }
 {
     let idle = graph.idle_list(alloc).map_err(want_in_graph)?;
@@ -91,13 +91,13 @@ fn finish<L: Log + Send, E: ProcessList + Send, R: Threads + Wait + Sync, P: Gat
     shared: Shared,
     gate: &P,
     seats: Seats,
-) -> Result<Analysis<RunLog<L, E>>, WorkFault>
+) -> Result<Analysis<RunLog<L, E>, E>, WorkFault>
     requires made { IsMadeFor graph.now plan.now shared }
     requires sit { Sit shared seats }
     requires new { AreNew seats }
     requires tickets { (view seats.tickets).share ≡ 64 }
     requires board { (known seats.board).lock.share ≡ 64 }
-    ensures ok { IfOk result (IsAnalysisOf graph.now plan.now.choices) }
+    ensures ok { IfOk result (IsAnalysisOf E.processes graph.now plan.now.choices) }
     ensures memory { IfErr result (λ e. e ≡ WorkFault.Memory) }
 {
     law_built_graph(graph);

@@ -12,9 +12,9 @@ pub(crate) struct Answer<R> {
 
 /// What was found of one idle process. Where there is no run, the verdict stands on the board.
 #[derive(Drop)]
-pub(crate) struct Finding<R> {
+pub(crate) struct Finding<R, P> {
     pub(crate) initiator: u32,
     pub(crate) verdict: Verdict,
     pub(crate) run: Option<R>,
-    pub(crate) shape: Shape,
+    pub(crate) shape: Shape<P>,
 }

@@ -26,7 +26,7 @@ fn row_number(history: &[Row], p: u32) -> usize
     unreachable!()
 }
 
-fn number_one<R: Drop>(history: &[Row], finding: Finding<R>) -> Record<R>
+fn number_one<R: Drop, P: Drop>(history: &[Row], finding: Finding<R, P>) -> Record<R, P>
     requires stands { Stands history.now finding }
     requires few { length history.now < 2 ^ 32 }
     ensures { IsNumbered history.now finding result }
@@ -50,11 +50,11 @@ fn number_one<R: Drop>(history: &[Row], finding: Finding<R>) -> Record<R>
 }
 
 /// Each finding as a record.
-pub(crate) fn number_all<R: Drop>(
+pub(crate) fn number_all<R: Drop, P: Drop>(
     alloc: Global,
     history: &[Row],
-    found: Vec<Finding<R>>,
-) -> Result<Vec<Record<R>>, WorkFault>
+    found: Vec<Finding<R, P>>,
+) -> Result<Vec<Record<R, P>>, WorkFault>
     requires stand { All (Stands history.now) found.items }
     requires few { length history.now < 2 ^ 32 }
     ensures ok { IfOk result (λ records. AreNumbered history.now found.items records.items) }

@@ -6,13 +6,13 @@ use cmh_board::Row;
 use cmh_graph::Verdict;
 use cmh_run::{Log, ProcessList, RunLog};
 
-/// What is found of one idle process, with its run as an `R`.
+/// What is found of one idle process, with its run as an `R` and its path as a `P`.
 #[derive(PartialEq, Eq, Debug, Drop)]
-pub struct Record<R = RunLog> {
+pub struct Record<R = RunLog, P = Vec<u32>> {
     pub initiator: u32,
     pub verdict: Verdict,
     pub source: Origin<R>,
-    pub shape: Shape,
+    pub shape: Shape<P>,
 }
 
 /// How a worker came to know a verdict.
@@ -27,27 +27,27 @@ pub enum Origin<R = RunLog> {
 
 /// What a verdict looks like in the graph.
 #[derive(PartialEq, Eq, Debug, Drop)]
-pub enum Shape {
+pub enum Shape<P = Vec<u32>> {
     /// The chosen path of a free process to an awake one.
-    Path(Vec<u32>),
+    Path(P),
 
     /// The leader of a deadlocked process's group: the least of those that it reaches and that reach
     /// it.
     Leader(u32),
 }
 
-/// What is found of a wait graph, with each run as an `R`.
+/// What is found of a wait graph, with each run as an `R` and each path as a `P`.
 #[derive(PartialEq, Eq, Debug, Drop)]
-pub struct Analysis<R = RunLog> {
-    pub(crate) records: Vec<Record<R>>,
+pub struct Analysis<R = RunLog, P = Vec<u32>> {
+    pub(crate) records: Vec<Record<R, P>>,
     pub(crate) history: Vec<Row>,
 }
 
-impl<L: Log, E: ProcessList> Analysis<RunLog<L, E>> {
+impl<L: Log, P: ProcessList> Analysis<RunLog<L, P>, P> {
     ghost use Rattle.cmh_work.specs.Analysis.{records_of, history_of};
 
     /// A record of each idle process, by rising index.
-    pub fn records(&self) -> &[Record<RunLog<L, E>>]
+    pub fn records(&self) -> &[Record<RunLog<L, P>, P>]
         ensures { result.now ≡ records_of self.now }
     {
         &self.records

@@ -9,6 +9,7 @@ use crate::leaders::group_leaders;
 use crate::record::Shape;
 use cmh_graph::laws::law_built_graph;
 use cmh_graph::{Verdict, WaitGraph};
+use cmh_run::ProcessList;
 use std::alloc::Global;
 
 /// What the shapes of all records are read from. It is found once, and the workers share it.
@@ -37,17 +38,17 @@ impl Shapes {
 
     /// The shape of a process with this verdict. A path takes time linear in the dependencies of
     /// the processes on it, a leader constant time.
-    pub(crate) fn shape_of(
+    pub(crate) fn shape_of<P: ProcessList>(
         &self,
         alloc: Global,
         graph: &WaitGraph,
         p: u32,
         known: Verdict,
-    ) -> Result<Shape, WorkFault>
+    ) -> Result<Shape<P>, WorkFault>
         requires shapes { AreShapesOf graph.now self.now }
         requires within { p < process_count graph.now }
         requires known { IsVerdict graph.now p known }
-        ensures ok { IfOk result (IsShape graph.now p known) }
+        ensures ok { IfOk result (IsShape P.processes graph.now p known) }
         ensures memory { IfErr result (λ e. e ≡ WorkFault.Memory) }
     {
         law_built_graph(graph);
@@ -57,7 +58,7 @@ impl Shapes {
                 let path = graph
                     .path_by(alloc, &self.distances, p)
                     .map_err(want_in_graph)?;
-                Ok(Shape::Path(path.unwrap()))
+                Ok(Shape::Path(P::of(path.unwrap())))
             }
         }
     }

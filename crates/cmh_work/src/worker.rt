@@ -85,7 +85,7 @@ fn find_one<L: Log, E: ProcessList, R: Wait, P: Gate>(
     runner: &mut Runner,
     seat: &mut BoardSeat,
     initiator: u32,
-) -> Result<Finding<RunLog<L, E>>, WorkFault>
+) -> Result<Finding<RunLog<L, E>, E>, WorkFault>
     requires runner { runner.old ≡ job.now.graph.now }
     requires sits { SitsIn job.now.shared.now seat.old }
     requires idle { IsTrue (is_idle job.now.graph.now initiator) }
@@ -93,7 +93,7 @@ fn find_one<L: Log, E: ProcessList, R: Wait, P: Gate>(
     ensures sits { SitsIn job.now.shared.now seat.new }
     ensures share { (known seat.new).lock.share ≡ (known seat.old).lock.share }
     ensures is { IfOk result (λ f. f.initiator ≡ initiator) }
-    ensures recorded { IfOk result (IsRecorded
+    ensures recorded { IfOk result (IsRecorded E.processes
         job.now.graph.now job.now.plan.now.choices (known seat.old) (known seat.new)) }
     ensures memory { IfErr result (λ e. e ≡ WorkFault.Memory) }
 {
@@ -119,18 +119,18 @@ fn find_each<L: Log, E: ProcessList, R: Wait, P: Gate>(
     gate: &P,
     runner: &mut Runner,
     seat: &mut BoardSeat,
-    found: &mut Vec<Finding<RunLog<L, E>>>,
+    found: &mut Vec<Finding<RunLog<L, E>, E>>,
     chunk: &[u32],
 ) -> Result<(), WorkFault>
     requires runner { runner.old ≡ job.now.graph.now }
     requires sits { SitsIn job.now.shared.now seat.old }
     requires idle { All (λ p. IsTrue (is_idle job.now.graph.now p)) chunk.now }
-    requires accounts { Accounts
+    requires accounts { Accounts E.processes
         job.now.graph.now job.now.plan.now.choices (known seat.old) found.old.items }
     ensures runner { runner.new ≡ runner.old }
     ensures sits { SitsIn job.now.shared.now seat.new }
     ensures share { (known seat.new).lock.share ≡ (known seat.old).lock.share }
-    ensures accounts { OnOk result (Accounts
+    ensures accounts { OnOk result (Accounts E.processes
         job.now.graph.now job.now.plan.now.choices (known seat.new) found.new.items) }
     ensures order { OnOk result (map finder_of found.new.items
         ≡ map finder_of found.old.items ++ chunk.now) }
@@ -150,11 +150,11 @@ fn draw_all<L: Log, E: ProcessList, R: Wait, P: Gate>(
     job: &Job,
     gate: &P,
     seats: &mut Seats,
-) -> Result<Vec<Finding<RunLog<L, E>>>, WorkFault>
+) -> Result<Vec<Finding<RunLog<L, E>, E>>, WorkFault>
     requires sit { Sit job.now.shared.now seats.old }
     requires new { AreNew seats.old }
     ensures back { AreBack job.now.shared.now seats.old seats.new }
-    ensures worked { IfOk result (λ found. IsWorked
+    ensures worked { IfOk result (λ found. IsWorked E.processes
         job.now.graph.now job.now.plan.now job.now.shared.now seats.new found.items) }
     ensures memory { IfErr result (λ e. e ≡ WorkFault.Memory) }
 {
@@ -185,13 +185,13 @@ pub(crate) fn work<L: Log, E: ProcessList, R: Wait, P: Gate>(
     shared: &Shared,
     gate: &P,
     seats: Seats,
-) -> (Seats, Result<Vec<Finding<RunLog<L, E>>>, WorkFault>)
+) -> (Seats, Result<Vec<Finding<RunLog<L, E>, E>>, WorkFault>)
     requires made { IsMadeFor graph.now plan.now shared.now }
     requires sit { Sit shared.now seats }
     requires new { AreNew seats }
     ensures back { AreBack shared.now seats result.0 }
     ensures worked { IfOk result.1 (λ found.
-        IsWorked graph.now plan.now shared.now result.0 found.items) }
+        IsWorked E.processes graph.now plan.now shared.now result.0 found.items) }
     ensures memory { IfErr result.1 (λ e. e ≡ WorkFault.Memory) }
 {
     let job = Job {

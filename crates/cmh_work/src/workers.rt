@@ -21,9 +21,9 @@ use std::thread::{Threads, join};
 
 /// What both found, or the fault of one.
 fn both<L: Log, E: ProcessList>(
-    first: Result<Vec<Finding<RunLog<L, E>>>, WorkFault>,
-    second: Result<Vec<Finding<RunLog<L, E>>>, WorkFault>,
-) -> Result<Vec<Finding<RunLog<L, E>>>, WorkFault>
+    first: Result<Vec<Finding<RunLog<L, E>, E>>, WorkFault>,
+    second: Result<Vec<Finding<RunLog<L, E>, E>>, WorkFault>,
+) -> Result<Vec<Finding<RunLog<L, E>, E>>, WorkFault>
     requires first { IfErr first (λ e. e ≡ WorkFault.Memory) }
     requires second { IfErr second (λ e. e ≡ WorkFault.Memory) }
     ensures all { IfOk result (λ v.
@@ -85,7 +85,7 @@ pub(crate) fn workers<L: Log + Send, E: ProcessList + Send, R: Threads + Wait + 
     gate: &P,
     seats: Seats,
     others: u32,
-) -> (Seats, Result<Vec<Finding<RunLog<L, E>>>, WorkFault>)
+) -> (Seats, Result<Vec<Finding<RunLog<L, E>, E>>, WorkFault>)
     requires made { IsMadeFor graph.now plan.now shared.now }
     requires sit { Sit shared.now seats }
     requires same { (known seats.board).lock.share ≡ (view seats.tickets).share }
@@ -93,7 +93,7 @@ pub(crate) fn workers<L: Log + Send, E: ProcessList + Send, R: Threads + Wait + 
     requires share { others < (view seats.tickets).share }
     ensures back { AreBack shared.now seats result.0 }
     ensures worked { IfOk result.1 (λ found.
-        IsWorked graph.now plan.now shared.now result.0 found.items) }
+        IsWorked E.processes graph.now plan.now shared.now result.0 found.items) }
     ensures memory { IfErr result.1 (λ e. e ≡ WorkFault.Memory) }
 {
     if others == 0 {
@@ -106,19 +106,19 @@ pub(crate) fn workers<L: Log + Send, E: ProcessList + Send, R: Threads + Wait + 
     };
     let ((one, found), (mut rest, more)) = join(
         rt,
-        || -> (Seats, Result<Vec<Finding<RunLog<L, E>>>, WorkFault>)
+        || -> (Seats, Result<Vec<Finding<RunLog<L, E>, E>>, WorkFault>)
             requires { IsSync R.row × IsMadeFor graph.now plan.now shared.now
                 × Sit shared.now one × AreNew one }
-            ensures { AreBack shared.entry.now one result.0 × IfOk result.1 (λ found. IsWorked
+            ensures { AreBack shared.entry.now one result.0 × IfOk result.1 (λ found. IsWorked E.processes
                 graph.entry.now plan.entry.now shared.entry.now result.0 found.items)
                 × IfErr result.1 (λ e. e ≡ WorkFault.Memory) }
         { work(rt, alloc, graph, plan, shared, gate, one) },
-        || -> (Seats, Result<Vec<Finding<RunLog<L, E>>>, WorkFault>)
+        || -> (Seats, Result<Vec<Finding<RunLog<L, E>, E>>, WorkFault>)
             requires { IsSync R.row × IsMadeFor graph.now plan.now shared.now
                 × Sit shared.now rest
                 × ((known rest.board).lock.share ≡ (view rest.tickets).share)
                 × AreNew rest × (fewer < (view rest.tickets).share) }
-            ensures { AreBack shared.entry.now rest result.0 × IfOk result.1 (λ found. IsWorked
+            ensures { AreBack shared.entry.now rest result.0 × IfOk result.1 (λ found. IsWorked E.processes
                 graph.entry.now plan.entry.now shared.entry.now result.0 found.items)
                 × IfErr result.1 (λ e. e ≡ WorkFault.Memory) }
         { workers(rt, alloc, graph, plan, shared, gate, rest, fewer) },

@@ -1,12 +1,13 @@
-use Rattle.std.proofs.Common.{◌∙◌, arith, rules, sym}
+use Rattle.std.proofs.Common.{None, ◌∙◌, ap, arith, length, rules, sym}
+use Rattle.std.proofs.lemmas.List.{length-replicate}
 use Rattle.cmh_graph.specs.Graph.{idle_list}
 use Rattle.cmh_graph.proofs.Verdicts.{idle_within}
-use Rattle.cmh_report.proofs.Records.{initiator_at, leaders_all, leaders_more, leaders_none, records_count, shape_leader, tells_at}
+use Rattle.cmh_report.proofs.Records.{initiator_at, leaders_all, leaders_more, leaders_none, records_count, tells_at}
 use Rattle.cmh_report.proofs.groups.group_leaders.Goals as goal
 
 pub loop-record-init : goal.loop-record-init
 loop-record-init _ c =
-    leaders_none c.args.graph.now c.len.result c.in_ok-leaders.leaders.items c.len.ensures.count (search rules) (search rules)
+    leaders_none c.args.graph.now c.len.result c.in_ok-leaders.leaders.items c.len.ensures.count (search rules) (ap length c.in_ok-leaders.ensures ∙ length-replicate c.len.result None)
 
 pub index_mut-requires : goal.index_mut-requires
 index_mut-requires _ c =
@@ -24,7 +25,7 @@ loop-record-preserved _ c =
     (omega (arith, c.loop-record-test.true, records_count g rs c.requires))
     (initiator_at g rs i r c.requires c.loop-record-test.true (sym c.record-item.is))
     (omega (arith, c.loop-record.invariant.size, idle_within g r.initiator tells.idle))
-    (c.leader_in.ensures ∙ shape_leader g r.initiator r.verdict r.shape c.len.ensures.well_formed.within tells.verdict tells.shape)
+    (c.leader_in.ensures ∙ tells.leader c.len.ensures.well_formed.within)
     c.loop-record.invariant
 
 pub returns-clause-leaders : goal.returns-clause-leaders

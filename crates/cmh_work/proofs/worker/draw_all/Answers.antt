@@ -17,8 +17,8 @@ pub loop-number-init : goal.loop-number-init
 loop-number-init g c = record {
   runner = search rules;
   back = search rules;
-  of = subst (AreOf c.args.job.now.graph.now c.args.job.now.plan.now c.args.job.now.shared.now c.args.seats.now) (sym c.new-found.ensures.items)
-      (nothing_found c.args.job.now.graph.now c.args.job.now.plan.now c.args.job.now.shared.now c.args.seats.now c.requires.new);
+  of = subst (AreOf g.E.ProcessList.processes c.args.job.now.graph.now c.args.job.now.plan.now c.args.job.now.shared.now c.args.seats.now) (sym c.new-found.ensures.items)
+      (nothing_found g.E.ProcessList.processes c.args.job.now.graph.now c.args.job.now.plan.now c.args.job.now.shared.now c.args.seats.now c.requires.new);
 }
 
 pub loop-number-preserved : goal.loop-number-preserved

@@ -7,7 +7,7 @@ abbrev pub invariant-loop-number : goal.invariant-loop-number
 invariant-loop-number g l = record {
   runner : l.runner ≡ l.job.graph.now;
   back : AreBack l.job.shared.now l.fn.seats l.seats;
-  of : AreOf l.job.graph.now l.job.plan.now l.job.shared.now l.seats l.found.items;
+  of : AreOf g.E.ProcessList.processes l.job.graph.now l.job.plan.now l.job.shared.now l.seats l.found.items;
 }
 
 abbrev pub decreases-loop-number : goal.decreases-loop-number

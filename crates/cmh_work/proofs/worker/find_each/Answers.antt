@@ -15,7 +15,7 @@ loop-initiator-preserved g c =
       runner = search rules;
       sits = search rules;
       share = search rules;
-      accounts = subst (Accounts gr choices w) (sym pushed)
-          (accounts_more gr choices v w c.loop-initiator.found.items c.in_ok-finding.finding c.loop-initiator.invariant.accounts c.in_ok-finding.ensures.recorded);
+      accounts = subst (Accounts g.E.ProcessList.processes gr choices w) (sym pushed)
+          (accounts_more g.E.ProcessList.processes gr choices v w c.loop-initiator.found.items c.in_ok-finding.finding c.loop-initiator.invariant.accounts c.in_ok-finding.ensures.recorded);
       order = grind (arith, common_steps);
     }

@@ -9,6 +9,6 @@ invariant-loop-initiator g l = record {
   runner : l.runner ≡ l.fn.runner;
   sits : SitsIn l.job.shared.now l.seat;
   share : (known l.seat).lock.share ≡ (known l.fn.seat).lock.share;
-  accounts : Accounts l.job.graph.now l.job.plan.now.choices (known l.seat) l.found.items;
+  accounts : Accounts g.E.ProcessList.processes l.job.graph.now l.job.plan.now.choices (known l.seat) l.found.items;
   order : map finder_of l.found.items ≡ map finder_of l.fn.found.items ++ take l.initiator-index l.chunk;
 }
