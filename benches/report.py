@@ -10,15 +10,15 @@ Run it while nothing else runs.
 """
 
 import argparse
-import datetime
 import hashlib
 import json
 import os
-import platform
 import resource
 import subprocess
 import sys
 import time
+
+from measure import heading
 
 MANY = 4096
 
@@ -94,13 +94,6 @@ def measure(columns, path, runs, rounds):
     return best
 
 
-def machine():
-    with open("/proc/cpuinfo") as info:
-        models = [line.split(":")[1].strip() for line in info if line.startswith("model name")]
-    model = models[0] if models else platform.machine()
-    return f"{model}, {os.cpu_count()} processors, {platform.system()} {platform.release()}"
-
-
 def cell(seconds, memory):
     """Where a program takes no more memory than this script, the system tells that of the script."""
     own = resource.getrusage(resource.RUSAGE_SELF).ru_maxrss
@@ -116,8 +109,7 @@ def main():
     given = words.parse_args()
     columns = [(p, c) for p in (given.before, given.program) for c in ("0", "0-3")]
 
-    today = datetime.date.today().isoformat()
-    print(f"{today}, {machine()}; least of {given.times} rounds, milliseconds (peak memory).\n")
+    print(f"{heading(given.times)}, milliseconds (peak memory).\n")
     print("| Dump | before, 1 processor | before, 4 | now, 1 processor | now, 4 |")
     print("|---|---|---|---|---|")
     for name, made, runs in FAMILIES:
