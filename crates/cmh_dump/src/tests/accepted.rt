@@ -1,47 +1,51 @@
 //! What is accepted, and the graph that it means.
 
-use super::answer;
+use super::first_wrong;
 use crate::read_dump;
+use cmh_graph::WaitGraph;
 use std::test::Fail;
+
+const DUMPS: [(&str, &str); 5] = [
+    (r#"{"version":1,"sites":[],"processes":[]}"#, "accepted"),
+    (
+        "\r\n{ \"processes\":\t[ ], \"sites\": [ ] , \"version\" : 1 }\n",
+        "accepted",
+    ),
+    (
+        r#"{"version":1,"sites":["a","b"],"processes":[]}"#,
+        "accepted",
+    ),
+    // Of a key that stands twice the last value counts.
+    (
+        r#"{"version":3,"sites":[],"processes":[],"version":1}"#,
+        "accepted",
+    ),
+    (
+        r#"{"version":1,"sites":[],"processes":[],"version":3}"#,
+        "bad version",
+    ),
+];
 
 #[test]
 fn accepted_dumps(rt: HostRuntime) -> Result<(), Fail> {
-    let alloc = rt.alloc();
-    let dumps = [
-        r#"{"version":1,"sites":[],"processes":[]}"#,
-        "\r\n{ \"processes\":\t[ ], \"sites\": [ ] , \"version\" : 1 }\n",
-        r#"{"version":1,"sites":["a","b"],"processes":[]}"#,
-    ];
-    for dump in dumps {
-        assert_eq!(rt;
-            answer(alloc, dump.as_bytes())?.as_str(),
-            "accepted",
-            "at {dump}"
-        );
-    }
+    assert_eq!(rt; first_wrong(rt.alloc(), &DUMPS)?, None);
     Ok(())
 }
 
-#[test]
-fn keys_twice(rt: HostRuntime) -> Result<(), Fail> {
-    let table = [
-        (
-            r#"{"version":3,"sites":[],"processes":[],"version":1}"#,
-            "accepted",
-        ),
-        (
-            r#"{"version":1,"sites":[],"processes":[],"version":3}"#,
-            "bad version",
-        ),
-    ];
-    for (dump, wanted) in table {
-        assert_eq!(rt;
-            answer(rt.alloc(), dump.as_bytes())?.as_str(),
-            wanted,
-            "at {dump}"
-        );
-    }
-    Ok(())
+/// Whether process p has this name, site and dependents.
+fn is_process(graph: &WaitGraph, p: u32, name: &str, site: u32, dependents: &[u32]) -> bool {
+    p < graph.len()
+        && graph.name(p) == name
+        && graph.site(p) == site
+        && graph.dependents(p) == dependents
+}
+
+fn is_idle(graph: &WaitGraph, p: u32) -> bool {
+    p < graph.len() && graph.is_idle(p) && !graph.is_awake(p)
+}
+
+fn is_active(graph: &WaitGraph, p: u32) -> bool {
+    p < graph.len() && !graph.is_idle(p) && graph.is_awake(p)
 }
 
 #[test]
@@ -51,16 +55,13 @@ fn keeps_the_order_of_the_dump(rt: HostRuntime) -> Result<(), Fail> {
         {"name":"q","site":"b","state":"active"},
         {"state":"idle","dependents":[],"site":"a","name":"r"}]}"#;
     let graph = read_dump(rt.alloc(), dump.as_bytes())?;
-    assert_eq!(rt; graph.len(), 3);
-    for (p, name, site, is_idle) in [(0, "p", 1, true), (1, "q", 0, false), (2, "r", 1, true)] {
-        assert!(rt; p < graph.len());
-        assert_eq!(rt; graph.name(p), name);
-        assert_eq!(rt; graph.site(p), site);
-        assert_eq!(rt; graph.is_idle(p), is_idle);
-        assert_eq!(rt; graph.is_awake(p), !is_idle);
-    }
-    assert_eq!(rt; graph.dependents(0), [2, 1].as_slice());
-    assert_eq!(rt; graph.dependents(1), [].as_slice());
-    assert_eq!(rt; graph.dependents(2), [].as_slice());
+    let are_there = graph.len() == 3
+        && is_process(&graph, 0, "p", 1, &[2, 1])
+        && is_process(&graph, 1, "q", 0, &[])
+        && is_process(&graph, 2, "r", 1, &[]);
+    let wait = is_idle(&graph, 0) && is_active(&graph, 1) && is_idle(&graph, 2);
+    drop(graph);
+    assert!(rt; are_there);
+    assert!(rt; wait);
     Ok(())
 }

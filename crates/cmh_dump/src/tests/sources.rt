@@ -30,6 +30,11 @@ fn reading<R: Read + Drop>(alloc: Global, reader: R) -> Result<String, AllocErro
     }
 }
 
+/// Whether the reader is answered by this.
+fn is_read<R: Read + Drop>(alloc: Global, reader: R, wanted: &str) -> Result<bool, AllocError> {
+    Ok(reading(alloc, reader)?.as_str() == wanted)
+}
+
 #[test]
 fn failing_sources(rt: HostRuntime) -> Result<(), Fail> {
     let alloc = rt.alloc();
@@ -39,9 +44,9 @@ fn failing_sources(rt: HostRuntime) -> Result<(), Fail> {
         let broken = Broken {
             bytes: &dump[..len],
         };
-        assert_eq!(rt; reading(alloc, broken)?.as_str(), "read fault", "at {len}");
+        assert!(rt; is_read(alloc, broken, "read fault")?, "at {len}");
     }
-    assert_eq!(rt; reading(alloc, dump)?.as_str(), "157");
+    assert!(rt; is_read(alloc, dump, "157")?);
     Ok(())
 }
 
@@ -49,8 +54,8 @@ fn failing_sources(rt: HostRuntime) -> Result<(), Fail> {
 fn long_sources(rt: HostRuntime) -> Result<(), Fail> {
     let alloc = rt.alloc();
     let mut bytes = vec![in alloc; b' '; MAX_BYTES]?;
-    assert_eq!(rt; reading(alloc, bytes.as_slice())?.as_str(), "8388608");
+    assert!(rt; is_read(alloc, bytes.as_slice(), "8388608")?);
     bytes.push(b' ')?;
-    assert_eq!(rt; reading(alloc, bytes.as_slice())?.as_str(), "too long");
+    assert!(rt; is_read(alloc, bytes.as_slice(), "too long")?);
     Ok(())
 }

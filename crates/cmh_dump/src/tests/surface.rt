@@ -4,6 +4,7 @@ use super::TWO_IN_A_CYCLE;
 use crate::laws::{law_first_fault, law_no_fault, law_tree_fault, law_tree_graph, law_well_formed};
 use crate::{DumpFault, MAX_NAME, ReadOf, Source, Stopped, read_all, read_dump};
 use cmh_graph::WaitGraph;
+use std::alloc::Global;
 use std::test::Fail;
 
 const REFUSED: [(&str, DumpFault); 5] = [
@@ -26,16 +27,24 @@ const REFUSED: [(&str, DumpFault); 5] = [
 
 #[test]
 fn from_a_source(rt: HostRuntime) -> Result<(), Fail> {
-    let alloc = rt.alloc();
     let mut source = ReadOf::new(TWO_IN_A_CYCLE.as_bytes());
-    let bytes: Vec<u8> = read_all(alloc, &mut source)?;
-    assert_eq!(rt; bytes.as_slice(), TWO_IN_A_CYCLE.as_bytes());
+    let bytes: Vec<u8> = read_all(rt.alloc(), &mut source)?;
+    let is_whole = bytes.as_slice() == TWO_IN_A_CYCLE.as_bytes();
+    drop(bytes);
+    assert!(rt; is_whole);
     let mut buf = [0u8; 4];
     let count: Result<usize, Stopped> = source.fill(&mut buf);
     assert_eq!(rt; count, Ok(0));
     assert!(rt; !source.failed());
-    let graph: WaitGraph = read_dump(alloc, &bytes)?;
-    assert_eq!(rt; graph.len(), 2);
+    Ok(())
+}
+
+#[test]
+fn from_bytes(rt: HostRuntime) -> Result<(), Fail> {
+    let graph: WaitGraph = read_dump(rt.alloc(), TWO_IN_A_CYCLE.as_bytes())?;
+    let count = graph.len();
+    drop(graph);
+    assert_eq!(rt; count, 2);
     Ok(())
 }
 
@@ -52,13 +61,20 @@ fn refusals(rt: HostRuntime) {
     law_well_formed();
 }
 
+/// Why a dump with a site whose name has this many bytes is refused, if it is.
+fn fault_of_name(alloc: Global, length: usize) -> Result<Option<DumpFault>, Fail> {
+    let name = String::from_utf8(vec![in alloc; b'x'; length]?)?;
+    let dump = format!(in alloc; r#"{{"version":1,"sites":["{name}"],"processes":[]}}"#)?;
+    Ok(read_dump(alloc, dump.as_bytes()).err())
+}
+
 #[test]
 fn the_longest_name(rt: HostRuntime) -> Result<(), Fail> {
     let alloc = rt.alloc();
-    for (length, fault) in [(64, None), (MAX_NAME + 1, Some(DumpFault::BadSites(0)))] {
-        let name = String::from_utf8(vec![in alloc; b'x'; length]?)?;
-        let dump = format!(in alloc; r#"{{"version":1,"sites":["{name}"],"processes":[]}}"#)?;
-        assert_eq!(rt; read_dump(alloc, dump.as_bytes()).err(), fault);
-    }
+    assert_eq!(rt; fault_of_name(alloc, 64)?, None);
+    assert_eq!(rt;
+        fault_of_name(alloc, MAX_NAME + 1)?,
+        Some(DumpFault::BadSites(0))
+    );
     Ok(())
 }

@@ -1,29 +1,22 @@
 //! Dumps that are wrong at the top or in their sites, or are no JSON.
 //! Line breaks were added after commas.
 
-/// Each dump with its fault.
-pub fn refused_at_the_top() -> [(&'static str, &'static str); 27] {
-    [
-        (
-            r#"{"sits": ["dm", "tJf"], "processes": [{"state": "idle", "dependents": [], "site": "tJf",
+/// Dumps, each below a line with its fault.
+pub const REFUSED_AT_THE_TOP: &str = concat!(
+    r#"= bad top
+{"sits": ["dm", "tJf"], "processes": [{"state": "idle", "dependents": [], "site": "tJf",
 "name": "7Eb4P3Ed2Ff4/iuB/h/xJMCKQgsDn1X2/QYx:ROdrRnEsis8u1ysUG9AvYufBujW"},
 {"state": "active", "name": "q", "site": "dm"}, {"dependents": ["FB", "s"],
 "state": "idle", "name": "s", "site": "dm", "extra": "a b"}, {"name": "FB",
-"site": "dm", "state": "active"}], "version": 1}"#,
-            "bad top",
-        ),
-        (
-            r#"{"sites":["q","qF","xai"],"processes":[{"dependents":["SY0t","95"],"site":"xai",
+"site": "dm", "state": "active"}], "version": 1}
+= bad top
+{"sites":["q","qF","xai"],"processes":[{"dependents":["SY0t","95"],"site":"xai",
 "state":"idle","name":"SY0t"},{"dependents":["95"],"state":"idle","site":"qF",
-"name":"95"}]}"#,
-            "bad top",
-        ),
-        (
-            r#"{"vrsion": 1, "sites": ["3z"], "in_transit": 7}"#,
-            "bad top",
-        ),
-        (
-            r#"{"processes": [{"state": "idle", "site": "g",
+"name":"95"}]}
+= bad top
+{"vrsion": 1, "sites": ["3z"], "in_transit": 7}
+= bad top
+{"processes": [{"state": "idle", "site": "g",
 "name": "ffNWNX5/mX2JBzmYGC.2qNWfWU-yjlk42TDnm.C5JfNhHjuGQ/1jRNaYC3Qk/A-X",
 "dependents": []},
 {"site": "rnIhY1bP5d3hq9Kpg3zkH6UuPtxCG2z4/eXXAl_X9h_h2S/i3zttl4gG4PrE9:U5",
@@ -63,11 +56,9 @@ pub fn refused_at_the_top() -> [(&'static str, &'static str); 27] {
 "name": "NZx", "dependents": ["NZx"]}],
 "sites": ["rnIhY1bP5d3hq9Kpg3zkH6UuPtxCG2z4/eXXAl_X9h_h2S/i3zttl4gG4PrE9:U5",
 "d9jOmnQsdacfyYy6e:injDJ97E/zle7OaDxFogb/Eo3b2AgdVXyj:VS36d_-wyKM", "g", "rTJj"],
-"version": 1, "in_transit": 1.0}"#,
-            "bad top",
-        ),
-        (
-            r#"{"version":1,"processes":[{"dependents":[],"state":"idle","site":"EV","name":"i4Cc"},
+"version": 1, "in_transit": 1.0}
+= bad top
+{"version":1,"processes":[{"dependents":[],"state":"idle","site":"EV","name":"i4Cc"},
 {"site":"EV","name":"CCu","state":"active"},{"name":"5Yon","state":"idle",
 "dependents":["mA9KRvC7G","i4Cc","ZFgsSevMW","5Yon","CCu"],"site":"1"},{"site":"x",
 "name":"mA9KRvC7G","state":"idle","dependents":["CCu","mA9KRvC7G","5Yon","i4Cc",
@@ -86,43 +77,33 @@ pub fn refused_at_the_top() -> [(&'static str, &'static str); 27] {
 {"state":"idle","dependents":["f","mA"],"name":"f","site":"1"},{"state":"idle",
 "dependents":["m","mA","f"],"site":"1","name":"mA"},{"state":"active","site":"x",
 "name":"Y"},{"state":"active","name":"m","site":"EV"}],"sites":["1","x","v-.","EV"],
-"Version":"\u0000"}"#,
-            "bad top",
-        ),
-        (
-            r#"{"version":1,"sites":["OMUeTH1T_","mGaB"],"processes":[{"state":"idle","dependents":[],
+"Version":"\u0000"}
+= bad top
+{"version":1,"sites":["OMUeTH1T_","mGaB"],"processes":[{"state":"idle","dependents":[],
 "name":"D4/u","site":"OMUeTH1T_"},{"state":"idle","name":"5a5Y",
 "dependents":["qHIasP/yr"],"site":"mGaB"},{"state":"idle","name":"qHIasP/yr",
-"site":"OMUeTH1T_","dependents":[]}],"in_transit":10000000000000000000}"#,
-            "bad top",
-        ),
-        (
-            r#"{"processes": [{"name": "k", "state": "idle", "dependents": ["PA7", "wj", "kYX", "k"],
+"site":"OMUeTH1T_","dependents":[]}],"in_transit":10000000000000000000}
+= bad top
+{"processes": [{"name": "k", "state": "idle", "dependents": ["PA7", "wj", "kYX", "k"],
 "site": "P2"}, {"dependents": ["kj.F", "kYX"], "name": "kYX", "site": "P2",
 "state": "idle"}, {"dependents": [], "state": "idle", "site": "P2", "name": "PA7"},
 {"name": "wj", "state": "idle", "dependents": [], "site": "P2"}, {"dependents": ["kj.F",
-"PA7"], "state": "idle", "site": "P2", "name": "kj.F"}], "version": 1}"#,
-            "bad top",
-        ),
-        (
-            r#"{"sites":["cXn0","QY","cXn0","m","FID"],"processes":[{"site":"m","state":"idle",
+"PA7"], "state": "idle", "site": "P2", "name": "kj.F"}], "version": 1}
+= repeated site 2
+{"sites":["cXn0","QY","cXn0","m","FID"],"processes":[{"site":"m","state":"idle",
 "name":"S4","dependents":[]},{"state":"idle",
 "name":"yyp62C13rRJSMYjTTB_26wmpPi2rZ9q9Zy:zej8FL46TX20DLxyyT4x:0rvLlU08",
 "dependents":["yyp62C13rRJSMYjTTB_26wmpPi2rZ9q9Zy:zej8FL46TX20DLxyyT4x:0rvLlU08",
 "oIndRS3CP"],"site":"FID"},{"dependents":["S4"],"name":"oIndRS3CP","state":"idle",
-"site":"m"}],"version":1}"#,
-            "repeated site 2",
-        ),
-        (
-            r#"{"processes": [{"site": "w", "state": "idle", "name": "Ua", "dependents": ["O"]},
+"site":"m"}],"version":1}
+= bad version
+{"processes": [{"site": "w", "state": "idle", "name": "Ua", "dependents": ["O"]},
 {"name": "O",
 "site": "XnPdKVqglfI/Dm.Q8Ur.X_q-hMb/t6pHNGLMHajIqVS:Ues8dLa-Hwyws9dO75__",
 "state": "idle", "dependents": []}], "sites": ["w", "KHmHO7Dy3",
-"XnPdKVqglfI/Dm.Q8Ur.X_q-hMb/t6pHNGLMHajIqVS:Ues8dLa-Hwyws9dO75__", "D"], "version": 0}"#,
-            "bad version",
-        ),
-        (
-            r#"{"processes": [{"name": "cl", "state": "idle", "dependents": [], "site": "HFX"},
+"XnPdKVqglfI/Dm.Q8Ur.X_q-hMb/t6pHNGLMHajIqVS:Ues8dLa-Hwyws9dO75__", "D"], "version": 0}
+= bad top
+{"processes": [{"name": "cl", "state": "idle", "dependents": [], "site": "HFX"},
 {"name": "woQ8", "state": "idle", "dependents": [], "site": "HFX"}, {"dependents": [],
 "state": "idle", "site": "s", "name": "Qwl"}, {"state": "active", "name": "s3I",
 "site": "HFX"}, {"dependents": [], "name": "Q", "site": "N", "state": "idle"},
@@ -131,24 +112,19 @@ pub fn refused_at_the_top() -> [(&'static str, &'static str); 27] {
 "site": "HFX"}, {"dependents": [], "name": "NY", "state": "idle", "site": "s"},
 {"name": "pe", "dependents": [], "site": "jQ", "state": "idle"}, {"site": "HFX",
 "state": "active", "name": "Hke_Khn5K"}, {"name": "u.", "site": "jQ", "dependents": [],
-"state": "idle"}], "sites": ["s", "HFX", "N", "jQ"]}"#,
-            "bad top",
-        ),
-        (
-            concat!(
-                " \n\t",
-                r#"{"version": 1, "sites": ["WB5e5VtBH", "TJ", "TJ", "3yei"], "processes": [{"name": "wz",
+"state": "idle"}], "sites": ["s", "HFX", "N", "jQ"]}
+= repeated site 2
+"#,
+    " \n\t",
+    r#"{"version": 1, "sites": ["WB5e5VtBH", "TJ", "TJ", "3yei"], "processes": [{"name": "wz",
 "dependents": ["8r", "r", "Y53"], "state": "idle", "site": "TJ"}, {"state": "idle",
 "dependents": ["G"], "name": "r", "site": "TJ"}, {"dependents": [], "state": "idle",
 "name": "Y53", "site": "WB5e5VtBH"}, {"dependents": ["G"], "name": "8r",
 "state": "idle", "site": "3yei"}, {"name": "G", "state": "idle", "site": "WB5e5VtBH",
 "dependents": []}, {"state": "idle", "dependents": [], "site": "TJ",
-"name": "UPdvxHYfehL-0PYMw6hcGgA9ebjIO2iZPZ5ARLUHyPwJfHBUECAROfALAQso09-i"}]}  "#
-            ),
-            "repeated site 2",
-        ),
-        (
-            r#"{"version":-1,"sites":["wd","B","Ku2"],"processes":[{"site":"B","name":"T",
+"name": "UPdvxHYfehL-0PYMw6hcGgA9ebjIO2iZPZ5ARLUHyPwJfHBUECAROfALAQso09-i"}]}  
+= bad version
+{"version":-1,"sites":["wd","B","Ku2"],"processes":[{"site":"B","name":"T",
 "state":"idle","dependents":["Z9"]},{"name":"sHUA","dependents":["Z9","zU"],"site":"B",
 "state":"idle"},{"state":"idle","dependents":[],"name":"zU","site":"Ku2"},
 {"dependents":["XPDvG-u5kjkyh0RrNp0RVcFJENVHV48THAkg7wDQKYdzjX9yro6mTqu8lD_yeieK",
@@ -161,11 +137,9 @@ pub fn refused_at_the_top() -> [(&'static str, &'static str); 27] {
 {"state":"idle","dependents":["sHUA"],
 "name":"XPDvG-u5kjkyh0RrNp0RVcFJENVHV48THAkg7wDQKYdzjX9yro6mTqu8lD_yeieK","site":"wd"},
 {"site":"wd","name":"NDMfcLq:b1Bipb3rPpEtUdU0EM/w3cMWOGk/MAwiNJmsx5ZCAspC7eX7ftuZfjvs",
-"state":"idle","dependents":["zU","sHUA"]}]}"#,
-            "bad version",
-        ),
-        (
-            r#"{"version":1,"sites":["Z",
+"state":"idle","dependents":["zU","sHUA"]}]}
+= not JSON
+{"version":1,"sites":["Z",
 "6Hut.0C2Ew7q35owkmWFL/.Qcj5mc8jytJ0fKzpZu0T.Gi8HNEKYhSZDnCft6mkd","E6"],
 "processes":[{"name":"Ifn/edOdZtUpx3mzKIUknu5ATRnPlJjt:rLdy9.64372YvaN4xtLB3un6bgYLkTz",
 "site":"E6","state":"active"0,{"site":"Z","name":"H","dependents":[],"state":"active"},
@@ -173,55 +147,44 @@ pub fn refused_at_the_top() -> [(&'static str, &'static str); 27] {
 "name":"1VYdDssyLrxt7IJPPaRriwFbe6ntpr2JygGwJ2mB2BY:9Ga:DfC4xik55pbXzsre"},
 {"state":"active","site":"E6","name":"Z7w2R4kCl"},{"site":"Z","state":"active",
 "name":"1VYdDssyLrxt7IJPPaRriwFbe6ntpr2JygGwJ2mB2BY:9Ga:DfC4xik55pbXzsre"},
-{"name":"7Z1","state":"active","site":"Z"},{state":"active","name":"Tj8T","site":"Z"}]}"#,
-            "not JSON",
-        ),
-        (
-            r#"{"sites":["kB","kIuDjKwpT","s","EcM"],"version":18446744073709551616,
+{"name":"7Z1","state":"active","site":"Z"},{state":"active","name":"Tj8T","site":"Z"}]}
+= bad version
+{"sites":["kB","kIuDjKwpT","s","EcM"],"version":18446744073709551616,
 "processes":[{"state":"idle","dependents":[],"site":"s","name":"Y6B"},{"name":"F",
 "dependents":[],"state":"idle","site":"kB"},{"dependents":[],"site":"kB","state":"idle",
 "name":"W"},{"state":"idle","site":"kB","dependents":[],"name":"HI_nonVY."},
 {"site":"EcM","dependents":[],"state":"idle","name":"A"},10000000000000000000,
-{"site":"kIuDjKwpT","name":"Ub.","dependents":[],"state":"idle"}]}"#,
-            "bad version",
-        ),
-        (
-            r#"{"sites": ["MnEcypF23", "w", "1Khxo1xUZ"], "version": 1.0,
+{"site":"kIuDjKwpT","name":"Ub.","dependents":[],"state":"idle"}]}
+= bad top
+{"sites": ["MnEcypF23", "w", "1Khxo1xUZ"], "version": 1.0,
 "processes": [{"state": "idle", "name": "p", "site": "w", "dependents": []},
 {"dependents": [],
 "name": "B4BUTiIBWKXlJ6WttzMspysHGpdFMacBLLHPI//yvoxCfniO9I:KRjNeuGpWRorR", "site": "w",
 "state": "idle"}, {"state": "idle", "site": "w", "name": "Sxv3SwzcD",
-"dependents": []}], "in_transit": 1.0}"#,
-            "bad top",
-        ),
-        (
-            r#"{"sites": ["shv", "8"], "processes": [{"state": "idle", "site": "8",
+"dependents": []}], "in_transit": 1.0}
+= bad top
+{"sites": ["shv", "8"], "processes": [{"state": "idle", "site": "8",
 "dependents": ["yG", "rQq", "x/8", "5SzGG6iuY"], "name": "yG"}, {"name": "x/8",
 "state": "idle", "site": "shv", "dependents": ["yG", "5SzGG6iuY", "x/8", "lfi", "rQq"]},
 {"site": "8", "name": "rQq", "state": "active"}, {"state": "idle", "name": "lfi",
 "dependents": ["yG", "rQq"], "site": "shv"}, {"site": "8", "state": "idle",
-"name": "5SzGG6iuY"}]}"#,
-            "bad top",
-        ),
-        (r#"{"sites": ["K"], "version": 1}"#, "bad top"),
-        (
-            r#"{"processes":[{"site":"cm","state":"idle","dependents":[],"name":"Bby."},{"site":"cm",
+"name": "5SzGG6iuY"}]}
+= bad top
+{"sites": ["K"], "version": 1}
+= bad top
+{"processes":[{"site":"cm","state":"idle","dependents":[],"name":"Bby."},{"site":"cm",
 "state":"idle",
 "name":"trc7:uOagBSpzOD5DSibx_z-l:DA/mP8Rm7waC/7z6Yfdw2lOnBQa/_Xw8GKkvup",
 "dependents":[]},{"site":"cm","dependents":[],"name":"yf","state":"idle"},
 {"state":"idle","name":"Co2","dependents":[]},{"state":"idle","dependents":[],
 "site":"cm","name":"qzb8wShso7HooZSuwG8YHuX49khlPC7IsXSfhlH340ZzvbiR4IkM68tuC/5Gp4e9"},
-{"state":"idle","dependents":[],"name":"Fg","site":"cm"}],"sites":["cm"]}"#,
-            "bad top",
-        ),
-        (
-            r#"{"processes":[{"site":"C","name":"4","state":"idle","dependents":["4IkNZQEnB"]},
+{"state":"idle","dependents":[],"name":"Fg","site":"cm"}],"sites":["cm"]}
+= bad top
+{"processes":[{"site":"C","name":"4","state":"idle","dependents":["4IkNZQEnB"]},
 {"site":"C","state":"idle","name":"ZRMDsFfiH","dependents":["4IkNZQEnB"]},
-{"name":"4IkNZQEnB","state":"idle","dependents":[],"site":"C"}],"sites":["C"]}"#,
-            "bad top",
-        ),
-        (
-            r#"{"processes":[{"site":"5xTjc4R2u","dependents":[],"name":"h6","state":"idle"},
+{"name":"4IkNZQEnB","state":"idle","dependents":[],"site":"C"}],"sites":["C"]}
+= bad top
+{"processes":[{"site":"5xTjc4R2u","dependents":[],"name":"h6","state":"idle"},
 {"state":"idle","site":"5xTjc4R2u","name":"w","dependents":[]},{"state":"idle",
 "site":"5xTjc4R2u","dependents":[],"name":"WDT--fC:n"},{"dependents":[],
 "site":"5xTjc4R2u","name":"exl9w0Xoo","state":"idle"},{"site":"5xTjc4R2u",
@@ -237,17 +200,13 @@ pub fn refused_at_the_top() -> [(&'static str, &'static str); 27] {
 "state":"idle"},{"state":"idle","name":"0FXZ1l6de","dependents":[],"site":"5xTjc4R2u"},
 {"dependents":[],"state":"idle","site":"5xTjc4R2u","name":"m9egFqAi."},
 {"site":"5xTjc4R2u","name":"u","dependents":[],"state":"idle"},{"site":"5xTjc4R2u",
-"name":"C","state":"idle","dependents":[]}],"sites":"é","version":1}"#,
-            "bad top",
-        ),
-        (
-            r#"{"processes": [{"dependents": ["FwcFIkbWyN4kbkK_s-1YLQ_e1AtKR5GkG-jI9B9zqw3q.PsbOpsh-btlbuYYgJ2K"],
+"name":"C","state":"idle","dependents":[]}],"sites":"é","version":1}
+= bad top
+{"processes": [{"dependents": ["FwcFIkbWyN4kbkK_s-1YLQ_e1AtKR5GkG-jI9B9zqw3q.PsbOpsh-btlbuYYgJ2K"],
 "name": "FwcFIkbWyN4kbkK_s-1YLQ_e1AtKR5GkG-jI9B9zqw3q.PsbOpsh-btlbuYYgJ2K",
-"site": "GbNY", "state": "idle", "": "-"}], "version": 1}"#,
-            "bad top",
-        ),
-        (
-            r#"{"sites":["A","W","W"],"processes":[{"state":"idle","site":"A",
+"site": "GbNY", "state": "idle", "": "-"}], "version": 1}
+= repeated site 2
+{"sites":["A","W","W"],"processes":[{"state":"idle","site":"A",
 "name":"R4bYPWXY5eC7GQkc5OI0lvvu-vrbITdZcVqGFzpVQ/ZM4-RyiMFzpVxbbe8wGGHf",
 "dependents":[]},{"dependents":["Ut"],"site":"A","state":"idle","name":"quau"},
 {"dependents":[],"site":"W","state":"idle",
@@ -265,16 +224,12 @@ pub fn refused_at_the_top() -> [(&'static str, &'static str); 27] {
 "state":"idle","dependents":[],"site":"A"},{"state":"idle","dependents":[],"site":"A",
 "name":"tq"},{"site":"W","state":"idle","name":"FP","dependents":["ufT","FP"]},
 {"dependents":["ufT","S"],"state":"idle","site":"W","name":"ufT"},{"name":"S",
-"state":"idle","site":"A","dependents":["S"]}],"version":1}"#,
-            "repeated site 2",
-        ),
-        (
-            r#"{"sites": ["ke", "ty6DVdh/hs23T8pZv4vhQCSjBjVPV8lNYc/6VgCY7an:IrJlutzE1acDK_dISCSJ",
-"uT/uYb6Xj"], "version": 1}"#,
-            "bad top",
-        ),
-        (
-            r#"{"sites": ["aYyrzYiyr", "cv", "ZWwQ7:m/r", "aYyrzYiyr", "b"], "version": 1,
+"state":"idle","site":"A","dependents":["S"]}],"version":1}
+= bad top
+{"sites": ["ke", "ty6DVdh/hs23T8pZv4vhQCSjBjVPV8lNYc/6VgCY7an:IrJlutzE1acDK_dISCSJ",
+"uT/uYb6Xj"], "version": 1}
+= repeated site 3
+{"sites": ["aYyrzYiyr", "cv", "ZWwQ7:m/r", "aYyrzYiyr", "b"], "version": 1,
 "processes": [{"dependents": ["fUUDaxAiKGvLO/6rpkIK9tiC9oftVSuIAS3C9YHwyXjHlrIjeyXU0_AvA:RgILxG",
 "Jvo51JRb4VQB04fTpDCmgOE49K/gpJq03eUFCFUNE5QHVVHPgDEwUcOwD7SLkoDM", "ic1v", "B1"],
 "site": "aYyrzYiyr", "name": "ic1v", "state": "idle"},
@@ -291,11 +246,9 @@ pub fn refused_at_the_top() -> [(&'static str, &'static str); 27] {
 "name": "WotTdz8Gr7O6dtSy_aWzf5E6p6QOqN2UWCIZEAic3Df6nFsLy3WZh-vqEuFZ_wkP"},
 {"dependents": ["Jvo51JRb4VQB04fTpDCmgOE49K/gpJq03eUFCFUNE5QHVVHPgDEwUcOwD7SLkoDM",
 "XgD", "fUUDaxAiKGvLO/6rpkIK9tiC9oftVSuIAS3C9YHwyXjHlrIjeyXU0_AvA:RgILxG", "ic1v"],
-"state": "idle", "name": "XgD", "site": "b"}]}"#,
-            "repeated site 3",
-        ),
-        (
-            r#"{"processes": [{"site": "t", "state": "idle", "name": "4Y", "dependents": []},
+"state": "idle", "name": "XgD", "site": "b"}]}
+= bad version
+{"processes": [{"site": "t", "state": "idle", "name": "4Y", "dependents": []},
 {"dependents": [], "state": "idle", "name": "m", "site": "t"}, {"dependents": [],
 "state": "idle", "name": "GHY2", "site": "t"}, {"state": "idle", "dependents": [],
 "site": "t", "name": "bG"}, {"site": "t",
@@ -332,11 +285,9 @@ pub fn refused_at_the_top() -> [(&'static str, &'static str); 27] {
 "dependents": [], "state": "idle"}, {"site": "t", "dependents": [], "state": "idle",
 "name": "r7W"}, {"name": "AR", "state": "idle", "dependents": [], "site": "t"},
 {"dependents": [], "state": "idle", "name": "3Ua.", "site": "t"}, {"site": "t",
-"dependents": [], "state": "idle", "name": "ky"}], "version": null, "sites": ["t"]}"#,
-            "bad version",
-        ),
-        (
-            r#"{"processes": [{"dependents": ["tt"], "name": "Yb", "state": "idle",
+"dependents": [], "state": "idle", "name": "ky"}], "version": null, "sites": ["t"]}
+= bad version
+{"processes": [{"dependents": ["tt"], "name": "Yb", "state": "idle",
 "site": "EaxGgqLtG"}, {"state": "idle", "site": "EaxGgqLtG", "dependents": ["Vq", "4pd",
 "PbJ", "tt"], "name": "tt"}, {"site": "EaxGgqLtG", "name": "Vq", "state": "idle",
 "dependents": ["PbJ", "Vq", "4pd", "QB6"]}, {"dependents": ["QB6", "ccTX", "PbJ",
@@ -358,15 +309,10 @@ pub fn refused_at_the_top() -> [(&'static str, &'static str); 27] {
 {"site": "EaxGgqLtG", "dependents": ["Yb", "41_xfQT9E", "J", "Pm"], "state": "idle",
 "name": "Pm"}, {"site": "EaxGgqLtG", "name": "J", "state": "idle", "dependents": []},
 {"dependents": ["Vq"], "state": "idle", "name": "41_xfQT9E", "site": "EaxGgqLtG"}],
-"version": -1, "sites": ["EaxGgqLtG"]}"#,
-            "bad version",
-        ),
-        (
-            r#"{"sites":["BlFW","R","PO"],"processes":[],"version":3}"#,
-            "bad version",
-        ),
-    ]
-}
+"version": -1, "sites": ["EaxGgqLtG"]}
+= bad version
+{"sites":["BlFW","R","PO"],"processes":[],"version":3}"#
+);
 
 /// The two parts of a dump that is no UTF-8: between them stands the byte 0xCD.
 pub const NOT_UTF_8: (&str, &str) = (

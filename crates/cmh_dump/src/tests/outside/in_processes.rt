@@ -1,10 +1,9 @@
 //! Dumps that are wrong in their processes. Line breaks were added after commas.
 
-/// Each dump with its fault.
-pub fn refused_in_processes() -> [(&'static str, &'static str); 31] {
-    [
-        (
-            r#"{"processes":[{"site":"z","dependents":[],"name":"Hc","state":"idle"},{"site":"z",
+/// Dumps, each below a line with its fault.
+pub const REFUSED_IN_PROCESSES: &str = concat!(
+    r#"= bad process 35
+{"processes":[{"site":"z","dependents":[],"name":"Hc","state":"idle"},{"site":"z",
 "dependents":[],"name":"Q","state":"idle"},{"site":"z","dependents":["mt","V0LV"],
 "name":"bc","state":"idle"},{"name":"a","state":"idle","site":"z","dependents":["n"]},
 {"site":"z","state":"idle","name":"Zg","dependents":["mt","rGj"]},{"site":"z",
@@ -33,11 +32,9 @@ pub fn refused_in_processes() -> [(&'static str, &'static str); 31] {
 {"state":"active","site":"z","name":"IApnx.UmJ"},{"state":"idle","site":"z",
 "dependents":["IApnx.UmJ","Zg"],"name":"Px/8A9dE:"},{"state":"idle","site":"z",
 "name":"GwvKvze/S","dependents":["g"]},{"dependents":["g"],"site":"z","state":"idle",
-"name":"K"}],"version":1,"sites":["z"]}"#,
-            "bad process 35",
-        ),
-        (
-            r#"{"processes": [{"site": "Y", "name": "Nf", "state": "idle", "dependents": []},
+"name":"K"}],"version":1,"sites":["z"]}
+= active with dependents 4
+{"processes": [{"site": "Y", "name": "Nf", "state": "idle", "dependents": []},
 {"dependents": [], "state": "idle", "site": "zY", "name": "X"}, {"state": "idle",
 "site": "Y", "dependents": ["7G", "77"],
 "name": "OGOA61rV-k912mnrB14R9HIspVYnv6gKUiKdE9naCbVUN8o-V7FVYEF:wz-6BGVG"},
@@ -57,11 +54,9 @@ pub fn refused_in_processes() -> [(&'static str, &'static str); 31] {
 "site": "Y", "dependents": ["s"], "name": "6"}, {"dependents": [], "state": "idle",
 "name": "yj5XnpFakiY1qABAi.GqTlW1zLVxh0R.7IdZFVvv7W89Uy2/QRJkXrBQA9TrlfqR",
 "site": "Y"}, {"dependents": ["Hs"], "state": "idle", "name": "Bm", "site": "zY"}],
-"version": 1, "sites": ["Y", "zY"]}"#,
-            "active with dependents 4",
-        ),
-        (
-            r#"{"processes":[{"site":"VO","state":"active",
+"version": 1, "sites": ["Y", "zY"]}
+= bad process 1
+{"processes":[{"site":"VO","state":"active",
 "name":"6OtGkFbAk86v9q-PHHopB9WePUN81hGn.ve4c.CdAplWlVX1pVl_vZKET5xd949E"},true,
 {"name":"YLV-","dependents":["cRNamyyYg","O","bh"],"state":"idle","site":"kn-MhNB5R"},
 {"site":"kn-MhNB5R","dependents":[],"state":"active","name":"GorzTzadO"},
@@ -81,11 +76,9 @@ pub fn refused_in_processes() -> [(&'static str, &'static str); 31] {
 {"state":"idle","dependents":["EFODh:wJx","NBj","D","0"],"site":"kn-MhNB5R",
 "name":"NBj"},{"dependents":[],"name":"e_","state":"idle","site":"kn-MhNB5R"},
 {"name":"sU","site":"E","state":"active","dependents":[]}],"version":1,"sites":["E",
-"VO","kn-MhNB5R","IZ"]}"#,
-            "bad process 1",
-        ),
-        (
-            r#"{"processes": [{"site": "5M", "state": "idle", "name": "evfvNHPLc", "dependents": []},
+"VO","kn-MhNB5R","IZ"]}
+= repeated process 14
+{"processes": [{"site": "5M", "state": "idle", "name": "evfvNHPLc", "dependents": []},
 {"dependents": ["7",
 "YZYgq4tXXvIHx:M-HrXnbg9afs:Fr-I2hSK2YT9YwCWmzCrjMvjp_6z.54M17cYT"], "name": "7",
 "state": "idle", "site": "B"}, {"site": "B",
@@ -125,21 +118,17 @@ pub fn refused_in_processes() -> [(&'static str, &'static str); 31] {
 "YZYgq4tXXvIHx:M-HrXnbg9afs:Fr-I2hSK2YT9YwCWmzCrjMvjp_6z.54M17cYT"], "site": "5M",
 "name": "63_sF0fesY4fif0mJkcj4fgN-0J39DFlkZ7cT1CH7jLgHpQh9aZhn_Hr0_VyDU3V",
 "state": "idle"}], "version": 1, "sites": ["B", "5M"]}
-"#,
-            "repeated process 14",
-        ),
-        (
-            r#"{"version":1,"sites":["vT","5Y","UYpC","8w"],"processes":[{"state":"idle","site":"5Y",
+
+= bad process 5
+{"version":1,"sites":["vT","5Y","UYpC","8w"],"processes":[{"state":"idle","site":"5Y",
 "dependents":[],"name":"oJXcQhd.p"},{"dependents":[],"state":"idle","name":"L",
 "site":"8w"},{"name":"y","site":"5Y","dependents":[],"state":"idle"},{"name":"8s",
 "state":"idle","dependents":[],"site":"5Y"},{"dependents":[],"name":"LoN","site":"UYpC",
 "state":"idle"},{"name":"-","site":"5Y","state":"idle","dependents":[]},{"name":"x5RP",
 "site":"5Y","state":"idle","dependents":[]},{"dependents":[],"name":"s","state":"idle",
-"site":"5Y"}]}"#,
-            "bad process 5",
-        ),
-        (
-            r#"{"processes":[{"site":"AB","dependents":[],"state":"active","name":"g"},
+"site":"5Y"}]}
+= bad process 1
+{"processes":[{"site":"AB","dependents":[],"state":"active","name":"g"},
 {"name":"mpcl32k:BXPvWAi:e4mskr5MdY6Ar/yGizHr140AmWmE8RFb66ioJrGKP-M7ki0X",
 "state":"idle",
 "dependents":["mpcl32k:BXPvWAi:e4mskr5MdY6Ar/yGizHr140AmWmE8RFb66ioJrGKP-M7ki0X"]},
@@ -147,32 +136,24 @@ pub fn refused_in_processes() -> [(&'static str, &'static str); 31] {
 "dependents":["mpcl32k:BXPvWAi:e4mskr5MdY6Ar/yGizHr140AmWmE8RFb66ioJrGKP-M7ki0X"],
 "name":"5"}],"version":1,
 "sites":["dSTK6xOK8xfkQeftpvri/dlI6s/cVKCcBrO0i5ufx4CoToCpiPIOq:2fU3sQX13f","oUwd",
-"AB"]}"#,
-            "bad process 1",
-        ),
-        (
-            r#"{"processes":[{"name":"y","site":"Oub","state":"idle","dependents":["y",
-10000000000000000000]}],"sites":["79j","Oub","v","l"],"version":1}"#,
-            "bad process 0",
-        ),
-        (
-            r#"{"sites":["s","g"],"version":1,"processes":[{"state":"idle","dependents":["Kw",
+"AB"]}
+= bad process 0
+{"processes":[{"name":"y","site":"Oub","state":"idle","dependents":["y",
+10000000000000000000]}],"sites":["79j","Oub","v","l"],"version":1}
+= repeated dependent 1 4
+{"sites":["s","g"],"version":1,"processes":[{"state":"idle","dependents":["Kw",
 "OLc9pULow","4E","b"],"site":"g","name":"b"},{"state":"idle","name":"4E",
 "dependents":["4E","b","Kw","OLc9pULow","4E"],"site":"g"},{"site":"g",
 "dependents":["Kw","OLc9pULow","b"],"name":"Kw","state":"idle"},{"state":"idle",
-"name":"OLc9pULow","dependents":["4E","Kw","b","OLc9pULow"],"site":"g"}]}"#,
-            "repeated dependent 1 4",
-        ),
-        (
-            r#"{"version": 1, "sites": ["rDC",
+"name":"OLc9pULow","dependents":["4E","Kw","b","OLc9pULow"],"site":"g"}]}
+= bad process 0
+{"version": 1, "sites": ["rDC",
 "BQCKNV-qJV2lMtEuzuuX-hWmo_8r-rFiDt1WuT1pib7mUmVXRixSuKkQdNcZKLQc"],
 "processes": [{"name": "x5xa",
 "site": "BQCKNV-qJV2lMtEuzuuX-hWmo_8r-rFiDt1WuT1pib7mUmVXRixSuKkQdNcZKLQc",
-"state": "running"}, {"state": "active", "site": "rDC", "name": "1vt5"}]}"#,
-            "bad process 0",
-        ),
-        (
-            r#"{"version":1,"processes":[{"name":"d","dependents":["r","i"],"state":"idle",
+"state": "running"}, {"state": "active", "site": "rDC", "name": "1vt5"}]}
+= repeated process 30
+{"version":1,"processes":[{"name":"d","dependents":["r","i"],"state":"idle",
 "site":"ga"},{"state":"idle","dependents":["q9J"],"site":"YLR","name":"T"},
 {"dependents":["c_"],"name":"R","state":"idle","site":"r"},{"site":"f","dependents":[],
 "state":"idle","name":"loCv-Ttix"},{"dependents":["Y-O"],"name":"S","state":"idle",
@@ -212,11 +193,9 @@ pub fn refused_in_processes() -> [(&'static str, &'static str); 31] {
 "dependents":["pol/nSVu_bKSh/qG0NvX2VSjhjOvxH9RZaysGKvcaPDnHQf32Aqaiqlqd65PzYwb","S"],
 "site":"ga"},{"dependents":[],"state":"idle","name":"P:AkyGVmh","site":"ga"},
 {"site":"ga","name":"2v","state":"idle","dependents":["m","g"]}],"sites":["f","r","YLR",
-"ga"]}"#,
-            "repeated process 30",
-        ),
-        (
-            r#"{"processes":[{"dependents":["jibM","q7WKjU9GG","XCNArEhBW","qtg"],"site":"n_",
+"ga"]}
+= bad process 13
+{"processes":[{"dependents":["jibM","q7WKjU9GG","XCNArEhBW","qtg"],"site":"n_",
 "state":"idle","name":"qtg"},{"dependents":[],"site":"hw3wcwFF7","name":"jibM",
 "state":"idle"},{"name":"q7WKjU9GG","state":"active","site":"n_","dependents":[]},
 {"name":"XCNArEhBW","site":"n_","dependents":["p","CFNrZoxss","kxDF.JkrV"],
@@ -245,11 +224,9 @@ pub fn refused_in_processes() -> [(&'static str, &'static str); 31] {
 "dependents":["qtg","hyXGJwwYF","Ym","jibM"]},{"dependents":["jibM"],
 "site":"0IJauMX_YRBHdzd6MeqdLzDnBHAU5vql7Gr9VrPbL0L8jYWQh9TOZq5YKAqNPacE","name":"Ym",
 "state":"idle"}],"version":1,"sites":["n_","hw3wcwFF7",
-"0IJauMX_YRBHdzd6MeqdLzDnBHAU5vql7Gr9VrPbL0L8jYWQh9TOZq5YKAqNPacE"]}"#,
-            "bad process 13",
-        ),
-        (
-            r#"{"version": 1, "sites": ["l",
+"0IJauMX_YRBHdzd6MeqdLzDnBHAU5vql7Gr9VrPbL0L8jYWQh9TOZq5YKAqNPacE"]}
+= bad process 2
+{"version": 1, "sites": ["l",
 "IO8MuXOtN6WuBqWtzZghCdU8.:baxqK5wOWHEG1:xi/c.X1daoOyZKFfAzh/571z", "tp"],
 "processes": [{"dependents": ["H", "W", "HG"], "state": "idle", "site": "l",
 "name": "3pL_jxArwxkfDjGrrwb-xPWjavFLcglvnEAaVLGiS:5vycjqiImsjUy0PoQICgwv"},
@@ -258,11 +235,9 @@ pub fn refused_in_processes() -> [(&'static str, &'static str); 31] {
 "dependents": []}, {"site": "tp", "dependents": ["HG"], "name": "H", "state": "idle",
 "": "é"}, {"dependents": [],
 "site": "IO8MuXOtN6WuBqWtzZghCdU8.:baxqK5wOWHEG1:xi/c.X1daoOyZKFfAzh/571z",
-"name": "HG", "state": "idle", "": 7}]}"#,
-            "bad process 2",
-        ),
-        (
-            r#"{"version": 1, "processes": [{"site": "l", "state": "idle", "dependents": [],
+"name": "HG", "state": "idle", "": 7}]}
+= bad process 5
+{"version": 1, "processes": [{"site": "l", "state": "idle", "dependents": [],
 "name": "mNgDpc/sb"}, {"site": "l", "dependents": [], "name": "Ycf", "state": "active"},
 {"site": "l", "state": "active", "name": "5i"}, {"state": "active", "site": "l",
 "name": "s9"}, {"state": "active", "name": "3GB", "site": "l"}, {"state": "active",
@@ -280,11 +255,9 @@ pub fn refused_in_processes() -> [(&'static str, &'static str); 31] {
 "site": "l"}, {"site": "l", "name": "rPPgJZeAC", "dependents": [], "state": "active"},
 {"site": "l", "name": "Qmqyh/ztI", "state": "idle", "dependents": []}, {"site": "l",
 "dependents": [], "state": "active", "name": "o_I"}, {"name": "Dl", "state": "active",
-"dependents": [], "site": "l"}], "sites": ["l"]}"#,
-            "bad process 5",
-        ),
-        (
-            r#"{"version": 1, "sites": ["0n", "0R", "n-2kamR:Q"], "processes": [{"site": "0R",
+"dependents": [], "site": "l"}], "sites": ["l"]}
+= bad process 1
+{"version": 1, "sites": ["0n", "0R", "n-2kamR:Q"], "processes": [{"site": "0R",
 "name": "vce10j/Rm5Z8mDHsK5qcs2-Psgx51kn1U.sVWrsb3K0KeCtKO3L4M5X0bo/1ubLL",
 "state": "idle",
 "dependents": ["vce10j/Rm5Z8mDHsK5qcs2-Psgx51kn1U.sVWrsb3K0KeCtKO3L4M5X0bo/1ubLL",
@@ -299,38 +272,28 @@ pub fn refused_in_processes() -> [(&'static str, &'static str); 31] {
 "l", "ira"], "name": "MMzoYOlMhXVrpqVi7B6qT2lHvXFgv:u3XpjnGPdogzMubb.pmcRrhkkEUJwk04te",
 "state": "idle"}, {"name": "7", "site": "0n", "state": "idle", "dependents": ["7", "t",
 "MMzoYOlMhXVrpqVi7B6qT2lHvXFgv:u3XpjnGPdogzMubb.pmcRrhkkEUJwk04te", "l",
-"vce10j/Rm5Z8mDHsK5qcs2-Psgx51kn1U.sVWrsb3K0KeCtKO3L4M5X0bo/1ubLL", "ira"]}]}"#,
-            "bad process 1",
-        ),
-        (
-            r#"{"version":1,"sites":["TR","B9:RetSAh"],"processes":[{"state":"idle",
+"vce10j/Rm5Z8mDHsK5qcs2-Psgx51kn1U.sVWrsb3K0KeCtKO3L4M5X0bo/1ubLL", "ira"]}]}
+= repeated process 3
+{"version":1,"sites":["TR","B9:RetSAh"],"processes":[{"state":"idle",
 "dependents":["RXz"],"name":"pWx7qH13x","site":"TR"},{"dependents":["G","RXz"],
 "name":"RXz","site":"B9:RetSAh","state":"idle"},{"dependents":[],"site":"B9:RetSAh",
 "name":"G","state":"idle"},{"dependents":["G","RXz"],"name":"RXz","site":"B9:RetSAh",
-"state":"idle"},{"name":"vd","site":"TR","state":"idle","dependents":["RXz","G"]}]}"#,
-            "repeated process 3",
-        ),
-        (
-            r#"{"sites":["F","If5c","ma"],"version":1,"processes":[{"dependents":[],"state":"idle",
-"name":"SZ"}]}"#,
-            "bad process 0",
-        ),
-        (
-            r#"{"version": 1, "sites": ["MBL", "w9SOYQSU5",
+"state":"idle"},{"name":"vd","site":"TR","state":"idle","dependents":["RXz","G"]}]}
+= bad process 0
+{"sites":["F","If5c","ma"],"version":1,"processes":[{"dependents":[],"state":"idle",
+"name":"SZ"}]}
+= bad process 0
+{"version": 1, "sites": ["MBL", "w9SOYQSU5",
 "V693rt.q9GDl2j6:LX6jfY8aCcpnW-zR5zK7/wdOhQAGjs9iNJR8.guyVgUFeL92", "krw"],
 "processes": [{"state": "idle", "name": "ArcWWZQSk", "dependents": [],
-"site": "w9SOYQSU5", "Name": true}]}"#,
-            "bad process 0",
-        ),
-        (
-            r#"{"sites":["0.1KHOGj6751m9BISlgJ4gXdbxJkagSxKLxln5GcMuvO5o/1hQQnygHdrZ7YKz/f","Y"],
+"site": "w9SOYQSU5", "Name": true}]}
+= active with dependents 1
+{"sites":["0.1KHOGj6751m9BISlgJ4gXdbxJkagSxKLxln5GcMuvO5o/1hQQnygHdrZ7YKz/f","Y"],
 "version":1,"processes":[{"dependents":[],"state":"idle",
 "site":"0.1KHOGj6751m9BISlgJ4gXdbxJkagSxKLxln5GcMuvO5o/1hQQnygHdrZ7YKz/f","name":"v"},
-{"name":"1M","site":"Y","dependents":["1M"],"state":"active"}]}"#,
-            "active with dependents 1",
-        ),
-        (
-            r#"{"version": 1,
+{"name":"1M","site":"Y","dependents":["1M"],"state":"active"}]}
+= bad process 1
+{"version": 1,
 "sites": ["AQcfsC348v9DECAJL3E_CqdiDv5k85d-EVecBIIAfcsJHjMu6FCd66AgzfDn:Xi5", "4", "z"],
 "processes": [{"name": "pdMcTIAKBk:yQcRk.WE/vb4XNqerjXraUJmA0w7H9FcA/jAAJCi:6.aCzDBJXbeU",
 "dependents": [],
@@ -349,11 +312,9 @@ pub fn refused_in_processes() -> [(&'static str, &'static str); 31] {
 {"site": "4", "dependents": [], "name": "zQw", "state": "idle"}, {"name": "DCjQ",
 "state": "idle", "dependents": [], "site": "4"}, {"name": "qXN7ExX18", "state": "idle",
 "dependents": [],
-"site": "AQcfsC348v9DECAJL3E_CqdiDv5k85d-EVecBIIAfcsJHjMu6FCd66AgzfDn:Xi5"}]}"#,
-            "bad process 1",
-        ),
-        (
-            r#"{"version":1,"sites":["F0T9","6d","eR"],"processes":[{"site":"F0T9","state":"idle",
+"site": "AQcfsC348v9DECAJL3E_CqdiDv5k85d-EVecBIIAfcsJHjMu6FCd66AgzfDn:Xi5"}]}
+= bad process 0
+{"version":1,"sites":["F0T9","6d","eR"],"processes":[{"site":"F0T9","state":"idle",
 "name":"Ah"},{"name":"9EVD41N:S","state":"idle","dependents":["9EVD41N:S","tg","RA",
 "Ah","W-FVpjsjr"],"site":"F0T9"},{"state":"idle","site":"6d","dependents":["RA","Ah",
 "tg","W-FVpjsjr","9EVD41N:S"],"name":"W-FVpjsjr"},{"name":"tg",
@@ -361,40 +322,31 @@ pub fn refused_in_processes() -> [(&'static str, &'static str); 31] {
 {"dependents":["tg"],"name":"RA","state":"idle","site":"eR"},{"dependents":["W9O","k",
 "X6"],"state":"idle","site":"6d","name":"W9O"},{"name":"X6","dependents":["W9O","k",
 "X6"],"site":"F0T9","state":"idle"},{"dependents":["k","W9O","X6"],"name":"k",
-"site":"6d","state":"idle"}]}"#,
-            "bad process 0",
-        ),
-        (
-            r#"{"processes":[{"name":"o","dependents":["o","1yTZ"],"state":"idle"},{"name":"E",
+"site":"6d","state":"idle"}]}
+= bad process 0
+{"processes":[{"name":"o","dependents":["o","1yTZ"],"state":"idle"},{"name":"E",
 "state":"idle","site":"c","dependents":[]},{"name":"RX","state":"idle",
 "site":"WiMXum_9M3SYgjZfdV/jmmnu0s7wuQco2UYgiQin.fa5AnpcMTg3I9DX:zK-vxxq",
 "dependents":["1yTZ","RX"]},
 {"site":"WMXum_9M3SYgjZfdV/jmmnu0s7wuQco2UYgiQin.fa5AnpcMTg3I9DX:zK-vxxq",
 "dependents":["1yTZ"],"name":"1yTZ","state":"idle"}],"version":1,"sites":["c",
-"WiMXum_9M3SYgjZfdV/jmmnu0s7wuQco2UYgiQin.fa5AnpcMTg3I9DX:zK-vxxq"]}"#,
-            "bad process 0",
-        ),
-        (
-            concat!(
-                " \n\t",
-                r#"{"version":1,"processes":[{"name":"5e","state":"active","site":"A","Name":""}],
+"WiMXum_9M3SYgjZfdV/jmmnu0s7wuQco2UYgiQin.fa5AnpcMTg3I9DX:zK-vxxq"]}
+= bad process 0
+"#,
+    " \n\t",
+    r#"{"version":1,"processes":[{"name":"5e","state":"active","site":"A","Name":""}],
 "sites":["A"]}
-"#
-            ),
-            "bad process 0",
-        ),
-        (
-            r#"{"processes": [{"site": "I", "name": "sqlh", "state": "active"}, {"state": "Idle",
+
+= bad process 1
+{"processes": [{"site": "I", "name": "sqlh", "state": "active"}, {"state": "Idle",
 "dependents": [], "site": "I", "name": "Vot"}, {"site": "I", "name": "U",
 "dependents": ["9i1lLcSTg13MscwL5Al95U/oaqdlNswcNNUark:0Y4patMg9XKh1oz3Ser5ZpDoN"]},
 {"state": "active",
 "name": "9i1lLcSTg13MscwL5Al95U/oaqdlNswcNNUark:0Y4patMg9XKh1oz3Ser5ZpDoN",
 "site": "I"}], "version": 1, "sites": ["f", "I", "T"]}
-"#,
-            "bad process 1",
-        ),
-        (
-            r#"{"processes":[{"site":"qE5HSDq7h3UquZ:6JNkwjUnqGaMHepG4-FO-SPcsPx81gFxJh.ZyK4WYqxtTVnpW",
+
+= repeated dependent 9 1
+{"processes":[{"site":"qE5HSDq7h3UquZ:6JNkwjUnqGaMHepG4-FO-SPcsPx81gFxJh.ZyK4WYqxtTVnpW",
 "dependents":[],"state":"idle","name":"1v"},{"state":"idle","site":"V3Jf",
 "dependents":["Xh","O_uC8UQVB"],"name":"Xh"},{"site":"V3Jf","state":"active",
 "name":"S"},{"state":"idle","name":"Z",
@@ -415,11 +367,9 @@ pub fn refused_in_processes() -> [(&'static str, &'static str); 31] {
 "gEG"],"name":"r","state":"idle"},{"dependents":["AKC"],"name":"gEG","site":"A",
 "state":"idle"},{"name":"AKC","state":"idle","site":"V3Jf","dependents":[]}],
 "version":1,"sites":["qE5HSDq7h3UquZ:6JNkwjUnqGaMHepG4-FO-SPcsPx81gFxJh.ZyK4WYqxtTVnpW",
-"S","V3Jf","A"]}"#,
-            "repeated dependent 9 1",
-        ),
-        (
-            r#"{"sites":["u0"],"version":1,"processes":[{"name":"4N1","dependents":[],"site":"u0",
+"S","V3Jf","A"]}
+= active with dependents 3
+{"sites":["u0"],"version":1,"processes":[{"name":"4N1","dependents":[],"site":"u0",
 "state":"idle"},
 {"dependents":["t.rWI0Kms26NBU4.ho6hRdpyPQhhOoGcL.oSNTVW8EX6HLNwt6o9.L.Rl6EzGGVd"],
 "state":"idle","site":"u0",
@@ -429,11 +379,9 @@ pub fn refused_in_processes() -> [(&'static str, &'static str); 31] {
 "dependents":["t.rWI0Kms26NBU4.ho6hRdpyPQhhOoGcL.oSNTVW8EX6HLNwt6o9.L.Rl6EzGGVd"],
 "name":"t.rWI0Kms26NBU4.ho6hRdpyPQhhOoGcL.oSNTVW8EX6HLNwt6o9.L.Rl6EzGGVd"},
 {"dependents":["FBUB","4N1"],"site":"u0","state":"idle","name":"FBUB"},{"state":"idle",
-"dependents":["GIXglU8RG","Dp"],"site":"u0","name":"Dp"}]}"#,
-            "active with dependents 3",
-        ),
-        (
-            r#"{"version": 1, "processes": [{"name": "NG", "state": "idle", "site": "J8VD",
+"dependents":["GIXglU8RG","Dp"],"site":"u0","name":"Dp"}]}
+= active with dependents 11
+{"version": 1, "processes": [{"name": "NG", "state": "idle", "site": "J8VD",
 "dependents": []}, {"site": "J8VD",
 "name": "pHtgoCOZJGuVAmT97.1KWrEgcL7Eote_fd:Y9mpCFl.VRK:LtXw-1goknj/xT7P.",
 "dependents": ["pHtgoCOZJGuVAmT97.1KWrEgcL7Eote_fd:Y9mpCFl.VRK:LtXw-1goknj/xT7P."],
@@ -452,51 +400,38 @@ pub fn refused_in_processes() -> [(&'static str, &'static str); 31] {
 "site": "J8VD"}, {"dependents": [], "site": "J8VD", "name": "RoV", "state": "idle"},
 {"name": "5SpZcmC0p", "state": "idle", "site": "J8VD", "dependents": ["AfiJwzy_4",
 "5SpZcmC0p"]}, {"dependents": ["ERgfzWOqn"], "name": "AfiJwzy_4", "site": "J8VD",
-"state": "active"}], "sites": ["J8VD"]}"#,
-            "active with dependents 11",
-        ),
-        (
-            r#"{"processes":[{"state":"idle","site":"pE.fhHWaF",
+"state": "active"}], "sites": ["J8VD"]}
+= bad process 1
+{"processes":[{"state":"idle","site":"pE.fhHWaF",
 "name":"4OICKUkv:8yLVQ83lM.l_PaDy3LpE8n.R3tYYC9..KJI.nv6aF3HH0G4.PB5ykrx",
 "dependents":["4OICKUkv:8yLVQ83lM.l_PaDy3LpE8n.R3tYYC9..KJI.nv6aF3HH0G4.PB5ykrx",
 "v6JIh:.fik/_44HNKkqe-NIf5EkmVk_qtmJmhm7L56J9a631DBymsyzZp8.Cf6uE"]},
 {"dependents":["v6JIh:.fik/_44HNKkqe-NIf5EkmVk_qtmJmhm7L56J9a631DBymsyzZp8.Cf6uE"],
 "state":"running","site":"pE.fhHWaF",
 "name":"v6JIh:.fik/_44HNKkqe-NIf5EkmVk_qtmJmhm7L56J9a631DBymsyzZp8.Cf6uE"},
-{"site":"pE.fhHWaF","state":"active","name":"NE"}],"version":1,"sites":["pE.fhHWaF"]}"#,
-            "bad process 1",
-        ),
-        (
-            r#"{"version":1,"sites":["J2f","4"],"processes":[{"name":"cW","site":"4","state":"idle",
+{"site":"pE.fhHWaF","state":"active","name":"NE"}],"version":1,"sites":["pE.fhHWaF"]}
+= bad process 0
+{"version":1,"sites":["J2f","4"],"processes":[{"name":"cW","site":"4","state":"idle",
 "dependents":["z_t3o32.3","hO","p","cW",
 "xxxxxxxxxxxxxxxxxxxxxxxxxxxxxxxxxxxxxxxxxxxxxxxxxxxxxxxxxxxxxxxxx"]},{"state":"idle",
 "name":"z_t3o32.3","site":"J2f","dependents":["p","z_t3o32.3","hO"]},{"name":"hO",
 "dependents":["hO","p"],"state":"idle","site":"4"},{"state":"idle","dependents":["p"],
-"name":"p","site":"4"}]}"#,
-            "bad process 0",
-        ),
-        (
-            r#"{"version": 1, "processes": [{"state": "idle", "site": "uv2i", "name": "z",
-"dependents": ["RL-"]}, {"state": "active", "site": "uv2i"}], "sites": ["uv2i", "k6"]}"#,
-            "bad process 1",
-        ),
-        (
-            r#"{"processes": [{"name": "9L", "dependents": ["yd7E"], "state": "idle", "site": "B"},
+"name":"p","site":"4"}]}
+= bad process 1
+{"version": 1, "processes": [{"state": "idle", "site": "uv2i", "name": "z",
+"dependents": ["RL-"]}, {"state": "active", "site": "uv2i"}], "sites": ["uv2i", "k6"]}
+= bad process 5
+{"processes": [{"name": "9L", "dependents": ["yd7E"], "state": "idle", "site": "B"},
 {"state": "idle", "site": "K5c7", "name": "4T1DRWq45", "dependents": []},
 {"dependents": [], "site": "B", "name": "yd7E", "state": "idle"}, {"dependents": [],
 "state": "idle", "name": "y7", "site": "K5c7"}, {"site": "B", "dependents": [],
 "state": "idle", "name": "M"}, {"name": "s7H/Xbx-.", "site": "K5c7", "dependents": [],
-"state": "running"}], "version": 1, "sites": ["K5c7", "B"]}"#,
-            "bad process 5",
-        ),
-        (
-            r#"{"version": 1, "processes": [{"state": "idle", "dependents": ["tp"],
+"state": "running"}], "version": 1, "sites": ["K5c7", "B"]}
+= bad process 2
+{"version": 1, "processes": [{"state": "idle", "dependents": ["tp"],
 "site": "fQoo5imiW",
 "name": "8-7QWaz/k9vCZcwm7kN6HC0yVUPtF0:c94y2mJ791mHNkitHHxXmqhiInU-JbFNL"},
 {"state": "idle", "site": "fQoo5imiW", "dependents": [], "name": "z"}, {"state": "idle",
 "name": "tp", "dependents": [null], "site": "fQoo5imiW"}, {"state": "idle",
-"dependents": [], "name": "u", "site": "fQoo5imiW"}], "sites": ["fQoo5imiW"]}"#,
-            "bad process 2",
-        ),
-    ]
-}
+"dependents": [], "name": "u", "site": "fQoo5imiW"}], "sites": ["fQoo5imiW"]}"#
+);
