@@ -1,5 +1,6 @@
 pub mod Dump
 pub mod Entry
+pub mod Fault
 pub mod FirstFault
 pub mod Index
 pub mod Name

@@ -122,7 +122,9 @@ pub const REFUSED_AT_THE_TOP: &str = concat!(
 "name": "Y53", "site": "WB5e5VtBH"}, {"dependents": ["G"], "name": "8r",
 "state": "idle", "site": "3yei"}, {"name": "G", "state": "idle", "site": "WB5e5VtBH",
 "dependents": []}, {"state": "idle", "dependents": [], "site": "TJ",
-"name": "UPdvxHYfehL-0PYMw6hcGgA9ebjIO2iZPZ5ARLUHyPwJfHBUECAROfALAQso09-i"}]}  
+"name": "UPdvxHYfehL-0PYMw6hcGgA9ebjIO2iZPZ5ARLUHyPwJfHBUECAROfALAQso09-i"}]}"#,
+    "  ",
+    r#"
 = bad version
 {"version":-1,"sites":["wd","B","Ku2"],"processes":[{"site":"B","name":"T",
 "state":"idle","dependents":["Z9"]},{"name":"sHUA","dependents":["Z9","zU"],"site":"B",
