@@ -1,6 +1,30 @@
 //! Every public call, as a client writes it.
 
 use crate::{ListFault, MAX_NUMBERS, PlanWords, Request, read_list, read_words};
+use std::alloc::Global;
+
+/// Whether the words ask for an analysis by 7 workers with cuts and choices.
+fn is_analysis(alloc: Global, words: &[&str]) -> bool {
+    matches!(
+        read_words(alloc, words),
+        Ok(Request::Analyse(PlanWords {
+            workers: 7,
+            cuts: Some("1,2"),
+            choices: "3"
+        }))
+    )
+}
+
+/// Whether the words ask for a trace of p by choices.
+fn is_trace(alloc: Global, words: &[&str]) -> bool {
+    matches!(
+        read_words(alloc, words),
+        Ok(Request::Trace {
+            name: "p",
+            choices: "1,0"
+        })
+    )
+}
 
 #[test]
 fn an_analysis_and_a_trace(rt: HostRuntime) {
@@ -14,31 +38,21 @@ fn an_analysis_and_a_trace(rt: HostRuntime) {
         "--choices",
         "3",
     ];
-    let asked = read_words(rt.alloc(), &words);
-    let is_analysis = matches!(
-        asked,
-        Ok(Request::Analyse(PlanWords {
-            workers: 7,
-            cuts: Some("1,2"),
-            choices: "3"
-        }))
-    );
-    assert!(rt; is_analysis);
-    let asked = read_words(rt.alloc(), &["cmh", "trace", "p", "--choices", "1,0"]);
-    let is_trace = matches!(
-        asked,
-        Ok(Request::Trace {
-            name: "p",
-            choices: "1,0"
-        })
-    );
-    assert!(rt; is_trace);
+    assert!(rt; is_analysis(rt.alloc(), &words));
+    assert!(rt; is_trace(rt.alloc(), &["cmh", "trace", "p", "--choices", "1,0"]));
+}
+
+/// Whether the text is read as the numbers 7 and 2.
+fn is_seven_and_two(alloc: Global, text: &str) -> bool {
+    match read_list(alloc, text) {
+        Ok(list) => list.as_slice() == [7, 2].as_slice(),
+        Err(_) => false,
+    }
 }
 
 #[test]
 fn answers_are_compared_and_shown(rt: HostRuntime) {
-    let list = read_list(rt.alloc(), "007,2");
-    assert!(rt; list.is_ok_and(|list| list.as_slice() == [7, 2].as_slice()));
+    assert!(rt; is_seven_and_two(rt.alloc(), "007,2"));
     let fault = read_list(rt.alloc(), "1,,2").err();
     assert_eq!(rt; fault, Some(ListFault::BadNumber(1)));
     let copy = fault;

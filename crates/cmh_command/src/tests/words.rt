@@ -2,21 +2,41 @@
 
 use crate::command::command;
 use crate::{DEFAULT_WORKERS, PlanWords, Request, read_words};
+use std::alloc::{AllocError, Global};
 use std::test::Fail;
 
-#[test]
-fn four_workers_by_default(rt: HostRuntime) {
-    let asked = read_words(rt.alloc(), &["cmh", "analyse"]);
-    let is_four = matches!(
-        asked,
+/// Whether the words ask for an analysis by as many workers as by default, and nothing else.
+fn is_plain_analysis(alloc: Global, words: &[&str]) -> bool {
+    matches!(
+        read_words(alloc, words),
         Ok(Request::Analyse(PlanWords {
             workers: DEFAULT_WORKERS,
             cuts: None,
             choices: "",
         }))
-    );
-    assert!(rt; is_four);
+    )
+}
+
+#[test]
+fn four_workers_by_default(rt: HostRuntime) {
+    assert!(rt; is_plain_analysis(rt.alloc(), &["cmh", "analyse"]));
     assert_eq!(rt; DEFAULT_WORKERS, 4);
+}
+
+/// The text with which `clap` answers, or none.
+fn text_of_clap(alloc: Global, words: &[&str]) -> Result<String, AllocError> {
+    match command(alloc)?.try_get_matches_from(words) {
+        Ok(_) => Ok(String::new(alloc)),
+        Err(error) => error.to_string(alloc),
+    }
+}
+
+/// Whether the words ask for this text.
+fn is_shown(alloc: Global, words: &[&str], text: &str) -> bool {
+    match read_words(alloc, words) {
+        Ok(Request::Show(shown)) => shown.as_str() == text,
+        _ => false,
+    }
 }
 
 /// The text to print is that with which `clap` answers.
@@ -30,18 +50,17 @@ fn texts_of_clap(rt: HostRuntime) -> Result<(), Fail> {
         &["cmh", "-V"],
     ];
     for words in rows {
-        let answer = command(rt.alloc())?.try_get_matches_from(words);
-        let text = match answer {
-            Ok(_) => String::new(rt.alloc()),
-            Err(error) => error.to_string(rt.alloc())?,
-        };
-        let asked = read_words(rt.alloc(), words);
-        let is_shown =
-            matches!(&asked, Ok(Request::Show(shown)) if shown.as_str() == text.as_str());
-        assert!(rt; is_shown, "{text}");
-        assert!(rt; text.len() > 9, "{text}");
+        let text = text_of_clap(rt.alloc(), words)?;
+        assert!(rt;
+            text.len() > 9 && is_shown(rt.alloc(), words, &text),
+            "{words:?}"
+        );
     }
     Ok(())
+}
+
+fn is_refused(alloc: Global, words: &[&str]) -> bool {
+    matches!(read_words(alloc, words), Ok(Request::Refused(_)))
 }
 
 #[test]
@@ -54,7 +73,6 @@ fn words_that_are_refused(rt: HostRuntime) {
         &["cmh", "trace"],
     ];
     for words in rows {
-        let asked = read_words(rt.alloc(), words);
-        assert!(rt; matches!(asked, Ok(Request::Refused(_))), "{words:?}");
+        assert!(rt; is_refused(rt.alloc(), words), "{words:?}");
     }
 }
