@@ -1,5 +1,6 @@
 -- Lists of numbers on the command line: items parted by one comma. The empty text has no item.
-use Rattle.std.specs.Prelude.{◌≡◌, ℕ, ◌<◌, ◌≤◌, ◌^◌, ◌==◌, ◌&&◌, Bool, List, [], ◌∷◌, length, map, nat_lt, slice_index_or, Option, Some, None, if◌then◌else◌, IsTrue, IsFalse}
+use Rattle.std.specs.Prelude.{◌≡◌, ℕ, ◌<◌, ◌≤◌, ◌^◌, ◌==◌, ◌&&◌, Bool, List, [], ◌∷◌, length, map, nat_lt, slice_index_or, Option, Some, None, if◌then◌else◌, IsTrue, IsFalse, ◌++◌, codes}
+use Rattle.std.specs.Fmt.{decimal}
 use Rattle.std.specs.List.{slice_split}
 use Rattle.std.specs.Str.{all_ascii_digits}
 use Rattle.std.specs.Str.Parse.{digits_value}
@@ -39,3 +40,9 @@ IsFirstFault text (BadNumber i) = (i < MAX_NUMBERS) × (i < length (items_of tex
 IsFirstFault text TooManyNumbers =
     (MAX_NUMBERS < length (items_of text)) × AreNumbersBefore text MAX_NUMBERS
 IsFirstFault text Memory = ⊥
+
+-- what is printed of a fault
+abbrev pub fault_text : ListFault → List ℕ
+fault_text (BadNumber i) = codes "bad number " ++ decimal i
+fault_text TooManyNumbers = codes "too many numbers"
+fault_text Memory = codes "out of memory"

@@ -7,21 +7,36 @@ ghost use Rattle.cmh_command.specs.declared.list.ListFault.TheVariants.{Memory};
 
 use crate::MAX_NUMBERS;
 use std::alloc::{AllocError, AllocFailed, Global};
-use thiserror::Error;
+use std::error::Error;
+use std::fmt;
 
 /// The first fault of a list from the left. Places count from 0.
-#[derive(Clone, Copy, Debug, PartialEq, Eq, Error)]
+#[derive(Clone, Copy, Debug, PartialEq, Eq)]
 pub enum ListFault {
     /// This item is no number.
-    #[error("bad number {0}")]
     BadNumber(usize),
     /// There is an item past the first `MAX_NUMBERS`.
-    #[error("too many numbers")]
     TooManyNumbers,
     /// Memory was refused.
-    #[error("out of memory")]
     Memory,
 }
+
+impl fmt::Display for ListFault {
+    ghost use Rattle.std.specs.Prelude.{Some};
+    ghost use Rattle.cmh_command.specs.List.{fault_text};
+
+    ghost output = { λ e. Some (fault_text e) };
+
+    fn fmt<W: fmt::Write>(&self, f: &mut fmt::Formatter<W>) -> fmt::Result {
+        match self {
+            ListFault::BadNumber(i) => write!(f, "bad number {i}"),
+            ListFault::TooManyNumbers => f.write_str("too many numbers"),
+            ListFault::Memory => f.write_str("out of memory"),
+        }
+    }
+}
+
+impl Error for ListFault {}
 
 impl From<AllocError> for ListFault {
     ghost from_gives = { λ _ e. e ≡ Memory };
