@@ -19,26 +19,33 @@ use Rattle.cmh_dump.proofs.WellFormed.{well_formed, refused_for_memory}
 
 module _ (d : Data) where
   -- the fault of a stage is that of the kinds from the stage on
-  pub refused_here : (xs ys : List (List DumpFault)) (e : DumpFault) → (e ≢ Memory → first_of (holds d) xs ≡ Some e) → e ≢ Memory → first_of (holds d) (xs ++ ys) ≡ Some e
+  pub refused_here : (xs ys : List (List DumpFault)) (e : DumpFault) → (e ≢ Memory → first_of (holds d) xs ≡ Some e)
+      → e ≢ Memory → first_of (holds d) (xs ++ ys) ≡ Some e
   refused_here xs ys e h m = first_among (holds d) xs ys e (h m)
 
   -- where no kind of a stage holds, those after it decide
-  pub refused_later : (xs ys : List (List DumpFault)) (e : DumpFault) → first_of (holds d) xs ≡ None → (e ≢ Memory → first_of (holds d) ys ≡ Some e) → e ≢ Memory → first_of (holds d) (xs ++ ys) ≡ Some e
+  pub refused_later : (xs ys : List (List DumpFault)) (e : DumpFault) → first_of (holds d) xs ≡ None
+      → (e ≢ Memory → first_of (holds d) ys ≡ Some e) → e ≢ Memory → first_of (holds d) (xs ++ ys) ≡ Some e
   refused_later xs ys e none h m = first_after (holds d) xs ys none ∙ h m
 
   -- and where none of the first two stages holds
-  pub refused_past_sites : (e : DumpFault) → first_of (holds d) (top_faults d) ≡ None → first_of (holds d) (site_faults d) ≡ None → (e ≢ Memory → first_of (holds d) (process_faults d ++ faults_from_names d) ≡ Some e) → e ≢ Memory → first_of (holds d) (in_order d) ≡ Some e
+  pub refused_past_sites : (e : DumpFault) → first_of (holds d) (top_faults d) ≡ None
+      → first_of (holds d) (site_faults d) ≡ None
+      → (e ≢ Memory → first_of (holds d) (process_faults d ++ faults_from_names d) ≡ Some e) → e ≢ Memory
+      → first_of (holds d) (in_order d) ≡ Some e
   refused_past_sites e top apart h =
       refused_later (top_faults d) (site_faults d ++ process_faults d ++ faults_from_names d) e top
       (refused_later (site_faults d) (process_faults d ++ faults_from_names d) e apart h)
 
   -- what the graph is built of, where no kind of a stage holds
-  pub built_later : (xs ys : List (List DumpFault)) (r : Result (Vec Part × Vec (ℕ × ℕ)) DumpFault) → first_of (holds d) xs ≡ None → Builds d ys r → Builds d (xs ++ ys) r
+  pub built_later : (xs ys : List (List DumpFault)) (r : Result (Vec Part × Vec (ℕ × ℕ)) DumpFault)
+      → first_of (holds d) xs ≡ None → Builds d ys r → Builds d (xs ++ ys) r
   built_later xs ys (Ok parts) none b = (first_after (holds d) xs ys none ∙ b.0, b.1)
   built_later xs ys (Err e) none b = refused_later xs ys e none b
 
   -- the first fault in the order of the table refuses the tree
-  pub refused : (e : DumpFault) → (e ≢ Memory → first_of (holds d) (in_order d) ≡ Some e) → e ≢ Memory → dump_of_tree d ≡ Err e
+  pub refused : (e : DumpFault) → (e ≢ Memory → first_of (holds d) (in_order d) ≡ Some e) → e ≢ Memory
+      → dump_of_tree d ≡ Err e
   unfolding dump_of_tree
   refused e h m = ap (λ o. found o (graph_of d)) (h m)
 
@@ -48,7 +55,10 @@ module _ (d : Data) where
   accepted g none is = ap (λ o. found o (graph_of d)) none ∙ ap Ok (sym is)
 
   -- the parts and messages that are read make the graph of the tree
-  pub graph_is : (parts : List Part) (messages : List (ℕ × ℕ)) (es : List declared.Entry) (site_names process_names : List (List ℕ)) → AreRead d es site_names → process_names ≡ names d → map graph.process_of parts ≡ map (λ e. process_by site_names process_names (entry_view e)) es → messages ≡ map (transit_of d) (transits d) → graph.graph_of parts messages ≡ graph_of d
+  pub graph_is : (parts : List Part) (messages : List (ℕ × ℕ)) (es : List declared.Entry)
+      (site_names process_names : List (List ℕ)) → AreRead d es site_names → process_names ≡ names d
+      → map graph.process_of parts ≡ map (λ e. process_by site_names process_names (entry_view e)) es
+      → messages ≡ map (transit_of d) (transits d) → graph.graph_of parts messages ≡ graph_of d
   graph_is parts messages es site_names process_names read are_names made sent =
       let processes : map graph.process_of parts ≡ map (process_of d) (entries d) =
       made
@@ -58,6 +68,7 @@ module _ (d : Data) where
       λ i. record { processes = processes i; in_transit = sent i }
 
   -- the graph of a tree without a fault is refused for want of memory alone
-  pub refused_for_memory_alone : (g : Graph) (e : GraphFault) → first_of (holds d) (in_order d) ≡ None → g ≡ graph_of d → (e ≡ GraphMemory) ⊎ graph.IsFirstFault g e → e ≡ GraphMemory
+  pub refused_for_memory_alone : (g : Graph) (e : GraphFault) → first_of (holds d) (in_order d) ≡ None → g ≡ graph_of d
+      → (e ≡ GraphMemory) ⊎ graph.IsFirstFault g e → e ≡ GraphMemory
   refused_for_memory_alone g e none is h =
       refused_for_memory g (subst graph.IsWellFormed (sym is) (well_formed d none)) e h

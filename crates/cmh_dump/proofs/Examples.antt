@@ -83,12 +83,16 @@ active_process : Means (with_processes (running (codes "p"))) (active (codes "p"
 unfolding dump dump_of_tree serde_json_on_literals is_utf8 chars
 active_process = refl
 
-active_with_empty_dependents : Means (with_processes (codes "{'name':'p','site':'a','state':'active','dependents':[]}")) (active (codes "p") 0 ∷ []) []
+active_with_empty_dependents : Means (with_processes (codes "{'name':'p','site':'a','state':'active','dependents':[]}"))
+    (active (codes "p") 0 ∷ []) []
 unfolding dump dump_of_tree serde_json_on_literals is_utf8 chars
 active_with_empty_dependents = refl
 
 -- the sites and the dependents keep their order
-two_sites : Means (codes "{'version':1,'sites':['b','a'],'processes':[" ++ waiting (codes "p") (codes "'r','q'") ++ codes "," ++ running (codes "q") ++ codes ",{'name':'r','site':'b','state':'active'}]}") (idle (codes "p") 1 (2 ∷ 1 ∷ []) ∷ active (codes "q") 1 ∷ active (codes "r") 0 ∷ []) []
+two_sites : Means
+    (codes "{'version':1,'sites':['b','a'],'processes':[" ++ waiting (codes "p") (codes "'r','q'") ++ codes ","
+    ++ running (codes "q") ++ codes ",{'name':'r','site':'b','state':'active'}]}")
+    (idle (codes "p") 1 (2 ∷ 1 ∷ []) ∷ active (codes "q") 1 ∷ active (codes "r") 0 ∷ []) []
 unfolding dump dump_of_tree serde_json_on_literals is_utf8 chars
 two_sites = refl
 
@@ -210,7 +214,8 @@ bad_top_messages_in_version_3 : IsRefused (codes "{'version':3,'sites':[],'proce
 unfolding dump dump_of_tree serde_json_on_literals is_utf8 chars
 bad_top_messages_in_version_3 = refl
 
-bad_top_no_messages_in_version_2 : IsRefused (codes "{'version':2,'sites':['a'],'processes':[" ++ in_a_cycle ++ codes "]}") BadTop
+bad_top_no_messages_in_version_2 : IsRefused
+    (codes "{'version':2,'sites':['a'],'processes':[" ++ in_a_cycle ++ codes "]}") BadTop
 unfolding dump dump_of_tree serde_json_on_literals is_utf8 chars
 bad_top_no_messages_in_version_2 = refl
 
@@ -244,30 +249,36 @@ unfolding dump dump_of_tree serde_json_on_literals is_utf8 chars
 bad_site_before_repeated = refl
 
 -- the sites come before the processes
-repeated_site_before_processes : IsRefused (codes "{'version':1,'sites':['b','a','a'],'processes':[7]}") (RepeatedSite 2)
+repeated_site_before_processes : IsRefused (codes "{'version':1,'sites':['b','a','a'],'processes':[7]}")
+    (RepeatedSite 2)
 unfolding dump dump_of_tree serde_json_on_literals is_utf8 chars
 repeated_site_before_processes = refl
 
 -- ---- the processes
 
 -- how each is written comes before what any names
-bad_process_before_unknown_site : IsRefused (with_processes (codes "{'name':'p','site':'z','state':'active'},7")) (BadProcess 1)
+bad_process_before_unknown_site : IsRefused (with_processes (codes "{'name':'p','site':'z','state':'active'},7"))
+    (BadProcess 1)
 unfolding dump dump_of_tree serde_json_on_literals is_utf8 chars
 bad_process_before_unknown_site = refl
 
-bad_process_idle_without_dependents : IsRefused (with_processes (codes "{'name':'p','site':'a','state':'idle'}")) (BadProcess 0)
+bad_process_idle_without_dependents : IsRefused (with_processes (codes "{'name':'p','site':'a','state':'idle'}"))
+    (BadProcess 0)
 unfolding dump dump_of_tree serde_json_on_literals is_utf8 chars
 bad_process_idle_without_dependents = refl
 
-bad_process_null_dependents : IsRefused (with_processes (codes "{'name':'p','site':'a','state':'active','dependents':null}")) (BadProcess 0)
+bad_process_null_dependents : IsRefused
+    (with_processes (codes "{'name':'p','site':'a','state':'active','dependents':null}")) (BadProcess 0)
 unfolding dump dump_of_tree serde_json_on_literals is_utf8 chars
 bad_process_null_dependents = refl
 
-bad_process_state : IsRefused (with_processes (codes "{'name':'p','site':'a','state':'asleep','dependents':[]}")) (BadProcess 0)
+bad_process_state : IsRefused (with_processes (codes "{'name':'p','site':'a','state':'asleep','dependents':[]}"))
+    (BadProcess 0)
 unfolding dump dump_of_tree serde_json_on_literals is_utf8 chars
 bad_process_state = refl
 
-bad_process_key_too_many : IsRefused (with_processes (codes "{'name':'p','site':'a','state':'active','x':1}")) (BadProcess 0)
+bad_process_key_too_many : IsRefused (with_processes (codes "{'name':'p','site':'a','state':'active','x':1}"))
+    (BadProcess 0)
 unfolding dump dump_of_tree serde_json_on_literals is_utf8 chars
 bad_process_key_too_many = refl
 
@@ -291,47 +302,65 @@ bad_process_name_with_a_space : IsRefused (with_processes (running (codes "a b")
 unfolding dump dump_of_tree serde_json_on_literals is_utf8 chars
 bad_process_name_with_a_space = refl
 
-bad_process_before_repeated : IsRefused (with_processes (running (codes "p") ++ codes "," ++ running (codes "p") ++ codes ",7")) (BadProcess 2)
+bad_process_before_repeated : IsRefused
+    (with_processes (running (codes "p") ++ codes "," ++ running (codes "p") ++ codes ",7")) (BadProcess 2)
 unfolding dump dump_of_tree serde_json_on_literals is_utf8 chars
 bad_process_before_repeated = refl
 
-repeated_process_before_unknown_site : IsRefused (with_processes (codes "{'name':'p','site':'z','state':'active'}," ++ running (codes "p"))) (RepeatedProcess 1)
+repeated_process_before_unknown_site : IsRefused
+    (with_processes (codes "{'name':'p','site':'z','state':'active'}," ++ running (codes "p"))) (RepeatedProcess 1)
 unfolding dump dump_of_tree serde_json_on_literals is_utf8 chars
 repeated_process_before_unknown_site = refl
 
-repeated_process_before_unknown_dependent : IsRefused (with_processes (waiting (codes "p") (codes "'x'") ++ codes "," ++ waiting (codes "p") [])) (RepeatedProcess 1)
+repeated_process_before_unknown_dependent : IsRefused
+    (with_processes (waiting (codes "p") (codes "'x'") ++ codes "," ++ waiting (codes "p") [])) (RepeatedProcess 1)
 unfolding dump dump_of_tree serde_json_on_literals is_utf8 chars
 repeated_process_before_unknown_dependent = refl
 
-unknown_site_before_unknown_dependent : IsRefused (with_processes (codes "{'name':'p','site':'z','state':'idle','dependents':['x']}")) (UnknownSite 0)
+unknown_site_before_unknown_dependent : IsRefused
+    (with_processes (codes "{'name':'p','site':'z','state':'idle','dependents':['x']}")) (UnknownSite 0)
 unfolding dump dump_of_tree serde_json_on_literals is_utf8 chars
 unknown_site_before_unknown_dependent = refl
 
-repeated_dependent : IsRefused (with_processes (waiting (codes "p") (codes "'q','q'") ++ codes "," ++ waiting (codes "q") [])) (RepeatedDependent 0 1)
+repeated_dependent : IsRefused
+    (with_processes (waiting (codes "p") (codes "'q','q'") ++ codes "," ++ waiting (codes "q") []))
+    (RepeatedDependent 0 1)
 unfolding dump dump_of_tree serde_json_on_literals is_utf8 chars
 repeated_dependent = refl
 
-unknown_dependent : IsRefused (with_processes (waiting (codes "p") (codes "'x','q','q'") ++ codes "," ++ waiting (codes "q") [])) (UnknownDependent 0 0)
+unknown_dependent : IsRefused
+    (with_processes (waiting (codes "p") (codes "'x','q','q'") ++ codes "," ++ waiting (codes "q") []))
+    (UnknownDependent 0 0)
 unfolding dump dump_of_tree serde_json_on_literals is_utf8 chars
 unknown_dependent = refl
 
 -- an unknown dependent of any process comes before a repeated one of any
-unknown_dependent_before_repeated : IsRefused (with_processes (waiting (codes "p") (codes "'q','q'") ++ codes "," ++ waiting (codes "q") (codes "'p','x'"))) (UnknownDependent 1 1)
+unknown_dependent_before_repeated : IsRefused
+    (with_processes (waiting (codes "p") (codes "'q','q'") ++ codes "," ++ waiting (codes "q") (codes "'p','x'")))
+    (UnknownDependent 1 1)
 unfolding dump dump_of_tree serde_json_on_literals is_utf8 chars
 unknown_dependent_before_repeated = refl
 
-repeated_dependent_before_active : IsRefused (with_processes (codes "{'name':'p','site':'a','state':'active','dependents':['q']}," ++ waiting (codes "q") (codes "'p','p'"))) (RepeatedDependent 1 1)
+repeated_dependent_before_active : IsRefused
+    (with_processes
+    (codes "{'name':'p','site':'a','state':'active','dependents':['q']}," ++ waiting (codes "q") (codes "'p','p'")))
+    (RepeatedDependent 1 1)
 unfolding dump dump_of_tree serde_json_on_literals is_utf8 chars
 repeated_dependent_before_active = refl
 
-active_with_dependents : IsRefused (with_processes (codes "{'name':'p','site':'a','state':'active','dependents':['q']}," ++ waiting (codes "q") [])) (ActiveWithDependents 0)
+active_with_dependents : IsRefused
+    (with_processes (codes "{'name':'p','site':'a','state':'active','dependents':['q']}," ++ waiting (codes "q") []))
+    (ActiveWithDependents 0)
 unfolding dump dump_of_tree serde_json_on_literals is_utf8 chars
 active_with_dependents = refl
 
 -- ---- the messages in transit
 
 -- the processes come before the messages
-active_with_dependents_before_messages : IsRefused (codes "{'version':2,'sites':['a'],'processes':[{'name':'p','site':'a','state':'active','dependents':['p']}],'in_transit':[7]}") (ActiveWithDependents 0)
+active_with_dependents_before_messages : IsRefused
+    (codes "{'version':2,'sites':['a'],'processes':[{'name':'p','site':'a','state':'active','dependents':['p']}],"
+    ++ codes "'in_transit':[7]}")
+    (ActiveWithDependents 0)
 unfolding dump dump_of_tree serde_json_on_literals is_utf8 chars
 active_with_dependents_before_messages = refl
 

@@ -10,7 +10,8 @@ module _ {X : Type 0} (test : X → Bool) where
   find-append [] ys = refl
   find-append (x ∷ xs) ys = by (test x) (find-append xs ys)
     where
-      by : (b : Bool) → find test (xs ++ ys) ≡ option_or (find test xs) (find test ys) → cond b (Some x) (find test (xs ++ ys)) ≡ option_or (cond b (Some x) (find test xs)) (find test ys)
+      by : (b : Bool) → find test (xs ++ ys) ≡ option_or (find test xs) (find test ys)
+          → cond b (Some x) (find test (xs ++ ys)) ≡ option_or (cond b (Some x) (find test xs)) (find test ys)
       by true e = refl
       by false e = e
 
@@ -20,27 +21,39 @@ module _ {X : Type 0} (test : X → Bool) where
   map-append f (m ∷ ms) ns = ap (λ xs. f m ∷ xs) (map-append f ms ns)
 
   -- the last of those below n + 1 comes last
-  last_of : (f : ℕ → X) (n : ℕ) → find test (map f (below (suc n))) ≡ option_or (find test (map f (below n))) (cond (test (f n)) (Some (f n)) None)
+  last_of : (f : ℕ → X) (n : ℕ)
+      → find test (map f (below (suc n)))
+      ≡ option_or (find test (map f (below n))) (cond (test (f n)) (Some (f n)) None)
   last_of f n = ap (find test) (map-append f (below n) (n ∷ [])) ∙ find-append (map f (below n)) (f n ∷ [])
 
   -- where none of those below n passes, none is found
   pub none_below : (f : ℕ → X) (n : ℕ) → ((k : ℕ) → k < n → test (f k) ≡ false) → find test (map f (below n)) ≡ None
   none_below f zero h = refl
-  none_below f (suc n) h = last_of f n ∙ ap (λ o. option_or o (cond (test (f n)) (Some (f n)) None)) (none_below f n (λ k lt. h k (omega arith))) ∙ ap (λ b. cond b (Some (f n)) None) (h n (omega arith))
+  none_below f (suc n) h =
+      last_of f n
+      ∙ ap (λ o. option_or o (cond (test (f n)) (Some (f n)) None)) (none_below f n (λ k lt. h k (omega arith)))
+      ∙ ap (λ b. cond b (Some (f n)) None) (h n (omega arith))
 
   -- a fault that is found stays the first one
-  pub found_below : (f : ℕ → X) (i m : ℕ) → ((k : ℕ) → k < i → test (f k) ≡ false) → test (f i) ≡ true → find test (map f (below (suc i + m))) ≡ Some (f i)
-  found_below f i zero h t = ap (λ n. find test (map f (below n))) same ∙ last_of f i ∙ ap (λ o. option_or o (cond (test (f i)) (Some (f i)) None)) (none_below f i h) ∙ ap (λ b. cond b (Some (f i)) None) t
+  pub found_below : (f : ℕ → X) (i m : ℕ) → ((k : ℕ) → k < i → test (f k) ≡ false) → test (f i) ≡ true
+      → find test (map f (below (suc i + m))) ≡ Some (f i)
+  found_below f i zero h t =
+      ap (λ n. find test (map f (below n))) same ∙ last_of f i
+      ∙ ap (λ o. option_or o (cond (test (f i)) (Some (f i)) None)) (none_below f i h)
+      ∙ ap (λ b. cond b (Some (f i)) None) t
     where
       same : suc i + 0 ≡ suc i
       same = omega arith
-  found_below f i (suc m) h t = ap (λ n. find test (map f (below n))) same ∙ last_of f (suc i + m) ∙ ap (λ o. option_or o (cond (test (f (suc i + m))) (Some (f (suc i + m))) None)) (found_below f i m h t)
+  found_below f i (suc m) h t =
+      ap (λ n. find test (map f (below n))) same ∙ last_of f (suc i + m)
+      ∙ ap (λ o. option_or o (cond (test (f (suc i + m))) (Some (f (suc i + m))) None)) (found_below f i m h t)
     where
       same : suc i + suc m ≡ suc (suc i + m)
       same = omega arith
 
 -- what is found at i among the first n, where none before it passes
-pub found_at : {X : Type 0} (test : X → Bool) (f : ℕ → X) (n i : ℕ) → i < n → ((k : ℕ) → k < i → test (f k) ≡ false) → test (f i) ≡ true → find test (map f (below n)) ≡ Some (f i)
+pub found_at : {X : Type 0} (test : X → Bool) (f : ℕ → X) (n i : ℕ) → i < n → ((k : ℕ) → k < i → test (f k) ≡ false)
+    → test (f i) ≡ true → find test (map f (below n)) ≡ Some (f i)
 found_at test f n i lt before now =
     let e : suc i + (n - suc i) ≡ n = omega arith in
     ap (λ m. find test (map f (below m))) (sym e) ∙ found_below test f i (n - suc i) before now
@@ -51,7 +64,8 @@ map-same [] = refl
 map-same (x ∷ xs) = ap (λ ys. x ∷ ys) (map-same xs)
 
 -- the least number below n that passes
-pub least_found : (test : ℕ → Bool) (n i : ℕ) → i < n → ((k : ℕ) → k < i → test k ≡ false) → test i ≡ true → find test (below n) ≡ Some i
+pub least_found : (test : ℕ → Bool) (n i : ℕ) → i < n → ((k : ℕ) → k < i → test k ≡ false) → test i ≡ true
+    → find test (below n) ≡ Some i
 least_found test n i lt before now =
     ap (find test) (sym (map-same (below n))) ∙ found_at test (λ k. k) n i lt before now
 

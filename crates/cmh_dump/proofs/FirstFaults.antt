@@ -16,11 +16,13 @@ use Rattle.cmh_dump.proofs.Table.{stands, none_holds, in_stages}
 -- ---- a tree
 
 -- what the search through the table finds is the least fault of the tree
-least : (d : Data) (fault : DumpFault) → first_of (holds d) (in_order d) ≡ Some fault → IsLeastOfLists (holds d) (in_order d) fault
+least : (d : Data) (fault : DumpFault) → first_of (holds d) (in_order d) ≡ Some fault
+    → IsLeastOfLists (holds d) (in_order d) fault
 least d fault e = least_of_lists (holds d) (IsOfTree d) 4 (in_order d) fault (in_stages d) e
 
 -- it is the first
-found_is_first : (d : Data) (fault : DumpFault) → first_of (holds d) (in_order d) ≡ Some fault → IsFirstFault (Has d) fault
+found_is_first : (d : Data) (fault : DumpFault) → first_of (holds d) (in_order d) ≡ Some fault
+    → IsFirstFault (Has d) fault
 found_is_first d fault e = record {
   had = (allowed_in (IsOfTree d) 4 (in_order d) (in_stages d) fault l.stands, l.passes);
   first = λ other h. after other (l.least other (stands d other h.0) h.1);
@@ -38,10 +40,12 @@ none_is_had : (d : Data) → first_of (holds d) (in_order d) ≡ None → AreNon
 none_is_had d e fault h = false≢true (sym (none_holds d e fault h.0) ∙ h.1)
 
 -- and it finds the first
-first_is_found : (d : Data) (fault : DumpFault) → IsFirstFault (Has d) fault → first_of (holds d) (in_order d) ≡ Some fault
+first_is_found : (d : Data) (fault : DumpFault) → IsFirstFault (Has d) fault
+    → first_of (holds d) (in_order d) ≡ Some fault
 first_is_found d fault h = by (first_of (holds d) (in_order d)) refl
   where
-    same : (f : DumpFault) → first_of (holds d) (in_order d) ≡ Some f → (fault ≡ f) ⊎ (comes_before f fault ≡ true) → f ≡ fault
+    same : (f : DumpFault) → first_of (holds d) (in_order d) ≡ Some f → (fault ≡ f) ⊎ (comes_before f fault ≡ true)
+        → f ≡ fault
     same f e (inl s) = sym s
     same f e (inr b) = absurd (false≢true (sym (h.first f (found_is_first d f e).had) ∙ b))
 
@@ -86,13 +90,15 @@ tree_graph_law = λ d g. (
 -- ---- bytes
 
 -- what the tree of the bytes has, the bytes have
-pub bytes_have : (bytes : List ℕ) (d : Data) (fault : DumpFault) → tree_of bytes ≡ Some d → Has d fault → BytesHave bytes fault
+pub bytes_have : (bytes : List ℕ) (d : Data) (fault : DumpFault) → tree_of bytes ≡ Some d → Has d fault
+    → BytesHave bytes fault
 bytes_have bytes d TooLong e h = absurd h.0
 bytes_have bytes d NotJson e h = absurd h.0
 bytes_have bytes d fault e h = (d, e, h)
 
 -- what bytes that are not too long have, their tree has
-tree_has : (bytes : List ℕ) (d : Data) (fault : DumpFault) → length bytes ≤ MAX_BYTES → tree_of bytes ≡ Some d → BytesHave bytes fault → Has d fault
+tree_has : (bytes : List ℕ) (d : Data) (fault : DumpFault) → length bytes ≤ MAX_BYTES → tree_of bytes ≡ Some d
+    → BytesHave bytes fault → Has d fault
 tree_has bytes d TooLong l e h = absurd (omega (arith, l, h))
 tree_has bytes d NotJson l e h = absurd cc
 tree_has bytes d fault l e h = let same : h.0 ≡ d = cc in subst (λ t. Has t fault) same h.2
@@ -107,7 +113,8 @@ first_too_long bytes l = record { had = l; first = first }
     first other h = refl
 
 -- and no other is
-is_too_long : (bytes : List ℕ) (fault : DumpFault) → MAX_BYTES < length bytes → IsFirstFault (BytesHave bytes) fault → fault ≡ TooLong
+is_too_long : (bytes : List ℕ) (fault : DumpFault) → MAX_BYTES < length bytes → IsFirstFault (BytesHave bytes) fault
+    → fault ≡ TooLong
 is_too_long bytes fault l h = by fault h.had (h.first TooLong l)
   where
     by : (fault : DumpFault) → BytesHave bytes fault → comes_before TooLong fault ≡ false → fault ≡ TooLong
@@ -117,7 +124,8 @@ is_too_long bytes fault l h = by fault h.had (h.first TooLong l)
     by fault h b = absurd (false≢true (sym b))
 
 -- of others that are no JSON that is the first fault
-first_not_json : (bytes : List ℕ) → length bytes ≤ MAX_BYTES → tree_of bytes ≡ None → IsFirstFault (BytesHave bytes) NotJson
+first_not_json : (bytes : List ℕ) → length bytes ≤ MAX_BYTES → tree_of bytes ≡ None
+    → IsFirstFault (BytesHave bytes) NotJson
 first_not_json bytes l e = record { had = e; first = first }
   where
     first : (other : DumpFault) → BytesHave bytes other → comes_before other NotJson ≡ false
@@ -127,20 +135,23 @@ first_not_json bytes l e = record { had = e; first = first }
     first other h = refl
 
 -- and no other is
-is_not_json : (bytes : List ℕ) (fault : DumpFault) → length bytes ≤ MAX_BYTES → tree_of bytes ≡ None → BytesHave bytes fault → fault ≡ NotJson
+is_not_json : (bytes : List ℕ) (fault : DumpFault) → length bytes ≤ MAX_BYTES → tree_of bytes ≡ None
+    → BytesHave bytes fault → fault ≡ NotJson
 is_not_json bytes TooLong l e h = absurd (omega (arith, l, h))
 is_not_json bytes NotJson l e h = refl
 is_not_json bytes fault l e h = let t : tree_of bytes ≡ Some h.0 = h.1 in absurd cc
 
 -- of others the first fault is that of their tree
-first_of_tree : (bytes : List ℕ) (d : Data) (fault : DumpFault) → length bytes ≤ MAX_BYTES → tree_of bytes ≡ Some d → IsFirstFault (Has d) fault → IsFirstFault (BytesHave bytes) fault
+first_of_tree : (bytes : List ℕ) (d : Data) (fault : DumpFault) → length bytes ≤ MAX_BYTES → tree_of bytes ≡ Some d
+    → IsFirstFault (Has d) fault → IsFirstFault (BytesHave bytes) fault
 first_of_tree bytes d fault l e h = record {
   had = bytes_have bytes d fault e h.had;
   first = λ other k. h.first other (tree_has bytes d other l e k);
 }
 
 -- and the other way round
-first_in_tree : (bytes : List ℕ) (d : Data) (fault : DumpFault) → length bytes ≤ MAX_BYTES → tree_of bytes ≡ Some d → IsFirstFault (BytesHave bytes) fault → IsFirstFault (Has d) fault
+first_in_tree : (bytes : List ℕ) (d : Data) (fault : DumpFault) → length bytes ≤ MAX_BYTES → tree_of bytes ≡ Some d
+    → IsFirstFault (BytesHave bytes) fault → IsFirstFault (Has d) fault
 first_in_tree bytes d fault l e h = record {
   had = tree_has bytes d fault l e h.had;
   first = λ other k. h.first other (bytes_have bytes d other e k);
@@ -154,19 +165,27 @@ first_fault_law = λ bytes fault. (
   λ h. answered bytes fault (nat_lt MAX_BYTES (length bytes)) refl (tree_of bytes) refl h,
 )
   where
-    first : (bytes : List ℕ) (fault : DumpFault) (long : Bool) → nat_lt MAX_BYTES (length bytes) ≡ long → (tree : Option Data) → tree_of bytes ≡ tree → cond long (Err TooLong) (of_tree tree) ≡ Err fault → IsFirstFault (BytesHave bytes) fault
+    first : (bytes : List ℕ) (fault : DumpFault) (long : Bool) → nat_lt MAX_BYTES (length bytes) ≡ long
+        → (tree : Option Data) → tree_of bytes ≡ tree → cond long (Err TooLong) (of_tree tree) ≡ Err fault
+        → IsFirstFault (BytesHave bytes) fault
     first bytes fault true l tree t e =
         let same : TooLong ≡ fault = cc in
         subst (IsFirstFault (BytesHave bytes)) same (first_too_long bytes (ltb-true MAX_BYTES (length bytes) l))
     first bytes fault false l None t e =
         let same : NotJson ≡ fault = cc in
         subst (IsFirstFault (BytesHave bytes)) same (first_not_json bytes (ltb-false MAX_BYTES (length bytes) l) t)
-    first bytes fault false l (Some d) t e = first_of_tree bytes d fault (ltb-false MAX_BYTES (length bytes) l) t ((tree_fault_law d fault).0 e)
+    first bytes fault false l (Some d) t e =
+        first_of_tree bytes d fault (ltb-false MAX_BYTES (length bytes) l) t ((tree_fault_law d fault).0 e)
 
-    answered : (bytes : List ℕ) (fault : DumpFault) (long : Bool) → nat_lt MAX_BYTES (length bytes) ≡ long → (tree : Option Data) → tree_of bytes ≡ tree → IsFirstFault (BytesHave bytes) fault → cond long (Err TooLong) (of_tree tree) ≡ Err fault
-    answered bytes fault true l tree t h = ap (λ f. Err f) (sym (is_too_long bytes fault (ltb-true MAX_BYTES (length bytes) l) h))
-    answered bytes fault false l None t h = ap (λ f. Err f) (sym (is_not_json bytes fault (ltb-false MAX_BYTES (length bytes) l) t h.had))
-    answered bytes fault false l (Some d) t h = (tree_fault_law d fault).1 (first_in_tree bytes d fault (ltb-false MAX_BYTES (length bytes) l) t h)
+    answered : (bytes : List ℕ) (fault : DumpFault) (long : Bool) → nat_lt MAX_BYTES (length bytes) ≡ long
+        → (tree : Option Data) → tree_of bytes ≡ tree → IsFirstFault (BytesHave bytes) fault
+        → cond long (Err TooLong) (of_tree tree) ≡ Err fault
+    answered bytes fault true l tree t h =
+        ap (λ f. Err f) (sym (is_too_long bytes fault (ltb-true MAX_BYTES (length bytes) l) h))
+    answered bytes fault false l None t h =
+        ap (λ f. Err f) (sym (is_not_json bytes fault (ltb-false MAX_BYTES (length bytes) l) t h.had))
+    answered bytes fault false l (Some d) t h =
+        (tree_fault_law d fault).1 (first_in_tree bytes d fault (ltb-false MAX_BYTES (length bytes) l) t h)
 
 -- bytes without a fault, and no others, mean the graph of their tree
 pub no_fault_law : NoFaultLaw
@@ -176,14 +195,18 @@ no_fault_law = λ bytes g. (
   λ h. answered bytes g (nat_lt MAX_BYTES (length bytes)) refl (tree_of bytes) refl h.0 h.1,
 )
   where
-    clean : (bytes : List ℕ) (g : Graph) (long : Bool) → nat_lt MAX_BYTES (length bytes) ≡ long → (tree : Option Data) → tree_of bytes ≡ tree → cond long (Err TooLong) (of_tree tree) ≡ Ok g → AreNone (BytesHave bytes) × IsGraphOf bytes g
+    clean : (bytes : List ℕ) (g : Graph) (long : Bool) → nat_lt MAX_BYTES (length bytes) ≡ long → (tree : Option Data)
+        → tree_of bytes ≡ tree → cond long (Err TooLong) (of_tree tree) ≡ Ok g
+        → AreNone (BytesHave bytes) × IsGraphOf bytes g
     clean bytes g true l tree t e = absurd cc
     clean bytes g false l None t e = absurd cc
     clean bytes g false l (Some d) t e =
         let r = (tree_graph_law d g).0 e in
         (λ fault h. r.0 fault (tree_has bytes d fault (ltb-false MAX_BYTES (length bytes) l) t h), (d, t, r.1))
 
-    answered : (bytes : List ℕ) (g : Graph) (long : Bool) → nat_lt MAX_BYTES (length bytes) ≡ long → (tree : Option Data) → tree_of bytes ≡ tree → AreNone (BytesHave bytes) → IsGraphOf bytes g → cond long (Err TooLong) (of_tree tree) ≡ Ok g
+    answered : (bytes : List ℕ) (g : Graph) (long : Bool) → nat_lt MAX_BYTES (length bytes) ≡ long
+        → (tree : Option Data) → tree_of bytes ≡ tree → AreNone (BytesHave bytes) → IsGraphOf bytes g
+        → cond long (Err TooLong) (of_tree tree) ≡ Ok g
     answered bytes g true l tree t n h = absurd (n TooLong (ltb-true MAX_BYTES (length bytes) l))
     answered bytes g false l None t n h = absurd (n NotJson t)
     answered bytes g false l (Some d) t n h =

@@ -7,7 +7,8 @@ use Rattle.cmh_dump.specs.Dump.{first_of}
 use Rattle.cmh_dump.proofs.Members.{Among, AmongLists}
 
 -- neither the head passes nor the rest has a first, where there is none
-neither_head : {X : Type 0} (b : Bool) (x : X) (rest : Option X) → cond b (Some x) rest ≡ None → (b ≡ false) × (rest ≡ None)
+neither_head : {X : Type 0} (b : Bool) (x : X) (rest : Option X) → cond b (Some x) rest ≡ None
+    → (b ≡ false) × (rest ≡ None)
 neither_head true x rest e = absurd cc
 neither_head false x rest e = (refl, e)
 
@@ -23,7 +24,8 @@ neither None p e = (refl, e)
 neither (Some x) p e = absurd cc
 
 -- where lists have no first fault, each of their faults fails
-pub all_fail : (test : DumpFault → Bool) (lists : List (List DumpFault)) → first_of test lists ≡ None → (x : DumpFault) → AmongLists x lists → test x ≡ false
+pub all_fail : (test : DumpFault → Bool) (lists : List (List DumpFault)) → first_of test lists ≡ None → (x : DumpFault)
+    → AmongLists x lists → test x ≡ false
 all_fail test [] e x m = absurd m
 all_fail test (xs ∷ rest) e x (inl m) = fails test xs (neither (find test xs) (first_of test rest) e).0 x m
 all_fail test (xs ∷ rest) e x (inr m) = all_fail test rest (neither (find test xs) (first_of test rest) e).1 x m

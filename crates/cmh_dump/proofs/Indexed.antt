@@ -16,7 +16,8 @@ abbrev pub same_text : Bor (List ℕ) → Bor (List ℕ) → Bool
 same_text a b = bytes_eq a.now b.now
 
 -- the text at a place, as a list reads it and as the check says it
-at_texts : (names : List (Bor (List ℕ))) (i : ℕ) (d : Bor (List ℕ)) → i < length names → slice_get (texts names) i ≡ Some (get_or names i d).now
+at_texts : (names : List (Bor (List ℕ))) (i : ℕ) (d : Bor (List ℕ)) → i < length names
+    → slice_get (texts names) i ≡ Some (get_or names i d).now
 at_texts [] i d lt = absurd (omega arith)
 at_texts (x ∷ xs) zero d lt = refl
 at_texts (x ∷ xs) (suc i) d lt = at_texts xs i d (omega arith)
@@ -27,10 +28,12 @@ length-texts [] = refl
 length-texts (x ∷ xs) = ap suc (length-texts xs)
 
 -- a name that the keys so far hold is one that repeats
-repeat_is : (names keys : List (Bor (List ℕ))) (i : ℕ) (d : Bor (List ℕ)) → i < length names → texts keys ≡ take i (texts names) → list_any (same_text (get_or names i d)) keys ≡ repeats (texts names) i
+repeat_is : (names keys : List (Bor (List ℕ))) (i : ℕ) (d : Bor (List ℕ)) → i < length names
+    → texts keys ≡ take i (texts names) → list_any (same_text (get_or names i d)) keys ≡ repeats (texts names) i
 repeat_is names keys i d lt h =
     let name = (get_or names i d).now in
-    any_of_texts (bytes_eq name) keys ∙ ap (list_any (bytes_eq name)) h ∙ ap (λ (o : Option (List ℕ)). is_among (take i (texts names)) (unwrap_or o [])) (sym (at_texts names i d lt))
+    any_of_texts (bytes_eq name) keys ∙ ap (list_any (bytes_eq name)) h
+    ∙ ap (λ (o : Option (List ℕ)). is_among (take i (texts names)) (unwrap_or o [])) (sym (at_texts names i d lt))
 
 -- what is denied twice holds
 double_not : (b : Bool) → not (not b) ≡ b
@@ -38,22 +41,32 @@ double_not true = refl
 double_not false = refl
 
 -- a name that is not new is a repeat
-pub repeated : (names keys : List (Bor (List ℕ))) (i : ℕ) (d : Bor (List ℕ)) (is_new : Bool) → i < length names → texts keys ≡ take i (texts names) → is_new ≡ not (list_any (same_text (get_or names i d)) keys) → is_new ≡ false → (i < length (texts names)) × (repeats (texts names) i ≡ true)
-repeated names keys i d is_new lt h added old =
-    (let l = length-texts names in omega arith, sym (repeat_is names keys i d lt h) ∙ sym (double_not _) ∙ ap not (sym added ∙ old))
+pub repeated : (names keys : List (Bor (List ℕ))) (i : ℕ) (d : Bor (List ℕ)) (is_new : Bool) → i < length names
+    → texts keys ≡ take i (texts names) → is_new ≡ not (list_any (same_text (get_or names i d)) keys) → is_new ≡ false
+    → (i < length (texts names)) × (repeats (texts names) i ≡ true)
+repeated names keys i d is_new lt h added old = (
+  let l = length-texts names in omega arith,
+  sym (repeat_is names keys i d lt h) ∙ sym (double_not _) ∙ ap not (sym added ∙ old),
+)
 
 -- a name that is new is one key more, and none up to it repeats
-pub not_repeated : (names keys : List (Bor (List ℕ))) (i : ℕ) (d : Bor (List ℕ)) (is_new : Bool) → i < length names → texts keys ≡ take i (texts names) → is_new ≡ not (list_any (same_text (get_or names i d)) keys) → is_new ≡ true → ((k : ℕ) → k < i → repeats (texts names) k ≡ false)
-    → (texts (cond (list_any (same_text (get_or names i d)) keys) keys (keys ++ get_or names i d ∷ [])) ≡ take (i + 1) (texts names)) × ((k : ℕ) → k < i + 1 → repeats (texts names) k ≡ false)
+pub not_repeated : (names keys : List (Bor (List ℕ))) (i : ℕ) (d : Bor (List ℕ)) (is_new : Bool) → i < length names
+    → texts keys ≡ take i (texts names) → is_new ≡ not (list_any (same_text (get_or names i d)) keys) → is_new ≡ true
+    → ((k : ℕ) → k < i → repeats (texts names) k ≡ false)
+    → (texts (cond (list_any (same_text (get_or names i d)) keys) keys (keys ++ get_or names i d ∷ []))
+    ≡ take (i + 1) (texts names)) × ((k : ℕ) → k < i + 1 → repeats (texts names) k ≡ false)
 not_repeated names keys i d is_new lt h added new before =
     let absent : list_any (same_text (get_or names i d)) keys ≡ false = sym (double_not _) ∙ ap not (sym added ∙ new) in
     let next : suc i ≡ i + 1 = omega arith in (
-      ap (λ b. texts (cond b keys (keys ++ get_or names i d ∷ []))) absent ∙ texts-append keys (get_or names i d ∷ []) ∙ ap (λ ts. ts ++ (get_or names i d).now ∷ []) h ∙ sym (take-next (texts names) i _ (at_texts names i d lt)) ∙ ap (λ n. take n (texts names)) next,
+      ap (λ b. texts (cond b keys (keys ++ get_or names i d ∷ []))) absent ∙ texts-append keys (get_or names i d ∷ [])
+          ∙ ap (λ ts. ts ++ (get_or names i d).now ∷ []) h ∙ sym (take-next (texts names) i _ (at_texts names i d lt))
+          ∙ ap (λ n. take n (texts names)) next,
       below_more _ _ before (sym (repeat_is names keys i d lt h) ∙ absent),
     )
 
 -- the place of a text among borrows is that among the texts
-position-texts : (name : List ℕ) (keys : List (Bor (List ℕ))) → position_or_len (λ k. bytes_eq name k.now) keys ≡ position_or_len (bytes_eq name) (texts keys)
+position-texts : (name : List ℕ) (keys : List (Bor (List ℕ)))
+    → position_or_len (λ k. bytes_eq name k.now) keys ≡ position_or_len (bytes_eq name) (texts keys)
 position-texts name [] = refl
 position-texts name (k ∷ ks) = ap (λ n. cond (not (bytes_eq name k.now)) (1 + n) 0) (position-texts name ks)
 
@@ -70,14 +83,19 @@ pub among : (name : List ℕ) (names : List (List ℕ)) → nat_lt (place_of nam
 among name [] = refl
 among name (x ∷ xs) = by (bytes_eq name x) (among name xs)
   where
-    by : (b : Bool) → nat_lt (place_of xs name) (length xs) ≡ is_among xs name → nat_lt (cond (not b) (1 + place_of xs name) 0) (suc (length xs)) ≡ (b || is_among xs name)
+    by : (b : Bool) → nat_lt (place_of xs name) (length xs) ≡ is_among xs name
+        → nat_lt (cond (not b) (1 + place_of xs name) 0) (suc (length xs)) ≡ (b || is_among xs name)
     by true e = first_is (length xs)
     by false e = shifted (place_of xs name) (length xs) ∙ e
 
 -- the place that the index answers, if any, is that among the texts
-pub place_is : (name : List ℕ) (keys : List (Bor (List ℕ))) → cond (nat_lt (position_or_len (λ k. bytes_eq name k.now) keys) (length keys)) (Some (position_or_len (λ k. bytes_eq name k.now) keys)) None ≡ cond (is_among (texts keys) name) (Some (place_of (texts keys) name)) None
+pub place_is : (name : List ℕ) (keys : List (Bor (List ℕ)))
+    → cond (nat_lt (position_or_len (λ k. bytes_eq name k.now) keys) (length keys))
+    (Some (position_or_len (λ k. bytes_eq name k.now) keys)) None
+    ≡ cond (is_among (texts keys) name) (Some (place_of (texts keys) name)) None
 place_is name keys =
-    (λ i. cond (nat_lt (position-texts name keys i) (sym (length-texts keys) i)) (Some (position-texts name keys i)) None) ∙ ap (λ b. cond b (Some (place_of (texts keys) name)) None) (among name (texts keys))
+    (λ i. cond (nat_lt (position-texts name keys i) (sym (length-texts keys) i)) (Some (position-texts name keys i))
+    None) ∙ ap (λ b. cond b (Some (place_of (texts keys) name)) None) (among name (texts keys))
 
 -- where no name repeats, no place of a repeat is found
 pub no_repeat : (names : List (List ℕ)) → AreApart names → None ≡ first_repeat names
@@ -88,5 +106,6 @@ pub repeat_found : (names : List (List ℕ)) (i : ℕ) → IsFirstRepeat names i
 repeat_found names i r = sym (least_found (repeats names) (length names) i r.within r.before r.repeated)
 
 -- what the index says of the name that repeats one, where a `match` found which error it is
-pub repeat_of : (all : List (List ℕ)) (e : IndexFault) (i : ℕ) → e ≡ Repeated i → TellsRepeat all e → IsFirstRepeat all i
+pub repeat_of : (all : List (List ℕ)) (e : IndexFault) (i : ℕ) → e ≡ Repeated i → TellsRepeat all e
+    → IsFirstRepeat all i
 repeat_of all e i is h = subst (TellsRepeat all) is h

@@ -21,12 +21,16 @@ use Rattle.cmh_dump.proofs.Trees.{map-map}
 use Rattle.cmh_dump.proofs.Searches.{first_here, first_later, alone, bad_sites, repeated_site, sites_apart, bad_processes, repeated_process, names_apart, unknown_sites, unknown_dependents, repeated_dependents, active_with_dependents, dependent_total_is, bad_transits, unknown_transits}
 
 -- a limit on a length, of a list that another one is seen as
-over : {Y Z : Type 0} (f : Y → Z) (ys : List Y) (all : List Z) (most : ℕ) → map f ys ≡ all → most < length ys → nat_lt most (length all) ≡ true
-over f ys all most e h = ap (λ zs. nat_lt most (length zs)) (sym e) ∙ ap (nat_lt most) (length-map ys f) ∙ lt-ltb most (length ys) h
+over : {Y Z : Type 0} (f : Y → Z) (ys : List Y) (all : List Z) (most : ℕ) → map f ys ≡ all → most < length ys
+    → nat_lt most (length all) ≡ true
+over f ys all most e h =
+    ap (λ zs. nat_lt most (length zs)) (sym e) ∙ ap (nat_lt most) (length-map ys f) ∙ lt-ltb most (length ys) h
 
 -- and a length within a limit
-within : {Y Z : Type 0} (f : Y → Z) (ys : List Y) (all : List Z) (most : ℕ) → map f ys ≡ all → length ys ≤ most → nat_lt most (length all) ≡ false
-within f ys all most e h = ap (λ zs. nat_lt most (length zs)) (sym e) ∙ ap (nat_lt most) (length-map ys f) ∙ le-ltb most (length ys) h
+within : {Y Z : Type 0} (f : Y → Z) (ys : List Y) (all : List Z) (most : ℕ) → map f ys ≡ all → length ys ≤ most
+    → nat_lt most (length all) ≡ false
+within f ys all most e h =
+    ap (λ zs. nat_lt most (length zs)) (sym e) ∙ ap (nat_lt most) (length-map ys f) ∙ le-ltb most (length ys) h
 
 -- ---- sites
 
@@ -37,34 +41,49 @@ module _ (d : Data) (ys : List (Bor (List ℕ))) (seen : texts ys ≡ sites d) w
 
   -- a bad name is the first fault of the sites
   pub site_bad : (i : ℕ) → bad_name ≡ Some i → first_of (holds d) (site_faults d) ≡ Some (BadSites i)
-  site_bad i h = first_here (holds d) (each_site d BadSites) (each_site d RepeatedSite ∷ (TooManySites ∷ []) ∷ []) _ (BadSites i) (bad_sites d ys seen) (ap (option_map BadSites) h)
+  site_bad i h =
+      first_here (holds d) (each_site d BadSites) (each_site d RepeatedSite ∷ (TooManySites ∷ []) ∷ []) _ (BadSites i)
+      (bad_sites d ys seen) (ap (option_map BadSites) h)
 
   -- where no name is bad, the other kinds decide
-  names_only : (r : Option DumpFault) → bad_name ≡ None → first_of (holds d) (each_site d RepeatedSite ∷ (TooManySites ∷ []) ∷ []) ≡ r → first_of (holds d) (site_faults d) ≡ r
-  names_only r h later = first_later (holds d) (each_site d BadSites) (each_site d RepeatedSite ∷ (TooManySites ∷ []) ∷ []) _ r (bad_sites d ys seen) (ap (option_map BadSites) h) later
+  names_only : (r : Option DumpFault) → bad_name ≡ None
+      → first_of (holds d) (each_site d RepeatedSite ∷ (TooManySites ∷ []) ∷ []) ≡ r
+      → first_of (holds d) (site_faults d) ≡ r
+  names_only r h later =
+      first_later (holds d) (each_site d BadSites) (each_site d RepeatedSite ∷ (TooManySites ∷ []) ∷ []) _ r
+      (bad_sites d ys seen) (ap (option_map BadSites) h) later
 
   -- a repeat is the first, where no name is bad
-  pub site_repeated : (i : ℕ) → bad_name ≡ None → IsFirstRepeat (texts ys) i → first_of (holds d) (site_faults d) ≡ Some (RepeatedSite i)
+  pub site_repeated : (i : ℕ) → bad_name ≡ None → IsFirstRepeat (texts ys) i
+      → first_of (holds d) (site_faults d) ≡ Some (RepeatedSite i)
   site_repeated i h r =
       names_only (Some (RepeatedSite i)) h
-      (first_here (holds d) (each_site d RepeatedSite) ((TooManySites ∷ []) ∷ []) _ (RepeatedSite i) (repeated_site d i (subst (λ (ns : List (List ℕ)). IsFirstRepeat ns i) seen r)) refl)
+      (first_here (holds d) (each_site d RepeatedSite) ((TooManySites ∷ []) ∷ []) _ (RepeatedSite i)
+      (repeated_site d i (subst (λ (ns : List (List ℕ)). IsFirstRepeat ns i) seen r)) refl)
 
   -- where no name is bad and none repeats, the count decides
-  apart_only : (r : Option DumpFault) → bad_name ≡ None → AreApart (texts ys) → first_of (holds d) ((TooManySites ∷ []) ∷ []) ≡ r → first_of (holds d) (site_faults d) ≡ r
+  apart_only : (r : Option DumpFault) → bad_name ≡ None → AreApart (texts ys)
+      → first_of (holds d) ((TooManySites ∷ []) ∷ []) ≡ r → first_of (holds d) (site_faults d) ≡ r
   apart_only r h apart later =
-      names_only r h (first_later (holds d) (each_site d RepeatedSite) ((TooManySites ∷ []) ∷ []) _ r (sites_apart d (subst AreApart seen apart)) refl later)
+      names_only r h
+      (first_later (holds d) (each_site d RepeatedSite) ((TooManySites ∷ []) ∷ []) _ r
+      (sites_apart d (subst AreApart seen apart)) refl later)
 
   -- then too many sites are the first fault
-  pub sites_many : bad_name ≡ None → AreApart (texts ys) → MAX_SITES < length ys → first_of (holds d) (site_faults d) ≡ Some TooManySites
+  pub sites_many : bad_name ≡ None → AreApart (texts ys) → MAX_SITES < length ys
+      → first_of (holds d) (site_faults d) ≡ Some TooManySites
   sites_many h apart many =
       apart_only (Some TooManySites) h apart
-      (first_here (holds d) (TooManySites ∷ []) [] _ TooManySites (alone (holds d) TooManySites true (over (λ t. t.now) ys (sites d) MAX_SITES seen many)) refl)
+      (first_here (holds d) (TooManySites ∷ []) [] _ TooManySites
+      (alone (holds d) TooManySites true (over (λ t. t.now) ys (sites d) MAX_SITES seen many)) refl)
 
   -- and few enough have none
-  pub sites_judged : bad_name ≡ None → AreApart (texts ys) → length ys ≤ MAX_SITES → first_of (holds d) (site_faults d) ≡ None
+  pub sites_judged : bad_name ≡ None → AreApart (texts ys) → length ys ≤ MAX_SITES
+      → first_of (holds d) (site_faults d) ≡ None
   sites_judged h apart few =
       apart_only None h apart
-      (first_later (holds d) (TooManySites ∷ []) [] _ None (alone (holds d) TooManySites false (within (λ t. t.now) ys (sites d) MAX_SITES seen few)) refl refl)
+      (first_later (holds d) (TooManySites ∷ []) [] _ None
+      (alone (holds d) TooManySites false (within (λ t. t.now) ys (sites d) MAX_SITES seen few)) refl refl)
 
 -- ---- processes
 
@@ -74,41 +93,53 @@ module _ {V : Type 0} (view : V → Data) (d : Data) (vs : List V) (seen : map v
   bad_process = position (λ v. not (is_process (view v))) vs
 
   -- where they are few enough, the other kind decides
-  few_only : (r : Option DumpFault) → length vs ≤ MAX_PROCESSES → first_of (holds d) (each_process d BadProcess ∷ []) ≡ r → first_of (holds d) (process_faults d) ≡ r
+  few_only : (r : Option DumpFault) → length vs ≤ MAX_PROCESSES
+      → first_of (holds d) (each_process d BadProcess ∷ []) ≡ r → first_of (holds d) (process_faults d) ≡ r
   few_only r few later =
-      first_later (holds d) (TooManyProcesses ∷ []) (each_process d BadProcess ∷ []) _ r (alone (holds d) TooManyProcesses false (within view vs (processes d) MAX_PROCESSES seen few)) refl later
+      first_later (holds d) (TooManyProcesses ∷ []) (each_process d BadProcess ∷ []) _ r
+      (alone (holds d) TooManyProcesses false (within view vs (processes d) MAX_PROCESSES seen few)) refl later
 
   -- then a bad process is the first fault
-  pub process_bad : (i : ℕ) → length vs ≤ MAX_PROCESSES → bad_process ≡ Some i → first_of (holds d) (process_faults d) ≡ Some (BadProcess i)
+  pub process_bad : (i : ℕ) → length vs ≤ MAX_PROCESSES → bad_process ≡ Some i
+      → first_of (holds d) (process_faults d) ≡ Some (BadProcess i)
   process_bad i few h =
       few_only (Some (BadProcess i)) few
-      (first_here (holds d) (each_process d BadProcess) [] _ (BadProcess i) (bad_processes view d vs seen) (ap (option_map BadProcess) h))
+      (first_here (holds d) (each_process d BadProcess) [] _ (BadProcess i) (bad_processes view d vs seen)
+      (ap (option_map BadProcess) h))
 
   -- and without one there is none
   pub processes_judged : length vs ≤ MAX_PROCESSES → bad_process ≡ None → first_of (holds d) (process_faults d) ≡ None
   processes_judged few h =
       few_only None few
-      (first_later (holds d) (each_process d BadProcess) [] _ None (bad_processes view d vs seen) (ap (option_map BadProcess) h) refl)
+      (first_later (holds d) (each_process d BadProcess) [] _ None (bad_processes view d vs seen)
+      (ap (option_map BadProcess) h) refl)
 
 -- ---- names of processes
 
 -- the names of the processes that are read are those of the dump
-pub names_seen : (d : Data) (es : List declared.Entry) → map entry_view es ≡ entries d → map (λ e. (entry_view e).name) es ≡ names d
+pub names_seen : (d : Data) (es : List declared.Entry) → map entry_view es ≡ entries d
+    → map (λ e. (entry_view e).name) es ≡ names d
 names_seen d es seen = map-map (λ e. e.name) entry_view es ∙ ap (map (λ e. e.name)) seen
 
 -- a repeated name is the first fault of the names
-pub name_repeated : (d : Data) (ns : List (List ℕ)) (i : ℕ) → ns ≡ names d → IsFirstRepeat ns i → first_of (holds d) (name_faults d) ≡ Some (RepeatedProcess i)
+pub name_repeated : (d : Data) (ns : List (List ℕ)) (i : ℕ) → ns ≡ names d → IsFirstRepeat ns i
+    → first_of (holds d) (name_faults d) ≡ Some (RepeatedProcess i)
 name_repeated d ns i seen r =
-    first_here (holds d) (each_process d RepeatedProcess) [] _ (RepeatedProcess i) (repeated_process d i (subst (λ (ms : List (List ℕ)). IsFirstRepeat ms i) seen r)) refl
+    first_here (holds d) (each_process d RepeatedProcess) [] _ (RepeatedProcess i)
+    (repeated_process d i (subst (λ (ms : List (List ℕ)). IsFirstRepeat ms i) seen r)) refl
 
 -- names that are apart have none
-pub names_judged : (d : Data) (ns : List (List ℕ)) → ns ≡ names d → AreApart ns → first_of (holds d) (name_faults d) ≡ None
+pub names_judged : (d : Data) (ns : List (List ℕ)) → ns ≡ names d → AreApart ns
+    → first_of (holds d) (name_faults d) ≡ None
 names_judged d ns seen apart =
-    first_later (holds d) (each_process d RepeatedProcess) [] _ None (names_apart d (subst AreApart seen apart)) refl refl
+    first_later (holds d) (each_process d RepeatedProcess) [] _ None (names_apart d (subst AreApart seen apart)) refl
+    refl
 
 -- ---- processes beside the sites and one another
 
-module _ (d : Data) (es : List declared.Entry) (seen : map entry_view es ≡ entries d) (site_names process_names : List (List ℕ)) (are_sites : site_names ≡ sites d) (are_names : process_names ≡ names d) where
+module _ (d : Data) (es : List declared.Entry) (seen : map entry_view es ≡ entries d)
+    (site_names process_names : List (List ℕ)) (are_sites : site_names ≡ sites d)
+    (are_names : process_names ≡ names d) where
   -- what the searches answer, in their order
   abbrev unknown_site : Option ℕ
   unknown_site = position (λ e. not (is_among site_names e.site.now)) es
@@ -141,65 +172,88 @@ module _ (d : Data) (es : List declared.Entry) (seen : map entry_view es ≡ ent
   -- an unknown site is the first fault
   pub site_unknown : (i : ℕ) → unknown_site ≡ Some i → first_of (holds d) (entry_faults d) ≡ Some (UnknownSite i)
   site_unknown i h =
-      first_here (holds d) (each_process d UnknownSite) from_dependents _ (UnknownSite i) (unknown_sites d es seen site_names are_sites) (ap (option_map UnknownSite) h)
+      first_here (holds d) (each_process d UnknownSite) from_dependents _ (UnknownSite i)
+      (unknown_sites d es seen site_names are_sites) (ap (option_map UnknownSite) h)
 
   -- where all sites are known, the other kinds decide
-  sites_known : (r : Option DumpFault) → unknown_site ≡ None → first_of (holds d) from_dependents ≡ r → first_of (holds d) (entry_faults d) ≡ r
+  sites_known : (r : Option DumpFault) → unknown_site ≡ None → first_of (holds d) from_dependents ≡ r
+      → first_of (holds d) (entry_faults d) ≡ r
   sites_known r h later =
-      first_later (holds d) (each_process d UnknownSite) from_dependents _ r (unknown_sites d es seen site_names are_sites) (ap (option_map UnknownSite) h) later
+      first_later (holds d) (each_process d UnknownSite) from_dependents _ r
+      (unknown_sites d es seen site_names are_sites) (ap (option_map UnknownSite) h) later
 
   -- then an unknown dependent is the first
-  pub dependent_unknown : (i j : ℕ) → unknown_site ≡ None → unknown_dependent ≡ Some (i, j) → first_of (holds d) (entry_faults d) ≡ Some (UnknownDependent i j)
+  pub dependent_unknown : (i j : ℕ) → unknown_site ≡ None → unknown_dependent ≡ Some (i, j)
+      → first_of (holds d) (entry_faults d) ≡ Some (UnknownDependent i j)
   dependent_unknown i j h k =
       sites_known (Some (UnknownDependent i j)) h
-      (first_here (holds d) (each_dependent d UnknownDependent) from_repeats _ (UnknownDependent i j) (unknown_dependents d es seen process_names are_names) (ap (option_map (λ p. UnknownDependent p.0 p.1)) k))
+      (first_here (holds d) (each_dependent d UnknownDependent) from_repeats _ (UnknownDependent i j)
+      (unknown_dependents d es seen process_names are_names) (ap (option_map (λ p. UnknownDependent p.0 p.1)) k))
 
   -- where all dependents are known too, the kinds after them decide
-  dependents_known : (r : Option DumpFault) → unknown_site ≡ None → unknown_dependent ≡ None → first_of (holds d) from_repeats ≡ r → first_of (holds d) (entry_faults d) ≡ r
+  dependents_known : (r : Option DumpFault) → unknown_site ≡ None → unknown_dependent ≡ None
+      → first_of (holds d) from_repeats ≡ r → first_of (holds d) (entry_faults d) ≡ r
   dependents_known r h k later =
       sites_known r h
-      (first_later (holds d) (each_dependent d UnknownDependent) from_repeats _ r (unknown_dependents d es seen process_names are_names) (ap (option_map (λ p. UnknownDependent p.0 p.1)) k) later)
+      (first_later (holds d) (each_dependent d UnknownDependent) from_repeats _ r
+      (unknown_dependents d es seen process_names are_names) (ap (option_map (λ p. UnknownDependent p.0 p.1)) k)
+      later)
 
   -- then a repeated dependent is the first
-  pub dependent_repeated : (i j : ℕ) → unknown_site ≡ None → unknown_dependent ≡ None → repeated_dependent ≡ Some (i, j) → first_of (holds d) (entry_faults d) ≡ Some (RepeatedDependent i j)
+  pub dependent_repeated : (i j : ℕ) → unknown_site ≡ None → unknown_dependent ≡ None → repeated_dependent ≡ Some (i, j)
+      → first_of (holds d) (entry_faults d) ≡ Some (RepeatedDependent i j)
   dependent_repeated i j h k l =
       dependents_known (Some (RepeatedDependent i j)) h k
-      (first_here (holds d) (each_dependent d RepeatedDependent) from_active _ (RepeatedDependent i j) (repeated_dependents d es seen) (ap (option_map (λ p. RepeatedDependent p.0 p.1)) l))
+      (first_here (holds d) (each_dependent d RepeatedDependent) from_active _ (RepeatedDependent i j)
+      (repeated_dependents d es seen) (ap (option_map (λ p. RepeatedDependent p.0 p.1)) l))
 
   -- where none repeats either, the kinds after that decide
-  dependents_apart : (r : Option DumpFault) → unknown_site ≡ None → unknown_dependent ≡ None → repeated_dependent ≡ None → first_of (holds d) from_active ≡ r → first_of (holds d) (entry_faults d) ≡ r
+  dependents_apart : (r : Option DumpFault) → unknown_site ≡ None → unknown_dependent ≡ None → repeated_dependent ≡ None
+      → first_of (holds d) from_active ≡ r → first_of (holds d) (entry_faults d) ≡ r
   dependents_apart r h k l later =
       dependents_known r h k
-      (first_later (holds d) (each_dependent d RepeatedDependent) from_active _ r (repeated_dependents d es seen) (ap (option_map (λ p. RepeatedDependent p.0 p.1)) l) later)
+      (first_later (holds d) (each_dependent d RepeatedDependent) from_active _ r (repeated_dependents d es seen)
+      (ap (option_map (λ p. RepeatedDependent p.0 p.1)) l) later)
 
   -- then an active process with dependents is the first
-  pub active_waits : (i : ℕ) → unknown_site ≡ None → unknown_dependent ≡ None → repeated_dependent ≡ None → active ≡ Some i → first_of (holds d) (entry_faults d) ≡ Some (ActiveWithDependents i)
+  pub active_waits : (i : ℕ) → unknown_site ≡ None → unknown_dependent ≡ None → repeated_dependent ≡ None
+      → active ≡ Some i → first_of (holds d) (entry_faults d) ≡ Some (ActiveWithDependents i)
   active_waits i h k l m =
       dependents_apart (Some (ActiveWithDependents i)) h k l
-      (first_here (holds d) (each_process d ActiveWithDependents) from_total _ (ActiveWithDependents i) (active_with_dependents d es seen) (ap (option_map ActiveWithDependents) m))
+      (first_here (holds d) (each_process d ActiveWithDependents) from_total _ (ActiveWithDependents i)
+      (active_with_dependents d es seen) (ap (option_map ActiveWithDependents) m))
 
   -- where there is none, the total decides
-  entries_but_total : (b : Bool) → unknown_site ≡ None → unknown_dependent ≡ None → repeated_dependent ≡ None → active ≡ None → nat_lt MAX_DEPENDENCIES total ≡ b → first_of (holds d) (entry_faults d) ≡ cond b (Some TooManyDependencies) None
+  entries_but_total : (b : Bool) → unknown_site ≡ None → unknown_dependent ≡ None → repeated_dependent ≡ None
+      → active ≡ None → nat_lt MAX_DEPENDENCIES total ≡ b
+      → first_of (holds d) (entry_faults d) ≡ cond b (Some TooManyDependencies) None
   entries_but_total b h k l m t =
       dependents_apart (cond b (Some TooManyDependencies) None) h k l
-      (first_later (holds d) (each_process d ActiveWithDependents) from_total _ (cond b (Some TooManyDependencies) None) (active_with_dependents d es seen) (ap (option_map ActiveWithDependents) m)
-      (by b (alone (holds d) TooManyDependencies b (ap (nat_lt MAX_DEPENDENCIES) (sym (dependent_total_is d es seen)) ∙ t))))
+      (first_later (holds d) (each_process d ActiveWithDependents) from_total _ (cond b (Some TooManyDependencies) None)
+      (active_with_dependents d es seen) (ap (option_map ActiveWithDependents) m)
+      (by b
+      (alone (holds d) TooManyDependencies b
+      (ap (nat_lt MAX_DEPENDENCIES) (sym (dependent_total_is d es seen)) ∙ t))))
     where
-      by : (b : Bool) → find (holds d) (TooManyDependencies ∷ []) ≡ cond b (Some TooManyDependencies) None → first_of (holds d) from_total ≡ cond b (Some TooManyDependencies) None
+      by : (b : Bool) → find (holds d) (TooManyDependencies ∷ []) ≡ cond b (Some TooManyDependencies) None
+          → first_of (holds d) from_total ≡ cond b (Some TooManyDependencies) None
       by true e = first_here (holds d) (TooManyDependencies ∷ []) [] _ TooManyDependencies e refl
       by false e = first_later (holds d) (TooManyDependencies ∷ []) [] _ None e refl refl
 
   -- too large a total is then the first fault
-  pub dependencies_many : unknown_site ≡ None → unknown_dependent ≡ None → repeated_dependent ≡ None → active ≡ None → nat_lt MAX_DEPENDENCIES total ≡ true → first_of (holds d) (entry_faults d) ≡ Some TooManyDependencies
+  pub dependencies_many : unknown_site ≡ None → unknown_dependent ≡ None → repeated_dependent ≡ None → active ≡ None
+      → nat_lt MAX_DEPENDENCIES total ≡ true → first_of (holds d) (entry_faults d) ≡ Some TooManyDependencies
   dependencies_many h k l m t = entries_but_total true h k l m t
 
   -- and a total within the limit leaves none
-  pub entries_judged : unknown_site ≡ None → unknown_dependent ≡ None → repeated_dependent ≡ None → active ≡ None → nat_lt MAX_DEPENDENCIES total ≡ false → first_of (holds d) (entry_faults d) ≡ None
+  pub entries_judged : unknown_site ≡ None → unknown_dependent ≡ None → repeated_dependent ≡ None → active ≡ None
+      → nat_lt MAX_DEPENDENCIES total ≡ false → first_of (holds d) (entry_faults d) ≡ None
   entries_judged h k l m t = entries_but_total false h k l m t
 
 -- ---- messages in transit
 
-module _ {V : Type 0} (view : V → Data) (d : Data) (vs : List V) (seen : map view vs ≡ transits d) (process_names : List (List ℕ)) (are_names : process_names ≡ names d) where
+module _ {V : Type 0} (view : V → Data) (d : Data) (vs : List V) (seen : map view vs ≡ transits d)
+    (process_names : List (List ℕ)) (are_names : process_names ≡ names d) where
   -- what the searches answer
   abbrev bad_pair : Option ℕ
   bad_pair = position (λ v. not (is_pair (view v))) vs
@@ -208,29 +262,41 @@ module _ {V : Type 0} (view : V → Data) (d : Data) (vs : List V) (seen : map v
   unknown_pair = position (λ v. not (list_all (is_among process_names) (texts_of (view v)))) vs
 
   -- where they are few enough, the other kinds decide
-  few_transits : (r : Option DumpFault) → length vs ≤ MAX_IN_TRANSIT → first_of (holds d) (each_transit d BadInTransit ∷ each_transit d UnknownInTransit ∷ []) ≡ r → first_of (holds d) (transit_faults d) ≡ r
+  few_transits : (r : Option DumpFault) → length vs ≤ MAX_IN_TRANSIT
+      → first_of (holds d) (each_transit d BadInTransit ∷ each_transit d UnknownInTransit ∷ []) ≡ r
+      → first_of (holds d) (transit_faults d) ≡ r
   few_transits r few later =
-      first_later (holds d) (TooManyInTransit ∷ []) (each_transit d BadInTransit ∷ each_transit d UnknownInTransit ∷ []) _ r (alone (holds d) TooManyInTransit false (within view vs (transits d) MAX_IN_TRANSIT seen few)) refl later
+      first_later (holds d) (TooManyInTransit ∷ []) (each_transit d BadInTransit ∷ each_transit d UnknownInTransit ∷ [])
+      _ r (alone (holds d) TooManyInTransit false (within view vs (transits d) MAX_IN_TRANSIT seen few)) refl later
 
   -- then one that is no pair is the first
-  pub transit_bad : (i : ℕ) → length vs ≤ MAX_IN_TRANSIT → bad_pair ≡ Some i → first_of (holds d) (transit_faults d) ≡ Some (BadInTransit i)
+  pub transit_bad : (i : ℕ) → length vs ≤ MAX_IN_TRANSIT → bad_pair ≡ Some i
+      → first_of (holds d) (transit_faults d) ≡ Some (BadInTransit i)
   transit_bad i few h =
       few_transits (Some (BadInTransit i)) few
-      (first_here (holds d) (each_transit d BadInTransit) (each_transit d UnknownInTransit ∷ []) _ (BadInTransit i) (bad_transits view d vs seen) (ap (option_map BadInTransit) h))
+      (first_here (holds d) (each_transit d BadInTransit) (each_transit d UnknownInTransit ∷ []) _ (BadInTransit i)
+      (bad_transits view d vs seen) (ap (option_map BadInTransit) h))
 
   -- where all are pairs, the last kind decides
-  pairs_only : (r : Option DumpFault) → length vs ≤ MAX_IN_TRANSIT → bad_pair ≡ None → first_of (holds d) (each_transit d UnknownInTransit ∷ []) ≡ r → first_of (holds d) (transit_faults d) ≡ r
+  pairs_only : (r : Option DumpFault) → length vs ≤ MAX_IN_TRANSIT → bad_pair ≡ None
+      → first_of (holds d) (each_transit d UnknownInTransit ∷ []) ≡ r → first_of (holds d) (transit_faults d) ≡ r
   pairs_only r few h later =
-      few_transits r few (first_later (holds d) (each_transit d BadInTransit) (each_transit d UnknownInTransit ∷ []) _ r (bad_transits view d vs seen) (ap (option_map BadInTransit) h) later)
+      few_transits r few
+      (first_later (holds d) (each_transit d BadInTransit) (each_transit d UnknownInTransit ∷ []) _ r
+      (bad_transits view d vs seen) (ap (option_map BadInTransit) h) later)
 
   -- then one with an unknown name is the first
-  pub transit_unknown : (i : ℕ) → length vs ≤ MAX_IN_TRANSIT → bad_pair ≡ None → unknown_pair ≡ Some i → first_of (holds d) (transit_faults d) ≡ Some (UnknownInTransit i)
+  pub transit_unknown : (i : ℕ) → length vs ≤ MAX_IN_TRANSIT → bad_pair ≡ None → unknown_pair ≡ Some i
+      → first_of (holds d) (transit_faults d) ≡ Some (UnknownInTransit i)
   transit_unknown i few h k =
       pairs_only (Some (UnknownInTransit i)) few h
-      (first_here (holds d) (each_transit d UnknownInTransit) [] _ (UnknownInTransit i) (unknown_transits view d vs process_names seen are_names) (ap (option_map UnknownInTransit) k))
+      (first_here (holds d) (each_transit d UnknownInTransit) [] _ (UnknownInTransit i)
+      (unknown_transits view d vs process_names seen are_names) (ap (option_map UnknownInTransit) k))
 
   -- and without one there is none
-  pub transits_judged : length vs ≤ MAX_IN_TRANSIT → bad_pair ≡ None → unknown_pair ≡ None → first_of (holds d) (transit_faults d) ≡ None
+  pub transits_judged : length vs ≤ MAX_IN_TRANSIT → bad_pair ≡ None → unknown_pair ≡ None
+      → first_of (holds d) (transit_faults d) ≡ None
   transits_judged few h k =
       pairs_only None few h
-      (first_later (holds d) (each_transit d UnknownInTransit) [] _ None (unknown_transits view d vs process_names seen are_names) (ap (option_map UnknownInTransit) k) refl)
+      (first_later (holds d) (each_transit d UnknownInTransit) [] _ None
+      (unknown_transits view d vs process_names seen are_names) (ap (option_map UnknownInTransit) k) refl)

@@ -25,7 +25,8 @@ below-range (suc n) =
     ap (λ ns. ns ++ n ∷ []) (below-range n) ∙ ap (λ b. range_with_len 0 n ++ b ∷ []) start ∙ sym (range-last 0 n)
 
 -- the element at a place, in the list that another one is seen as
-pub get-map : {Y Z : Type 0} (f : Y → Z) (ys : List Y) (k : ℕ) (y : Y) → slice_get ys k ≡ Some y → slice_get (map f ys) k ≡ Some (f y)
+pub get-map : {Y Z : Type 0} (f : Y → Z) (ys : List Y) (k : ℕ) (y : Y) → slice_get ys k ≡ Some y
+    → slice_get (map f ys) k ≡ Some (f y)
 get-map f [] k y e = absurd cc
 get-map f (x ∷ xs) zero y e = ap (option_map f) e
 get-map f (x ∷ xs) (suc k) y e = get-map f xs k y e
@@ -34,30 +35,39 @@ get-map f (x ∷ xs) (suc k) y e = get-map f xs k y e
 
 module _ {X : Type 0} (test : X → Bool) where
   -- one step of two searches that go together
-  one_by : (b c : Bool) (x : X) (F : ℕ → X) (a : ℕ) (o : Option ℕ) (r : Option X) → b ≡ c → x ≡ F a → r ≡ option_map F o → cond b (Some x) r ≡ option_map F (cond c (Some a) o)
+  one_by : (b c : Bool) (x : X) (F : ℕ → X) (a : ℕ) (o : Option ℕ) (r : Option X) → b ≡ c → x ≡ F a → r ≡ option_map F o
+      → cond b (Some x) r ≡ option_map F (cond c (Some a) o)
   one_by true true x F a o r e s h = ap Some s
   one_by true false x F a o r e s h = absurd cc
   one_by false true x F a o r e s h = absurd cc
   one_by false false x F a o r e s h = h
 
   -- faults by number, from a on, are searched as the list is
-  each_from : {Y : Type 0} (F : ℕ → X) (bad : Y → Bool) (ys : List Y) (a : ℕ) → ((k : ℕ) (y : Y) → slice_get ys k ≡ Some y → test (F (a + k)) ≡ bad y) → find test (map F (range_with_len a (length ys))) ≡ option_map F (position_from bad a ys)
+  each_from : {Y : Type 0} (F : ℕ → X) (bad : Y → Bool) (ys : List Y) (a : ℕ)
+      → ((k : ℕ) (y : Y) → slice_get ys k ≡ Some y → test (F (a + k)) ≡ bad y)
+      → find test (map F (range_with_len a (length ys))) ≡ option_map F (position_from bad a ys)
   each_from F bad [] a h = refl
   each_from F bad (y ∷ ys) a h =
       let here : a ≡ a + 0 = omega arith in
-      one_by (test (F a)) (bad y) (F a) F a (position_from bad (a + 1) ys) (find test (map F (range_with_len (a + 1) (length ys))))
+      one_by (test (F a)) (bad y) (F a) F a (position_from bad (a + 1) ys)
+      (find test (map F (range_with_len (a + 1) (length ys))))
       (ap (λ b. test (F b)) here ∙ h 0 y refl) refl
-      (each_from F bad ys (a + 1) (λ k z e. let next : a + 1 + k ≡ a + suc k = omega arith in ap (λ b. test (F b)) next ∙ h (suc k) z e))
+      (each_from F bad ys (a + 1)
+      (λ k z e. let next : a + 1 + k ≡ a + suc k = omega arith in ap (λ b. test (F b)) next ∙ h (suc k) z e))
 
   -- the first fault of a kind stands where the list is first bad
-  each_position : {Y : Type 0} (F : ℕ → X) (bad : Y → Bool) (ys : List Y) → ((k : ℕ) (y : Y) → slice_get ys k ≡ Some y → test (F k) ≡ bad y) → find test (map F (below (length ys))) ≡ option_map F (position bad ys)
+  each_position : {Y : Type 0} (F : ℕ → X) (bad : Y → Bool) (ys : List Y)
+      → ((k : ℕ) (y : Y) → slice_get ys k ≡ Some y → test (F k) ≡ bad y)
+      → find test (map F (below (length ys))) ≡ option_map F (position bad ys)
   each_position F bad ys h =
       ap (λ ns. find test (map F ns)) (below-range (length ys))
       ∙ each_from F bad ys 0 (λ k y e. let start : 0 + k ≡ k = omega arith in ap (λ b. test (F b)) start ∙ h k y e)
       ∙ ap (option_map F) (sym (position_from-zero bad ys))
 
   -- the same, where the list that is searched is seen as another one
-  pub each_seen : {Y Z : Type 0} (F : ℕ → X) (f : Y → Z) (bad : Z → Bool) (ys : List Y) (n : ℕ) → n ≡ length ys → ((k : ℕ) (z : Z) → slice_get (map f ys) k ≡ Some z → test (F k) ≡ bad z) → find test (map F (below n)) ≡ option_map F (position (λ y. bad (f y)) ys)
+  pub each_seen : {Y Z : Type 0} (F : ℕ → X) (f : Y → Z) (bad : Z → Bool) (ys : List Y) (n : ℕ) → n ≡ length ys
+      → ((k : ℕ) (z : Z) → slice_get (map f ys) k ≡ Some z → test (F k) ≡ bad z)
+      → find test (map F (below n)) ≡ option_map F (position (λ y. bad (f y)) ys)
   each_seen F f bad ys n size h =
       ap (λ m. find test (map F (below m))) size
       ∙ each_position F (λ y. bad (f y)) ys (λ k y e. h k (f y) (get-map f ys k y e))
@@ -65,32 +75,46 @@ module _ {X : Type 0} (test : X → Bool) where
   -- ---- two indices
 
   -- the first of a row, or of later rows, by two numbers
-  pair_by : (F : ℕ → ℕ → X) (a : ℕ) (o : Option ℕ) (later : Option (ℕ × ℕ)) → option_or (option_map (F a) o) (option_map (λ p. F p.0 p.1) later) ≡ option_map (λ p. F p.0 p.1) (option_or (option_map (λ j. (a, j)) o) later)
+  pair_by : (F : ℕ → ℕ → X) (a : ℕ) (o : Option ℕ) (later : Option (ℕ × ℕ))
+      → option_or (option_map (F a) o) (option_map (λ p. F p.0 p.1) later)
+      ≡ option_map (λ p. F p.0 p.1) (option_or (option_map (λ j. (a, j)) o) later)
   pair_by F a None later = refl
   pair_by F a (Some j) later = refl
 
   -- faults by two numbers, from row a on, are searched row by row
-  pairs_from : {Y : Type 0} (F : ℕ → ℕ → X) (row : ℕ → List X) (search : Y → Option ℕ) (ys : List Y) (a : ℕ) → ((k : ℕ) (y : Y) → slice_get ys k ≡ Some y → find test (row (a + k)) ≡ option_map (F (a + k)) (search y)) → find test (flat_map row (range_with_len a (length ys))) ≡ option_map (λ p. F p.0 p.1) (first_pair search a ys)
+  pairs_from : {Y : Type 0} (F : ℕ → ℕ → X) (row : ℕ → List X) (search : Y → Option ℕ) (ys : List Y) (a : ℕ)
+      → ((k : ℕ) (y : Y) → slice_get ys k ≡ Some y → find test (row (a + k)) ≡ option_map (F (a + k)) (search y))
+      → find test (flat_map row (range_with_len a (length ys))) ≡ option_map (λ p. F p.0 p.1) (first_pair search a ys)
   pairs_from F row search [] a h = refl
   pairs_from F row search (y ∷ ys) a h =
       let here : a ≡ a + 0 = omega arith in
       find-append test (row a) (flat_map row (range_with_len (a + 1) (length ys)))
-      ∙ ap (λ o. option_or o (find test (flat_map row (range_with_len (a + 1) (length ys))))) (ap (λ b. find test (row b)) here ∙ h 0 y refl ∙ ap (λ b. option_map (F b) (search y)) (sym here))
-      ∙ ap (option_or (option_map (F a) (search y))) (pairs_from F row search ys (a + 1) (λ k z e. let next : a + 1 + k ≡ a + suc k = omega arith in ap (λ b. find test (row b)) next ∙ h (suc k) z e ∙ ap (λ b. option_map (F b) (search z)) (sym next)))
+      ∙ ap (λ o. option_or o (find test (flat_map row (range_with_len (a + 1) (length ys)))))
+      (ap (λ b. find test (row b)) here ∙ h 0 y refl ∙ ap (λ b. option_map (F b) (search y)) (sym here))
+      ∙ ap (option_or (option_map (F a) (search y)))
+      (pairs_from F row search ys (a + 1)
+      (λ k z e. let next : a + 1 + k ≡ a + suc k = omega arith in
+      ap (λ b. find test (row b)) next ∙ h (suc k) z e ∙ ap (λ b. option_map (F b) (search z)) (sym next)))
       ∙ pair_by F a (search y) (first_pair search (a + 1) ys)
 
   -- the first of faults that go by two indices
-  pub pairs_seen : {Y : Type 0} (F : ℕ → ℕ → X) (row : ℕ → List X) (search : Y → Option ℕ) (ys : List Y) (n : ℕ) → n ≡ length ys → ((k : ℕ) (y : Y) → slice_get ys k ≡ Some y → find test (row k) ≡ option_map (F k) (search y)) → find test (flat_map row (below n)) ≡ option_map (λ p. F p.0 p.1) (first_pair search 0 ys)
+  pub pairs_seen : {Y : Type 0} (F : ℕ → ℕ → X) (row : ℕ → List X) (search : Y → Option ℕ) (ys : List Y) (n : ℕ)
+      → n ≡ length ys → ((k : ℕ) (y : Y) → slice_get ys k ≡ Some y → find test (row k) ≡ option_map (F k) (search y))
+      → find test (flat_map row (below n)) ≡ option_map (λ p. F p.0 p.1) (first_pair search 0 ys)
   pairs_seen F row search ys n size h =
       ap (λ m. find test (flat_map row (below m))) size
       ∙ ap (λ ns. find test (flat_map row ns)) (below-range (length ys))
-      ∙ pairs_from F row search ys 0 (λ k y e. let start : 0 + k ≡ k = omega arith in ap (λ b. find test (row b)) start ∙ h k y e ∙ ap (λ b. option_map (F b) (search y)) (sym start))
+      ∙ pairs_from F row search ys 0
+      (λ k y e. let start : 0 + k ≡ k = omega arith in
+      ap (λ b. find test (row b)) start ∙ h k y e ∙ ap (λ b. option_map (F b) (search y)) (sym start))
 
   -- a search of a list that is made by a function
-  pub find-map : {Y : Type 0} (f : Y → X) (ys : List Y) → find test (map f ys) ≡ option_map f (find (λ y. test (f y)) ys)
+  pub find-map : {Y : Type 0} (f : Y → X) (ys : List Y)
+      → find test (map f ys) ≡ option_map f (find (λ y. test (f y)) ys)
   find-map f [] = refl
   find-map f (y ∷ ys) = by (test (f y)) (find-map f ys)
     where
-      by : (b : Bool) → find test (map f ys) ≡ option_map f (find (λ z. test (f z)) ys) → cond b (Some (f y)) (find test (map f ys)) ≡ option_map f (cond b (Some y) (find (λ z. test (f z)) ys))
+      by : (b : Bool) → find test (map f ys) ≡ option_map f (find (λ z. test (f z)) ys)
+          → cond b (Some (f y)) (find test (map f ys)) ≡ option_map f (cond b (Some y) (find (λ z. test (f z)) ys))
       by true h = refl
       by false h = h

@@ -46,26 +46,36 @@ process n =
 
 -- Where a kind of many faults is the first that holds, and its fault 0 does, the rest of the kind
 -- needn't be written out.
-module _ (d : Data) (top : first_of (holds d) (top_faults d) ≡ None) (apart : first_of (holds d) (site_faults d) ≡ None) where
+module _ (d : Data) (top : first_of (holds d) (top_faults d) ≡ None)
+    (apart : first_of (holds d) (site_faults d) ≡ None) where
   -- fault 0 of a kind is its first
-  first_of_kind : (F : ℕ → DumpFault) (n : ℕ) → 0 < n → holds d (F 0) ≡ true → find (holds d) (map F (below n)) ≡ Some (F 0)
+  first_of_kind : (F : ℕ → DumpFault) (n : ℕ) → 0 < n → holds d (F 0) ≡ true
+      → find (holds d) (map F (below n)) ≡ Some (F 0)
   first_of_kind F n l h = found_at (holds d) F n 0 l (λ k before. absurd (omega arith)) h
 
   -- the first process is what is wrong
-  first_process_bad : holds d TooManyProcesses ≡ false → 0 < length (processes d) → holds d (BadProcess 0) ≡ true → dump_of_tree d ≡ Err (BadProcess 0)
+  first_process_bad : holds d TooManyProcesses ≡ false → 0 < length (processes d) → holds d (BadProcess 0) ≡ true
+      → dump_of_tree d ≡ Err (BadProcess 0)
   first_process_bad few l h =
-      let bad = first_later (holds d) (TooManyProcesses ∷ []) (each_process d BadProcess ∷ []) _ _ (alone (holds d) TooManyProcesses false few) refl
-      (first_here (holds d) (each_process d BadProcess) [] _ (BadProcess 0) (first_of_kind BadProcess (length (processes d)) l h) refl) in
+      let bad =
+      first_later (holds d) (TooManyProcesses ∷ []) (each_process d BadProcess ∷ []) _ _
+      (alone (holds d) TooManyProcesses false few) refl
+      (first_here (holds d) (each_process d BadProcess) [] _ (BadProcess 0)
+      (first_of_kind BadProcess (length (processes d)) l h) refl) in
       refused d (BadProcess 0)
-      (refused_past_sites d (BadProcess 0) top apart (refused_here d (process_faults d) (faults_from_names d) (BadProcess 0) (λ m. bad)))
+      (refused_past_sites d (BadProcess 0) top apart
+      (refused_here d (process_faults d) (faults_from_names d) (BadProcess 0) (λ m. bad)))
       (λ m. cc)
 
   -- the first message is what is wrong
-  first_message_bad : first_of (holds d) (process_faults d) ≡ None → first_of (holds d) (name_faults d) ≡ None → first_of (holds d) (entry_faults d) ≡ None → holds d TooManyInTransit ≡ false → 0 < length (transits d) → holds d (BadInTransit 0) ≡ true → dump_of_tree d ≡ Err (BadInTransit 0)
+  first_message_bad : first_of (holds d) (process_faults d) ≡ None → first_of (holds d) (name_faults d) ≡ None
+      → first_of (holds d) (entry_faults d) ≡ None → holds d TooManyInTransit ≡ false → 0 < length (transits d)
+      → holds d (BadInTransit 0) ≡ true → dump_of_tree d ≡ Err (BadInTransit 0)
   first_message_bad p n e few l h =
       let rest = each_transit d BadInTransit ∷ each_transit d UnknownInTransit ∷ [] in
       let bad = first_later (holds d) (TooManyInTransit ∷ []) rest _ _ (alone (holds d) TooManyInTransit false few) refl
-      (first_here (holds d) (each_transit d BadInTransit) (each_transit d UnknownInTransit ∷ []) _ (BadInTransit 0) (first_of_kind BadInTransit (length (transits d)) l h) refl) in
+      (first_here (holds d) (each_transit d BadInTransit) (each_transit d UnknownInTransit ∷ []) _ (BadInTransit 0)
+      (first_of_kind BadInTransit (length (transits d)) l h) refl) in
       refused d (BadInTransit 0)
       (refused_past_sites d (BadInTransit 0) top apart
       (refused_later d (process_faults d) (faults_from_names d) (BadInTransit 0) p
@@ -91,11 +101,13 @@ unfolding dump_of_tree
 too_many_processes = refl
 
 -- 65,536 dependents together are not too many
-most_dependencies : holds (tree no_items (item (process 32768) (item (process 32768) no_items))) TooManyDependencies ≡ false
+most_dependencies : holds (tree no_items (item (process 32768) (item (process 32768) no_items))) TooManyDependencies
+    ≡ false
 most_dependencies = refl
 
 -- 65,537 are
-too_many_dependencies : holds (tree no_items (item (process 32768) (item (process 32769) no_items))) TooManyDependencies ≡ true
+too_many_dependencies : holds (tree no_items (item (process 32768) (item (process 32769) no_items))) TooManyDependencies
+    ≡ true
 too_many_dependencies = refl
 
 -- 4,096 messages are judged one by one

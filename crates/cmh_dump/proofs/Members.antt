@@ -49,18 +49,23 @@ among_at x (xs ∷ rest) (suc k) m = inr (among_at x rest k m)
 -- f at a number below n is an element of the list of these
 pub among_below : {X : Type 0} (f : ℕ → X) (n i : ℕ) → i < n → Among (f i) (map f (below n))
 among_below f zero i l = absurd (omega arith)
-among_below f (suc n) i l = subst (Among (f i)) (sym (map-append f (below n) (n ∷ []))) (by (cases_lt i n) (among_below f n i))
+among_below f (suc n) i l =
+    subst (Among (f i)) (sym (map-append f (below n) (n ∷ []))) (by (cases_lt i n) (among_below f n i))
   where
     by : (i < n) ⊎ (n ≤ i) → (i < n → Among (f i) (map f (below n))) → Among (f i) (map f (below n) ++ f n ∷ [])
     by (inl m) h = among_left (f i) (map f (below n)) (f n ∷ []) (h m)
     by (inr m) h = let e : i ≡ n = omega arith in among_right (f i) (map f (below n)) (f n ∷ []) (inl (ap f e))
 
 -- and that list has no other elements
-pub among_below_is : {X : Type 0} (f : ℕ → X) (n : ℕ) (x : X) → Among x (map f (below n)) → (i : ℕ) × (i < n) × (x ≡ f i)
+pub among_below_is : {X : Type 0} (f : ℕ → X) (n : ℕ) (x : X) → Among x (map f (below n))
+    → (i : ℕ) × (i < n) × (x ≡ f i)
 among_below_is f zero x m = absurd m
-among_below_is f (suc n) x m = by (among_cases x (map f (below n)) (f n ∷ []) (subst (Among x) (map-append f (below n) (n ∷ [])) m)) (among_below_is f n x)
+among_below_is f (suc n) x m =
+    by (among_cases x (map f (below n)) (f n ∷ []) (subst (Among x) (map-append f (below n) (n ∷ [])) m))
+    (among_below_is f n x)
   where
-    by : Among x (map f (below n)) ⊎ Among x (f n ∷ []) → (Among x (map f (below n)) → (i : ℕ) × (i < n) × (x ≡ f i)) → (i : ℕ) × (i < suc n) × (x ≡ f i)
+    by : Among x (map f (below n)) ⊎ Among x (f n ∷ []) → (Among x (map f (below n)) → (i : ℕ) × (i < n) × (x ≡ f i))
+        → (i : ℕ) × (i < suc n) × (x ≡ f i)
     by (inl l) h = let r = h l in (r.0, omega (arith, r.1), r.2)
     by (inr l) h = (n, omega arith, among_one x (f n) l)
 
@@ -71,11 +76,15 @@ abbrev pub row : {X : Type 0} → (ℕ → ℕ → X) → (ℕ → ℕ) → ℕ 
 row f m i = map (f i) (below (m i))
 
 -- f at two such numbers is an element of the list of these
-pub among_rows : {X : Type 0} (f : ℕ → ℕ → X) (m : ℕ → ℕ) (n i j : ℕ) → i < n → j < m i → Among (f i j) (flat_map (row f m) (below n))
+pub among_rows : {X : Type 0} (f : ℕ → ℕ → X) (m : ℕ → ℕ) (n i j : ℕ) → i < n → j < m i
+    → Among (f i j) (flat_map (row f m) (below n))
 among_rows f m zero i j l h = absurd (omega arith)
-among_rows f m (suc n) i j l h = subst (Among (f i j)) (sym (flat_map-append (row f m) (below n) (n ∷ []))) (by (cases_lt i n) (λ k. among_rows f m n i j k h))
+among_rows f m (suc n) i j l h =
+    subst (Among (f i j)) (sym (flat_map-append (row f m) (below n) (n ∷ [])))
+    (by (cases_lt i n) (λ k. among_rows f m n i j k h))
   where
-    by : (i < n) ⊎ (n ≤ i) → (i < n → Among (f i j) (flat_map (row f m) (below n))) → Among (f i j) (flat_map (row f m) (below n) ++ (row f m n ++ []))
+    by : (i < n) ⊎ (n ≤ i) → (i < n → Among (f i j) (flat_map (row f m) (below n)))
+        → Among (f i j) (flat_map (row f m) (below n) ++ (row f m n ++ []))
     by (inl k) r = among_left (f i j) (flat_map (row f m) (below n)) (row f m n ++ []) (r k)
     by (inr k) r =
         let e : i ≡ n = omega arith in
@@ -83,14 +92,21 @@ among_rows f m (suc n) i j l h = subst (Among (f i j)) (sym (flat_map-append (ro
         among_right (f i j) (flat_map (row f m) (below n)) (row f m n ++ []) (among_left (f i j) (row f m n) [] here)
 
 -- and that list has no other elements
-pub among_rows_is : {X : Type 0} (f : ℕ → ℕ → X) (m : ℕ → ℕ) (n : ℕ) (x : X) → Among x (flat_map (row f m) (below n)) → (i j : ℕ) × (i < n) × (j < m i) × (x ≡ f i j)
+pub among_rows_is : {X : Type 0} (f : ℕ → ℕ → X) (m : ℕ → ℕ) (n : ℕ) (x : X) → Among x (flat_map (row f m) (below n))
+    → (i j : ℕ) × (i < n) × (j < m i) × (x ≡ f i j)
 among_rows_is f m zero x a = absurd a
-among_rows_is f m (suc n) x a = by (among_cases x (flat_map (row f m) (below n)) (row f m n ++ []) (subst (Among x) (flat_map-append (row f m) (below n) (n ∷ [])) a)) (among_rows_is f m n x)
+among_rows_is f m (suc n) x a =
+    by
+    (among_cases x (flat_map (row f m) (below n)) (row f m n ++ [])
+    (subst (Among x) (flat_map-append (row f m) (below n) (n ∷ [])) a))
+    (among_rows_is f m n x)
   where
     in_row : Among x (row f m n) ⊎ Among x [] → (i j : ℕ) × (i < suc n) × (j < m i) × (x ≡ f i j)
     in_row (inl l) = let r = among_below_is (f n) (m n) x l in (n, r.0, omega arith, r.1, r.2)
     in_row (inr l) = absurd l
 
-    by : Among x (flat_map (row f m) (below n)) ⊎ Among x (row f m n ++ []) → (Among x (flat_map (row f m) (below n)) → (i j : ℕ) × (i < n) × (j < m i) × (x ≡ f i j)) → (i j : ℕ) × (i < suc n) × (j < m i) × (x ≡ f i j)
+    by : Among x (flat_map (row f m) (below n)) ⊎ Among x (row f m n ++ [])
+        → (Among x (flat_map (row f m) (below n)) → (i j : ℕ) × (i < n) × (j < m i) × (x ≡ f i j))
+        → (i j : ℕ) × (i < suc n) × (j < m i) × (x ≡ f i j)
     by (inl l) h = let r = h l in (r.0, r.1, omega (arith, r.2), r.3, r.4)
     by (inr l) h = in_row (among_cases x (row f m n) [] l)

@@ -18,11 +18,13 @@ below_by_first : (ns ms : List ℕ) → get_or ns 0 0 < get_or ms 0 0 → is_bel
 below_by_first [] [] l = absurd (omega arith)
 below_by_first [] (m ∷ ms) l = refl
 below_by_first (n ∷ ns) [] l = absurd (omega arith)
-below_by_first (n ∷ ns) (m ∷ ms) l = ap (λ o. is_lt (ordering_then o (slice_cmp nat_cmp ns ms))) (sym (nat_cmp_is n m Less l))
+below_by_first (n ∷ ns) (m ∷ ms) l =
+    ap (λ o. is_lt (ordering_then o (slice_cmp nat_cmp ns ms))) (sym (nat_cmp_is n m Less l))
 
 -- the rest decides where they are equal
 below_by_rest : (n : ℕ) (ns ms : List ℕ) → is_below ns ms ≡ true → is_below (n ∷ ns) (n ∷ ms) ≡ true
-below_by_rest n ns ms e = ap (λ o. is_lt (ordering_then o (slice_cmp nat_cmp ns ms))) (sym (nat_cmp_is n n Equal refl)) ∙ e
+below_by_rest n ns ms e =
+    ap (λ o. is_lt (ordering_then o (slice_cmp nat_cmp ns ms))) (sym (nat_cmp_is n n Equal refl)) ∙ e
 
 -- ---- faults
 
@@ -35,16 +37,23 @@ pub before_by_kind : (x y : DumpFault) → kind x < kind y → comes_before x y 
 before_by_kind x y l = below_by_first (rank x) (rank y) l
 
 -- of two of a kind with one place, that of the lower place
-pub before_by_place : (x y : DumpFault) (k i j : ℕ) → rank x ≡ k ∷ i ∷ [] → rank y ≡ k ∷ j ∷ [] → i < j → comes_before x y ≡ true
-before_by_place x y k i j e f l = (λ t. is_below (e t) (f t)) ∙ below_by_rest k (i ∷ []) (j ∷ []) (below_by_first (i ∷ []) (j ∷ []) l)
+pub before_by_place : (x y : DumpFault) (k i j : ℕ) → rank x ≡ k ∷ i ∷ [] → rank y ≡ k ∷ j ∷ [] → i < j
+    → comes_before x y ≡ true
+before_by_place x y k i j e f l =
+    (λ t. is_below (e t) (f t)) ∙ below_by_rest k (i ∷ []) (j ∷ []) (below_by_first (i ∷ []) (j ∷ []) l)
 
 -- of two of a kind with two places, that of the lower first place
-pub before_by_first_place : (x y : DumpFault) (k i j h m : ℕ) → rank x ≡ k ∷ i ∷ j ∷ [] → rank y ≡ k ∷ h ∷ m ∷ [] → i < h → comes_before x y ≡ true
-before_by_first_place x y k i j h m e f l = (λ t. is_below (e t) (f t)) ∙ below_by_rest k (i ∷ j ∷ []) (h ∷ m ∷ []) (below_by_first (i ∷ j ∷ []) (h ∷ m ∷ []) l)
+pub before_by_first_place : (x y : DumpFault) (k i j h m : ℕ) → rank x ≡ k ∷ i ∷ j ∷ [] → rank y ≡ k ∷ h ∷ m ∷ []
+    → i < h → comes_before x y ≡ true
+before_by_first_place x y k i j h m e f l =
+    (λ t. is_below (e t) (f t)) ∙ below_by_rest k (i ∷ j ∷ []) (h ∷ m ∷ []) (below_by_first (i ∷ j ∷ []) (h ∷ m ∷ []) l)
 
 -- where the first is the same, that of the lower second place
-pub before_by_second_place : (x y : DumpFault) (k i j m : ℕ) → rank x ≡ k ∷ i ∷ j ∷ [] → rank y ≡ k ∷ i ∷ m ∷ [] → j < m → comes_before x y ≡ true
-before_by_second_place x y k i j m e f l = (λ t. is_below (e t) (f t)) ∙ below_by_rest k (i ∷ j ∷ []) (i ∷ m ∷ []) (below_by_rest i (j ∷ []) (m ∷ []) (below_by_first (j ∷ []) (m ∷ []) l))
+pub before_by_second_place : (x y : DumpFault) (k i j m : ℕ) → rank x ≡ k ∷ i ∷ j ∷ [] → rank y ≡ k ∷ i ∷ m ∷ [] → j < m
+    → comes_before x y ≡ true
+before_by_second_place x y k i j m e f l =
+    (λ t. is_below (e t) (f t))
+    ∙ below_by_rest k (i ∷ j ∷ []) (i ∷ m ∷ []) (below_by_rest i (j ∷ []) (m ∷ []) (below_by_first (j ∷ []) (m ∷ []) l))
 
 -- no fault comes before itself
 pub not_before_itself : (x : DumpFault) → comes_before x x ≡ false
@@ -52,7 +61,8 @@ not_before_itself x = ap is_lt (tied_itself nat_list_cmp_total (rank x))
 
 -- of two faults at most one comes before the other
 pub not_before_both : (x y : DumpFault) → comes_before x y ≡ true → comes_before y x ≡ false
-not_before_both x y e = ap is_lt (nat_list_cmp_total.antisymm (rank y) (rank x)) ∙ reversed (slice_cmp nat_cmp (rank x) (rank y)) e
+not_before_both x y e =
+    ap is_lt (nat_list_cmp_total.antisymm (rank y) (rank x)) ∙ reversed (slice_cmp nat_cmp (rank x) (rank y)) e
   where
     reversed : (o : Ordering) → is_lt o ≡ true → is_lt (ordering_reverse o) ≡ false
     reversed Less e = refl

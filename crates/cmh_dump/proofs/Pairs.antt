@@ -7,7 +7,8 @@ use Rattle.std.proofs.lemmas.List.Sums.{sum_by-cons}
 use Rattle.cmh_dump.specs.Read.{first_pair}
 
 -- the rows that are left begin with the next one
-pub drop_next : {Y : Type 0} (ys : List Y) (i : ℕ) (y : Y) → i < length ys → y ≡ get_or ys i y → drop i ys ≡ y ∷ drop (i + 1) ys
+pub drop_next : {Y : Type 0} (ys : List Y) (i : ℕ) (y : Y) → i < length ys → y ≡ get_or ys i y
+    → drop i ys ≡ y ∷ drop (i + 1) ys
 drop_next ys i y lt is = rw add-one (drop-cons ys i y lt ∙ ap (λ z. z ∷ drop (suc i) ys) (sym is))
 
 -- nothing is left at the end
@@ -23,14 +24,19 @@ module _ {Y : Type 0} (search : Y → Option ℕ) (ys : List Y) where
   LeftDecides i = first_pair search 0 ys ≡ first_pair search i (drop i ys)
 
   -- where the search answers, that is the first pair
-  pub pair_found : (i j : ℕ) (y : Y) → i < length ys → y ≡ get_or ys i y → search y ≡ Some j → LeftDecides i → Some (i, j) ≡ first_pair search 0 ys
+  pub pair_found : (i j : ℕ) (y : Y) → i < length ys → y ≡ get_or ys i y → search y ≡ Some j → LeftDecides i
+      → Some (i, j) ≡ first_pair search 0 ys
   pair_found i j y lt is found left =
-      sym (left ∙ ap (first_pair search i) (drop_next ys i y lt is) ∙ ap (λ o. option_or (option_map (λ k. (i, k)) o) (first_pair search (i + 1) (drop (i + 1) ys))) found)
+      sym
+      (left ∙ ap (first_pair search i) (drop_next ys i y lt is)
+      ∙ ap (λ o. option_or (option_map (λ k. (i, k)) o) (first_pair search (i + 1) (drop (i + 1) ys))) found)
 
   -- a row at which the search answers nothing is passed over
-  pub pair_passed : (i : ℕ) (y : Y) → i < length ys → y ≡ get_or ys i y → search y ≡ None → LeftDecides i → LeftDecides (i + 1)
+  pub pair_passed : (i : ℕ) (y : Y) → i < length ys → y ≡ get_or ys i y → search y ≡ None → LeftDecides i
+      → LeftDecides (i + 1)
   pair_passed i y lt is none left =
-      left ∙ ap (first_pair search i) (drop_next ys i y lt is) ∙ ap (λ o. option_or (option_map (λ k. (i, k)) o) (first_pair search (i + 1) (drop (i + 1) ys))) none
+      left ∙ ap (first_pair search i) (drop_next ys i y lt is)
+      ∙ ap (λ o. option_or (option_map (λ k. (i, k)) o) (first_pair search (i + 1) (drop (i + 1) ys))) none
 
   -- at the end there is none
   pub no_pair : (i : ℕ) → length ys ≤ i → LeftDecides i → None ≡ first_pair search 0 ys
@@ -42,17 +48,20 @@ module _ {Y : Type 0} (size : Y → ℕ) (ys : List Y) where
   RoomIsLeft most room i = sum_by size ys + room ≡ most + sum_by size (drop i ys)
 
   -- the sizes that are left begin with the next one
-  next_total : (i : ℕ) (y : Y) → i < length ys → y ≡ get_or ys i y → sum_by size (drop i ys) ≡ size y + sum_by size (drop (i + 1) ys)
+  next_total : (i : ℕ) (y : Y) → i < length ys → y ≡ get_or ys i y
+      → sum_by size (drop i ys) ≡ size y + sum_by size (drop (i + 1) ys)
   next_total i y lt is = ap (sum_by size) (drop_next ys i y lt is) ∙ sum_by-cons size y (drop (i + 1) ys)
 
   -- an entry that is larger than the room takes the total past the limit
-  pub room_exceeded : (most room i : ℕ) (y : Y) → i < length ys → y ≡ get_or ys i y → room < size y → RoomIsLeft most room i → true ≡ nat_lt most (sum_by size ys)
+  pub room_exceeded : (most room i : ℕ) (y : Y) → i < length ys → y ≡ get_or ys i y → room < size y
+      → RoomIsLeft most room i → true ≡ nat_lt most (sum_by size ys)
   room_exceeded most room i y lt is more left =
       let next = next_total i y lt is in
       sym (lt-ltb most (sum_by size ys) (omega (arith, next, left, more)))
 
   -- an entry takes its size off the room
-  pub room_taken : (most room rest i : ℕ) (y : Y) → i < length ys → y ≡ get_or ys i y → rest + size y ≡ room → RoomIsLeft most room i → RoomIsLeft most rest (i + 1)
+  pub room_taken : (most room rest i : ℕ) (y : Y) → i < length ys → y ≡ get_or ys i y → rest + size y ≡ room
+      → RoomIsLeft most room i → RoomIsLeft most rest (i + 1)
   room_taken most room rest i y lt is same left =
       let next = next_total i y lt is in
       omega (arith, next, left, same)

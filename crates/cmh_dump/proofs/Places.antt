@@ -10,30 +10,39 @@ use Rattle.cmh_dump.specs.Name.{is_among, place_of}
 use Rattle.cmh_dump.proofs.Indexed.{among}
 
 -- the first place of a list that passes a test is within it where one passes
-first_within : {X : Type 0} (test : X → Bool) (xs : List X) → list_any test xs ≡ true → position_or_len test xs < length xs
+first_within : {X : Type 0} (test : X → Bool) (xs : List X) → list_any test xs ≡ true
+    → position_or_len test xs < length xs
 first_within test [] e = absurd cc
 first_within test (x ∷ xs) e = by (test x) (first_within test xs) e
   where
-    by : (b : Bool) → (list_any test xs ≡ true → position_or_len test xs < length xs) → (b || list_any test xs) ≡ true → cond (not b) (1 + position_or_len test xs) 0 < suc (length xs)
+    by : (b : Bool) → (list_any test xs ≡ true → position_or_len test xs < length xs) → (b || list_any test xs) ≡ true
+        → cond (not b) (1 + position_or_len test xs) 0 < suc (length xs)
     by true h e = omega arith
     by false h e = let l = h e in omega (arith, l)
 
 -- a name that is among the names has a place within them
-pub place_within : (names : List (List ℕ)) (name : List ℕ) → is_among names name ≡ true → place_of names name < length names
+pub place_within : (names : List (List ℕ)) (name : List ℕ) → is_among names name ≡ true
+    → place_of names name < length names
 place_within names name e = first_within (bytes_eq name) names e
 
 -- at the place of a name that is among the names stands that name
-at_place_of : (names : List (List ℕ)) (name : List ℕ) → is_among names name ≡ true → name ≡ get_or names (place_of names name) []
-at_place_of names name e = (bytes_eq-Decides name (get_or names (place_of names name) [])).0 (passes_at_first (bytes_eq name) names [] (place_within names name e))
+at_place_of : (names : List (List ℕ)) (name : List ℕ) → is_among names name ≡ true
+    → name ≡ get_or names (place_of names name) []
+at_place_of names name e =
+    (bytes_eq-Decides name (get_or names (place_of names name) [])).0
+    (passes_at_first (bytes_eq name) names [] (place_within names name e))
 
 -- two names at one place are the same
-pub same_from_places : (names : List (List ℕ)) (a b : List ℕ) → is_among names a ≡ true → is_among names b ≡ true → place_of names a ≡ place_of names b → a ≡ b
+pub same_from_places : (names : List (List ℕ)) (a b : List ℕ) → is_among names a ≡ true → is_among names b ≡ true
+    → place_of names a ≡ place_of names b → a ≡ b
 same_from_places names a b p q e = at_place_of names a p ∙ ap (λ k. get_or names k []) e ∙ sym (at_place_of names b q)
 
 -- where a name equals none of a list, it is no element of it
-pub differs : (names : List (List ℕ)) (name : List ℕ) (k : ℕ) → is_among names name ≡ false → k < length names → get_or names k [] ≡ name → ⊥
+pub differs : (names : List (List ℕ)) (name : List ℕ) (k : ℕ) → is_among names name ≡ false → k < length names
+    → get_or names k [] ≡ name → ⊥
 differs names name k e l s =
-    false≢true (sym e ∙ list_any_at (bytes_eq name) names k [] l ((bytes_eq-Decides name (get_or names k [])).1 (sym s)))
+    false≢true
+    (sym e ∙ list_any_at (bytes_eq name) names k [] l ((bytes_eq-Decides name (get_or names k [])).1 (sym s)))
 
 -- ---- as an index answers them
 
@@ -42,22 +51,28 @@ abbrev pub place_or_none : List (List ℕ) → List ℕ → Option ℕ
 place_or_none names name = cond (is_among names name) (Some (place_of names name)) None
 
 -- a place that is there, by whether the name is among the names
-some_by : (names : List (List ℕ)) (name : List ℕ) (i : ℕ) (b : Bool) → is_among names name ≡ b → Some i ≡ cond b (Some (place_of names name)) None → (i ≡ place_of names name) × (is_among names name ≡ true)
+some_by : (names : List (List ℕ)) (name : List ℕ) (i : ℕ) (b : Bool) → is_among names name ≡ b
+    → Some i ≡ cond b (Some (place_of names name)) None → (i ≡ place_of names name) × (is_among names name ≡ true)
 some_by names name i true e h = (ap (λ o. unwrap_or o i) h, e)
 some_by names name i false e h = absurd cc
 
 -- a place that is found is that of the name, which is among the names
-pub place_is_some : (names : List (List ℕ)) (name : List ℕ) (i : ℕ) → Some i ≡ place_or_none names name → (i ≡ place_of names name) × (is_among names name ≡ true)
+pub place_is_some : (names : List (List ℕ)) (name : List ℕ) (i : ℕ) → Some i ≡ place_or_none names name
+    → (i ≡ place_of names name) × (is_among names name ≡ true)
 place_is_some names name i h = some_by names name i (is_among names name) refl h
 
 -- no place, by whether the name is among the names
-none_by : (names : List (List ℕ)) (name : List ℕ) (b : Bool) → is_among names name ≡ b → None ≡ cond b (Some (place_of names name)) None → is_among names name ≡ false
+none_by : (names : List (List ℕ)) (name : List ℕ) (b : Bool) → is_among names name ≡ b
+    → None ≡ cond b (Some (place_of names name)) None → is_among names name ≡ false
 none_by names name true e h = absurd cc
 none_by names name false e h = e
 
 -- where no place is found, the place is past the end
-pub place_is_none : (names : List (List ℕ)) (name : List ℕ) → None ≡ place_or_none names name → place_of names name ≡ length names
+pub place_is_none : (names : List (List ℕ)) (name : List ℕ) → None ≡ place_or_none names name
+    → place_of names name ≡ length names
 place_is_none names name h =
-    let past = ltb-false (place_of names name) (length names) (among name names ∙ none_by names name (is_among names name) refl h) in
+    let past =
+    ltb-false (place_of names name) (length names)
+    (among name names ∙ none_by names name (is_among names name) refl h) in
     let up_to = prefix_len-le-length (λ x. not (bytes_eq name x)) names in
     omega (arith, past, up_to)

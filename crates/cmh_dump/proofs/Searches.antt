@@ -25,11 +25,13 @@ use Rattle.cmh_dump.proofs.Judging.{each_seen, pairs_seen, find-map, get-map}
 
 module _ (test : DumpFault → Bool) where
   -- a fault of the first kind comes first
-  pub first_here : (fs : List DumpFault) (rest : List (List DumpFault)) (o : Option DumpFault) (e : DumpFault) → find test fs ≡ o → o ≡ Some e → first_of test (fs ∷ rest) ≡ Some e
+  pub first_here : (fs : List DumpFault) (rest : List (List DumpFault)) (o : Option DumpFault) (e : DumpFault)
+      → find test fs ≡ o → o ≡ Some e → first_of test (fs ∷ rest) ≡ Some e
   first_here fs rest o e h s = ap (λ r. option_or r (first_of test rest)) (h ∙ s)
 
   -- where no fault of the first kind holds, the others decide
-  pub first_later : (fs : List DumpFault) (rest : List (List DumpFault)) (o r : Option DumpFault) → find test fs ≡ o → o ≡ None → first_of test rest ≡ r → first_of test (fs ∷ rest) ≡ r
+  pub first_later : (fs : List DumpFault) (rest : List (List DumpFault)) (o r : Option DumpFault) → find test fs ≡ o
+      → o ≡ None → first_of test rest ≡ r → first_of test (fs ∷ rest) ≡ r
   first_later fs rest o r h n later = ap (λ q. option_or q (first_of test rest)) (h ∙ n) ∙ later
 
   -- a kind of one fault
@@ -37,27 +39,34 @@ module _ (test : DumpFault → Bool) where
   alone f b h = ap (λ c. cond c (Some f) None) h
 
   -- where none of the first kinds holds, the others decide
-  pub first_after : (xs ys : List (List DumpFault)) → first_of test xs ≡ None → first_of test (xs ++ ys) ≡ first_of test ys
+  pub first_after : (xs ys : List (List DumpFault)) → first_of test xs ≡ None
+      → first_of test (xs ++ ys) ≡ first_of test ys
   first_after [] ys h = refl
   first_after (fs ∷ xs) ys h = by (find test fs) h (λ e. first_after xs ys e)
     where
-      by : (o : Option DumpFault) → option_or o (first_of test xs) ≡ None → (first_of test xs ≡ None → first_of test (xs ++ ys) ≡ first_of test ys) → option_or o (first_of test (xs ++ ys)) ≡ first_of test ys
+      by : (o : Option DumpFault) → option_or o (first_of test xs) ≡ None
+          → (first_of test xs ≡ None → first_of test (xs ++ ys) ≡ first_of test ys)
+          → option_or o (first_of test (xs ++ ys)) ≡ first_of test ys
       by None e later = later e
       by (Some f) e later = absurd cc
 
   -- a fault of the first kinds comes first
-  pub first_among : (xs ys : List (List DumpFault)) (f : DumpFault) → first_of test xs ≡ Some f → first_of test (xs ++ ys) ≡ Some f
+  pub first_among : (xs ys : List (List DumpFault)) (f : DumpFault) → first_of test xs ≡ Some f
+      → first_of test (xs ++ ys) ≡ Some f
   first_among [] ys f h = absurd cc
   first_among (fs ∷ xs) ys f h = by (find test fs) h (λ e. first_among xs ys f e)
     where
-      by : (o : Option DumpFault) → option_or o (first_of test xs) ≡ Some f → (first_of test xs ≡ Some f → first_of test (xs ++ ys) ≡ Some f) → option_or o (first_of test (xs ++ ys)) ≡ Some f
+      by : (o : Option DumpFault) → option_or o (first_of test xs) ≡ Some f
+          → (first_of test xs ≡ Some f → first_of test (xs ++ ys) ≡ Some f)
+          → option_or o (first_of test (xs ++ ys)) ≡ Some f
       by None e later = later e
       by (Some g) e later = e
 
 -- ---- the kinds of a tree
 
 -- a sum over what a function makes of each element
-sum_by-map : {X Y : Type 0} (size : Y → ℕ) (f : X → Y) (xs : List X) → sum_by size (map f xs) ≡ sum_by (λ x. size (f x)) xs
+sum_by-map : {X Y : Type 0} (size : Y → ℕ) (f : X → Y) (xs : List X)
+    → sum_by size (map f xs) ≡ sum_by (λ x. size (f x)) xs
 sum_by-map size f xs = sym (sum-map size (map f xs)) ∙ ap sum (sym (map-map size f xs)) ∙ sum-map (λ x. size (f x)) xs
 
 -- a list and what it is seen as have one length
@@ -65,17 +74,21 @@ size_of : {Y Z : Type 0} (f : Y → Z) (ys : List Y) (all : List Z) → map f ys
 size_of f ys all e = ap length (sym e) ∙ length-map ys f
 
 -- the same element, in the list that another one is seen as
-at_seen : {Y Z : Type 0} (f : Y → Z) (ys : List Y) (all : List Z) (k : ℕ) (z : Z) → map f ys ≡ all → slice_get (map f ys) k ≡ Some z → slice_get all k ≡ Some z
+at_seen : {Y Z : Type 0} (f : Y → Z) (ys : List Y) (all : List Z) (k : ℕ) (z : Z) → map f ys ≡ all
+    → slice_get (map f ys) k ≡ Some z → slice_get all k ≡ Some z
 at_seen f ys all k z e h = ap (λ zs. slice_get zs k) (sym e) ∙ h
 
 -- the first bad site stands where the first bad name does
-pub bad_sites : (d : Data) (ys : List (Bor (List ℕ))) → texts ys ≡ sites d → find (holds d) (each_site d BadSites) ≡ option_map BadSites (position (λ t. not (is_name t.now)) ys)
+pub bad_sites : (d : Data) (ys : List (Bor (List ℕ))) → texts ys ≡ sites d
+    → find (holds d) (each_site d BadSites) ≡ option_map BadSites (position (λ t. not (is_name t.now)) ys)
 bad_sites d ys e =
-    each_seen (holds d) BadSites (λ t. t.now) (λ t. not (is_name t)) ys (length (sites d)) (size_of (λ t. t.now) ys (sites d) e)
+    each_seen (holds d) BadSites (λ t. t.now) (λ t. not (is_name t)) ys (length (sites d))
+    (size_of (λ t. t.now) ys (sites d) e)
     (λ k z h. ap (λ o. not (is_name (unwrap_or o []))) (at_seen (λ t. t.now) ys (sites d) k z e h))
 
 -- the first repeat of the sites is the first repeated site
-pub repeated_site : (d : Data) (i : ℕ) → IsFirstRepeat (sites d) i → find (holds d) (each_site d RepeatedSite) ≡ Some (RepeatedSite i)
+pub repeated_site : (d : Data) (i : ℕ) → IsFirstRepeat (sites d) i
+    → find (holds d) (each_site d RepeatedSite) ≡ Some (RepeatedSite i)
 repeated_site d i r = found_at (holds d) RepeatedSite (length (sites d)) i r.within r.before r.repeated
 
 -- sites that are apart have no repeated one
@@ -83,9 +96,11 @@ pub sites_apart : (d : Data) → AreApart (sites d) → find (holds d) (each_sit
 sites_apart d apart = none_below (holds d) RepeatedSite (length (sites d)) apart
 
 -- the first bad process stands where the search finds it
-pub bad_processes : {V : Type 0} (view : V → Data) (d : Data) (vs : List V) → map view vs ≡ processes d → find (holds d) (each_process d BadProcess) ≡ option_map BadProcess (position (λ v. not (is_process (view v))) vs)
+pub bad_processes : {V : Type 0} (view : V → Data) (d : Data) (vs : List V) → map view vs ≡ processes d
+    → find (holds d) (each_process d BadProcess) ≡ option_map BadProcess (position (λ v. not (is_process (view v))) vs)
 bad_processes view d vs e =
-    each_seen (holds d) BadProcess view (λ p. not (is_process p)) vs (length (processes d)) (size_of view vs (processes d) e)
+    each_seen (holds d) BadProcess view (λ p. not (is_process p)) vs (length (processes d))
+    (size_of view vs (processes d) e)
     (λ k z h. ap (λ o. not (is_process (unwrap_or o null))) (at_seen view vs (processes d) k z e h))
 
 -- there are as many names as processes
@@ -93,7 +108,8 @@ length-names : (d : Data) → length (names d) ≡ length (processes d)
 length-names d = length-map (entries d) (λ e. e.name) ∙ length-map (processes d) _
 
 -- the first repeat of the names is the first repeated process
-pub repeated_process : (d : Data) (i : ℕ) → IsFirstRepeat (names d) i → find (holds d) (each_process d RepeatedProcess) ≡ Some (RepeatedProcess i)
+pub repeated_process : (d : Data) (i : ℕ) → IsFirstRepeat (names d) i
+    → find (holds d) (each_process d RepeatedProcess) ≡ Some (RepeatedProcess i)
 repeated_process d i r =
     ap (λ n. find (holds d) (map RepeatedProcess (below n))) (sym (length-names d))
     ∙ found_at (holds d) RepeatedProcess (length (names d)) i r.within r.before r.repeated
@@ -118,54 +134,81 @@ module _ (d : Data) (es : List declared.Entry) (seen : map entry_view es ≡ ent
   entry_seen k e h = entry_is k (entry_view e) (get-map entry_view es k e h)
 
   -- the first process on an unknown site stands where the search finds it
-  pub unknown_sites : (keys : List (List ℕ)) → keys ≡ sites d → find (holds d) (each_process d UnknownSite) ≡ option_map UnknownSite (position (λ e. not (is_among keys e.site.now)) es)
+  pub unknown_sites : (keys : List (List ℕ)) → keys ≡ sites d
+      → find (holds d) (each_process d UnknownSite)
+      ≡ option_map UnknownSite (position (λ e. not (is_among keys e.site.now)) es)
   unknown_sites keys same =
-      each_seen (holds d) UnknownSite entry_view (λ e. not (is_among keys e.site)) es (length (processes d)) process_count
-      (λ k z h. ap (λ e. not (is_among (sites d) e.site)) (entry_is k z h) ∙ ap (λ ks. not (is_among ks z.site)) (sym same))
+      each_seen (holds d) UnknownSite entry_view (λ e. not (is_among keys e.site)) es (length (processes d))
+      process_count
+      (λ k z h. ap (λ e. not (is_among (sites d) e.site)) (entry_is k z h)
+      ∙ ap (λ ks. not (is_among ks z.site)) (sym same))
 
   -- the first unknown dependent stands where the search by rows finds it
-  pub unknown_dependents : (keys : List (List ℕ)) → keys ≡ names d → find (holds d) (each_dependent d UnknownDependent) ≡ option_map (λ p. UnknownDependent p.0 p.1) (first_pair (λ e. position (λ name. not (is_among keys name.now)) e.dependents.items) 0 es)
+  pub unknown_dependents : (keys : List (List ℕ)) → keys ≡ names d
+      → find (holds d) (each_dependent d UnknownDependent)
+      ≡ option_map (λ p. UnknownDependent p.0 p.1)
+      (first_pair (λ e. position (λ name. not (is_among keys name.now)) e.dependents.items) 0 es)
   unknown_dependents keys same =
       pairs_seen (holds d) UnknownDependent (λ i. map (UnknownDependent i) (below (length (entry d i).dependents)))
       (λ e. position (λ name. not (is_among keys name.now)) e.dependents.items) es (length (processes d)) process_count
       (λ k e h. row k e (entry_seen k e h))
     where
-      row : (k : ℕ) (e : declared.Entry) → entry d k ≡ entry_view e → find (holds d) (map (UnknownDependent k) (below (length (entry d k).dependents))) ≡ option_map (UnknownDependent k) (position (λ name. not (is_among keys name.now)) e.dependents.items)
+      row : (k : ℕ) (e : declared.Entry) → entry d k ≡ entry_view e
+          → find (holds d) (map (UnknownDependent k) (below (length (entry d k).dependents)))
+          ≡ option_map (UnknownDependent k) (position (λ name. not (is_among keys name.now)) e.dependents.items)
       row k e is =
-          each_seen (holds d) (UnknownDependent k) (λ name. name.now) (λ name. not (is_among keys name)) e.dependents.items (length (entry d k).dependents)
+          each_seen (holds d) (UnknownDependent k) (λ name. name.now) (λ name. not (is_among keys name))
+          e.dependents.items (length (entry d k).dependents)
           (size_of (λ name. name.now) e.dependents.items (entry d k).dependents (ap (λ x. x.dependents) (sym is)))
-          (λ j z h. ap (λ o. not (is_among (names d) (unwrap_or o []))) (at_seen (λ name. name.now) e.dependents.items (entry d k).dependents j z (ap (λ x. x.dependents) (sym is)) h) ∙ ap (λ ks. not (is_among ks z)) (sym same))
+          (λ j z h. ap (λ o. not (is_among (names d) (unwrap_or o [])))
+          (at_seen (λ name. name.now) e.dependents.items (entry d k).dependents j z
+          (ap (λ x. x.dependents) (sym is)) h) ∙ ap (λ ks. not (is_among ks z)) (sym same))
 
   -- the first repeated dependent stands where the search by rows finds it
-  pub repeated_dependents : find (holds d) (each_dependent d RepeatedDependent) ≡ option_map (λ p. RepeatedDependent p.0 p.1) (first_pair (λ e. first_repeat (texts e.dependents.items)) 0 es)
+  pub repeated_dependents : find (holds d) (each_dependent d RepeatedDependent)
+      ≡ option_map (λ p. RepeatedDependent p.0 p.1) (first_pair (λ e. first_repeat (texts e.dependents.items)) 0 es)
   repeated_dependents =
       pairs_seen (holds d) RepeatedDependent (λ i. map (RepeatedDependent i) (below (length (entry d i).dependents)))
       (λ e. first_repeat (texts e.dependents.items)) es (length (processes d)) process_count
-      (λ k e h. find-map (holds d) (RepeatedDependent k) (below (length (entry d k).dependents)) ∙ ap (λ x. option_map (RepeatedDependent k) (first_repeat x.dependents)) (entry_seen k e h))
+      (λ k e h. find-map (holds d) (RepeatedDependent k) (below (length (entry d k).dependents))
+      ∙ ap (λ x. option_map (RepeatedDependent k) (first_repeat x.dependents)) (entry_seen k e h))
 
   -- the first active process with dependents stands where the search finds it
-  pub active_with_dependents : find (holds d) (each_process d ActiveWithDependents) ≡ option_map ActiveWithDependents (position (λ e. is_active_state e.state && nat_lt 0 (length e.dependents.items)) es)
+  pub active_with_dependents : find (holds d) (each_process d ActiveWithDependents)
+      ≡ option_map ActiveWithDependents
+      (position (λ e. is_active_state e.state && nat_lt 0 (length e.dependents.items)) es)
   active_with_dependents =
-      each_seen (holds d) ActiveWithDependents entry_view (λ e. is_active_state e.state && nat_lt 0 (length e.dependents)) es (length (processes d)) process_count
+      each_seen (holds d) ActiveWithDependents entry_view
+      (λ e. is_active_state e.state && nat_lt 0 (length e.dependents)) es (length (processes d)) process_count
       (λ k z h. ap (λ e. is_active_state e.state && nat_lt 0 (length e.dependents)) (entry_is k z h))
-      ∙ (λ i. option_map ActiveWithDependents (position (λ e. is_active_state e.state && nat_lt 0 (length-texts e.dependents.items i)) es))
+      ∙
+      (λ i. option_map ActiveWithDependents
+      (position (λ e. is_active_state e.state && nat_lt 0 (length-texts e.dependents.items i)) es))
 
   -- the dependents that were read are as many as those of the tree
   pub dependent_total_is : sum_by (λ e. length e.dependents.items) es ≡ dependent_total d
   dependent_total_is =
-      sym (sum_by-map (λ e. length e.dependents) entry_view es ∙ λ i. sum_by (λ e. length-texts e.dependents.items i) es)
+      sym
+      (sum_by-map (λ e. length e.dependents) entry_view es ∙ λ i. sum_by (λ e. length-texts e.dependents.items i) es)
       ∙ ap (sum_by (λ e. length e.dependents)) seen
 
 -- ---- messages in transit
 
 -- the first message that is no pair stands where the search finds it
-pub bad_transits : {V : Type 0} (view : V → Data) (d : Data) (vs : List V) → map view vs ≡ transits d → find (holds d) (each_transit d BadInTransit) ≡ option_map BadInTransit (position (λ v. not (is_pair (view v))) vs)
+pub bad_transits : {V : Type 0} (view : V → Data) (d : Data) (vs : List V) → map view vs ≡ transits d
+    → find (holds d) (each_transit d BadInTransit) ≡ option_map BadInTransit (position (λ v. not (is_pair (view v))) vs)
 bad_transits view d vs e =
-    each_seen (holds d) BadInTransit view (λ t. not (is_pair t)) vs (length (transits d)) (size_of view vs (transits d) e)
+    each_seen (holds d) BadInTransit view (λ t. not (is_pair t)) vs (length (transits d))
+    (size_of view vs (transits d) e)
     (λ k z h. ap (λ o. not (is_pair (unwrap_or o null))) (at_seen view vs (transits d) k z e h))
 
 -- the first message with an unknown name stands where the search finds it
-pub unknown_transits : {V : Type 0} (view : V → Data) (d : Data) (vs : List V) (keys : List (List ℕ)) → map view vs ≡ transits d → keys ≡ names d → find (holds d) (each_transit d UnknownInTransit) ≡ option_map UnknownInTransit (position (λ v. not (list_all (is_among keys) (texts_of (view v)))) vs)
+pub unknown_transits : {V : Type 0} (view : V → Data) (d : Data) (vs : List V) (keys : List (List ℕ))
+    → map view vs ≡ transits d → keys ≡ names d
+    → find (holds d) (each_transit d UnknownInTransit)
+    ≡ option_map UnknownInTransit (position (λ v. not (list_all (is_among keys) (texts_of (view v)))) vs)
 unknown_transits view d vs keys e same =
-    each_seen (holds d) UnknownInTransit view (λ t. not (list_all (is_among keys) (texts_of t))) vs (length (transits d)) (size_of view vs (transits d) e)
-    (λ k z h. ap (λ o. not (list_all (is_among (names d)) (texts_of (unwrap_or o null)))) (at_seen view vs (transits d) k z e h) ∙ ap (λ ks. not (list_all (is_among ks) (texts_of z))) (sym same))
+    each_seen (holds d) UnknownInTransit view (λ t. not (list_all (is_among keys) (texts_of t))) vs
+    (length (transits d)) (size_of view vs (transits d) e)
+    (λ k z h. ap (λ o. not (list_all (is_among (names d)) (texts_of (unwrap_or o null))))
+    (at_seen view vs (transits d) k z e h) ∙ ap (λ ks. not (list_all (is_among ks) (texts_of z))) (sym same))

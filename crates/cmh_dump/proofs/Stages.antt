@@ -20,7 +20,8 @@ Rises [] = ⊤
 Rises (x ∷ xs) = ((y : DumpFault) → Among y xs → comes_before x y ≡ true) × Rises xs
 
 -- two lists joined rise where each does, and those of the first come before those of the second
-rises-append : (xs ys : List DumpFault) → Rises xs → Rises ys → ((x y : DumpFault) → Among x xs → Among y ys → comes_before x y ≡ true) → Rises (xs ++ ys)
+rises-append : (xs ys : List DumpFault) → Rises xs → Rises ys
+    → ((x y : DumpFault) → Among x xs → Among y ys → comes_before x y ≡ true) → Rises (xs ++ ys)
 rises-append [] ys r s h = s
 rises-append (x ∷ xs) ys r s h = (
   λ y m. elim (among_cases y xs ys m) [ inl l ↦ r.0 y l | inr l ↦ h x y (inl refl) l ],
@@ -32,17 +33,23 @@ rises_one : (x : DumpFault) → Rises (x ∷ [])
 rises_one x = (λ y m. absurd m, tt)
 
 -- a list made by numbers rises where its faults rise with their number
-rises_below : (f : ℕ → DumpFault) (n : ℕ) → ((i j : ℕ) → i < j → comes_before (f i) (f j) ≡ true) → Rises (map f (below n))
+rises_below : (f : ℕ → DumpFault) (n : ℕ) → ((i j : ℕ) → i < j → comes_before (f i) (f j) ≡ true)
+    → Rises (map f (below n))
 rises_below f zero h = tt
-rises_below f (suc n) h = subst Rises (sym (map-append f (below n) (n ∷ []))) (rises-append (map f (below n)) (f n ∷ []) (rises_below f n h) (rises_one (f n)) last)
+rises_below f (suc n) h =
+    subst Rises (sym (map-append f (below n) (n ∷ [])))
+    (rises-append (map f (below n)) (f n ∷ []) (rises_below f n h) (rises_one (f n)) last)
   where
     last : (x y : DumpFault) → Among x (map f (below n)) → Among y (f n ∷ []) → comes_before x y ≡ true
     last x y l m = let r = among_below_is f n x l in (λ t. comes_before (r.2 t) (among_one y (f n) m t)) ∙ h r.0 n r.1
 
 -- a list made by two numbers rises where its faults rise with the first, and then with the second
-rises_rows : (f : ℕ → ℕ → DumpFault) (m : ℕ → ℕ) (n : ℕ) → ((i j h l : ℕ) → i < h → comes_before (f i j) (f h l) ≡ true) → ((i j l : ℕ) → j < l → comes_before (f i j) (f i l) ≡ true) → Rises (flat_map (row f m) (below n))
+rises_rows : (f : ℕ → ℕ → DumpFault) (m : ℕ → ℕ) (n : ℕ) → ((i j h l : ℕ) → i < h → comes_before (f i j) (f h l) ≡ true)
+    → ((i j l : ℕ) → j < l → comes_before (f i j) (f i l) ≡ true) → Rises (flat_map (row f m) (below n))
 rises_rows f m zero g h = tt
-rises_rows f m (suc n) g h = subst Rises (sym (flat_map-append (row f m) (below n) (n ∷ []))) (rises-append (flat_map (row f m) (below n)) (row f m n ++ []) (rises_rows f m n g h) last_rises last)
+rises_rows f m (suc n) g h =
+    subst Rises (sym (flat_map-append (row f m) (below n) (n ∷ [])))
+    (rises-append (flat_map (row f m) (below n)) (row f m n ++ []) (rises_rows f m n g h) last_rises last)
   where
     last_rises : Rises (row f m n ++ [])
     last_rises = rises-append (row f m n) [] (rises_below (f n) (m n) (h n)) tt (λ x y l a. absurd a)
@@ -50,7 +57,8 @@ rises_rows f m (suc n) g h = subst Rises (sym (flat_map-append (row f m) (below 
     of_row : (y : DumpFault) → Among y (row f m n ++ []) → Among y (row f m n)
     of_row y a = elim (among_cases y (row f m n) [] a) [ inl l ↦ l | inr l ↦ absurd l ]
 
-    last : (x y : DumpFault) → Among x (flat_map (row f m) (below n)) → Among y (row f m n ++ []) → comes_before x y ≡ true
+    last : (x y : DumpFault) → Among x (flat_map (row f m) (below n)) → Among y (row f m n ++ [])
+        → comes_before x y ≡ true
     last x y l a =
         let r = among_rows_is f m n x l in
         let s = among_below_is (f n) (m n) y (of_row y a) in
@@ -75,7 +83,8 @@ pub record AreStages (Allowed : DumpFault → Type 0) (k : ℕ) (lists : List (L
 
 infixr 3 ◌and_then◌
 -- a stage, and then those of later kinds
-pub ◌and_then◌ : {Allowed : DumpFault → Type 0} {k : ℕ} {xs : List DumpFault} {rest : List (List DumpFault)} → IsStage Allowed k xs → AreStages Allowed (suc k) rest → AreStages Allowed k (xs ∷ rest)
+pub ◌and_then◌ : {Allowed : DumpFault → Type 0} {k : ℕ} {xs : List DumpFault} {rest : List (List DumpFault)}
+    → IsStage Allowed k xs → AreStages Allowed (suc k) rest → AreStages Allowed k (xs ∷ rest)
 s and_then t = record { kinds = (s, t.kinds) }
 
 -- no stages
@@ -92,7 +101,8 @@ module _ (Allowed : DumpFault → Type 0) where
   }
 
   -- a kind with one place
-  pub stage_below : (k : ℕ) (f : ℕ → DumpFault) (n : ℕ) → ((i : ℕ) → rank (f i) ≡ k ∷ i ∷ []) → ((i : ℕ) → i < n → Allowed (f i)) → IsStage Allowed k (map f (below n))
+  pub stage_below : (k : ℕ) (f : ℕ → DumpFault) (n : ℕ) → ((i : ℕ) → rank (f i) ≡ k ∷ i ∷ [])
+      → ((i : ℕ) → i < n → Allowed (f i)) → IsStage Allowed k (map f (below n))
   stage_below k f n e a = record {
     allowed = λ y m. let r = among_below_is f n y m in subst Allowed (sym r.2) (a r.0 r.1);
     of_kind = λ y m. let r = among_below_is f n y m in ap kind r.2 ∙ ap (λ ns. get_or ns 0 0) (e r.0);
@@ -100,7 +110,8 @@ module _ (Allowed : DumpFault → Type 0) where
   }
 
   -- a kind with two places
-  pub stage_of_rows : (k : ℕ) (f : ℕ → ℕ → DumpFault) (m : ℕ → ℕ) (n : ℕ) → ((i j : ℕ) → rank (f i j) ≡ k ∷ i ∷ j ∷ []) → ((i j : ℕ) → i < n → j < m i → Allowed (f i j)) → IsStage Allowed k (flat_map (row f m) (below n))
+  pub stage_of_rows : (k : ℕ) (f : ℕ → ℕ → DumpFault) (m : ℕ → ℕ) (n : ℕ) → ((i j : ℕ) → rank (f i j) ≡ k ∷ i ∷ j ∷ [])
+      → ((i j : ℕ) → i < n → j < m i → Allowed (f i j)) → IsStage Allowed k (flat_map (row f m) (below n))
   stage_of_rows k f m n e a = record {
     allowed = λ y l. let r = among_rows_is f m n y l in subst Allowed (sym r.4) (a r.0 r.1 r.2 r.3);
     of_kind = λ y l. let r = among_rows_is f m n y l in ap kind r.4 ∙ ap (λ ns. get_or ns 0 0) (e r.0 r.1);
@@ -110,19 +121,22 @@ module _ (Allowed : DumpFault → Type 0) where
   }
 
   -- kinds only rise
-  kind_from : (k : ℕ) (lists : List (List DumpFault)) → Kinds Allowed k lists → (x : DumpFault) → AmongLists x lists → k ≤ kind x
+  kind_from : (k : ℕ) (lists : List (List DumpFault)) → Kinds Allowed k lists → (x : DumpFault) → AmongLists x lists
+      → k ≤ kind x
   kind_from k [] s x m = absurd m
   kind_from k (xs ∷ rest) s x (inl m) = omega (arith, s.0.of_kind x m)
   kind_from k (xs ∷ rest) s x (inr m) = omega (arith, kind_from (suc k) rest s.1 x m)
 
   -- what stands in lists that are stages is allowed
-  allowed_by : (k : ℕ) (lists : List (List DumpFault)) → Kinds Allowed k lists → (x : DumpFault) → AmongLists x lists → Allowed x
+  allowed_by : (k : ℕ) (lists : List (List DumpFault)) → Kinds Allowed k lists → (x : DumpFault) → AmongLists x lists
+      → Allowed x
   allowed_by k [] s x m = absurd m
   allowed_by k (xs ∷ rest) s x (inl m) = s.0.allowed x m
   allowed_by k (xs ∷ rest) s x (inr m) = allowed_by (suc k) rest s.1 x m
 
   -- the same of stages as a record
-  pub allowed_in : (k : ℕ) (lists : List (List DumpFault)) → AreStages Allowed k lists → (x : DumpFault) → AmongLists x lists → Allowed x
+  pub allowed_in : (k : ℕ) (lists : List (List DumpFault)) → AreStages Allowed k lists → (x : DumpFault)
+      → AmongLists x lists → Allowed x
   allowed_in k lists s x m = allowed_by k lists s.kinds x m
 
 -- ---- the first that passes
@@ -153,7 +167,8 @@ module _ (test : DumpFault → Bool) where
       after y (inr m) p = inr (r.0 y m)
 
   -- behind a head that fails the least stays the least
-  least_in_tail : (z : DumpFault) (zs : List DumpFault) (x : DumpFault) → test z ≡ false → IsLeastOf zs x → IsLeastOf (z ∷ zs) x
+  least_in_tail : (z : DumpFault) (zs : List DumpFault) (x : DumpFault) → test z ≡ false → IsLeastOf zs x
+      → IsLeastOf (z ∷ zs) x
   least_in_tail z zs x t l = record { stands = inr l.stands; passes = l.passes; least = after }
     where
       after : (y : DumpFault) → Among y (z ∷ zs) → test y ≡ true → IsFrom x y
@@ -165,21 +180,25 @@ module _ (test : DumpFault → Bool) where
   least_of_list [] x r e = absurd cc
   least_of_list (z ∷ zs) x r e = by (test z) refl e (least_of_list zs x r.1)
     where
-      by : (b : Bool) → test z ≡ b → cond b (Some z) (find test zs) ≡ Some x → (find test zs ≡ Some x → IsLeastOf zs x) → IsLeastOf (z ∷ zs) x
+      by : (b : Bool) → test z ≡ b → cond b (Some z) (find test zs) ≡ Some x → (find test zs ≡ Some x → IsLeastOf zs x)
+          → IsLeastOf (z ∷ zs) x
       by true t e h = let same : z ≡ x = cc in subst (IsLeastOf (z ∷ zs)) same (least_at_head z zs r t)
       by false t e h = least_in_tail z zs x t (h e)
 
   module _ (Allowed : DumpFault → Type 0) where
     -- the least of the first stage is the least of all
-    least_in_first : (k : ℕ) (xs : List DumpFault) (rest : List (List DumpFault)) (x : DumpFault) → Kinds Allowed k (xs ∷ rest) → IsLeastOf xs x → IsLeastOfLists (xs ∷ rest) x
+    least_in_first : (k : ℕ) (xs : List DumpFault) (rest : List (List DumpFault)) (x : DumpFault)
+        → Kinds Allowed k (xs ∷ rest) → IsLeastOf xs x → IsLeastOfLists (xs ∷ rest) x
     least_in_first k xs rest x s l = record { stands = inl l.stands; passes = l.passes; least = after }
       where
         after : (y : DumpFault) → AmongLists y (xs ∷ rest) → test y ≡ true → IsFrom x y
         after y (inl m) p = l.least y m p
-        after y (inr m) p = inr (before_by_kind x y (omega (arith, s.0.of_kind x l.stands, kind_from Allowed (suc k) rest s.1 y m)))
+        after y (inr m) p =
+            inr (before_by_kind x y (omega (arith, s.0.of_kind x l.stands, kind_from Allowed (suc k) rest s.1 y m)))
 
     -- behind a list in which none passes the least stays the least
-    least_in_rest : (xs : List DumpFault) (rest : List (List DumpFault)) (x : DumpFault) → find test xs ≡ None → IsLeastOfLists rest x → IsLeastOfLists (xs ∷ rest) x
+    least_in_rest : (xs : List DumpFault) (rest : List (List DumpFault)) (x : DumpFault) → find test xs ≡ None
+        → IsLeastOfLists rest x → IsLeastOfLists (xs ∷ rest) x
     least_in_rest xs rest x e l = record { stands = inr l.stands; passes = l.passes; least = after }
       where
         after : (y : DumpFault) → AmongLists y (xs ∷ rest) → test y ≡ true → IsFrom x y
@@ -187,14 +206,17 @@ module _ (test : DumpFault → Bool) where
         after y (inr m) p = l.least y m p
 
     -- in lists that are stages the first that passes is the least
-    least_by : (k : ℕ) (lists : List (List DumpFault)) (x : DumpFault) → Kinds Allowed k lists → first_of test lists ≡ Some x → IsLeastOfLists lists x
+    least_by : (k : ℕ) (lists : List (List DumpFault)) (x : DumpFault) → Kinds Allowed k lists
+        → first_of test lists ≡ Some x → IsLeastOfLists lists x
     least_by k [] x s e = absurd cc
     least_by k (xs ∷ rest) x s e = by (find test xs) refl e (least_by (suc k) rest x s.1)
       where
-        by : (o : Option DumpFault) → find test xs ≡ o → option_or o (first_of test rest) ≡ Some x → (first_of test rest ≡ Some x → IsLeastOfLists rest x) → IsLeastOfLists (xs ∷ rest) x
+        by : (o : Option DumpFault) → find test xs ≡ o → option_or o (first_of test rest) ≡ Some x
+            → (first_of test rest ≡ Some x → IsLeastOfLists rest x) → IsLeastOfLists (xs ∷ rest) x
         by None f e h = least_in_rest xs rest x f (h e)
         by (Some z) f e h = least_in_first k xs rest x s (least_of_list xs x s.0.rises (f ∙ e))
 
     -- the same of stages as a record
-    pub least_of_lists : (k : ℕ) (lists : List (List DumpFault)) (x : DumpFault) → AreStages Allowed k lists → first_of test lists ≡ Some x → IsLeastOfLists lists x
+    pub least_of_lists : (k : ℕ) (lists : List (List DumpFault)) (x : DumpFault) → AreStages Allowed k lists
+        → first_of test lists ≡ Some x → IsLeastOfLists lists x
     least_of_lists k lists x s e = least_by k lists x s.kinds e

@@ -23,18 +23,28 @@ stands d (RepeatedSite i) t = among_at (RepeatedSite i) (in_order d) 3 (among_be
 stands d TooManySites t = among_at TooManySites (in_order d) 4 (inl refl)
 stands d TooManyProcesses t = among_at TooManyProcesses (in_order d) 5 (inl refl)
 stands d (BadProcess i) t = among_at (BadProcess i) (in_order d) 6 (among_below BadProcess (length (processes d)) i t)
-stands d (RepeatedProcess i) t = among_at (RepeatedProcess i) (in_order d) 7 (among_below RepeatedProcess (length (processes d)) i t)
-stands d (UnknownSite i) t = among_at (UnknownSite i) (in_order d) 8 (among_below UnknownSite (length (processes d)) i t)
-stands d (UnknownDependent i j) t = among_at (UnknownDependent i j) (in_order d) 9 (among_rows UnknownDependent (λ i. length (entry d i).dependents) (length (processes d)) i j t.0 t.1)
-stands d (RepeatedDependent i j) t = among_at (RepeatedDependent i j) (in_order d) 10 (among_rows RepeatedDependent (λ i. length (entry d i).dependents) (length (processes d)) i j t.0 t.1)
-stands d (ActiveWithDependents i) t = among_at (ActiveWithDependents i) (in_order d) 11 (among_below ActiveWithDependents (length (processes d)) i t)
+stands d (RepeatedProcess i) t =
+    among_at (RepeatedProcess i) (in_order d) 7 (among_below RepeatedProcess (length (processes d)) i t)
+stands d (UnknownSite i) t =
+    among_at (UnknownSite i) (in_order d) 8 (among_below UnknownSite (length (processes d)) i t)
+stands d (UnknownDependent i j) t =
+    among_at (UnknownDependent i j) (in_order d) 9
+    (among_rows UnknownDependent (λ i. length (entry d i).dependents) (length (processes d)) i j t.0 t.1)
+stands d (RepeatedDependent i j) t =
+    among_at (RepeatedDependent i j) (in_order d) 10
+    (among_rows RepeatedDependent (λ i. length (entry d i).dependents) (length (processes d)) i j t.0 t.1)
+stands d (ActiveWithDependents i) t =
+    among_at (ActiveWithDependents i) (in_order d) 11 (among_below ActiveWithDependents (length (processes d)) i t)
 stands d TooManyDependencies t = among_at TooManyDependencies (in_order d) 12 (inl refl)
 stands d TooManyInTransit t = among_at TooManyInTransit (in_order d) 13 (inl refl)
-stands d (BadInTransit i) t = among_at (BadInTransit i) (in_order d) 14 (among_below BadInTransit (length (transits d)) i t)
-stands d (UnknownInTransit i) t = among_at (UnknownInTransit i) (in_order d) 15 (among_below UnknownInTransit (length (transits d)) i t)
+stands d (BadInTransit i) t =
+    among_at (BadInTransit i) (in_order d) 14 (among_below BadInTransit (length (transits d)) i t)
+stands d (UnknownInTransit i) t =
+    among_at (UnknownInTransit i) (in_order d) 15 (among_below UnknownInTransit (length (transits d)) i t)
 
 -- where the table has no first fault, no fault of the tree holds
-pub none_holds : (d : Data) → first_of (holds d) (in_order d) ≡ None → (fault : DumpFault) → IsOfTree d fault → holds d fault ≡ false
+pub none_holds : (d : Data) → first_of (holds d) (in_order d) ≡ None → (fault : DumpFault) → IsOfTree d fault
+    → holds d fault ≡ false
 none_holds d e fault t = all_fail (holds d) (in_order d) e fault (stands d fault t)
 
 -- the table is in stages of faults of the tree, from kind 4 on
@@ -49,8 +59,10 @@ in_stages d =
     and_then stage_below (IsOfTree d) 10 BadProcess (length (processes d)) (λ i. refl) (λ i l. l)
     and_then stage_below (IsOfTree d) 11 RepeatedProcess (length (processes d)) (λ i. refl) (λ i l. l)
     and_then stage_below (IsOfTree d) 12 UnknownSite (length (processes d)) (λ i. refl) (λ i l. l)
-    and_then stage_of_rows (IsOfTree d) 13 UnknownDependent (λ i. length (entry d i).dependents) (length (processes d)) (λ i j. refl) (λ i j l m. (l, m))
-    and_then stage_of_rows (IsOfTree d) 14 RepeatedDependent (λ i. length (entry d i).dependents) (length (processes d)) (λ i j. refl) (λ i j l m. (l, m))
+    and_then stage_of_rows (IsOfTree d) 13 UnknownDependent (λ i. length (entry d i).dependents) (length (processes d))
+    (λ i j. refl) (λ i j l m. (l, m))
+    and_then stage_of_rows (IsOfTree d) 14 RepeatedDependent (λ i. length (entry d i).dependents) (length (processes d))
+    (λ i j. refl) (λ i j l m. (l, m))
     and_then stage_below (IsOfTree d) 15 ActiveWithDependents (length (processes d)) (λ i. refl) (λ i l. l)
     and_then stage_of_one (IsOfTree d) 16 TooManyDependencies refl tt
     and_then stage_of_one (IsOfTree d) 17 TooManyInTransit refl tt

@@ -4,7 +4,8 @@ use Rattle.std.specs.Prelude.{slice_get, unwrap_or}
 use Rattle.cmh_dump.specs.Texts.{texts}
 
 -- one element more is taken
-pub take-next : {X : Type 0} (xs : List X) (i : ℕ) (x : X) → slice_get xs i ≡ Some x → take (suc i) xs ≡ take i xs ++ x ∷ []
+pub take-next : {X : Type 0} (xs : List X) (i : ℕ) (x : X) → slice_get xs i ≡ Some x
+    → take (suc i) xs ≡ take i xs ++ x ∷ []
 take-next [] i x e = absurd cc
 take-next (y ∷ ys) zero x e = ap (λ o. unwrap_or o y ∷ []) e
 take-next (y ∷ ys) (suc i) x e = ap (λ zs. y ∷ zs) (take-next ys i x e)
@@ -15,7 +16,8 @@ texts-append [] ys = refl
 texts-append (x ∷ xs) ys = ap (λ zs. x.now ∷ zs) (texts-append xs ys)
 
 -- the element at a place, as a list reads it and as the check says it
-pub at_place : {X Y : Type 0} (f : X → Y) (xs : List X) (i : ℕ) (x : X) → i < length xs → x ≡ get_or xs i x → slice_get (map f xs) i ≡ Some (f x)
+pub at_place : {X Y : Type 0} (f : X → Y) (xs : List X) (i : ℕ) (x : X) → i < length xs → x ≡ get_or xs i x
+    → slice_get (map f xs) i ≡ Some (f x)
 at_place f [] i x lt e = absurd (omega arith)
 at_place f (y ∷ ys) zero x lt e = ap (λ z. Some (f z)) (sym e)
 at_place f (y ∷ ys) (suc i) x lt e = at_place f ys i x (omega arith) e
@@ -38,12 +40,15 @@ get-at (y ∷ ys) zero x lt e = ap Some (sym e)
 get-at (y ∷ ys) (suc i) x lt e = get-at ys i x (omega arith) e
 
 -- one element more, as a function makes it
-pub map-next : {X Y : Type 0} (f : X → Y) (xs : List X) (i : ℕ) (x : X) → i < length xs → x ≡ get_or xs i x → map f (take (i + 1) xs) ≡ map f (take i xs) ++ f x ∷ []
+pub map-next : {X Y : Type 0} (f : X → Y) (xs : List X) (i : ℕ) (x : X) → i < length xs → x ≡ get_or xs i x
+    → map f (take (i + 1) xs) ≡ map f (take i xs) ++ f x ∷ []
 map-next f xs i x lt e =
     let next : i + 1 ≡ suc i = omega arith in
     ap (λ n. map f (take n xs)) next ∙ ap (map f) (take-next xs i x (get-at xs i x lt e)) ∙ map-last f (take i xs) x
 
 -- one element more, pushed on a list that is seen as what a function makes of those taken
-pub seen-next : {X Y Z : Type 0} (g : Z → Y) (f : X → Y) (zs more : List Z) (z : Z) (xs : List X) (i : ℕ) (x : X) → more ≡ zs ++ z ∷ [] → map g zs ≡ map f (take i xs) → g z ≡ f x → i < length xs → x ≡ get_or xs i x → map g more ≡ map f (take (i + 1) xs)
+pub seen-next : {X Y Z : Type 0} (g : Z → Y) (f : X → Y) (zs more : List Z) (z : Z) (xs : List X) (i : ℕ) (x : X)
+    → more ≡ zs ++ z ∷ [] → map g zs ≡ map f (take i xs) → g z ≡ f x → i < length xs → x ≡ get_or xs i x
+    → map g more ≡ map f (take (i + 1) xs)
 seen-next g f zs more z xs i x pushed seen same lt e =
     ap (map g) pushed ∙ map-last g zs z ∙ (λ t. seen t ++ same t ∷ []) ∙ sym (map-next f xs i x lt e)

@@ -44,33 +44,44 @@ map-map g f [] = refl
 map-map g f (x ∷ xs) = ap (λ ys. g (f x) ∷ ys) (map-map g f xs)
 
 -- the texts of values are those of the entries that they are seen as
-pub texts_of_views : {V : Type 0} (view : V → Data) (vs : List V) (d : Data) → map view vs ≡ entries_of d → map (λ v. text_of (view v)) vs ≡ map text_of (entries_of d)
+pub texts_of_views : {V : Type 0} (view : V → Data) (vs : List V) (d : Data) → map view vs ≡ entries_of d
+    → map (λ v. text_of (view v)) vs ≡ map text_of (entries_of d)
 texts_of_views view vs d e = map-map text_of view vs ∙ ap (map text_of) e
 
 -- a test of what a function makes of each element
-pub all-map : {X Y : Type 0} (test : Y → Bool) (f : X → Y) (xs : List X) → list_all (λ x. test (f x)) xs ≡ list_all test (map f xs)
+pub all-map : {X Y : Type 0} (test : Y → Bool) (f : X → Y) (xs : List X)
+    → list_all (λ x. test (f x)) xs ≡ list_all test (map f xs)
 all-map test f [] = refl
 all-map test f (x ∷ xs) = ap (λ b. test (f x) && b) (all-map test f xs)
 
 -- a test of the texts of values is one of the texts of the entries
-pub all_of_views : {V : Type 0} (test : List ℕ → Bool) (view : V → Data) (vs : List V) (d : Data) → map view vs ≡ entries_of d → list_all (λ v. test (text_of (view v))) vs ≡ list_all test (map text_of (entries_of d))
+pub all_of_views : {V : Type 0} (test : List ℕ → Bool) (view : V → Data) (vs : List V) (d : Data)
+    → map view vs ≡ entries_of d
+    → list_all (λ v. test (text_of (view v))) vs ≡ list_all test (map text_of (entries_of d))
 all_of_views test view vs d e =
     all-map test (λ v. text_of (view v)) vs ∙ ap (list_all test) (texts_of_views view vs d e)
 
 -- the text at a place of an array
-pub text_at_place : {V : Type 0} (view : V → Data) (vs : List V) (d : Data) (i : ℕ) (v : V) → map view vs ≡ entries_of d → true ≡ nat_lt i (length vs) → v ≡ get_or vs i v → text_of (view v) ≡ nth (texts_of d) i []
+pub text_at_place : {V : Type 0} (view : V → Data) (vs : List V) (d : Data) (i : ℕ) (v : V) → map view vs ≡ entries_of d
+    → true ≡ nat_lt i (length vs) → v ≡ get_or vs i v → text_of (view v) ≡ nth (texts_of d) i []
 text_at_place view vs d i v e within is =
     sym (ap (λ (o : Option (List ℕ)). unwrap_or o [])
-    (ap (λ ts. slice_get ts i) (sym (texts_of_views view vs d e)) ∙ at_place (λ w. text_of (view w)) vs i v (ltb-true i (length vs) (sym within)) is))
+    (ap (λ ts. slice_get ts i) (sym (texts_of_views view vs d e))
+    ∙ at_place (λ w. text_of (view w)) vs i v (ltb-true i (length vs) (sym within)) is))
 
 -- past the end of an array there is no text
-pub text_past : {V : Type 0} (view : V → Data) (vs : List V) (d : Data) (i : ℕ) → map view vs ≡ entries_of d → false ≡ nat_lt i (length vs) → [] ≡ nth (texts_of d) i []
+pub text_past : {V : Type 0} (view : V → Data) (vs : List V) (d : Data) (i : ℕ) → map view vs ≡ entries_of d
+    → false ≡ nat_lt i (length vs) → [] ≡ nth (texts_of d) i []
 text_past view vs d i e past =
     sym (ap (λ (o : Option (List ℕ)). unwrap_or o [])
-    (ap (λ ts. slice_get ts i) (sym (texts_of_views view vs d e)) ∙ get-past (map (λ w. text_of (view w)) vs) i (rw length-map (ltb-false i (length vs) (sym past)))))
+    (ap (λ ts. slice_get ts i) (sym (texts_of_views view vs d e))
+    ∙ get-past (map (λ w. text_of (view w)) vs) i (rw length-map (ltb-false i (length vs) (sym past)))))
 
 -- an array of two texts
-pub is_pair_of : {V : Type 0} (view : V → Data) (vs : List V) (d : Data) → map view vs ≡ entries_of d → length vs ≡ 2 → list_all (λ v. is_some (as_str (view v))) vs ≡ is_pair d
+pub is_pair_of : {V : Type 0} (view : V → Data) (vs : List V) (d : Data) → map view vs ≡ entries_of d → length vs ≡ 2
+    → list_all (λ v. is_some (as_str (view v))) vs ≡ is_pair d
 is_pair_of view vs d e two =
     all-map (λ x. is_some (as_str x)) view vs ∙ ap (list_all (λ x. is_some (as_str x))) e
-    ∙ sym (ap (λ n. eqb n 2 && list_all (λ x. is_some (as_str x)) (entries_of d)) (ap length (sym e) ∙ length-map vs view ∙ two))
+    ∙ sym
+    (ap (λ n. eqb n 2 && list_all (λ x. is_some (as_str x)) (entries_of d))
+    (ap length (sym e) ∙ length-map vs view ∙ two))

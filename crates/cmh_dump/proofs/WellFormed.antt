@@ -42,23 +42,29 @@ name_count_is : (d : Data) → length (names d) ≡ length (processes d)
 name_count_is d = length-map (entries d) (λ e. e.name) ∙ length-map (processes d) entry_of
 
 -- the dependents of a process are the places of those that its entry names, past the end too
-dependents_by : (d : Data) (es : List Entry) (i : ℕ) → (get_or (map (process_of d) es) i graph.nobody).dependents ≡ map (place_of (names d)) (nth es i nothing).dependents
+dependents_by : (d : Data) (es : List Entry) (i : ℕ)
+    → (get_or (map (process_of d) es) i graph.nobody).dependents
+    ≡ map (place_of (names d)) (nth es i nothing).dependents
 dependents_by d [] i = refl
 dependents_by d (e ∷ es) zero = refl
 dependents_by d (e ∷ es) (suc i) = dependents_by d es i
 
 -- the same of the graph of the tree
-dependents_are : (d : Data) (i : ℕ) → graph.dependents_of (graph_of d) i ≡ map (place_of (names d)) (entry d i).dependents
+dependents_are : (d : Data) (i : ℕ)
+    → graph.dependents_of (graph_of d) i ≡ map (place_of (names d)) (entry d i).dependents
 dependents_are d i = dependents_by d (entries d) i
 
 -- an entry of a dependent set is the place of the dependent that the tree names
-entry_is : (d : Data) (i j : ℕ) → graph.HasEntry (graph_of d) i j → HasDependent d i j × (graph.entry (graph_of d) i j ≡ place_of (names d) (dependent d i j))
+entry_is : (d : Data) (i j : ℕ) → graph.HasEntry (graph_of d) i j
+    → HasDependent d i j × (graph.entry (graph_of d) i j ≡ place_of (names d) (dependent d i j))
 entry_is d i j h =
     let ds = (entry d i).dependents in
-    let l : length (graph.dependents_of (graph_of d) i) ≡ length ds = ap length (dependents_are d i) ∙ length-map ds (place_of (names d)) in
+    let l : length (graph.dependents_of (graph_of d) i) ≡ length ds =
+    ap length (dependents_are d i) ∙ length-map ds (place_of (names d)) in
     let m : j < length ds = omega (arith, h.1, l) in (
       (omega (arith, h.0, process_count_is d), m),
-      ap (λ ns. get_or ns j 0) (dependents_are d i) ∙ get_or-map (place_of (names d)) ds j [] 0 m ∙ ap (place_of (names d)) (sym (unwrap_or-slice_get ds j [])),
+      ap (λ ns. get_or ns j 0) (dependents_are d i) ∙ get_or-map (place_of (names d)) ds j [] 0 m
+          ∙ ap (place_of (names d)) (sym (unwrap_or-slice_get ds j [])),
     )
 
 -- in a clean tree each dependent is a name of the tree
@@ -69,16 +75,20 @@ known d clean i j h = not-false (is_among (names d) (dependent d i j)) (clean (U
 within : (d : Data) → IsClean d → graph.IsWithinGraph (graph_of d)
 within d clean i j h =
     let e = entry_is d i j h in
-    let l : place_of (names d) (dependent d i j) < length (names d) = place_within (names d) (dependent d i j) (known d clean i j e.0) in
+    let l : place_of (names d) (dependent d i j) < length (names d) =
+    place_within (names d) (dependent d i j) (known d clean i j e.0) in
     omega (arith, e.1, l, name_count_is d, process_count_is d)
 
 -- and the dependents of a process differ
-distinct : (d : Data) → IsClean d → (i j k : ℕ) → graph.HasEntry (graph_of d) i j → k < j → graph.entry (graph_of d) i k ≢ graph.entry (graph_of d) i j
+distinct : (d : Data) → IsClean d → (i j k : ℕ) → graph.HasEntry (graph_of d) i j → k < j
+    → graph.entry (graph_of d) i k ≢ graph.entry (graph_of d) i j
 distinct d clean i j k h l s =
     let later = entry_is d i j h in
     let earlier = entry_is d i k (h.0, omega (arith, h.1, l)) in
     let ds = (entry d i).dependents in
-    let same : dependent d i k ≡ dependent d i j = same_from_places (names d) (dependent d i k) (dependent d i j) (known d clean i k earlier.0) (known d clean i j later.0) (sym earlier.1 ∙ s ∙ later.1) in
+    let same : dependent d i k ≡ dependent d i j =
+    same_from_places (names d) (dependent d i k) (dependent d i j) (known d clean i k earlier.0)
+    (known d clean i j later.0) (sym earlier.1 ∙ s ∙ later.1) in
     let size : length (take j ds) ≡ j = length-take-le j ds (omega (arith, later.0.1)) in
     differs (take j ds) (dependent d i j) k (clean (RepeatedDependent i j) later.0) (omega (arith, size, l))
     (get_or-take j ds k [] l ∙ sym (unwrap_or-slice_get ds k []) ∙ same)
@@ -86,7 +96,8 @@ distinct d clean i j k h l s =
 -- ---- active processes
 
 -- a process has the state that the tree tells
-state_by : (d : Data) (es : List Entry) (i : ℕ) → i < length es → (get_or (map (process_of d) es) i graph.nobody).state ≡ (nth es i nothing).state
+state_by : (d : Data) (es : List Entry) (i : ℕ) → i < length es
+    → (get_or (map (process_of d) es) i graph.nobody).state ≡ (nth es i nothing).state
 state_by d [] i l = absurd (omega arith)
 state_by d (e ∷ es) zero l = refl
 state_by d (e ∷ es) (suc i) l = state_by d es i (omega arith)
@@ -98,49 +109,65 @@ past_the_end (e ∷ es) zero l = absurd (omega arith)
 past_the_end (e ∷ es) (suc i) l = past_the_end es i (omega arith)
 
 -- an active process that has no dependents too many has none
-none_of_active : (s : State) (ds : List (List ℕ)) → graph.is_idle_state s ≡ false → (is_active_state s && nat_lt 0 (length ds)) ≡ false → ds ≡ []
+none_of_active : (s : State) (ds : List (List ℕ)) → graph.is_idle_state s ≡ false
+    → (is_active_state s && nat_lt 0 (length ds)) ≡ false → ds ≡ []
 none_of_active Idle ds e h = absurd cc
 none_of_active Active [] e h = refl
 none_of_active Active (x ∷ ds) e h = let l = ltb-false 0 (suc (length ds)) h in absurd (omega (arith, l))
 
 -- in the graph of a clean tree a process that isn't idle has no dependents
-waiting : (d : Data) → IsClean d → (i : ℕ) → graph.is_idle (graph_of d) i ≡ false → graph.dependents_of (graph_of d) i ≡ []
+waiting : (d : Data) → IsClean d → (i : ℕ) → graph.is_idle (graph_of d) i ≡ false
+    → graph.dependents_of (graph_of d) i ≡ []
 waiting d clean i e = dependents_are d i ∙ ap (map (place_of (names d))) (by (cases_lt i (length (entries d))))
   where
     by : (i < length (entries d)) ⊎ (length (entries d) ≤ i) → (entry d i).dependents ≡ []
     by (inl l) =
         let here : i < length (processes d) = omega (arith, l, length-map (processes d) entry_of) in
-        none_of_active (entry d i).state (entry d i).dependents (ap graph.is_idle_state (sym (state_by d (entries d) i l)) ∙ e) (clean (ActiveWithDependents i) here)
+        none_of_active (entry d i).state (entry d i).dependents
+        (ap graph.is_idle_state (sym (state_by d (entries d) i l)) ∙ e) (clean (ActiveWithDependents i) here)
     by (inr l) = past_the_end (entries d) i l
 
 -- ---- the sum of the dependents
 
 -- a process of the graph has as many dependents as the tree tells
-counts_by : (d : Data) (es : List Entry) → map (λ p. length p.dependents) (map (process_of d) es) ≡ map (λ e. length e.dependents) es
+counts_by : (d : Data) (es : List Entry)
+    → map (λ p. length p.dependents) (map (process_of d) es) ≡ map (λ e. length e.dependents) es
 counts_by d [] = refl
 counts_by d (e ∷ es) = λ i. length-map e.dependents (place_of (names d)) i ∷ counts_by d es i
 
 -- the entries of the graph are as many as the dependents of the tree
 entry_count_is : (d : Data) → entry_count (graph_of d) ≡ dependent_total d
-entry_count_is d = sym (sum-map (λ p. length p.dependents) (map (process_of d) (entries d))) ∙ ap sum (counts_by d (entries d)) ∙ sum-map (λ e. length e.dependents) (entries d)
+entry_count_is d =
+    sym (sum-map (λ p. length p.dependents) (map (process_of d) (entries d))) ∙ ap sum (counts_by d (entries d))
+    ∙ sum-map (λ e. length e.dependents) (entries d)
 
 -- ---- the messages in transit
 
 -- in a clean tree the sender and the receiver of a message are processes of the graph
-known_in_pair : (d : Data) → IsClean d → (i k : ℕ) → HasTransit d i → k < 2 → place_in_pair d (get_or (transits d) i null) k < graph.process_count (graph_of d)
+known_in_pair : (d : Data) → IsClean d → (i k : ℕ) → HasTransit d i → k < 2
+    → place_in_pair d (get_or (transits d) i null) k < graph.process_count (graph_of d)
 known_in_pair d clean i k h l =
     let t = get_or (transits d) i null in
     let at : nth (transits d) i null ≡ t = unwrap_or-slice_get (transits d) i null in
-    let pair : is_pair t ≡ true = ap is_pair (sym at) ∙ not-false (is_pair (nth (transits d) i null)) (clean (BadInTransit i) h) in
+    let pair : is_pair t ≡ true =
+    ap is_pair (sym at) ∙ not-false (is_pair (nth (transits d) i null)) (clean (BadInTransit i) h) in
     let two = eqb-true (length (entries_of t)) 2 (and_parts (length (entries_of t) == 2) _ pair).0 in
     let size : length (texts_of t) ≡ length (entries_of t) = length-map (entries_of t) text_of in
-    let all : list_all (is_among (names d)) (texts_of t) ≡ true = ap (λ u. list_all (is_among (names d)) (texts_of u)) (sym at) ∙ not-false (list_all (is_among (names d)) (texts_of (nth (transits d) i null))) (clean (UnknownInTransit i) h) in
-    let one : is_among (names d) (get_or (texts_of t) k []) ≡ true = and_at (list_all (is_among (names d))) (is_among (names d)) refl (λ _ _. refl) (texts_of t) k [] (omega (arith, l, two, size)) all in
-    let place = place_within (names d) (nth (texts_of t) k []) (ap (is_among (names d)) (unwrap_or-slice_get (texts_of t) k []) ∙ one) in
+    let all : list_all (is_among (names d)) (texts_of t) ≡ true =
+    ap (λ u. list_all (is_among (names d)) (texts_of u)) (sym at)
+    ∙ not-false (list_all (is_among (names d)) (texts_of (nth (transits d) i null)))
+    (clean (UnknownInTransit i) h) in
+    let one : is_among (names d) (get_or (texts_of t) k []) ≡ true =
+    and_at (list_all (is_among (names d))) (is_among (names d)) refl (λ _ _. refl) (texts_of t) k []
+    (omega (arith, l, two, size)) all in
+    let place =
+    place_within (names d) (nth (texts_of t) k [])
+    (ap (is_among (names d)) (unwrap_or-slice_get (texts_of t) k []) ∙ one) in
     omega (arith, place, name_count_is d, process_count_is d)
 
 -- a message of the graph is the one that the tree tells
-transit_is : (d : Data) (i : ℕ) → i < length (graph_of d).in_transit → HasTransit d i × (message_at (graph_of d) i ≡ transit_of d (get_or (transits d) i null))
+transit_is : (d : Data) (i : ℕ) → i < length (graph_of d).in_transit
+    → HasTransit d i × (message_at (graph_of d) i ≡ transit_of d (get_or (transits d) i null))
 transit_is d i l =
     let m : i < length (transits d) = omega (arith, l, length-map (transits d) (transit_of d)) in
     (m, get_or-map (transit_of d) (transits d) i null (0, 0) m)
@@ -150,14 +177,27 @@ transit_is d i l =
 -- the graph of a clean tree is well formed
 pub clean_is_well_formed : (d : Data) → IsClean d → IsWellFormed (graph_of d)
 clean_is_well_formed d clean = record {
-  processes = omega (arith, process_count_is d, ltb-false MAX_PROCESSES (length (processes d)) (clean TooManyProcesses tt));
-  dependencies = omega (arith, entry_count_is d, ltb-false MAX_DEPENDENCIES (dependent_total d) (clean TooManyDependencies tt));
+  processes =
+      omega (arith, process_count_is d, ltb-false MAX_PROCESSES (length (processes d)) (clean TooManyProcesses tt));
+  dependencies =
+      omega (arith, entry_count_is d, ltb-false MAX_DEPENDENCIES (dependent_total d) (clean TooManyDependencies tt));
   within = within d clean;
   distinct = distinct d clean;
   waiting = waiting d clean;
-  messages = omega (arith, length-map (transits d) (transit_of d), ltb-false MAX_IN_TRANSIT (length (transits d)) (clean TooManyInTransit tt));
-  sent_within = λ i l. let t = transit_is d i l in subst (λ (m : ℕ × ℕ). m.0 < graph.process_count (graph_of d)) (sym t.1) (known_in_pair d clean i 0 t.0 (omega arith));
-  received_within = λ i l. let t = transit_is d i l in subst (λ (m : ℕ × ℕ). m.1 < graph.process_count (graph_of d)) (sym t.1) (known_in_pair d clean i 1 t.0 (omega arith));
+  messages =
+      omega (
+        arith,
+        length-map (transits d) (transit_of d),
+        ltb-false MAX_IN_TRANSIT (length (transits d)) (clean TooManyInTransit tt),
+      );
+  sent_within =
+      λ i l. let t = transit_is d i l in
+      subst (λ (m : ℕ × ℕ). m.0 < graph.process_count (graph_of d)) (sym t.1)
+      (known_in_pair d clean i 0 t.0 (omega arith));
+  received_within =
+      λ i l. let t = transit_is d i l in
+      subst (λ (m : ℕ × ℕ). m.1 < graph.process_count (graph_of d)) (sym t.1)
+      (known_in_pair d clean i 1 t.0 (omega arith));
 }
 
 -- where the table has no first fault, the graph of the tree is well formed
@@ -165,7 +205,8 @@ pub well_formed : (d : Data) → first_of (holds d) (in_order d) ≡ None → Is
 well_formed d e = clean_is_well_formed d (none_holds d e)
 
 -- a well-formed graph is refused for want of memory alone
-pub refused_for_memory : (g : graph.Graph) → IsWellFormed g → (e : GraphFault) → (e ≡ Memory) ⊎ IsFirstFault g e → e ≡ Memory
+pub refused_for_memory : (g : graph.Graph) → IsWellFormed g → (e : GraphFault) → (e ≡ Memory) ⊎ IsFirstFault g e
+    → e ≡ Memory
 refused_for_memory g w e (inl m) = m
 refused_for_memory g w e (inr f) = absurd ((graph_law g).0 w e f.had)
 
@@ -178,4 +219,5 @@ pub well_formed_law : WellFormedLaw
 well_formed_law = λ bytes g e.
     let r = (no_fault_law bytes g).0 e in
     let d = r.1.0 in
-    subst IsWellFormed (sym r.1.2) (clean_is_well_formed d (clean d (λ fault h. r.0 fault (bytes_have bytes d fault r.1.1 h))))
+    subst IsWellFormed (sym r.1.2)
+    (clean_is_well_formed d (clean d (λ fault h. r.0 fault (bytes_have bytes d fault r.1.1 h))))

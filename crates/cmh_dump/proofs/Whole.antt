@@ -24,10 +24,13 @@ pub no_json : (bytes : List ℕ) → length bytes ≤ MAX_BYTES → tree_of byte
 no_json bytes h e = short bytes h ∙ ap of_tree e
 
 -- bytes mean what their tree means
-pub of_the_tree : (bytes : List ℕ) (d : Data) (r : Result Graph DumpFault) → length bytes ≤ MAX_BYTES → tree_of bytes ≡ Some d → dump_of_tree d ≡ r → dump bytes ≡ r
+pub of_the_tree : (bytes : List ℕ) (d : Data) (r : Result Graph DumpFault) → length bytes ≤ MAX_BYTES
+    → tree_of bytes ≡ Some d → dump_of_tree d ≡ r → dump bytes ≡ r
 of_the_tree bytes d r h e t = short bytes h ∙ ap of_tree e ∙ t
 
 -- and are refused as their tree is, want of memory apart
-pub err_of_the_tree : (bytes : List ℕ) (d : Data) (r : Result Graph DumpFault) → length bytes ≤ MAX_BYTES → tree_of bytes ≡ Some d → IfErr r (λ e. e ≢ Memory → dump_of_tree d ≡ Err e) → IfErr r (λ e. e ≢ Memory → dump bytes ≡ Err e)
+pub err_of_the_tree : (bytes : List ℕ) (d : Data) (r : Result Graph DumpFault) → length bytes ≤ MAX_BYTES
+    → tree_of bytes ≡ Some d → IfErr r (λ e. e ≢ Memory → dump_of_tree d ≡ Err e)
+    → IfErr r (λ e. e ≢ Memory → dump bytes ≡ Err e)
 err_of_the_tree bytes d (Ok g) h e t = tt
 err_of_the_tree bytes d (Err f) h e t = λ not_memory. of_the_tree bytes d (Err f) h e (t not_memory)

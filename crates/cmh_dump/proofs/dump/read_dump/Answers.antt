@@ -4,4 +4,6 @@ use Rattle.cmh_dump.proofs.Whole.{err_of_the_tree}
 use Rattle.cmh_dump.proofs.dump.read_dump.Goals as goal
 
 pub returns-clause-err : goal.returns-clause-err
-returns-clause-err c = err_of_the_tree c.args.bytes.now (view c.in_ok-tree.tree) c.read_tree.result (omega arith) c.in_ok-tree.ensures.ok c.read_tree.ensures.err
+returns-clause-err c =
+    err_of_the_tree c.args.bytes.now (view c.in_ok-tree.tree) c.read_tree.result (omega arith) c.in_ok-tree.ensures.ok
+    c.read_tree.ensures.err

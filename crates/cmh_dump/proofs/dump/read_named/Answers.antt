@@ -10,7 +10,8 @@ pub returns-in_err-names : goal.returns-in_err-names
 returns-in_err-names c =
     let d = view c.args.tree.now in
     let p = err_from_is_err_and c.from_residual.result c.from_residual.ensures.1 in
-    λ read. rw (p.1, p.2) (refused_here d (name_faults d) (faults_from_entries d) _ (c.in_err-names.ensures.judges d read.written))
+    λ read. rw (p.1, p.2)
+    (refused_here d (name_faults d) (faults_from_entries d) _ (c.in_err-names.ensures.judges d read.written))
 
 pub returns : goal.returns
 returns c =

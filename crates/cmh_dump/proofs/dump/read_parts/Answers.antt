@@ -8,15 +8,18 @@ use Rattle.cmh_dump.proofs.dump.read_parts.Goals as goal
 pub returns-in_err-judge_top : goal.returns-in_err-judge_top
 returns-in_err-judge_top c =
     let d = view c.args.tree.now in
+    let later = site_faults d ++ process_faults d ++ faults_from_names d in
     let p = err_from_is_err_and c.from_residual.result c.from_residual.ensures.1 in
-    rw (p.1, p.2) (refused_here d (top_faults d) (site_faults d ++ process_faults d ++ faults_from_names d) _ c.in_err-judge_top.ensures)
+    rw (p.1, p.2) (refused_here d (top_faults d) later _ c.in_err-judge_top.ensures)
 
 pub returns-in_err-sites : goal.returns-in_err-sites
 returns-in_err-sites c =
     let d = view c.args.tree.now in
+    let later = process_faults d ++ faults_from_names d in
     let p = err_from_is_err_and c.from_residual-in_err-sites.result c.from_residual-in_err-sites.ensures.1 in
-    rw (p.1, p.2) (refused_later d (top_faults d) (site_faults d ++ process_faults d ++ faults_from_names d) _ c.in_ok-judge_top.ensures
-    (refused_here d (site_faults d) (process_faults d ++ faults_from_names d) _ c.in_err-sites.ensures.judges))
+    rw (p.1, p.2)
+    (refused_later d (top_faults d) (site_faults d ++ later) _ c.in_ok-judge_top.ensures
+    (refused_here d (site_faults d) later _ c.in_err-sites.ensures.judges))
 
 pub returns-in_err-entries : goal.returns-in_err-entries
 returns-in_err-entries c =
@@ -28,7 +31,13 @@ returns-in_err-entries c =
 pub returns : goal.returns
 returns c =
     let d = view c.args.tree.now in
-    built_later d (top_faults d) (site_faults d ++ process_faults d ++ faults_from_names d) c.read_named.result c.in_ok-judge_top.ensures
-    (built_later d (site_faults d) (process_faults d ++ faults_from_names d) c.read_named.result c.in_ok-sites.ensures.judges
-    (built_later d (process_faults d) (faults_from_names d) c.read_named.result c.in_ok-entries.ensures.judges
-    (c.read_named.ensures (record { written = ap (map entry_view) c.deref.ensures.value ∙ c.in_ok-entries.ensures.read; are_sites = c.in_ok-sites.ensures.read }))))
+    let result = c.read_named.result in
+    let later = process_faults d ++ faults_from_names d in
+    built_later d (top_faults d) (site_faults d ++ later) result c.in_ok-judge_top.ensures
+    (built_later d (site_faults d) later result c.in_ok-sites.ensures.judges
+    (built_later d (process_faults d) (faults_from_names d) result c.in_ok-entries.ensures.judges
+    (c.read_named.ensures
+    record {
+      written = ap (map entry_view) c.deref.ensures.value ∙ c.in_ok-entries.ensures.read;
+      are_sites = c.in_ok-sites.ensures.read;
+    })))

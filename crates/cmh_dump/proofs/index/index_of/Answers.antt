@@ -4,9 +4,15 @@ use Rattle.cmh_dump.proofs.index.index_of.Goals as goal
 
 pub returns-then-not-is_new : goal.returns-then-not-is_new
 returns-then-not-is_new c =
-    let p = repeated c.args.names.now c.loop-i.index.keys c.loop-i.i (record { ref_ptr = (0, 0); now = [] }) c.in_ok-is_new.is_new c.loop-i-test.true c.loop-i.invariant.0 c.in_ok-is_new.ensures.added c.if-not-is_new.true in
+    let p =
+    repeated c.args.names.now c.loop-i.index.keys c.loop-i.i (record { ref_ptr = (0, 0); now = [] })
+    c.in_ok-is_new.is_new c.loop-i-test.true c.loop-i.invariant.0 c.in_ok-is_new.ensures.added
+    c.if-not-is_new.true in
     record { within = p.0; repeated = p.1; before = c.loop-i.invariant.1 }
 
 pub loop-i-preserved : goal.loop-i-preserved
 loop-i-preserved c =
-    rw c.in_ok-is_new.ensures.keys (not_repeated c.args.names.now c.loop-i.index.keys c.loop-i.i (record { ref_ptr = (0, 0); now = [] }) c.in_ok-is_new.is_new c.loop-i-test.true c.loop-i.invariant.0 c.in_ok-is_new.ensures.added c.if-not-is_new.false c.loop-i.invariant.1)
+    rw c.in_ok-is_new.ensures.keys
+    (not_repeated c.args.names.now c.loop-i.index.keys c.loop-i.i (record { ref_ptr = (0, 0); now = [] })
+    c.in_ok-is_new.is_new c.loop-i-test.true c.loop-i.invariant.0 c.in_ok-is_new.ensures.added c.if-not-is_new.false
+    c.loop-i.invariant.1)

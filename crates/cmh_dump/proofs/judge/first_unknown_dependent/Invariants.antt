@@ -6,4 +6,5 @@ use Rattle.cmh_dump.proofs.Pairs.{LeftDecides}
 use Rattle.cmh_dump.proofs.judge.first_unknown_dependent.Given as goal
 
 abbrev pub invariant-loop-i : goal.invariant-loop-i
-invariant-loop-i l = LeftDecides (λ e. position (λ name. not (is_among (texts l.names.keys) name.now)) e.dependents.items) l.entries l.i
+invariant-loop-i l =
+    LeftDecides (λ e. position (λ name. not (is_among (texts l.names.keys) name.now)) e.dependents.items) l.entries l.i

@@ -13,4 +13,5 @@ pub returns-clause-judges : goal.returns-clause-judges
 returns-clause-judges c =
     λ d seen _. name_repeated d (texts c.deref.result.now) c.in-Err-Repeated.i
     (ap texts c.deref.ensures.value ∙ c.in_ok-names.ensures ∙ names_seen d c.args.entries.now seen)
-    (repeat_of (texts c.deref.result.now) c.in-Err-Repeated.field-0 c.in-Err-Repeated.i c.in-Err-Repeated.field-0-is c.in-Err-Repeated.ensures)
+    (repeat_of (texts c.deref.result.now) c.in-Err-Repeated.field-0 c.in-Err-Repeated.i c.in-Err-Repeated.field-0-is
+    c.in-Err-Repeated.ensures)

@@ -5,19 +5,22 @@ use Rattle.cmh_dump.proofs.judge.judge_entries.Goals as goal
 
 pub returns-in-Some : goal.returns-in-Some
 returns-in-Some c =
-    λ d seen are_sites are_names _. site_unknown d c.args.entries.now seen (texts c.args.sites.now.keys) (texts c.args.names.now.keys) are_sites are_names c.in-Some.i
+    λ d seen are_sites are_names _. site_unknown d c.args.entries.now seen (texts c.args.sites.now.keys)
+    (texts c.args.names.now.keys) are_sites are_names c.in-Some.i
     (sym c.first_unknown_site.ensures ∙ c.in-Some.is)
 
 pub returns-in-Some-first_unknown_dependent : goal.returns-in-Some-first_unknown_dependent
 returns-in-Some-first_unknown_dependent c =
-    λ d seen are_sites are_names _. dependent_unknown d c.args.entries.now seen (texts c.args.sites.now.keys) (texts c.args.names.now.keys) are_sites are_names
+    λ d seen are_sites are_names _. dependent_unknown d c.args.entries.now seen (texts c.args.sites.now.keys)
+    (texts c.args.names.now.keys) are_sites are_names
     c.in-Some-first_unknown_dependent.i c.in-Some-first_unknown_dependent.j
     (sym c.first_unknown_site.ensures ∙ c.in_default.is)
     (sym c.first_unknown_dependent.ensures ∙ c.in-Some-first_unknown_dependent.is)
 
 pub returns-in-Some-2 : goal.returns-in-Some-2
 returns-in-Some-2 c =
-    λ d seen are_sites are_names _. dependent_repeated d c.args.entries.now seen (texts c.args.sites.now.keys) (texts c.args.names.now.keys) are_sites are_names
+    λ d seen are_sites are_names _. dependent_repeated d c.args.entries.now seen (texts c.args.sites.now.keys)
+    (texts c.args.names.now.keys) are_sites are_names
     c.in-Some-2.i c.in-Some-2.j
     (sym c.first_unknown_site.ensures ∙ c.in_default.is)
     (sym c.first_unknown_dependent.ensures ∙ c.in_default-first_unknown_dependent.is)
@@ -25,7 +28,8 @@ returns-in-Some-2 c =
 
 pub returns-in-Some-first_active_with_dependents : goal.returns-in-Some-first_active_with_dependents
 returns-in-Some-first_active_with_dependents c =
-    λ d seen are_sites are_names _. active_waits d c.args.entries.now seen (texts c.args.sites.now.keys) (texts c.args.names.now.keys) are_sites are_names
+    λ d seen are_sites are_names _. active_waits d c.args.entries.now seen (texts c.args.sites.now.keys)
+    (texts c.args.names.now.keys) are_sites are_names
     c.in-Some-first_active_with_dependents.i
     (sym c.first_unknown_site.ensures ∙ c.in_default.is)
     (sym c.first_unknown_dependent.ensures ∙ c.in_default-first_unknown_dependent.is)
@@ -34,7 +38,8 @@ returns-in-Some-first_active_with_dependents c =
 
 pub returns-then-has_too_many_dependents : goal.returns-then-has_too_many_dependents
 returns-then-has_too_many_dependents c =
-    λ d seen are_sites are_names _. dependencies_many d c.args.entries.now seen (texts c.args.sites.now.keys) (texts c.args.names.now.keys) are_sites are_names
+    λ d seen are_sites are_names _. dependencies_many d c.args.entries.now seen (texts c.args.sites.now.keys)
+    (texts c.args.names.now.keys) are_sites are_names
     (sym c.first_unknown_site.ensures ∙ c.in_default.is)
     (sym c.first_unknown_dependent.ensures ∙ c.in_default-first_unknown_dependent.is)
     (sym c.in_ok-i.ensures ∙ c.in_default-2.is)
@@ -43,7 +48,8 @@ returns-then-has_too_many_dependents c =
 
 pub returns : goal.returns
 returns c =
-    λ d seen are_sites are_names. entries_judged d c.args.entries.now seen (texts c.args.sites.now.keys) (texts c.args.names.now.keys) are_sites are_names
+    λ d seen are_sites are_names. entries_judged d c.args.entries.now seen (texts c.args.sites.now.keys)
+    (texts c.args.names.now.keys) are_sites are_names
     (sym c.first_unknown_site.ensures ∙ c.in_default.is)
     (sym c.first_unknown_dependent.ensures ∙ c.in_default-first_unknown_dependent.is)
     (sym c.in_ok-i.ensures ∙ c.in_default-2.is)

@@ -6,4 +6,5 @@ use Rattle.cmh_dump.proofs.transit.is_pair.Goals as goal
 pub returns-then-entries-eq2 : goal.returns-then-entries-eq2
 returns-then-entries-eq2 c =
     c.are_texts.ensures
-    ∙ is_pair_of view c.entries_in-entries.result.now (view c.args.message.now) c.entries_in-entries.ensures c.if-entries-eq2.true
+    ∙ is_pair_of view c.entries_in-entries.result.now (view c.args.message.now) c.entries_in-entries.ensures
+    c.if-entries-eq2.true

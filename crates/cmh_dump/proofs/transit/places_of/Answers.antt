@@ -13,4 +13,6 @@ loop-message-preserved c =
     let to = c.place_of-to.ensures ∙ ap (place_of names) c.name_in_pair-in-loop-message.ensures in
     c.in_ok-push.ensures.items
     ∙ (λ i. c.loop-message.invariant i ++ (from i, to i) ∷ [])
-    ∙ sym (map-next (λ m. places_in_pair names (view m)) c.args.messages.now c.loop-message.message-index c.message-item.result c.loop-message-test.true c.message-item.is)
+    ∙ sym
+    (map-next (λ m. places_in_pair names (view m)) c.args.messages.now c.loop-message.message-index
+    c.message-item.result c.loop-message-test.true c.message-item.is)

@@ -5,4 +5,5 @@ use Rattle.cmh_dump.specs.Texts.{texts}
 use Rattle.cmh_dump.proofs.transit.places_of.Given as goal
 
 abbrev pub invariant-loop-message : goal.invariant-loop-message
-invariant-loop-message l = l.places.items ≡ map (λ m. places_in_pair (texts l.names.keys) (view m)) (take l.message-index l.messages)
+invariant-loop-message l =
+    l.places.items ≡ map (λ m. places_in_pair (texts l.names.keys) (view m)) (take l.message-index l.messages)
