@@ -17,7 +17,8 @@ use Rattle.cmh_command.specs.declared.list.ListFault.TheVariants.{Memory}
 -- ---- one item
 
 -- what makes an item a number
-pub number_parts : (item : List ℕ) → is_number item ≡ true → (0 < length item) × (all_ascii_digits item ≡ true) × (digits_value 10 item < 2 ^ 64)
+pub number_parts : (item : List ℕ) → is_number item ≡ true
+    → (0 < length item) × (all_ascii_digits item ≡ true) × (digits_value 10 item < 2 ^ 64)
 unfolding is_number
 number_parts item h =
     let outer = and_parts (ltb 0 (length item) && all_ascii_digits item) (ltb (digits_value 10 item) (2 ^ 64)) h in
@@ -25,7 +26,8 @@ number_parts item h =
     (ltb-true 0 (length item) inner.0, inner.1, ltb-true (digits_value 10 item) (2 ^ 64) outer.1)
 
 -- and nothing else does
-pub parts_number : (item : List ℕ) → 0 < length item → all_ascii_digits item ≡ true → digits_value 10 item < 2 ^ 64 → is_number item ≡ true
+pub parts_number : (item : List ℕ) → 0 < length item → all_ascii_digits item ≡ true → digits_value 10 item < 2 ^ 64
+    → is_number item ≡ true
 unfolding is_number
 parts_number item some digits fits =
     and_from (ltb 0 (length item) && all_ascii_digits item) (ltb (digits_value 10 item) (2 ^ 64))
@@ -71,10 +73,13 @@ digits_model : IsNumeralModel (λ ds. all_ascii_digits ds ≡ true) (digits_valu
 digits_model = numerals_by_value (λ ds. all_ascii_digits ds ≡ true) tells_all_ascii_digits
 
 -- without a sign, what `parse` gives is the number that the item writes
-pub parsed : {E : Type 0} (item : List ℕ) (r : Result ℕ E) → ParsesUnsigned 64 10 item r → get_or item 0 0 ≢ 43 → result_ok r ≡ number_of item
+pub parsed : {E : Type 0} (item : List ℕ) (r : Result ℕ E) → ParsesUnsigned 64 10 item r → get_or item 0 0 ≢ 43
+    → result_ok r ≡ number_of item
 parsed item r h plain = by_result r (parse_plain digits_model 64 item r h plain)
   where
-    by_result : {E : Type 0} (r : Result ℕ E) → OkIff r ((all_ascii_digits item ≡ true) × (0 < length item) × (digits_value 10 item < 2 ^ 64)) (digits_value 10 item) → result_ok r ≡ number_of item
+    by_result : {E : Type 0} (r : Result ℕ E)
+        → OkIff r ((all_ascii_digits item ≡ true) × (0 < length item) × (digits_value 10 item < 2 ^ 64))
+        (digits_value 10 item) → result_ok r ≡ number_of item
     by_result (Ok x) k = rw (parts_number item k.0.1 k.0.0 k.0.2) (ap Some k.1)
     by_result (Err e) k = by_test (is_number item) refl
       where
@@ -90,11 +95,14 @@ cut_items [] some = absurd (some refl)
 cut_items (b ∷ bs) some = refl
 
 -- an item that was cut from the text
-pub item_is : (list : List (Bor (List ℕ))) (text : List ℕ) (i : ℕ) (d : Bor (List ℕ)) → map (λ item. item.now) list ≡ items_of text → i < length list → (get_or list i d).now ≡ item_at text i
-item_is list text i d e l = sym (get_or-map (λ (item : Bor (List ℕ)). item.now) list i d [] l) ∙ ap (λ xs. get_or xs i []) e
+pub item_is : (list : List (Bor (List ℕ))) (text : List ℕ) (i : ℕ) (d : Bor (List ℕ))
+    → map (λ item. item.now) list ≡ items_of text → i < length list → (get_or list i d).now ≡ item_at text i
+item_is list text i d e l =
+    sym (get_or-map (λ (item : Bor (List ℕ)). item.now) list i d [] l) ∙ ap (λ xs. get_or xs i []) e
 
 -- one number more
-pub written_more : (items : List (List ℕ)) (numbers : List ℕ) (i n : ℕ) → i < length items → map number_of (take i items) ≡ map Some numbers → number_of (get_or items i []) ≡ Some n
+pub written_more : (items : List (List ℕ)) (numbers : List ℕ) (i n : ℕ) → i < length items
+    → map number_of (take i items) ≡ map Some numbers → number_of (get_or items i []) ≡ Some n
     → map number_of (take (i + 1) items) ≡ map Some (numbers ++ n ∷ [])
 written_more items numbers i n l e h = ap (map number_of) (take_more items i [] l)
     ∙ map-append number_of (take i items) (get_or items i [] ∷ [])
@@ -102,6 +110,7 @@ written_more items numbers i n l e h = ap (map number_of) (take_more items i [] 
 
 -- the fault is want of memory, whatever the items are
 pub out_of_memory : (text : List ℕ) (r : Result (Vec ℕ) ListFault) → IsErrAnd r (λ e. e ≡ Memory)
-    → IfOk r (λ list. IsListOf text list.items) × IfOk r (λ list. length list.items ≤ MAX_NUMBERS) × IfErr r (λ e. (e ≡ Memory) ⊎ IsFirstFault text e)
+    → IfOk r (λ list. IsListOf text list.items) × IfOk r (λ list. length list.items ≤ MAX_NUMBERS)
+    × IfErr r (λ e. (e ≡ Memory) ⊎ IsFirstFault text e)
 out_of_memory text (Ok list) h = absurd h
 out_of_memory text (Err e) h = (tt, tt, inl h)

@@ -28,50 +28,69 @@ pub is_plain : is_simple program ≡ true
 is_plain = refl
 
 -- what a getter gives is the option's value in the rows
-pub value_is : (f : Found) (id : Text) (r : Option (Bor Text)) → option_map (λ s. s.now) r ≡ first_value f id → option_map (λ s. s.now) r ≡ first_of id (rows_of f)
+pub value_is : (f : Found) (id : Text) (r : Option (Bor Text)) → option_map (λ s. s.now) r ≡ first_value f id
+    → option_map (λ s. s.now) r ≡ first_of id (rows_of f)
 value_is f id r e = e ∙ first_value-rows f id
 
 -- and so it is where the empty text stands for none
-pub text_is : (f : Found) (id : Text) (r : Option (Bor Text)) (d u : Bor Text) → option_map (λ s. s.now) r ≡ first_value f id → u ≡ unwrap_or r d → d.now ≡ []
+pub text_is : (f : Found) (id : Text) (r : Option (Bor Text)) (d u : Bor Text)
+    → option_map (λ s. s.now) r ≡ first_value f id → u ≡ unwrap_or r d → d.now ≡ []
     → u.now ≡ text_of id (rows_of f)
-text_is f id r d u e is empty = ap (λ (b : Bor Text). b.now) is ∙ by_value r ∙ ap (λ (o : Option Text). unwrap_or o []) (value_is f id r e)
+text_is f id r d u e is empty =
+    ap (λ (b : Bor Text). b.now) is ∙ by_value r ∙ ap (λ (o : Option Text). unwrap_or o []) (value_is f id r e)
   where
     by_value : (r : Option (Bor Text)) → (unwrap_or r d).now ≡ unwrap_or (option_map (λ (s : Bor Text). s.now) r) []
     by_value None = empty
     by_value (Some b) = refl
 
 -- without the option there are as many workers as by default
-pub has_default : (f : Found) (r : Option (Bor Text)) → option_map (λ s. s.now) r ≡ first_value f (codes "workers") → r ≡ None → HasWorkers DEFAULT_WORKERS (rows_of f)
-has_default f r e is = subst (λ (o : Option Text). MatchOption o (DEFAULT_WORKERS ≡ DEFAULT_WORKERS) (λ text. number_of text ≡ Some DEFAULT_WORKERS))
+pub has_default : (f : Found) (r : Option (Bor Text)) → option_map (λ s. s.now) r ≡ first_value f (codes "workers")
+    → r ≡ None → HasWorkers DEFAULT_WORKERS (rows_of f)
+has_default f r e is =
+    subst (λ (o : Option Text). MatchOption o (DEFAULT_WORKERS ≡ DEFAULT_WORKERS)
+    (λ text. number_of text ≡ Some DEFAULT_WORKERS))
     (sym (ap (option_map (λ (s : Bor Text). s.now)) is) ∙ value_is f (codes "workers") r e) refl
 
 -- with it as many as it writes
-pub has_number : (f : Found) (r : Option (Bor Text)) (text : Bor Text) (m : Option ℕ) (n : ℕ) → option_map (λ s. s.now) r ≡ first_value f (codes "workers") → r ≡ Some text
+pub has_number : (f : Found) (r : Option (Bor Text)) (text : Bor Text) (m : Option ℕ) (n : ℕ)
+    → option_map (λ s. s.now) r ≡ first_value f (codes "workers") → r ≡ Some text
     → m ≡ number_of text.now → m ≡ Some n → HasWorkers n (rows_of f)
-has_number f r text m n e is reads some = subst (λ (o : Option Text). MatchOption o (n ≡ DEFAULT_WORKERS) (λ text. number_of text ≡ Some n))
+has_number f r text m n e is reads some =
+    subst (λ (o : Option Text). MatchOption o (n ≡ DEFAULT_WORKERS) (λ text. number_of text ≡ Some n))
     (sym (ap (option_map (λ (s : Bor Text). s.now)) is) ∙ value_is f (codes "workers") r e) (sym reads ∙ some)
 
 -- what is no number is no number of workers
-pub has_none : (f : Found) (r : Option (Bor Text)) (text : Bor Text) (m : Option ℕ) → option_map (λ s. s.now) r ≡ first_value f (codes "workers") → r ≡ Some text
+pub has_none : (f : Found) (r : Option (Bor Text)) (text : Bor Text) (m : Option ℕ)
+    → option_map (λ s. s.now) r ≡ first_value f (codes "workers") → r ≡ Some text
     → m ≡ number_of text.now → m ≡ None → HasBadWorkers (rows_of f)
-has_none f r text m e is reads none =
-    (text.now, sym (sym (ap (option_map (λ (s : Bor Text). s.now)) is) ∙ value_is f (codes "workers") r e), subst (λ (o : Option ℕ). MatchOption o ⊤ (λ n. 2 ^ 32 ≤ n)) (sym none ∙ reads) tt)
+has_none f r text m e is reads none = (
+  text.now,
+  sym (sym (ap (option_map (λ (s : Bor Text). s.now)) is) ∙ value_is f (codes "workers") r e),
+  subst (λ (o : Option ℕ). MatchOption o ⊤ (λ n. 2 ^ 32 ≤ n)) (sym none ∙ reads) tt,
+)
 
 -- nor is what is too large
-pub has_large : (f : Found) (r : Option (Bor Text)) (text : Bor Text) (m : Option ℕ) (n : ℕ) → option_map (λ s. s.now) r ≡ first_value f (codes "workers") → r ≡ Some text
+pub has_large : (f : Found) (r : Option (Bor Text)) (text : Bor Text) (m : Option ℕ) (n : ℕ)
+    → option_map (λ s. s.now) r ≡ first_value f (codes "workers") → r ≡ Some text
     → m ≡ number_of text.now → m ≡ Some n → 2 ^ 32 ≤ n → HasBadWorkers (rows_of f)
-has_large f r text m n e is reads some large =
-    (text.now, sym (sym (ap (option_map (λ (s : Bor Text). s.now)) is) ∙ value_is f (codes "workers") r e), subst (λ (o : Option ℕ). MatchOption o ⊤ (λ n. 2 ^ 32 ≤ n)) (sym some ∙ reads) large)
+has_large f r text m n e is reads some large = (
+  text.now,
+  sym (sym (ap (option_map (λ (s : Bor Text). s.now)) is) ∙ value_is f (codes "workers") r e),
+  subst (λ (o : Option ℕ). MatchOption o ⊤ (λ n. 2 ^ 32 ≤ n)) (sym some ∙ reads) large,
+)
 
 -- a number of workers that was read is that of the options
-pub some_workers : (rows : List Row) (r : Option ℕ) (n : ℕ) → MatchOption r (HasBadWorkers rows) (λ n. HasWorkers n rows) → r ≡ Some n → HasWorkers n rows
+pub some_workers : (rows : List Row) (r : Option ℕ) (n : ℕ)
+    → MatchOption r (HasBadWorkers rows) (λ n. HasWorkers n rows) → r ≡ Some n → HasWorkers n rows
 some_workers rows r n h is = subst (λ (o : Option ℕ). MatchOption o (HasBadWorkers rows) (λ n. HasWorkers n rows)) is h
 
-pub no_workers : (rows : List Row) (r : Option ℕ) → MatchOption r (HasBadWorkers rows) (λ n. HasWorkers n rows) → r ≡ None → HasBadWorkers rows
+pub no_workers : (rows : List Row) (r : Option ℕ) → MatchOption r (HasBadWorkers rows) (λ n. HasWorkers n rows)
+    → r ≡ None → HasBadWorkers rows
 no_workers rows r h is = subst (λ (o : Option ℕ). MatchOption o (HasBadWorkers rows) (λ n. HasWorkers n rows)) is h
 
 -- an error that isn't want of memory has a kind of the words' own
-pub kind_is : (e : Error) (kinds : List ErrorKind) → HasKind kinds e → kind_of e ≢ OutOfMemory → IsAmong (kind_of e) kinds
+pub kind_is : (e : Error) (kinds : List ErrorKind) → HasKind kinds e → kind_of e ≢ OutOfMemory
+    → IsAmong (kind_of e) kinds
 kind_is e kinds (inl memory) other = absurd (other memory)
 kind_is e kinds (inr among) other = among
 
@@ -92,23 +111,34 @@ find_known f (x ∷ xs) words h = by_test (f x) (find_known f xs words h.1)
     by_name (inl e) = inl ((rows_at x words).1, ap (λ (n : Text). Some (n, (rows_at x words).1)) e, tt)
     by_name (inr e) = inr ((rows_at x words).1, ap (λ (n : Text). Some (n, (rows_at x words).1)) e, tt)
 
-    by_test : (b : Bool) → (option_map (λ s. rows_at s words) (find f xs) ≡ None) ⊎ IsKnown (option_map (λ s. rows_at s words) (find f xs))
-        → (option_map (λ s. rows_at s words) (cond b (Some x) (find f xs)) ≡ None) ⊎ IsKnown (option_map (λ s. rows_at s words) (cond b (Some x) (find f xs)))
+    by_test : (b : Bool)
+        → (option_map (λ s. rows_at s words) (find f xs) ≡ None)
+        ⊎ IsKnown (option_map (λ s. rows_at s words) (find f xs))
+        → (option_map (λ s. rows_at s words) (cond b (Some x) (find f xs)) ≡ None)
+        ⊎ IsKnown (option_map (λ s. rows_at s words) (cond b (Some x) (find f xs)))
     by_test true rest = inr (by_name h.0)
     by_test false rest = rest
 
 -- where the walk stops at a command, it is known
-known_entered : (stop : Option (Text × List Text)) → (entered (built program) stop ≡ None) ⊎ IsKnown (entered (built program) stop)
+known_entered : (stop : Option (Text × List Text))
+    → (entered (built program) stop ≡ None) ⊎ IsKnown (entered (built program) stop)
 known_entered None = inl refl
-known_entered (Some p) = find_known (λ s. answers_to p.0 (label_of s)) (built program).subs p.1 (inl refl, (inr refl, tt))
+known_entered (Some p) =
+    find_known (λ s. answers_to p.0 (label_of s)) (built program).subs p.1 (inl refl, (inr refl, tt))
 
 -- what was entered by words that `clap` takes is what the words enter
-pub rows_are : (c : Command) (words : List Text) (m : ArgMatches) → app_of c ≡ program → HasMatchesOf (app_of c) words m → subcommand_rows_of m ≡ subcommand_of program words
+pub rows_are : (c : Command) (words : List Text) (m : ArgMatches) → app_of c ≡ program → HasMatchesOf (app_of c) words m
+    → subcommand_rows_of m ≡ subcommand_of program words
 rows_are c words m app h = (h (ap is_simple app ∙ is_plain)).1 ∙ ap (λ (a : App). subcommand_of a words) app
 
 -- and it is one of the commands
-pub is_known : (c : Command) (words : List Text) (m : ArgMatches) → app_of c ≡ program → HasMatchesOf (app_of c) words m → has_subcommand m ≡ true → IsKnown (subcommand_rows_of m)
-is_known c words m app h has = subst IsKnown (sym rows) (by_case (known_entered (stop_after (built program).top.rules (names_of (built program)) (argument_words program words))))
+pub is_known : (c : Command) (words : List Text) (m : ArgMatches) → app_of c ≡ program → HasMatchesOf (app_of c) words m
+    → has_subcommand m ≡ true → IsKnown (subcommand_rows_of m)
+is_known c words m app h has =
+    subst IsKnown (sym rows)
+    (by_case
+    (known_entered
+    (stop_after (built program).top.rules (names_of (built program)) (argument_words program words))))
   where
     rows : subcommand_rows_of m ≡ subcommand_of program words
     rows = rows_are c words m app h
@@ -117,8 +147,12 @@ is_known c words m app h has = subst IsKnown (sym rows) (by_case (known_entered 
     some_rows None = refl
     some_rows (Some b) = refl
 
-    by_case : (subcommand_of program words ≡ None) ⊎ IsKnown (subcommand_of program words) → IsKnown (subcommand_of program words)
-    by_case (inl none) = let bad : ◌≡◌ {A = Bool} false true = ap is_some (sym (rows ∙ none)) ∙ some_rows (out-ArgMatches m).subcommand ∙ has in cc
+    by_case : (subcommand_of program words ≡ None) ⊎ IsKnown (subcommand_of program words)
+        → IsKnown (subcommand_of program words)
+    by_case (inl none) =
+        let bad : ◌≡◌ {A = Bool} false true =
+        ap is_some (sym (rows ∙ none)) ∙ some_rows (out-ArgMatches m).subcommand ∙ has in
+        cc
     by_case (inr known) = known
 
 -- the name and the rows of the command that a getter gives
@@ -131,20 +165,29 @@ entered_is m r name options names rows is = by_sub (out-ArgMatches m).subcommand
     (ap (option_map (λ (p : Bor Text × Bor ArgMatches). rows_of (found_of p.1.now))) (sym is) ∙ rows)
   where
     by_sub : (o : Option (Box SubCommand)) → Some name.now ≡ option_map (λ b. (out-SubCommand (box_value b)).name.now) o
-        → Some (rows_of (found_of options.now)) ≡ option_map (λ p. p.1) (subcommand_rows o) → subcommand_rows o ≡ Some (name.now, rows_of (found_of options.now))
+        → Some (rows_of (found_of options.now)) ≡ option_map (λ p. p.1) (subcommand_rows o)
+        → subcommand_rows o ≡ Some (name.now, rows_of (found_of options.now))
     by_sub None e k = cc
     by_sub (Some b) e k = cc
 
 -- none is given where none was entered
-pub none_entered : (m : ArgMatches) (r : Option (Bor Text × Bor ArgMatches)) → option_map (λ p. rows_of (found_of p.1.now)) r ≡ option_map (λ p. p.1) (subcommand_rows_of m)
+pub none_entered : (m : ArgMatches) (r : Option (Bor Text × Bor ArgMatches))
+    → option_map (λ p. rows_of (found_of p.1.now)) r ≡ option_map (λ p. p.1) (subcommand_rows_of m)
     → IsKnown (subcommand_rows_of m) → r ≡ None → ⊥
 none_entered m r rows (inl known) is =
-    let bad : ◌≡◌ {A = Option (List Row)} None (Some known.0) = ap (option_map (λ (p : Bor Text × Bor ArgMatches). rows_of (found_of p.1.now))) (sym is) ∙ rows ∙ ap (option_map (λ (p : Text × List Row). p.1)) known.1 in cc
+    let bad : ◌≡◌ {A = Option (List Row)} None (Some known.0) =
+    ap (option_map (λ (p : Bor Text × Bor ArgMatches). rows_of (found_of p.1.now))) (sym is) ∙ rows
+    ∙ ap (option_map (λ (p : Text × List Row). p.1)) known.1 in
+    cc
 none_entered m r rows (inr known) is =
-    let bad : ◌≡◌ {A = Option (List Row)} None (Some known.0) = ap (option_map (λ (p : Bor Text × Bor ArgMatches). rows_of (found_of p.1.now))) (sym is) ∙ rows ∙ ap (option_map (λ (p : Text × List Row). p.1)) known.1 in cc
+    let bad : ◌≡◌ {A = Option (List Row)} None (Some known.0) =
+    ap (option_map (λ (p : Bor Text × Bor ArgMatches). rows_of (found_of p.1.now))) (sym is) ∙ rows
+    ∙ ap (option_map (λ (p : Text × List Row). p.1)) known.1 in
+    cc
 
 -- one entry has one name
-both_names : {name other : Text} {options rows : List Row} → ◌≡◌ {A = Option (Text × List Row)} (Some (name, options)) (Some (other, rows)) → name ≡ other
+both_names : {name other : Text} {options rows : List Row}
+    → ◌≡◌ {A = Option (Text × List Row)} (Some (name, options)) (Some (other, rows)) → name ≡ other
 both_names {name} {other} {options} {rows} e = ap (λ (o : Option (Text × List Row)). name_or name o) e
   where
     name_or : Text → Option (Text × List Row) → Text
@@ -152,12 +195,14 @@ both_names {name} {other} {options} {rows} e = ap (λ (o : Option (Text × List 
     name_or d (Some p) = p.0
 
 -- the command of this name is a trace
-pub is_tracing : (m : ArgMatches) (name : Text) (options : List Row) (r : Request) → subcommand_rows_of m ≡ Some (name, options) → name ≡ codes "trace"
+pub is_tracing : (m : ArgMatches) (name : Text) (options : List Row) (r : Request)
+    → subcommand_rows_of m ≡ Some (name, options) → name ≡ codes "trace"
     → IsTracing options r → IsCommand (subcommand_rows_of m) r
 is_tracing m name options r e is h = inr (options, e ∙ ap (λ (n : Text). Some (n, options)) is, h)
 
 -- and one of another name an analysis
-pub is_analysis : (m : ArgMatches) (name : Text) (options : List Row) (r : Request) → subcommand_rows_of m ≡ Some (name, options) → IsKnown (subcommand_rows_of m) → name ≢ codes "trace"
+pub is_analysis : (m : ArgMatches) (name : Text) (options : List Row) (r : Request)
+    → subcommand_rows_of m ≡ Some (name, options) → IsKnown (subcommand_rows_of m) → name ≢ codes "trace"
     → IsAnalysis options r → IsCommand (subcommand_rows_of m) r
 is_analysis m name options r e (inl known) other h = inl (options, e ∙ ap (λ (n : Text). Some (n, options)) same, h)
   where
@@ -171,8 +216,10 @@ is_analysis m name options r e (inr known) other h = absurd (other same)
 -- ---- the words as a whole
 
 -- the words enter a command without a fault
-pub commanded : (c : Command) (words : List Text) (m : ArgMatches) (r : Request) → app_of c ≡ program → HasMatchesOf (app_of c) words m
-    → (is_simple_and_free (app_of c) ≡ true → fault_of (app_of c) words ≡ []) → IsCommand (subcommand_rows_of m) r → IsRequest words r
+pub commanded : (c : Command) (words : List Text) (m : ArgMatches) (r : Request) → app_of c ≡ program
+    → HasMatchesOf (app_of c) words m
+    → (is_simple_and_free (app_of c) ≡ true → fault_of (app_of c) words ≡ []) → IsCommand (subcommand_rows_of m) r
+    → IsRequest words r
 commanded c words m r app h kinds asked = inl (
   ap (λ (a : App). fault_of a words) (sym app) ∙ kinds (ap is_simple_and_free app ∙ is_free),
   subst (λ (o : Option (Text × List Row)). IsCommand o r) (rows_are c words m app h) asked,
@@ -180,9 +227,11 @@ commanded c words m r app h kinds asked = inl (
 
 -- `clap` finds a fault in the words, or they ask for a text
 pub answered : (c : Command) (words : List Text) (e : Error) (r : Request) → app_of c ≡ program
-    → (is_simple_and_free (app_of c) ≡ true → HasKind (fault_of (app_of c) words) e) → kind_of e ≢ OutOfMemory → IsOfKind (kind_of e) r → IsRequest words r
+    → (is_simple_and_free (app_of c) ≡ true → HasKind (fault_of (app_of c) words) e) → kind_of e ≢ OutOfMemory
+    → IsOfKind (kind_of e) r → IsRequest words r
 answered c words e r app kinds other asked = inr (
   kind_of e,
-  kind_is e (fault_of program words) (subst (λ (a : App). HasKind (fault_of a words) e) app (kinds (ap is_simple_and_free app ∙ is_free))) other,
+  kind_is e (fault_of program words)
+      (subst (λ (a : App). HasKind (fault_of a words) e) app (kinds (ap is_simple_and_free app ∙ is_free))) other,
   asked,
 )

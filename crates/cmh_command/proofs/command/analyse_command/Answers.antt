@@ -15,6 +15,8 @@ returns c =
     let one = argument_local _ _ _ c.in_ok-arg.ensures none workers.local in
     let two = argument_local _ _ _ c.in_ok-arg-2.ensures one cuts.local in
     record {
-      app = IfOk-weaker c.arg-3.result _ _ (λ r h. with_argument _ _ _ _ _ h second choices.rule choices.local) c.arg-3.ensures;
+      app =
+          IfOk-weaker c.arg-3.result _ _ (λ r h. with_argument _ _ _ _ _ h second choices.rule choices.local)
+          c.arg-3.ensures;
       local = IfOk-weaker c.arg-3.result _ _ (λ r h. argument_local _ _ _ h two choices.local) c.arg-3.ensures;
     }

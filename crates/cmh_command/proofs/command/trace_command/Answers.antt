@@ -12,6 +12,8 @@ returns c =
     let none = c.described.ensures.local ∙ c.subcommand-command.ensures.local in
     let one = argument_local _ _ _ c.in_ok-arg.ensures none name.local in
     record {
-      app = IfOk-weaker c.arg-2.result _ _ (λ r h. with_argument _ _ _ _ _ h first choices.rule choices.local) c.arg-2.ensures;
+      app =
+          IfOk-weaker c.arg-2.result _ _ (λ r h. with_argument _ _ _ _ _ h first choices.rule choices.local)
+          c.arg-2.ensures;
       local = IfOk-weaker c.arg-2.result _ _ (λ r h. argument_local _ _ _ h one choices.local) c.arg-2.ensures;
     }

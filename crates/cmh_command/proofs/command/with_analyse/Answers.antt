@@ -9,6 +9,9 @@ returns c =
     let shape = c.described.ensures.app ∙ c.top_command.ensures.app in
     let local = c.described.ensures.local ∙ c.top_command.ensures.local in
     record {
-      app = IfOk-weaker c.subcommand.result _ _ (λ r h. with_command _ _ _ _ _ h shape analyse.app analyse.local) c.subcommand.ensures;
-      local = IfOk-weaker c.subcommand.result _ _ (λ r h. command_local _ _ _ h local analyse.local) c.subcommand.ensures;
+      app =
+          IfOk-weaker c.subcommand.result _ _ (λ r h. with_command _ _ _ _ _ h shape analyse.app analyse.local)
+          c.subcommand.ensures;
+      local =
+          IfOk-weaker c.subcommand.result _ _ (λ r h. command_local _ _ _ h local analyse.local) c.subcommand.ensures;
     }

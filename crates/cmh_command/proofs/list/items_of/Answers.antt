@@ -9,5 +9,8 @@ pub returns : goal.returns
 returns c =
     let text = c.args.text.now in
     let some : length text ≢ 0 = eqb-false (length text) 0 (sym (c.if-is_empty.ensures)) in
-    let cut = map_from_collect _ c.collect.ensures.ran (YieldsList-from_str_split 44 text (lit< tt) c.split.ensures.text c.split.ensures.has_more c.split.ensures.pattern) in
+    let cut =
+    map_from_collect _ c.collect.ensures.ran
+    (YieldsList-from_str_split 44 text (lit< tt) c.split.ensures.text c.split.ensures.has_more
+    c.split.ensures.pattern) in
     rw (cut_items text some) cut

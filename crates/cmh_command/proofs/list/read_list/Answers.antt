@@ -9,12 +9,18 @@ loop-i-preserved c =
     let text = c.args.text.now in
     let i = c.loop-i.i in
     let list = c.deref-item-items.result.now in
-    let cut : map (λ item. item.now) list ≡ items_of text = rw (c.deref-item-items.ensures.value) c.in_ok-items.ensures in
-    let count : length list ≡ length (items_of text) = sym (length-map list (λ (item : Bor (List ℕ)). item.now)) ∙ ap length cut in
-    let writes : number_of (item_at text i) ≡ Some c.in-Some.number = ap number_of (sym (item_is list text i _ cut c.loop-i-test.true)) ∙ sym c.in-Some.ensures in
+    let cut : map (λ item. item.now) list ≡ items_of text =
+    rw (c.deref-item-items.ensures.value) c.in_ok-items.ensures in
+    let count : length list ≡ length (items_of text) =
+    sym (length-map list (λ (item : Bor (List ℕ)). item.now)) ∙ ap length cut in
+    let writes : number_of (item_at text i) ≡ Some c.in-Some.number =
+    ap number_of (sym (item_is list text i _ cut c.loop-i-test.true)) ∙ sym c.in-Some.ensures in
     record {
       few = omega arith;
-      written = rw (c.in_ok-push.ensures.items) (written_more (items_of text) c.loop-i.numbers.items i c.in-Some.number (omega arith) c.loop-i.invariant.written writes);
+      written =
+          rw (c.in_ok-push.ensures.items)
+          (written_more (items_of text) c.loop-i.numbers.items i c.in-Some.number (omega arith)
+          c.loop-i.invariant.written writes);
       before = below_more _ _ c.loop-i.invariant.before (number_is (item_at text i) c.in-Some.number writes);
     }
 
@@ -23,9 +29,12 @@ returns-in_default c =
     let text = c.args.text.now in
     let i = c.loop-i.i in
     let list = c.deref-item-items.result.now in
-    let cut : map (λ item. item.now) list ≡ items_of text = rw (c.deref-item-items.ensures.value) c.in_ok-items.ensures in
-    let count : length list ≡ length (items_of text) = sym (length-map list (λ (item : Bor (List ℕ)). item.now)) ∙ ap length cut in
-    let none : number_of (item_at text i) ≡ None = ap number_of (sym (item_is list text i _ cut c.loop-i-test.true)) ∙ sym c.in_default.ensures in
+    let cut : map (λ item. item.now) list ≡ items_of text =
+    rw (c.deref-item-items.ensures.value) c.in_ok-items.ensures in
+    let count : length list ≡ length (items_of text) =
+    sym (length-map list (λ (item : Bor (List ℕ)). item.now)) ∙ ap length cut in
+    let none : number_of (item_at text i) ≡ None =
+    ap number_of (sym (item_is list text i _ cut c.loop-i-test.true)) ∙ sym c.in_default.ensures in
     record {
       ok = tt;
       few = tt;
@@ -34,5 +43,6 @@ returns-in_default c =
 
 pub returns-in_err-push : goal.returns-in_err-push
 returns-in_err-push c =
-    let fault = out_of_memory c.args.text.now c.from_residual-in_err-push.result c.from_residual-in_err-push.ensures.1 in
+    let fault =
+    out_of_memory c.args.text.now c.from_residual-in_err-push.result c.from_residual-in_err-push.ensures.1 in
     record { ok = fault.0; few = fault.1; fault = fault.2 }

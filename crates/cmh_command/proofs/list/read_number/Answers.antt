@@ -12,4 +12,6 @@ returns-then-starts_with c =
 pub returns : goal.returns
 returns c =
     let d = starts_char 43 c.args.item.now c.starts_with.result c.starts_with.ensures.cases (lit< tt) (lit< tt) in
-    c.ok.ensures.value ∙ parsed c.args.item.now c.parse.result c.parse.ensures.value.0 (λ e. true≢false (sym (d.1 e) ∙ c.if-starts_with.false))
+    c.ok.ensures.value
+    ∙ parsed c.args.item.now c.parse.result c.parse.ensures.value.0
+    (λ e. true≢false (sym (d.1 e) ∙ c.if-starts_with.false))

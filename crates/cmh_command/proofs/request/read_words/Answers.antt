@@ -15,10 +15,12 @@ request_in-requires g c =
 
 pub returns-in-Ok : goal.returns-in-Ok
 returns-in-Ok g c = IfOk-weaker c.request_in.result _ _
-    (λ r h. commanded c.in_ok-command.field-0 (map g.T.AsStr.text c.args.words.now) c.in-Ok.matches r c.in_ok-command.ensures.app c.in-Ok.ensures.matches c.in-Ok.ensures.kinds h)
+    (λ r h. commanded c.in_ok-command.field-0 (map g.T.AsStr.text c.args.words.now) c.in-Ok.matches r
+    c.in_ok-command.ensures.app c.in-Ok.ensures.matches c.in-Ok.ensures.kinds h)
     c.request_in.ensures
 
 pub returns-in-Err : goal.returns-in-Err
 returns-in-Err g c = IfOk-weaker c.request_of.result _ _
-    (λ r h. answered c.in_ok-command.field-0 (map g.T.AsStr.text c.args.words.now) c.in-Err.error r c.in_ok-command.ensures.app c.in-Err.ensures.kinds h.0 h.1)
+    (λ r h. answered c.in_ok-command.field-0 (map g.T.AsStr.text c.args.words.now) c.in-Err.error r
+    c.in_ok-command.ensures.app c.in-Err.ensures.kinds h.0 h.1)
     c.request_of.ensures
