@@ -2,8 +2,7 @@
 use Rattle.std.proofs.Common.{◌≡◌, ◌≢◌, ◌⊎◌, ◌∙◌, inl, inr, ℕ, ◌≤◌, ◌^◌, Bool, true, false, cond, List, [], ◌∷◌, Option, None, Some, option_map, refl, sym, ap, subst, Bor}
 use Rattle.std.specs.Prelude.{MatchOption, unwrap_or, codes, find, is_some, ⊤}
 use Rattle.std.specs.Global.{Box}
-use Rattle.std.specs.Box.{box_value}
-use Rattle.clap.specs.Words.{App, HasKind, HasMatchesOf, IsAmong, Row, Shape, Text, app_of, built, fault_of, first_of, first_value, found_of, has_subcommand, is_simple, is_simple_and_free, kind_of, rows_of, subcommand_name_of, subcommand_of, subcommand_rows, subcommand_rows_of}
+use Rattle.clap.specs.Words.{App, HasKind, HasMatchesOf, IsAmong, Row, Shape, Text, app_of, built, fault_of, first_of, first_value, has_subcommand, is_simple, is_simple_and_free, kind_of, rows_of, subcommand_of, subcommand_rows, subcommand_rows_of}
 use Rattle.clap.specs.Simple.{argument_words, entered, label_of, names_of, rows_at}
 use Rattle.clap.specs.Walk.{answers_to, stop_after}
 use Rattle.clap.specs.declared.builder.command.Command.{Command}
@@ -12,11 +11,11 @@ use Rattle.clap.specs.declared.error.Error.{Error}
 use Rattle.clap.specs.declared.error.kind.ErrorKind.{ErrorKind}
 use Rattle.clap.specs.declared.error.kind.ErrorKind.TheVariants.{OutOfMemory}
 use Rattle.clap.specs.declared.parser.matches.ArgMatches.{ArgMatches}
-use Rattle.clap.specs.declared.parser.matches.ArgMatches.TheViews.{out-ArgMatches, out-SubCommand}
+use Rattle.clap.specs.declared.parser.matches.ArgMatches.TheViews.{out-ArgMatches}
 use Rattle.clap.specs.declared.parser.matches.Found.{Found}
 use Rattle.clap.proofs.WalkLemmas.{first_value-rows}
 use Rattle.cmh_command.specs.List.{number_of}
-use Rattle.cmh_command.specs.Words.{HasBadWorkers, HasWorkers, IsAnalysis, IsCommand, IsKnown, IsOfKind, IsRequest, IsTracing, program, text_of}
+use Rattle.cmh_command.specs.Words.{HasBadWorkers, HasWorkers, IsCommand, IsKnown, IsOfKind, IsRequest, program, text_of}
 use Rattle.cmh_command.specs.declared.request.Request.{Request}
 use Rattle.cmh_command.specs.declared.request.TheConstants.{DEFAULT_WORKERS}
 
@@ -84,10 +83,6 @@ pub some_workers : (rows : List Row) (r : Option ℕ) (n : ℕ)
     → MatchOption r (HasBadWorkers rows) (λ n. HasWorkers n rows) → r ≡ Some n → HasWorkers n rows
 some_workers rows r n h is = subst (λ (o : Option ℕ). MatchOption o (HasBadWorkers rows) (λ n. HasWorkers n rows)) is h
 
-pub no_workers : (rows : List Row) (r : Option ℕ) → MatchOption r (HasBadWorkers rows) (λ n. HasWorkers n rows)
-    → r ≡ None → HasBadWorkers rows
-no_workers rows r h is = subst (λ (o : Option ℕ). MatchOption o (HasBadWorkers rows) (λ n. HasWorkers n rows)) is h
-
 -- an error that isn't want of memory has a kind of the words' own
 pub kind_is : (e : Error) (kinds : List ErrorKind) → HasKind kinds e → kind_of e ≢ OutOfMemory
     → IsAmong (kind_of e) kinds
@@ -154,64 +149,6 @@ is_known c words m app h has =
         ap is_some (sym (rows ∙ none)) ∙ some_rows (out-ArgMatches m).subcommand ∙ has in
         cc
     by_case (inr known) = known
-
--- the name and the rows of the command that a getter gives
-pub entered_is : (m : ArgMatches) (r : Option (Bor Text × Bor ArgMatches)) (name : Bor Text) (options : Bor ArgMatches)
-    → option_map (λ p. p.0.now) r ≡ subcommand_name_of m
-    → option_map (λ p. rows_of (found_of p.1.now)) r ≡ option_map (λ p. p.1) (subcommand_rows_of m)
-    → r ≡ Some (name, options) → subcommand_rows_of m ≡ Some (name.now, rows_of (found_of options.now))
-entered_is m r name options names rows is = by_sub (out-ArgMatches m).subcommand
-    (ap (option_map (λ (p : Bor Text × Bor ArgMatches). p.0.now)) (sym is) ∙ names)
-    (ap (option_map (λ (p : Bor Text × Bor ArgMatches). rows_of (found_of p.1.now))) (sym is) ∙ rows)
-  where
-    by_sub : (o : Option (Box SubCommand)) → Some name.now ≡ option_map (λ b. (out-SubCommand (box_value b)).name.now) o
-        → Some (rows_of (found_of options.now)) ≡ option_map (λ p. p.1) (subcommand_rows o)
-        → subcommand_rows o ≡ Some (name.now, rows_of (found_of options.now))
-    by_sub None e k = cc
-    by_sub (Some b) e k = cc
-
--- none is given where none was entered
-pub none_entered : (m : ArgMatches) (r : Option (Bor Text × Bor ArgMatches))
-    → option_map (λ p. rows_of (found_of p.1.now)) r ≡ option_map (λ p. p.1) (subcommand_rows_of m)
-    → IsKnown (subcommand_rows_of m) → r ≡ None → ⊥
-none_entered m r rows (inl known) is =
-    let bad : ◌≡◌ {A = Option (List Row)} None (Some known.0) =
-    ap (option_map (λ (p : Bor Text × Bor ArgMatches). rows_of (found_of p.1.now))) (sym is) ∙ rows
-    ∙ ap (option_map (λ (p : Text × List Row). p.1)) known.1 in
-    cc
-none_entered m r rows (inr known) is =
-    let bad : ◌≡◌ {A = Option (List Row)} None (Some known.0) =
-    ap (option_map (λ (p : Bor Text × Bor ArgMatches). rows_of (found_of p.1.now))) (sym is) ∙ rows
-    ∙ ap (option_map (λ (p : Text × List Row). p.1)) known.1 in
-    cc
-
--- one entry has one name
-both_names : {name other : Text} {options rows : List Row}
-    → ◌≡◌ {A = Option (Text × List Row)} (Some (name, options)) (Some (other, rows)) → name ≡ other
-both_names {name} {other} {options} {rows} e = ap (λ (o : Option (Text × List Row)). name_or name o) e
-  where
-    name_or : Text → Option (Text × List Row) → Text
-    name_or d None = d
-    name_or d (Some p) = p.0
-
--- the command of this name is a trace
-pub is_tracing : (m : ArgMatches) (name : Text) (options : List Row) (r : Request)
-    → subcommand_rows_of m ≡ Some (name, options) → name ≡ codes "trace"
-    → IsTracing options r → IsCommand (subcommand_rows_of m) r
-is_tracing m name options r e is h = inr (options, e ∙ ap (λ (n : Text). Some (n, options)) is, h)
-
--- and one of another name an analysis
-pub is_analysis : (m : ArgMatches) (name : Text) (options : List Row) (r : Request)
-    → subcommand_rows_of m ≡ Some (name, options) → IsKnown (subcommand_rows_of m) → name ≢ codes "trace"
-    → IsAnalysis options r → IsCommand (subcommand_rows_of m) r
-is_analysis m name options r e (inl known) other h = inl (options, e ∙ ap (λ (n : Text). Some (n, options)) same, h)
-  where
-    same : name ≡ codes "analyse"
-    same = both_names (sym e ∙ known.1)
-is_analysis m name options r e (inr known) other h = absurd (other same)
-  where
-    same : name ≡ codes "trace"
-    same = both_names (sym e ∙ known.1)
 
 -- ---- the words as a whole
 
