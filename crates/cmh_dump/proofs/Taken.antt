@@ -52,3 +52,10 @@ pub seen-next : {X Y Z : Type 0} (g : Z → Y) (f : X → Y) (zs more : List Z) 
     → map g more ≡ map f (take (i + 1) xs)
 seen-next g f zs more z xs i x pushed seen same lt e =
     ap (map g) pushed ∙ map-last g zs z ∙ (λ t. seen t ++ same t ∷ []) ∙ sym (map-next f xs i x lt e)
+
+-- the same of a list that is what a function makes of those taken
+pub made-next : {X Y : Type 0} (f : X → Y) (ys more : List Y) (y : Y) (xs : List X) (i : ℕ) (x : X)
+    → more ≡ ys ++ y ∷ [] → ys ≡ map f (take i xs) → y ≡ f x → i < length xs → x ≡ get_or xs i x
+    → more ≡ map f (take (i + 1) xs)
+made-next f ys more y xs i x pushed made same lt e =
+    pushed ∙ (λ t. made t ++ same t ∷ []) ∙ sym (map-next f xs i x lt e)

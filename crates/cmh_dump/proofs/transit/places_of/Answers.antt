@@ -1,9 +1,9 @@
-use Rattle.std.proofs.Common.{◌∷◌, ◌++◌, [], ap, sym, ◌∙◌}
+use Rattle.std.proofs.Common.{ap, ◌∙◌}
 use Rattle.serde_json.specs.View.{view}
 use Rattle.cmh_dump.specs.Name.{place_of}
 use Rattle.cmh_dump.specs.Read.{places_in_pair}
 use Rattle.cmh_dump.specs.Texts.{texts}
-use Rattle.cmh_dump.proofs.Taken.{map-next}
+use Rattle.cmh_dump.proofs.Taken.{made-next}
 use Rattle.cmh_dump.proofs.transit.places_of.Goals as goal
 
 pub loop-message-preserved : goal.loop-message-preserved
@@ -11,8 +11,8 @@ loop-message-preserved c =
     let names = texts c.args.names.now.keys in
     let from = c.place_of-from.ensures ∙ ap (place_of names) c.name_in_pair.ensures in
     let to = c.place_of-to.ensures ∙ ap (place_of names) c.name_in_pair-in-loop-message.ensures in
-    c.in_ok-push.ensures.items
-    ∙ (λ i. c.loop-message.invariant i ++ (from i, to i) ∷ [])
-    ∙ sym
-    (map-next (λ m. places_in_pair names (view m)) c.args.messages.now c.loop-message.message-index
-    c.message-item.result c.loop-message-test.true c.message-item.is)
+    made-next (λ m. places_in_pair names (view m)) c.loop-message.places.items c.push.new.self.items
+    (c.place_of-from.result, c.place_of-to.result)
+    c.args.messages.now c.loop-message.message-index c.message-item.result
+    c.in_ok-push.ensures.items c.loop-message.invariant (λ t. (from t, to t))
+    c.loop-message-test.true c.message-item.is
