@@ -8,10 +8,12 @@ use Rattle.cmh_command.specs.declared.TheConstants.{MAX_NUMBERS}
 use Rattle.cmh_command.specs.declared.list.ListFault.{ListFault}
 use Rattle.cmh_command.specs.declared.list.ListFault.TheVariants.{BadNumber, TooManyNumbers, Memory}
 
+-- the items of a text
 abbrev pub items_of : List ℕ → List (List ℕ)
 items_of [] = []
 items_of (b ∷ bs) = slice_split (λ c. c == 44) (b ∷ bs)
 
+-- item i of a text
 abbrev pub item_at : List ℕ → ℕ → List ℕ
 item_at text i = slice_index_or (items_of text) i []
 

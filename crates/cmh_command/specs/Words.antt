@@ -17,20 +17,25 @@ use Rattle.cmh_command.specs.declared.request.TheConstants.{DEFAULT_WORKERS}
 abbrev pub option_rule : Text → Rule
 option_rule name = record (new_rule name) { long = Some name; value_names = 1 }
 
+-- the option `--workers`, of a number from 1 to `MAX_WORKERS`
 abbrev pub workers_rule : Rule
 workers_rule =
     record (option_rule (codes "workers")) { parser = Some (parser.Signed (pos 1) (pos MAX_WORKERS)) }
 
+-- the name of a process, which has to be given
 abbrev pub name_rule : Rule
 name_rule = record (new_rule (codes "NAME")) { required = true }
 
+-- the command `analyse` with its options
 abbrev pub analyse_app : App
 analyse_app = with_rule (with_rule (with_rule (new_app (codes "analyse")) workers_rule)
     (option_rule (codes "cuts"))) (option_rule (codes "choices"))
 
+-- the command `trace` with its name and its option
 abbrev pub trace_app : App
 trace_app = with_rule (with_rule (new_app (codes "trace")) name_rule) (option_rule (codes "choices"))
 
+-- the command line without its commands
 abbrev pub top_app : App
 top_app = record (new_app (codes "cmh")) {
   top = record (new_app (codes "cmh")).top {
@@ -40,6 +45,7 @@ top_app = record (new_app (codes "cmh")) {
   };
 }
 
+-- the whole command line
 abbrev pub program : App
 program = with_subcommand (with_subcommand top_app analyse_app.top) trace_app.top
 

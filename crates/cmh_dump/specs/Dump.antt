@@ -21,9 +21,11 @@ abbrev pub top_keys : Data → List (List ℕ)
 top_keys d = codes "version" ∷ codes "sites" ∷ codes "processes"
     ∷ (if is_version 2 d then codes "in_transit" ∷ [] else [])
 
+-- an array stands at the key
 abbrev pub has_array : List ℕ → Data → Bool
 has_array k d = is_array (at_key k d)
 
+-- an object with the keys of its version, of which all but the version are arrays
 abbrev pub is_top : Data → Bool
 is_top d =
     has_keys (top_keys d) [] d && has_array (codes "sites") d && has_array (codes "processes") d
@@ -65,18 +67,21 @@ abbrev pub below : ℕ → List ℕ
 below zero = []
 below (suc n) = below n ++ n ∷ []
 
+-- the fault at each site
 abbrev pub each_site : Data → (ℕ → DumpFault) → List DumpFault
 each_site d fault = map fault (below (length (sites d)))
 
+-- the fault at each process
 abbrev pub each_process : Data → (ℕ → DumpFault) → List DumpFault
 each_process d fault = map fault (below (length (processes d)))
 
--- by process, then by dependent
+-- the fault at each dependent, by process and then by its place there
 abbrev pub each_dependent : Data → (ℕ → ℕ → DumpFault) → List DumpFault
 each_dependent d fault =
     flat_map (λ i. map (fault i) (below (length (entry d i).dependents)))
     (below (length (processes d)))
 
+-- the fault at each message in transit
 abbrev pub each_transit : Data → (ℕ → DumpFault) → List DumpFault
 each_transit d fault = map fault (below (length (transits d)))
 
@@ -117,6 +122,7 @@ process_of d e = record {
   dependents = map (place_of (names d)) e.dependents;
 }
 
+-- the place of the process that the message names first, at 0, or second, at 1
 abbrev pub place_in_pair : Data → Data → ℕ → ℕ
 place_in_pair d t k = place_of (names d) (nth (texts_of t) k [])
 
@@ -124,6 +130,7 @@ place_in_pair d t k = place_of (names d) (nth (texts_of t) k [])
 abbrev pub transit_of : Data → Data → ℕ × ℕ
 transit_of d t = (place_in_pair d t 0, place_in_pair d t 1)
 
+-- the graph that the names of the tree tell
 abbrev pub graph_of : Data → Graph
 graph_of d = record {
   processes = map (process_of d) (entries d);
@@ -132,6 +139,7 @@ graph_of d = record {
 
 -- ---- the whole
 
+-- the fault that was found, or the graph where none was
 abbrev pub found : Option DumpFault → Graph → Result Graph DumpFault
 found None g = Ok g
 found (Some f) g = Err f
@@ -144,6 +152,7 @@ dump_of_tree d = found (first_of (holds d) (in_order d)) (graph_of d)
 abbrev pub tree_of : List ℕ → Option Data
 tree_of bytes = if is_utf8 bytes then read bytes else None
 
+-- what the tree means; without one the bytes are no JSON
 abbrev pub of_tree : Option Data → Result Graph DumpFault
 of_tree None = Err NotJson
 of_tree (Some d) = dump_of_tree d

@@ -8,26 +8,33 @@ use Rattle.cmh_graph.specs.declared.part.State.TheVariants.{Idle, Active}
 use Rattle.cmh_dump.specs.Name.{is_name, nth}
 use Rattle.cmh_dump.specs.Tree.{text_of, texts_of, entries_of, at_key, has_key, has_keys, is_array, natural_of, is_number}
 
+-- the tree has this version
 abbrev pub is_version : ℕ → Data → Bool
 is_version n d = is_number n (natural_of (at_key (codes "version") d))
 
+-- the names of the sites
 abbrev pub sites : Data → List (List ℕ)
 sites d = texts_of (at_key (codes "sites") d)
 
+-- the processes as trees
 abbrev pub processes : Data → List Data
 processes d = entries_of (at_key (codes "processes") d)
 
+-- the messages in transit as trees
 abbrev pub transits : Data → List Data
 transits d = entries_of (at_key (codes "in_transit") d)
 
 -- ---- a process
 
+-- what stands as the state of a process
 abbrev pub state_text : Data → List ℕ
 state_text p = text_of (at_key (codes "state") p)
 
+-- a process is written as active
 abbrev pub is_active : Data → Bool
 is_active p = bytes_eq (state_text p) (codes "active")
 
+-- a process is written as idle
 abbrev pub is_idle : Data → Bool
 is_idle p = bytes_eq (state_text p) (codes "idle")
 
@@ -38,6 +45,7 @@ pub record Entry : Type 0 where
   pub state : State
   pub dependents : List (List ℕ)
 
+-- what a process is written as; a state that is not `active` reads as idle
 abbrev pub entry_of : Data → Entry
 entry_of p = record {
   name = text_of (at_key (codes "name") p);
@@ -50,9 +58,11 @@ entry_of p = record {
 abbrev pub nothing : Entry
 nothing = record { name = []; site = []; state = Idle; dependents = [] }
 
+-- the processes as they are written
 abbrev pub entries : Data → List Entry
 entries d = map entry_of (processes d)
 
+-- process i as it is written
 abbrev pub entry : Data → ℕ → Entry
 entry d i = nth (entries d) i nothing
 
@@ -84,6 +94,7 @@ is_process p =
     && (is_active p || is_idle p)
     && has_dependents p && list_all is_name (entry_of p).dependents
 
+-- the state is that of an active process
 abbrev pub is_active_state : State → Bool
 is_active_state Idle = false
 is_active_state Active = true

@@ -13,15 +13,19 @@ use Rattle.cmh_dump.specs.Dump.{holds, graph_of, dump_of_tree, tree_of, dump}
 
 -- ---- the faults that a tree has, and those that bytes have
 
+-- the tree has a site i
 abbrev pub HasSite : Data → ℕ → Type 0
 HasSite d i = i < length (sites d)
 
+-- the tree has a process i
 abbrev pub HasProcess : Data → ℕ → Type 0
 HasProcess d i = i < length (processes d)
 
+-- the tree has a process i with a dependent j
 abbrev pub HasDependent : Data → ℕ → ℕ → Type 0
 HasDependent d i j = HasProcess d i × (j < length (entry d i).dependents)
 
+-- the tree has a message in transit i
 abbrev pub HasTransit : Data → ℕ → Type 0
 HasTransit d i = i < length (transits d)
 

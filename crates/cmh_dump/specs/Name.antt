@@ -3,6 +3,7 @@ use Rattle.std.specs.Prelude.{ℕ, ◌&&◌, ◌||◌, ◌==◌, List, [], lengt
 use Rattle.std.specs.List.{list_all, list_any, position_or_len}
 use Rattle.cmh_dump.specs.declared.TheConstants.{MAX_NAME}
 
+-- an ASCII letter or digit
 abbrev pub is_letter_or_digit : ℕ → Bool
 is_letter_or_digit b =
     (nat_le 48 b && nat_le b 57) || (nat_le 65 b && nat_le b 90) || (nat_le 97 b && nat_le b 122)

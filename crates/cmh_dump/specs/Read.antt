@@ -52,18 +52,23 @@ abbrev pub Judges : {T : Type 0} → Data → List (List DumpFault) → Result T
 Judges d kinds (Ok x) = first_of (holds d) kinds ≡ None
 Judges d kinds (Err e) = e ≢ Memory → first_of (holds d) kinds ≡ Some e
 
+-- what is wrong at the top
 abbrev pub top_faults : Data → List (List DumpFault)
 top_faults d = (BadTop ∷ []) ∷ (BadVersion ∷ []) ∷ []
 
+-- what is wrong with the sites
 abbrev pub site_faults : Data → List (List DumpFault)
 site_faults d = each_site d BadSites ∷ each_site d RepeatedSite ∷ (TooManySites ∷ []) ∷ []
 
+-- what is wrong with the processes, each looked at alone
 abbrev pub process_faults : Data → List (List DumpFault)
 process_faults d = (TooManyProcesses ∷ []) ∷ each_process d BadProcess ∷ []
 
+-- what is wrong with the names of the processes
 abbrev pub name_faults : Data → List (List DumpFault)
 name_faults d = each_process d RepeatedProcess ∷ []
 
+-- what is wrong with the processes beside the sites and one another
 abbrev pub entry_faults : Data → List (List DumpFault)
 entry_faults d =
     each_process d UnknownSite
@@ -73,6 +78,7 @@ entry_faults d =
     ∷ (TooManyDependencies ∷ [])
     ∷ []
 
+-- what is wrong with the messages in transit
 abbrev pub transit_faults : Data → List (List DumpFault)
 transit_faults d =
     (TooManyInTransit ∷ []) ∷ each_transit d BadInTransit ∷ each_transit d UnknownInTransit ∷ []

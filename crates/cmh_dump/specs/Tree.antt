@@ -5,10 +5,12 @@ use Rattle.std.specs.List.{list_all, list_any}
 use Rattle.serde_json.specs.Data.{Data, null, Items, no_items, item, Members, no_members, member}
 use Rattle.serde_json.specs.Find.{get, as_number, as_u64, as_str, as_array, as_object}
 
+-- the entries of an array as a list
 abbrev pub list_of : Items → List Data
 list_of no_items = []
 list_of (item d ds) = d ∷ list_of ds
 
+-- the keys of an object as a list
 abbrev pub keys_of : Members → List (List ℕ)
 keys_of no_members = []
 keys_of (member k d ms) = k ∷ keys_of ms
@@ -29,9 +31,11 @@ texts_of d = map text_of (entries_of d)
 abbrev pub at_key : List ℕ → Data → Data
 at_key k d = unwrap_or (get k d) null
 
+-- the object has the key
 abbrev pub has_key : List ℕ → Data → Bool
 has_key k d = is_some (get k d)
 
+-- the value is an array
 abbrev pub is_array : Data → Bool
 is_array d = is_some (as_array d)
 
@@ -39,6 +43,7 @@ is_array d = is_some (as_array d)
 abbrev pub all_keys : Data → List (List ℕ)
 all_keys d = unwrap_or (option_map keys_of (as_object d)) []
 
+-- the key is one of these
 abbrev pub is_one_of : List (List ℕ) → List ℕ → Bool
 is_one_of keys k = list_any (bytes_eq k) keys
 
@@ -52,6 +57,7 @@ has_keys needed allowed d =
 abbrev pub natural_of : Data → Option ℕ
 natural_of d = option_and_then as_u64 (as_number d)
 
+-- there is a number, and it is n
 abbrev pub is_number : ℕ → Option ℕ → Bool
 is_number n None = false
 is_number n (Some m) = m == n

@@ -1,4 +1,4 @@
-//! Dumps.
+//! From the bytes of a dump to its graph, or to the first fault that refuses it.
 
 ghost use Rattle.std.specs.Prelude.{◌≡◌, ◌≢◌, ◌<◌, ◌^◌, length, Ok, Err, IfOk, IfErr};
 ghost use Rattle.cmh_dump.specs.Dump.{in_order, dump, dump_of_tree};
@@ -8,7 +8,7 @@ ghost use Rattle.cmh_dump.specs.Texts.{texts};
 ghost use Rattle.serde_json.specs.View.{view};
 
 use crate::entry::Entry;
-use crate::judge::{index_names, judge_entries, judge_top, read_processes, read_sites};
+use crate::judge::{judge_entries, judge_top, read_names, read_processes, read_sites};
 use crate::parts::parts_of;
 use crate::transit::read_in_transit;
 use crate::tree::tree_of;
@@ -53,7 +53,7 @@ fn read_named(
     ensures { AreRead (view tree.now) entries.now (texts sites.now.keys)
         → Builds (view tree.now) (faults_from_names (view tree.now)) result }
 {
-    let names = index_names(alloc, entries)?;
+    let names = read_names(alloc, entries)?;
     read_linked(alloc, tree, entries, sites, &names)
 }
 

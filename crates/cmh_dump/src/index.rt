@@ -50,6 +50,7 @@ pub(crate) fn place_in(index: &IndexSet<&str>, name: &str) -> Option<usize>
     index.get_index_of(name)
 }
 
+/// The name is in the index.
 pub(crate) fn is_known(index: &IndexSet<&str>, name: &str) -> bool
     ensures { result ≡ is_among (texts index.now.keys) name.now }
 {

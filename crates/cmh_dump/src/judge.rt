@@ -100,8 +100,8 @@ pub(crate) fn read_processes<'v>(
     Ok(entries_of(alloc, processes)?)
 }
 
-/// The names of the processes by their places.
-pub(crate) fn index_names<'v>(
+/// The names of the processes by their places, of which none repeats.
+pub(crate) fn read_names<'v>(
     alloc: Global,
     entries: &[Entry<'v>],
 ) -> Result<IndexSet<&'v str>, DumpFault>

@@ -63,7 +63,7 @@ fn first_unknown_pair(names: &IndexSet<&str>, messages: &[Value]) -> Option<usiz
         .position(|message| !is_among_processes(names, message))
 }
 
-/// The text of an entry of the pair.
+/// The sender of a message, at 0, or its receiver, at 1; the empty text where it is none.
 fn name_in_pair(message: &Value, entry: usize) -> &str
     ensures { result.now ≡ nth (texts_of (view message.now)) entry [] }
 {

@@ -27,14 +27,14 @@ pub(crate) fn tree_of(alloc: Global, bytes: &[u8]) -> Result<Value, DumpFault>
     }
 }
 
-/// The text.
+/// The text, or the empty one where the value is none.
 pub(crate) fn text_in(value: &Value) -> &str
     ensures { result.now ≡ text_of (view value.now) }
 {
     value.as_str().unwrap_or("")
 }
 
-/// The text at a key.
+/// The text at a key, or the empty one where none is there.
 pub(crate) fn text_at<'v>(value: &'v Value, key: &str) -> &'v str
     ensures { result.now ≡ text_of (at_key key.now (view value.now)) }
 {
@@ -44,7 +44,7 @@ pub(crate) fn text_at<'v>(value: &'v Value, key: &str) -> &'v str
     }
 }
 
-/// The entries of an array.
+/// The entries of an array, or none where the value is none.
 #[tactic(auto, using(crate::proofs::Trees::entries_of_items))]
 pub(crate) fn entries_in(value: &Value) -> &[Value]
     ensures { map view result.now ≡ entries_of (view value.now) }
@@ -55,7 +55,7 @@ pub(crate) fn entries_in(value: &Value) -> &[Value]
     }
 }
 
-/// The entries of the array at a key.
+/// The entries of the array at a key, or none where no array is there.
 pub(crate) fn entries_at<'v>(value: &'v Value, key: &str) -> &'v [Value]
     ensures { map view result.now ≡ entries_of (at_key key.now (view value.now)) }
 {
@@ -87,6 +87,7 @@ pub(crate) fn texts_at<'v>(
     texts_in(alloc, entries_at(value, key))
 }
 
+/// An array stands at the key.
 pub(crate) fn has_array(value: &Value, key: &str) -> bool
     ensures { result ≡ is_array (at_key key.now (view value.now)) }
 {
@@ -96,6 +97,7 @@ pub(crate) fn has_array(value: &Value, key: &str) -> bool
     }
 }
 
+/// The object has the key.
 pub(crate) fn has_member(value: &Value, key: &str) -> bool
     ensures { result ≡ has_key key.now (view value.now) }
 {
