@@ -7,7 +7,8 @@ use Rattle.cmh_rw.specs.History.{bit, free_bit, verdict_code, verdict_of, RowCod
 use Rattle.cmh_rw.specs.View.{mark}
 
 -- the three parts of a code
-parts : (p a b : ℕ) → a ≤ 1 → b ≤ 1 → ((4 * p + 2 * a + b) / 4 ≡ p) × ((4 * p + 2 * a + b) / 2 % 2 ≡ a) × ((4 * p + 2 * a + b) % 2 ≡ b)
+parts : (p a b : ℕ) → a ≤ 1 → b ≤ 1
+    → ((4 * p + 2 * a + b) / 4 ≡ p) × ((4 * p + 2 * a + b) / 2 % 2 ≡ a) × ((4 * p + 2 * a + b) % 2 ≡ b)
 parts p a b ha hb = (omega arith, omega arith, omega arith)
 
 -- a bit is at most 1
@@ -32,8 +33,13 @@ free-verdict Free = refl
 
 -- a row can be told from its word
 pub row_code_law : RowCodeLaw
-row_code_law r = let e = parts r.process (bit r.last) (free_bit r.verdict) (bit-small r.last) (free_bit-small r.verdict) in
-    λ k. record { process = e.0 k; verdict = (ap (λ n. cond (eqb n 1) Free Deadlocked) e.2 ∙ free-verdict r.verdict) k; last = (ap (λ n. eqb n 1) e.1 ∙ eqb-bit r.last) k }
+row_code_law r =
+    let e = parts r.process (bit r.last) (free_bit r.verdict) (bit-small r.last) (free_bit-small r.verdict) in
+    λ k. record {
+      process = e.0 k;
+      verdict = (ap (λ n. cond (eqb n 1) Free Deadlocked) e.2 ∙ free-verdict r.verdict) k;
+      last = (ap (λ n. eqb n 1) e.1 ∙ eqb-bit r.last) k;
+    }
 
 -- a verdict can be told from its word
 verdict_of-code : (v : Verdict) → verdict_of (verdict_code (Some v)) ≡ v
@@ -41,7 +47,8 @@ verdict_of-code Deadlocked = refl
 verdict_of-code Free = refl
 
 -- the process and the verdict can be told from the store of a verdict
-pub mark_of : (p : ℕ) (v : Verdict) → mark (FIRST_VERDICT + p - FIRST_VERDICT) (verdict_of (verdict_code (Some v))) ≡ mark p v
+pub mark_of : (p : ℕ) (v : Verdict)
+    → mark (FIRST_VERDICT + p - FIRST_VERDICT) (verdict_of (verdict_code (Some v))) ≡ mark p v
 mark_of p v = let e : FIRST_VERDICT + p - FIRST_VERDICT ≡ p = omega arith in λ k. mark (e k) (verdict_of-code v k)
 
 -- the last of a list that one more ends

@@ -24,11 +24,14 @@ places = refl
 
 -- process 0 deadlocked, not last; 1 deadlocked, last; 2 deadlocked, last; 0 free, alone; 511 free,
 -- alone; 4095 free, alone
-row_codes : map row_code (row 0 Deadlocked false ∷ row 1 Deadlocked true ∷ row 2 Deadlocked true ∷ row 0 Free true ∷ row 511 Free true ∷ row 4095 Free true ∷ []) ≡ 0 ∷ 6 ∷ 10 ∷ 3 ∷ 2047 ∷ 16383 ∷ []
+row_codes : map row_code
+    (row 0 Deadlocked false ∷ row 1 Deadlocked true ∷ row 2 Deadlocked true ∷ row 0 Free true ∷ row 511 Free true
+    ∷ row 4095 Free true ∷ []) ≡ 0 ∷ 6 ∷ 10 ∷ 3 ∷ 2047 ∷ 16383 ∷ []
 row_codes = refl
 
 -- the rows can be told from their words
-rows_of_codes : map row_of (0 ∷ 6 ∷ 16383 ∷ []) ≡ row 0 Deadlocked false ∷ row 1 Deadlocked true ∷ row 4095 Free true ∷ []
+rows_of_codes : map row_of (0 ∷ 6 ∷ 16383 ∷ [])
+    ≡ row 0 Deadlocked false ∷ row 1 Deadlocked true ∷ row 4095 Free true ∷ []
 rows_of_codes = refl
 
 -- no verdict, deadlocked, free
@@ -59,7 +62,10 @@ codes_of_postings = refl
 
 -- both are postings
 are_postings : ArePostings postings
-are_postings = ((row 0 Deadlocked false ∷ [], row 1 Deadlocked true, refl, (refl, tt), refl), (([], row 2 Deadlocked true, refl, tt, refl), tt))
+are_postings = (
+  (row 0 Deadlocked false ∷ [], row 1 Deadlocked true, refl, (refl, tt), refl),
+  (([], row 2 Deadlocked true, refl, tt, refl), tt),
+)
 
 -- and all rows are true
 true_postings : IsTrueOf cycle_and_follower (laid postings)
@@ -91,11 +97,15 @@ says_of_nobody : fold_at (laid postings) 3 ≡ None
 says_of_nobody = refl
 
 -- a writer stages p and q, and counts them
-posting_p_and_q : (posted (with_row (with_row (opening_view cycle_and_follower) (row 0 Deadlocked false)) (row 1 Deadlocked true))).seen ≡ row 0 Deadlocked false ∷ row 1 Deadlocked true ∷ []
+posting_p_and_q :
+    (posted
+    (with_row (with_row (opening_view cycle_and_follower) (row 0 Deadlocked false)) (row 1 Deadlocked true))).seen
+    ≡ row 0 Deadlocked false ∷ row 1 Deadlocked true ∷ []
 posting_p_and_q = refl
 
 -- of two beginnings the longer is kept
-longer_of_two : longer (row 0 Deadlocked true ∷ []) (row 0 Deadlocked true ∷ row 1 Free true ∷ []) ≡ row 0 Deadlocked true ∷ row 1 Free true ∷ []
+longer_of_two : longer (row 0 Deadlocked true ∷ []) (row 0 Deadlocked true ∷ row 1 Free true ∷ [])
+    ≡ row 0 Deadlocked true ∷ row 1 Free true ∷ []
 longer_of_two = refl
 
 -- ---- events on a lock with two seats: a writer has to wait for a reader, and the reader, who comes

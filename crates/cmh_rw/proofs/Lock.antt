@@ -26,42 +26,84 @@ LockSeat = Me (Unit {0}) LockView
 -- who reads or retreats has a share
 holds_one : (key : Graph) (v : LockView) → Has key v → reads v.state + retreats v.state ≤ v.share
 holds_one key v h = let P : SeatState → Type 0 = λ s. HasShare key v.graph v.share s → reads s + retreats s ≤ v.share in
-    elim v.state as P [ Away ↦ λ h. omega arith | Retreating ↦ λ h. let k = h.0 in omega arith | Reading ↦ λ h. let k = h.0 in omega arith | Writing ↦ λ h. omega arith | Spent ↦ λ h. omega arith ] h
+    elim v.state as P [
+      | Away ↦ λ h. omega arith
+      | Retreating ↦ λ h. let k = h.0 in omega arith
+      | Reading ↦ λ h. let k = h.0 in omega arith
+      | Writing ↦ λ h. omega arith
+      | Spent ↦ λ h. omega arith
+    ] h
 
 -- so readers and retreaters are no more than the shares
-holders : (key : Graph) (views : List LockView) → ((i : ℕ) (v : LockView) → get_elem? views i ≡ some v → Has key v) → total reads (map state_of views) + total retreats (map state_of views) ≤ total share_of views
+holders : (key : Graph) (views : List LockView) → ((i : ℕ) (v : LockView) → get_elem? views i ≡ some v → Has key v)
+    → total reads (map state_of views) + total retreats (map state_of views) ≤ total share_of views
 holders key [] each = omega arith
-holders key (v ∷ vs) each = let h = holds_one key v (each zero v refl) in let r = holders key vs (λ i w e. each (suc i) w e) in omega arith
+holders key (v ∷ vs) each =
+    let h = holds_one key v (each zero v refl) in let r = holders key vs (λ i w e. each (suc i) w e) in omega arith
 
 -- the lock word is far from the end of its range
 pub word-small : (key : Graph) (s : LockMoment) → Kept key s → get_or s.words 0 0 < 8589934592
-word-small key s h = let k = h.lock.word in let o = h.lock.one_writer in let f = holders key s.views h.each in let n = h.shares in omega arith
+word-small key s h =
+    let k = h.lock.word in
+    let o = h.lock.one_writer in
+    let f = holders key s.views h.each in
+    let n = h.shares in
+    omega arith
 
 -- whoever is held counts in the word
-pub counts : (key : Graph) (s : LockMoment) (id : ℕ) (v : LockView) → Kept key s → get_elem? s.views id ≡ some v → 4294967296 * writes v.state + reads v.state + retreats v.state ≤ get_or s.words 0 0
+pub counts : (key : Graph) (s : LockMoment) (id : ℕ) (v : LockView) → Kept key s → get_elem? s.views id ≡ some v
+    → 4294967296 * writes v.state + reads v.state + retreats v.state ≤ get_or s.words 0 0
 counts key s id v h at = let k = h.lock.word in let e = at_map state_of s.views id v at in
-    let a = total-in writes (map state_of s.views) id v.state e in let b = total-in reads (map state_of s.views) id v.state e in let c = total-in retreats (map state_of s.views) id v.state e in omega arith
+    let a = total-in writes (map state_of s.views) id v.state e in
+    let b = total-in reads (map state_of s.views) id v.state e in
+    let c = total-in retreats (map state_of s.views) id v.state e in
+    omega arith
 
 -- a step on word 0 that is an event of this seat, and changes neither its share nor its graph
-pub placed : (key : Graph) (e : Event) (s : LockMoment) (n id : ℕ) (me : LockSeat) (w : LockView) → Kept key s → get_elem? s.views id ≡ some me.0
-    → n ≡ (turn e (get_or s.words 0 0) me.0.state).0 → w.state ≡ (turn e (get_or s.words 0 0) me.0.state).1 → w.share ≡ me.0.share → Has key w
+pub placed : (key : Graph) (e : Event) (s : LockMoment) (n id : ℕ) (me : LockSeat) (w : LockView) → Kept key s
+    → get_elem? s.views id ≡ some me.0
+    → n ≡ (turn e (get_or s.words 0 0) me.0.state).0 → w.state ≡ (turn e (get_or s.words 0 0) me.0.state).1
+    → w.share ≡ me.0.share → Has key w
     → Kept key (stepped s 0 n id me.1 w keeps)
-placed key e s n id me w h at is state share has = let x = get_or s.words 0 0 in let wide = h.wide in let sum = total-set share_of s.views id me.0 w at in let few = h.shares in record {
-  wide = length-set s.words 0 n ∙ wide;
-  lock =
-      let law = turn-lawful e x (map state_of s.views) id me.0.state (at_map state_of s.views id me.0 at) h.lock in
-      let word : get_or (set s.words 0 n) 0 0 ≡ (turn e x me.0.state).0 = get_or-set_same s.words 0 n 0 (omega arith) ∙ is in
-      let seats : map state_of (set s.views id w) ≡ set (map state_of s.views) id (turn e x me.0.state).1 = map-set state_of s.views id w ∙ ap (set (map state_of s.views) id) state in
-      subst IsLawful (λ k. world (sym word k) (sym seats k)) law;
-  shares = omega arith;
-  each = λ i v e. ⊎_elim (λ t. subst (Has key) t.1 has) (λ t. h.each i v t.1) (at_set s.views id i w v e);
-}
+placed key e s n id me w h at is state share has =
+    let x = get_or s.words 0 0 in
+    let wide = h.wide in
+    let sum = total-set share_of s.views id me.0 w at in
+    let few = h.shares in
+    record {
+      wide = length-set s.words 0 n ∙ wide;
+      lock =
+          let law = turn-lawful e x (map state_of s.views) id me.0.state (at_map state_of s.views id me.0 at) h.lock in
+          let word : get_or (set s.words 0 n) 0 0 ≡ (turn e x me.0.state).0 =
+          get_or-set_same s.words 0 n 0 (omega arith) ∙ is in
+          let seats : map state_of (set s.views id w) ≡ set (map state_of s.views) id (turn e x me.0.state).1 =
+          map-set state_of s.views id w ∙ ap (set (map state_of s.views) id) state in
+          subst IsLawful (λ k. world (sym word k) (sym seats k)) law;
+      shares = omega arith;
+      each = λ i v e. ⊎_elim (λ t. subst (Has key) t.1 has) (λ t. h.each i v t.1) (at_set s.views id i w v e);
+    }
 
 -- an unspent view keeps its share and its graph in another unspent state
-has_same : (key : Graph) (v : LockView) (b : SeatState) → Has key v → v.state ≢ Spent → b ≢ Spent → HasShare key v.graph v.share b
+has_same : (key : Graph) (v : LockView) (b : SeatState) → Has key v → v.state ≢ Spent → b ≢ Spent
+    → HasShare key v.graph v.share b
 has_same key v b h here there = let Q : Type 0 = (0 < v.share) × (v.graph ≡ key) in
-    let q : Q = (let P : SeatState → Type 0 = λ s. HasShare key v.graph v.share s → s ≢ Spent → Q in elim v.state as P [ Away ↦ λ h n. h | Retreating ↦ λ h n. h | Reading ↦ λ h n. h | Writing ↦ λ h n. h | Spent ↦ λ h n. absurd (n refl) ] h here) in
-    let R : SeatState → Type 0 = λ s. s ≢ Spent → HasShare key v.graph v.share s in elim b as R [ Away ↦ λ n. q | Retreating ↦ λ n. q | Reading ↦ λ n. q | Writing ↦ λ n. q | Spent ↦ λ n. absurd (n refl) ] there
+    let q : Q =
+    (let P : SeatState → Type 0 = λ s. HasShare key v.graph v.share s → s ≢ Spent → Q in
+    elim v.state as P [
+      | Away ↦ λ h n. h
+      | Retreating ↦ λ h n. h
+      | Reading ↦ λ h n. h
+      | Writing ↦ λ h n. h
+      | Spent ↦ λ h n. absurd (n refl)
+    ] h here) in
+    let R : SeatState → Type 0 = λ s. s ≢ Spent → HasShare key v.graph v.share s in
+    elim b as R [
+      | Away ↦ λ n. q
+      | Retreating ↦ λ n. q
+      | Reading ↦ λ n. q
+      | Writing ↦ λ n. q
+      | Spent ↦ λ n. absurd (n refl)
+    ] there
 
 -- a seat that is away is not spent
 not_spent : (a b : SeatState) → a ≡ b → b ≢ Spent → a ≢ Spent
@@ -73,13 +115,21 @@ cond-not_spent true x y p q = p
 cond-not_spent false x y p q = q
 
 -- the rule after the step, with the view that the step tells: what a rule over more of a view stands on
-pub enter_kept : (key : Graph) (s : LockMoment) (id : ℕ) (me : LockSeat) → me.0.state ≡ Away → Kept key s → get_elem? s.views id ≡ some me.0
-    → Kept key (stepped s 0 ((get_or s.words 0 0 + 1) % 18446744073709551616) id me.1 (after_try (Admit 0) (get_or s.words 0 0) me.0) keeps)
-enter_kept key s id me away h at = let x = get_or s.words 0 0 in let w = after_try (Admit 0) x me.0 in let small = word-small key s h in
-    let t : turn (Admit 0) x me.0.state ≡ (x + 1, cond (ltb x 4294967296) Reading Retreating) = ap (turn (Admit 0) x) away in
+pub enter_kept : (key : Graph) (s : LockMoment) (id : ℕ) (me : LockSeat) → me.0.state ≡ Away → Kept key s
+    → get_elem? s.views id ≡ some me.0
+    → Kept key
+    (stepped s 0 ((get_or s.words 0 0 + 1) % 18446744073709551616) id me.1
+    (after_try (Admit 0) (get_or s.words 0 0) me.0) keeps)
+enter_kept key s id me away h at =
+    let x = get_or s.words 0 0 in let w = after_try (Admit 0) x me.0 in let small = word-small key s h in
+    let t : turn (Admit 0) x me.0.state ≡ (x + 1, cond (ltb x 4294967296) Reading Retreating) =
+    ap (turn (Admit 0) x) away in
     let n : (x + 1) % 18446744073709551616 ≡ (turn (Admit 0) x me.0.state).0 = omega (arith, ap (λ p. p.0) t) in
-    let there : w.state ≢ Spent = not_spent w.state (cond (ltb x 4294967296) Reading Retreating) (ap (λ p. p.1) t) (cond-not_spent (ltb x 4294967296) Reading Retreating (λ e. cc) (λ e. cc)) in
-    placed key (Admit 0) s ((x + 1) % 18446744073709551616) id me w h at n refl refl (has_same key me.0 w.state (h.each id me.0 at) (not_spent me.0.state Away away (λ e. cc)) there)
+    let there : w.state ≢ Spent =
+    not_spent w.state (cond (ltb x 4294967296) Reading Retreating) (ap (λ p. p.1) t)
+    (cond-not_spent (ltb x 4294967296) Reading Retreating (λ e. cc) (λ e. cc)) in
+    placed key (Admit 0) s ((x + 1) % 18446744073709551616) id me w h at n refl refl
+    (has_same key me.0 w.state (h.each id me.0 at) (not_spent me.0.state Away away (λ e. cc)) there)
 
 -- what leaving makes of the word and the state
 leave_turn : (word : ℕ) (a : SeatState) → reads a + retreats a ≡ 1 → turn (Leave 0) word a ≡ (word - 1, Away)
@@ -94,21 +144,32 @@ in-not_spent : (a : SeatState) → reads a + retreats a ≡ 1 → a ≢ Spent
 in-not_spent a is e = let z : reads a + retreats a ≡ 0 = ap (λ b. reads b + retreats b) e in absurd (omega arith)
 
 -- a reader leaves, or a seat retreats
-pub leave_kept : (key : Graph) (s : LockMoment) (id : ℕ) (me : LockSeat) → reads me.0.state + retreats me.0.state ≡ 1 → Kept key s → get_elem? s.views id ≡ some me.0
-    → Kept key (stepped s 0 ((get_or s.words 0 0 + 18446744073709551615) % 18446744073709551616) id me.1 (away me.0) keeps)
-leave_kept key s id me inside h at = let x = get_or s.words 0 0 in let small = word-small key s h in let one = counts key s id me.0 h at in
+pub leave_kept : (key : Graph) (s : LockMoment) (id : ℕ) (me : LockSeat) → reads me.0.state + retreats me.0.state ≡ 1
+    → Kept key s → get_elem? s.views id ≡ some me.0
+    → Kept key
+    (stepped s 0 ((get_or s.words 0 0 + 18446744073709551615) % 18446744073709551616) id me.1 (away me.0) keeps)
+leave_kept key s id me inside h at =
+    let x = get_or s.words 0 0 in let small = word-small key s h in let one = counts key s id me.0 h at in
     let t = leave_turn x me.0.state inside in
-    let n : (x + 18446744073709551615) % 18446744073709551616 ≡ (turn (Leave 0) x me.0.state).0 = omega (arith, ap (λ p. p.0) t) in
-    placed key (Leave 0) s ((x + 18446744073709551615) % 18446744073709551616) id me (away me.0) h at n (sym (ap (λ p. p.1) t)) refl (has_same key me.0 Away (h.each id me.0 at) (in-not_spent me.0.state inside) (λ e. cc))
+    let n : (x + 18446744073709551615) % 18446744073709551616 ≡ (turn (Leave 0) x me.0.state).0 =
+    omega (arith, ap (λ p. p.0) t) in
+    placed key (Leave 0) s ((x + 18446744073709551615) % 18446744073709551616) id me (away me.0) h at n
+    (sym (ap (λ p. p.1) t)) refl (has_same key me.0 Away (h.each id me.0 at) (in-not_spent me.0.state inside) (λ e. cc))
 
 -- a writer ends its hold
-pub end_kept : (key : Graph) (s : LockMoment) (id : ℕ) (me : LockSeat) → me.0.state ≡ Writing → Kept key s → get_elem? s.views id ≡ some me.0
-    → Kept key (stepped s 0 ((get_or s.words 0 0 + 18446744069414584320) % 18446744073709551616) id me.1 (away me.0) keeps)
-end_kept key s id me writing h at = let x = get_or s.words 0 0 in let small = word-small key s h in let one = counts key s id me.0 h at in
+pub end_kept : (key : Graph) (s : LockMoment) (id : ℕ) (me : LockSeat) → me.0.state ≡ Writing → Kept key s
+    → get_elem? s.views id ≡ some me.0
+    → Kept key
+    (stepped s 0 ((get_or s.words 0 0 + 18446744069414584320) % 18446744073709551616) id me.1 (away me.0) keeps)
+end_kept key s id me writing h at =
+    let x = get_or s.words 0 0 in let small = word-small key s h in let one = counts key s id me.0 h at in
     let is : writes me.0.state ≡ 1 = ap writes writing in
     let t : turn (EndWrite 0) x me.0.state ≡ (x - 4294967296, Away) = ap (turn (EndWrite 0) x) writing in
-    let n : (x + 18446744069414584320) % 18446744073709551616 ≡ (turn (EndWrite 0) x me.0.state).0 = omega (arith, ap (λ p. p.0) t) in
-    placed key (EndWrite 0) s ((x + 18446744069414584320) % 18446744073709551616) id me (away me.0) h at n (sym (ap (λ p. p.1) t)) refl (has_same key me.0 Away (h.each id me.0 at) (not_spent me.0.state Writing writing (λ e. cc)) (λ e. cc))
+    let n : (x + 18446744069414584320) % 18446744073709551616 ≡ (turn (EndWrite 0) x me.0.state).0 =
+    omega (arith, ap (λ p. p.0) t) in
+    placed key (EndWrite 0) s ((x + 18446744069414584320) % 18446744073709551616) id me (away me.0) h at n
+    (sym (ap (λ p. p.1) t)) refl
+    (has_same key me.0 Away (h.each id me.0 at) (not_spent me.0.state Writing writing (λ e. cc)) (λ e. cc))
 
 -- what a try to write makes of the word and the state
 abbrev tried : Bool → ℕ → ℕ × SeatState
@@ -125,22 +186,38 @@ pair-not_spent true x = λ e. cc
 pair-not_spent false x = λ e. cc
 
 -- a seat becomes the writer where the word is 0
-pub take_kept : (key : Graph) (s : LockMoment) (id : ℕ) (me : LockSeat) → me.0.state ≡ Away → Kept key s → get_elem? s.views id ≡ some me.0
-    → Kept key (stepped s 0 (either (eqb (get_or s.words 0 0) 0) 4294967296 (get_or s.words 0 0)) id me.1 (after_try (TryWrite 0) (get_or s.words 0 0) me.0) keeps)
+pub take_kept : (key : Graph) (s : LockMoment) (id : ℕ) (me : LockSeat) → me.0.state ≡ Away → Kept key s
+    → get_elem? s.views id ≡ some me.0
+    → Kept key
+    (stepped s 0 (either (eqb (get_or s.words 0 0) 0) 4294967296 (get_or s.words 0 0)) id me.1
+    (after_try (TryWrite 0) (get_or s.words 0 0) me.0) keeps)
 take_kept key s id me away h at = let x = get_or s.words 0 0 in let w = after_try (TryWrite 0) x me.0 in
     let t : turn (TryWrite 0) x me.0.state ≡ tried (eqb x 0) x = ap (turn (TryWrite 0) x) away in
-    let n : either (eqb x 0) 4294967296 x ≡ (turn (TryWrite 0) x me.0.state).0 = either_cond (eqb x 0) x ∙ sym (ap (λ p. p.0) t) in
-    let there : w.state ≢ Spent = not_spent w.state (tried (eqb x 0) x).1 (ap (λ p. p.1) t) (pair-not_spent (eqb x 0) x) in
-    placed key (TryWrite 0) s (either (eqb x 0) 4294967296 x) id me w h at n refl refl (has_same key me.0 w.state (h.each id me.0 at) (not_spent me.0.state Away away (λ e. cc)) there)
+    let n : either (eqb x 0) 4294967296 x ≡ (turn (TryWrite 0) x me.0.state).0 =
+    either_cond (eqb x 0) x ∙ sym (ap (λ p. p.0) t) in
+    let there : w.state ≢ Spent =
+    not_spent w.state (tried (eqb x 0) x).1 (ap (λ p. p.1) t) (pair-not_spent (eqb x 0) x) in
+    placed key (TryWrite 0) s (either (eqb x 0) 4294967296 x) id me w h at n refl refl
+    (has_same key me.0 w.state (h.each id me.0 at) (not_spent me.0.state Away away (λ e. cc)) there)
 
 -- a seat that is away comes, or goes on with another view
 lawful-snoc : (word : ℕ) (l : List SeatState) → IsLawful (world word l) → IsLawful (world word (l ++ Away ∷ []))
-lawful-snoc word l h = let w = total-snoc writes l Away in let r = total-snoc reads l Away in let t = total-snoc retreats l Away in let k = h.word in let o = h.one_writer in
+lawful-snoc word l h =
+    let w = total-snoc writes l Away in
+    let r = total-snoc reads l Away in
+    let t = total-snoc retreats l Away in
+    let k = h.word in
+    let o = h.one_writer in
     record { word = omega arith; one_writer = omega arith; alone = λ p. let z = h.alone (omega arith) in omega arith }
 
 -- the lock doesn't see a change between states that hold nothing
-quiet : (word : ℕ) (l : List SeatState) (i : ℕ) (a b : SeatState) → get_elem? l i ≡ some a → a ≡ Away → writes b + reads b + retreats b ≡ 0 → IsLawful (world word l) → IsLawful (world word (set l i b))
-quiet word l i a b at away light h = let wa : writes a ≡ 0 = ap writes away in let ra : reads a ≡ 0 = ap reads away in let ta : retreats a ≡ 0 = ap retreats away in let k = h.one_writer in
+quiet : (word : ℕ) (l : List SeatState) (i : ℕ) (a b : SeatState) → get_elem? l i ≡ some a → a ≡ Away
+    → writes b + reads b + retreats b ≡ 0 → IsLawful (world word l) → IsLawful (world word (set l i b))
+quiet word l i a b at away light h =
+    let wa : writes a ≡ 0 = ap writes away in
+    let ra : reads a ≡ 0 = ap reads away in
+    let ta : retreats a ≡ 0 = ap retreats away in
+    let k = h.one_writer in
     lawful-set word word l i a b at h (omega arith) (omega arith) (λ p q. let z = h.alone (omega arith) in omega arith)
 
 -- who is away has a share
@@ -152,52 +229,101 @@ has_from : (key : Graph) (v : LockView) → v.state ≡ Away → (0 < v.share) �
 has_from key v away h = subst (λ s. HasShare key v.graph v.share s) (sym away) h
 
 -- a seat that is away is split
-pub split_kept : (key : Graph) (id : ℕ) (v : LockView) → v.state ≡ Away → 1 < v.share → Splits (Kept key) id v (less_share v) (new_lock v)
-split_kept key id v away more s h at = let sum = total-set share_of s.views id v (less_share v) at in let all = total-snoc share_of (set s.views id (less_share v)) (new_lock v) in let few = h.shares in
+pub split_kept : (key : Graph) (id : ℕ) (v : LockView) → v.state ≡ Away → 1 < v.share
+    → Splits (Kept key) id v (less_share v) (new_lock v)
+split_kept key id v away more s h at =
+    let sum = total-set share_of s.views id v (less_share v) at in
+    let all = total-snoc share_of (set s.views id (less_share v)) (new_lock v) in
+    let few = h.shares in
     let has = has_share key v (h.each id v at) away in let e = at_map state_of s.views id v at in record {
       wide = h.wide;
       lock =
-          let here : IsLawful (world (get_or s.words 0 0) (set (map state_of s.views) id v.state)) = quiet (get_or s.words 0 0) (map state_of s.views) id v.state v.state e away (ap (λ a. writes a + reads a + retreats a) away) h.lock in
-          let seats : map state_of (set s.views id (less_share v) ++ new_lock v ∷ []) ≡ set (map state_of s.views) id v.state ++ Away ∷ [] = map-append state_of (set s.views id (less_share v)) (new_lock v ∷ []) ∙ ap (λ l. l ++ Away ∷ []) (map-set state_of s.views id (less_share v)) in
-          subst IsLawful (λ k. world (get_or s.words 0 0) (sym seats k)) (lawful-snoc (get_or s.words 0 0) (set (map state_of s.views) id v.state) here);
+          let here : IsLawful (world (get_or s.words 0 0) (set (map state_of s.views) id v.state)) =
+          quiet (get_or s.words 0 0) (map state_of s.views) id v.state v.state e away
+          (ap (λ a. writes a + reads a + retreats a) away) h.lock in
+          let seats : map state_of (set s.views id (less_share v) ++ new_lock v ∷ [])
+          ≡ set (map state_of s.views) id v.state ++ Away ∷ [] =
+          map-append state_of (set s.views id (less_share v)) (new_lock v ∷ [])
+          ∙ ap (λ l. l ++ Away ∷ []) (map-set state_of s.views id (less_share v)) in
+          subst IsLawful (λ k. world (get_or s.words 0 0) (sym seats k))
+          (lawful-snoc (get_or s.words 0 0) (set (map state_of s.views) id v.state) here);
       shares = omega arith;
       each = λ i u g. ⊎_elim
-          (λ old. ⊎_elim (λ t. subst (Has key) t.1 (has_from key (less_share v) away (omega arith, has.1))) (λ t. h.each i u t.1) (at_set s.views id i (less_share v) u old))
+          (λ old. ⊎_elim (λ t. subst (Has key) t.1 (has_from key (less_share v) away (omega arith, has.1)))
+          (λ t. h.each i u t.1) (at_set s.views id i (less_share v) u old))
           (λ new. subst (Has key) new (omega arith, has.1))
           (at_snoc (set s.views id (less_share v)) (new_lock v) u i g);
     }
 
 -- a seat that is away is joined into another
-pub join_kept : (key : Graph) (id : ℕ) (v : LockView) (other : ℕ) (w : LockView) → v.state ≡ Away → w.state ≡ Away → Joins (Kept key) id v other w (both_shares v w) spent_lock
+pub join_kept : (key : Graph) (id : ℕ) (v : LockView) (other : ℕ) (w : LockView) → v.state ≡ Away → w.state ≡ Away
+    → Joins (Kept key) id v other w (both_shares v w) spent_lock
 join_kept key id v other w away away' s h at apart there = let mid = set s.views id (both_shares v w) in
-    let sum = total-set share_of s.views id v (both_shares v w) at in let all = total-set share_of mid other w spent_lock there in let few = h.shares in
-    let has = has_share key v (h.each id v at) away in let e = at_map state_of s.views id v at in let e' = at_map state_of mid other w there in let x = get_or s.words 0 0 in record {
+    let sum = total-set share_of s.views id v (both_shares v w) at in
+    let all = total-set share_of mid other w spent_lock there in
+    let few = h.shares in
+    let has = has_share key v (h.each id v at) away in
+    let e = at_map state_of s.views id v at in
+    let e' = at_map state_of mid other w there in
+    let x = get_or s.words 0 0 in
+    record {
       wide = h.wide;
       lock =
-          let one : IsLawful (world x (set (map state_of s.views) id v.state)) = quiet x (map state_of s.views) id v.state v.state e away (ap (λ a. writes a + reads a + retreats a) away) h.lock in
-          let one' : IsLawful (world x (map state_of mid)) = subst (λ l. IsLawful (world x l)) (sym (map-set state_of s.views id (both_shares v w))) one in
-          let two : IsLawful (world x (set (map state_of mid) other Spent)) = quiet x (map state_of mid) other w.state Spent e' away' refl one' in
+          let one : IsLawful (world x (set (map state_of s.views) id v.state)) =
+          quiet x (map state_of s.views) id v.state v.state e away (ap (λ a. writes a + reads a + retreats a) away)
+          h.lock in
+          let one' : IsLawful (world x (map state_of mid)) =
+          subst (λ l. IsLawful (world x l)) (sym (map-set state_of s.views id (both_shares v w))) one in
+          let two : IsLawful (world x (set (map state_of mid) other Spent)) =
+          quiet x (map state_of mid) other w.state Spent e' away' refl one' in
           subst (λ l. IsLawful (world x l)) (sym (map-set state_of mid other spent_lock)) two;
       shares = omega arith;
       each = λ i u g. ⊎_elim (λ t. subst (Has key) t.1 refl)
-          (λ t. ⊎_elim (λ t'. subst (Has key) t'.1 (has_from key (both_shares v w) away (omega arith, has.1))) (λ t'. h.each i u t'.1) (at_set s.views id i (both_shares v w) u t.1))
+          (λ t. ⊎_elim (λ t'. subst (Has key) t'.1 (has_from key (both_shares v w) away (omega arith, has.1)))
+          (λ t'. h.each i u t'.1) (at_set s.views id i (both_shares v w) u t.1))
           (at_set mid other i spent_lock u g);
     }
 
 -- a seat with each share is the only one that is not spent
-spent_one : (key : Graph) (v : LockView) → Has key v → v.share ≡ 0 → writes v.state + reads v.state + retreats v.state ≡ 0
-spent_one key v h z = let P : SeatState → Type 0 = λ s. HasShare key v.graph v.share s → writes s + reads s + retreats s ≡ 0 in
-    elim v.state as P [ Away ↦ λ h. refl | Retreating ↦ λ h. let k = h.0 in absurd (omega arith) | Reading ↦ λ h. let k = h.0 in absurd (omega arith) | Writing ↦ λ h. let k = h.0 in absurd (omega arith) | Spent ↦ λ h. refl ] h
+spent_one : (key : Graph) (v : LockView) → Has key v → v.share ≡ 0
+    → writes v.state + reads v.state + retreats v.state ≡ 0
+spent_one key v h z =
+    let P : SeatState → Type 0 = λ s. HasShare key v.graph v.share s → writes s + reads s + retreats s ≡ 0 in
+    elim v.state as P [
+      | Away ↦ λ h. refl
+      | Retreating ↦ λ h. let k = h.0 in absurd (omega arith)
+      | Reading ↦ λ h. let k = h.0 in absurd (omega arith)
+      | Writing ↦ λ h. let k = h.0 in absurd (omega arith)
+      | Spent ↦ λ h. refl
+    ] h
 
 -- views with no shares hold nothing
-all_spent : (key : Graph) (views : List LockView) → ((i : ℕ) (v : LockView) → get_elem? views i ≡ some v → Has key v) → total share_of views ≡ 0 → total writes (map state_of views) + total reads (map state_of views) + total retreats (map state_of views) ≡ 0
+all_spent : (key : Graph) (views : List LockView) → ((i : ℕ) (v : LockView) → get_elem? views i ≡ some v → Has key v)
+    → total share_of views ≡ 0
+    → total writes (map state_of views) + total reads (map state_of views) + total retreats (map state_of views) ≡ 0
 all_spent key [] each none_left = omega arith
-all_spent key (v ∷ vs) each none_left = let r = all_spent key vs (λ i w e. each (suc i) w e) (omega arith) in let h = spent_one key v (each zero v refl) (omega arith) in omega arith
+all_spent key (v ∷ vs) each none_left =
+    let r = all_spent key vs (λ i w e. each (suc i) w e) (omega arith) in
+    let h = spent_one key v (each zero v refl) (omega arith) in
+    omega arith
 
 -- where one view has all shares, the others hold nothing
-pub alone : (key : Graph) (views : List LockView) (id : ℕ) (v : LockView) → ((i : ℕ) (u : LockView) → get_elem? views i ≡ some u → Has key u) → get_elem? views id ≡ some v → total share_of views ≤ v.share
-    → total writes (map state_of views) + total reads (map state_of views) + total retreats (map state_of views) ≡ writes v.state + reads v.state + retreats v.state
+pub alone : (key : Graph) (views : List LockView) (id : ℕ) (v : LockView)
+    → ((i : ℕ) (u : LockView) → get_elem? views i ≡ some u → Has key u) → get_elem? views id ≡ some v
+    → total share_of views ≤ v.share
+    → total writes (map state_of views) + total reads (map state_of views) + total retreats (map state_of views)
+    ≡ writes v.state + reads v.state + retreats v.state
 alone key [] id v each at most = absurd (some-ne-none v (sym at))
-alone key (x ∷ xs) zero v each at most = let is : x ≡ v = some-injective x v at in let share = ap share_of is in let r = all_spent key xs (λ i w e. each (suc i) w e) (omega arith) in
-    let a = ap (λ (u : LockView). writes u.state) is in let b = ap (λ (u : LockView). reads u.state) is in let c = ap (λ (u : LockView). retreats u.state) is in omega arith
-alone key (x ∷ xs) (suc id) v each at most = let mine = total-in share_of xs id v at in let r = alone key xs id v (λ i w e. each (suc i) w e) at (omega arith) in let h = spent_one key x (each zero x refl) (omega arith) in omega arith
+alone key (x ∷ xs) zero v each at most =
+    let is : x ≡ v = some-injective x v at in
+    let share = ap share_of is in
+    let r = all_spent key xs (λ i w e. each (suc i) w e) (omega arith) in
+    let a = ap (λ (u : LockView). writes u.state) is in
+    let b = ap (λ (u : LockView). reads u.state) is in
+    let c = ap (λ (u : LockView). retreats u.state) is in
+    omega arith
+alone key (x ∷ xs) (suc id) v each at most =
+    let mine = total-in share_of xs id v at in
+    let r = alone key xs id v (λ i w e. each (suc i) w e) at (omega arith) in
+    let h = spent_one key x (each zero x refl) (omega arith) in
+    omega arith

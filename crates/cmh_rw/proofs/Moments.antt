@@ -36,68 +36,104 @@ pub writes-Writing : (a : SeatState) → a ≡ Writing → writes a ≡ 0 → �
 writes-Writing a is z = let one = ap writes is in omega arith
 
 -- the state of a seat, among the states of all
-pub state_at : (views : List View) (id : ℕ) (v : View) → get_elem? views id ≡ some v → get_elem? (map state_of (map lock_of views)) id ≡ some v.lock.state
+pub state_at : (views : List View) (id : ℕ) (v : View) → get_elem? views id ≡ some v
+    → get_elem? (map state_of (map lock_of views)) id ≡ some v.lock.state
 state_at views id v at = at_map state_of (map lock_of views) id v.lock (at_map lock_of views id v at)
 
 -- who holds the lock names the graph of the table
 pub held_graph : (key : Graph) (l : LockView) → Has key l → IsHeld l.state → l.graph ≡ key
 held_graph key l h held = let P : SeatState → Type 0 = λ s. HasShare key l.graph l.share s → IsHeld s → l.graph ≡ key in
-    elim l.state as P [ Away ↦ λ h e. h.1 | Retreating ↦ λ h e. h.1 | Reading ↦ λ h e. h.1 | Writing ↦ λ h e. h.1 | Spent ↦ λ h e. absurd (omega arith) ] h held
+    elim l.state as P [
+      | Away ↦ λ h e. h.1
+      | Retreating ↦ λ h e. h.1
+      | Reading ↦ λ h e. h.1
+      | Writing ↦ λ h e. h.1
+      | Spent ↦ λ h e. absurd (omega arith)
+    ] h held
 
 -- and so does who is away
 pub away_graph : (key : Graph) (l : LockView) → Has key l → l.state ≡ Away → l.graph ≡ key
-away_graph key l h is = let k : HasShare key l.graph l.share Away = subst (λ s. HasShare key l.graph l.share s) is h in k.1
+away_graph key l h is =
+    let k : HasShare key l.graph l.share Away = subst (λ s. HasShare key l.graph l.share s) is h in k.1
 
 -- where a view changes and its lock does not, the locks stay
-pub same_views : (views : List View) (id : ℕ) (v w : View) → get_elem? views id ≡ some v → w.lock ≡ v.lock → map lock_of (set views id w) ≡ map lock_of views
-same_views views id v w at same = map-set lock_of views id w ∙ ap (set (map lock_of views) id) same ∙ set_again (map lock_of views) id v.lock (at_map lock_of views id v at)
+pub same_views : (views : List View) (id : ℕ) (v w : View) → get_elem? views id ≡ some v → w.lock ≡ v.lock
+    → map lock_of (set views id w) ≡ map lock_of views
+same_views views id v w at same =
+    map-set lock_of views id w ∙ ap (set (map lock_of views) id) same
+    ∙ set_again (map lock_of views) id v.lock (at_map lock_of views id v at)
 
 -- a seat that comes to write no more than it did leaves the others as they were
-pub idle_still : (l : List SeatState) (id : ℕ) (a b : SeatState) → get_elem? l id ≡ some a → writes a ≡ 0 → total writes (set l id b) ≡ 0 → total writes l ≡ 0
+pub idle_still : (l : List SeatState) (id : ℕ) (a b : SeatState) → get_elem? l id ≡ some a → writes a ≡ 0
+    → total writes (set l id b) ≡ 0 → total writes l ≡ 0
 idle_still l id a b at none_in z = let t = total-set writes l id a b at in omega arith
 
 -- two places count both
-both_in : {A : Type 0} (f : A → ℕ) (l : List A) (i j : ℕ) (a b : A) → i ≢ j → get_elem? l i ≡ some a → get_elem? l j ≡ some b → f a + f b ≤ total f l
+both_in : {A : Type 0} (f : A → ℕ) (l : List A) (i j : ℕ) (a b : A) → i ≢ j → get_elem? l i ≡ some a
+    → get_elem? l j ≡ some b → f a + f b ≤ total f l
 both_in f [] i j a b n p q = absurd (some-ne-none a (sym p))
 both_in f (x ∷ xs) zero zero a b n p q = absurd (n refl)
-both_in f (x ∷ xs) zero (suc j) a b n p q = let is = ap f (some-injective x a p) in let r = total-in f xs j b q in omega arith
-both_in f (x ∷ xs) (suc i) zero a b n p q = let is = ap f (some-injective x b q) in let r = total-in f xs i a p in omega arith
+both_in f (x ∷ xs) zero (suc j) a b n p q =
+    let is = ap f (some-injective x a p) in let r = total-in f xs j b q in omega arith
+both_in f (x ∷ xs) (suc i) zero a b n p q =
+    let is = ap f (some-injective x b q) in let r = total-in f xs i a p in omega arith
 both_in f (x ∷ xs) (suc i) (suc j) a b n p q = let r = both_in f xs i j a b (λ e. n (ap suc e)) p q in omega arith
 
 -- beside a writer no other seat holds the lock
-none_beside : (word : ℕ) (l : List SeatState) (i j : ℕ) (a b : SeatState) → IsLawful (world word l) → get_elem? l i ≡ some a → a ≡ Writing → get_elem? l j ≡ some b → j ≢ i → (writes b ≡ 0) × (reads b ≡ 0)
-none_beside word l i j a b law at is at' apart = let one = ap writes is in let two = both_in writes l i j a b (λ e. apart (sym e)) at at' in let o = law.one_writer in
-    let mine = total-in writes l i a at in let none_in = law.alone (omega arith) in let theirs = total-in reads l j b at' in (omega arith, omega arith)
+none_beside : (word : ℕ) (l : List SeatState) (i j : ℕ) (a b : SeatState) → IsLawful (world word l)
+    → get_elem? l i ≡ some a → a ≡ Writing → get_elem? l j ≡ some b → j ≢ i → (writes b ≡ 0) × (reads b ≡ 0)
+none_beside word l i j a b law at is at' apart =
+    let one = ap writes is in
+    let two = both_in writes l i j a b (λ e. apart (sym e)) at at' in
+    let o = law.one_writer in
+    let mine = total-in writes l i a at in
+    let none_in = law.alone (omega arith) in
+    let theirs = total-in reads l j b at' in
+    (omega arith, omega arith)
 
 -- the same of a seat beside one that writes
-pub beside_writer : (key : Graph) (s : Moment) (b : Board key s) (id i : ℕ) (v u : View) → get_elem? s.views id ≡ some v → v.lock.state ≡ Writing → get_elem? s.views i ≡ some u → i ≢ id → (writes u.lock.state ≡ 0) × (reads u.lock.state ≡ 0)
-beside_writer key s b id i v u at writing at' apart = none_beside (get_or s.words 0 0) (map state_of (map lock_of s.views)) id i v.lock.state u.lock.state b.lock.lock (state_at s.views id v at) writing (state_at s.views i u at') apart
+pub beside_writer : (key : Graph) (s : Moment) (b : Board key s) (id i : ℕ) (v u : View) → get_elem? s.views id ≡ some v
+    → v.lock.state ≡ Writing → get_elem? s.views i ≡ some u → i ≢ id
+    → (writes u.lock.state ≡ 0) × (reads u.lock.state ≡ 0)
+beside_writer key s b id i v u at writing at' apart =
+    none_beside (get_or s.words 0 0) (map state_of (map lock_of s.views)) id i v.lock.state u.lock.state b.lock.lock
+    (state_at s.views id v at) writing (state_at s.views i u at') apart
 
 -- while a seat writes, some seat does
-pub some_writer : (key : Graph) (s : Moment) (id : ℕ) (v w : View) → get_elem? s.views id ≡ some v → w.lock ≡ v.lock → v.lock.state ≡ Writing → total writes (map state_of (map lock_of (set s.views id w))) ≡ 0 → ⊥
-some_writer key s id v w at same writing z = let one = ap writes writing in let t = total-in writes (map state_of (map lock_of s.views)) id v.lock.state (state_at s.views id v at) in
+pub some_writer : (key : Graph) (s : Moment) (id : ℕ) (v w : View) → get_elem? s.views id ≡ some v → w.lock ≡ v.lock
+    → v.lock.state ≡ Writing → total writes (map state_of (map lock_of (set s.views id w))) ≡ 0 → ⊥
+some_writer key s id v w at same writing z =
+    let one = ap writes writing in
+    let t = total-in writes (map state_of (map lock_of s.views)) id v.lock.state (state_at s.views id v at) in
     let y = ap (λ l. total writes (map state_of l)) (sym (same_views s.views id v w at same)) ∙ z in omega arith
 
 -- a store past word 0 by a seat whose lock stays leaves the lock's part of the rule
-pub lock_beside : (key : Graph) (s : Moment) (b : Board key s) (id : ℕ) (v w : View) (i n : ℕ) → get_elem? s.views id ≡ some v → w.lock ≡ v.lock → 0 < i
+pub lock_beside : (key : Graph) (s : Moment) (b : Board key s) (id : ℕ) (v w : View) (i n : ℕ)
+    → get_elem? s.views id ≡ some v → w.lock ≡ v.lock → 0 < i
     → Kept key record { words = set s.words i n; homes = s.homes; views = map lock_of (set s.views id w) }
 lock_beside key s b id v w i n at same past = let views = map lock_of s.views in
-    subst (λ l. Kept key record { words = set s.words i n; homes = s.homes; views = l }) (sym (same_views s.views id v w at same)) record {
+    subst (λ l. Kept key record { words = set s.words i n; homes = s.homes; views = l })
+    (sym (same_views s.views id v w at same)) record {
       wide = length-set s.words i n ∙ b.lock.wide;
-      lock = subst (λ x. IsLawful (world x (map state_of views))) (sym (get_or-set_other s.words i 0 n 0 (λ e. omega arith))) b.lock.lock;
+      lock =
+          subst (λ x. IsLawful (world x (map state_of views)))
+          (sym (get_or-set_other s.words i 0 n 0 (λ e. omega arith))) b.lock.lock;
       shares = b.lock.shares;
       each = b.lock.each;
     }
 
 -- the rule, where a seat's view changes, and neither its lock nor what it added
-pub reviewed : (key : Graph) (s : Moment) (b : Board key s) (id : ℕ) (v w : View) → get_elem? s.views id ≡ some v → w.lock ≡ v.lock → w.mine ≡ v.mine → Knows b.postings b.staged b.told w
+pub reviewed : (key : Graph) (s : Moment) (b : Board key s) (id : ℕ) (v w : View) → get_elem? s.views id ≡ some v
+    → w.lock ≡ v.lock → w.mine ≡ v.mine → Knows b.postings b.staged b.told w
     → Board key record { words = s.words; homes = s.homes; views = set s.views id w }
 reviewed key s b id v w at same mine knows = record {
   postings = b.postings;
   staged = b.staged;
   told = b.told;
   small = b.small;
-  lock = subst (λ l. Kept key record { words = s.words; homes = s.homes; views = l }) (sym (same_views s.views id v w at same)) b.lock;
+  lock =
+      subst (λ l. Kept key record { words = s.words; homes = s.homes; views = l })
+      (sym (same_views s.views id v w at same)) b.lock;
   count = b.count;
   rows = b.rows;
   verdicts = b.verdicts;
@@ -106,18 +142,26 @@ reviewed key s b id v w at same mine knows = record {
   part = b.part;
   told_of = b.told_of;
   idle = λ z. b.idle (ap (λ l. total writes (map state_of l)) (sym (same_views s.views id v w at same)) ∙ z);
-  each = λ i u e. ⊎_elim (λ t. subst (Knows b.postings b.staged b.told) t.1 knows) (λ t. b.each i u t.1) (at_set s.views id i w u e);
-  owners = λ h. let sum = total-set (λ (u : View). weigh h u.mine) s.views id v w at in let same_mine = ap (weigh h) mine in omega (arith, b.owners h);
+  each =
+      λ i u e. ⊎_elim (λ t. subst (Knows b.postings b.staged b.told) t.1 knows) (λ t. b.each i u t.1)
+      (at_set s.views id i w u e);
+  owners =
+      λ h. let sum = total-set (λ (u : View). weigh h u.mine) s.views id v w at in
+      let same_mine = ap (weigh h) mine in
+      omega (arith, b.owners h);
 }
 
 -- where a seat holds the lock, the writer's rows are its own: none for a reader
-pub own_rows : (key : Graph) (s : Moment) (b : Board key s) (id : ℕ) (v : View) → get_elem? s.views id ≡ some v → IsHeld v.lock.state → (v.staged ≡ b.staged) × (v.told ≡ b.told)
+pub own_rows : (key : Graph) (s : Moment) (b : Board key s) (id : ℕ) (v : View) → get_elem? s.views id ≡ some v
+    → IsHeld v.lock.state → (v.staged ≡ b.staged) × (v.told ≡ b.told)
 own_rows key s b id v at held = let k = b.each id v at in let law = b.lock.lock in let e = state_at s.views id v at in
     let P : SeatState → Type 0 = λ a. v.lock.state ≡ a → (v.staged ≡ b.staged) × (v.told ≡ b.told) in
     elim v.lock.state as P [
       | Away ↦ λ is. absurd (let z = ap (λ a. writes a + reads a) is in omega arith)
       | Retreating ↦ λ is. absurd (let z = ap (λ a. writes a + reads a) is in omega arith)
-      | Reading ↦ λ is. let r = total-in reads (map state_of (map lock_of s.views)) id v.lock.state e in let one = ap reads is in let al = law.alone in let o = law.one_writer in
+      | Reading ↦ λ is. let r =
+          total-in reads (map state_of (map lock_of s.views)) id v.lock.state e in let one = ap reads is
+          in let al = law.alone in let o = law.one_writer in
           let none_in : total writes (map state_of (map lock_of s.views)) ≡ 0 = no_writer _ _ al (omega arith) in
           let i = b.idle none_in in let j = k.bare (λ w. reading_writing (sym is ∙ w)) in (j.0 ∙ sym i.0, j.1 ∙ sym i.1)
       | Writing ↦ λ is. k.writing is

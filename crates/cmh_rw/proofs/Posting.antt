@@ -18,14 +18,19 @@ use Rattle.cmh_rw.proofs.Moments.{writes-Writing, beside_writer, lock_beside}
 use Rattle.cmh_rw.proofs.Postings.{laid-snoc, whole-snoc, weigh-append, seen-grows, posting_from, ends-some}
 
 -- a writer stores the count
-pub counts_in : (key : Graph) (slots id n : ℕ) (me : TableSeat) → me.0.lock.state ≡ Writing → EndsLast me.0.staged → AreTold me.0.staged me.0.told
-    → n ≡ length me.0.seen + length me.0.staged → Allows (Board key) slots id me 1 (λ _. n) (λ _. Counted (step slots 1 n 0 none) me n)
-counts_in key slots id n me writing ends stored is s b _ at _ = let v = me.0 in let w = posted v in let old = laid b.postings in
+pub counts_in : (key : Graph) (slots id n : ℕ) (me : TableSeat) → me.0.lock.state ≡ Writing → EndsLast me.0.staged
+    → AreTold me.0.staged me.0.told
+    → n ≡ length me.0.seen + length me.0.staged
+    → Allows (Board key) slots id me 1 (λ _. n) (λ _. Counted (step slots 1 n 0 none) me n)
+counts_in key slots id n me writing ends stored is s b _ at _ =
+    let v = me.0 in let w = posted v in let old = laid b.postings in
     let k = b.each id v at in let own = k.writing writing in
     let loaded : v.loaded ≡ true = ⊎_elim (λ none. absurd (ends-some v.staged ends none)) (λ yes. yes) k.ready in
     let fresh = k.fresh loaded in let all = b.postings ++ b.staged ∷ [] in
     let posting : IsPosting b.staged = posting_from b.staged b.part (subst EndsLast own.0 ends) in
-    let told : (p : ℕ) → fold_at b.told p ≡ fold_at b.staged p = told-all b.staged b.told b.told_of (λ p says e. ap (λ l. fold_at l p) (sym own.1) ∙ stored p says (ap (λ l. fold_at l p) own.0 ∙ e)) in
+    let told : (p : ℕ) → fold_at b.told p ≡ fold_at b.staged p =
+    told-all b.staged b.told b.told_of
+    (λ p says e. ap (λ l. fold_at l p) (sym own.1) ∙ stored p says (ap (λ l. fold_at l p) own.0 ∙ e)) in
     let now : laid all ≡ old ++ b.staged = laid-snoc b.postings b.staged in
     let mine : v.seen ++ v.staged ≡ laid all = ap (λ l. l ++ v.staged) fresh.1 ∙ ap (λ l. old ++ l) own.0 ∙ sym now in
     let rest : laid all ++ [] ≡ old ++ b.staged = append-nil (laid all) ∙ now in
@@ -39,9 +44,15 @@ counts_in key slots id n me writing ends stored is s b _ at _ = let v = me.0 in 
         told = [];
         small = b.small;
         lock = lock_beside key s b id v w 1 n at refl (omega arith);
-        count = get_or-set_same s.words 1 n 0 (omega arith) ∙ (is ∙ sym (length-append v.seen v.staged) ∙ ap length mine);
-        rows = λ i low. get_or-set_other s.words 1 (FIRST_ROW + i) n 0 (λ e. omega arith) ∙ b.rows i low ∙ ap (λ l. get_or (map row_code l) i 0) (sym rest);
-        verdicts = λ p low. get_or-set_other s.words 1 (FIRST_VERDICT + p) n 0 (λ e. omega arith) ∙ b.verdicts p low ∙ ap verdict_code (fold-same old b.told b.staged p (told p)) ∙ ap (λ l. verdict_code (fold_at l p)) (sym rest);
+        count =
+            get_or-set_same s.words 1 n 0 (omega arith) ∙ (is ∙ sym (length-append v.seen v.staged) ∙ ap length mine);
+        rows =
+            λ i low. get_or-set_other s.words 1 (FIRST_ROW + i) n 0 (λ e. omega arith) ∙ b.rows i low
+            ∙ ap (λ l. get_or (map row_code l) i 0) (sym rest);
+        verdicts =
+            λ p low. get_or-set_other s.words 1 (FIRST_VERDICT + p) n 0 (λ e. omega arith) ∙ b.verdicts p low
+            ∙ ap verdict_code (fold-same old b.told b.staged p (told p))
+            ∙ ap (λ l. verdict_code (fold_at l p)) (sym rest);
         whole = whole-snoc b.postings b.staged b.whole posting;
         true_of = subst (IsTrueOf key) (sym rest) b.true_of;
         part = inl tt;
@@ -67,7 +78,12 @@ counts_in key slots id n me writing ends stored is s b _ at _ = let v = me.0 in 
               gone = j.gone;
             })
             (at_set s.views id i w u e);
-        owners = λ h. let sum = total-set (λ (u : View). weigh h u.mine) s.views id v w at in let a = weigh-append h v.mine (v.staged ∷ []) in let c = weigh-append h b.postings (b.staged ∷ []) in let same = ap h own.0 in omega (arith, b.owners h);
+        owners =
+            λ h. let sum = total-set (λ (u : View). weigh h u.mine) s.views id v w at in
+            let a = weigh-append h v.mine (v.staged ∷ []) in
+            let c = weigh-append h b.postings (b.staged ∷ []) in
+            let same = ap h own.0 in
+            omega (arith, b.owners h);
       },
       (refl, subst IsPosting (sym own.0) posting),
     )

@@ -25,7 +25,8 @@ weigh-append f [] ys = omega arith
 weigh-append f (x ∷ xs) ys = omega (arith, weigh-append f xs ys)
 
 -- the history begins with what was seen
-pub seen-prefix : (seen : List Row) (postings : List (List Row)) → IsSeen seen postings → StartsWith (laid postings) seen
+pub seen-prefix : (seen : List Row) (postings : List (List Row)) → IsSeen seen postings
+    → StartsWith (laid postings) seen
 seen-prefix seen postings h = (laid h.1, ap laid h.2 ∙ laid-append h.0 h.1 ∙ ap (λ l. l ++ laid h.1) (sym h.3))
 
 -- the whole history was seen
@@ -45,7 +46,8 @@ cons_parts : (x y : List Row) (xs ys : List (List Row)) → x ∷ xs ≡ y ∷ y
 cons_parts x y xs ys e = (ap (λ l. get_or l 0 x) e, ap (λ l. drop 1 l) e)
 
 -- of two beginnings of one list, one begins the other
-prefixes : (a c b d : List (List Row)) → a ++ b ≡ c ++ d → ((r : List (List Row)) × (c ≡ a ++ r)) ⊎ ((r : List (List Row)) × (a ≡ c ++ r))
+prefixes : (a c b d : List (List Row)) → a ++ b ≡ c ++ d
+    → ((r : List (List Row)) × (c ≡ a ++ r)) ⊎ ((r : List (List Row)) × (a ≡ c ++ r))
 prefixes [] c b d e = inl (c, refl)
 prefixes (x ∷ xs) [] b d e = inr (x ∷ xs, refl)
 prefixes (x ∷ xs) (y ∷ ys) b d e = let parts = cons_parts x y (xs ++ b) (ys ++ d) e in ⊎_elim
@@ -54,7 +56,8 @@ prefixes (x ∷ xs) (y ∷ ys) b d e = let parts = cons_parts x y (xs ++ b) (ys 
     (prefixes xs ys b d parts.1)
 
 -- of two that have seen one history, what one saw begins what the other saw
-pub seen_compare : (postings : List (List Row)) (s t : List Row) → IsSeen s postings → IsSeen t postings → StartsWith t s ⊎ StartsWith s t
+pub seen_compare : (postings : List (List Row)) (s t : List Row) → IsSeen s postings → IsSeen t postings
+    → StartsWith t s ⊎ StartsWith s t
 seen_compare postings s t h g = ⊎_elim
     (λ p. inl (laid p.0, g.3 ∙ ap laid p.1 ∙ laid-append h.0 p.0 ∙ ap (λ l. l ++ laid p.0) (sym h.3)))
     (λ p. inr (laid p.0, h.3 ∙ ap laid p.1 ∙ laid-append g.0 p.0 ∙ ap (λ l. l ++ laid p.0) (sym g.3)))
@@ -70,11 +73,15 @@ none_left [] e = refl
 none_left (x ∷ xs) e = absurd (omega arith)
 
 -- of two lists of which one begins the other, the longer begins with both
-pub longer-begins : (xs ys : List Row) → StartsWith xs ys ⊎ StartsWith ys xs → StartsWith (longer xs ys) xs × StartsWith (longer xs ys) ys
+pub longer-begins : (xs ys : List Row) → StartsWith xs ys ⊎ StartsWith ys xs
+    → StartsWith (longer xs ys) xs × StartsWith (longer xs ys) ys
 longer-begins xs ys starts = let P : List Row → Type 0 = λ l. StartsWith l xs × StartsWith l ys in
     cond_both (ltb (length xs) (length ys)) ys xs P
-    (λ less. let lt = ltb-true (length xs) (length ys) less in
-    (⊎_elim (λ (h : StartsWith xs ys). absurd (let e = ap length h.1 in let n = length-append ys h.0 in omega arith)) (λ h. h) starts, starts-same ys))
+    (λ less. let lt = ltb-true (length xs) (length ys) less in (
+      ⊎_elim (λ (h : StartsWith xs ys). absurd (let e = ap length h.1 in let n = length-append ys h.0 in omega arith))
+          (λ h. h) starts,
+      starts-same ys,
+    ))
     (λ more. (starts-same xs, ⊎_elim (λ h. h) (λ (h : StartsWith ys xs). ([], back h more)) starts))
   where
     back : (h : StartsWith ys xs) → ltb (length xs) (length ys) ≡ false → xs ≡ ys ++ []
@@ -88,7 +95,8 @@ open-snoc [] r h e = (e, tt)
 open-snoc (x ∷ xs) r h e = (h.0, open-snoc xs r h.1 e)
 
 -- one more row after some that aren't last ones
-pub part-snoc : (xs : List Row) (r : Row) → IsOpen xs → (r.last ≡ true) ⊎ (r.last ≡ false) → IsOpen (xs ++ r ∷ []) ⊎ IsPosting (xs ++ r ∷ [])
+pub part-snoc : (xs : List Row) (r : Row) → IsOpen xs → (r.last ≡ true) ⊎ (r.last ≡ false)
+    → IsOpen (xs ++ r ∷ []) ⊎ IsPosting (xs ++ r ∷ [])
 part-snoc xs r h (inl e) = inr (xs, r, refl, h, e)
 part-snoc xs r h (inr e) = inl (open-snoc xs r h e)
 
@@ -99,7 +107,8 @@ open-last (x ∷ xs) r h = open-last xs r h.1
 
 -- rows of which at most the final one is a last one, and which end with a last one
 pub posting_from : (rows : List Row) → IsOpen rows ⊎ IsPosting rows → EndsLast rows → IsPosting rows
-posting_from rows (inl open_rows) ends = absurd (let e = open-last ends.0 ends.1 (subst IsOpen ends.2 open_rows) in let f = ends.3 in cc)
+posting_from rows (inl open_rows) ends =
+    absurd (let e = open-last ends.0 ends.1 (subst IsOpen ends.2 open_rows) in let f = ends.3 in cc)
 posting_from rows (inr posting) ends = posting
 
 -- what ends with a row isn't empty

@@ -18,25 +18,39 @@ abbrev pub Fits : View → Type 0
 Fits v = ∥ FitsIn v.lock.graph (v.seen ++ v.staged) ∥₁
 
 -- the rows with one more
-fits_row : (v : View) (r : Row) → CanStage v r → FitsIn v.lock.graph (v.seen ++ v.staged) → FitsIn v.lock.graph (v.seen ++ (v.staged ++ r ∷ []))
-fits_row v r can f = record { small = f.small; true_of = subst (IsTrueOf v.lock.graph) (append_assoc v.seen v.staged (r ∷ [])) (true-snoc v.lock.graph (v.seen ++ v.staged) r f.true_of can.idle can.true_verdict can.fresh) }
+fits_row : (v : View) (r : Row) → CanStage v r → FitsIn v.lock.graph (v.seen ++ v.staged)
+    → FitsIn v.lock.graph (v.seen ++ (v.staged ++ r ∷ []))
+fits_row v r can f =
+    record {
+      small = f.small;
+      true_of =
+          subst (IsTrueOf v.lock.graph) (append_assoc v.seen v.staged (r ∷ []))
+          (true-snoc v.lock.graph (v.seen ++ v.staged) r f.true_of can.idle can.true_verdict can.fresh);
+    }
 
 -- the same of what a seat knows
 pub fits_with_row : (v : View) (r : Row) → CanStage v r → Fits v → Fits (with_row v r)
 fits_with_row v r can fits = ∥∥₁_map fits (fits_row v r can)
 
 -- so the next row has a word
-row_within : (v : View) (r : Row) (n : ℕ) → CanStage v r → n ≡ length v.seen + length v.staged → FitsIn v.lock.graph (v.seen ++ v.staged) → n < MAX_PROCESSES
-row_within v r n can is f = let more = fits_row v r can f in let few = true-few v.lock.graph (v.seen ++ (v.staged ++ r ∷ [])) more.true_of in let small = more.small in
+row_within : (v : View) (r : Row) (n : ℕ) → CanStage v r → n ≡ length v.seen + length v.staged
+    → FitsIn v.lock.graph (v.seen ++ v.staged) → n < MAX_PROCESSES
+row_within v r n can is f =
+    let more = fits_row v r can f in
+    let few = true-few v.lock.graph (v.seen ++ (v.staged ++ r ∷ [])) more.true_of in
+    let small = more.small in
     let a = length-append v.seen (v.staged ++ r ∷ []) in let b = length-append v.staged (r ∷ []) in omega arith
 
 -- the same of a seat
-pub row_has_word : (v : View) (r : Row) (n : ℕ) → CanStage v r → n ≡ length v.seen + length v.staged → Fits v → n < MAX_PROCESSES
+pub row_has_word : (v : View) (r : Row) (n : ℕ) → CanStage v r → n ≡ length v.seen + length v.staged → Fits v
+    → n < MAX_PROCESSES
 row_has_word v r n can is fits = ∥∥₁_elim fits le_prop (row_within v r n can is)
 
 -- and so has the verdict of a staged row
-verdict_within : (v : View) (p : ℕ) (says : Verdict) → fold_at v.staged p ≡ Some says → FitsIn v.lock.graph (v.seen ++ v.staged) → p < MAX_PROCESSES
-verdict_within v p says e f = let idle = true-idle v.lock.graph v.staged p says (true-right v.lock.graph v.seen v.staged f.true_of) e in
+verdict_within : (v : View) (p : ℕ) (says : Verdict) → fold_at v.staged p ≡ Some says
+    → FitsIn v.lock.graph (v.seen ++ v.staged) → p < MAX_PROCESSES
+verdict_within v p says e f =
+    let idle = true-idle v.lock.graph v.staged p says (true-right v.lock.graph v.seen v.staged f.true_of) e in
     let within = idle_within v.lock.graph p idle in let small = f.small in omega arith
 
 -- the same of a seat
@@ -44,11 +58,17 @@ pub verdict_has_word : (v : View) (p : ℕ) (says : Verdict) → fold_at v.stage
 verdict_has_word v p says e fits = ∥∥₁_elim fits le_prop (verdict_within v p says e)
 
 -- after a load
-loaded_fits : (v : View) (word found : ℕ) (w : View) → AfterLoad v word found w → FitsIn v.lock.graph (v.seen ++ v.staged) → FitsIn w.lock.graph (w.seen ++ w.staged)
-loaded_fits v word found w after f = let graph = ap (λ (u : View). u.lock.graph) after.view in let staged = ap (λ (u : View). u.staged) after.view in record {
-  small = subst (λ g. process_count g ≤ MAX_PROCESSES) (sym graph) f.small;
-  true_of = subst (λ g. IsTrueOf g (w.seen ++ w.staged)) (sym graph) (subst (λ l. IsTrueOf v.lock.graph (w.seen ++ l)) (sym staged) after.staged_true);
-}
+loaded_fits : (v : View) (word found : ℕ) (w : View) → AfterLoad v word found w
+    → FitsIn v.lock.graph (v.seen ++ v.staged) → FitsIn w.lock.graph (w.seen ++ w.staged)
+loaded_fits v word found w after f =
+    let graph = ap (λ (u : View). u.lock.graph) after.view in
+    let staged = ap (λ (u : View). u.staged) after.view in
+    record {
+      small = subst (λ g. process_count g ≤ MAX_PROCESSES) (sym graph) f.small;
+      true_of =
+          subst (λ g. IsTrueOf g (w.seen ++ w.staged)) (sym graph)
+          (subst (λ l. IsTrueOf v.lock.graph (w.seen ++ l)) (sym staged) after.staged_true);
+    }
 
 -- the same of a seat
 pub fits_loaded : (v : View) (word found : ℕ) (w : View) → AfterLoad v word found w → Fits v → Fits w
@@ -56,25 +76,35 @@ fits_loaded v word found w after fits = ∥∥₁_map fits (loaded_fits v word f
 
 -- what was seen fits where a new seat has seen it too
 seen_fits : (g : Graph) (seen staged : List Row) → FitsIn g (seen ++ staged) → FitsIn g (seen ++ [])
-seen_fits g seen staged f = record { small = f.small; true_of = subst (IsTrueOf g) (sym (append-nil seen)) (true-left g seen staged f.true_of) }
+seen_fits g seen staged f =
+    record { small = f.small; true_of = subst (IsTrueOf g) (sym (append-nil seen)) (true-left g seen staged f.true_of) }
 
 -- the same of a seat
 pub fits_newcomer : (g : Graph) (seen staged : List Row) → ∥ FitsIn g (seen ++ staged) ∥₁ → ∥ FitsIn g (seen ++ []) ∥₁
 fits_newcomer g seen staged fits = ∥∥₁_map fits (seen_fits g seen staged)
 
 -- after a join
-joined_fits : (v w : View) (mid : View) (end : View) → mid ≡ joining v w → end ≡ compared (joining v w) → IsTrueOf mid.lock.graph (end.seen ++ end.staged) → FitsIn v.lock.graph (v.seen ++ v.staged) → FitsIn end.lock.graph (end.seen ++ end.staged)
-joined_fits v w mid end first told h f = let graph : end.lock.graph ≡ v.lock.graph = ap (λ (u : View). u.lock.graph) told in let same : mid.lock.graph ≡ end.lock.graph = ap (λ (u : View). u.lock.graph) first ∙ sym graph in record {
-  small = subst (λ g. process_count g ≤ MAX_PROCESSES) (sym graph) f.small;
-  true_of = subst (λ g. IsTrueOf g (end.seen ++ end.staged)) same h;
-}
+joined_fits : (v w : View) (mid : View) (end : View) → mid ≡ joining v w → end ≡ compared (joining v w)
+    → IsTrueOf mid.lock.graph (end.seen ++ end.staged) → FitsIn v.lock.graph (v.seen ++ v.staged)
+    → FitsIn end.lock.graph (end.seen ++ end.staged)
+joined_fits v w mid end first told h f =
+    let graph : end.lock.graph ≡ v.lock.graph = ap (λ (u : View). u.lock.graph) told in
+    let same : mid.lock.graph ≡ end.lock.graph = ap (λ (u : View). u.lock.graph) first ∙ sym graph in
+    record {
+      small = subst (λ g. process_count g ≤ MAX_PROCESSES) (sym graph) f.small;
+      true_of = subst (λ g. IsTrueOf g (end.seen ++ end.staged)) same h;
+    }
 
 -- the same of a seat
-pub fits_joined : (v w : View) (mid : View) (end : View) → mid ≡ joining v w → end ≡ compared (joining v w) → IsTrueOf mid.lock.graph (end.seen ++ end.staged) → Fits v → Fits end
+pub fits_joined : (v w : View) (mid : View) (end : View) → mid ≡ joining v w → end ≡ compared (joining v w)
+    → IsTrueOf mid.lock.graph (end.seen ++ end.staged) → Fits v → Fits end
 fits_joined v w mid end first told h fits = ∥∥₁_map fits (joined_fits v w mid end first told h)
 
 -- and the new seat has seen what either had seen
-pub joined_begins : (v w : View) (mid : View) (end : View) → mid ≡ joining v w → end ≡ compared (joining v w) → StartsWith mid.seen mid.other ⊎ StartsWith mid.other mid.seen → StartsWith end.seen v.seen × StartsWith end.seen w.seen
-joined_begins v w mid end first told h = let P : View → Type 0 = λ u. StartsWith u.seen u.other ⊎ StartsWith u.other u.seen in
+pub joined_begins : (v w : View) (mid : View) (end : View) → mid ≡ joining v w → end ≡ compared (joining v w)
+    → StartsWith mid.seen mid.other ⊎ StartsWith mid.other mid.seen
+    → StartsWith end.seen v.seen × StartsWith end.seen w.seen
+joined_begins v w mid end first told h =
+    let P : View → Type 0 = λ u. StartsWith u.seen u.other ⊎ StartsWith u.other u.seen in
     let Q : View → Type 0 = λ u. StartsWith u.seen v.seen × StartsWith u.seen w.seen in
     subst Q (sym told) (longer-begins v.seen w.seen (subst P first h))

@@ -8,4 +8,6 @@ turned-requires c = lock_word-small _ c.self.invariant
 
 pub invariant_of-self : goal.invariant_of-self
 invariant_of-self c = let l = c.self.inside.seats.items in let i = c.seat_number-seat.result in
-    rw c.turned.ensures (lock-turn c.args.event c.self.inside.word i l c.index.result.now (at_index l i c.index.result.now (search rules) c.index.ensures) c.self.invariant)
+    rw c.turned.ensures
+    (lock-turn c.args.event c.self.inside.word i l c.index.result.now
+    (at_index l i c.index.result.now (search rules) c.index.ensures) c.self.invariant)

@@ -14,4 +14,7 @@ pub returns-then-n-lt-BOARD_WORDS : goal.returns-then-n-lt-BOARD_WORDS
 returns-then-n-lt-BOARD_WORDS c = got (slots_items c.args.self.now.inner.words) c.args.n c.word.result c.word.ensures
 
 pub returns-else-n-lt-BOARD_WORDS : goal.returns-else-n-lt-BOARD_WORDS
-returns-else-n-lt-BOARD_WORDS c = let counts = slots_counts c.args.self.now.inner.words in let wide = c.args.self.now.wide in sym (slice_get_past (slots_items c.args.self.now.inner.words) c.args.n (omega arith))
+returns-else-n-lt-BOARD_WORDS c =
+    let counts = slots_counts c.args.self.now.inner.words in
+    let wide = c.args.self.now.wide in
+    sym (slice_get_past (slots_items c.args.self.now.inner.words) c.args.n (omega arith))

@@ -2,4 +2,5 @@ use Rattle.cmh_rw.proofs.Closing.{closed_shows}
 use Rattle.cmh_rw.proofs.seat.RwWords.close_with.Goals as goal
 
 pub returns-clause-history : goal.returns-clause-history
-returns-clause-history c = let last = c.close_with.ensures.values.2 in closed_shows _ last.0 _ last.1.0 _ _ last.1.1 c.requires.away last.2
+returns-clause-history c =
+    let last = c.close_with.ensures.values.2 in closed_shows _ last.0 _ last.1.0 _ _ last.1.1 c.requires.away last.2

@@ -9,10 +9,11 @@ split_seat-other-requires c = let s = c.args.seat.now in let share = s.shared in
     (search rules, search rules, splits _ _ _ c.requires.away (omega (arith, c.if-seat-eq1.false)))
 
 pub invariant_of-result : goal.invariant_of-result
-invariant_of-result c = let s = c.args.seat.now in let v = s.seat.me.0 in let told = c.split_seat-other.ensures.4 in record {
-  shared = sym (ap (λ (m : TableSeat). m.0.lock.share) told);
-  some = omega arith;
-  few = omega arith;
-  bare = ap (λ (m : TableSeat). m.1) told;
-  fits = subst (λ (m : TableSeat). Fits m.0) (sym told) (fits_newcomer v.lock.graph v.seen v.staged s.fits);
-}
+invariant_of-result c =
+    let s = c.args.seat.now in let v = s.seat.me.0 in let told = c.split_seat-other.ensures.4 in record {
+      shared = sym (ap (λ (m : TableSeat). m.0.lock.share) told);
+      some = omega arith;
+      few = omega arith;
+      bare = ap (λ (m : TableSeat). m.1) told;
+      fits = subst (λ (m : TableSeat). Fits m.0) (sym told) (fits_newcomer v.lock.graph v.seen v.staged s.fits);
+    }

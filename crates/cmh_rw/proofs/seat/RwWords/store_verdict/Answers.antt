@@ -7,4 +7,5 @@ use Rattle.cmh_rw.proofs.seat.RwWords.store_verdict.Goals as goal
 pub store-requires : goal.store-requires
 store-requires c = let s = c.args.seat.now in let wide = c.args.self.now.wide in
     let low : c.args.p < MAX_PROCESSES = verdict_has_word s.seat.me.0 c.args.p c.args.verdict c.requires.says s.fits in
-    rw c.verdict_word.ensures (search rules, omega arith, tells _ _ _ c.args.p c.args.verdict _ c.requires.writing c.requires.says low)
+    rw c.verdict_word.ensures
+    (search rules, omega arith, tells _ _ _ c.args.p c.args.verdict _ c.requires.writing c.requires.says low)

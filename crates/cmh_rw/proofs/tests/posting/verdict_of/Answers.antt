@@ -8,4 +8,5 @@ pub bounds-all-p : goal.bounds-all-p
 bounds-all-p c = let g = c.args.graph.now in omega (arith, ap length c.requires.all, length-by_index g (verdict g))
 
 pub returns : goal.returns
-returns c = let g = c.args.graph.now in by_index g (verdict g) c.args.all.now c.args.p _ c.requires.all c.requires.within
+returns c =
+    let g = c.args.graph.now in by_index g (verdict g) c.args.all.now c.args.p _ c.requires.all c.requires.within

@@ -11,5 +11,7 @@ returns-clause-gives c =
     let count = c.min-count.result in
     let front = c.copy_from_slice.new.self in
     let behind = drop count c.args.buf.now in
-    let whole : length front ≡ count = c.copy_from_slice.ensures.len ∙ length-take-le count c.args.buf.now (omega arith) in
-    take-others bytes at count ∙ ap (λ next. take at bytes ++ next) (sym (take_at front behind count whole ∙ c.copy_from_slice.ensures.after))
+    let whole : length front ≡ count =
+    c.copy_from_slice.ensures.len ∙ length-take-le count c.args.buf.now (omega arith) in
+    take-others bytes at count
+    ∙ ap (λ next. take at bytes ++ next) (sym (take_at front behind count whole ∙ c.copy_from_slice.ensures.after))
