@@ -1,6 +1,8 @@
 -- The first message of a bag is taken, once the message that is meant stands first.
-use Rattle.std.proofs.Common.{◌≡◌, ◌∙◌, ℕ, ◌<◌, List, [], ◌∷◌, ◌++◌, length, drop, remove, get_or, slice_get, Option, Some, None, arith, rules, ap, sym}
+use Rattle.std.proofs.Common.{◌≡◌, ◌∙◌, ℕ, zero, suc, ◌-◌, ◌<◌, ◌≤◌, List, [], ◌∷◌, ◌++◌, length, length-append, drop, take, remove, get_or, slice_get, Option, Some, None, arith, rules, refl, ap, sym}
 use Rattle.std.specs.Prelude.{IsNone, IfSome, IfNone, option_to_list}
+use Rattle.std.proofs.Math.Seq.{drop-append_seam}
+use Rattle.std.proofs.lemmas.List.{length-drop, length-take-le}
 use Rattle.std.proofs.lemmas.Option.{slice_get-get_or}
 use Rattle.cmh_process.specs.declared.message.Message.{Message}
 
@@ -33,3 +35,56 @@ took [] mid new x r within none first popped rest = took_none new x r (sym (none
 took (y ∷ ys) mid new x r within none first popped rest =
     let there = slice_get-get_or (y ∷ ys) x y (within (omega arith)) in
     took_one (y ∷ ys) mid new x (get_or (y ∷ ys) x y) r (omega arith) there (first (get_or (y ∷ ys) x y) there) popped rest
+
+-- ---- a message that is brought to the front
+
+-- a message that stands at a place stands alone between what is before it and what is after it
+alone_at : (xs : List Message) (x : ℕ) (m : Message) → slice_get xs x ≡ Some m → drop x (take (suc x) xs) ≡ m ∷ []
+alone_at [] x m there = cc
+alone_at (y ∷ ys) zero m there = cc
+alone_at (y ∷ ys) (suc x) m there = alone_at ys x m there
+
+-- what comes before a place comes before the next one too
+before_at : (xs : List Message) (x : ℕ) → take x (take (suc x) xs) ≡ take x xs
+before_at [] zero = refl
+before_at [] (suc x) = refl
+before_at (y ∷ ys) zero = refl
+before_at (y ∷ ys) (suc x) = ap (λ l. y ∷ l) (before_at ys x)
+
+-- the last of the messages up to a place, put first, stands before the others
+pub brought : (xs : List Message) (x : ℕ) (m : Message) → slice_get xs x ≡ Some m
+    → (drop x (take (suc x) xs) ++ take x (take (suc x) xs)) ++ drop (suc x) xs ≡ m ∷ remove xs x
+brought xs x m there =
+    ap (λ l. (l ++ take x (take (suc x) xs)) ++ drop (suc x) xs) (alone_at xs x m there)
+    ∙ ap (λ l. m ∷ (l ++ drop (suc x) xs)) (before_at xs x)
+
+-- past what was taken come the others
+past_taken : (xs rest : List Message) (t : ℕ) → t ≤ length xs → drop t (take t xs ++ rest) ≡ rest
+past_taken xs rest t l =
+    ap (λ n. drop n (take t xs ++ rest)) (sym (length-take-le t xs l)) ∙ drop-append_seam (take t xs) rest
+
+-- so it is where the messages stand behind some that were taken
+pub brought_in : (xs turned now : List Message) (t x k : ℕ) (m : Message) → t ≤ length xs → drop t xs ≡ now → x < length now → k ≡ suc x → slice_get now x ≡ Some m
+    → turned ≡ drop (length (take k (drop t xs)) - 1) (take k (drop t xs)) ++ take (length (take k (drop t xs)) - 1) (take k (drop t xs))
+    → drop t (take t xs ++ (turned ++ drop k (drop t xs))) ≡ m ∷ remove now x
+brought_in xs turned now t x k m l are within is there by =
+    let last : length (take (suc x) now) - 1 ≡ x = omega (arith, length-take-le (suc x) now (omega arith)) in
+    past_taken xs (turned ++ drop k (drop t xs)) t l
+    ∙ ap (λ r. r ++ drop k (drop t xs)) by
+    ∙ ap (λ v. (drop (length (take k v) - 1) (take k v) ++ take (length (take k v) - 1) (take k v)) ++ drop k v) are
+    ∙ ap (λ j. (drop (length (take j now) - 1) (take j now) ++ take (length (take j now) - 1) (take j now)) ++ drop j now) is
+    ∙ ap (λ n. (drop n (take (suc x) now) ++ take n (take (suc x) now)) ++ drop (suc x) now) last
+    ∙ brought now x m there
+
+-- nor does it change how many there are
+pub turned_length : (xs turned : List Message) (t k : ℕ) → t ≤ length xs → k ≤ length (drop t xs) → length turned ≡ k
+    → length (take t xs ++ (turned ++ drop k (drop t xs))) ≡ length xs
+turned_length xs turned t k l low is = omega (
+  arith,
+  is,
+  length-append (take t xs) (turned ++ drop k (drop t xs)),
+  length-append turned (drop k (drop t xs)),
+  length-take-le t xs l,
+  length-drop k (drop t xs),
+  length-drop t xs,
+)

@@ -1,6 +1,6 @@
 //! The undelivered messages.
 
-ghost use Rattle.std.specs.Prelude.{◌≡◌, ℕ, ◌<◌, ◌↔◌, ◌%◌, ◌++◌, [], ◌∷◌, Some, length, map, remove, slice_get, IsNone, IsSome, IfSome, IfNone, IfErr, IsTrue, OnOk, OnErr};
+ghost use Rattle.std.specs.Prelude.{◌≡◌, ℕ, ◌<◌, ◌↔◌, ◌%◌, ◌++◌, [], ◌∷◌, Some, drop, length, map, option_to_list, remove, slice_get, IsNone, IsSome, IfSome, IfNone, IfErr, IsTrue, OnOk, OnErr};
 ghost use Rattle.cmh_process.specs.declared.message.Message.{Message};
 ghost use Rattle.cmh_run.specs.Config.{query};
 ghost use Rattle.std.specs.Cmp.Lexicographic.{pointwise};
@@ -13,22 +13,26 @@ use crate::RunFault;
 use crate::send::Sender;
 use cmh_process::{Kind, Message};
 use std::alloc::{AllocError, Global};
-use std::collections::VecDeque;
 use std::marker::Model;
 
 /// The undelivered messages, in the order in which they were sent.
 #[derive(Clone, Debug, Drop)]
 pub struct Bag {
-    messages: VecDeque<Message>,
+    messages: Vec<Message>,
+
+    /// How many of them were taken, from the first on.
+    taken: usize,
 }
 
 impl Model for Bag {
-    ghost use Rattle.std.specs.Prelude.{List};
+    ghost use Rattle.std.specs.Prelude.{◌≤◌, List, drop, length};
     ghost use Rattle.cmh_process.specs.declared.message.Message.{Message};
 
     ghost Value = { List Message };
 
-    ghost view = { λ bag. bag.messages.items };
+    ghost view = { λ bag. drop bag.taken bag.messages.items };
+
+    ghost invariant = { λ bag. bag.taken ≤ length bag.messages.items };
 }
 
 impl Bag {
@@ -37,27 +41,35 @@ impl Bag {
         ensures { result ≡ [] }
     {
         Bag {
-            messages: VecDeque::new(alloc),
+            messages: Vec::new(alloc),
+            taken: 0,
         }
     }
 
     pub fn len(&self) -> usize
         ensures { result ≡ length self.now }
     {
-        self.messages.len()
+        self.messages.len() - self.taken
     }
 
     pub fn is_empty(&self) -> bool
         ensures { IsTrue result ↔ (self.now ≡ []) }
     {
-        self.messages.is_empty()
+        self.undelivered().is_empty()
     }
 
     pub fn get(&self, n: usize) -> Option<&Message>
         ensures there { IsSome result ↔ (n < length self.now) }
         ensures message { IfSome result (λ m. slice_get self.now n ≡ Some m.now) }
     {
-        self.messages.get(n)
+        self.undelivered().get(n)
+    }
+
+    /// The messages that weren't taken.
+    fn undelivered(&self) -> &[Message]
+        ensures { result.now ≡ self.now }
+    {
+        &self.messages[self.taken..]
     }
 
     /// Adds a message as the last. The only fault is the want of memory.
@@ -71,11 +83,17 @@ impl Bag {
     }
 
     /// `push`, for a caller that has a fault of its own.
+    #[inline(always)]
     pub(crate) fn add(&mut self, message: Message) -> Result<(), AllocError>
         ensures ok { OnOk result (self.new ≡ self.old ++ message ∷ []) }
         ensures err { OnErr result (self.new ≡ self.old) }
     {
-        self.messages.push_back(message)?;
+        if self.messages.len() < self.messages.capacity() {
+            self.messages.push_reserved(message);
+            return Ok(());
+        }
+        self.forget_taken();
+        self.messages.push(message)?;
         Ok(())
     }
 
@@ -88,12 +106,27 @@ impl Bag {
         ensures ok { OnOk result (self.new ≡ self.old
             ++ map (λ (r : ℕ). query sender.initiator sender.number sender.from r) receivers.now) }
     {
+        self.forget_taken();
         self.messages.reserve(receivers.len())?;
         for to in receivers {
             self.messages
-                .push_back_reserved(sender.message(Kind::Query, *to));
+                .push_reserved(sender.message(Kind::Query, *to));
         }
         Ok(())
+    }
+
+    /// Uses the memory of those that were taken again, where they are more than half of all, so that
+    /// each message is moved less than once.
+    #[inline(never)]
+    fn forget_taken(&mut self)
+        ensures { self.new ≡ self.old }
+    {
+        if self.taken > self.messages.len() / 2 {
+            let left = self.messages.len() - self.taken;
+            self.messages.copy_within(self.taken.., 0);
+            self.messages.truncate(left);
+            self.taken = 0;
+        }
     }
 
     /// No message is left. It keeps its memory.
@@ -101,6 +134,7 @@ impl Bag {
         ensures { self.new ≡ [] }
     {
         self.messages.clear();
+        self.taken = 0;
     }
 
     /// Takes the message at place `choice` modulo the number of messages; the others keep their
@@ -115,7 +149,17 @@ impl Bag {
         ensures unchanged { IfNone result (self.new ≡ self.old) }
     {
         self.arrange(choice);
-        self.messages.pop_front()
+        self.take_first()
+    }
+
+    #[inline(always)]
+    fn take_first(&mut self) -> Option<Message>
+        ensures first { self.old ≡ option_to_list result ++ self.new }
+        ensures rest { self.new ≡ drop 1 self.old }
+    {
+        let message = *self.messages.get(self.taken)?;
+        self.taken += 1;
+        Some(message)
     }
 
     /// Puts the message that the choice names before the others, if there is any.
@@ -125,8 +169,8 @@ impl Bag {
         ensures first { (m : Message) → slice_get self.old (choice % length self.old) ≡ Some m
             → self.new ≡ m ∷ remove self.old (choice % length self.old) }
     {
-        if choice != 0 && !self.messages.is_empty() {
-            let place = choice % self.messages.len() as u64;
+        if choice != 0 && !self.is_empty() {
+            let place = choice % self.len() as u64;
             self.bring_to_front(place);
         }
     }
@@ -139,9 +183,8 @@ impl Bag {
         ensures { (m : Message) → slice_get self.old place ≡ Some m
             → self.new ≡ m ∷ remove self.old place }
     {
-        if let Some(message) = self.messages.remove(place as usize) {
-            self.messages.push_front_reserved(message);
-        }
+        let end = self.taken + place as usize + 1;
+        self.messages[self.taken..end].rotate_right(1);
     }
 }
 
@@ -151,7 +194,7 @@ impl PartialEq for Bag {
     ghost laws = { Prim.search (comparing, rules, message_laws.laws-law) };
 
     fn eq(&self, other: &Bag) -> bool {
-        self.messages == other.messages
+        self.undelivered() == other.undelivered()
     }
 }
 

@@ -28,3 +28,28 @@ fn takes_by_choice(rt: HostRuntime) {
     assert_eq!(rt; bag.take(9), Some(query(1)));
     assert_eq!(rt; bag.take(0), None);
 }
+
+/// Takes the first messages, and expects queries to these, one after the other.
+fn expect_in_order<R: Abort>(rt: &R, bag: &mut Bag, receivers: core::ops::Range<u32>) {
+    for to in receivers {
+        assert_eq!(rt; bag.take(0), Some(query(to)));
+    }
+}
+
+#[test]
+fn uses_the_memory_of_taken_messages_again(rt: HostRuntime) {
+    let mut bag = Bag::new(rt.alloc());
+    for round in 0..50u32 {
+        for to in 0..20u32 {
+            assert_eq!(rt; bag.push(query(40 * round + to)), Ok(()));
+        }
+        expect_in_order(&rt, &mut bag, 40 * round..40 * round + 13);
+        for to in 20..40u32 {
+            assert_eq!(rt; bag.push(query(40 * round + to)), Ok(()));
+        }
+        assert_eq!(rt; bag.take(5), Some(query(40 * round + 18)));
+        expect_in_order(&rt, &mut bag, 40 * round + 13..40 * round + 18);
+        expect_in_order(&rt, &mut bag, 40 * round + 19..40 * round + 40);
+        assert!(rt; bag.is_empty());
+    }
+}
