@@ -2,6 +2,8 @@
 
 use crate::Bag;
 use cmh_process::{Kind, Message};
+use std::ops::Range;
+use std::process::Abort;
 
 fn query(to: u32) -> Message {
     Message {
@@ -30,7 +32,7 @@ fn takes_by_choice(rt: HostRuntime) {
 }
 
 /// Takes the first messages, and expects queries to these, one after the other.
-fn expect_in_order<R: Abort>(rt: &R, bag: &mut Bag, receivers: core::ops::Range<u32>) {
+fn expect_in_order<R: Abort>(rt: &R, bag: &mut Bag, receivers: Range<u32>) {
     for to in receivers {
         assert_eq!(rt; bag.take(0), Some(query(to)));
     }
