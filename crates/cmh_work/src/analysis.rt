@@ -48,8 +48,8 @@ pub fn analyse<R: Threads + Wait + Sync, P: Gate>(
     analyse_keeping(rt, alloc, graph, plan, gate)
 }
 
-/// `analyse`, with a log of any kind for each run: `analyse_keeping::<NoLog, _, _>` takes no memory
-/// for deliveries.
+/// `analyse`, with a log of any kind for each run, and lists of any kind of who engaged and of paths:
+/// `analyse_keeping::<NoLog, NoList, _, _>` keeps none of them.
 ///
 /// # Errors
 ///
