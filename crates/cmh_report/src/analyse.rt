@@ -56,24 +56,38 @@ fn outlined(
     Outline::of_records(alloc, graph, analysis.records())
 }
 
-/// The report on a graph that was analysed. The analysis is given back before the text is made, so
-/// that both aren't held at once. Want of memory is told as the text's.
+/// The text of an analysis, which is given back before the text is made: so both aren't held at once.
+fn text_and_count<R: Threads + Sync>(
+    rt: &R,
+    alloc: Global,
+    graph: &WaitGraph,
+    analysis: Analysis<RunLog<NoLog, NoList>, NoList>,
+) -> Result<Report, AllocError>
+    requires { IsSomeAnalysisOf graph.now analysis }
+    ensures text { IfOk result (λ r. string_bytes r.text ≡ report_text graph.now) }
+    ensures deadlocked { IfOk result (λ r. r.deadlocked ≡ deadlocked_count graph.now) }
+{
+    let outline = outlined(alloc, graph, analysis)?;
+    let text = text_of(rt, alloc, graph, &outline)?;
+    Ok(Report {
+        text,
+        deadlocked: outline.deadlocked,
+    })
+}
+
+/// The report on a graph that was analysed. Want of memory is told as the text's.
 fn reported<R: Threads + Sync>(
     rt: &R,
     alloc: Global,
     graph: &WaitGraph,
     analysis: Analysis<RunLog<NoLog, NoList>, NoList>,
-) -> Result<Report, ReportFault>
+) -> Result<Report, AppFault>
     requires { IsSomeAnalysisOf graph.now analysis }
     ensures text { IfOk result (λ r. string_bytes r.text ≡ report_text graph.now) }
     ensures deadlocked { IfOk result (λ r. r.deadlocked ≡ deadlocked_count graph.now) }
+    ensures memory { IfErr result (λ e. e ≡ AppFault.Report ReportFault.Memory) }
 {
-    let outline = outlined(alloc, graph, analysis).map_err(|_| ReportFault::Memory)?;
-    let text = text_of(rt, alloc, graph, &outline).map_err(|_| ReportFault::Memory)?;
-    Ok(Report {
-        text,
-        deadlocked: outline.deadlocked,
-    })
+    text_and_count(rt, alloc, graph, analysis).map_err(|_| AppFault::Report(ReportFault::Memory))
 }
 
 /// The one-thread answer, by workers. Reads a dump from the source up to its end, analyses it by the
