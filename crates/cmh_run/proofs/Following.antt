@@ -16,6 +16,7 @@ use Rattle.cmh_run.specs.Choices.{chosen_place, HasNoHints}
 use Rattle.cmh_run.specs.Engaged.{AreEngaged}
 use Rattle.cmh_run.specs.Run.{Stage, Run, IsRunOf, TellsTruth, empty_run_of, verdict_of, MayStart, place_in, IsTakenBy, delivered_to, ending_of}
 use Rattle.cmh_run.specs.Follow.{Follows}
+use Rattle.cmh_run.specs.Packed.{CanSend, EngagersHaveRoom}
 use Rattle.cmh_run.specs.declared.TheConstants.{MAX_RESTARTS}
 use Rattle.cmh_run.specs.Hints.{IsVerdict}
 use Rattle.cmh_run.proofs.Live.{Fine}
@@ -255,6 +256,21 @@ module _ (g : Graph) (i : ℕ) (choices restarts : List ℕ) (s t : Stage) (m : 
   -- its receiver is one of them
   pub taken_within : m.to < process_count g
   taken_within = receiver_within g i choices restarts s ok idle f (place_in choices s) m taken.0 taken.1
+
+  -- what it sends has room in words
+  pub taken_sender : IsWellFormed g → m.number < 2 ^ 27 → CanSend i m.number m.to
+  taken_sender w low = record {
+    initiator = omega (arith, w.processes, idle_within g i idle);
+    number = low;
+    from = omega (arith, w.processes, taken_within);
+  }
+
+  -- and so has whoever engaged a process
+  pub taken_engagers : IsWellFormed g → EngagersHaveRoom t.going.config.procs
+  taken_engagers w = rw taken.2 (λ k e is.
+      let firm = steady g i choices restarts s ok idle f (place_in choices s) m taken.1 in
+      let live = status_none g i s.going.config firm.stands taken.0 in
+      omega (arith, w.processes, live.0.in_range k e is))
 
   -- it can be counted
   pub taken_room : IsWellFormed g → length restarts ≤ MAX_RESTARTS → t.going.done + 1 < 2 ^ 64

@@ -1,5 +1,5 @@
 -- What an auditor answers, against the run that the deliveries make.
-use Rattle.std.proofs.Common.{◌≡◌, ℕ, ◌<◌, Bool, true, false, not, ◌&&◌, cond, List, [], ◌∷◌, ◌++◌, length, get_or, slice_get, Option, Some, None, is_some, refl, sym, ◌∙◌, ap, subst, ◌⊎◌, inr, ⊎_elim}
+use Rattle.std.proofs.Common.{◌≡◌, ℕ, ◌<◌, arith, Bool, true, false, not, ◌&&◌, cond, List, [], ◌∷◌, ◌++◌, length, get_or, slice_get, Option, Some, None, is_some, refl, sym, ◌∙◌, ap, subst, ◌⊎◌, inr, ⊎_elim}
 use Rattle.std.specs.Prelude.{IfSome, IfNone, IfOk, IfErr, ok_or, ◌↔◌, take}
 use Rattle.std.proofs.lemmas.Bool.{true≢false, cases_Bool}
 use Rattle.cmh_process.specs.declared.message.Message.{Message}
@@ -9,6 +9,7 @@ use denote.Enum.Bare.{sameb}
 use Rattle.cmh_graph.specs.contracts.verdict.Verdict.{the_type}
 use Rattle.cmh_graph.specs.Graph.{Graph, process_count, is_idle, is_awake}
 use Rattle.cmh_graph.specs.Build.{IsWellFormed}
+use Rattle.cmh_graph.proofs.Verdicts.{idle_within}
 use Rattle.cmh_graph.specs.Verdict.{verdict, verdicts, IsDeadlocked}
 use Rattle.cmh_run.proofs.Scripts.{verdict_true, one_verdict, verdict_at, verdict_count}
 use Rattle.cmh_run.proofs.Verdicts.{same, same_as_itself}
@@ -19,6 +20,7 @@ use Rattle.cmh_run.specs.Config.{Config, proc_at, asks, received}
 use Rattle.cmh_run.specs.Legal.{Going, after, HintIsFit, any_place, EndsAs}
 use Rattle.cmh_run.specs.declared.fault.CheckFault.{CheckFault}
 use Rattle.cmh_run.specs.declared.fault.CheckFault.TheVariants.{NotIdle, NotUndelivered, FalseHint, AfterEnd, NotEnded, Memory}
+use Rattle.cmh_run.specs.Packed.{CanSend, EngagersHaveRoom}
 use Rattle.cmh_run.specs.Check.{LeadTo, HasEnded, IsUndelivered, IsLegalRun, IsAfterEnd, IsStray, IsMisled, IsFirstFault}
 use Rattle.cmh_run.proofs.Right.{runs_are_right}
 use Rattle.cmh_run.specs.Audit.{is_waiting, goes_like, Waiting, Audit, with_bag, Agrees, IsSettled, IsAwaited, IsAudited, IsFlaw}
@@ -148,6 +150,26 @@ module _ (g : Graph) (i : ℕ) (log : List Delivery) (s : Going) (a : Audit) (d 
   -- its receiver is a process of the graph
   pub delivery_within : d.message.to < process_count g
   delivery_within = audit_receiver g i log s a h d.message is_there (is_going g i log s a h going)
+
+  -- what it sends has room in words
+  pub delivery_sender : CanSend i d.message.number d.message.to
+  delivery_sender = record {
+    initiator = omega (arith, h.graph.processes, idle_within g i h.idle);
+    number = omega (arith, aw.first);
+    from = omega (arith, h.graph.processes, delivery_within);
+  }
+
+  -- so has its sender
+  pub delivery_from : d.message.from < 4096
+  delivery_from =
+      let live = (here g i log s a h).live d.message is_there (is_going g i log s a h going) in
+      omega (arith, h.graph.processes, (each_at (Fine g i s.config.number (proc_at s.config.procs)) s.config.bag is_there.0 d.message live.fine is_there.1).from_in)
+
+  -- and whoever engaged a process
+  pub delivery_engagers : EngagersHaveRoom a.network.procs
+  delivery_engagers = rw h.network (λ k e is.
+      let live = (here g i log s a h).live d.message is_there (is_going g i log s a h going) in
+      omega (arith, h.graph.processes, live.in_range k e is))
 
   -- the network hasn't ended
   pub network_going : a.network.ended ≡ None

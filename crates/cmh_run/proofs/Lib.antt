@@ -11,6 +11,7 @@ pub mod Following
 pub mod Judging
 pub mod Last
 pub mod Live
+pub mod Packing
 pub mod Paths
 pub mod Places
 pub mod Recast

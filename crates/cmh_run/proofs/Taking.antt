@@ -1,25 +1,24 @@
--- The first message of a bag is taken, once the message that is meant stands first.
+-- The first of a list is taken, once the one that is meant stands first.
 use Rattle.std.proofs.Common.{◌≡◌, ◌∙◌, ℕ, zero, suc, ◌-◌, ◌<◌, ◌≤◌, List, [], ◌∷◌, ◌++◌, length, length-append, drop, take, remove, get_or, slice_get, Option, Some, None, arith, rules, refl, ap, sym}
 use Rattle.std.specs.Prelude.{IsNone, IfSome, IfNone, option_to_list}
 use Rattle.std.proofs.Math.Seq.{drop-append_seam}
 use Rattle.std.proofs.lemmas.List.{length-drop, length-take-le}
 use Rattle.std.proofs.lemmas.Option.{slice_get-get_or}
-use Rattle.cmh_process.specs.declared.message.Message.{Message}
 
--- what was taken of the old messages is the one at place x, and the others are left
-pub record Took (old new : List Message) (x : ℕ) (r : Option Message) : Type 0 where
+-- what was taken of the old ones is the one at place x, and the others are left
+pub record Took {A : Type 0} (old new : List A) (x : ℕ) (r : Option A) : Type 0 where
   pub none : (IsNone r → old ≡ []) × (old ≡ [] → IsNone r)
   pub taken : IfSome r (λ m. slice_get old x ≡ Some m)
   pub rest : IfSome r (λ m. new ≡ remove old x)
   pub unchanged : IfNone r (new ≡ old)
 
--- of no messages nothing is taken
-took_none : (new : List Message) (x : ℕ) (r : Option Message) → [] ≡ option_to_list r ++ new → Took [] new x r
+-- of nothing nothing is taken
+took_none : {A : Type 0} (new : List A) (x : ℕ) (r : Option A) → [] ≡ option_to_list r ++ new → Took [] new x r
 took_none new x None e = record { none = (λ n. λ i. [], λ n. search rules); taken = tt; rest = tt; unchanged = sym e }
 took_none new x (Some m) e = cc
 
 -- where there are some, the first of those that were put in order is taken
-took_one : (old mid new : List Message) (x : ℕ) (m : Message) (r : Option Message) → 0 < length old → slice_get old x ≡ Some m
+took_one : {A : Type 0} (old mid new : List A) (x : ℕ) (m : A) (r : Option A) → 0 < length old → slice_get old x ≡ Some m
     → mid ≡ m ∷ remove old x → mid ≡ option_to_list r ++ new → new ≡ drop 1 mid → Took old new x r
 took_one old mid new x m None l there put popped rest =
     absurd (omega (arith, ap length (popped ∙ rest ∙ ap (drop 1) put), ap length put))
@@ -28,43 +27,43 @@ took_one old mid new x m (Some a) l there put popped rest =
     record { none = (λ n. absurd (cc), λ e. absurd (omega (arith, l, ap length e))); taken = there ∙ ap Some (sym same); rest = rest ∙ ap (drop 1) put; unchanged = tt }
 
 -- both
-pub took : (old mid new : List Message) (x : ℕ) (r : Option Message)
-    → (0 < length old → x < length old) → (old ≡ [] → mid ≡ []) → ((m : Message) → slice_get old x ≡ Some m → mid ≡ m ∷ remove old x)
+pub took : {A : Type 0} (old mid new : List A) (x : ℕ) (r : Option A)
+    → (0 < length old → x < length old) → (old ≡ [] → mid ≡ []) → ((m : A) → slice_get old x ≡ Some m → mid ≡ m ∷ remove old x)
     → mid ≡ option_to_list r ++ new → new ≡ drop 1 mid → Took old new x r
 took [] mid new x r within none first popped rest = took_none new x r (sym (none (λ i. [])) ∙ popped)
 took (y ∷ ys) mid new x r within none first popped rest =
     let there = slice_get-get_or (y ∷ ys) x y (within (omega arith)) in
     took_one (y ∷ ys) mid new x (get_or (y ∷ ys) x y) r (omega arith) there (first (get_or (y ∷ ys) x y) there) popped rest
 
--- ---- a message that is brought to the front
+-- ---- one that is brought to the front
 
--- a message that stands at a place stands alone between what is before it and what is after it
-alone_at : (xs : List Message) (x : ℕ) (m : Message) → slice_get xs x ≡ Some m → drop x (take (suc x) xs) ≡ m ∷ []
+-- one that stands at a place stands alone between what is before it and what is after it
+alone_at : {A : Type 0} (xs : List A) (x : ℕ) (m : A) → slice_get xs x ≡ Some m → drop x (take (suc x) xs) ≡ m ∷ []
 alone_at [] x m there = cc
 alone_at (y ∷ ys) zero m there = cc
 alone_at (y ∷ ys) (suc x) m there = alone_at ys x m there
 
 -- what comes before a place comes before the next one too
-before_at : (xs : List Message) (x : ℕ) → take x (take (suc x) xs) ≡ take x xs
+before_at : {A : Type 0} (xs : List A) (x : ℕ) → take x (take (suc x) xs) ≡ take x xs
 before_at [] zero = refl
 before_at [] (suc x) = refl
 before_at (y ∷ ys) zero = refl
 before_at (y ∷ ys) (suc x) = ap (λ l. y ∷ l) (before_at ys x)
 
--- the last of the messages up to a place, put first, stands before the others
-pub brought : (xs : List Message) (x : ℕ) (m : Message) → slice_get xs x ≡ Some m
+-- the last of those up to a place, put first, stands before the others
+pub brought : {A : Type 0} (xs : List A) (x : ℕ) (m : A) → slice_get xs x ≡ Some m
     → (drop x (take (suc x) xs) ++ take x (take (suc x) xs)) ++ drop (suc x) xs ≡ m ∷ remove xs x
 brought xs x m there =
     ap (λ l. (l ++ take x (take (suc x) xs)) ++ drop (suc x) xs) (alone_at xs x m there)
     ∙ ap (λ l. m ∷ (l ++ drop (suc x) xs)) (before_at xs x)
 
 -- past what was taken come the others
-past_taken : (xs rest : List Message) (t : ℕ) → t ≤ length xs → drop t (take t xs ++ rest) ≡ rest
+past_taken : {A : Type 0} (xs rest : List A) (t : ℕ) → t ≤ length xs → drop t (take t xs ++ rest) ≡ rest
 past_taken xs rest t l =
     ap (λ n. drop n (take t xs ++ rest)) (sym (length-take-le t xs l)) ∙ drop-append_seam (take t xs) rest
 
--- so it is where the messages stand behind some that were taken
-pub brought_in : (xs turned now : List Message) (t x k : ℕ) (m : Message) → t ≤ length xs → drop t xs ≡ now → x < length now → k ≡ suc x → slice_get now x ≡ Some m
+-- so it is where they stand behind some that were taken
+pub brought_in : {A : Type 0} (xs turned now : List A) (t x k : ℕ) (m : A) → t ≤ length xs → drop t xs ≡ now → x < length now → k ≡ suc x → slice_get now x ≡ Some m
     → turned ≡ drop (length (take k (drop t xs)) - 1) (take k (drop t xs)) ++ take (length (take k (drop t xs)) - 1) (take k (drop t xs))
     → drop t (take t xs ++ (turned ++ drop k (drop t xs))) ≡ m ∷ remove now x
 brought_in xs turned now t x k m l are within is there by =
@@ -77,7 +76,7 @@ brought_in xs turned now t x k m l are within is there by =
     ∙ brought now x m there
 
 -- nor does it change how many there are
-pub turned_length : (xs turned : List Message) (t k : ℕ) → t ≤ length xs → k ≤ length (drop t xs) → length turned ≡ k
+pub turned_length : {A : Type 0} (xs turned : List A) (t k : ℕ) → t ≤ length xs → k ≤ length (drop t xs) → length turned ≡ k
     → length (take t xs ++ (turned ++ drop k (drop t xs))) ≡ length xs
 turned_length xs turned t k l low is = omega (
   arith,

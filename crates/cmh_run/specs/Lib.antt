@@ -8,6 +8,7 @@ pub mod Follow
 pub mod Hints
 pub mod Last
 pub mod Legal
+pub mod Packed
 pub mod Procs
 pub mod Run
 pub mod Script

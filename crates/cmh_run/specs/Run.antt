@@ -22,11 +22,11 @@ pub record Stage : Type 0 where
   pub going : Going
   pub log : List Delivery
 
--- the initiator may start again: its number grows, and nothing overflows
+-- the initiator may start again: its number grows, and has room in a word
 pub record MayStart (g : Graph) (i : ℕ) (s : Going) : Type 0 where
   pub size : length s.config.procs ≡ process_count g
   pub within : i < process_count g
-  pub next : (proc_at s.config.procs i).latest + 1 < 2 ^ 32
+  pub next : (proc_at s.config.procs i).latest + 1 < 2 ^ 27
   pub count : s.restarted + 1 < 2 ^ 32
 
 -- the place that the choices name

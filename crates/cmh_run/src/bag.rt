@@ -1,8 +1,7 @@
 //! The undelivered messages.
 
-ghost use Rattle.std.specs.Prelude.{◌≡◌, ℕ, ◌<◌, ◌↔◌, ◌%◌, ◌++◌, [], ◌∷◌, Some, drop, length, map, option_to_list, remove, slice_get, IsNone, IsSome, IfSome, IfNone, IfErr, IsTrue, OnOk, OnErr};
+ghost use Rattle.std.specs.Prelude.{◌≡◌, ◌<◌, ◌↔◌, ◌%◌, ◌++◌, [], ◌∷◌, Some, drop, length, option_to_list, remove, slice_get, IsNone, IsSome, IfSome, IfNone, IfErr, IsTrue, OnOk, OnErr};
 ghost use Rattle.cmh_process.specs.declared.message.Message.{Message};
-ghost use Rattle.cmh_run.specs.Config.{query};
 ghost use Rattle.std.specs.Cmp.Lexicographic.{pointwise};
 ghost use Rattle.std.specs.Cmp.Rules.{comparing};
 ghost use Rattle.std.proofs.Common.{rules};
@@ -10,9 +9,8 @@ ghost use Rattle.cmh_process.specs.contracts.message.MessageEq.TheImpl.Laws as m
 ghost use Rattle.cmh_process.specs.contracts.message.MessagePartialEq.TheImpl as message;
 
 use crate::RunFault;
-use crate::send::Sender;
-use cmh_process::{Kind, Message};
-use std::alloc::{AllocError, Global};
+use cmh_process::Message;
+use std::alloc::Global;
 use std::marker::Model;
 
 /// The undelivered messages, in the order in which they were sent.
@@ -78,40 +76,12 @@ impl Bag {
         ensures err { OnErr result (self.new ≡ self.old) }
         ensures memory { IfErr result (λ e. e ≡ RunFault.Memory) }
     {
-        self.add(message)?;
-        Ok(())
-    }
-
-    /// `push`, for a caller that has a fault of its own.
-    #[inline(always)]
-    pub(crate) fn add(&mut self, message: Message) -> Result<(), AllocError>
-        ensures ok { OnOk result (self.new ≡ self.old ++ message ∷ []) }
-        ensures err { OnErr result (self.new ≡ self.old) }
-    {
         if self.messages.len() < self.messages.capacity() {
             self.messages.push_reserved(message);
             return Ok(());
         }
         self.forget_taken();
         self.messages.push(message)?;
-        Ok(())
-    }
-
-    /// Adds the sender's query to each of these, in their order. Memory is taken for all at once.
-    pub(crate) fn add_queries(
-        &mut self,
-        sender: Sender,
-        receivers: &[u32],
-    ) -> Result<(), AllocError>
-        ensures ok { OnOk result (self.new ≡ self.old
-            ++ map (λ (r : ℕ). query sender.initiator sender.number sender.from r) receivers.now) }
-    {
-        self.forget_taken();
-        self.messages.reserve(receivers.len())?;
-        for to in receivers {
-            self.messages
-                .push_reserved(sender.message(Kind::Query, *to));
-        }
         Ok(())
     }
 
@@ -127,14 +97,6 @@ impl Bag {
             self.messages.truncate(left);
             self.taken = 0;
         }
-    }
-
-    /// No message is left. It keeps its memory.
-    pub(crate) fn clear(&mut self)
-        ensures { self.new ≡ [] }
-    {
-        self.messages.clear();
-        self.taken = 0;
     }
 
     /// Takes the message at place `choice` modulo the number of messages; the others keep their

@@ -13,8 +13,10 @@ pub mod laws;
 mod list;
 mod log;
 mod network;
+mod packed;
 mod procs;
 mod progress;
+mod queue;
 mod run_log;
 mod runner;
 mod runs;
@@ -25,6 +27,7 @@ mod tape;
 mod tests;
 mod truth;
 mod undelivered;
+mod words;
 
 pub use bag::Bag;
 pub use check::check_run;

@@ -6,11 +6,13 @@ ghost use Rattle.cmh_graph.specs.Build.{IsWellFormed};
 ghost use Rattle.cmh_process.specs.Process.{engages};
 ghost use Rattle.cmh_run.specs.Hints.{IsVerdict};
 ghost use Rattle.cmh_run.specs.Legal.{begun, HintIsFit};
+ghost use Rattle.cmh_run.specs.Packed.{CanSend, EngagersHaveRoom, HaveRoom, RepliesWithin};
 ghost use Rattle.cmh_run.specs.Config.{blank, proc_at, nothing_yet, start, does, engaged_by, hinted, query, answered, replied, received, asks, without};
 
 use crate::procs::Procs;
+use crate::queue::Queue;
 use crate::send::Sender;
-use crate::{Bag, Ending, Hints};
+use crate::{Ending, Hints};
 use cmh_graph::{Verdict, WaitGraph};
 use cmh_process::{Action, Kind, Message};
 use std::alloc::{AllocError, Global};
@@ -19,7 +21,7 @@ use std::marker::Model;
 /// The undelivered messages and the processes of one initiator's computations.
 #[derive(Drop)]
 pub(crate) struct Network {
-    bag: Bag,
+    bag: Queue,
     procs: Procs,
     number: u32,
     engaged: Vec<u32>,
@@ -46,7 +48,7 @@ impl Network {
         ensures ok { IfOk result (λ n. n ≡ nothing_yet graph.now) }
     {
         Ok(Network {
-            bag: Bag::new(alloc),
+            bag: Queue::new(alloc),
             procs: Procs::new(alloc, graph.len() as usize)?,
             number: 0,
             engaged: Vec::new(alloc),
@@ -76,7 +78,7 @@ impl Network {
         requires graph { IsWellFormed graph.now }
         requires size { length self.old.procs ≡ process_count graph.now }
         requires within { initiator < process_count graph.now }
-        requires next { (proc_at self.old.procs initiator).latest + 1 < 2 ^ 32 }
+        requires next { (proc_at self.old.procs initiator).latest + 1 < 2 ^ 27 }
         requires going { self.old.ended ≡ None }
         ensures ok { OnOk result (self.new ≡ start graph.now initiator self.old) }
     {
@@ -127,6 +129,8 @@ impl Network {
         ensures unchanged { IfNone result (self.new ≡ self.old) }
         ensures taken { IfSome result (λ m. let x = choice % length self.old.bag in
             (slice_get self.old.bag x ≡ Some m) × (self.new ≡ without self.old x)) }
+        ensures number { IfSome result (λ m. m.number < 2 ^ 27) }
+        ensures from { IfSome result (λ m. m.from < 4096) }
     {
         self.bag.take(choice)
     }
@@ -144,6 +148,9 @@ impl Network {
         requires size { length self.old.procs ≡ process_count graph.now }
         requires within { message.to < process_count graph.now }
         requires going { self.old.ended ≡ None }
+        requires sender { CanSend initiator message.number message.to }
+        requires from { message.from < 4096 }
+        requires engagers { EngagersHaveRoom self.old.procs }
         ensures ok { OnOk result (self.new ≡ (if is_awake graph.now message.to
             then self.old
             else received graph.now initiator self.old message message.kind hint)) }
@@ -171,6 +178,9 @@ impl Network {
         requires size { length self.old.procs ≡ process_count graph.now }
         requires within { message.to < process_count graph.now }
         requires going { self.old.ended ≡ None }
+        requires sender { CanSend initiator message.number message.to }
+        requires from { message.from < 4096 }
+        requires engagers { EngagersHaveRoom self.old.procs }
         requires speaks { H.speaks_of hints.old graph.now }
         ensures fit { IfOk result (HintIsFit graph.now self.old message) }
         ensures ok { IfOk result (λ hint. self.new ≡ (if is_awake graph.now message.to
@@ -224,6 +234,8 @@ impl Network {
         requires size { length self.old.procs ≡ process_count graph.now }
         requires within { message.to < process_count graph.now }
         requires going { self.old.ended ≡ None }
+        requires sender { CanSend initiator message.number message.to }
+        requires from { message.from < 4096 }
         ensures ok { OnOk result (self.new ≡
             received graph.now initiator self.old message Kind.Query hint) }
     {
@@ -256,6 +268,8 @@ impl Network {
         requires size { length self.old.procs ≡ process_count graph.now }
         requires within { to < process_count graph.now }
         requires going { self.old.ended ≡ None }
+        requires sender { CanSend initiator number to }
+        requires from { from < 4096 }
         requires speaks { H.speaks_of hints.old graph.now }
         ensures verdict { IfOk result (λ hint. IfSome hint (IsVerdict graph.now to)) }
         ensures ok { IfOk result (λ hint. self.new ≡
@@ -282,6 +296,8 @@ impl Network {
         requires size { length self.old.procs ≡ process_count graph.now }
         requires within { to < process_count graph.now }
         requires going { self.old.ended ≡ None }
+        requires sender { CanSend initiator number to }
+        requires from { from < 4096 }
         ensures ok { OnOk result (self.new ≡
             hinted graph.now initiator self.old (query initiator number from to) hint) }
     {
@@ -307,6 +323,9 @@ impl Network {
         requires within { to < length self.old.procs }
         requires few { length dependents.now < 2 ^ 32 }
         requires going { self.old.ended ≡ None }
+        requires sender { CanSend initiator number to }
+        requires from { from < 4096 }
+        requires dependents { HaveRoom dependents.now }
         ensures ok { OnOk result (self.new ≡
             engaged_by initiator self.old (query initiator number from to) dependents.now) }
     {
@@ -329,6 +348,8 @@ impl Network {
         requires within { message.to < length self.old.procs }
         requires stale { IsFalse (engages (proc_at self.old.procs message.to) message.number) }
         requires going { self.old.ended ≡ None }
+        requires sender { CanSend initiator message.number message.to }
+        requires from { message.from < 4096 }
         ensures ok { OnOk result (self.new ≡ answered initiator self.old message) }
     {
         let action = self.procs.answer(message.to, message.number, message.from);
@@ -339,6 +360,8 @@ impl Network {
     fn reply(&mut self, initiator: u32, message: Message) -> Result<(), AllocError>
         requires within { message.to < length self.old.procs }
         requires going { self.old.ended ≡ None }
+        requires sender { CanSend initiator message.number message.to }
+        requires engagers { EngagersHaveRoom self.old.procs }
         ensures ok { OnOk result (self.new ≡ replied initiator self.old message) }
     {
         let action = self.procs.reply(message.to, message.number);
@@ -348,7 +371,10 @@ impl Network {
     /// A process sends, or it ends the run.
     #[inline(always)]
     fn act(&mut self, sender: Sender, dependents: &[u32], action: Action) -> Result<(), AllocError>
-        requires { self.old.ended ≡ None }
+        requires going { self.old.ended ≡ None }
+        requires sender { CanSend sender.initiator sender.number sender.from }
+        requires dependents { HaveRoom dependents.now }
+        requires reply { RepliesWithin action }
         ensures ok { OnOk result (self.new ≡
             does sender.initiator self.old sender.number sender.from dependents.now action) }
     {

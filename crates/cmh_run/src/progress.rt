@@ -5,6 +5,7 @@ ghost use Rattle.cmh_graph.specs.Graph.{process_count};
 ghost use Rattle.cmh_graph.specs.Build.{IsWellFormed};
 ghost use Rattle.cmh_run.specs.Config.{blank, nothing_yet, proc_at};
 ghost use Rattle.cmh_run.specs.Legal.{begun, ready};
+ghost use Rattle.cmh_run.specs.Packed.{CanSend, EngagersHaveRoom};
 ghost use Rattle.cmh_run.specs.Run.{MayStart, IsTakenBy, IsDelivered, ending_of};
 
 use crate::network::Network;
@@ -99,7 +100,9 @@ impl<'a, L: Log> Progress<'a, L> {
     /// Takes the message that comes next by the choices, unless the run is over.
     #[inline(always)]
     pub(crate) fn take(&mut self, choices: &[u64]) -> Option<Message>
-        ensures { IsTakenBy choices.now self.old self.new result }
+        ensures taken { IsTakenBy choices.now self.old self.new result }
+        ensures number { IfSome result (λ m. m.number < 2 ^ 27) }
+        ensures from { IfSome result (λ m. m.from < 4096) }
     {
         if self.network.has_ended() {
             return None;
@@ -122,6 +125,9 @@ impl<'a, L: Log> Progress<'a, L> {
         requires size { length self.old.going.config.procs ≡ process_count graph.now }
         requires within { message.to < process_count graph.now }
         requires going { self.old.going.config.ended ≡ None }
+        requires sender { CanSend initiator message.number message.to }
+        requires from { message.from < 4096 }
+        requires engagers { EngagersHaveRoom self.old.going.config.procs }
         requires few { self.old.going.done + 1 < 2 ^ 64 }
         requires speaks { H.speaks_of hints.old graph.now }
         ensures ok { OnOk result

@@ -1,9 +1,10 @@
-//! What a process puts into the bag by an action.
+//! What a process puts into the queue by an action.
 
 ghost use Rattle.std.specs.Prelude.{◌≡◌, ◌++◌, OnOk};
 ghost use Rattle.cmh_run.specs.Config.{sent};
+ghost use Rattle.cmh_run.specs.Packed.{CanSend, HaveRoom, RepliesWithin};
 
-use crate::Bag;
+use crate::queue::Queue;
 use cmh_process::{Action, Kind, Message};
 use std::alloc::AllocError;
 
@@ -35,17 +36,25 @@ impl Sender {
     #[inline(always)]
     pub(crate) fn send(
         self,
-        bag: &mut Bag,
+        queue: &mut Queue,
         dependents: &[u32],
         action: Action,
     ) -> Result<(), AllocError>
-        ensures ok { OnOk result (bag.new ≡
-            bag.old ++ sent self.initiator self.number self.from dependents.now action) }
+        requires sender { CanSend self.initiator self.number self.from }
+        requires dependents { HaveRoom dependents.now }
+        requires reply { RepliesWithin action }
+        ensures ok { OnOk result (queue.new ≡
+            queue.old ++ sent self.initiator self.number self.from dependents.now action) }
     {
+        let Sender {
+            initiator,
+            number,
+            from,
+        } = self;
         match action {
             Action::Nothing => Ok(()),
-            Action::Engage => bag.add_queries(self, dependents),
-            Action::ReplyTo(to) => bag.add(self.message(Kind::Reply, to)),
+            Action::Engage => queue.add_queries(initiator, number, from, dependents),
+            Action::ReplyTo(to) => queue.add(self.message(Kind::Reply, to)),
             Action::Declare => Ok(()),
         }
     }

@@ -3,8 +3,9 @@ use Rattle.std.proofs.lemmas.Bool.{true≢false}
 use Rattle.cmh_graph.specs.Graph.{is_awake}
 use Rattle.cmh_run.specs.Config.{Config, received}
 use Rattle.cmh_run.specs.Legal.{after}
+use Rattle.cmh_run.specs.Packed.{EngagersHaveRoom}
 use Rattle.cmh_run.specs.Audit.{Audit}
-use Rattle.cmh_run.proofs.Judging.{audit_size, awaited, where_none, is_there, delivery_within, network_going, after_delivery}
+use Rattle.cmh_run.proofs.Judging.{audit_size, awaited, where_none, is_there, delivery_within, delivery_sender, delivery_from, delivery_engagers, network_going, after_delivery}
 use Rattle.cmh_run.proofs.auditor.Auditor.deliver.Goals as goal
 
 -- the message isn't awaited, so it isn't undelivered
@@ -40,6 +41,27 @@ deliver-requires-clause-within c =
     delivery_within c.args.graph.now c.args.initiator c.requires.audited.0 c.requires.audited.1.0 c.args.self.now c.args.delivery c.requires.audited.1.1 c.requires.audited.1.2
     (where_none c.ending.result _ c.if-is_some.ensures c.ending.ensures.none c.args.graph.now c.args.initiator c.requires.audited.0 c.requires.audited.1.0 c.requires.audited.1.1 c.requires.audited.1.2)
     (c.if-not-take.ensures.found.0 refl)
+
+-- what it sends has room in words
+pub deliver-requires-clause-sender : goal.deliver-requires-clause-sender
+deliver-requires-clause-sender c =
+    delivery_sender c.args.graph.now c.args.initiator c.requires.audited.0 c.requires.audited.1.0 c.args.self.now c.args.delivery c.requires.audited.1.1 c.requires.audited.1.2
+    (where_none c.ending.result _ c.if-is_some.ensures c.ending.ensures.none c.args.graph.now c.args.initiator c.requires.audited.0 c.requires.audited.1.0 c.requires.audited.1.1 c.requires.audited.1.2)
+    (c.if-not-take.ensures.found.0 refl)
+
+pub deliver-requires-clause-from : goal.deliver-requires-clause-from
+deliver-requires-clause-from c =
+    delivery_from c.args.graph.now c.args.initiator c.requires.audited.0 c.requires.audited.1.0 c.args.self.now c.args.delivery c.requires.audited.1.1 c.requires.audited.1.2
+    (where_none c.ending.result _ c.if-is_some.ensures c.ending.ensures.none c.args.graph.now c.args.initiator c.requires.audited.0 c.requires.audited.1.0 c.requires.audited.1.1 c.requires.audited.1.2)
+    (c.if-not-take.ensures.found.0 refl)
+
+pub deliver-requires-clause-engagers : goal.deliver-requires-clause-engagers
+deliver-requires-clause-engagers c =
+    subst (λ (n : Config). EngagersHaveRoom n.procs)
+    (sym (ap (λ (a : Audit). a.network) c.self.view_is ∙ c.if-not-take.ensures.network))
+    (delivery_engagers c.args.graph.now c.args.initiator c.requires.audited.0 c.requires.audited.1.0 c.args.self.now c.args.delivery c.requires.audited.1.1 c.requires.audited.1.2
+    (where_none c.ending.result _ c.if-is_some.ensures c.ending.ensures.none c.args.graph.now c.args.initiator c.requires.audited.0 c.requires.audited.1.0 c.requires.audited.1.1 c.requires.audited.1.2)
+    (c.if-not-take.ensures.found.0 refl))
 
 -- the run hasn't ended
 pub deliver-requires-clause-going : goal.deliver-requires-clause-going

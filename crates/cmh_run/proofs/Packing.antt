@@ -1,0 +1,93 @@
+-- Messages in words, one and many.
+use Rattle.std.proofs.Common.{◌≡◌, ◌∙◌, ℕ, zero, suc, ◌+◌, ◌*◌, ◌%◌, ◌<◌, List, [], ◌∷◌, ◌++◌, length, map, remove, slice_get, Some, arith, refl, ap}
+use Rattle.std.proofs.lemmas.Nat.{div-mul-add, mod-mul-add}
+use Rattle.std.proofs.lemmas.List.{length-map, map-append, take-map, drop-map}
+use Rattle.cmh_process.specs.declared.message.Kind.{Kind}
+use Rattle.cmh_process.specs.declared.message.Kind.TheVariants.{Query, Reply}
+use Rattle.cmh_process.specs.declared.message.Message.{Message}
+use Rattle.cmh_run.specs.Config.{query}
+use Rattle.cmh_run.specs.Packed.{bit_of, kind_of, message_of, head_of, CanSend, HaveRoom}
+
+-- a kind is that of its bit
+kind_back : (k : Kind) → kind_of (bit_of k) ≡ k
+kind_back Query = refl
+kind_back Reply = refl
+
+bit_below : (k : Kind) → bit_of k < 2
+bit_below Query = omega arith
+bit_below Reply = omega arith
+
+-- the message that parts make, each the rest of a division
+pub packed_parts : (k : Kind) (i number from to : ℕ) → i < 4096 → from < 4096 → to < 4096
+    → message_of (head_of k i number from + to) ≡ record { kind = k; initiator = i; number = number; from = from; to = to }
+packed_parts k i number from to hi hf ht =
+    let c = number * 2 + bit_of k in
+    let b = c * 4096 + i in
+    let a = b * 4096 + from in
+    let bit : bit_of k < 2 = bit_below k in
+    rw (
+      div-mul-add a 4096 to ht,
+      mod-mul-add a 4096 to ht,
+      div-mul-add b 4096 from hf,
+      mod-mul-add b 4096 from hf,
+      div-mul-add c 4096 i hi,
+      mod-mul-add c 4096 i hi,
+      div-mul-add number 2 (bit_of k) bit,
+      mod-mul-add number 2 (bit_of k) bit,
+      kind_back k,
+    )
+    refl
+
+-- a packed message is the message
+pub packed_is : (m : Message) → CanSend m.initiator m.number m.from → m.to < 4096
+    → message_of (head_of m.kind m.initiator m.number m.from + m.to) ≡ m
+packed_is m can to = packed_parts m.kind m.initiator m.number m.from m.to can.initiator can.from to
+
+-- one word more is one message more
+pub one_more : (words : List ℕ) (word : ℕ) (m : Message) → message_of word ≡ m
+    → map message_of (words ++ word ∷ []) ≡ map message_of words ++ m ∷ []
+one_more words word m is =
+    map-append message_of words (word ∷ []) ∙ ap (λ x. map message_of words ++ x ∷ []) is
+
+-- the words of a sender's queries are its queries
+queries_are : (i number from : ℕ) (rs : List ℕ) → CanSend i number from → HaveRoom rs
+    → map message_of (map (λ (r : ℕ). head_of Query i number from + r) rs) ≡ map (λ (r : ℕ). query i number from r) rs
+queries_are i number from [] can room = refl
+queries_are i number from (r ∷ rs) can room =
+    ap (λ m. m ∷ map message_of (map (λ (r : ℕ). head_of Query i number from + r) rs))
+    (packed_parts Query i number from r can.initiator can.from (room 0 (omega arith)))
+    ∙ ap (λ ms. query i number from r ∷ ms) (queries_are i number from rs can (λ k l. room (suc k) (omega (arith, l))))
+
+-- so many words more are so many queries more
+pub queries_more : (words new rs : List ℕ) (head i number from : ℕ) → CanSend i number from → HaveRoom rs
+    → head ≡ head_of Query i number from → new ≡ words ++ map (λ (r : ℕ). head + r) rs
+    → map message_of new ≡ map message_of words ++ map (λ (r : ℕ). query i number from r) rs
+queries_more words new rs head i number from can room is more =
+    ap (map message_of) more
+    ∙ map-append message_of words (map (λ (r : ℕ). head + r) rs)
+    ∙ ap (λ h. map message_of words ++ map message_of (map (λ (r : ℕ). h + r) rs)) is
+    ∙ ap (λ ms. map message_of words ++ ms) (queries_are i number from rs can room)
+
+-- ---- a word is taken
+
+-- at a word's place stands its message
+message_at : (words : List ℕ) (k word : ℕ) → slice_get words k ≡ Some word → slice_get (map message_of words) k ≡ Some (message_of word)
+message_at [] k word there = absurd (cc)
+message_at (w ∷ words) zero word there = let same : w ≡ word = cc in ap (λ x. Some (message_of x)) same
+message_at (w ∷ words) (suc k) word there = message_at words k word there
+
+pub taken_message : (words : List ℕ) (choice word : ℕ) → slice_get words (choice % length words) ≡ Some word
+    → slice_get (map message_of words) (choice % length (map message_of words)) ≡ Some (message_of word)
+taken_message words choice word there =
+    rw (length-map words message_of) (message_at words (choice % length words) word there)
+
+-- the others are left
+pub taken_rest : (words left : List ℕ) (choice : ℕ) → left ≡ remove words (choice % length words)
+    → map message_of left ≡ remove (map message_of words) (choice % length (map message_of words))
+taken_rest words left choice is =
+    rw (is, length-map words message_of, map-append message_of, take-map message_of, drop-map message_of) refl
+
+-- no message is left where no word is
+pub none_left : (words : List ℕ) → map message_of words ≡ [] → words ≡ []
+none_left [] none = refl
+none_left (w ∷ words) none = absurd (cc)
