@@ -1,7 +1,8 @@
 -- A run that goes on by one delivery, and what its steps may count on.
-use Rattle.std.proofs.Common.{◌≡◌, ℕ, ◌+◌, ◌-◌, ◌*◌, ◌^◌, ◌<◌, ◌≤◌, ◌≢◌, Bool, true, false, ◌&&◌, cond, eqb, List, [], ◌∷◌, ◌++◌, length, slice_get, Contains, Option, Some, None, is_none, refl, sym, ◌∙◌, ap, subst, arith, ◌⊎◌, ⊎_elim, length-append, mul-le-mul_left}
+use Rattle.std.proofs.Common.{◌≡◌, ℕ, ◌+◌, ◌-◌, ◌*◌, ◌^◌, ◌<◌, ◌≤◌, ◌≢◌, Bool, true, false, ◌&&◌, cond, eqb, List, [], ◌∷◌, ◌++◌, length, drop, slice_get, Contains, Option, Some, None, is_none, refl, sym, ◌∙◌, ap, subst, arith, ◌⊎◌, ⊎_elim, length-append, mul-le-mul_left}
 use Rattle.std.proofs.lemmas.Bool.{eq-eqb, true≢false, and_parts}
-use Rattle.std.proofs.lemmas.List.{length-replicate}
+use Rattle.std.specs.Prelude.{slice_index}
+use Rattle.std.proofs.lemmas.List.{length-replicate, get_or-drop, drop-drop}
 use Rattle.cmh_process.specs.declared.message.Message.{Message}
 use Rattle.cmh_graph.specs.declared.verdict.Verdict.{Verdict}
 use Rattle.cmh_run.specs.declared.delivery.Delivery.{Delivery}
@@ -246,6 +247,18 @@ pub no_hints_on : (log : List Delivery) (d : Delivery) → HasNoHints log → d.
 no_hints_on [] d h e = (e, tt)
 no_hints_on (x ∷ log) d h e = (h.0, no_hints_on log d h.1 e)
 
+-- ---- the choices
+
+-- the first of the choices that are left is the next of them all
+pub next_is : (choices left : List ℕ) (n choice : ℕ) → left ≡ drop n choices → choice ≡ slice_index left 0 → choice ≡ slice_index choices n
+next_is choices left n choice are is =
+    is ∙ ap (λ xs. slice_index xs 0) are ∙ get_or-drop n choices 0 0 ∙ ap (slice_index choices) (omega arith)
+
+-- without it the rest are left
+pub next_left : (choices left rest : List ℕ) (n m : ℕ) → left ≡ drop n choices → rest ≡ drop 1 left → m ≡ n + 1 → rest ≡ drop m choices
+next_left choices left rest n m are is more =
+    is ∙ ap (drop 1) are ∙ drop-drop 1 n choices ∙ ap (λ k. drop k choices) (sym more)
+
 -- ---- a message was taken
 
 module _ (g : Graph) (i : ℕ) (choices restarts : List ℕ) (s t : Stage) (m : Message) (ok : IsWithinGraph g) (idle : is_idle g i ≡ true) (f : Follows g i choices restarts s) (taken : IsTakenBy choices s t (Some m)) where
@@ -305,6 +318,11 @@ module _ (g : Graph) (i : ℕ) (choices restarts : List ℕ) (s t : Stage) (m : 
     taken_follows v e = subst (λ (w : Stage). Follows g i choices restarts w) (sym (e ∙ ap (λ (w : Stage). let z : Stage = record { going = ready g i w.going; log = w.log } in z) is_after))
         (follows_on g i choices restarts s ok idle f (record { message = m; hint = hint }) (taken_may hint fit))
 
+    -- there is one delivery more
+    pub taken_done : (v : Stage) → v ≡ record { going = ready g i u.going; log = u.log } → v.going.done ≡ s.going.done + 1
+    taken_done v e =
+        ap (λ (w : Stage). w.going.done) e ∙ restart_keeps_count g i u.going u.going.restarts ∙ ap (λ (w : Stage). w.going.done) is_after
+
     -- the log is one delivery longer
     pub taken_log : (v : Stage) → v ≡ record { going = ready g i u.going; log = u.log } → v.log ≡ s.log ++ (record { message = m; hint = hint }) ∷ []
     taken_log v e = ap (λ (w : Stage). w.log) e ∙ ap (λ (w : Stage). w.log) is_after
@@ -338,6 +356,10 @@ ends_as g i choices restarts s ok idle f over = by_ended s.going.config.ended re
     by_ended (Some Declared) e = e
     by_ended (Some (CutFree k)) e = e
     by_ended (Some AtRest) e = absurd (not_at_rest (is_awake g i) refl e)
+
+-- it has no delivery more
+pub over_log : (choices : List ℕ) (s t : Stage) → IsTakenBy choices s t None → t.log ≡ s.log
+over_log choices s t over = ap (λ (w : Stage). w.log) over.0
 
 -- its network is then as at first
 pub cleared : (g : Graph) (i : ℕ) (choices restarts : List ℕ) (s t : Stage) (c : Config) → IsWithinGraph g → is_idle g i ≡ true → Follows g i choices restarts s

@@ -6,6 +6,7 @@
 mod auditor;
 mod bag;
 mod check;
+mod choices;
 mod delivery;
 mod fault;
 mod hints;

@@ -1,6 +1,6 @@
 //! A run on its way.
 
-ghost use Rattle.std.specs.Prelude.{◌≡◌, ◌+◌, ◌<◌, ◌^◌, ◌%◌, ◌↔◌, [], ◌∷◌, ◌++◌, None, Some, length, slice_get, slice_index, IfOk, IfSome, IfNone, OnOk};
+ghost use Rattle.std.specs.Prelude.{◌≡◌, ℕ, List, ◌+◌, ◌<◌, ◌^◌, ◌%◌, ◌↔◌, [], ◌∷◌, ◌++◌, None, Some, length, slice_get, slice_index, IfOk, IfSome, IfNone, OnOk};
 ghost use Rattle.cmh_graph.specs.Graph.{process_count};
 ghost use Rattle.cmh_graph.specs.Build.{IsWellFormed};
 ghost use Rattle.cmh_run.specs.Config.{blank, nothing_yet, proc_at};
@@ -85,6 +85,23 @@ impl<'a, L: Log> Progress<'a, L> {
           log = self.old.log;
         }) }
     {
+        match self.restarts.first() {
+            None => Ok(()),
+            Some(_) => self.restart_where_due(graph, initiator),
+        }
+    }
+
+    /// `restart_if_due` where a restart is to come. It stands apart, since few runs start again.
+    #[inline(never)]
+    fn restart_where_due(&mut self, graph: &WaitGraph, initiator: u32) -> Result<(), AllocError>
+        requires graph { IsWellFormed graph.now }
+        requires may { self.old.going.config.ended ≡ None
+            → MayStart graph.now initiator self.old.going }
+        ensures ok { OnOk result (self.new ≡ record {
+          going = ready graph.now initiator self.old.going;
+          log = self.old.log;
+        }) }
+    {
         let Some(next) = self.restarts.first() else {
             return Ok(());
         };
@@ -97,17 +114,17 @@ impl<'a, L: Log> Progress<'a, L> {
         Ok(())
     }
 
-    /// Takes the message that comes next by the choices, unless the run is over.
+    /// Takes the message that comes next by the next of the choices, unless the run is over.
     #[inline(always)]
-    pub(crate) fn take(&mut self, choices: &[u64]) -> Option<Message>
-        ensures taken { IsTakenBy choices.now self.old self.new result }
+    pub(crate) fn take(&mut self, choice: u64) -> Option<Message>
+        ensures taken { (choices : List ℕ) → choice ≡ slice_index choices self.old.going.done
+            → IsTakenBy choices self.old self.new result }
         ensures number { IfSome result (λ m. m.number < 2 ^ 27) }
         ensures from { IfSome result (λ m. m.from < 4096) }
     {
         if self.network.has_ended() {
             return None;
         }
-        let choice = choices.get(self.made).copied().unwrap_or(0);
         self.network.take(choice)
     }
 

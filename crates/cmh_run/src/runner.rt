@@ -8,6 +8,7 @@ ghost use Rattle.cmh_run.specs.Config.{nothing_yet};
 ghost use Rattle.cmh_run.specs.Engaged.{AreEngaged};
 ghost use Rattle.cmh_run.specs.Run.{IsRising, IsAccepted, IsFirstFault, IsRunOf, TellsTruth, empty_run_of};
 
+use crate::choices::Choices;
 use crate::network::Network;
 use crate::progress::Progress;
 use crate::{Hints, Log, MAX_CHOICES, MAX_RESTARTS, RunFault, RunLog};
@@ -181,7 +182,8 @@ fn follow<L: Log, H: Hints>(
 {
     let mut progress = Progress::begin(alloc, graph, network, initiator, restarts)?;
     progress.restart_if_due(graph, initiator)?;
-    while let Some(message) = progress.take(choices) {
+    let mut left = Choices::new(choices);
+    while let Some(message) = progress.take(left.next()) {
         progress.deliver(graph, initiator, message, hints)?;
         progress.restart_if_due(graph, initiator)?;
     }

@@ -1,8 +1,8 @@
-use Rattle.std.proofs.Common.{◌≡◌, ap, subst, sym, List, None}
+use Rattle.std.proofs.Common.{◌≡◌, ◌∙◌, ap, subst, sym, List, None}
 use Rattle.cmh_run.specs.declared.delivery.Delivery.{Delivery}
 use Rattle.cmh_run.specs.Run.{Run, Stage, MayStart}
 use Rattle.cmh_run.specs.Choices.{HasNoHints}
-use Rattle.cmh_run.proofs.Following.{may_start_first, taken_size, taken_within, taken_sender, taken_engagers, taken_room, taken_may_start, taken_follows, taken_log, taken_falls, no_hints_on, cleared, finished, run_is_true, restarted_few, run_engages, awake_runs_nothing}
+use Rattle.cmh_run.proofs.Following.{may_start_first, next_is, next_left, taken_size, taken_within, taken_sender, taken_engagers, taken_room, taken_may_start, taken_follows, taken_done, taken_log, taken_falls, no_hints_on, over_log, cleared, finished, run_is_true, restarted_few, run_engages, awake_runs_nothing}
 use Rattle.cmh_run.proofs.runner.follow.Goals as goal
 
 -- at first the initiator may start again, if the run isn't over
@@ -16,30 +16,40 @@ restart_if_due-requires-clause-may g c =
 pub deliver-requires-clause-size : goal.deliver-requires-clause-size
 deliver-requires-clause-size g c =
     taken_size c.args.graph.now c.args.initiator c.args.choices.now c.args.restarts.now c.loop-message.progress c.take.new.self c.in-Some.message
-    c.requires.graph.within c.requires.idle c.loop-message.invariant.follows c.in-Some.ensures.taken
+    c.requires.graph.within c.requires.idle c.loop-message.invariant.follows (c.in-Some.ensures.taken c.args.choices.now
+    (next_is c.args.choices.now c.loop-message.left c.loop-message.progress.going.done c.next.result
+    c.loop-message.invariant.left c.next.ensures.first))
 
 -- a message is delivered to a process of the graph
 pub deliver-requires-clause-within : goal.deliver-requires-clause-within
 deliver-requires-clause-within g c =
     taken_within c.args.graph.now c.args.initiator c.args.choices.now c.args.restarts.now c.loop-message.progress c.take.new.self c.in-Some.message
-    c.requires.graph.within c.requires.idle c.loop-message.invariant.follows c.in-Some.ensures.taken
+    c.requires.graph.within c.requires.idle c.loop-message.invariant.follows (c.in-Some.ensures.taken c.args.choices.now
+    (next_is c.args.choices.now c.loop-message.left c.loop-message.progress.going.done c.next.result
+    c.loop-message.invariant.left c.next.ensures.first))
 
 -- what it sends has room in words
 pub deliver-requires-clause-sender : goal.deliver-requires-clause-sender
 deliver-requires-clause-sender g c =
     taken_sender c.args.graph.now c.args.initiator c.args.choices.now c.args.restarts.now c.loop-message.progress c.take.new.self c.in-Some.message
-    c.requires.graph.within c.requires.idle c.loop-message.invariant.follows c.in-Some.ensures.taken c.requires.graph c.in-Some.ensures.number
+    c.requires.graph.within c.requires.idle c.loop-message.invariant.follows (c.in-Some.ensures.taken c.args.choices.now
+    (next_is c.args.choices.now c.loop-message.left c.loop-message.progress.going.done c.next.result
+    c.loop-message.invariant.left c.next.ensures.first)) c.requires.graph c.in-Some.ensures.number
 
 pub deliver-requires-clause-engagers : goal.deliver-requires-clause-engagers
 deliver-requires-clause-engagers g c =
     taken_engagers c.args.graph.now c.args.initiator c.args.choices.now c.args.restarts.now c.loop-message.progress c.take.new.self c.in-Some.message
-    c.requires.graph.within c.requires.idle c.loop-message.invariant.follows c.in-Some.ensures.taken c.requires.graph
+    c.requires.graph.within c.requires.idle c.loop-message.invariant.follows (c.in-Some.ensures.taken c.args.choices.now
+    (next_is c.args.choices.now c.loop-message.left c.loop-message.progress.going.done c.next.result
+    c.loop-message.invariant.left c.next.ensures.first)) c.requires.graph
 
 -- the deliveries can be counted
 pub deliver-requires-clause-few : goal.deliver-requires-clause-few
 deliver-requires-clause-few g c =
     taken_room c.args.graph.now c.args.initiator c.args.choices.now c.args.restarts.now c.loop-message.progress c.take.new.self c.in-Some.message
-    c.requires.graph.within c.requires.idle c.loop-message.invariant.follows c.in-Some.ensures.taken c.requires.graph c.requires.few
+    c.requires.graph.within c.requires.idle c.loop-message.invariant.follows (c.in-Some.ensures.taken c.args.choices.now
+    (next_is c.args.choices.now c.loop-message.left c.loop-message.progress.going.done c.next.result
+    c.loop-message.invariant.left c.next.ensures.first)) c.requires.graph c.requires.few
 
 -- the hints are kept where a delivery runs out of memory
 pub returns-in_err-deliver-clause-kept : goal.returns-in_err-deliver-clause-kept
@@ -51,7 +61,9 @@ returns-in_err-deliver-clause-kept g c =
 pub restart_if_due-requires-in-Some-clause-may : goal.restart_if_due-requires-in-Some-clause-may
 restart_if_due-requires-in-Some-clause-may g c =
     taken_may_start c.args.graph.now c.args.initiator c.args.choices.now c.args.restarts.now c.loop-message.progress c.take.new.self c.in-Some.message
-    c.requires.graph.within c.requires.idle c.loop-message.invariant.follows c.in-Some.ensures.taken
+    c.requires.graph.within c.requires.idle c.loop-message.invariant.follows (c.in-Some.ensures.taken c.args.choices.now
+    (next_is c.args.choices.now c.loop-message.left c.loop-message.progress.going.done c.next.result
+    c.loop-message.invariant.left c.next.ensures.first))
     c.in_ok-deliver.ensures.ok.hint c.in_ok-deliver.ensures.ok.fit c.deliver.new.self c.in_ok-deliver.ensures.ok.is c.requires.few
 
 -- the hints are kept where a restart runs out of memory
@@ -64,7 +76,9 @@ returns-in_err-restart_if_due-2-clause-kept g c =
 pub loop-message-smaller : goal.loop-message-smaller
 loop-message-smaller g c =
     taken_falls c.args.graph.now c.args.initiator c.args.choices.now c.args.restarts.now c.loop-message.progress c.take.new.self c.in-Some.message
-    c.requires.graph.within c.requires.idle c.loop-message.invariant.follows c.in-Some.ensures.taken
+    c.requires.graph.within c.requires.idle c.loop-message.invariant.follows (c.in-Some.ensures.taken c.args.choices.now
+    (next_is c.args.choices.now c.loop-message.left c.loop-message.progress.going.done c.next.result
+    c.loop-message.invariant.left c.next.ensures.first))
     c.in_ok-deliver.ensures.ok.hint c.in_ok-deliver.ensures.ok.fit c.deliver.new.self c.in_ok-deliver.ensures.ok.is
     c.restart_if_due-in-Some.new.self c.in_ok-restart_if_due-2.ensures.ok c.requires.few
 
@@ -72,15 +86,27 @@ loop-message-smaller g c =
 pub loop-message-preserved : goal.loop-message-preserved
 loop-message-preserved g c = record {
   follows = taken_follows c.args.graph.now c.args.initiator c.args.choices.now c.args.restarts.now c.loop-message.progress c.take.new.self c.in-Some.message
-      c.requires.graph.within c.requires.idle c.loop-message.invariant.follows c.in-Some.ensures.taken
+      c.requires.graph.within c.requires.idle c.loop-message.invariant.follows (c.in-Some.ensures.taken c.args.choices.now
+      (next_is c.args.choices.now c.loop-message.left c.loop-message.progress.going.done c.next.result
+      c.loop-message.invariant.left c.next.ensures.first))
       c.in_ok-deliver.ensures.ok.hint c.in_ok-deliver.ensures.ok.fit c.deliver.new.self c.in_ok-deliver.ensures.ok.is
       c.restart_if_due-in-Some.new.self c.in_ok-restart_if_due-2.ensures.ok;
+  left = next_left c.args.choices.now c.loop-message.left c.next.new.self c.loop-message.progress.going.done c.restart_if_due-in-Some.new.self.going.done
+      c.loop-message.invariant.left c.next.ensures.rest
+      (taken_done c.args.graph.now c.args.initiator c.args.choices.now c.args.restarts.now c.loop-message.progress c.take.new.self c.in-Some.message
+      c.requires.graph.within c.requires.idle c.loop-message.invariant.follows (c.in-Some.ensures.taken c.args.choices.now
+      (next_is c.args.choices.now c.loop-message.left c.loop-message.progress.going.done c.next.result
+      c.loop-message.invariant.left c.next.ensures.first))
+      c.in_ok-deliver.ensures.ok.hint c.in_ok-deliver.ensures.ok.fit c.deliver.new.self c.in_ok-deliver.ensures.ok.is
+      c.restart_if_due-in-Some.new.self c.in_ok-restart_if_due-2.ensures.ok);
   kept = g.met.H.Hints.keeps_on c.args.hints.now c.loop-message.hints c.deliver.new.hints
       c.loop-message.invariant.kept c.deliver.ensures.kept;
   silent = λ q.
       subst (λ (xs : List Delivery). HasNoHints xs)
       (sym (taken_log c.args.graph.now c.args.initiator c.args.choices.now c.args.restarts.now c.loop-message.progress c.take.new.self c.in-Some.message
-      c.requires.graph.within c.requires.idle c.loop-message.invariant.follows c.in-Some.ensures.taken
+      c.requires.graph.within c.requires.idle c.loop-message.invariant.follows (c.in-Some.ensures.taken c.args.choices.now
+      (next_is c.args.choices.now c.loop-message.left c.loop-message.progress.going.done c.next.result
+      c.loop-message.invariant.left c.next.ensures.first))
       c.in_ok-deliver.ensures.ok.hint c.in_ok-deliver.ensures.ok.fit c.deliver.new.self c.in_ok-deliver.ensures.ok.is
       c.restart_if_due-in-Some.new.self c.in_ok-restart_if_due-2.ensures.ok))
       (no_hints_on c.loop-message.progress.log (record { message = c.in-Some.message; hint = c.in_ok-deliver.ensures.ok.hint })
@@ -93,7 +119,9 @@ loop-message-preserved g c = record {
 pub returns-clause-legal : goal.returns-clause-legal
 returns-clause-legal g c =
     finished c.args.graph.now c.args.initiator c.args.choices.now c.args.restarts.now c.loop-message.progress c.take.new.self c.finish.result.0
-    c.requires.graph.within c.requires.idle c.loop-message.invariant.follows c.in_default.ensures.taken c.finish.ensures.log
+    c.requires.graph.within c.requires.idle c.loop-message.invariant.follows (c.in_default.ensures.taken c.args.choices.now
+    (next_is c.args.choices.now c.loop-message.left c.loop-message.progress.going.done c.next.result
+    c.loop-message.invariant.left c.next.ensures.first)) c.finish.ensures.log
 
 -- what is kept at the end tells the truth
 pub returns-clause-true_verdict : goal.returns-clause-true_verdict
@@ -101,14 +129,18 @@ returns-clause-true_verdict g c =
     run_is_true c.args.graph.now c.args.initiator c.args.choices.now c.args.restarts.now c.finish.result.0
     c.requires.graph.within c.requires.idle (ap (λ (r : Run). r.initiator) c.finish.ensures.log)
     (finished c.args.graph.now c.args.initiator c.args.choices.now c.args.restarts.now c.loop-message.progress c.take.new.self c.finish.result.0
-    c.requires.graph.within c.requires.idle c.loop-message.invariant.follows c.in_default.ensures.taken c.finish.ensures.log)
+    c.requires.graph.within c.requires.idle c.loop-message.invariant.follows (c.in_default.ensures.taken c.args.choices.now
+    (next_is c.args.choices.now c.loop-message.left c.loop-message.progress.going.done c.next.result
+    c.loop-message.invariant.left c.next.ensures.first)) c.finish.ensures.log)
 
 -- it started again no more often than it was to
 pub returns-clause-restarted : goal.returns-clause-restarted
 returns-clause-restarted g c =
     restarted_few c.args.graph.now c.args.choices.now c.args.restarts.now c.finish.result.0
     (finished c.args.graph.now c.args.initiator c.args.choices.now c.args.restarts.now c.loop-message.progress c.take.new.self c.finish.result.0
-    c.requires.graph.within c.requires.idle c.loop-message.invariant.follows c.in_default.ensures.taken c.finish.ensures.log)
+    c.requires.graph.within c.requires.idle c.loop-message.invariant.follows (c.in_default.ensures.taken c.args.choices.now
+    (next_is c.args.choices.now c.loop-message.left c.loop-message.progress.going.done c.next.result
+    c.loop-message.invariant.left c.next.ensures.first)) c.finish.ensures.log)
 
 -- who is engaged at the end is as it should be
 pub returns-clause-engaged : goal.returns-clause-engaged
@@ -116,13 +148,27 @@ returns-clause-engaged g c =
     run_engages c.args.graph.now c.args.initiator c.args.choices.now c.args.restarts.now c.finish.result.0
     c.requires.graph.within c.requires.idle (ap (λ (r : Run). r.initiator) c.finish.ensures.log)
     (finished c.args.graph.now c.args.initiator c.args.choices.now c.args.restarts.now c.loop-message.progress c.take.new.self c.finish.result.0
-    c.requires.graph.within c.requires.idle c.loop-message.invariant.follows c.in_default.ensures.taken c.finish.ensures.log)
+    c.requires.graph.within c.requires.idle c.loop-message.invariant.follows (c.in_default.ensures.taken c.args.choices.now
+    (next_is c.args.choices.now c.loop-message.left c.loop-message.progress.going.done c.next.result
+    c.loop-message.invariant.left c.next.ensures.first)) c.finish.ensures.log)
+
+-- no hint stands in it where nobody answers
+pub returns-clause-silent : goal.returns-clause-silent
+returns-clause-silent g c q =
+    subst (λ (xs : List Delivery). HasNoHints xs)
+    (sym (ap (λ (r : Run). r.log) c.finish.ensures.log
+    ∙ over_log c.args.choices.now c.loop-message.progress c.take.new.self (c.in_default.ensures.taken c.args.choices.now
+    (next_is c.args.choices.now c.loop-message.left c.loop-message.progress.going.done c.next.result
+    c.loop-message.invariant.left c.next.ensures.first))))
+    (c.loop-message.invariant.silent q)
 
 -- the network is as at first
 pub returns-clause-blank : goal.returns-clause-blank
 returns-clause-blank g c =
     cleared c.args.graph.now c.args.initiator c.args.choices.now c.args.restarts.now c.loop-message.progress c.take.new.self c.finish.result.1
-    c.requires.graph.within c.requires.idle c.loop-message.invariant.follows c.in_default.ensures.taken c.finish.ensures.network
+    c.requires.graph.within c.requires.idle c.loop-message.invariant.follows (c.in_default.ensures.taken c.args.choices.now
+    (next_is c.args.choices.now c.loop-message.left c.loop-message.progress.going.done c.next.result
+    c.loop-message.invariant.left c.next.ensures.first)) c.finish.ensures.network
 
 -- an awake initiator has the empty run
 pub returns-clause-awake : goal.returns-clause-awake
@@ -130,4 +176,6 @@ returns-clause-awake g c =
     awake_runs_nothing c.args.graph.now c.args.initiator c.args.choices.now c.args.restarts.now c.finish.result.0
     (ap (λ (r : Run). r.initiator) c.finish.ensures.log)
     (finished c.args.graph.now c.args.initiator c.args.choices.now c.args.restarts.now c.loop-message.progress c.take.new.self c.finish.result.0
-    c.requires.graph.within c.requires.idle c.loop-message.invariant.follows c.in_default.ensures.taken c.finish.ensures.log)
+    c.requires.graph.within c.requires.idle c.loop-message.invariant.follows (c.in_default.ensures.taken c.args.choices.now
+    (next_is c.args.choices.now c.loop-message.left c.loop-message.progress.going.done c.next.result
+    c.loop-message.invariant.left c.next.ensures.first)) c.finish.ensures.log)

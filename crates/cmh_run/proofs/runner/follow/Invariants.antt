@@ -1,4 +1,4 @@
-use Rattle.std.proofs.Common.{◌+◌, ◌*◌, ◌-◌, length}
+use Rattle.std.proofs.Common.{◌≡◌, ◌+◌, ◌*◌, ◌-◌, drop, length}
 use Rattle.cmh_graph.specs.Graph.{dependency_count}
 use Rattle.cmh_run.specs.Choices.{HasNoHints}
 use Rattle.cmh_run.specs.declared.TheConstants.{MAX_RESTARTS}
@@ -8,6 +8,7 @@ use Rattle.cmh_run.proofs.runner.follow.Given as goal
 abbrev pub invariant-loop-message : goal.invariant-loop-message
 invariant-loop-message g l = record {
   follows : Follows l.graph l.initiator l.choices l.restarts l.progress;
+  left : l.left ≡ drop l.progress.going.done l.choices;
   kept : g.H.Hints.keeps l.fn.hints l.hints;
   silent : g.H.Hints.is_silent l.fn.hints → HasNoHints l.progress.log;
 }
