@@ -4,10 +4,9 @@ use Rattle.std.specs.Prelude.{bytes_eq, slice_get, unwrap_or}
 use Rattle.std.specs.List.{list_any, position_or_len}
 use Rattle.cmh_dump.specs.Name.{is_among, place_of, repeats}
 use Rattle.cmh_dump.specs.Texts.{texts}
-use Rattle.cmh_dump.specs.Index.{IsFirstRepeat, AreApart, TellsRepeat, first_repeat}
+use Rattle.cmh_dump.specs.Index.{IsFirstRepeat, TellsRepeat}
 use Rattle.cmh_dump.specs.declared.index.IndexFault.{IndexFault}
 use Rattle.cmh_dump.specs.declared.index.IndexFault.TheVariants.{Repeated}
-use Rattle.cmh_dump.proofs.Faults.{none_found, least_found}
 use Rattle.cmh_dump.proofs.Keys.{any_of_texts}
 use Rattle.cmh_dump.proofs.Taken.{take-next, texts-append}
 
@@ -96,14 +95,6 @@ pub place_is : (name : List ℕ) (keys : List (Bor (List ℕ)))
 place_is name keys =
     (λ i. cond (nat_lt (position-texts name keys i) (sym (length-texts keys) i)) (Some (position-texts name keys i))
     None) ∙ ap (λ b. cond b (Some (place_of (texts keys) name)) None) (among name (texts keys))
-
--- where no name repeats, no place of a repeat is found
-pub no_repeat : (names : List (List ℕ)) → AreApart names → None ≡ first_repeat names
-no_repeat names apart = sym (none_found (repeats names) (length names) apart)
-
--- the first repeat is found
-pub repeat_found : (names : List (List ℕ)) (i : ℕ) → IsFirstRepeat names i → Some i ≡ first_repeat names
-repeat_found names i r = sym (least_found (repeats names) (length names) i r.within r.before r.repeated)
 
 -- what the index says of the name that repeats one, where a `match` found which error it is
 pub repeat_of : (all : List (List ℕ)) (e : IndexFault) (i : ℕ) → e ≡ Repeated i → TellsRepeat all e

@@ -1,5 +1,5 @@
 -- What each stage answers: from its searches to the first fault of its kinds.
-use Rattle.std.proofs.Common.{◌≡◌, ℕ, ◌<◌, ◌≤◌, List, [], ◌∷◌, Bool, true, false, not, ◌&&◌, cond, Option, Some, None, map, length, nat_lt, refl, sym, ap, ◌∙◌, subst, Bor}
+use Rattle.std.proofs.Common.{◌≡◌, ◌≢◌, ℕ, ◌<◌, ◌≤◌, List, [], ◌∷◌, Bool, true, false, not, ◌&&◌, cond, Option, Some, None, map, length, nat_lt, refl, sym, ap, ◌∙◌, subst, Bor}
 use Rattle.std.specs.Prelude.{find, position, option_map, sum_by}
 use Rattle.std.specs.List.{list_all}
 use Rattle.std.proofs.lemmas.Bool.{lt-ltb, le-ltb}
@@ -9,13 +9,14 @@ use Rattle.cmh_graph.specs.declared.TheConstants.{MAX_PROCESSES, MAX_DEPENDENCIE
 use Rattle.cmh_dump.specs.declared.TheConstants.{MAX_SITES}
 use Rattle.cmh_dump.specs.declared.entry.Entry as declared
 use Rattle.cmh_dump.specs.declared.fault.DumpFault.{DumpFault}
-use Rattle.cmh_dump.specs.declared.fault.DumpFault.TheVariants.{BadSites, RepeatedSite, TooManySites, TooManyProcesses, BadProcess, RepeatedProcess, UnknownSite, UnknownDependent, RepeatedDependent, ActiveWithDependents, TooManyDependencies, TooManyInTransit, BadInTransit, UnknownInTransit}
+use Rattle.cmh_dump.specs.declared.fault.DumpFault.TheVariants.{Memory, BadSites, RepeatedSite, TooManySites, TooManyProcesses, BadProcess, RepeatedProcess, UnknownSite, UnknownDependent, RepeatedDependent, ActiveWithDependents, TooManyDependencies, TooManyInTransit, BadInTransit, UnknownInTransit}
 use Rattle.cmh_dump.specs.Dump.{holds, first_of, each_site, each_process, each_dependent, each_transit}
 use Rattle.cmh_dump.specs.Entry.{sites, processes, transits, entries, names, is_process, is_active_state, is_pair}
 use Rattle.cmh_dump.specs.Index.{IsFirstRepeat, AreApart, first_repeat}
 use Rattle.cmh_dump.specs.Name.{is_name, is_among}
 use Rattle.cmh_dump.specs.Read.{entry_view, first_pair, site_faults, process_faults, name_faults, entry_faults, transit_faults}
-use Rattle.cmh_dump.specs.Texts.{texts}
+use Rattle.cmh_dump.specs.Places.{first_unknown}
+use Rattle.cmh_dump.specs.Texts.{texts, value_texts}
 use Rattle.cmh_dump.specs.Tree.{texts_of}
 use Rattle.cmh_dump.proofs.Trees.{map-map}
 use Rattle.cmh_dump.proofs.Searches.{first_here, first_later, alone, bad_sites, repeated_site, sites_apart, bad_processes, repeated_process, names_apart, unknown_sites, unknown_dependents, repeated_dependents, active_with_dependents, dependent_total_is, bad_transits, unknown_transits}
@@ -145,16 +146,16 @@ module _ (d : Data) (es : List declared.Entry) (seen : map entry_view es ≡ ent
   unknown_site = position (λ e. not (is_among site_names e.site.now)) es
 
   abbrev unknown_dependent : Option (ℕ × ℕ)
-  unknown_dependent = first_pair (λ e. position (λ name. not (is_among process_names name.now)) e.dependents.items) 0 es
+  unknown_dependent = first_pair (λ e. first_unknown process_names e.dependents.now) 0 es
 
   abbrev repeated_dependent : Option (ℕ × ℕ)
-  repeated_dependent = first_pair (λ e. first_repeat (texts e.dependents.items)) 0 es
+  repeated_dependent = first_pair (λ e. first_repeat (value_texts e.dependents.now)) 0 es
 
   abbrev active : Option ℕ
-  active = position (λ e. is_active_state e.state && nat_lt 0 (length e.dependents.items)) es
+  active = position (λ e. is_active_state e.state && nat_lt 0 (length e.dependents.now)) es
 
   abbrev total : ℕ
-  total = sum_by (λ e. length e.dependents.items) es
+  total = sum_by (λ e. length e.dependents.now) es
 
   -- the kinds from one of them on
   abbrev from_total : List (List DumpFault)
@@ -189,6 +190,14 @@ module _ (d : Data) (es : List declared.Entry) (seen : map entry_view es ≡ ent
       sites_known (Some (UnknownDependent i j)) h
       (first_here (holds d) (each_dependent d UnknownDependent) from_repeats _ (UnknownDependent i j)
       (unknown_dependents d es seen process_names are_names) (ap (option_map (λ p. UnknownDependent p.0 p.1)) k))
+
+  -- the same of a fault that tells it, if it is no want of memory
+  pub dependent_told : (e : DumpFault) → unknown_site ≡ None
+      → (e ≢ Memory → (i j : ℕ) × (e ≡ UnknownDependent i j) × (unknown_dependent ≡ Some (i, j))) → e ≢ Memory
+      → first_of (holds d) (entry_faults d) ≡ Some e
+  dependent_told e h told other =
+      let t = told other in
+      dependent_unknown t.0 t.1 h t.3 ∙ ap Some (sym t.2)
 
   -- where all dependents are known too, the kinds after them decide
   dependents_known : (r : Option DumpFault) → unknown_site ≡ None → unknown_dependent ≡ None

@@ -12,6 +12,7 @@ pub mod Members
 pub mod Order
 pub mod Pairs
 pub mod Places
+pub mod Repeating
 pub mod Searches
 pub mod Stages
 pub mod Table

@@ -1,8 +1,10 @@
--- Loops over rows: what is left of them decides.
-use Rattle.std.proofs.Common.{◌≡◌, ℕ, zero, suc, ◌+◌, ◌<◌, ◌≤◌, List, [], ◌∷◌, true, false, Option, Some, None, length, get_or, drop, nat_lt, refl, sym, ap, ◌∙◌, arith, add-one, drop-cons}
-use Rattle.std.specs.Prelude.{option_map, sum_by}
+-- Loops over lists and rows: what is left of them decides.
+use Rattle.std.proofs.Common.{◌≡◌, ℕ, zero, suc, ◌+◌, ◌<◌, ◌≤◌, List, [], ◌∷◌, Bool, true, false, not, ◌&&◌, cond, Option, Some, None, length, get_or, drop, nat_lt, refl, sym, ap, ◌∙◌, arith, add-one, drop-cons}
+use Rattle.std.specs.Prelude.{option_map, position, sum_by}
+use Rattle.std.specs.List.{list_all, position_from}
 use Rattle.std.specs.Option.{option_or}
 use Rattle.std.proofs.lemmas.Bool.{lt-ltb, le-ltb}
+use Rattle.std.proofs.lemmas.Iterator.Adapters.{position_from-zero}
 use Rattle.std.proofs.lemmas.List.Sums.{sum_by-cons}
 use Rattle.cmh_dump.specs.Read.{first_pair}
 
@@ -17,6 +19,56 @@ drop_all [] zero le = refl
 drop_all [] (suc i) le = refl
 drop_all (y ∷ ys) zero le = absurd (omega (arith, le))
 drop_all (y ∷ ys) (suc i) le = drop_all ys i (omega (arith, le))
+
+-- neither a row nor those after it have what is searched, where all have none
+pub neither_row : (i : ℕ) (o : Option ℕ) (rest : Option (ℕ × ℕ)) → option_or (option_map (λ j. (i, j)) o) rest ≡ None
+    → (o ≡ None) × (rest ≡ None)
+neither_row i None rest h = (refl, h)
+neither_row i (Some j) rest h = absurd cc
+
+-- where no element fails a test from a place on, all of them pass
+all_from : {Y : Type 0} (test : Y → Bool) (i : ℕ) (ys : List Y) → position_from (λ y. not (test y)) i ys ≡ None
+    → list_all test ys ≡ true
+all_from test i [] h = refl
+all_from test i (y ∷ ys) h = by (test y) h (all_from test (i + 1) ys)
+  where
+    by : (b : Bool) → cond (not b) (Some i) (position_from (λ y. not (test y)) (i + 1) ys) ≡ None
+        → (position_from (λ y. not (test y)) (i + 1) ys ≡ None → list_all test ys ≡ true)
+        → (b && list_all test ys) ≡ true
+    by true e later = later e
+    by false e later = absurd cc
+
+-- where no element fails a test, all of them pass
+pub all_pass : {Y : Type 0} (test : Y → Bool) (ys : List Y) → position (λ y. not (test y)) ys ≡ None
+    → list_all test ys ≡ true
+all_pass test ys h = all_from test 0 ys (sym (position_from-zero (λ y. not (test y)) ys) ∙ h)
+
+module _ {Y : Type 0} (bad : Y → Bool) (ys : List Y) where
+  -- the first bad element is the first of those that are left
+  abbrev pub FirstIsLeft : ℕ → Type 0
+  FirstIsLeft i = position bad ys ≡ position_from bad i (drop i ys)
+
+  -- at the start all are left
+  pub all_left : FirstIsLeft 0
+  all_left = position_from-zero bad ys
+
+  -- a bad element is the first
+  pub first_found : (i : ℕ) (y : Y) → i < length ys → y ≡ get_or ys i y → bad y ≡ true → FirstIsLeft i
+      → position bad ys ≡ Some i
+  first_found i y lt is here left =
+      left ∙ ap (position_from bad i) (drop_next ys i y lt is)
+      ∙ ap (λ b. cond b (Some i) (position_from bad (i + 1) (drop (i + 1) ys))) here
+
+  -- another is passed over
+  pub first_passed : (i : ℕ) (y : Y) → i < length ys → y ≡ get_or ys i y → bad y ≡ false → FirstIsLeft i
+      → FirstIsLeft (i + 1)
+  first_passed i y lt is here left =
+      left ∙ ap (position_from bad i) (drop_next ys i y lt is)
+      ∙ ap (λ b. cond b (Some i) (position_from bad (i + 1) (drop (i + 1) ys))) here
+
+  -- at the end there is none
+  pub none_left : (i : ℕ) → length ys ≤ i → FirstIsLeft i → position bad ys ≡ None
+  none_left i le left = left ∙ ap (position_from bad i) (drop_all ys i le)
 
 module _ {Y : Type 0} (search : Y → Option ℕ) (ys : List Y) where
   -- what the search finds in the rows that are left is what it finds

@@ -10,7 +10,7 @@ use Rattle.cmh_dump.specs.Name.{is_among, place_of}
 use Rattle.cmh_dump.proofs.Indexed.{among}
 
 -- the first place of a list that passes a test is within it where one passes
-first_within : {X : Type 0} (test : X → Bool) (xs : List X) → list_any test xs ≡ true
+pub first_within : {X : Type 0} (test : X → Bool) (xs : List X) → list_any test xs ≡ true
     → position_or_len test xs < length xs
 first_within test [] e = absurd cc
 first_within test (x ∷ xs) e = by (test x) (first_within test xs) e

@@ -4,6 +4,7 @@ pub mod Fault
 pub mod FirstFault
 pub mod Index
 pub mod Name
+pub mod Places
 pub mod Read
 pub mod Source
 pub mod Texts

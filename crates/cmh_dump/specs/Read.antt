@@ -12,7 +12,7 @@ use Rattle.cmh_dump.specs.declared.fault.DumpFault.TheVariants.{Memory, BadTop, 
 use Rattle.cmh_dump.specs.Dump.{holds, first_of, graph_of, each_site, each_process, each_dependent, each_transit}
 use Rattle.cmh_dump.specs.Entry.{Entry, sites, entries}
 use Rattle.cmh_dump.specs.Name.{place_of, nth}
-use Rattle.cmh_dump.specs.Texts.{texts}
+use Rattle.cmh_dump.specs.Texts.{value_texts}
 use Rattle.cmh_dump.specs.Tree.{texts_of}
 
 -- a process as it is written, without where it lies in memory
@@ -21,7 +21,7 @@ entry_view e = record {
   name = e.name.now;
   site = e.site.now;
   state = e.state;
-  dependents = texts e.dependents.items;
+  dependents = value_texts e.dependents.now;
 }
 
 -- the first row at which the search answers, and its answer, where the rows are counted from i

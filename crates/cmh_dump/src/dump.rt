@@ -8,8 +8,7 @@ ghost use Rattle.cmh_dump.specs.Texts.{texts};
 ghost use Rattle.serde_json.specs.View.{view};
 
 use crate::entry::Entry;
-use crate::judge::{judge_entries, judge_top, read_names, read_processes, read_sites};
-use crate::parts::parts_of;
+use crate::judge::{judge_top, link_entries, read_names, read_processes, read_sites};
 use crate::transit::read_in_transit;
 use crate::tree::tree_of;
 use crate::{DumpFault, MAX_BYTES};
@@ -35,9 +34,8 @@ fn read_linked(
         → texts names.now.keys ≡ names_lem (view tree.now)
         → Builds (view tree.now) (faults_from_entries (view tree.now)) result }
 {
-    judge_entries(alloc, entries, sites, names)?;
+    let parts = link_entries(alloc, entries, sites, names)?;
     let in_transit = read_in_transit(alloc, tree, names)?;
-    let parts = parts_of(alloc, entries, sites, names)?;
     Ok((parts, in_transit))
 }
 

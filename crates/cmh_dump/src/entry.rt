@@ -1,13 +1,14 @@
 //! Processes as they are written: all by names.
 
-ghost use Rattle.std.specs.Prelude.{◌≡◌, not, map, position, IfOk};
+ghost use Rattle.std.specs.Prelude.{◌≡◌, not, map, position, IfOk, if◌then◌else◌};
 ghost use Rattle.serde_json.specs.View.{view};
+ghost use Rattle.cmh_graph.specs.declared.part.State.TheVariants.{Idle, Active};
 ghost use Rattle.cmh_dump.specs.Entry.{is_active as is_active_lem, is_idle as is_idle_lem, is_process as is_process_lem, has_dependents as has_dependents_lem, entry_of as entry_of_lem};
 ghost use Rattle.cmh_dump.specs.Read.{entry_view};
 ghost use Rattle.cmh_dump.specs.Texts.{texts};
 
 use crate::names::{are_names_at, is_name};
-use crate::tree::{has_array, has_keys, has_member, text_at, texts_at};
+use crate::tree::{entries_at, has_array, has_keys, has_member, text_at};
 use cmh_graph::State;
 use serde_json::Value;
 use std::alloc::{AllocError, Global};
@@ -18,7 +19,7 @@ pub(crate) struct Entry<'v> {
     pub(crate) name: &'v str,
     pub(crate) site: &'v str,
     pub(crate) state: State,
-    pub(crate) dependents: Vec<&'v str>,
+    pub(crate) dependents: &'v [Value],
 }
 
 fn is_active(process: &Value) -> bool
@@ -44,22 +45,27 @@ fn has_dependents(process: &Value) -> bool
     }
 }
 
-/// The process as it is written, without a look at what is wrong with it.
-pub(crate) fn entry_of<'v>(alloc: Global, process: &'v Value) -> Result<Entry<'v>, AllocError>
-    ensures { IfOk result (λ e. entry_view e ≡ entry_of_lem (view process.now)) }
+/// A state that is not `active` reads as idle.
+fn state_of(process: &Value) -> State
+    ensures { result ≡ (if is_active_lem (view process.now) then Active else Idle) }
 {
-    let dependents = texts_at(alloc, process, "dependents")?;
-    let state = if is_active(process) {
+    if is_active(process) {
         State::Active
     } else {
         State::Idle
-    };
-    Ok(Entry {
+    }
+}
+
+/// The process as it is written, without a look at what is wrong with it.
+fn entry_of(process: &Value) -> Entry<'_>
+    ensures { entry_view result ≡ entry_of_lem (view process.now) }
+{
+    Entry {
         name: text_at(process, "name"),
         site: text_at(process, "site"),
-        state,
-        dependents,
-    })
+        state: state_of(process),
+        dependents: entries_at(process, "dependents"),
+    }
 }
 
 /// The processes as they are written.
@@ -72,7 +78,7 @@ pub(crate) fn entries_of<'v>(
 {
     let mut entries = Vec::new(alloc);
     for process in processes {
-        entries.push(entry_of(alloc, process)?)?;
+        entries.push(entry_of(process))?;
     }
     Ok(entries)
 }

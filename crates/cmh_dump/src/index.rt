@@ -1,12 +1,16 @@
 //! An index of names: each name by its place.
 
-ghost use Rattle.std.specs.Prelude.{◌≡◌, ◌<◌, ◌^◌, not, length, position, Some, None, IfOk, if◌then◌else◌};
-ghost use Rattle.cmh_dump.specs.Index.{IndexOrRepeat, first_repeat as first_repeat_lem};
+ghost use Rattle.std.specs.Prelude.{◌≡◌, ◌<◌, ◌^◌, length, Some, None, if◌then◌else◌};
+ghost use Rattle.cmh_dump.specs.Index.{IndexOrRepeat};
 ghost use Rattle.cmh_dump.specs.Name.{is_among, place_of as place_of_lem};
+ghost use Rattle.cmh_dump.specs.Places.{PlacesOrUnknown};
 ghost use Rattle.cmh_dump.specs.Texts.{texts};
 ghost use Rattle.cmh_dump.specs.declared.index.IndexFault.TheVariants.{Memory};
+ghost use Rattle.cmh_dump.specs.declared.index.PlaceFault.TheVariants.{Memory as NoMemory};
 
+use crate::tree::text_in;
 use indexmap::IndexSet;
+use serde_json::Value;
 use std::alloc::{AllocError, AllocFailed, Global};
 
 /// Why names have no index.
@@ -22,6 +26,30 @@ impl<T: Drop> From<AllocFailed<T>> for IndexFault {
 
     fn from(_e: AllocFailed<T>) -> IndexFault {
         IndexFault::Memory
+    }
+}
+
+/// Why values have no places in an index.
+#[derive(Debug, Drop)]
+pub(crate) enum PlaceFault {
+    Memory,
+    /// The value at this place is no name of the index.
+    Unknown(usize),
+}
+
+impl From<AllocError> for PlaceFault {
+    ghost from_gives = { λ _ e. e ≡ NoMemory };
+
+    fn from(_e: AllocError) -> PlaceFault {
+        PlaceFault::Memory
+    }
+}
+
+impl<T: Drop> From<AllocFailed<T>> for PlaceFault {
+    ghost from_gives = { λ _ e. e ≡ NoMemory };
+
+    fn from(_e: AllocFailed<T>) -> PlaceFault {
+        PlaceFault::Memory
     }
 }
 
@@ -68,21 +96,22 @@ pub(crate) fn place_of(index: &IndexSet<&str>, name: &str) -> u32
     }
 }
 
-/// The place among the names of the first that is not in the index.
-pub(crate) fn first_unknown(index: &IndexSet<&str>, names: &[&str]) -> Option<usize>
-    ensures { result ≡ position (λ name. not (is_among (texts index.now.keys) name.now)) names.now }
+/// The places of the names that stand as values, or where the first stands that is none of them.
+/// Each is looked up once.
+pub(crate) fn places_of(
+    alloc: Global,
+    index: &IndexSet<&str>,
+    values: &[Value],
+) -> Result<Vec<u32>, PlaceFault>
+    requires { length (texts index.now.keys) < 2 ^ 32 }
+    ensures { PlacesOrUnknown (texts index.now.keys) values.now result }
 {
-    names.iter().position(|name| !is_known(index, name))
-}
-
-/// The place of the first name that equals an earlier one.
-#[tactic(auto, using(crate::proofs::Indexed::no_repeat, crate::proofs::Indexed::repeat_found))]
-pub(crate) fn first_repeat(alloc: Global, names: &[&str]) -> Result<Option<usize>, AllocError>
-    ensures { IfOk result (λ o. o ≡ first_repeat_lem (texts names.now)) }
-{
-    match index_of(alloc, names) {
-        Ok(_) => Ok(None),
-        Err(IndexFault::Memory) => Err(AllocError),
-        Err(IndexFault::Repeated(i)) => Ok(Some(i)),
+    let mut places = Vec::with_capacity(alloc, values.len())?;
+    for (j, value) in values.iter().enumerate() {
+        let Some(place) = place_in(index, text_in(value)) else {
+            return Err(PlaceFault::Unknown(j));
+        };
+        places.push(place as u32)?;
     }
+    Ok(places)
 }

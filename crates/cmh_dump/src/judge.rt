@@ -1,25 +1,27 @@
 //! The stages in which a tree is judged, each over some kinds of faults.
 
-ghost use Rattle.std.specs.Prelude.{◌≡◌, ◌≤◌, ◌&&◌, not, [], map, sum_by, length, position, nat_lt, vec_len, IfOk};
+ghost use Rattle.std.specs.Prelude.{◌≡◌, ◌<◌, ◌≤◌, ◌^◌, ◌&&◌, not, [], map, sum_by, length, position, nat_lt, vec_len, IfOk};
 ghost use Rattle.serde_json.specs.Data.{Data};
 ghost use Rattle.serde_json.specs.View.{view};
+ghost use Rattle.cmh_graph.specs.Build.{process_of};
 ghost use Rattle.cmh_dump.specs.Dump.{is_top as is_top_lem, top_keys};
 ghost use Rattle.cmh_dump.specs.Entry.{is_version as is_version_lem, sites as sites_lem, entries as entries_lem, names as names_lem, is_active_state};
-ghost use Rattle.cmh_dump.specs.Index.{first_repeat as first_repeat_lem};
 ghost use Rattle.cmh_dump.specs.Name.{is_among};
-ghost use Rattle.cmh_dump.specs.Read.{Judges, entry_view, first_pair, top_faults, site_faults, process_faults, name_faults, entry_faults};
+ghost use Rattle.cmh_dump.specs.Read.{Judges, entry_view, process_by, top_faults, site_faults, process_faults, name_faults, entry_faults};
 ghost use Rattle.cmh_dump.specs.Texts.{texts};
 ghost use Rattle.cmh_dump.specs.Tree.{has_keys as has_keys_lem};
 
 use crate::entry::{Entry, entries_of, first_bad_process, names_of};
-use crate::index::{IndexFault, first_repeat, first_unknown, index_of, is_known};
+use crate::index::{IndexFault, index_of, is_known};
 use crate::names::first_bad_name;
+use crate::parts::parts_of;
+use crate::repeats::first_repeated_dependent;
 use crate::tree::{entries_at, has_array, has_keys, is_number_at, texts_at};
 use crate::{DumpFault, MAX_SITES};
-use cmh_graph::{MAX_DEPENDENCIES, MAX_PROCESSES, State};
+use cmh_graph::{MAX_DEPENDENCIES, MAX_PROCESSES, Part, State};
 use indexmap::IndexSet;
 use serde_json::Value;
-use std::alloc::{AllocError, Global};
+use std::alloc::Global;
 
 fn is_version(tree: &Value, number: u64) -> bool
     ensures { result ≡ is_version_lem number (view tree.now) }
@@ -128,40 +130,10 @@ fn first_unknown_site(entries: &[Entry<'_>], sites: &IndexSet<&str>) -> Option<u
         .position(|entry| !is_known(sites, entry.site))
 }
 
-/// The first process with a dependent that names no process, and the place of that dependent.
-fn first_unknown_dependent(entries: &[Entry<'_>], names: &IndexSet<&str>) -> Option<(usize, usize)>
-    ensures { result ≡ first_pair
-        (λ e. position (λ name. not (is_among (texts names.now.keys) name.now)) e.dependents.items)
-        0 entries.now }
-{
-    for (i, entry) in entries.iter().enumerate() {
-        if let Some(j) = first_unknown(names, &entry.dependents) {
-            return Some((i, j));
-        }
-    }
-    None
-}
-
-/// The first process with a dependent that equals an earlier one, and the place of that dependent.
-fn first_repeated_dependent(
-    alloc: Global,
-    entries: &[Entry<'_>],
-) -> Result<Option<(usize, usize)>, AllocError>
-    ensures { IfOk result (λ o.
-        o ≡ first_pair (λ e. first_repeat_lem (texts e.dependents.items)) 0 entries.now) }
-{
-    for (i, entry) in entries.iter().enumerate() {
-        if let Some(j) = first_repeat(alloc, &entry.dependents)? {
-            return Ok(Some((i, j)));
-        }
-    }
-    Ok(None)
-}
-
 /// The place of the first active process with dependents.
 fn first_active_with_dependents(entries: &[Entry<'_>]) -> Option<usize>
     ensures { result ≡ position
-        (λ e. is_active_state e.state && nat_lt 0 (length e.dependents.items)) entries.now }
+        (λ e. is_active_state e.state && nat_lt 0 (length e.dependents.now)) entries.now }
 {
     entries.iter().position(|entry| matches!(entry.state, State::Active)
         && !entry.dependents.is_empty())
@@ -169,7 +141,7 @@ fn first_active_with_dependents(entries: &[Entry<'_>]) -> Option<usize>
 
 fn has_too_many_dependents(entries: &[Entry<'_>]) -> bool
     ensures { result ≡ nat_lt MAX_DEPENDENCIES
-        (sum_by (λ e. length e.dependents.items) entries.now) }
+        (sum_by (λ e. length e.dependents.now) entries.now) }
 {
     let mut room = MAX_DEPENDENCIES;
     for entry in entries {
@@ -181,24 +153,27 @@ fn has_too_many_dependents(entries: &[Entry<'_>]) -> bool
     false
 }
 
-/// Judges the processes beside the sites and one another.
-pub(crate) fn judge_entries(
+/// The processes by indices, judged beside the sites and one another.
+pub(crate) fn link_entries(
     alloc: Global,
     entries: &[Entry<'_>],
     sites: &IndexSet<&str>,
     names: &IndexSet<&str>,
-) -> Result<(), DumpFault>
-    ensures { (d : Data) → map entry_view entries.now ≡ entries_lem d
+) -> Result<Vec<Part>, DumpFault>
+    requires few_sites { length (texts sites.now.keys) < 2 ^ 32 }
+    requires few_names { length (texts names.now.keys) < 2 ^ 32 }
+    ensures judges { (d : Data) → map entry_view entries.now ≡ entries_lem d
         → texts sites.now.keys ≡ sites_lem d → texts names.now.keys ≡ names_lem d
         → Judges d (entry_faults d) result }
+    ensures made { IfOk result (λ parts. map process_of parts.items
+        ≡ map (λ e. process_by (texts sites.now.keys) (texts names.now.keys) (entry_view e))
+        entries.now) }
 {
     if let Some(i) = first_unknown_site(entries, sites) {
         return Err(DumpFault::UnknownSite(i));
     }
-    if let Some((i, j)) = first_unknown_dependent(entries, names) {
-        return Err(DumpFault::UnknownDependent(i, j));
-    }
-    if let Some((i, j)) = first_repeated_dependent(alloc, entries)? {
+    let parts = parts_of(alloc, entries, sites, names)?;
+    if let Some((i, j)) = first_repeated_dependent(alloc, &parts, names.len())? {
         return Err(DumpFault::RepeatedDependent(i, j));
     }
     if let Some(i) = first_active_with_dependents(entries) {
@@ -207,5 +182,5 @@ pub(crate) fn judge_entries(
     if has_too_many_dependents(entries) {
         return Err(DumpFault::TooManyDependencies);
     }
-    Ok(())
+    Ok(parts)
 }

@@ -10,6 +10,7 @@ mod judge;
 pub mod laws;
 mod names;
 mod parts;
+mod repeats;
 mod source;
 #[cfg(test)]
 mod tests;

@@ -1,43 +1,28 @@
 //! The parts of the wait graph that a dump means.
 
-ghost use Rattle.std.specs.Prelude.{◌≡◌, ◌<◌, ◌^◌, length, map, IfOk};
-ghost use Rattle.cmh_graph.specs.Build.{process_of as process_of_lem};
-ghost use Rattle.cmh_dump.specs.Name.{place_of as place_of_lem};
-ghost use Rattle.cmh_dump.specs.Read.{process_by, entry_view};
+ghost use Rattle.std.specs.Prelude.{◌<◌, ◌^◌, length};
+ghost use Rattle.cmh_dump.specs.Places.{PartOrUnknown, PartsOrUnknown};
 ghost use Rattle.cmh_dump.specs.Texts.{texts};
 
+use crate::DumpFault;
 use crate::entry::Entry;
-use crate::index::place_of;
+use crate::index::{PlaceFault, place_of, places_of};
 use cmh_graph::Part;
 use indexmap::IndexSet;
-use std::alloc::{AllocError, Global};
+use std::alloc::Global;
 
-/// The places of the names.
-fn places_of(alloc: Global, index: &IndexSet<&str>, names: &[&str]) -> Result<Vec<u32>, AllocError>
-    requires { length (texts index.now.keys) < 2 ^ 32 }
-    ensures { IfOk result (λ v.
-        v.items ≡ map (λ name. place_of_lem (texts index.now.keys) name.now) names.now) }
-{
-    let mut places = Vec::new(alloc);
-    for name in names {
-        places.push(place_of(index, name))?;
-    }
-    Ok(places)
-}
-
-/// A process by indices.
+/// A process by indices, or the place of its first dependent that names no process.
 fn part_of(
     alloc: Global,
     entry: &Entry<'_>,
     sites: &IndexSet<&str>,
     names: &IndexSet<&str>,
-) -> Result<Part, AllocError>
+) -> Result<Part, PlaceFault>
     requires few_sites { length (texts sites.now.keys) < 2 ^ 32 }
     requires few_names { length (texts names.now.keys) < 2 ^ 32 }
-    ensures { IfOk result (λ part. process_of_lem part
-        ≡ process_by (texts sites.now.keys) (texts names.now.keys) (entry_view entry.now)) }
+    ensures { PartOrUnknown (texts sites.now.keys) (texts names.now.keys) entry.now result }
 {
-    let dependents = places_of(alloc, names, &entry.dependents)?;
+    let dependents = places_of(alloc, names, entry.dependents)?;
     let name = String::from_str(alloc, entry.name)?;
     Ok(Part {
         name,
@@ -47,22 +32,24 @@ fn part_of(
     })
 }
 
-/// All processes by indices.
+/// All processes by indices, or the first dependent that names no process.
 pub(crate) fn parts_of(
     alloc: Global,
     entries: &[Entry<'_>],
     sites: &IndexSet<&str>,
     names: &IndexSet<&str>,
-) -> Result<Vec<Part>, AllocError>
+) -> Result<Vec<Part>, DumpFault>
     requires few_sites { length (texts sites.now.keys) < 2 ^ 32 }
     requires few_names { length (texts names.now.keys) < 2 ^ 32 }
-    ensures { IfOk result (λ parts. map process_of_lem parts.items
-        ≡ map (λ e. process_by (texts sites.now.keys) (texts names.now.keys) (entry_view e))
-        entries.now) }
+    ensures { PartsOrUnknown (texts sites.now.keys) (texts names.now.keys) entries.now result }
 {
-    let mut parts = Vec::new(alloc);
-    for entry in entries {
-        parts.push(part_of(alloc, entry, sites, names)?)?;
+    let mut parts = Vec::with_capacity(alloc, entries.len())?;
+    for (i, entry) in entries.iter().enumerate() {
+        match part_of(alloc, entry, sites, names) {
+            Ok(part) => parts.push(part)?,
+            Err(PlaceFault::Memory) => return Err(DumpFault::Memory),
+            Err(PlaceFault::Unknown(j)) => return Err(DumpFault::UnknownDependent(i, j)),
+        }
     }
     Ok(parts)
 }
