@@ -32,7 +32,7 @@ pub fn read_all<S: Source>(alloc: Global, source: &mut S) -> Result<Vec<u8>, Dum
     ensures at_end { OnOk result (IsAtEnd (S.remaining source.new)) }
 {
     let mut bytes = Vec::new(alloc);
-    let mut chunk = [0u8; 4096];
+    let mut chunk = [0u8; 65_536];
     while bytes.len() <= MAX_BYTES {
         let room = (MAX_BYTES + 1 - bytes.len()).min(chunk.len());
         let Ok(count) = source.fill(&mut chunk[..room]) else {
