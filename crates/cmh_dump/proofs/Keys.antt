@@ -1,22 +1,16 @@
--- The keys of an object, from those of the map that holds it.
-use Rattle.std.proofs.Common.{◌≡◌, ℕ, List, [], ◌∷◌, Bool, true, false, ◌&&◌, ◌||◌, Option, Some, None, map, refl, sym, ap, ◌∙◌, Bor}
-use Rattle.std.specs.Prelude.{string_bytes, is_some, bytes_eq, String, unwrap_or, option_map}
+-- The keys of an object, from those of the members that lie in memory.
+use Rattle.std.proofs.Common.{◌≡◌, ℕ, List, [], ◌∷◌, Bool, true, false, ◌&&◌, ◌||◌, Option, Some, None, refl, sym, ap, ◌∙◌, Bor}
+use Rattle.std.specs.Prelude.{is_some, bytes_eq, unwrap_or, option_map}
 use Rattle.std.specs.List.{list_all, list_any}
-use Rattle.std.specs.Global.{Global}
-use Rattle.serde_json.specs.Data.{Data, Members}
+use Rattle.json.specs.Find as json_find
+use Rattle.json.specs.Json as json
+use Rattle.json.specs.Value.{members_view}
+use Rattle.serde_json.specs.Data.{Data, Members, no_members}
 use Rattle.serde_json.specs.Find.{as_object}
-use Rattle.serde_json.specs.View.{members_of}
 use Rattle.cmh_dump.specs.Tree.{has_keys, has_key, keys_of}
 use Rattle.cmh_dump.specs.Texts.{texts}
-
--- what is no object has no keys
-pub not_object : (needed allowed : List (List ℕ)) (d : Data) → as_object d ≡ None → has_keys needed allowed d ≡ false
-not_object needed allowed d e =
-    ap
-    (λ (o : Option Members). is_some o && list_all (λ k. has_key k d) needed
-    && list_all (λ k. list_any (bytes_eq k) needed || list_any (bytes_eq k) allowed)
-    (unwrap_or (option_map keys_of o) []))
-    e
+use Rattle.cmh_dump.specs.View.{Tree, data_of, members_data}
+use Rattle.cmh_dump.proofs.Views.{written_keys, all_keys_are, object_at}
 
 -- a test of all borrows is one of all texts
 all_of_texts : (test : List ℕ → Bool) (ws : List (Bor (List ℕ)))
@@ -31,48 +25,53 @@ any_of_texts test [] = refl
 any_of_texts test (w ∷ ws) = ap (λ b. test w.now || b) (any_of_texts test ws)
 
 -- the key is one of the needed or of the allowed ones
-abbrev pub is_allowed : List (Bor (List ℕ)) → List (Bor (List ℕ)) → String Global → Bool
+abbrev pub is_allowed : List (Bor (List ℕ)) → List (Bor (List ℕ)) → List ℕ → Bool
 is_allowed needed allowed key =
-    list_any (λ k. bytes_eq (string_bytes key) k.now) needed
-    || list_any (λ k. bytes_eq (string_bytes key) k.now) allowed
+    list_any (λ k. bytes_eq key k.now) needed || list_any (λ k. bytes_eq key k.now) allowed
 
--- the keys of the map are tested as those of the members are
-only : {V : Type 0} (needed allowed : List (Bor (List ℕ))) (es : List (String Global × V)) (view : V → Data)
-    → list_all (is_allowed needed allowed) (map (λ e. e.0) es)
+-- the keys that stand in memory are tested as those that are written
+only : (needed allowed : List (Bor (List ℕ))) (es : List (Bor (List ℕ) × Tree))
+    → list_all (λ m. is_allowed needed allowed m.0.now) es
     ≡ list_all (λ k. list_any (bytes_eq k) (texts needed) || list_any (bytes_eq k) (texts allowed))
-    (keys_of (members_of (map (λ m. (m.0, view m.1)) es)))
-only needed allowed [] view = refl
-only needed allowed (e ∷ es) view =
-    λ i. (any_of_texts (bytes_eq (string_bytes e.0)) needed i || any_of_texts (bytes_eq (string_bytes e.0)) allowed i)
-    && only needed allowed es view i
+    (written_keys (members_view es))
+only needed allowed [] = refl
+only needed allowed (e ∷ es) =
+    λ i. (any_of_texts (bytes_eq e.0.now) needed i || any_of_texts (bytes_eq e.0.now) allowed i)
+    && only needed allowed es i
 
--- both tests together, over the map, are the test of the keys
-pub object_keys : {V : Type 0} (needed allowed : List (Bor (List ℕ))) (es : List (String Global × V)) (view : V → Data)
-    (d : Data) → Some (members_of (map (λ m. (m.0, view m.1)) es)) ≡ as_object d
-    → (list_all (λ k. has_key k.now d) needed && list_all (is_allowed needed allowed) (map (λ e. e.0) es))
-    ≡ has_keys (texts needed) (texts allowed) d
-object_keys needed allowed es view d e =
-    (λ i. all_of_texts (λ k. has_key k d) needed i && only needed allowed es view i)
+-- the members that the reader finds are those of the data
+members_are : (es : List (Bor (List ℕ) × Tree)) (j : json.Json) → Some (members_view es) ≡ json_find.as_object j
+    → Some (members_data (members_view es) no_members) ≡ as_object (data_of j)
+members_are es j h = ap (option_map (λ ms. members_data ms no_members)) h ∙ object_at j
+
+-- both tests together are the test of the keys
+object_keys : (needed allowed : List (Bor (List ℕ))) (es : List (Bor (List ℕ) × Tree)) (j : json.Json)
+    → Some (members_view es) ≡ json_find.as_object j
+    → (list_all (λ k. has_key k.now (data_of j)) needed && list_all (λ m. is_allowed needed allowed m.0.now) es)
+    ≡ has_keys (texts needed) (texts allowed) (data_of j)
+object_keys needed allowed es j e =
+    let test = λ (k : List ℕ). list_any (bytes_eq k) (texts needed) || list_any (bytes_eq k) (texts allowed) in
+    (λ i. all_of_texts (λ k. has_key k (data_of j)) needed i && only needed allowed es i)
+    ∙ ap (λ b. list_all (λ k. has_key k (data_of j)) (texts needed) && b) (sym (all_keys_are test (members_view es)))
     ∙ ap
-    (λ (o : Option Members). is_some o && list_all (λ k. has_key k d) (texts needed)
-    && list_all (λ k. list_any (bytes_eq k) (texts needed) || list_any (bytes_eq k) (texts allowed))
-    (unwrap_or (option_map keys_of o) []))
-    e
+    (λ (o : Option Members). is_some o && list_all (λ k. has_key k (data_of j)) (texts needed)
+    && list_all test (unwrap_or (option_map keys_of o) []))
+    (members_are es j e)
 
 -- what the two tests answer, as the code goes from the one to the other
-pub keys_then : {V : Type 0} (needed allowed : List (Bor (List ℕ))) (es : List (String Global × V)) (view : V → Data)
-    (d : Data) (each others : Bool) → each ≡ list_all (λ k. has_key k.now d) needed → each ≡ true
-    → others ≡ list_all (is_allowed needed allowed) (map (λ e. e.0) es)
-    → Some (members_of (map (λ m. (m.0, view m.1)) es)) ≡ as_object d
-    → others ≡ has_keys (texts needed) (texts allowed) d
-keys_then needed allowed es view d each others e t o h =
-    o ∙ ap (λ b. b && list_all (is_allowed needed allowed) (map (λ e. e.0) es)) (sym t ∙ e)
-    ∙ object_keys needed allowed es view d h
+pub keys_then : (needed allowed : List (Bor (List ℕ))) (es : List (Bor (List ℕ) × Tree)) (j : json.Json)
+    (each others : Bool) → each ≡ list_all (λ k. has_key k.now (data_of j)) needed → each ≡ true
+    → others ≡ list_all (λ m. is_allowed needed allowed m.0.now) es
+    → Some (members_view es) ≡ json_find.as_object j
+    → others ≡ has_keys (texts needed) (texts allowed) (data_of j)
+keys_then needed allowed es j each others e t o h =
+    o ∙ ap (λ b. b && list_all (λ m. is_allowed needed allowed m.0.now) es) (sym t ∙ e)
+    ∙ object_keys needed allowed es j h
 
 -- where the first test fails, so does the whole
-pub keys_else : {V : Type 0} (needed allowed : List (Bor (List ℕ))) (es : List (String Global × V)) (view : V → Data)
-    (d : Data) (each : Bool) → each ≡ list_all (λ k. has_key k.now d) needed → each ≡ false
-    → Some (members_of (map (λ m. (m.0, view m.1)) es)) ≡ as_object d → each ≡ has_keys (texts needed) (texts allowed) d
-keys_else needed allowed es view d each e f h =
-    f ∙ ap (λ b. b && list_all (is_allowed needed allowed) (map (λ e. e.0) es)) (sym f ∙ e)
-    ∙ object_keys needed allowed es view d h
+pub keys_else : (needed allowed : List (Bor (List ℕ))) (es : List (Bor (List ℕ) × Tree)) (j : json.Json)
+    (each : Bool) → each ≡ list_all (λ k. has_key k.now (data_of j)) needed → each ≡ false
+    → Some (members_view es) ≡ json_find.as_object j → each ≡ has_keys (texts needed) (texts allowed) (data_of j)
+keys_else needed allowed es j each e f h =
+    f ∙ ap (λ b. b && list_all (λ m. is_allowed needed allowed m.0.now) es) (sym f ∙ e)
+    ∙ object_keys needed allowed es j h

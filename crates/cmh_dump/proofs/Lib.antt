@@ -18,5 +18,6 @@ pub mod Stages
 pub mod Table
 pub mod Taken
 pub mod Trees
+pub mod Views
 pub mod WellFormed
 pub mod Whole

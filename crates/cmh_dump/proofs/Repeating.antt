@@ -9,7 +9,6 @@ use Rattle.std.proofs.lemmas.List.Folds.{list_any_at}
 use Rattle.std.proofs.lemmas.List.Sums.{passes_at_first}
 use Rattle.std.proofs.lemmas.Option.{unwrap_or-slice_get}
 use Rattle.std.proofs.lemmas.Slice.Eq.{bytes_eq-Decides}
-use Rattle.serde_json.specs.declared.value.Value.{Value}
 use Rattle.cmh_graph.specs.Build as graph
 use Rattle.cmh_graph.specs.Graph.{Process}
 use Rattle.cmh_graph.specs.Judge.{IsFirst, IsRepeat}
@@ -21,6 +20,7 @@ use Rattle.cmh_dump.specs.Name.{is_among, place_of, nth, repeats}
 use Rattle.cmh_dump.specs.Places.{first_unknown, unknown_dependent, place_repeats, first_repeated_place}
 use Rattle.cmh_dump.specs.Read.{entry_view, first_pair, process_by}
 use Rattle.cmh_dump.specs.Texts.{value_text, value_texts}
+use Rattle.cmh_dump.specs.View.{Tree}
 use Rattle.cmh_dump.proofs.Faults.{least_found, none_found, find_alike}
 use Rattle.cmh_dump.proofs.Indexed.{among}
 use Rattle.cmh_dump.proofs.Places.{first_within, same_from_places}
@@ -132,7 +132,7 @@ module _ (names : List (List ℕ)) where
       ∙ find_alike (place_repeats (map (place_of names) xs)) (repeats xs) (length xs) (repeats_alike xs h)
 
   -- where no value is unknown, all are among the names
-  none_unknown : (values : List Value) → first_unknown names values ≡ None → AreAmong (value_texts values)
+  none_unknown : (values : List Tree) → first_unknown names values ≡ None → AreAmong (value_texts values)
   none_unknown values h =
       sym (all-map (is_among names) value_text values)
       ∙ all_pass (λ v. is_among names (value_text v)) values h

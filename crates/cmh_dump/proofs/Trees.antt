@@ -1,5 +1,5 @@
 -- The tree of bytes, and the entries and texts of its arrays, from what the reader says of them.
-use Rattle.std.proofs.Common.{◌≡◌, ℕ, List, [], ◌∷◌, ◌&&◌, map, length, get_or, nat_lt, eqb, Bool, true, false, cond, Option, Some, None, refl, sym, ap, ◌∙◌}
+use Rattle.std.proofs.Common.{◌≡◌, ℕ, List, [], ◌∷◌, ◌&&◌, map, length, get_or, nat_lt, eqb, Bool, true, false, cond, Option, Some, None, refl, sym, ap, ◌∙◌, Bor}
 use Rattle.std.specs.Str.{IsUtf8, is_utf8}
 use Rattle.std.proofs.lemmas.Str.{IsUtf8-from_is_utf8, is_utf8-from_IsUtf8}
 use Rattle.std.specs.Prelude.{option_map, unwrap_or, slice_get, is_some}
@@ -37,6 +37,14 @@ list_of-items_of (d ∷ ds) = ap (λ es. d ∷ es) (list_of-items_of ds)
 pub entries_of_items : (d : Data) (ds : List Data) → Some (items_of ds) ≡ as_array d → ds ≡ entries_of d
 entries_of_items d ds e =
     sym (list_of-items_of ds) ∙ ap (λ (o : Option Items). unwrap_or (option_map list_of o) []) e
+
+-- the entries of what may be an array, as the reader gives it, or none
+pub entries_or_none : {V : Type 0} (view : V → Data) (d : Data) (r : Option (Bor (List V))) (b : Bor (List V))
+    → option_map (λ v. items_of (map view v.now)) r ≡ as_array d → b.now ≡ []
+    → map view (unwrap_or r b).now ≡ entries_of d
+entries_or_none view d None b h none =
+    ap (map view) none ∙ ap (λ (o : Option Items). unwrap_or (option_map list_of o) []) h
+entries_or_none view d (Some v) b h none = entries_of_items d (map view v.now) h
 
 -- two functions one after the other
 pub map-map : {X Y Z : Type 0} (g : Y → Z) (f : X → Y) (xs : List X) → map (λ x. g (f x)) xs ≡ map g (map f xs)

@@ -9,3 +9,4 @@ pub mod Read
 pub mod Source
 pub mod Texts
 pub mod Tree
+pub mod View

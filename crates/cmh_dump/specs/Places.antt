@@ -2,7 +2,6 @@
 use Rattle.std.specs.Prelude.{◌≡◌, ◌≢◌, ◌==◌, ℕ, Bool, List, not, map, take, find, position, length, Option, Some, None, Result, Ok, Err}
 use Rattle.std.specs.Global.{Vec}
 use Rattle.std.specs.List.{list_any}
-use Rattle.serde_json.specs.declared.value.Value.{Value}
 use Rattle.cmh_graph.specs.Build as graph
 use Rattle.cmh_graph.specs.declared.part.Part.{Part}
 use Rattle.cmh_dump.specs.declared.entry.Entry as declared
@@ -14,9 +13,10 @@ use Rattle.cmh_dump.specs.Dump.{below}
 use Rattle.cmh_dump.specs.Name.{is_among, place_of, nth}
 use Rattle.cmh_dump.specs.Read.{entry_view, first_pair, process_by}
 use Rattle.cmh_dump.specs.Texts.{value_text}
+use Rattle.cmh_dump.specs.View.{Tree}
 
 -- the place of the first value that is none of the names
-abbrev pub first_unknown : List (List ℕ) → List Value → Option ℕ
+abbrev pub first_unknown : List (List ℕ) → List Tree → Option ℕ
 first_unknown names values = position (λ v. not (is_among names (value_text v))) values
 
 -- the first process with a dependent that is none of the names, and the place of that dependent
@@ -24,12 +24,12 @@ abbrev pub unknown_dependent : List (List ℕ) → List declared.Entry → Optio
 unknown_dependent names es = first_pair (λ e. first_unknown names e.dependents.now) 0 es
 
 -- the fault tells the first value that is none of the names, if it is no want of memory
-abbrev pub TellsUnknown : List (List ℕ) → List Value → PlaceFault → Type 0
+abbrev pub TellsUnknown : List (List ℕ) → List Tree → PlaceFault → Type 0
 TellsUnknown names values NoMemory = Unit {0}
 TellsUnknown names values (Unknown j) = first_unknown names values ≡ Some j
 
 -- each value is among the names and the places are theirs, or the fault tells which is none
-abbrev pub PlacesOrUnknown : List (List ℕ) → List Value → Result (Vec ℕ) PlaceFault → Type 0
+abbrev pub PlacesOrUnknown : List (List ℕ) → List Tree → Result (Vec ℕ) PlaceFault → Type 0
 PlacesOrUnknown names values (Ok places) =
     (first_unknown names values ≡ None) × (places.items ≡ map (λ v. place_of names (value_text v)) values)
 PlacesOrUnknown names values (Err e) = TellsUnknown names values e

@@ -1,18 +1,17 @@
 -- Lists of texts: borrowed ones, and those of values.
 use Rattle.std.specs.Prelude.{ℕ, List, map}
 use Rattle.std.specs.Borrow.{Bor}
-use Rattle.serde_json.specs.View.{view}
-use Rattle.serde_json.specs.declared.value.Value.{Value}
 use Rattle.cmh_dump.specs.Tree.{text_of}
+use Rattle.cmh_dump.specs.View.{Tree, view}
 
 -- the bytes of each text
 abbrev pub texts : List (Bor (List ℕ)) → List (List ℕ)
 texts xs = map (λ x. x.now) xs
 
 -- the text of a value, or the empty one
-abbrev pub value_text : Value → List ℕ
+abbrev pub value_text : Tree → List ℕ
 value_text value = text_of (view value)
 
 -- the text of each value
-abbrev pub value_texts : List Value → List (List ℕ)
+abbrev pub value_texts : List Tree → List (List ℕ)
 value_texts values = map value_text values

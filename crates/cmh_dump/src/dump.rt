@@ -5,7 +5,7 @@ ghost use Rattle.cmh_dump.specs.Dump.{in_order, dump, dump_of_tree};
 ghost use Rattle.cmh_dump.specs.Entry.{names as names_lem};
 ghost use Rattle.cmh_dump.specs.Read.{AreRead, Builds, faults_from_entries, faults_from_names};
 ghost use Rattle.cmh_dump.specs.Texts.{texts};
-ghost use Rattle.serde_json.specs.View.{view};
+ghost use Rattle.cmh_dump.specs.View.{view};
 
 use crate::entry::Entry;
 use crate::judge::{judge_top, link_entries, read_names, read_processes, read_sites};
@@ -14,7 +14,7 @@ use crate::tree::tree_of;
 use crate::{DumpFault, MAX_BYTES};
 use cmh_graph::{GraphFault, Part, WaitGraph};
 use indexmap::IndexSet;
-use serde_json::Value;
+use json::{Scratch, Value};
 use std::alloc::Global;
 
 /// What a wait graph is built of.
@@ -23,8 +23,8 @@ type GraphParts = (Vec<Part>, Vec<(u32, u32)>);
 /// What the graph of a tree is built of, once sites, processes and their names are read.
 fn read_linked(
     alloc: Global,
-    tree: &Value,
-    entries: &[Entry<'_>],
+    tree: &Value<'_>,
+    entries: &[Entry<'_, '_>],
     sites: &IndexSet<&str>,
     names: &IndexSet<&str>,
 ) -> Result<GraphParts, DumpFault>
@@ -42,8 +42,8 @@ fn read_linked(
 /// What the graph of a tree is built of, once sites and processes are read.
 fn read_named(
     alloc: Global,
-    tree: &Value,
-    entries: &[Entry<'_>],
+    tree: &Value<'_>,
+    entries: &[Entry<'_, '_>],
     sites: &IndexSet<&str>,
 ) -> Result<GraphParts, DumpFault>
     requires few_sites { length (texts sites.now.keys) < 2 ^ 32 }
@@ -56,7 +56,7 @@ fn read_named(
 }
 
 /// What the graph of a tree is built of, or the first condition that refuses the tree.
-fn read_parts(alloc: Global, tree: &Value) -> Result<GraphParts, DumpFault>
+fn read_parts(alloc: Global, tree: &Value<'_>) -> Result<GraphParts, DumpFault>
     ensures { Builds (view tree.now) (in_order (view tree.now)) result }
 {
     judge_top(tree)?;
@@ -66,7 +66,7 @@ fn read_parts(alloc: Global, tree: &Value) -> Result<GraphParts, DumpFault>
 }
 
 /// The wait graph that a tree means, or the first condition that refuses it.
-fn read_tree(alloc: Global, tree: &Value) -> Result<WaitGraph, DumpFault>
+fn read_tree(alloc: Global, tree: &Value<'_>) -> Result<WaitGraph, DumpFault>
     ensures ok { IfOk result (λ g. dump_of_tree (view tree.now) ≡ Ok g) }
     ensures err { IfErr result (λ e. e ≢ DumpFault.Memory → dump_of_tree (view tree.now) ≡ Err e) }
 {
@@ -92,6 +92,7 @@ pub fn read_dump(alloc: Global, bytes: &[u8]) -> Result<WaitGraph, DumpFault>
     if bytes.len() > MAX_BYTES {
         return Err(DumpFault::TooLong);
     }
-    let tree = tree_of(alloc, bytes)?;
+    let mut scratch = Scratch::new(alloc);
+    let tree = tree_of(alloc, bytes, &mut scratch)?;
     read_tree(alloc, &tree)
 }

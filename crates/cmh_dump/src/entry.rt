@@ -1,7 +1,7 @@
 //! Processes as they are written: all by names.
 
 ghost use Rattle.std.specs.Prelude.{◌≡◌, not, map, position, IfOk, if◌then◌else◌};
-ghost use Rattle.serde_json.specs.View.{view};
+ghost use Rattle.cmh_dump.specs.View.{view};
 ghost use Rattle.cmh_graph.specs.declared.part.State.TheVariants.{Idle, Active};
 ghost use Rattle.cmh_dump.specs.Entry.{is_active as is_active_lem, is_idle as is_idle_lem, is_process as is_process_lem, has_dependents as has_dependents_lem, entry_of as entry_of_lem};
 ghost use Rattle.cmh_dump.specs.Read.{entry_view};
@@ -10,32 +10,32 @@ ghost use Rattle.cmh_dump.specs.Texts.{texts};
 use crate::names::{are_names_at, is_name};
 use crate::tree::{entries_at, has_array, has_keys, has_member, text_at};
 use cmh_graph::State;
-use serde_json::Value;
+use json::Value;
 use std::alloc::{AllocError, Global};
 
 /// A process as it is written.
 #[derive(Drop)]
-pub(crate) struct Entry<'v> {
-    pub(crate) name: &'v str,
-    pub(crate) site: &'v str,
+pub(crate) struct Entry<'v, 'a> {
+    pub(crate) name: &'a str,
+    pub(crate) site: &'a str,
     pub(crate) state: State,
-    pub(crate) dependents: &'v [Value],
+    pub(crate) dependents: &'v [Value<'a>],
 }
 
-fn is_active(process: &Value) -> bool
+fn is_active(process: &Value<'_>) -> bool
     ensures { result ≡ is_active_lem (view process.now) }
 {
     text_at(process, "state") == "active"
 }
 
-fn is_idle(process: &Value) -> bool
+fn is_idle(process: &Value<'_>) -> bool
     ensures { result ≡ is_idle_lem (view process.now) }
 {
     text_at(process, "state") == "idle"
 }
 
 /// An active process may leave its dependents out.
-fn has_dependents(process: &Value) -> bool
+fn has_dependents(process: &Value<'_>) -> bool
     ensures { result ≡ has_dependents_lem (view process.now) }
 {
     if has_member(process, "dependents") {
@@ -46,7 +46,7 @@ fn has_dependents(process: &Value) -> bool
 }
 
 /// A state that is not `active` reads as idle.
-fn state_of(process: &Value) -> State
+fn state_of(process: &Value<'_>) -> State
     ensures { result ≡ (if is_active_lem (view process.now) then Active else Idle) }
 {
     if is_active(process) {
@@ -57,7 +57,7 @@ fn state_of(process: &Value) -> State
 }
 
 /// The process as it is written, without a look at what is wrong with it.
-fn entry_of(process: &Value) -> Entry<'_>
+fn entry_of<'v, 'a>(process: &'v Value<'a>) -> Entry<'v, 'a>
     ensures { entry_view result ≡ entry_of_lem (view process.now) }
 {
     Entry {
@@ -69,10 +69,10 @@ fn entry_of(process: &Value) -> Entry<'_>
 }
 
 /// The processes as they are written.
-pub(crate) fn entries_of<'v>(
+pub(crate) fn entries_of<'v, 'a>(
     alloc: Global,
-    processes: &'v [Value],
-) -> Result<Vec<Entry<'v>>, AllocError>
+    processes: &'v [Value<'a>],
+) -> Result<Vec<Entry<'v, 'a>>, AllocError>
     ensures { IfOk result (λ v.
         map entry_view v.items ≡ map (λ p. entry_of_lem (view p)) processes.now) }
 {
@@ -84,7 +84,10 @@ pub(crate) fn entries_of<'v>(
 }
 
 /// The names of the processes.
-pub(crate) fn names_of<'v>(alloc: Global, entries: &[Entry<'v>]) -> Result<Vec<&'v str>, AllocError>
+pub(crate) fn names_of<'a>(
+    alloc: Global,
+    entries: &[Entry<'_, 'a>],
+) -> Result<Vec<&'a str>, AllocError>
     ensures { IfOk result (λ v. texts v.items ≡ map (λ e. (entry_view e).name) entries.now) }
 {
     let mut names = Vec::new(alloc);
@@ -95,7 +98,7 @@ pub(crate) fn names_of<'v>(alloc: Global, entries: &[Entry<'v>]) -> Result<Vec<&
 }
 
 /// The process is written as it has to be, whatever the others are.
-fn is_process(process: &Value) -> bool
+fn is_process(process: &Value<'_>) -> bool
     ensures { result ≡ is_process_lem (view process.now) }
 {
     has_keys(process, &["name", "site", "state"], &["dependents"])
@@ -107,7 +110,7 @@ fn is_process(process: &Value) -> bool
 }
 
 /// The place of the first process that is not written as it has to be.
-pub(crate) fn first_bad_process(processes: &[Value]) -> Option<usize>
+pub(crate) fn first_bad_process(processes: &[Value<'_>]) -> Option<usize>
     ensures { result ≡ position (λ p. not (is_process_lem (view p))) processes.now }
 {
     processes.iter().position(|process| !is_process(process))

@@ -10,7 +10,7 @@ ghost use Rattle.cmh_dump.specs.declared.index.PlaceFault.TheVariants.{Memory as
 
 use crate::tree::text_in;
 use indexmap::IndexSet;
-use serde_json::Value;
+use json::Value;
 use std::alloc::{AllocError, AllocFailed, Global};
 
 /// Why names have no index.
@@ -101,7 +101,7 @@ pub(crate) fn place_of(index: &IndexSet<&str>, name: &str) -> u32
 pub(crate) fn places_of(
     alloc: Global,
     index: &IndexSet<&str>,
-    values: &[Value],
+    values: &[Value<'_>],
 ) -> Result<Vec<u32>, PlaceFault>
     requires { length (texts index.now.keys) < 2 ^ 32 }
     ensures { PlacesOrUnknown (texts index.now.keys) values.now result }

@@ -2,7 +2,7 @@
 
 ghost use Rattle.std.specs.Prelude.{◌≡◌, ◌<◌, ◌≤◌, ◌^◌, ◌&&◌, not, [], map, sum_by, length, position, nat_lt, vec_len, IfOk};
 ghost use Rattle.serde_json.specs.Data.{Data};
-ghost use Rattle.serde_json.specs.View.{view};
+ghost use Rattle.cmh_dump.specs.View.{view};
 ghost use Rattle.cmh_graph.specs.Build.{process_of};
 ghost use Rattle.cmh_dump.specs.Dump.{is_top as is_top_lem, top_keys};
 ghost use Rattle.cmh_dump.specs.Entry.{is_version as is_version_lem, sites as sites_lem, entries as entries_lem, names as names_lem, is_active_state};
@@ -20,17 +20,17 @@ use crate::tree::{entries_at, has_array, has_keys, is_number_at, texts_at};
 use crate::{DumpFault, MAX_SITES};
 use cmh_graph::{MAX_DEPENDENCIES, MAX_PROCESSES, Part, State};
 use indexmap::IndexSet;
-use serde_json::Value;
+use json::Value;
 use std::alloc::Global;
 
-fn is_version(tree: &Value, number: u64) -> bool
+fn is_version(tree: &Value<'_>, number: u64) -> bool
     ensures { result ≡ is_version_lem number (view tree.now) }
 {
     is_number_at(tree, "version", number)
 }
 
 /// Version 2 has one key more.
-fn has_top_keys(tree: &Value) -> bool
+fn has_top_keys(tree: &Value<'_>) -> bool
     ensures { result ≡ has_keys_lem (top_keys (view tree.now)) [] (view tree.now) }
 {
     if is_version(tree, 2) {
@@ -40,7 +40,7 @@ fn has_top_keys(tree: &Value) -> bool
     }
 }
 
-fn is_top(tree: &Value) -> bool
+fn is_top(tree: &Value<'_>) -> bool
     ensures { result ≡ is_top_lem (view tree.now) }
 {
     has_top_keys(tree)
@@ -50,7 +50,7 @@ fn is_top(tree: &Value) -> bool
 }
 
 /// Judges the keys at the top and the version.
-pub(crate) fn judge_top(tree: &Value) -> Result<(), DumpFault>
+pub(crate) fn judge_top(tree: &Value<'_>) -> Result<(), DumpFault>
     ensures { Judges (view tree.now) (top_faults (view tree.now)) result }
 {
     if !is_top(tree) {
@@ -63,7 +63,10 @@ pub(crate) fn judge_top(tree: &Value) -> Result<(), DumpFault>
 }
 
 /// The sites by their places. All are judged before they are counted.
-pub(crate) fn read_sites<'v>(alloc: Global, tree: &'v Value) -> Result<IndexSet<&'v str>, DumpFault>
+pub(crate) fn read_sites<'a>(
+    alloc: Global,
+    tree: &Value<'a>,
+) -> Result<IndexSet<&'a str>, DumpFault>
     ensures judges { Judges (view tree.now) (site_faults (view tree.now)) result }
     ensures read { IfOk result (λ index. texts index.keys ≡ sites_lem (view tree.now)) }
     ensures few { IfOk result (λ index. length (texts index.keys) ≤ MAX_SITES) }
@@ -84,10 +87,10 @@ pub(crate) fn read_sites<'v>(alloc: Global, tree: &'v Value) -> Result<IndexSet<
 }
 
 /// The processes as they are written, each judged without the others.
-pub(crate) fn read_processes<'v>(
+pub(crate) fn read_processes<'v, 'a>(
     alloc: Global,
-    tree: &'v Value,
-) -> Result<Vec<Entry<'v>>, DumpFault>
+    tree: &'v Value<'a>,
+) -> Result<Vec<Entry<'v, 'a>>, DumpFault>
     ensures judges { Judges (view tree.now) (process_faults (view tree.now)) result }
     ensures read { IfOk result (λ v. map entry_view v.items ≡ entries_lem (view tree.now)) }
     ensures few { IfOk result (λ v. vec_len v ≤ MAX_PROCESSES) }
@@ -103,10 +106,10 @@ pub(crate) fn read_processes<'v>(
 }
 
 /// The names of the processes by their places, of which none repeats.
-pub(crate) fn read_names<'v>(
+pub(crate) fn read_names<'a>(
     alloc: Global,
-    entries: &[Entry<'v>],
-) -> Result<IndexSet<&'v str>, DumpFault>
+    entries: &[Entry<'_, 'a>],
+) -> Result<IndexSet<&'a str>, DumpFault>
     ensures judges { (d : Data) → map entry_view entries.now ≡ entries_lem d
         → Judges d (name_faults d) result }
     ensures read { IfOk result (λ index.
@@ -121,7 +124,7 @@ pub(crate) fn read_names<'v>(
 }
 
 /// The place of the first process whose site is not among the sites.
-fn first_unknown_site(entries: &[Entry<'_>], sites: &IndexSet<&str>) -> Option<usize>
+fn first_unknown_site(entries: &[Entry<'_, '_>], sites: &IndexSet<&str>) -> Option<usize>
     ensures { result ≡ position
         (λ e. not (is_among (texts sites.now.keys) e.site.now)) entries.now }
 {
@@ -131,7 +134,7 @@ fn first_unknown_site(entries: &[Entry<'_>], sites: &IndexSet<&str>) -> Option<u
 }
 
 /// The place of the first active process with dependents.
-fn first_active_with_dependents(entries: &[Entry<'_>]) -> Option<usize>
+fn first_active_with_dependents(entries: &[Entry<'_, '_>]) -> Option<usize>
     ensures { result ≡ position
         (λ e. is_active_state e.state && nat_lt 0 (length e.dependents.now)) entries.now }
 {
@@ -139,7 +142,7 @@ fn first_active_with_dependents(entries: &[Entry<'_>]) -> Option<usize>
         && !entry.dependents.is_empty())
 }
 
-fn has_too_many_dependents(entries: &[Entry<'_>]) -> bool
+fn has_too_many_dependents(entries: &[Entry<'_, '_>]) -> bool
     ensures { result ≡ nat_lt MAX_DEPENDENCIES
         (sum_by (λ e. length e.dependents.now) entries.now) }
 {
@@ -156,7 +159,7 @@ fn has_too_many_dependents(entries: &[Entry<'_>]) -> bool
 /// The processes by indices, judged beside the sites and one another.
 pub(crate) fn link_entries(
     alloc: Global,
-    entries: &[Entry<'_>],
+    entries: &[Entry<'_, '_>],
     sites: &IndexSet<&str>,
     names: &IndexSet<&str>,
 ) -> Result<Vec<Part>, DumpFault>

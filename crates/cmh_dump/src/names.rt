@@ -4,11 +4,11 @@ ghost use Rattle.std.specs.Prelude.{◌≡◌, not, position};
 ghost use Rattle.std.specs.List.{list_all};
 ghost use Rattle.cmh_dump.specs.Name.{is_name as is_name_lem, is_name_byte as is_name_byte_lem, is_letter_or_digit as is_letter_or_digit_lem};
 ghost use Rattle.cmh_dump.specs.Tree.{text_of, texts_of, at_key};
-ghost use Rattle.serde_json.specs.View.{view};
+ghost use Rattle.cmh_dump.specs.View.{view};
 
 use crate::MAX_NAME;
 use crate::tree::{entries_at, text_in};
-use serde_json::Value;
+use json::Value;
 
 fn is_letter_or_digit(byte: u8) -> bool
     ensures { result ≡ is_letter_or_digit_lem byte }
@@ -41,14 +41,14 @@ pub(crate) fn is_name(text: &str) -> bool
 }
 
 /// All values are names.
-fn are_names_in(values: &[Value]) -> bool
+fn are_names_in(values: &[Value<'_>]) -> bool
     ensures { result ≡ list_all (λ value. is_name_lem (text_of (view value))) values.now }
 {
     values.iter().all(|value| is_name(text_in(value)))
 }
 
 /// All entries of the array at a key are names.
-pub(crate) fn are_names_at(value: &Value, key: &str) -> bool
+pub(crate) fn are_names_at(value: &Value<'_>, key: &str) -> bool
     ensures { result ≡ list_all is_name_lem (texts_of (at_key key.now (view value.now))) }
 {
     are_names_in(entries_at(value, key))

@@ -14,7 +14,7 @@ use std::alloc::Global;
 /// A process by indices, or the place of its first dependent that names no process.
 fn part_of(
     alloc: Global,
-    entry: &Entry<'_>,
+    entry: &Entry<'_, '_>,
     sites: &IndexSet<&str>,
     names: &IndexSet<&str>,
 ) -> Result<Part, PlaceFault>
@@ -35,7 +35,7 @@ fn part_of(
 /// All processes by indices, or the first dependent that names no process.
 pub(crate) fn parts_of(
     alloc: Global,
-    entries: &[Entry<'_>],
+    entries: &[Entry<'_, '_>],
     sites: &IndexSet<&str>,
     names: &IndexSet<&str>,
 ) -> Result<Vec<Part>, DumpFault>

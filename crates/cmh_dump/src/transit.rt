@@ -3,7 +3,7 @@
 ghost use Rattle.std.specs.Prelude.{◌≡◌, ◌<◌, ◌^◌, not, [], length, map, position, is_some, IfOk};
 ghost use Rattle.std.specs.List.{list_all};
 ghost use Rattle.serde_json.specs.Find.{as_str};
-ghost use Rattle.serde_json.specs.View.{view};
+ghost use Rattle.cmh_dump.specs.View.{view};
 ghost use Rattle.cmh_dump.specs.Dump.{transit_of as transit_of_lem};
 ghost use Rattle.cmh_dump.specs.Entry.{is_pair as is_pair_lem, transits, names as names_lem};
 ghost use Rattle.cmh_dump.specs.Name.{is_among, place_of as place_of_lem, nth};
@@ -13,20 +13,20 @@ ghost use Rattle.cmh_dump.specs.Tree.{text_of, texts_of};
 
 use crate::DumpFault;
 use crate::index::{is_known, place_of};
-use crate::tree::{entries_at, entries_in, text_in};
+use crate::tree::{entries_at, entries_in, str_in, text_in};
 use cmh_graph::MAX_IN_TRANSIT;
 use indexmap::IndexSet;
-use serde_json::Value;
+use json::Value;
 use std::alloc::{AllocError, Global};
 
-fn are_texts(values: &[Value]) -> bool
+fn are_texts(values: &[Value<'_>]) -> bool
     ensures { result ≡ list_all (λ v. is_some (as_str (view v))) values.now }
 {
-    values.iter().all(|value| value.as_str().is_some())
+    values.iter().all(|value| str_in(value).is_some())
 }
 
 /// The sender and the receiver, by their names.
-fn is_pair(message: &Value) -> bool
+fn is_pair(message: &Value<'_>) -> bool
     ensures { result ≡ is_pair_lem (view message.now) }
 {
     let entries = entries_in(message);
@@ -34,27 +34,27 @@ fn is_pair(message: &Value) -> bool
 }
 
 /// The place of the first message that is no pair of names.
-fn first_bad_pair(messages: &[Value]) -> Option<usize>
+fn first_bad_pair(messages: &[Value<'_>]) -> Option<usize>
     ensures { result ≡ position (λ m. not (is_pair_lem (view m))) messages.now }
 {
     messages.iter().position(|message| !is_pair(message))
 }
 
-fn are_known(names: &IndexSet<&str>, values: &[Value]) -> bool
+fn are_known(names: &IndexSet<&str>, values: &[Value<'_>]) -> bool
     ensures { result ≡ list_all
         (λ v. is_among (texts names.now.keys) (text_of (view v))) values.now }
 {
     values.iter().all(|value| is_known(names, text_in(value)))
 }
 
-fn is_among_processes(names: &IndexSet<&str>, message: &Value) -> bool
+fn is_among_processes(names: &IndexSet<&str>, message: &Value<'_>) -> bool
     ensures { result ≡ list_all (is_among (texts names.now.keys)) (texts_of (view message.now)) }
 {
     are_known(names, entries_in(message))
 }
 
 /// The place of the first message with a sender or a receiver that is no process.
-fn first_unknown_pair(names: &IndexSet<&str>, messages: &[Value]) -> Option<usize>
+fn first_unknown_pair(names: &IndexSet<&str>, messages: &[Value<'_>]) -> Option<usize>
     ensures { result ≡ position
         (λ m. not (list_all (is_among (texts names.now.keys)) (texts_of (view m)))) messages.now }
 {
@@ -64,7 +64,7 @@ fn first_unknown_pair(names: &IndexSet<&str>, messages: &[Value]) -> Option<usiz
 }
 
 /// The sender of a message, at 0, or its receiver, at 1; the empty text where it is none.
-fn name_in_pair(message: &Value, entry: usize) -> &str
+fn name_in_pair<'a>(message: &Value<'a>, entry: usize) -> &'a str
     ensures { result.now ≡ nth (texts_of (view message.now)) entry [] }
 {
     match entries_in(message).get(entry) {
@@ -77,7 +77,7 @@ fn name_in_pair(message: &Value, entry: usize) -> &str
 fn places_of(
     alloc: Global,
     names: &IndexSet<&str>,
-    messages: &[Value],
+    messages: &[Value<'_>],
 ) -> Result<Vec<(u32, u32)>, AllocError>
     requires { length (texts names.now.keys) < 2 ^ 32 }
     ensures { IfOk result (λ v.
@@ -95,7 +95,7 @@ fn places_of(
 /// The messages in transit, judged. A dump of version 1 has none.
 pub(crate) fn read_in_transit(
     alloc: Global,
-    tree: &Value,
+    tree: &Value<'_>,
     names: &IndexSet<&str>,
 ) -> Result<Vec<(u32, u32)>, DumpFault>
     requires { length (texts names.now.keys) < 2 ^ 32 }

@@ -1,72 +1,171 @@
 //! The tree of a dump, and what stands at its places. A place that isn't there, or has another
 //! kind, reads as empty.
 
-ghost use Rattle.std.specs.Prelude.{◌≡◌, ◌≢◌, ◌||◌, Some, None, IfOk, IfErr, map, bytes_eq, string_bytes};
+ghost use Rattle.std.specs.Prelude.{◌≡◌, ◌≢◌, ◌||◌, [], Some, None, IfOk, IfErr, map, option_map, bytes_eq};
 ghost use Rattle.std.specs.List.{list_all, list_any};
-ghost use Rattle.std.specs.BTreeMap.{keys};
-ghost use Rattle.serde_json.specs.View.{view};
+ghost use Rattle.json.specs.Find.{as_array as json_array, as_object as json_object, as_number as json_number};
+ghost use Rattle.json.specs.Value.{value_view, items_view, members_view};
+ghost use Rattle.serde_json.specs.Find.{get, as_array, as_str};
+ghost use Rattle.serde_json.specs.Read.{read};
+ghost use Rattle.serde_json.specs.View.{items_of};
 ghost use Rattle.cmh_dump.specs.Dump.{tree_of as tree_of_lem};
 ghost use Rattle.cmh_dump.specs.Tree.{text_of, texts_of, entries_of, at_key, has_key, has_keys as has_keys_lem, is_array, natural_of, is_number};
 ghost use Rattle.cmh_dump.specs.Texts.{texts};
+ghost use Rattle.cmh_dump.specs.View.{view};
 
 use crate::DumpFault;
-use serde_json::{Map, Value};
+use crate::number::natural;
+use crate::range::fits;
+use json::{Error, Reader, Scratch, Value};
 use std::alloc::{AllocError, Global};
 
-/// The tree of the bytes.
+/// How deep arrays and objects may nest.
+const MAX_DEPTH: usize = 127;
+
+/// The tree of the text.
+fn parse<'a>(alloc: Global, text: &'a str, scratch: &'a mut Scratch) -> Result<Value<'a>, DumpFault>
+    ensures ok { IfOk result (λ v. read text.now ≡ Some (view v)) }
+    ensures err { IfErr result (λ e. e ≢ DumpFault.Memory
+        → (e ≡ DumpFault.NotJson) × (read text.now ≡ None)) }
+{
+    let Ok(mut reader) = Reader::new(text, scratch) else {
+        return Err(DumpFault::Memory);
+    };
+    let value = match Value::read(alloc, &mut reader, MAX_DEPTH) {
+        Ok(value) => value,
+        Err(Error::OutOfMemory) => return Err(DumpFault::Memory),
+        Err(_) => return Err(DumpFault::NotJson),
+    };
+    if reader.next().is_some() {
+        return Err(DumpFault::NotJson);
+    }
+    if !fits(&value) {
+        return Err(DumpFault::NotJson);
+    }
+    Ok(value)
+}
+
+/// The tree of the bytes. Its texts are borrowed from them, or lie in `scratch` where they have
+/// escapes.
 #[tactic(auto, using(crate::proofs::Trees::tree_is, crate::proofs::Trees::no_tree))]
-pub(crate) fn tree_of(alloc: Global, bytes: &[u8]) -> Result<Value, DumpFault>
+pub(crate) fn tree_of<'a>(
+    alloc: Global,
+    bytes: &'a [u8],
+    scratch: &'a mut Scratch,
+) -> Result<Value<'a>, DumpFault>
     ensures ok { IfOk result (λ v. tree_of_lem bytes.now ≡ Some (view v)) }
     ensures err { IfErr result (λ e. e ≢ DumpFault.Memory
         → (e ≡ DumpFault.NotJson) × (tree_of_lem bytes.now ≡ None)) }
 {
-    match Value::from_slice(alloc, bytes) {
-        Ok(value) => Ok(value),
-        Err(e) if e.is_memory() => Err(DumpFault::Memory),
+    match simdutf8::compat::from_utf8(bytes) {
+        Ok(text) => parse(alloc, text, scratch),
         Err(_) => Err(DumpFault::NotJson),
     }
 }
 
+/// The member of the object at a key, if there is one.
+fn member_in<'v, 'a>(value: &'v Value<'a>, key: &str) -> Option<&'v Value<'a>>
+    ensures { option_map (λ v. view v.now) result ≡ get key.now (view value.now) }
+{
+    value.get(key)
+}
+
+/// The text, if the value is one.
+#[tactic(auto, using(crate::proofs::Views::str_is))]
+pub(crate) fn str_in<'a>(value: &Value<'a>) -> Option<&'a str>
+    ensures { option_map (λ s. s.now) result ≡ as_str (view value.now) }
+{
+    value.as_str()
+}
+
+fn items_in<'v, 'a>(value: &'v Value<'a>) -> Option<&'v [Value<'a>]>
+    ensures { option_map (λ v. items_view v.now) result ≡ json_array (value_view value.now) }
+{
+    if let Value::Array(items) = value {
+        Some(items.as_slice())
+    } else {
+        None
+    }
+}
+
+/// The entries of the array, if the value is one.
+fn array_in<'v, 'a>(value: &'v Value<'a>) -> Option<&'v [Value<'a>]>
+    ensures { option_map (λ v. items_of (map view v.now)) result ≡ as_array (view value.now) }
+{
+    items_in(value)
+}
+
+fn members_in<'v, 'a>(value: &'v Value<'a>) -> Option<&'v [(&'a str, Value<'a>)]>
+    ensures { option_map (λ v. members_view v.now) result ≡ json_object (value_view value.now) }
+{
+    if let Value::Object(members) = value {
+        Some(members.as_slice())
+    } else {
+        None
+    }
+}
+
+/// The natural number, if the value is one.
+fn natural_in(value: &Value<'_>) -> Option<u64>
+    ensures { result ≡ natural_of (view value.now) }
+{
+    match value.as_number() {
+        Some(text) => natural(text),
+        None => None,
+    }
+}
+
 /// The text, or the empty one where the value is none.
-pub(crate) fn text_in(value: &Value) -> &str
+pub(crate) fn text_in<'a>(value: &Value<'a>) -> &'a str
     ensures { result.now ≡ text_of (view value.now) }
 {
-    value.as_str().unwrap_or("")
+    str_in(value).unwrap_or("")
 }
 
 /// The text at a key, or the empty one where none is there.
-pub(crate) fn text_at<'v>(value: &'v Value, key: &str) -> &'v str
+pub(crate) fn text_at<'a>(value: &Value<'a>, key: &str) -> &'a str
     ensures { result.now ≡ text_of (at_key key.now (view value.now)) }
 {
-    match value.get(key) {
+    match member_in(value, key) {
         Some(member) => text_in(member),
         None => "",
     }
 }
 
+/// No values, borrowed as long as the value is.
+fn none_beside<'v, 'a>(value: &'v Value<'a>) -> &'v [Value<'a>]
+    ensures { result.now ≡ [] }
+{
+    &std::slice::from_ref(value)[..0]
+}
+
 /// The entries of an array, or none where the value is none.
-#[tactic(auto, using(crate::proofs::Trees::entries_of_items))]
-pub(crate) fn entries_in(value: &Value) -> &[Value]
+pub(crate) fn entries_in<'v, 'a>(value: &'v Value<'a>) -> &'v [Value<'a>]
     ensures { map view result.now ≡ entries_of (view value.now) }
 {
-    match value.as_array() {
-        Some(entries) => entries,
-        None => &[],
+    array_in(value).unwrap_or(none_beside(value))
+}
+
+/// The entries of the array at a key, if one is there.
+fn array_at<'v, 'a>(value: &'v Value<'a>, key: &str) -> Option<&'v [Value<'a>]>
+    ensures { option_map (λ v. items_of (map view v.now)) result
+        ≡ as_array (at_key key.now (view value.now)) }
+{
+    match member_in(value, key) {
+        Some(member) => array_in(member),
+        None => None,
     }
 }
 
 /// The entries of the array at a key, or none where no array is there.
-pub(crate) fn entries_at<'v>(value: &'v Value, key: &str) -> &'v [Value]
+pub(crate) fn entries_at<'v, 'a>(value: &'v Value<'a>, key: &str) -> &'v [Value<'a>]
     ensures { map view result.now ≡ entries_of (at_key key.now (view value.now)) }
 {
-    match value.get(key) {
-        Some(member) => entries_in(member),
-        None => &[],
-    }
+    array_at(value, key).unwrap_or(none_beside(value))
 }
 
 /// The values as texts.
-fn texts_in<'v>(alloc: Global, values: &'v [Value]) -> Result<Vec<&'v str>, AllocError>
+fn texts_in<'a>(alloc: Global, values: &[Value<'a>]) -> Result<Vec<&'a str>, AllocError>
     ensures { IfOk result (λ v. texts v.items ≡ map (λ value. text_of (view value)) values.now) }
 {
     let mut texts = Vec::new(alloc);
@@ -77,44 +176,44 @@ fn texts_in<'v>(alloc: Global, values: &'v [Value]) -> Result<Vec<&'v str>, Allo
 }
 
 /// The entries of the array at a key as texts.
-pub(crate) fn texts_at<'v>(
+pub(crate) fn texts_at<'a>(
     alloc: Global,
-    value: &'v Value,
+    value: &Value<'a>,
     key: &str,
-) -> Result<Vec<&'v str>, AllocError>
+) -> Result<Vec<&'a str>, AllocError>
     ensures { IfOk result (λ v. texts v.items ≡ texts_of (at_key key.now (view value.now))) }
 {
     texts_in(alloc, entries_at(value, key))
 }
 
 /// An array stands at the key.
-pub(crate) fn has_array(value: &Value, key: &str) -> bool
+pub(crate) fn has_array(value: &Value<'_>, key: &str) -> bool
     ensures { result ≡ is_array (at_key key.now (view value.now)) }
 {
-    match value.get(key) {
-        Some(member) => member.is_array(),
-        None => false,
-    }
+    array_at(value, key).is_some()
 }
 
 /// The object has the key.
-pub(crate) fn has_member(value: &Value, key: &str) -> bool
+pub(crate) fn has_member(value: &Value<'_>, key: &str) -> bool
     ensures { result ≡ has_key key.now (view value.now) }
 {
-    value.get(key).is_some()
+    member_in(value, key).is_some()
 }
 
 /// The number at a key is this one.
-pub(crate) fn is_number_at(value: &Value, key: &str, number: u64) -> bool
+pub(crate) fn is_number_at(value: &Value<'_>, key: &str, number: u64) -> bool
     ensures { result ≡ is_number number (natural_of (at_key key.now (view value.now))) }
 {
-    match value.get(key).and_then(Value::as_u64) {
+    let Some(member) = member_in(value, key) else {
+        return false;
+    };
+    match natural_in(member) {
         Some(found) => found == number,
         None => false,
     }
 }
 
-fn has_each(value: &Value, words: &[&str]) -> bool
+fn has_each(value: &Value<'_>, words: &[&str]) -> bool
     ensures { result ≡ list_all (λ k. has_key k.now (view value.now)) words.now }
 {
     words.iter().all(|word| has_member(value, word))
@@ -133,22 +232,21 @@ fn is_allowed(key: &str, needed: &[&str], allowed: &[&str]) -> bool
     is_one_of(key, needed) || is_one_of(key, allowed)
 }
 
-fn has_only(members: &Map<String, Value>, needed: &[&str], allowed: &[&str]) -> bool
-    ensures { result ≡ list_all (λ key.
-        list_any (λ k. bytes_eq (string_bytes key) k.now) needed.now
-        || list_any (λ k. bytes_eq (string_bytes key) k.now) allowed.now) (keys members.now) }
+fn has_only(members: &[(&str, Value<'_>)], needed: &[&str], allowed: &[&str]) -> bool
+    ensures { result ≡ list_all (λ m.
+        list_any (λ k. bytes_eq m.0.now k.now) needed.now
+        || list_any (λ k. bytes_eq m.0.now k.now) allowed.now) members.now }
 {
     members
-        .keys()
-        .all(|key| is_allowed(key.as_str(), needed, allowed))
+        .iter()
+        .all(|member| is_allowed(member.0, needed, allowed))
 }
 
 /// It is an object that has each of the first keys, maybe some of the second, and no others.
-#[tactic(auto, using(crate::proofs::Keys::not_object, crate::proofs::Keys::object_keys))]
-pub(crate) fn has_keys(value: &Value, needed: &[&str], allowed: &[&str]) -> bool
+pub(crate) fn has_keys(value: &Value<'_>, needed: &[&str], allowed: &[&str]) -> bool
     ensures { result ≡ has_keys_lem (texts needed.now) (texts allowed.now) (view value.now) }
 {
-    let Some(members) = value.as_object() else {
+    let Some(members) = members_in(value) else {
         return false;
     };
     has_each(value, needed) && has_only(members, needed, allowed)

@@ -1,5 +1,5 @@
 use Rattle.std.proofs.Common.{arith}
-use Rattle.serde_json.specs.View.{view}
+use Rattle.cmh_dump.specs.View.{view}
 use Rattle.cmh_dump.proofs.Whole.{err_of_the_tree}
 use Rattle.cmh_dump.proofs.dump.read_dump.Goals as goal
 

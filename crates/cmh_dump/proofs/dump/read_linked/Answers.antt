@@ -1,6 +1,6 @@
 use Rattle.std.proofs.Common.{◌∙◌}
 use Rattle.std.proofs.lemmas.Result.{err_from_is_err_and}
-use Rattle.serde_json.specs.View.{view}
+use Rattle.cmh_dump.specs.View.{view}
 use Rattle.cmh_dump.specs.Dump.{holds}
 use Rattle.cmh_dump.specs.Read.{entry_faults, transit_faults}
 use Rattle.cmh_dump.specs.Texts.{texts}

@@ -1,6 +1,6 @@
 use Rattle.std.proofs.Common.{ap, ◌∙◌}
 use Rattle.std.proofs.lemmas.Result.{err_from_is_err_and}
-use Rattle.serde_json.specs.View.{view}
+use Rattle.cmh_dump.specs.View.{view}
 use Rattle.cmh_graph.specs.Build.{graph_of}
 use Rattle.cmh_dump.proofs.Composed.{refused, accepted, refused_for_memory_alone}
 use Rattle.cmh_dump.proofs.dump.read_tree.Goals as goal

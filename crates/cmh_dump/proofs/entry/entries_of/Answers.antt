@@ -1,4 +1,4 @@
-use Rattle.serde_json.specs.View.{view}
+use Rattle.cmh_dump.specs.View.{view}
 use Rattle.cmh_dump.specs.Entry.{entry_of}
 use Rattle.cmh_dump.specs.Read.{entry_view}
 use Rattle.cmh_dump.proofs.Taken.{seen-next}

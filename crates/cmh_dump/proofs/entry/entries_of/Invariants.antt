@@ -1,5 +1,5 @@
 use Rattle.std.proofs.Common.{◌≡◌, map, take}
-use Rattle.serde_json.specs.View.{view}
+use Rattle.cmh_dump.specs.View.{view}
 use Rattle.cmh_dump.specs.Entry.{entry_of}
 use Rattle.cmh_dump.specs.Read.{entry_view}
 use Rattle.cmh_dump.proofs.entry.entries_of.Given as goal

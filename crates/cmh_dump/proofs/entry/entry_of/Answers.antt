@@ -1,5 +1,5 @@
 use Rattle.std.proofs.Common.{codes}
-use Rattle.serde_json.specs.View.{view}
+use Rattle.cmh_dump.specs.View.{view}
 use Rattle.cmh_dump.specs.Tree.{at_key}
 use Rattle.cmh_dump.proofs.Trees.{texts_of_views}
 use Rattle.cmh_dump.proofs.entry.entry_of.Goals as goal

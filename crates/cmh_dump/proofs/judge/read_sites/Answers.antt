@@ -1,6 +1,6 @@
 use Rattle.std.proofs.Common.{ℕ, ◌≤◌, ◌<◌, List, not, length, ap, sym, ◌∙◌, subst, arith}
 use Rattle.std.specs.Prelude.{position}
-use Rattle.serde_json.specs.View.{view}
+use Rattle.cmh_dump.specs.View.{view}
 use Rattle.cmh_dump.specs.declared.TheConstants.{MAX_SITES}
 use Rattle.cmh_dump.specs.Index.{IsFirstRepeat, AreApart}
 use Rattle.cmh_dump.specs.Name.{is_name}

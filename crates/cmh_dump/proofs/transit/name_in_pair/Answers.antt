@@ -1,5 +1,5 @@
 use Rattle.std.proofs.Common.{◌∙◌}
-use Rattle.serde_json.specs.View.{view}
+use Rattle.cmh_dump.specs.View.{view}
 use Rattle.cmh_dump.proofs.Trees.{text_at_place, text_past}
 use Rattle.cmh_dump.proofs.transit.name_in_pair.Goals as goal
 

@@ -1,5 +1,5 @@
 use Rattle.std.proofs.Common.{ap, ◌∙◌}
-use Rattle.serde_json.specs.View.{view}
+use Rattle.cmh_dump.specs.View.{view}
 use Rattle.cmh_dump.specs.Name.{place_of}
 use Rattle.cmh_dump.specs.Read.{places_in_pair}
 use Rattle.cmh_dump.specs.Texts.{texts}
