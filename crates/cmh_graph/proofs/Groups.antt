@@ -11,7 +11,7 @@ use Rattle.std.proofs.lemmas.List.Sums.{count_by-le-length}
 use Rattle.std.proofs.lemmas.List.Recursion.{is_count_by}
 use Rattle.std.proofs.lemmas.List.Kept.{AllPairs-from_increasing, IsStrictlyIncreasing-filter}
 use native.Mathlib.Decide.{dec_lt}
-use Rattle.cmh_graph.specs.Core.{core_of, rest_of, leader_of, leaders, group_number, RestLaw, RisingLaw, IsLeader, LeaderLaw, AreLeaders, LeadersLaw, AreGroupsNumbered, GroupNumberLaw}
+use Rattle.cmh_graph.specs.Core.{core_of, leader_of, leaders, group_number, RestLaw, RisingLaw, IsLeader, LeaderLaw, LeadersLaw, GroupNumberLaw}
 use Rattle.cmh_graph.specs.Graph.{Graph, process_count, indices, IsWithinGraph}
 use Rattle.cmh_graph.specs.Path.{Leads, Reaches, reaches, reach_of}
 use Rattle.cmh_graph.specs.Verdict.{IsDeadlocked, is_deadlocked}

@@ -11,6 +11,7 @@ pub mod Returning
 pub mod Searching
 pub mod Spreading
 pub mod Stepping
+pub mod Trimming
 pub mod Verdicts
 pub mod Waking
 pub mod Ways

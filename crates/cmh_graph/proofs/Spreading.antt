@@ -1,28 +1,37 @@
 -- The search along dependencies.
-use Rattle.std.proofs.Common.{◌≡◌, ℕ, ◌<◌, Bool, true, false, ◌⊎◌, inl, inr, List, [], ◌∷◌, ◌++◌, map, length, get_or, sym, ◌∙◌, ap, subst, arith}
+use Rattle.std.proofs.Common.{◌≡◌, ℕ, ◌<◌, Bool, true, false, inl, inr, List, [], ◌∷◌, ◌++◌, map, length, get_or, refl, set, sym, ◌∙◌, ap, subst, arith, eqb, eqb-true, eq-eqb}
 use Rattle.std.specs.Prelude.{Contains, filter}
 use Rattle.std.specs.List.{range_with_len}
-use Rattle.std.proofs.lemmas.Bool.{cases_Bool}
+use Rattle.std.proofs.lemmas.Bool.{cases_Bool, cases_eq}
+use Rattle.std.proofs.lemmas.List.{get_or-set_other, get_or-set_same, length-set}
 use Rattle.std.proofs.lemmas.List.Elements.{Contains-append_left, Contains-get_or, Contains-push, Contains-push_cases}
 use Rattle.std.proofs.lemmas.List.FromFn.{fill_by_all}
 use Rattle.cmh_graph.specs.Build.{IsWellFormed}
 use Rattle.cmh_graph.specs.Graph.{Graph, Depends, dependents_of, indices, IsWithinGraph, process_count}
 use Rattle.cmh_graph.specs.Path.{Leads, Reaches, reach_of, reaches}
-use Rattle.cmh_graph.specs.Search.{is_marked, MarksEach}
+use Rattle.cmh_graph.specs.Search.{is_marked, MarksEach, SpreadsFrom}
+use Rattle.cmh_graph.proofs.Groups.{reaches_on}
 use Rattle.cmh_graph.proofs.Listing.{by_index, filter_agree_on, length-by_index}
-use Rattle.cmh_graph.proofs.Reaching.{index_within, depends_within, reaches_then, then_reaches}
+use Rattle.cmh_graph.proofs.Reaching.{cons_contains, index_within, depends_within, reaches_then, then_reaches}
 use Rattle.cmh_graph.proofs.Searching.{waits}
 use Rattle.cmh_graph.proofs.Stepping.{marked_within}
-use Rattle.cmh_graph.proofs.Verdicts.{idle_within, reaches_more}
+use Rattle.cmh_graph.proofs.Verdicts.{idle_within, reached_within, reaches_more}
 
--- Marked are processes that p reaches, p itself among them. Each is pending, or all of its
--- dependencies are marked.
-pub record SpreadsFrom (g : Graph) (p : ℕ) (marks : List Bool) (pending : List ℕ) : Type 0 where
-  pub size : length marks ≡ process_count g
-  pub start : is_marked marks p ≡ true
-  pub sound : (q : ℕ) → is_marked marks q ≡ true → Reaches g p q
-  pub pending_marked : (q : ℕ) → Contains pending q → is_marked marks q ≡ true
-  pub closed : (q : ℕ) → is_marked marks q ≡ true → Contains pending q ⊎ ((r : ℕ) → Depends g q r → is_marked marks r ≡ true)
+-- at first p is marked alone
+pub spreads_alone : (g : Graph) (p : ℕ) (marks : List Bool) → length marks ≡ process_count g → p < process_count g → ((q : ℕ) → is_marked marks q ≡ eqb q p) → SpreadsFrom g p marks (p ∷ [])
+spreads_alone g p marks size i alone =
+    let one : (q : ℕ) → is_marked marks q ≡ true → q ≡ p = λ q m. eqb-true q p (sym (alone q) ∙ m) in
+    let start : is_marked marks p ≡ true = alone p ∙ eq-eqb p p refl in
+    record {
+      size = size;
+      start = start;
+      sound = λ q m. subst (λ z. Reaches g p z) (sym (one q m)) (p ∷ [], (refl, refl));
+      pending_marked = λ q c. elim (cons_contains p [] q c) [
+        | inl same ↦ ap (is_marked marks) (sym same) ∙ start
+        | inr none ↦ absurd (omega (arith, none.1))
+      ];
+      closed = λ q m. inl (0, omega arith, sym (one q m));
+    }
 
 -- a pending process is one of the graph
 pub pending_within : (g : Graph) (p q : ℕ) (marks : List Bool) (pending rest : List ℕ) → SpreadsFrom g p marks pending → pending ≡ rest ++ q ∷ [] → q < process_count g
@@ -99,3 +108,40 @@ reach_listed g p marks e =
     ap (λ n. filter (is_marked marks) (range_with_len 0 n)) size
     ∙ filter_agree_on (is_marked marks) (reaches g p) (indices g)
     (λ q c. by_index g (reaches g p) marks q false e (index_within (process_count g) q c))
+
+-- a process beside those that a reached one reaches
+pub spreads_known : (g : Graph) (p q : ℕ) (known : List Bool) → IsWithinGraph g → p < process_count g → Reaches g p q → known ≡ map (reaches g q) (indices g) → SpreadsFrom g p (set known p true) (p ∷ [])
+spreads_known g p q known w i there is =
+    let size : length known ≡ process_count g = ap length is ∙ length-by_index g (reaches g q) in
+    let start : is_marked (set known p true) p ≡ true = get_or-set_same known p true false (omega (arith, i, size)) in
+    let before : (r : ℕ) → is_marked known r ≡ true → Reaches g q r = λ r m.
+        reaches_then g q r (sym (by_index g (reaches g q) known r false is (omega (arith, marked_within known r m, size))) ∙ m) in
+    let after : (r : ℕ) → Reaches g q r → is_marked known r ≡ true = λ r way.
+        let j = reached_by_within g p q r w i there way in
+        by_index g (reaches g q) known r false is j.1 ∙ then_reaches g q r w j.0 way in
+    record {
+      size = length-set known p true ∙ size;
+      start = start;
+      sound = λ r m. elim (cases_eq r p) [
+        | inl same ↦ subst (λ z. Reaches g p z) (sym same) (p ∷ [], (refl, refl))
+        | inr other ↦ reaches_on g p q r there (before r (sym (get_or-set_other known p r true false other) ∙ m))
+      ];
+      pending_marked = λ r c. elim (cons_contains p [] r c) [
+        | inl same ↦ ap (is_marked (set known p true)) (sym same) ∙ start
+        | inr none ↦ absurd (omega (arith, none.1))
+      ];
+      closed = λ r m. elim (cases_eq r p) [
+        | inl same ↦ inl (0, omega arith, sym same)
+        | inr other ↦ inr (λ t d. elim (cases_eq t p) [
+          | inl same ↦ ap (is_marked (set known p true)) same ∙ start
+          | inr apart ↦
+              get_or-set_other known p t true false apart
+              ∙ after t (reaches_more g q r t (before r (sym (get_or-set_other known p r true false other) ∙ m)) d)
+        ])
+      ];
+    }
+  where
+    reached_by_within : (g : Graph) (p q r : ℕ) → IsWithinGraph g → p < process_count g → Reaches g p q → Reaches g q r → (q < process_count g) × (r < process_count g)
+    reached_by_within g p q r w i there way =
+        let j = reached_within g w p q i there in
+        (j, reached_within g w q r j way)

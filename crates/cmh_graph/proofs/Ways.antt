@@ -1,11 +1,10 @@
 -- How long the ways out are.
-use Rattle.std.proofs.Common.{◌≡◌, ℕ, suc, ◌<◌, ◌≤◌, true, false, inl, inr, List, [], ◌∷◌, length, refl, sym, ◌∙◌, ap, subst, arith}
+use Rattle.std.proofs.Common.{◌≡◌, ℕ, suc, ◌<◌, true, false, List, [], ◌∷◌, length, refl, sym, ◌∙◌, ap, subst, arith}
 use Rattle.std.specs.Prelude.{Contains, Some, None, Option, is_some}
 use Rattle.cmh_graph.specs.ChosenPath.{distance_of, chosen_path, IsWayOut, IsDistance, DistanceLaw, PathLengthLaw}
 use Rattle.cmh_graph.specs.Graph.{Graph, IsWithinGraph, is_awake, process_count}
 use Rattle.cmh_graph.specs.Path.{IsPath, is_nonempty, paths_to}
 use Rattle.cmh_graph.proofs.Choosing.{chosen_is, chosen_length, has_distance, listed_is, length_is, way_out_length}
-use Rattle.cmh_graph.proofs.Searching.{cases_number, numbered}
 use Rattle.cmh_graph.proofs.Stepping.{near}
 
 -- a list that is not empty has a member

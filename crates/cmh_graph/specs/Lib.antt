@@ -1,3 +1,4 @@
+pub mod Alone
 pub mod Build
 pub mod ChosenPath
 pub mod Core

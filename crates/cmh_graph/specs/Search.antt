@@ -2,6 +2,7 @@
 use Rattle.std.specs.Prelude.{◌≡◌, ◌≢◌, ◌≤◌, ◌⊎◌, ◌+◌, ℕ, Bool, false, not, count_by, List, [], map, length, slice_index_or, Contains, IsSome, IsTrue, Option, Some, None}
 use Rattle.std.specs.Global.{Vec}
 use Rattle.cmh_graph.specs.Graph.{Graph, Depends, process_count}
+use Rattle.cmh_graph.specs.Path.{Reaches}
 
 -- whether the place is marked; none is past the end
 abbrev pub is_marked : List Bool → ℕ → Bool
@@ -72,3 +73,12 @@ IsLeastAt n list numbers None = (q : ℕ) → Contains list q → number_at numb
 IsLeastAt n list numbers (Some least) =
     Contains list least × (number_at numbers least ≡ Some n)
     × ((q : ℕ) → Contains list q → number_at numbers q ≡ Some n → least ≤ q)
+
+-- Marked are processes that p reaches, p itself among them. Each is pending, or all of its
+-- dependencies are marked.
+pub record SpreadsFrom (g : Graph) (p : ℕ) (marks : List Bool) (pending : List ℕ) : Type 0 where
+  pub size : length marks ≡ process_count g
+  pub start : IsTrue (is_marked marks p)
+  pub sound : (q : ℕ) → IsTrue (is_marked marks q) → Reaches g p q
+  pub pending_marked : (q : ℕ) → Contains pending q → IsTrue (is_marked marks q)
+  pub closed : (q : ℕ) → IsTrue (is_marked marks q) → Contains pending q ⊎ ((r : ℕ) → Depends g q r → IsTrue (is_marked marks r))

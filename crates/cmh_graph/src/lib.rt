@@ -5,6 +5,7 @@
 //! Detection", ACM TOCS 1(2), 1983.
 #![tactic(auto)]
 
+mod alone;
 mod distance;
 mod fault;
 mod graph;

@@ -1,8 +1,8 @@
 //! What processes reach along dependencies.
 
-ghost use Rattle.std.specs.Prelude.{◌≡◌, ◌<◌, IfOk, IfErr};
-ghost use Rattle.cmh_graph.specs.Graph.{process_count};
-ghost use Rattle.cmh_graph.specs.Path.{reach_of};
+ghost use Rattle.std.specs.Prelude.{◌≡◌, ◌<◌, map, IfOk, IfErr};
+ghost use Rattle.cmh_graph.specs.Graph.{indices, process_count};
+ghost use Rattle.cmh_graph.specs.Path.{reach_of, reaches, Reaches};
 ghost use Rattle.cmh_graph.specs.Core.{core_of};
 ghost use Rattle.cmh_graph.specs.Search.{ArePredecessors};
 
@@ -20,6 +20,39 @@ impl WaitGraph {
     {
         let reached = self.reached_from(alloc, p)?;
         Ok(marked(alloc, &reached)?)
+    }
+
+    /// For each process whether `p` reaches it. It takes the time and memory of `reach_of`.
+    pub fn reached(&self, alloc: Global, p: u32) -> Result<Vec<bool>, GraphFault>
+        requires { p < process_count self.now }
+        ensures ok { IfOk result (λ marks.
+            marks.items ≡ map (reaches self.now p) (indices self.now)) }
+        ensures memory { IfErr result (λ e. e ≡ GraphFault.Memory) }
+    {
+        Ok(self.reached_from(alloc, p)?)
+    }
+
+    /// For each process whether `p` reaches it, as `reached` gives it, by those that `q` reaches,
+    /// where `p` reaches `q`. It takes time linear in the processes and in the dependencies of those
+    /// that `p` reaches and `q` doesn't.
+    pub fn reached_by(
+        &self,
+        alloc: Global,
+        p: u32,
+        q: u32,
+        known: &[bool],
+    ) -> Result<Vec<bool>, GraphFault>
+        requires within { p < process_count self.now }
+        requires beyond { Reaches self.now p q }
+        requires known { known.now ≡ map (reaches self.now q) (indices self.now) }
+        ensures ok { IfOk result (λ marks.
+            marks.items ≡ map (reaches self.now p) (indices self.now)) }
+        ensures memory { IfErr result (λ e. e ≡ GraphFault.Memory) }
+    {
+        self.has_no_fault();
+        let mut marks = Vec::from_slice(alloc, known)?;
+        marks[p as usize] = true;
+        Ok(self.spread(alloc, p, marks)?)
     }
 
     /// The processes that `p` reaches and that reach `p`, by rising index. It takes time linear in

@@ -1,11 +1,11 @@
 //! Searches along dependencies.
 
-ghost use Rattle.std.specs.Prelude.{◌≡◌, ◌==◌, ◌<◌, ◌≤◌, ◌^◌, ℕ, [], map, length, filter, if◌then◌else◌, All, Contains, IfOk, IfErr, OnOk, Some, None};
+ghost use Rattle.std.specs.Prelude.{◌≡◌, ◌==◌, ◌<◌, ◌≤◌, ◌^◌, ℕ, [], ◌∷◌, map, length, filter, if◌then◌else◌, All, Contains, IfOk, IfErr, OnOk, Some, None};
 ghost use Rattle.std.specs.List.{range_with_len};
 ghost use Rattle.cmh_graph.specs.Graph.{indices, process_count};
 ghost use Rattle.cmh_graph.specs.Path.{reaches, steps_to};
 ghost use Rattle.cmh_graph.specs.Core.{core_of};
-ghost use Rattle.cmh_graph.specs.Search.{is_marked, predecessors_at, ArePredecessors, IsNamedBy, MarksEach, Numbers};
+ghost use Rattle.cmh_graph.specs.Search.{is_marked, predecessors_at, ArePredecessors, IsNamedBy, MarksEach, Numbers, SpreadsFrom};
 
 use crate::{GraphFault, MAX_PROCESSES, Predecessors, WaitGraph};
 use std::alloc::{AllocError, Global};
@@ -18,7 +18,24 @@ impl WaitGraph {
             marks.items ≡ map (reaches self.now p) (indices self.now)) }
         ensures few { process_count self.now ≤ MAX_PROCESSES }
     {
-        let mut marks = mark_alone(alloc, self.len(), p)?;
+        let marks = mark_alone(alloc, self.len(), p)?;
+        self.spread(alloc, p, marks)
+    }
+
+    /// Marks what `p` reaches beside those that are marked, whose dependencies are marked too.
+    pub(crate) fn spread(
+        &self,
+        alloc: Global,
+        p: u32,
+        marks: Vec<bool>,
+    ) -> Result<Vec<bool>, AllocError>
+        requires within { p < process_count self.now }
+        requires spreads { SpreadsFrom self.now p marks.items (p ∷ []) }
+        ensures marks { IfOk result (λ all. all.items ≡ map (reaches self.now p) (indices self.now)) }
+        ensures few { process_count self.now ≤ MAX_PROCESSES }
+    {
+        self.has_no_fault();
+        let mut marks = marks;
         let mut pending = Vec::new(alloc);
         pending.push(p)?;
         while let Some(q) = pending.pop() {

@@ -3,7 +3,10 @@
 
 ghost use Rattle.std.specs.Prelude.{◌≡◌, ◌<◌, ◌&&◌, is_none, map, length, All, IfOk, IfErr};
 ghost use Rattle.cmh_graph.specs.Build.{IsWellFormed};
-ghost use Rattle.cmh_graph.specs.Graph.{indices};
+ghost use Rattle.cmh_graph.specs.Alone.{AreAlone};
+ghost use Rattle.cmh_graph.specs.Core.{core_of};
+ghost use Rattle.cmh_graph.specs.Graph.{indices, process_count};
+ghost use Rattle.cmh_graph.specs.Search.{ArePredecessors};
 ghost use Rattle.cmh_graph.specs.Verdict.{verdicts};
 ghost use Rattle.cmh_work.specs.Leaders.{group_leader, is_deadlocked_at, leader_at, LeadsEach};
 
@@ -13,8 +16,8 @@ use cmh_graph::{Predecessors, Verdict, WaitGraph};
 use std::alloc::Global;
 
 /// For each process the leader of its group, if it is deadlocked. One core is computed for each
-/// group, all by predecessors that are made once: it takes the time of a reach for each group, and
-/// of one search of the graph for all groups together.
+/// group that isn't seen to be one process alone, all by predecessors that are made once: it takes
+/// the time of a reach for each of these, and of one search of the graph for all groups together.
 pub(crate) fn group_leaders(
     alloc: Global,
     graph: &WaitGraph,
@@ -27,16 +30,37 @@ pub(crate) fn group_leaders(
     ensures memory { IfErr result (λ e. e ≡ WorkFault.Memory) }
 {
     let predecessors = Predecessors::of_graph(alloc, graph).map_err(want_in_graph)?;
+    let alone = graph.alone(alloc, &predecessors).map_err(want_in_graph)?;
     let mut leaders = vec![in alloc; None; known.len()]?;
     for p in 0..graph.len() {
         if is_new_leader(known, &leaders, p) {
-            let core = graph
-                .core_by(alloc, &predecessors, p)
-                .map_err(want_in_graph)?;
+            let core = core_by(alloc, graph, &predecessors, &alone, p)?;
             lead_each(p, &core, &mut leaders);
         }
     }
     Ok(leaders)
+}
+
+/// The core of a process, which is searched where it isn't known to be that process alone.
+fn core_by(
+    alloc: Global,
+    graph: &WaitGraph,
+    predecessors: &Predecessors,
+    alone: &[bool],
+    p: u32,
+) -> Result<Vec<u32>, WorkFault>
+    requires within { p < process_count graph.now }
+    requires known { ArePredecessors graph.now predecessors.now }
+    requires alone { AreAlone graph.now alone.now }
+    ensures ok { IfOk result (λ core. core.items ≡ core_of graph.now p) }
+    ensures memory { IfErr result (λ e. e ≡ WorkFault.Memory) }
+{
+    if alone[p as usize] {
+        return Ok(Vec::from_slice(alloc, &[p])?);
+    }
+    graph
+        .core_by(alloc, predecessors, p)
+        .map_err(want_in_graph)
 }
 
 /// Whether the process is deadlocked and has no leader yet.

@@ -1,7 +1,7 @@
 use Rattle.std.proofs.Common.{◌+◌, length}
-use Rattle.cmh_graph.specs.Search.{unmarked_count}
-use Rattle.cmh_graph.proofs.Spreading.{SpreadsFrom}
-use Rattle.cmh_graph.proofs.graph.WaitGraph.reached_from.Given as goal
+use Rattle.cmh_graph.specs.Search.{unmarked_count, SpreadsFrom}
+
+use Rattle.cmh_graph.proofs.graph.WaitGraph.spread.Given as goal
 
 abbrev pub invariant-loop-q : goal.invariant-loop-q
 invariant-loop-q l = SpreadsFrom l.self l.p l.marks.items l.pending.items
