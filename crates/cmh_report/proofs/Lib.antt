@@ -1,7 +1,9 @@
 pub mod ChosenPaths
+pub mod Counting
 pub mod Counts
 pub mod Examples
 pub mod Joining
+pub mod Knots
 pub mod Members
 pub mod Numbers
 pub mod Records

@@ -1,9 +1,11 @@
 pub mod Ends
 pub mod Fault
 pub mod Group
+pub mod Knot
 pub mod Lines
 pub mod Outline
 pub mod Paths
 pub mod Records
 pub mod Report
+pub mod Sites
 pub mod Trace

@@ -1,16 +1,18 @@
 //! One group: its number, its members and how many sites they are on.
 
-ghost use Rattle.std.specs.Prelude.{◌≡◌, ◌<◌, length, filter, map, nat_eq, not, All, IfOk, IsTrue};
-ghost use Rattle.std.specs.HashSet.{IsFromIterResult};
-ghost use Rattle.cmh_graph.specs.Graph.{process_count, site_of};
+ghost use Rattle.std.specs.Prelude.{◌≡◌, ◌<◌, ◌^◌, length, filter, not, All, IfOk, IsTrue};
+ghost use Rattle.std.specs.List.{range_with_len};
+ghost use Rattle.cmh_graph.specs.Graph.{process_count};
 ghost use Rattle.cmh_graph.specs.Path.{reach_of};
 ghost use Rattle.cmh_report.specs.Group.{is_led_by, AreGroupsOf, IsGroupOf};
-ghost use Rattle.cmh_report.specs.Report.{site_count};
+ghost use Rattle.cmh_graph.specs.Search.{is_marked};
+ghost use Rattle.cmh_report.specs.Knot.{IsKnotOf};
 
 use crate::groups::{Groups, is_led_by};
+use crate::knot::Knot;
+use crate::sites::count_sites;
 use cmh_graph::{GraphFault, WaitGraph};
 use std::alloc::{AllocError, Global};
-use std::collections::HashSet;
 
 /// What the line of a group says.
 #[derive(Drop)]
@@ -21,21 +23,23 @@ pub(crate) struct Group {
     pub(crate) site_count: usize,
 }
 
-/// The group of a leader. The graph is searched once.
+/// The group of a leader. The graph is searched once, but for what the knot reaches.
 pub(crate) fn group_of(
     alloc: Global,
     graph: &WaitGraph,
     groups: &Groups,
+    knot: &Knot,
     leader: u32,
 ) -> Result<Group, AllocError>
     requires within { leader < process_count graph.now }
     requires groups { AreGroupsOf graph.now groups.now }
+    requires knot { IsKnotOf graph.now knot.now }
     requires leads { IsTrue (is_led_by groups.now.leaders.items leader leader) }
     ensures { IfOk result (IsGroupOf graph.now leader) }
 {
-    let reach = reached(alloc, graph, leader)?;
+    let reach = reach_of(alloc, graph, groups, knot, leader)?;
     let (core, rest) = core_and_rest(alloc, &groups.leaders, leader, &reach)?;
-    let site_count = count_sites(alloc, graph, &reach)?;
+    let site_count = count_sites(alloc, graph, knot.site_bound, &reach)?;
     Ok(Group {
         number: groups.numbers[leader as usize],
         core,
@@ -44,12 +48,37 @@ pub(crate) fn group_of(
     })
 }
 
-/// The processes that one reaches.
-fn reached(alloc: Global, graph: &WaitGraph, p: u32) -> Result<Vec<u32>, AllocError>
-    requires { p < process_count graph.now }
-    ensures { IfOk result (λ list. list.items ≡ reach_of graph.now p) }
+/// The processes that a leader reaches, by rising index.
+fn reach_of(
+    alloc: Global,
+    graph: &WaitGraph,
+    groups: &Groups,
+    knot: &Knot,
+    leader: u32,
+) -> Result<Vec<u32>, AllocError>
+    requires within { leader < process_count graph.now }
+    requires groups { AreGroupsOf graph.now groups.now }
+    requires knot { IsKnotOf graph.now knot.now }
+    ensures { IfOk result (λ list. list.items ≡ reach_of graph.now leader) }
 {
-    graph.reach_of(alloc, p).map_err(out_of_memory)
+    let marks = knot.reached(alloc, graph, groups, leader)?;
+    marked(alloc, &marks)
+}
+
+/// The marked places, by rising index.
+#[tactic(auto, using(cmh_graph::proofs::Listing::filter_indices_kept, cmh_graph::proofs::Listing::filter_indices_passed))]
+fn marked(alloc: Global, marks: &[bool]) -> Result<Vec<u32>, AllocError>
+    requires { length marks.now < 2 ^ 32 }
+    ensures { IfOk result (λ list.
+        list.items ≡ filter (is_marked marks.now) (range_with_len 0 (length marks.now))) }
+{
+    let mut list = Vec::new(alloc);
+    for p in 0..marks.len() {
+        if marks[p] {
+            list.push(p as u32)?;
+        }
+    }
+    Ok(list)
 }
 
 /// A question to a graph fails for want of memory alone.
@@ -82,20 +111,4 @@ fn core_and_rest(
         }
     }
     Ok((core, rest))
-}
-
-/// How many different sites the processes are on.
-fn count_sites(alloc: Global, graph: &WaitGraph, list: &[u32]) -> Result<usize, AllocError>
-    requires { All (λ p. p < process_count graph.now) list.now }
-    ensures { IfOk result (λ count. count ≡ site_count graph.now list.now) }
-{
-    Ok(sites_of(alloc, graph, list)?.len())
-}
-
-/// The sites of the processes.
-fn sites_of(alloc: Global, graph: &WaitGraph, list: &[u32]) -> Result<HashSet<u32>, AllocError>
-    requires { All (λ p. p < process_count graph.now) list.now }
-    ensures { IfOk result (IsFromIterResult nat_eq (map (site_of graph.now) list.now)) }
-{
-    list.iter().map(|p| graph.site(*p)).collect(alloc)
 }

@@ -7,12 +7,14 @@ mod fault;
 mod group;
 mod groups;
 mod input;
+mod knot;
 pub mod laws;
 mod lines;
 mod outline;
 mod parallel;
 mod paths;
 mod pieces;
+mod sites;
 #[cfg(test)]
 mod tests;
 mod text;

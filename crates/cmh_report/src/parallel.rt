@@ -6,12 +6,14 @@ ghost use Rattle.std.specs.Prelude.{◌≡◌, ◌++◌, ◌<◌, IfOk, IsTrue, 
 ghost use Rattle.cmh_graph.specs.Core.{leaders};
 ghost use Rattle.cmh_graph.specs.Graph.{idle_list, process_count};
 ghost use Rattle.cmh_report.specs.Group.{AreGroupsOf, is_led_by};
+ghost use Rattle.cmh_report.specs.Knot.{IsKnotOf};
 ghost use Rattle.cmh_report.specs.Lines.{AreLines};
 ghost use Rattle.cmh_report.specs.Paths.{ArePathsOf};
 ghost use Rattle.cmh_report.specs.Report.{line, process_line, group_line};
 
 use crate::group::group_of;
 use crate::groups::Groups;
+use crate::knot::Knot;
 use crate::lines::{push_deadlocked, push_free, push_group};
 use crate::paths::Paths;
 use crate::pieces::{group_piece, process_piece};
@@ -55,8 +57,10 @@ pub(crate) fn group_lines<R: Threads + Sync>(
     alloc: Global,
     graph: &WaitGraph,
     groups: &Groups,
+    knot: &Knot,
 ) -> Result<Vec<String>, AllocError>
-    requires { AreGroupsOf graph.now groups.now }
+    requires groups { AreGroupsOf graph.now groups.now }
+    requires knot { IsKnotOf graph.now knot.now }
     ensures { IfOk result (λ lines.
         AreLines (reverse (map (group_line graph.now) (leaders graph.now))) lines.items) }
 {
@@ -67,11 +71,11 @@ pub(crate) fn group_lines<R: Threads + Sync>(
         .with_min_len(group_piece(graph))
         .map(
             |leader: &u32| -> Result<String, AllocError>
-                requires { AreGroupsOf graph.now groups.now × (leader.now < process_count graph.now)
-                    × IsTrue (is_led_by groups.now.leaders.items leader.now leader.now) }
+                requires { AreGroupsOf graph.now groups.now × IsKnotOf graph.now knot.now
+                    × (leader.now < process_count graph.now) × IsTrue (is_led_by groups.now.leaders.items leader.now leader.now) }
                 ensures { IfOk result (λ text. string_bytes text
                     ≡ line (group_line graph.entry.now leader.now)) }
-            { line_of_group(alloc, graph, groups, *leader) },
+            { line_of_group(alloc, graph, groups, knot, *leader) },
         )
         .collect::<Result<Vec<String>, AllocError>>(rt, alloc)?
 }
@@ -102,19 +106,21 @@ fn line_of_process(
     Ok(text)
 }
 
-/// The line of the group of a leader. The graph is searched once.
+/// The line of the group of a leader.
 fn line_of_group(
     alloc: Global,
     graph: &WaitGraph,
     groups: &Groups,
+    knot: &Knot,
     leader: u32,
 ) -> Result<String, AllocError>
     requires within { leader < process_count graph.now }
     requires groups { AreGroupsOf graph.now groups.now }
+    requires knot { IsKnotOf graph.now knot.now }
     requires leads { IsTrue (is_led_by groups.now.leaders.items leader leader) }
     ensures { IfOk result (λ text. string_bytes text ≡ line (group_line graph.now leader)) }
 {
-    let group = group_of(alloc, graph, groups, leader)?;
+    let group = group_of(alloc, graph, groups, knot, leader)?;
     let mut text = String::new(alloc);
     push_group(&mut text, graph, &group)?;
     Ok(text)

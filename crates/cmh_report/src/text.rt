@@ -6,6 +6,7 @@ ghost use Rattle.cmh_report.specs.Records.{AreRecordsOf, IsSomeAnalysisOf};
 ghost use Rattle.cmh_report.specs.Report.{report_text};
 
 use crate::ReportFault;
+use crate::knot::Knot;
 use crate::outline::Outline;
 use crate::parallel::{group_lines, process_lines};
 use crate::paths::Paths;
@@ -64,7 +65,8 @@ pub(crate) fn text_of<R: Threads + Sync>(
 {
     let paths = Paths::of_graph(alloc, graph)?;
     let of_processes = process_lines(rt, alloc, graph, &outline.groups, &paths)?;
-    let of_groups = group_lines(rt, alloc, graph, &outline.groups)?;
+    let knot = Knot::of_groups(alloc, graph, &outline.groups)?;
+    let of_groups = group_lines(rt, alloc, graph, &outline.groups, &knot)?;
     joined(alloc, &outline.totals, of_processes, of_groups)
 }
 

@@ -16,7 +16,10 @@ core_and_rest-requires c =
 pub count_sites-requires : goal.count_sites-requires
 count_sites-requires c =
     let g = c.args.graph.now in
-    reach_within g c.args.leader _ _ (c.deref-3.ensures.value ∙ c.in_ok-reach.ensures) (λ i. length g.processes)
+    record {
+      within = reach_within g c.args.leader _ _ (c.deref-3.ensures.value ∙ c.in_ok-reach.ensures) (λ i. length g.processes);
+      below = c.requires.knot.sites;
+    }
 
 pub returns : goal.returns
 returns c =

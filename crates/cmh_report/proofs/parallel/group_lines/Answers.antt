@@ -12,7 +12,8 @@ use Rattle.cmh_report.proofs.parallel.group_lines.Goals as goal
 -- one line for each `Send` and `Sync`, the allocator, and then the closure's `requires` at each leader
 pub collect-requires : goal.collect-requires
 collect-requires g c κs =
-    let groups = c.requires in
+    let groups = c.requires.groups in
+    let knot = c.requires.knot in
     let graph = c.args.graph.now in
     let list = c.args.groups.now.leaders.items in
     let lead = leaders_lead graph list c.args.groups.now.list.items groups.leaders groups.list in
@@ -33,7 +34,7 @@ collect-requires g c κs =
                   omega arith,
                   λ k d lt x same.
                       let here = subst at (sym same) (lead k d lt) in
-                      ((groups, here.0, here.1), λ y p. tt),
+                      ((groups, knot, here.0, here.1), λ y p. tt),
                 ),
               ),
             ),
@@ -49,5 +50,5 @@ returns g c =
     let chain = rw (c.map.ensures.base, c.map.ensures.f, c.with_min_len.ensures.base, c.rev.ensures.base, c.rev.ensures.low, c.rev.ensures.high, c.par_iter.ensures) at h.1 in
     let turned = chain.1 in
     let shown = reversed c.args.groups.now.list.items chain.0 turned.0 turned.1 (omega (arith, turned.2)) turned.3 in
-    rw (← of_groups graph c.args.groups.now.list.items c.requires.list)
+    rw (← of_groups graph c.args.groups.now.list.items c.requires.groups.list)
     (collected AllocError (λ p. line (group_line graph p)) (reverse c.args.groups.now.list.items) chain.0 h.0 c.in_ok-collect.field-0 shown chain.2 h.2)

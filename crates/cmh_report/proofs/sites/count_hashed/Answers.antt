@@ -2,7 +2,7 @@ use Rattle.std.proofs.Common.{◌∙◌, map}
 use Rattle.std.specs.Cmp.{nat_eq_equiv}
 use Rattle.std.proofs.lemmas.Map.Made.{hash_set_len-from_list}
 use Rattle.cmh_graph.specs.Graph.{site_of}
-use Rattle.cmh_report.proofs.group.count_sites.Goals as goal
+use Rattle.cmh_report.proofs.sites.count_hashed.Goals as goal
 
 pub returns : goal.returns
 returns c =

@@ -1,0 +1,92 @@
+-- Sites that are counted by marks.
+use Rattle.std.proofs.Common.{◌≡◌, ℕ, zero, suc, ◌+◌, ◌<◌, Bool, true, false, ◌||◌, inl, inr, List, [], ◌∷◌, ◌++◌, map, length, get_or, take, set, replicate, refl, sym, ◌∙◌, ap, subst, arith, eqb, eqb-true, eq-eqb}
+use Rattle.std.specs.Prelude.{nat_eq}
+use Rattle.std.specs.Set.{is_member}
+use Rattle.std.specs.List.{IsDistinct, list_any}
+use Rattle.std.specs.Cmp.{nat_eq_equiv}
+use Rattle.std.proofs.lemmas.Bool.{cases_eq}
+use Rattle.std.proofs.lemmas.List.{get_or-set_other, get_or-set_same, length-replicate, length-set, map-append, take_more}
+use Rattle.std.proofs.lemmas.List.Folds.{list_any-append}
+use Rattle.std.proofs.lemmas.Map.Keys.{IsDistinct-push}
+use Rattle.cmh_graph.specs.Search.{is_marked}
+
+-- The sites are those of so many processes, each once, and are marked alone.
+pub record AreSeen (bound : ℕ) (seen : List Bool) (sites all : List ℕ) : Type 0 where
+  pub size : length seen ≡ bound
+  pub distinct : IsDistinct nat_eq sites
+  pub same : (s : ℕ) → is_member nat_eq sites s ≡ is_member nat_eq all s
+  pub marked : (s : ℕ) → is_marked seen s ≡ is_member nat_eq sites s
+
+-- nothing is marked in a list of nothing
+none_marked : (n s : ℕ) → is_marked (replicate n false) s ≡ false
+none_marked zero s = refl
+none_marked (suc n) zero = refl
+none_marked (suc n) (suc s) = none_marked n s
+
+-- at first there is none
+pub seen_none : (bound : ℕ) (seen : List Bool) → seen ≡ replicate bound false → AreSeen bound seen [] []
+unfolding IsDistinct
+seen_none bound seen is = record {
+  size = ap length is ∙ length-replicate bound false;
+  distinct = tt;
+  same = λ s. refl;
+  marked = λ s. ap (λ ms. is_marked ms s) is ∙ none_marked bound s;
+}
+
+-- a disjunction with false is its first part
+or_false : (b : Bool) → (b || false) ≡ b
+or_false true = refl
+or_false false = refl
+
+-- a site more is a member too
+member_push : (xs : List ℕ) (x s : ℕ) → is_member nat_eq (xs ++ x ∷ []) s ≡ (is_member nat_eq xs s || nat_eq s x)
+member_push xs x s = list_any-append (nat_eq s) xs (x ∷ []) ∙ ap (λ b. list_any (nat_eq s) xs || b) (or_false (nat_eq s x))
+
+-- what follows from one part adds nothing
+or_known : (a b : Bool) → (b ≡ true → a ≡ true) → a ≡ (a || b)
+or_known true b h = refl
+or_known false true h = h refl
+or_known false false h = refl
+
+-- and what is true of the second part is true of both
+or_right : (a b : Bool) → b ≡ true → (a || b) ≡ true
+or_right true b e = refl
+or_right false b e = e
+
+-- what isn't true is false
+other_false : (b : Bool) → (b ≡ true → ⊥) → b ≡ false
+other_false true h = absurd (h refl)
+other_false false h = refl
+
+-- a site more that is marked already
+pub seen_again : (bound : ℕ) (seen : List Bool) (sites all : List ℕ) (x : ℕ) → AreSeen bound seen sites all → is_marked seen x ≡ true → AreSeen bound seen sites (all ++ x ∷ [])
+seen_again bound seen sites all x h m = record {
+  size = h.size;
+  distinct = h.distinct;
+  same = λ s.
+      or_known (is_member nat_eq sites s) (nat_eq s x) (λ e. ap (is_member nat_eq sites) (eqb-true s x e) ∙ sym (h.marked x) ∙ m)
+      ∙ ap (λ b. b || nat_eq s x) (h.same s) ∙ sym (member_push all x s);
+  marked = h.marked;
+}
+
+-- a site more that is marked now
+pub seen_more : (bound : ℕ) (seen : List Bool) (sites all : List ℕ) (x : ℕ) → AreSeen bound seen sites all → x < bound → is_marked seen x ≡ false → AreSeen bound (set seen x true) (sites ++ x ∷ []) (all ++ x ∷ [])
+seen_more bound seen sites all x h l m = record {
+  size = length-set seen x true ∙ h.size;
+  distinct = IsDistinct-push nat_eq_equiv sites x h.distinct (sym (h.marked x) ∙ m);
+  same = λ s. member_push sites x s ∙ ap (λ b. b || nat_eq s x) (h.same s) ∙ sym (member_push all x s);
+  marked = λ s. elim (cases_eq s x) [
+    | inl is ↦
+        ap (is_marked (set seen x true)) is
+        ∙ get_or-set_same seen x true false (omega (arith, l, h.size))
+        ∙ sym (member_push sites x s ∙ or_right (is_member nat_eq sites s) (nat_eq s x) (eq-eqb s x is))
+    | inr other ↦
+        get_or-set_other seen x s true false other
+        ∙ h.marked s
+        ∙ sym (member_push sites x s ∙ ap (λ b. is_member nat_eq sites s || b) (other_false (eqb s x) (λ e. other (eqb-true s x e))) ∙ or_false (is_member nat_eq sites s))
+  ];
+}
+
+-- the sites of one process more
+pub sites_more : (site : ℕ → ℕ) (list : List ℕ) (i : ℕ) → i < length list → map site (take (i + 1) list) ≡ map site (take i list) ++ site (get_or list i 0) ∷ []
+sites_more site list i l = ap (map site) (take_more list i 0 l) ∙ map-append site (take i list) (get_or list i 0 ∷ [])
