@@ -115,10 +115,10 @@ spreads_known g p q known w i there is =
     let size : length known ≡ process_count g = ap length is ∙ length-by_index g (reaches g q) in
     let start : is_marked (set known p true) p ≡ true = get_or-set_same known p true false (omega (arith, i, size)) in
     let before : (r : ℕ) → is_marked known r ≡ true → Reaches g q r = λ r m.
-        reaches_then g q r (sym (by_index g (reaches g q) known r false is (omega (arith, marked_within known r m, size))) ∙ m) in
+    reaches_then g q r (sym (by_index g (reaches g q) known r false is (omega (arith, marked_within known r m, size))) ∙ m) in
     let after : (r : ℕ) → Reaches g q r → is_marked known r ≡ true = λ r way.
-        let j = reached_by_within g p q r w i there way in
-        by_index g (reaches g q) known r false is j.1 ∙ then_reaches g q r w j.0 way in
+    let j = reached_by_within g p q r w i there way in
+    by_index g (reaches g q) known r false is j.1 ∙ then_reaches g q r w j.0 way in
     record {
       size = length-set known p true ∙ size;
       start = start;

@@ -58,9 +58,7 @@ fn core_by(
     if alone[p as usize] {
         return Ok(Vec::from_slice(alloc, &[p])?);
     }
-    graph
-        .core_by(alloc, predecessors, p)
-        .map_err(want_in_graph)
+    graph.core_by(alloc, predecessors, p).map_err(want_in_graph)
 }
 
 /// Whether the process is deadlocked and has no leader yet.

@@ -25,7 +25,8 @@ impl Shapes {
     ghost use Rattle.cmh_run.specs.Hints.{IsVerdict};
     ghost use Rattle.cmh_work.specs.Shape.{IsShape, AreShapesOf};
 
-    /// Searches the graph once for all distances, and twice for each group.
+    /// Searches the graph once for all distances, and twice for each group that isn't soon seen to be
+    /// one process alone.
     pub(crate) fn of_graph(alloc: Global, graph: &WaitGraph) -> Result<Shapes, WorkFault>
         ensures ok { IfOk result (AreShapesOf graph.now) }
         ensures memory { IfErr result (λ e. e ≡ WorkFault.Memory) }

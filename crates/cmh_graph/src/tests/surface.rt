@@ -64,6 +64,19 @@ fn a_core_by_predecessors(rt: HostRuntime) -> Result<(), GraphFault> {
 }
 
 #[test]
+fn marks_by_process(rt: HostRuntime) -> Result<(), GraphFault> {
+    let alloc = rt.alloc();
+    let graph = graph_of(alloc, &CYCLE_AND_FOLLOWER)?;
+    assert_eq!(rt; graph.len(), 3);
+    let predecessors: Predecessors = Predecessors::of_graph(alloc, &graph)?;
+    let alone: Vec<bool> = graph.alone(alloc, &predecessors)?;
+    assert_eq!(rt; alone.as_slice(), [false, false, true].as_slice());
+    let reached: Vec<bool> = graph.reached(alloc, 1)?;
+    assert_eq!(rt; reached.as_slice(), [true, true, false].as_slice());
+    Ok(())
+}
+
+#[test]
 fn a_message_in_transit(rt: HostRuntime) -> Result<(), GraphFault> {
     let alloc = rt.alloc();
     let parts = parts_of(alloc, &CYCLE_AND_FOLLOWER)?;

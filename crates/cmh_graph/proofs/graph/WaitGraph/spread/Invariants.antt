@@ -1,6 +1,5 @@
 use Rattle.std.proofs.Common.{◌+◌, length}
 use Rattle.cmh_graph.specs.Search.{unmarked_count, SpreadsFrom}
-
 use Rattle.cmh_graph.proofs.graph.WaitGraph.spread.Given as goal
 
 abbrev pub invariant-loop-q : goal.invariant-loop-q
