@@ -96,7 +96,8 @@ dump_status (dump.BadInTransit i) = inl refl
 dump_status (dump.UnknownInTransit i) = inl refl
 
 -- where the dump is refused, the status says whether by a fault of its own
-refused_dump : (r : Request) (e : Ends) (f : DumpFault) → (status_of_dump f ≡ REFUSED → HasRefusedDump r e) → HasFailed r e → IsOutcome r (status_of_dump f) e
+refused_dump : (r : Request) (e : Ends) (f : DumpFault) → (status_of_dump f ≡ REFUSED → HasRefusedDump r e)
+    → HasFailed r e → IsOutcome r (status_of_dump f) e
 refused_dump r e f own failed = by_status (status_of_dump f) (dump_status f) own
   where
     by_status : (s : ℕ) → (s ≡ REFUSED) ⊎ (s ≡ FAILED) → (s ≡ REFUSED → HasRefusedDump r e) → IsOutcome r s e
@@ -120,7 +121,8 @@ refused_dump r e f own failed = by_status (status_of_dump f) (dump_status f) own
 -- ---- lists and plans
 
 -- a list is refused for want of memory, or for its own fault
-pub list_status : (text : List ℕ) (f : ListFault) → (f ≡ list.Memory) ⊎ IsFirstFault text f → IsListStatus text (status_of_list f)
+pub list_status : (text : List ℕ) (f : ListFault) → (f ≡ list.Memory) ⊎ IsFirstFault text f
+    → IsListStatus text (status_of_list f)
 list_status text list.Memory h = inl refl
 list_status text (list.BadNumber i) (inl h) = cc
 list_status text (list.BadNumber i) (inr h) = inr (refl, (list.BadNumber i, h))
@@ -138,14 +140,22 @@ choices_next w s (inl h) = inl h
 choices_next w s (inr h) = inr (h.0, inr (inl h.1))
 
 -- a plan is refused for want of memory, or for its own fault
-pub plan_status : (w : PlanWords) (cuts choices : List ℕ) (f : PlanFault) → HasCuts w.cuts cuts → IsListOf w.choices.now choices
-    → (f ≡ plan.Memory) ⊎ IsPlanFault record { workers = w.workers; cuts = cuts; choices = choices } f → IsPlanStatus w (status_of_plan f)
+pub plan_status : (w : PlanWords) (cuts choices : List ℕ) (f : PlanFault) → HasCuts w.cuts cuts
+    → IsListOf w.choices.now choices
+    → (f ≡ plan.Memory) ⊎ IsPlanFault record { workers = w.workers; cuts = cuts; choices = choices } f
+    → IsPlanStatus w (status_of_plan f)
 plan_status w cuts choices f listed next h = by_fault f h
   where
-    bad : (f : PlanFault) → IsPlanFault record { workers = w.workers; cuts = cuts; choices = choices } f → AreBadPlanWords w
-    bad f first = inr (inr (record { cuts = cuts; choices = choices; cuts_listed = listed; choices_listed = next; fault = f; first = first }))
+    bad : (f : PlanFault) → IsPlanFault record { workers = w.workers; cuts = cuts; choices = choices } f
+        → AreBadPlanWords w
+    bad f first =
+        inr (inr
+            (record { cuts = cuts; choices = choices; cuts_listed = listed; choices_listed = next; fault = f;
+                first = first }))
 
-    by_fault : (f : PlanFault) → (f ≡ plan.Memory) ⊎ IsPlanFault record { workers = w.workers; cuts = cuts; choices = choices } f → IsPlanStatus w (status_of_plan f)
+    by_fault : (f : PlanFault)
+        → (f ≡ plan.Memory) ⊎ IsPlanFault record { workers = w.workers; cuts = cuts; choices = choices } f
+        → IsPlanStatus w (status_of_plan f)
     by_fault plan.Memory h = inl refl
     by_fault plan.BadWorkers (inl h) = cc
     by_fault plan.BadWorkers (inr h) = inr (refl, bad plan.BadWorkers h)
@@ -157,16 +167,20 @@ plan_status w cuts choices f listed next h = by_fault f h
 -- ---- an analysis
 
 -- the plan is refused before anything is read
-pub misplanned : (w : PlanWords) (s : ℕ) (e : Ends) → IsPlanStatus w s → IsUnread e → IsUnwritten e → IsOutcome (Analyse w) s e
-misplanned w s e (inl h) unread unwritten = subst (λ (n : ℕ). IsOutcome (Analyse w) n e) (sym h) (has_failed (Analyse w) e (inl unwritten))
-misplanned w s e (inr h) unread unwritten = subst (λ (n : ℕ). IsOutcome (Analyse w) n e) (sym h.0) (is_misused (Analyse w) e (unwritten, unread, h.1))
+pub misplanned : (w : PlanWords) (s : ℕ) (e : Ends) → IsPlanStatus w s → IsUnread e → IsUnwritten e
+    → IsOutcome (Analyse w) s e
+misplanned w s e (inl h) unread unwritten =
+    subst (λ (n : ℕ). IsOutcome (Analyse w) n e) (sym h) (has_failed (Analyse w) e (inl unwritten))
+misplanned w s e (inr h) unread unwritten =
+    subst (λ (n : ℕ). IsOutcome (Analyse w) n e) (sym h.0) (is_misused (Analyse w) e (unwritten, unread, h.1))
 
 -- the report says that nothing is deadlocked
 pub nothing_deadlocked : (w : PlanWords) (e : Ends) → HasAnswered (IsCountedReport 0) e → IsOutcome (Analyse w) FREE e
 nothing_deadlocked w e h = is_done (Analyse w) e h
 
 -- the report says that something is
-pub something_deadlocked : (w : PlanWords) (e : Ends) (d : ℕ) → d ≢ 0 → HasAnswered (IsCountedReport d) e → IsOutcome (Analyse w) DEADLOCKED e
+pub something_deadlocked : (w : PlanWords) (e : Ends) (d : ℕ) → d ≢ 0 → HasAnswered (IsCountedReport d) e
+    → IsOutcome (Analyse w) DEADLOCKED e
 something_deadlocked w e d some h = has_deadlock (Analyse w) e (d, omega (arith, some), h)
 
 -- the analysis has a fault
@@ -181,14 +195,19 @@ analysis_failed w e (Work f) refused nobody no_run unwritten cut stopped = has_f
 analysis_failed w e NoSuchProcess refused nobody no_run unwritten cut stopped = absurd nobody
 analysis_failed w e (Run f) refused nobody no_run unwritten cut stopped = absurd no_run
 analysis_failed w e (Report f) refused nobody no_run unwritten cut stopped = has_failed (Analyse w) e (inl unwritten)
-analysis_failed w e (WriteFault n) refused nobody no_run unwritten cut stopped = has_failed (Analyse w) e (inr (stopped, (n, cut)))
+analysis_failed w e (WriteFault n) refused nobody no_run unwritten cut stopped =
+    has_failed (Analyse w) e (inr (stopped, (n, cut)))
 
 -- ---- a trace
 
 -- the list of choices is refused before anything is read
-pub mislisted : (name list : Bor (List ℕ)) (s : ℕ) (e : Ends) → IsListStatus list.now s → IsUnread e → IsUnwritten e → IsOutcome (Trace name list) s e
-mislisted name list s e (inl h) unread unwritten = subst (λ (n : ℕ). IsOutcome (Trace name list) n e) (sym h) (has_failed (Trace name list) e (inl unwritten))
-mislisted name list s e (inr h) unread unwritten = subst (λ (n : ℕ). IsOutcome (Trace name list) n e) (sym h.0) (is_misused (Trace name list) e (unwritten, inl (unread, h.1)))
+pub mislisted : (name list : Bor (List ℕ)) (s : ℕ) (e : Ends) → IsListStatus list.now s → IsUnread e → IsUnwritten e
+    → IsOutcome (Trace name list) s e
+mislisted name list s e (inl h) unread unwritten =
+    subst (λ (n : ℕ). IsOutcome (Trace name list) n e) (sym h) (has_failed (Trace name list) e (inl unwritten))
+mislisted name list s e (inr h) unread unwritten =
+    subst (λ (n : ℕ). IsOutcome (Trace name list) n e) (sym h.0)
+        (is_misused (Trace name list) e (unwritten, inl (unread, h.1)))
 
 -- however its run has ended, a trace fits
 any_ending : (name list choices : List ℕ) (ending : Ending) (g : Graph) (text : List ℕ) → IsListOf list choices
@@ -233,32 +252,45 @@ not_idle : (name choices : List ℕ) (f : RunFault) (g : Graph) → length choic
     → (f ≡ run.Memory) ⊎ NobodyIdleIsNamed name g
 not_idle name choices f g few h = by_fault f h.cause
   where
-    by_fault : (f : RunFault) → (f ≡ run.Memory) ⊎ IsRunFault g h.initiator choices [] f → (f ≡ run.Memory) ⊎ NobodyIdleIsNamed name g
+    by_fault : (f : RunFault) → (f ≡ run.Memory) ⊎ IsRunFault g h.initiator choices [] f
+        → (f ≡ run.Memory) ⊎ NobodyIdleIsNamed name g
     by_fault f (inl memory) = inl memory
-    by_fault run.NotIdle (inr active) = inr (λ p first. subst (λ (q : ℕ). IsFalse (is_idle g q)) (first_alone name g h.initiator p h.named first) active)
+    by_fault run.NotIdle (inr active) =
+        inr (λ p first. subst (λ (q : ℕ). IsFalse (is_idle g q))
+            (first_alone name g h.initiator p h.named first) active)
     by_fault run.TooManyChoices (inr many) = let l : MAX_CHOICES < length choices = many.1 in absurd (omega arith)
     by_fault run.BadRestarts (inr bad) = absurd (bad.2 no_restarts)
     by_fault run.Memory (inr none) = absurd none
 
 -- the trace has a fault
-pub trace_failed : (name list : Bor (List ℕ)) (choices : List ℕ) (e : Ends) (f : AppFault) → IsListOf list.now choices → length choices ≤ MAX_CHOICES
+pub trace_failed : (name list : Bor (List ℕ)) (choices : List ℕ) (e : Ends) (f : AppFault) → IsListOf list.now choices
+    → length choices ≤ MAX_CHOICES
     → IfDump f (IsRefused e.given_old e.given_new e.has_ended e.source_failed)
     → IfNoSuchProcess f (GaveGraph e.given_old e.given_new e.has_ended (λ g. NobodyIsNamed g name.now))
     → IfRun f (λ fault. GaveGraph e.given_old e.given_new e.has_ended (HasNoRun name.now choices fault))
     → IfUnwritten f (IsUnwritten e)
-    → IfWriteFault f (IsCutShort (IsSomeTrace name.now choices) e.given_old e.given_new e.has_ended e.taken_old e.taken_new)
+    → IfWriteFault f
+        (IsCutShort (IsSomeTrace name.now choices) e.given_old e.given_new e.has_ended e.taken_old e.taken_new)
     → IfWriteFault f (λ _. e.out_failed ≡ true) → IsOutcome (Trace name list) (status_of f) e
 trace_failed name list choices e (Dump f) listed few refused nobody no_run unwritten cut stopped =
     refused_dump (Trace name list) e f (λ own. (unwritten, (f, own, refused))) (inl unwritten)
-trace_failed name list choices e (Work f) listed few refused nobody no_run unwritten cut stopped = has_failed (Trace name list) e (inl unwritten)
+trace_failed name list choices e (Work f) listed few refused nobody no_run unwritten cut stopped =
+    has_failed (Trace name list) e (inl unwritten)
 trace_failed name list choices e NoSuchProcess listed few refused nobody no_run unwritten cut stopped =
-    is_misused (Trace name list) e (unwritten, inr (record { graph = nobody.graph; dump = nobody.dump; holds = nobody_named name.now nobody.graph nobody.holds }))
-trace_failed name list choices e (Run f) listed few refused nobody no_run unwritten cut stopped = by_run f (not_idle name.now choices f no_run.graph few no_run.holds)
+    is_misused (Trace name list) e
+        (unwritten,
+            inr (record
+                { graph = nobody.graph; dump = nobody.dump; holds = nobody_named name.now nobody.graph nobody.holds }))
+trace_failed name list choices e (Run f) listed few refused nobody no_run unwritten cut stopped =
+    by_run f (not_idle name.now choices f no_run.graph few no_run.holds)
   where
     misused : NobodyIdleIsNamed name.now no_run.graph → IsOutcome (Trace name list) MISUSED e
-    misused none = is_misused (Trace name list) e (unwritten, inr (record { graph = no_run.graph; dump = no_run.dump; holds = none }))
+    misused none =
+        is_misused (Trace name list) e
+            (unwritten, inr (record { graph = no_run.graph; dump = no_run.dump; holds = none }))
 
-    by_run : (f : RunFault) → (f ≡ run.Memory) ⊎ NobodyIdleIsNamed name.now no_run.graph → IsOutcome (Trace name list) (status_of_run f) e
+    by_run : (f : RunFault) → (f ≡ run.Memory) ⊎ NobodyIdleIsNamed name.now no_run.graph
+        → IsOutcome (Trace name list) (status_of_run f) e
     by_run run.Memory h = has_failed (Trace name list) e (inl unwritten)
     by_run run.NotIdle (inl memory) = cc
     by_run run.NotIdle (inr none) = misused none
@@ -266,7 +298,8 @@ trace_failed name list choices e (Run f) listed few refused nobody no_run unwrit
     by_run run.TooManyChoices (inr none) = misused none
     by_run run.BadRestarts (inl memory) = cc
     by_run run.BadRestarts (inr none) = misused none
-trace_failed name list choices e (Report f) listed few refused nobody no_run unwritten cut stopped = has_failed (Trace name list) e (inl unwritten)
+trace_failed name list choices e (Report f) listed few refused nobody no_run unwritten cut stopped =
+    has_failed (Trace name list) e (inl unwritten)
 trace_failed name list choices e (WriteFault n) listed few refused nobody no_run unwritten cut stopped =
     has_failed (Trace name list) e (inr (
       stopped,
@@ -288,7 +321,8 @@ trace_failed name list choices e (WriteFault n) listed few refused nobody no_run
 -- the text is out, or its front where the output failed
 pub shown : (text : String Global) (s : ℕ) (e : Ends) → (s ≡ FREE) ⊎ (s ≡ FAILED) → IsUnread e
     → (s ≡ FREE → e.taken_new ≡ e.taken_old ++ string_bytes text) → (s ≡ FREE → e.is_finished ≡ true)
-    → (s ≡ FAILED → (e.out_failed ≡ true) × ((written : ℕ) × (e.taken_new ≡ e.taken_old ++ take written (string_bytes text))))
+    → (s ≡ FAILED
+        → (e.out_failed ≡ true) × ((written : ℕ) × (e.taken_new ≡ e.taken_old ++ take written (string_bytes text))))
     → IsOutcome (Show text) s e
 shown text s e (inl is) unread taken finished front = record {
   free = λ x. (unread, taken x, finished x);
@@ -310,9 +344,12 @@ shown text s e (inr is) unread taken finished front = record {
 -- ---- the whole program
 
 -- the request is what the words ask for
-pub requested : (words : List (List ℕ)) (r : Request) (s : ℕ) (e : Ends) → IsRequest words r → IsOutcome r s e → IsOutcomeOf words s e
+pub requested : (words : List (List ℕ)) (r : Request) (s : ℕ) (e : Ends) → IsRequest words r → IsOutcome r s e
+    → IsOutcomeOf words s e
 requested words r s e asked h = inl (r, asked, h)
 
 -- the words are refused, and nothing is touched
-pub refused_words : (words : List (List ℕ)) (text : String Global) (e : Ends) → IsRequest words (Refused text) → IsUnread e → IsUnwritten e → IsOutcomeOf words MISUSED e
-refused_words words text e asked unread unwritten = inl (Refused text, asked, is_misused (Refused text) e (unwritten, unread))
+pub refused_words : (words : List (List ℕ)) (text : String Global) (e : Ends) → IsRequest words (Refused text)
+    → IsUnread e → IsUnwritten e → IsOutcomeOf words MISUSED e
+refused_words words text e asked unread unwritten =
+    inl (Refused text, asked, is_misused (Refused text) e (unwritten, unread))

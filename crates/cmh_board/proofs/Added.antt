@@ -3,6 +3,7 @@ use Rattle.std.proofs.Common.{◌≡◌, ℕ, ◌+◌, ◌<◌, ◌≤◌, List,
 use Rattle.std.proofs.lemmas.List.{nil_from_length}
 use Rattle.cmh_graph.specs.declared.verdict.Verdict.{Verdict}
 use Rattle.cmh_graph.specs.Graph.{Graph, IsWithinGraph}
+use Rattle.cmh_graph.proofs.Verdicts.{true_verdict}
 use Rattle.cmh_rw.specs.declared.row.Row.{Row}
 use Rattle.cmh_rw.specs.declared.view.View.{View}
 use Rattle.cmh_rw.specs.History.{fold_at, EndsLast, IsPosting, IsHistory, IsTrueOf, AreTold}
@@ -11,7 +12,6 @@ use Rattle.cmh_rw.specs.View.{AfterLoad, posted, tried, ended}
 use Rattle.cmh_board.specs.Board.{unposted, rows_of, with_posting, times, IsWritten, Posts}
 use Rattle.cmh_board.specs.Posting.{Told, IsTruth}
 use Rattle.cmh_board.specs.Adding.{CanPost, IsWriter, OnlyLoads, Stages, Adds}
-use Rattle.cmh_board.proofs.Histories.{then_verdict}
 use Rattle.cmh_board.proofs.PostingRows.{rows_end, rows_told, true_behind, said_behind, once_behind, history-snoc, length-rows_of}
 
 -- the rows of a posting
@@ -40,11 +40,13 @@ adds_from t v a w found can h seen mine lock staged loads history =
     }
 
 -- nothing was new
-pub adds_none : (t : Told) (v a b : View) (found : ℕ) → IsWriter v → CanPost v.lock.graph t.verdict t.processes → AfterLoad v 1 found a
+pub adds_none : (t : Told) (v a b : View) (found : ℕ) → IsWriter v → CanPost v.lock.graph t.verdict t.processes
+    → AfterLoad v 1 found a
     → OnlyLoads a b → length (unposted a.seen t.processes) ≡ 0 → Adds t v b
 adds_none t v a b found writer can h loads few =
     let none : new_rows t a.seen ≡ [] = ap (rows_of t.verdict) (nil_from_length (unposted a.seen t.processes) few) in
-    let seen : b.seen ≡ a.seen ++ new_rows t a.seen = loads.seen ∙ sym (append-nil a.seen) ∙ ap (λ l. a.seen ++ l) (sym none) in
+    let seen : b.seen ≡ a.seen ++ new_rows t a.seen =
+        loads.seen ∙ sym (append-nil a.seen) ∙ ap (λ l. a.seen ++ l) (sym none) in
     adds_from t v a b found can h seen
     (loads.mine ∙ ap (λ (u : View). u.mine) h.view ∙ ap (with_posting v.mine) (sym none))
     (loads.lock ∙ ap (λ (u : View). u.lock) h.view)
@@ -53,21 +55,26 @@ adds_none t v a b found writer can h loads few =
     (subst IsHistory (sym loads.seen) h.whole)
 
 -- a posting with rows is added
-some_posting : (mine : List (List Row)) (d : Verdict) (ps : List ℕ) → 0 < length ps → with_posting mine (rows_of d ps) ≡ mine ++ rows_of d ps ∷ []
+some_posting : (mine : List (List Row)) (d : Verdict) (ps : List ℕ) → 0 < length ps
+    → with_posting mine (rows_of d ps) ≡ mine ++ rows_of d ps ∷ []
 some_posting mine d [] l = absurd (omega arith)
 some_posting mine d (p ∷ ps) l = refl
 
 -- the new rows were staged and counted
-pub adds_rows : (t : Told) (v a b s w : View) (found : ℕ) → CanPost v.lock.graph t.verdict t.processes → AfterLoad v 1 found a
-    → OnlyLoads a b → Stages t.verdict t.processes b s → w ≡ posted s → IsPosting s.staged → 0 < length (unposted a.seen t.processes)
+pub adds_rows : (t : Told) (v a b s w : View) (found : ℕ) → CanPost v.lock.graph t.verdict t.processes
+    → AfterLoad v 1 found a
+    → OnlyLoads a b → Stages t.verdict t.processes b s → w ≡ posted s → IsPosting s.staged
+    → 0 < length (unposted a.seen t.processes)
     → Adds t v w
 adds_rows t v a b s w found can h loads st e posting some =
     let rows = new_rows t a.seen in
     let staged : s.staged ≡ rows = st.staged ∙ ap (new_rows t) loads.seen in
     let kept : s.seen ≡ a.seen = st.seen ∙ loads.seen in
-    let seen : w.seen ≡ a.seen ++ rows = ap (λ (u : View). u.seen) e ∙ ap (λ l. l ++ s.staged) kept ∙ ap (λ l. a.seen ++ l) staged in
+    let seen : w.seen ≡ a.seen ++ rows =
+        ap (λ (u : View). u.seen) e ∙ ap (λ l. l ++ s.staged) kept ∙ ap (λ l. a.seen ++ l) staged in
     adds_from t v a w found can h seen
-    (ap (λ (u : View). u.mine) e ∙ ap (λ l. l ++ s.staged ∷ []) (st.mine ∙ loads.mine ∙ ap (λ (u : View). u.mine) h.view)
+    (ap (λ (u : View). u.mine) e
+        ∙ ap (λ l. l ++ s.staged ∷ []) (st.mine ∙ loads.mine ∙ ap (λ (u : View). u.mine) h.view)
     ∙ ap (λ r. v.mine ++ r ∷ []) staged ∙ sym (some_posting v.mine t.verdict (unposted a.seen t.processes) some))
     (ap (λ (u : View). u.lock) e ∙ st.lock ∙ loads.lock ∙ ap (λ (u : View). u.lock) h.view)
     (ap (λ (u : View). u.staged) e)
@@ -75,7 +82,8 @@ adds_rows t v a b s w found can h loads st e posting some =
     (subst IsHistory (sym seen) (history-snoc a.seen rows h.whole (subst IsPosting staged posting)))
 
 -- what is staged ends with a last row
-pub staged_ends : (d : Verdict) (ps : List ℕ) (v s : View) → Stages d ps v s → 0 < length (unposted v.seen ps) → EndsLast s.staged
+pub staged_ends : (d : Verdict) (ps : List ℕ) (v s : View) → Stages d ps v s → 0 < length (unposted v.seen ps)
+    → EndsLast s.staged
 staged_ends d ps v s st some = subst EndsLast (sym st.staged) (ends_some (unposted v.seen ps) some)
   where
     ends_some : (qs : List ℕ) → 0 < length qs → EndsLast (rows_of d qs)
@@ -85,7 +93,8 @@ staged_ends d ps v s st some = subst EndsLast (sym st.staged) (ends_some (unpost
 -- and is told
 pub staged_told : (d : Verdict) (ps : List ℕ) (v s : View) → Stages d ps v s → AreTold s.staged s.told
 staged_told d ps v s st =
-    subst (λ x. AreTold x s.told) (sym st.staged) (subst (λ y. AreTold (rows_of d (unposted v.seen ps)) y) (sym st.told) (rows_told d (unposted v.seen ps)))
+    subst (λ x. AreTold x s.told) (sym st.staged)
+        (subst (λ y. AreTold (rows_of d (unposted v.seen ps)) y) (sym st.told) (rows_told d (unposted v.seen ps)))
 
 -- the number of rows from then on
 pub staged_number : (d : Verdict) (ps : List ℕ) (v s : View) (count new : ℕ) → Stages d ps v s → count ≡ length v.seen
@@ -99,19 +108,21 @@ staged_number d ps v s count new st c n =
 pub can_post : (g : Graph) (t : Told) → IsWithinGraph g → IsTruth g t → CanPost g t.verdict t.processes
 can_post g t within truth = record {
   idle = truth.idle;
-  truth = λ p c. then_verdict g p t.verdict within (truth.verdict p c);
+  truth = λ p c. true_verdict g p t.verdict within (truth.verdict p c);
   once = truth.once;
 }
 
 -- a seat that took the lock, added a posting and let the lock go has posted it
-pub posts_from : (t : Told) (v u a w : View) → u ≡ tried v Writing 0 → Adds t u a → w ≡ ended a → IsWritten v w × Posts t v w
+pub posts_from : (t : Told) (v u a w : View) → u ≡ tried v Writing 0 → Adds t u a → w ≡ ended a
+    → IsWritten v w × Posts t v w
 posts_from t v u a w took adds ended =
     let lock = adds.lock ∙ ap (λ (x : View). x.lock) took in
     let before = ap (λ (x : View). x.seen) took in
     let seen = ap (λ (x : View). x.seen) ended in (
       record {
         found = ap (λ (x : View). x.lock.found) ended ∙ ap (λ l. l.found) lock;
-        loads = (let x = ap (λ (y : View). y.loads) took in let y = adds.loads in let z = ap (λ (y : View). y.loads) ended in omega arith);
+        loads = (let x = ap (λ (y : View). y.loads) took in let y = adds.loads in
+            let z = ap (λ (y : View). y.loads) ended in omega arith);
       },
       record {
         between = adds.between;

@@ -6,44 +6,12 @@ use Rattle.std.proofs.lemmas.Option.{same_Some}
 use Rattle.cmh_graph.specs.declared.verdict.Verdict.{Verdict}
 use Rattle.cmh_graph.specs.declared.verdict.Verdict.TheVariants.{Deadlocked, Free}
 use Rattle.cmh_graph.specs.Graph.{Graph, IsWithinGraph}
-use Rattle.cmh_graph.specs.Verdict.{is_deadlocked, verdict}
-use Rattle.cmh_graph.proofs.Verdicts.{test_then, then_test}
-use Rattle.cmh_run.specs.Hints.{IsVerdict}
+use Rattle.cmh_graph.specs.Verdict.{is_deadlocked, verdict, IsVerdict}
+use Rattle.cmh_graph.proofs.Verdicts.{verdict_true}
 use Rattle.cmh_run.proofs.Theorem.{by_test}
 use Rattle.cmh_rw.specs.declared.row.Row.{Row}
 use Rattle.cmh_rw.specs.History.{fold_at, IsTrueOf}
 use Rattle.cmh_board.specs.Board.{times}
-
--- ---- verdicts
-
--- the test of deadlock decides the verdict
-verdict_by : (g : Graph) (p : ℕ) (v : Verdict) → IsWithinGraph g → (b : Bool)
-    → is_deadlocked g p ≡ b → cond b Deadlocked Free ≡ v → IsVerdict g p v
-verdict_by g p Deadlocked within true t e = test_then g p within t
-verdict_by g p Free within true t e = absurd (cc)
-verdict_by g p Deadlocked within false t e = absurd (cc)
-verdict_by g p Free within false t e = λ dead. true_false (sym (then_test g p dead) ∙ t)
-  where
-    true_false : true ≢ false
-    true_false e = cc
-
--- the verdict that is computed is the truth
-pub verdict_then : (g : Graph) (p : ℕ) (v : Verdict) → IsWithinGraph g → verdict g p ≡ v
-    → IsVerdict g p v
-verdict_then g p v within e = verdict_by g p v within (is_deadlocked g p) refl e
-
--- of two verdicts that are both true each is the other
-one_verdict : (g : Graph) (p : ℕ) (v u : Verdict) → IsVerdict g p v → IsVerdict g p u → v ≡ u
-one_verdict g p Deadlocked Deadlocked a b = refl
-one_verdict g p Deadlocked Free a b = absurd (b a)
-one_verdict g p Free Deadlocked a b = absurd (a b)
-one_verdict g p Free Free a b = refl
-
--- the truth is the verdict that is computed
-pub then_verdict : (g : Graph) (p : ℕ) (v : Verdict) → IsWithinGraph g → IsVerdict g p v
-    → v ≡ verdict g p
-then_verdict g p v within h =
-    one_verdict g p v (verdict g p) h (verdict_then g p (verdict g p) within refl)
 
 -- ---- what rows say of a process
 
@@ -75,7 +43,7 @@ pub truth_in : (g : Graph) (rows : List Row) (p : ℕ) (o : Option Verdict) → 
     → IsTrueOf g rows → o ≡ fold_at rows p → IfSome o (λ v. IsVerdict g p v)
 truth_in g rows p None within t e = tt
 truth_in g rows p (Some v) within t e =
-    verdict_then g p v within (verdict_in g rows p v t (sym e))
+    verdict_true g p v within (verdict_in g rows p v t (sym e))
 
 -- ---- how often a process stands
 

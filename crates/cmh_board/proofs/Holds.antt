@@ -23,7 +23,8 @@ pub record Held (b : Board) (s t : BoardSeat) : Type 0 where
   pub reads : Reads (known s) (known t)
 
 -- and so after one reading more
-pub held_on : (b : Board) (s t u : BoardSeat) → Held b s t → SitsAt b u → Sees (known t) (known u) → Reads (known t) (known u)
+pub held_on : (b : Board) (s t u : BoardSeat) → Held b s t → SitsAt b u → Sees (known t) (known u)
+    → Reads (known t) (known u)
     → Held b s u
 held_on b s t u h sits sees reads = record {
   sits = sits;

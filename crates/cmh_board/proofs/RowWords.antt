@@ -11,32 +11,25 @@ use Rattle.cmh_graph.specs.declared.verdict.Verdict.{Verdict}
 use Rattle.cmh_graph.specs.declared.verdict.Verdict.TheVariants.{Deadlocked, Free}
 use Rattle.cmh_graph.specs.declared.TheConstants.{MAX_PROCESSES}
 use Rattle.cmh_graph.specs.Graph.{Graph, process_count, IsWithinGraph}
-use Rattle.cmh_graph.proofs.Verdicts.{idle_within}
+use Rattle.cmh_graph.proofs.Verdicts.{idle_within, verdict_true}
 use Rattle.cmh_rw.specs.declared.row.Row.{Row}
 use Rattle.cmh_rw.specs.History.{bit, free_bit, row_code, row_of, fold_at, IsTrueOf}
-use Rattle.cmh_rw.proofs.Codes.{row_code_law}
+use Rattle.cmh_rw.proofs.Codes.{bit-small, free_bit-small, row_code_law}
 use Rattle.cmh_rw.proofs.Folds.{true-few, true-idle}
 use Rattle.cmh_board.specs.Snap.{verdict_at, Shows, IsTrueSnap}
-use Rattle.cmh_board.proofs.Histories.{verdict_then, verdict_in}
+use Rattle.cmh_board.proofs.Histories.{verdict_in}
 
 -- a row that stands in true rows has a place among the processes
 pub row_within : (g : Graph) (rows : List Row) (n : ℕ) → IsTrueOf g rows → n < length rows → n < process_count g
 row_within g rows n t l = omega (arith, true-few g rows t)
-
-bit-small : (b : Bool) → bit b ≤ 1
-bit-small true = omega arith
-bit-small false = omega arith
-
-free_bit-small : (v : Verdict) → free_bit v ≤ 1
-free_bit-small Deadlocked = omega arith
-free_bit-small Free = omega arith
 
 -- the word of a row is small
 code_small : (r : Row) → r.process < MAX_PROCESSES → row_code r < 2 ^ 34
 code_small r l = omega (arith, bit-small r.last, free_bit-small r.verdict)
 
 -- and so is that of each true row
-pub codes_small : (g : Graph) (rows : List Row) (n : ℕ) → process_count g ≤ MAX_PROCESSES → IsTrueOf g rows → n < length rows
+pub codes_small : (g : Graph) (rows : List Row) (n : ℕ) → process_count g ≤ MAX_PROCESSES → IsTrueOf g rows
+    → n < length rows
     → get_or (map row_code rows) n 0 < 2 ^ 34
 codes_small g [] n few t l = absurd (omega arith)
 codes_small g (r ∷ rs) zero few t l = let there = idle_within g r.process t.0 in code_small r (omega arith)
@@ -50,11 +43,14 @@ row_back (r ∷ rs) zero code l e = ap (λ x. Some x) (sym (ap row_of e ∙ row_
 row_back (r ∷ rs) (suc n) code l e = row_back rs n code (omega arith) e
 
 -- a list as far as it was read, and its next item
-pub take_got : (rows : List Row) (n : ℕ) (r : Row) → slice_get rows n ≡ Some r → take (n + 1) rows ≡ take n rows ++ r ∷ []
-take_got rows n r e = take_more rows n r (slice_get_within rows n r e) ∙ ap (λ x. take n rows ++ x ∷ []) (get_or_from_slice_get rows n r r e)
+pub take_got : (rows : List Row) (n : ℕ) (r : Row) → slice_get rows n ≡ Some r
+    → take (n + 1) rows ≡ take n rows ++ r ∷ []
+take_got rows n r e = take_more rows n r (slice_get_within rows n r e)
+    ∙ ap (λ x. take n rows ++ x ∷ []) (get_or_from_slice_get rows n r r e)
 
 -- true rows say nothing of what is no process
-absent_past : (g : Graph) (rows : List Row) (p : ℕ) → IsTrueOf g rows → process_count g ≤ p → (o : Option Verdict) → fold_at rows p ≡ o → o ≡ None
+absent_past : (g : Graph) (rows : List Row) (p : ℕ) → IsTrueOf g rows → process_count g ≤ p → (o : Option Verdict)
+    → fold_at rows p ≡ o → o ≡ None
 absent_past g rows p t past None e = refl
 absent_past g rows p t past (Some v) e = let there = idle_within g p (true-idle g rows p v t e) in absurd (omega arith)
 
@@ -62,18 +58,23 @@ absent_past g rows p t past (Some v) e = let there = idle_within g p (true-idle 
 pub shows_all : (g : Graph) (rows : List Row) (verdicts : List (Option Verdict)) → IsTrueOf g rows
     → verdicts ≡ map (fold_at rows) (range_with_len 0 (process_count g)) → Shows verdicts rows
 shows_all g rows verdicts t e p = elim (cases_lt p (process_count g)) [
-  | inl l ↦ ap (λ l. verdict_at l p) e ∙ get_or-map-range_with_len (fold_at rows) 0 (process_count g) p p None l (omega arith)
+  | inl l ↦ ap (λ l. verdict_at l p) e
+      ∙ get_or-map-range_with_len (fold_at rows) 0 (process_count g) p p None l (omega arith)
   | inr l ↦ ap (λ l. verdict_at l p) e
-      ∙ get_or_past (map (fold_at rows) (range_with_len 0 (process_count g))) p None (rw (length-map (range_with_len 0 (process_count g)) (fold_at rows), length-range_with_len 0 (process_count g)) l)
+      ∙ get_or_past (map (fold_at rows) (range_with_len 0 (process_count g))) p None
+          (rw (length-map (range_with_len 0 (process_count g)) (fold_at rows),
+              length-range_with_len 0 (process_count g)) l)
       ∙ sym (absent_past g rows p t l (fold_at rows p) refl)
 ]
 
 -- one process more
-pub verdicts_more : (rows : List Row) (verdicts : List (Option Verdict)) (p : ℕ) → verdicts ≡ map (fold_at rows) (range_with_len 0 p)
+pub verdicts_more : (rows : List Row) (verdicts : List (Option Verdict)) (p : ℕ)
+    → verdicts ≡ map (fold_at rows) (range_with_len 0 p)
     → verdicts ++ fold_at rows p ∷ [] ≡ map (fold_at rows) (range_with_len 0 (p + 1))
-verdicts_more rows verdicts p e = ap (λ l. l ++ fold_at rows p ∷ []) e ∙ sym (map-range_with_len_more (fold_at rows) 0 p p (omega arith))
+verdicts_more rows verdicts p e =
+    ap (λ l. l ++ fold_at rows p ∷ []) e ∙ sym (map-range_with_len_more (fold_at rows) 0 p p (omega arith))
 
 -- what a snapshot shows is the truth
 pub snap_true : (g : Graph) (rows : List Row) (verdicts : List (Option Verdict)) → IsWithinGraph g → IsTrueOf g rows
     → Shows verdicts rows → IsTrueSnap g verdicts
-snap_true g rows verdicts within t shows p v e = verdict_then g p v within (verdict_in g rows p v t (sym (shows p) ∙ e))
+snap_true g rows verdicts within t shows p v e = verdict_true g p v within (verdict_in g rows p v t (sym (shows p) ∙ e))

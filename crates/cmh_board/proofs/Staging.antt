@@ -37,7 +37,8 @@ only_load v word found w had a = record {
 
 -- no load at all
 pub no_load : (v : View) → v.loaded ≡ true → OnlyLoads v v
-no_load v had = record { lock = refl; loaded = had; seen = refl; staged = refl; told = refl; mine = refl; loads = omega arith }
+no_load v had =
+    record { lock = refl; loaded = had; seen = refl; staged = refl; told = refl; mine = refl; loads = omega arith }
 
 -- loads after loads
 pub loads_on : (u v w : View) → OnlyLoads u v → OnlyLoads v w → OnlyLoads u w
@@ -109,10 +110,12 @@ to_come-old rows ps i l e = to_come-more rows ps i false l e
 
 -- all of them are done or to come
 whole : (rows : List Row) (ps : List ℕ) (i : ℕ) → unposted rows ps ≡ done rows ps i ++ to_come rows ps i
-whole rows ps i = ap (filter (is_new rows)) (sym (take-append-drop i ps)) ∙ filter-append (is_new rows) (take i ps) (drop i ps)
+whole rows ps i =
+    ap (filter (is_new rows)) (sym (take-append-drop i ps)) ∙ filter-append (is_new rows) (take i ps) (drop i ps)
 
 -- a process that stands at place i isn't among the first i
-not_before : (rows : List Row) (ps : List ℕ) (i : ℕ) → HasNoRepeat ps → i < length ps → Contains (done rows ps i) (get_or ps i 0) → ⊥
+not_before : (rows : List Row) (ps : List ℕ) (i : ℕ) → HasNoRepeat ps → i < length ps
+    → Contains (done rows ps i) (get_or ps i 0) → ⊥
 not_before rows ps i once l c =
     let p = get_or ps i 0 in
     let there = contains_filter (is_new rows) (take i ps) p c in
@@ -142,7 +145,8 @@ nothing_so_far : (d : Verdict) (rest : List ℕ) → rows_so_far d [] rest ≡ [
 nothing_so_far d [] = refl
 nothing_so_far d (p ∷ rest) = refl
 
-pub staging-first : (v : View) (d : Verdict) (ps : List ℕ) (n : ℕ) → v.loaded ≡ true → v.staged ≡ [] → v.told ≡ [] → n ≡ length v.seen
+pub staging-first : (v : View) (d : Verdict) (ps : List ℕ) (n : ℕ) → v.loaded ≡ true → v.staged ≡ [] → v.told ≡ []
+    → n ≡ length v.seen
     → Staging v d ps 0 v n
 staging-first v d ps n loaded staged told number = record {
   lock = refl;
@@ -156,15 +160,18 @@ staging-first v d ps n loaded staged told number = record {
 }
 
 -- what is told says nothing of the process at hand
-pub untold : (v : View) (d : Verdict) (ps : List ℕ) (i : ℕ) (w : View) (n : ℕ) → Staging v d ps i w n → HasNoRepeat ps → i < length ps
+pub untold : (v : View) (d : Verdict) (ps : List ℕ) (i : ℕ) (w : View) (n : ℕ) → Staging v d ps i w n → HasNoRepeat ps
+    → i < length ps
     → fold_at (w.seen ++ w.told) (get_or ps i 0) ≡ fold_at v.seen (get_or ps i 0)
 untold v d ps i w n s once l =
     ap (λ t. fold_at (w.seen ++ t) (get_or ps i 0)) s.told
-    ∙ absent-behind w.seen (marks d (done v.seen ps i)) (get_or ps i 0) (absent-marks d (done v.seen ps i) (get_or ps i 0) (not_before v.seen ps i once l))
+    ∙ absent-behind w.seen (marks d (done v.seen ps i)) (get_or ps i 0)
+        (absent-marks d (done v.seen ps i) (get_or ps i 0) (not_before v.seen ps i once l))
     ∙ ap (λ l. fold_at l (get_or ps i 0)) s.seen
 
 -- a process that stands in a row is passed over
-pub staging-old : (v : View) (d : Verdict) (ps : List ℕ) (i : ℕ) (w u : View) (n : ℕ) → Staging v d ps i w n → i < length ps
+pub staging-old : (v : View) (d : Verdict) (ps : List ℕ) (i : ℕ) (w u : View) (n : ℕ) → Staging v d ps i w n
+    → i < length ps
     → is_new v.seen (get_or ps i 0) ≡ false → OnlyLoads w u → Staging v d ps (i + 1) u n
 staging-old v d ps i w u n s l old a = record {
   lock = a.lock ∙ s.lock;
@@ -196,7 +203,8 @@ can_stage v d ps i w u n last s can l new a =
       unended = subst IsOpen (sym bare) (open-marks d (done v.seen ps i));
       idle = ap (λ g. is_idle g p) graph ∙ can.idle p there;
       fresh = ap (λ r. fold_at (u.seen ++ r) p) bare
-          ∙ absent-behind u.seen (marks d (done v.seen ps i)) p (absent-marks d (done v.seen ps i) p (not_before v.seen ps i can.once l))
+          ∙ absent-behind u.seen (marks d (done v.seen ps i)) p
+              (absent-marks d (done v.seen ps i) p (not_before v.seen ps i can.once l))
           ∙ ap (λ r. fold_at r p) (a.seen ∙ s.seen) ∙ none_is (fold_at v.seen p) new;
       true_verdict = can.truth p there ∙ ap (λ g. verdict g p) (sym graph);
     }
@@ -216,26 +224,31 @@ last_is : (rest : List ℕ) (n end : ℕ) → end ≡ n + 1 + length rest → eq
 last_is [] n end e = eq-eqb (n + 1) end (omega arith)
 last_is (p ∷ rest) n end e = ne_eqb (n + 1) end (λ same. absurd (omega arith))
 
-pub is_last : (v : View) (d : Verdict) (ps : List ℕ) (i : ℕ) (w : View) (n end : ℕ) → Staging v d ps i w n → i < length ps
+pub is_last : (v : View) (d : Verdict) (ps : List ℕ) (i : ℕ) (w : View) (n end : ℕ) → Staging v d ps i w n
+    → i < length ps
     → is_new v.seen (get_or ps i 0) ≡ true → end ≡ length v.seen + length (unposted v.seen ps)
     → eqb (n + 1) end ≡ is_empty (to_come v.seen ps (i + 1))
 is_last v d ps i w n end s l new e =
     let p = get_or ps i 0 in
-    let all = ap length (whole v.seen ps i ∙ ap (λ q. done v.seen ps i ++ q) (to_come-new v.seen ps i l new)) ∙ length-append (done v.seen ps i) (p ∷ to_come v.seen ps (i + 1)) in
+    let all = ap length (whole v.seen ps i ∙ ap (λ q. done v.seen ps i ++ q) (to_come-new v.seen ps i l new))
+        ∙ length-append (done v.seen ps i) (p ∷ to_come v.seen ps (i + 1)) in
     let number = s.number in
     last_is (to_come v.seen ps (i + 1)) n end (omega arith)
 
 -- the next row has a number below the end
-pub below_end : (v : View) (d : Verdict) (ps : List ℕ) (i : ℕ) (w : View) (n end : ℕ) → Staging v d ps i w n → i < length ps
+pub below_end : (v : View) (d : Verdict) (ps : List ℕ) (i : ℕ) (w : View) (n end : ℕ) → Staging v d ps i w n
+    → i < length ps
     → is_new v.seen (get_or ps i 0) ≡ true → end ≡ length v.seen + length (unposted v.seen ps) → n + 1 ≤ end
 below_end v d ps i w n end s l new e =
     let p = get_or ps i 0 in
-    let all = ap length (whole v.seen ps i ∙ ap (λ q. done v.seen ps i ++ q) (to_come-new v.seen ps i l new)) ∙ length-append (done v.seen ps i) (p ∷ to_come v.seen ps (i + 1)) in
+    let all = ap length (whole v.seen ps i ∙ ap (λ q. done v.seen ps i ++ q) (to_come-new v.seen ps i l new))
+        ∙ length-append (done v.seen ps i) (p ∷ to_come v.seen ps (i + 1)) in
     let number = s.number in
     omega arith
 
 -- and it is the number of rows that are seen and staged
-pub next_number : (v : View) (d : Verdict) (ps : List ℕ) (i : ℕ) (w u : View) (n : ℕ) → Staging v d ps i w n → i < length ps
+pub next_number : (v : View) (d : Verdict) (ps : List ℕ) (i : ℕ) (w u : View) (n : ℕ) → Staging v d ps i w n
+    → i < length ps
     → is_new v.seen (get_or ps i 0) ≡ true → OnlyLoads w u → n ≡ length u.seen + length u.staged
 next_number v d ps i w u n s l new a =
     let seen = ap length (a.seen ∙ s.seen) in
@@ -244,14 +257,17 @@ next_number v d ps i w u n s l new a =
     omega arith
 
 -- what is found of the process at hand is whether it stands in a row
-pub found_new : (v : View) (d : Verdict) (ps : List ℕ) (i : ℕ) (w : View) (n : ℕ) (b : Bool) → Staging v d ps i w n → HasNoRepeat ps
+pub found_new : (v : View) (d : Verdict) (ps : List ℕ) (i : ℕ) (w : View) (n : ℕ) (b : Bool) → Staging v d ps i w n
+    → HasNoRepeat ps
     → i < length ps → b ≡ is_none (fold_at (w.seen ++ w.told) (get_or ps i 0)) → is_new v.seen (get_or ps i 0) ≡ b
 found_new v d ps i w n b s once l e = sym (e ∙ ap is_none (untold v d ps i w n s once l))
 
 -- a process that stands in no row is done
-pub staging-new : (v : View) (d : Verdict) (ps : List ℕ) (i : ℕ) (w u x y : View) (n : ℕ) (last : Bool) → Staging v d ps i w n → i < length ps
+pub staging-new : (v : View) (d : Verdict) (ps : List ℕ) (i : ℕ) (w u x y : View) (n : ℕ) (last : Bool)
+    → Staging v d ps i w n → i < length ps
     → is_new v.seen (get_or ps i 0) ≡ true → OnlyLoads w u → x ≡ with_row u (row (get_or ps i 0) d last)
-    → y ≡ with_told x (mark (get_or ps i 0) d) → last ≡ is_empty (to_come v.seen ps (i + 1)) → Staging v d ps (i + 1) y (n + 1)
+    → y ≡ with_told x (mark (get_or ps i 0) d) → last ≡ is_empty (to_come v.seen ps (i + 1))
+    → Staging v d ps (i + 1) y (n + 1)
 staging-new v d ps i w u x y n last s l new a ex ey el =
     let p = get_or ps i 0 in
     let was = done v.seen ps i in
@@ -267,15 +283,19 @@ staging-new v d ps i w u x y n last s l new a ex ey el =
       told = ap (λ (z : View). z.told) ey ∙ ap (λ (z : View). z.told ++ mark p d ∷ []) ex
           ∙ ap (λ r. r ++ mark p d ∷ []) (a.told ∙ s.told) ∙ marks-more d was p ∙ ap (λ q. marks d q) (sym now);
       mine = ap (λ (z : View). z.mine) ey ∙ ap (λ (z : View). z.mine) ex ∙ a.mine ∙ s.mine;
-      loads = (let q = ap (λ (z : View). z.loads) ey ∙ ap (λ (z : View). z.loads) ex in let r = a.loads in let t = s.loads in omega arith);
+      loads = (let q = ap (λ (z : View). z.loads) ey ∙ ap (λ (z : View). z.loads) ex in let r = a.loads in
+          let t = s.loads in omega arith);
       number = (let k = ap length now ∙ length-append was (p ∷ []) in let m = s.number in omega arith);
     }
 
 -- at the end all are done
-pub staging-end : (v : View) (d : Verdict) (ps : List ℕ) (i : ℕ) (w : View) (n : ℕ) → Staging v d ps i w n → i ≡ length ps → Stages d ps v w
+pub staging-end : (v : View) (d : Verdict) (ps : List ℕ) (i : ℕ) (w : View) (n : ℕ) → Staging v d ps i w n
+    → i ≡ length ps → Stages d ps v w
 staging-end v d ps i w n s e =
-    let all : done v.seen ps i ≡ unposted v.seen ps = ap (λ k. done v.seen ps k) e ∙ ap (unposted v.seen) (take-length ps) in
-    let none : to_come v.seen ps i ≡ [] = ap (λ k. to_come v.seen ps k) e ∙ ap (unposted v.seen) (drop-length ps) in record {
+    let all : done v.seen ps i ≡ unposted v.seen ps =
+        ap (λ k. done v.seen ps k) e ∙ ap (unposted v.seen) (take-length ps) in
+    let none : to_come v.seen ps i ≡ [] =
+        ap (λ k. to_come v.seen ps k) e ∙ ap (unposted v.seen) (drop-length ps) in record {
       lock = s.lock;
       seen = s.seen;
       staged = s.staged ∙ ap (rows_so_far d (done v.seen ps i)) none ∙ ap (rows_of d) all;

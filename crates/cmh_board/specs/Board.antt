@@ -2,7 +2,7 @@
 use Rattle.std.specs.Prelude.{◌≡◌, ◌↔◌, ℕ, ◌+◌, ◌<◌, ◌≤◌, ◌==◌, Bool, true, false, is_none, List, [], ◌∷◌, ◌++◌, filter, count_by, Contains, Some, None, ⊤}
 use Rattle.cmh_graph.specs.declared.verdict.Verdict.{Verdict}
 use Rattle.cmh_graph.specs.Graph.{Graph}
-use Rattle.cmh_run.specs.Hints.{IsVerdict}
+use Rattle.cmh_graph.specs.Verdict.{IsVerdict}
 use Rattle.cmh_rw.specs.declared.TheConstants.{WRITER}
 use Rattle.cmh_rw.specs.declared.machine.SeatState.TheVariants.{Away, Reading}
 use Rattle.cmh_rw.specs.declared.row.Row.{Row}

@@ -2,7 +2,7 @@
 
 ghost use Rattle.std.specs.Prelude.{◌≡◌, ◌<◌, IfSome, None};
 ghost use Rattle.cmh_graph.specs.Graph.{Graph, process_count};
-ghost use Rattle.cmh_run.specs.Hints.{IsVerdict};
+ghost use Rattle.cmh_graph.specs.Verdict.{IsVerdict};
 ghost use Rattle.cmh_board.specs.Board.{known, graph_of, SitsAt, IsAway, TriesOnce};
 ghost use Rattle.cmh_board.specs.Hints.{SpeaksOf, Keeps, HintIs};
 ghost use Rattle.cmh_board.specs.HintProofs.{keeps_itself, keeps_on};

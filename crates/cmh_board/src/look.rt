@@ -3,7 +3,7 @@
 ghost use Rattle.std.specs.Prelude.{◌≡◌, ◌<◌, IfSome, Option};
 ghost use Rattle.cmh_graph.specs.declared.verdict.Verdict.{Verdict};
 ghost use Rattle.cmh_graph.specs.Graph.{process_count};
-ghost use Rattle.cmh_run.specs.Hints.{IsVerdict};
+ghost use Rattle.cmh_graph.specs.Verdict.{IsVerdict};
 ghost use Rattle.cmh_rw.specs.History.{fold_at, verdict_code};
 ghost use Rattle.cmh_rw.specs.View.{ended};
 ghost use Rattle.cmh_board.specs.Board.{known, graph_of, SitsAt, IsAway, IsHolding, Sees, TriesOnce, LookIs, IsTrueLook, HoldIs, Reads};

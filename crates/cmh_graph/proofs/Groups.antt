@@ -18,7 +18,7 @@ use Rattle.cmh_graph.specs.Verdict.{IsDeadlocked, is_deadlocked}
 use Rattle.cmh_graph.proofs.Cores.{core_law}
 use Rattle.cmh_graph.proofs.Listing.{filter_agree_on}
 use Rattle.cmh_graph.proofs.Reaching.{cons_contains, contains_cons, contains_index, index_within, reaches_then, then_reaches}
-use Rattle.cmh_graph.proofs.Verdicts.{asleep_is_idle, contains_filter, filter_contains, idle_within, reached_within, reaches_more, test_then, then_test}
+use Rattle.cmh_graph.proofs.Verdicts.{and_true, asleep_is_idle, contains_filter, filter_contains, idle_within, reached_within, reaches_more, test_then, then_test}
 
 -- ---- rests
 
@@ -163,11 +163,6 @@ leader_law = λ g p l w i. (
 reached_deadlocked : (g : Graph) (p q : ℕ) → IsDeadlocked g p → Reaches g p q → IsDeadlocked g q
 reached_deadlocked g p q dead a = (asleep_is_idle g q (dead.1 q a), λ r b. dead.1 r (reaches_on g p q r a b))
 
--- both hold where an "and" does
-both_true : (a b : Bool) → (a && b) ≡ true → (a ≡ true) × (b ≡ true)
-both_true true b e = (refl, e)
-both_true false b e = absurd cc
-
 -- a leader leads itself
 leads_itself : Graph → ℕ → Bool
 leads_itself g p = is_deadlocked g p && eqb (leader_of g p) p
@@ -189,7 +184,7 @@ listed_leads : (g : Graph) → IsWithinGraph g → (l : ℕ) → Contains (leade
 unfolding leads_itself
 listed_leads g w l c =
     let kept = filter_contains (leads_itself g) (indices g) l c in
-    let both = both_true (is_deadlocked g l) (eqb (leader_of g l) l) kept.1 in
+    let both = and_true (is_deadlocked g l) (eqb (leader_of g l) l) kept.1 in
     (test_then g l w both.0, eqb-true (leader_of g l) l both.1)
 
 -- the list of leaders rises

@@ -5,20 +5,16 @@ use Rattle.std.specs.List.{range_with_len}
 use Rattle.std.proofs.lemmas.List.Elements.{filter-append}
 use Rattle.std.proofs.lemmas.List.{length-map}
 use Rattle.std.proofs.lemmas.List.FromFn.{map-range_with_len_more, length-range_with_len, get_or-map-range_with_len, fill_by_all}
+use mathlib.Core.List.{map-id}
 use Rattle.cmh_graph.specs.Graph.{Graph, process_count, indices}
 use Rattle.cmh_graph.proofs.Reaching.{contains_cons}
-
--- a list mapped by nothing is the list
-map_same : (xs : List ℕ) → map (λ x. x) xs ≡ xs
-map_same [] = refl
-map_same (x ∷ xs) = λ i. x ∷ map_same xs i
 
 -- one index more is the next
 indices_more : (n : ℕ) → range_with_len 0 (n + 1) ≡ range_with_len 0 n ++ n ∷ []
 indices_more n =
-    sym (map_same (range_with_len 0 (n + 1)))
+    sym (map-id (range_with_len 0 (n + 1)))
     ∙ map-range_with_len_more (λ x. x) 0 n n (omega arith)
-    ∙ ap (λ xs. xs ++ n ∷ []) (map_same (range_with_len 0 n))
+    ∙ ap (λ xs. xs ++ n ∷ []) (map-id (range_with_len 0 n))
 
 -- a filter of one index more keeps it where it passes
 pub filter_indices_more : (p : ℕ → Bool) (n : ℕ) → filter p (range_with_len 0 (n + 1)) ≡ filter p (range_with_len 0 n) ++ cond (p n) (n ∷ []) []

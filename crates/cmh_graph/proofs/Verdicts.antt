@@ -2,9 +2,12 @@
 use Rattle.std.proofs.Common.{◌≡◌, ℕ, zero, suc, ◌<◌, Bool, true, false, not, cond, ◌&&◌, ◌||◌, ◌⊎◌, inl, inr, List, [], ◌∷◌, length, get_or, refl, sym, ◌∙◌, ap, subst, arith}
 use Rattle.std.specs.Prelude.{Contains, filter}
 use Rattle.std.specs.List.{list_all}
+use Rattle.std.proofs.lemmas.List.FromFn.{get_or-map-range_with_len}
 use Rattle.cmh_graph.specs.Graph.{IsWithinGraph, Graph, Process, process_count, is_idle, is_awake, is_woken, is_idle_state, nobody, Depends, indices}
 use Rattle.cmh_graph.specs.Path.{Leads, Reaches, reaches, reach_of}
-use Rattle.cmh_graph.specs.Verdict.{IsDeadlocked, is_deadlocked, IsDeadlockedSet, VerdictLaw, ClosedSetLaw}
+use Rattle.cmh_graph.specs.declared.verdict.Verdict.{Verdict}
+use Rattle.cmh_graph.specs.declared.verdict.Verdict.TheVariants.{Deadlocked, Free}
+use Rattle.cmh_graph.specs.Verdict.{IsDeadlocked, is_deadlocked, IsDeadlockedSet, IsVerdict, VerdictLaw, ClosedSetLaw, verdict, verdicts}
 use Rattle.cmh_graph.proofs.Reaching.{depends_within, cons_contains, contains_cons, reaches_then, then_reaches, contains_index}
 
 -- what is idle is one of the list
@@ -115,7 +118,7 @@ all_pass t u [] h = refl
 all_pass t u (x ∷ xs) h = all_pass_by t u x xs (u x) refl (h x) (all_pass t u xs h)
 
 -- both hold where an "and" does
-and_true : (a b : Bool) → (a && b) ≡ true → (a ≡ true) × (b ≡ true)
+pub and_true : (a b : Bool) → (a && b) ≡ true → (a ≡ true) × (b ≡ true)
 and_true true b e = (refl, e)
 and_true false b e = absurd cc
 
@@ -156,3 +159,35 @@ then_test g p d =
 -- the test of deadlock says what the relation says
 pub verdict_law : VerdictLaw
 verdict_law = λ g p w. (λ e. test_then g p w e, λ d. then_test g p d)
+
+-- ---- the verdict in words
+
+-- what the test of deadlock says of the verdict
+verdict_by : (g : Graph) (p : ℕ) (v : Verdict) → IsWithinGraph g → (b : Bool) → is_deadlocked g p ≡ b
+    → cond b Deadlocked Free ≡ v → IsVerdict g p v
+verdict_by g p Deadlocked w true t e = test_then g p w t
+verdict_by g p Free w true t e = absurd (cc)
+verdict_by g p Deadlocked w false t e = absurd (cc)
+verdict_by g p Free w false t e = λ dead. let z : true ≡ false = sym (then_test g p dead) ∙ t in absurd cc
+
+-- the verdict that is computed is true
+pub verdict_true : (g : Graph) (p : ℕ) (v : Verdict) → IsWithinGraph g → verdict g p ≡ v → IsVerdict g p v
+verdict_true g p v w e = verdict_by g p v w (is_deadlocked g p) refl e
+
+-- no other verdict is true
+pub one_verdict : (g : Graph) (p : ℕ) (v u : Verdict) → IsVerdict g p v → IsVerdict g p u → v ≡ u
+one_verdict g p Deadlocked Deadlocked a b = refl
+one_verdict g p Deadlocked Free a b = absurd (b a)
+one_verdict g p Free Deadlocked a b = absurd (a b)
+one_verdict g p Free Free a b = refl
+
+-- a verdict that is true is the one that is computed
+pub true_verdict : (g : Graph) (p : ℕ) (v : Verdict) → IsWithinGraph g → IsVerdict g p v → v ≡ verdict g p
+true_verdict g p v w h = one_verdict g p v (verdict g p) h (verdict_true g p (verdict g p) w refl)
+
+-- a process's verdict stands at its place
+pub verdict_listed : (g : Graph) (known : List Verdict) (p : ℕ) (d : Verdict) → known ≡ verdicts g
+    → p < process_count g → get_or known p d ≡ verdict g p
+verdict_listed g known p d are l =
+    ap (λ vs. get_or vs p d) are
+    ∙ get_or-map-range_with_len (verdict g) 0 (process_count g) p p d l (omega arith)

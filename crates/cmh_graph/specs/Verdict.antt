@@ -18,6 +18,11 @@ is_deadlocked g p = is_idle g p && list_all (λ q. not (is_awake g q)) (reach_of
 abbrev pub verdict : Graph → ℕ → Verdict
 verdict g p = if is_deadlocked g p then Deadlocked else Free
 
+-- the verdict is the truth about p
+abbrev pub IsVerdict : Graph → ℕ → Verdict → Type 0
+IsVerdict g p Deadlocked = IsDeadlocked g p
+IsVerdict g p Free = ¬ (IsDeadlocked g p)
+
 -- the verdict of each process
 abbrev pub verdicts : Graph → List Verdict
 verdicts g = map (verdict g) (indices g)

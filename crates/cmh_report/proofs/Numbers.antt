@@ -13,7 +13,7 @@ use Rattle.cmh_graph.specs.Core.{core_of, rest_of, leader_of, group_number}
 use Rattle.cmh_graph.proofs.Cores.{core_law}
 use Rattle.cmh_graph.proofs.Listing.{by_index, filter_agree_on, filter_indices_kept, filter_indices_passed}
 use Rattle.cmh_graph.proofs.Reaching.{index_within, reaches_then, then_reaches}
-use Rattle.cmh_graph.proofs.Verdicts.{filter_contains}
+use Rattle.cmh_graph.proofs.Verdicts.{and_true, filter_contains}
 use Rattle.cmh_report.specs.Group.{is_led_by, leaders_up_to}
 use Rattle.cmh_work.specs.Leaders.{group_leader}
 use Rattle.cmh_work.proofs.Cores.{leader_in_core, reached_deadlocked, same_leader, same_test}
@@ -102,15 +102,10 @@ pub led_test : (g : Graph) (list : List (Option ℕ)) (l p : ℕ) → list ≡ m
 unfolding group_leader
 led_test g list l p are i = ap (λ o. option_eq eqb o (Some l)) (by_index g (group_leader g) list p None are i) ∙ led_by (is_deadlocked g p) (leader_of g p) l
 
--- both parts of a true conjunction are true
-both_true : (a b : Bool) → (a && b) ≡ true → (a ≡ true) × (b ≡ true)
-both_true true b e = (refl, e)
-both_true false b e = cc
-
 -- a leader's number is that of its group
 pub own_number : (g : Graph) (list : List (Option ℕ)) (l : ℕ) → list ≡ map (group_leader g) (indices g) → l < process_count g → is_led_by list l l ≡ true → leaders_up_to g l ≡ group_number g l
 own_number g list l are i leads =
-    let itself = both_true (is_deadlocked g l) (eqb (leader_of g l) l) (sym (led_test g list l l are i) ∙ leads) in
+    let itself = and_true (is_deadlocked g l) (eqb (leader_of g l) l) (sym (led_test g list l l are i) ∙ leads) in
     ap (leaders_up_to g) (sym (eqb-true (leader_of g l) l itself.1)) ∙ number_is g l
 
 -- the same for a test and a leader
@@ -150,7 +145,7 @@ leaders_no_more g list p count are i is not_so =
 -- of those that a leader reaches, it leads those that reach it
 pub leads_back : (g : Graph) (list : List (Option ℕ)) (l q : ℕ) → IsWithinGraph g → l < process_count g → list ≡ map (group_leader g) (indices g) → is_led_by list l l ≡ true → Contains (reach_of g l) q → is_led_by list l q ≡ reaches g q l
 leads_back g list l q w i are leads c =
-    let itself = both_true (is_deadlocked g l) (eqb (leader_of g l) l) (sym (led_test g list l l are i) ∙ leads) in
+    let itself = and_true (is_deadlocked g l) (eqb (leader_of g l) l) (sym (led_test g list l l are i) ∙ leads) in
     let own = eqb-true (leader_of g l) l itself.1 in
     let kept = filter_contains (reaches g l) (indices g) q c in
     let j = index_within (process_count g) q kept.0 in

@@ -9,11 +9,10 @@ use Rattle.std.proofs.lemmas.List.Sums.{sum_by-cons}
 use Rattle.cmh_graph.specs.declared.verdict.Verdict.{Verdict}
 use Rattle.cmh_graph.specs.declared.verdict.Verdict.TheVariants.{Deadlocked, Free}
 use Rattle.cmh_graph.specs.Graph.{Graph, process_count, indices, is_idle, idle_list, IsWithinGraph}
-use Rattle.cmh_graph.specs.Verdict.{is_deadlocked, IsDeadlocked}
+use Rattle.cmh_graph.specs.Verdict.{is_deadlocked, IsDeadlocked, IsVerdict}
 use Rattle.cmh_graph.proofs.Searching.{taken_last, taken_more, taken_stays}
 use Rattle.cmh_graph.proofs.Reaching.{contains_index}
 use Rattle.cmh_graph.proofs.Verdicts.{contains_filter, filter_contains, then_test, test_then}
-use Rattle.cmh_run.specs.Hints.{IsVerdict}
 use Rattle.cmh_run.specs.Run.{Run}
 use Rattle.cmh_work.specs.declared.record.Analysis.{Analysis}
 use Rattle.cmh_work.specs.declared.record.Record.{Record}

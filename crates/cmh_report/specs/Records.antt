@@ -1,7 +1,7 @@
 -- The records from which a report is written.
 use Rattle.std.specs.Prelude.{◌≡◌, ℕ, Bool, List, map, All, IsTrue, Option, Some, None}
 use Rattle.cmh_graph.specs.Graph.{Graph, is_idle, idle_list, IsWithinGraph}
-use Rattle.cmh_run.specs.Hints.{IsVerdict}
+use Rattle.cmh_graph.specs.Verdict.{IsVerdict}
 use Rattle.cmh_run.specs.Run.{Run}
 use Rattle.cmh_work.specs.declared.record.Analysis.{Analysis}
 use Rattle.cmh_work.specs.declared.record.Record.{Record}

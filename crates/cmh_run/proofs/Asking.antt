@@ -10,7 +10,7 @@ use Rattle.cmh_process.specs.declared.message.Message.{Message}
 use Rattle.cmh_graph.specs.Graph.{Graph, is_awake}
 use Rattle.cmh_process.specs.Process.{engages}
 use Rattle.cmh_run.specs.Config.{Config, asks, hinted, is_query, proc_at, query, received}
-use Rattle.cmh_run.specs.Hints.{IsVerdict}
+use Rattle.cmh_graph.specs.Verdict.{IsVerdict}
 use Rattle.cmh_run.specs.Legal.{HintIsFit}
 
 -- a true hint fits where hints are asked

@@ -19,7 +19,7 @@ use Rattle.cmh_run.specs.Run.{Stage, Run, IsRunOf, TellsTruth, empty_run_of, ver
 use Rattle.cmh_run.specs.Follow.{Follows}
 use Rattle.cmh_run.specs.Packed.{CanSend, EngagersHaveRoom}
 use Rattle.cmh_run.specs.declared.TheConstants.{MAX_RESTARTS}
-use Rattle.cmh_run.specs.Hints.{IsVerdict}
+use Rattle.cmh_graph.specs.Verdict.{IsVerdict}
 use Rattle.cmh_run.proofs.Live.{Fine}
 use Rattle.cmh_run.proofs.Tokens.{each_at}
 use Rattle.cmh_run.proofs.Right.{number_kept, runs_are_right}

@@ -11,7 +11,8 @@ use Rattle.cmh_graph.specs.Graph.{Graph, process_count, is_idle, is_awake}
 use Rattle.cmh_graph.specs.Build.{IsWellFormed}
 use Rattle.cmh_graph.proofs.Verdicts.{idle_within}
 use Rattle.cmh_graph.specs.Verdict.{verdict, verdicts, IsDeadlocked}
-use Rattle.cmh_run.proofs.Scripts.{verdict_true, one_verdict, verdict_at, verdict_count}
+use Rattle.cmh_graph.proofs.Verdicts.{one_verdict, verdict_listed, verdict_true}
+use Rattle.cmh_run.proofs.Scripts.{verdict_at, verdict_count}
 use Rattle.cmh_run.proofs.Verdicts.{same, same_as_itself}
 use Rattle.cmh_run.specs.declared.delivery.Delivery.{Delivery}
 use Rattle.cmh_run.specs.declared.delivery.Ending.{Ending}
@@ -118,20 +119,15 @@ module _ (g : Graph) (i : ℕ) (log : List Delivery) (s : Going) (a : Audit) (h 
 pub truth_at : (g : Graph) (truth : List Verdict) (p : ℕ) → truth ≡ verdicts g → p < process_count g → p < length truth
 truth_at g truth p is within = subst (λ (n : ℕ). p < n) (sym (ap length is ∙ verdict_count g)) within
 
--- there stands the process's own verdict
-truth_is : (g : Graph) (truth : List Verdict) (p : ℕ) (d : Verdict) → truth ≡ verdicts g → p < process_count g → get_or truth p d ≡ verdict g p
-truth_is g truth p d is within =
-    same_Some (get_or truth p d) (verdict g p) (sym (slice_get-get_or truth p d (truth_at g truth p is within)) ∙ ap (λ (xs : List Verdict). slice_get xs p) is ∙ verdict_at g p within)
-
 -- a hint that is asked for is fit where it is the verdict of the list
 pub fit_where_true : (g : Graph) (c : Config) (m : Message) (hint : Option Verdict) (v d : Verdict) (truth : List Verdict) (b : Bool) → IsWellFormed g → hint ≡ Some v → asks g c m ≡ true
     → truth ≡ verdicts g → m.to < process_count g → b ≡ sameb the_type (get_or truth m.to d) v
     → (b ≡ true → HintIsFit g c m hint) × (HintIsFit g c m hint → b ≡ true)
 fit_where_true g c m hint v d truth b w is asked all within test = (
   λ e. subst (λ (o : Option Verdict). HintIsFit g c m o) (sym is)
-      (asked, verdict_true g m.to v w.within (sym (truth_is g truth m.to d all within) ∙ same (get_or truth m.to d) v (sym test ∙ e))),
+      (asked, verdict_true g m.to v w.within (sym (verdict_listed g truth m.to d all within) ∙ same (get_or truth m.to d) v (sym test ∙ e))),
   λ fit. let told : HintIsFit g c m (Some v) = subst (λ (o : Option Verdict). HintIsFit g c m o) is fit in
-      let equal : get_or truth m.to d ≡ v = truth_is g truth m.to d all within ∙ one_verdict g m.to (verdict g m.to) v (verdict_true g m.to (verdict g m.to) w.within refl) told.1 in
+      let equal : get_or truth m.to d ≡ v = verdict_listed g truth m.to d all within ∙ one_verdict g m.to (verdict g m.to) v (verdict_true g m.to (verdict g m.to) w.within refl) told.1 in
       test ∙ ap (λ (u : Verdict). sameb the_type u v) equal ∙ same_as_itself v,
 )
 

@@ -6,11 +6,10 @@ use Rattle.std.proofs.lemmas.Option.{same_Some, slice_get-get_or}
 use Rattle.cmh_graph.specs.declared.verdict.Verdict.{Verdict}
 use Rattle.cmh_graph.specs.declared.verdict.Verdict.TheVariants.{Deadlocked, Free}
 use Rattle.cmh_graph.specs.Graph.{Graph, process_count, IsWithinGraph}
-use Rattle.cmh_graph.specs.Verdict.{is_deadlocked, verdict, verdicts}
+use Rattle.cmh_graph.specs.Verdict.{is_deadlocked, verdict, verdicts, IsVerdict}
 use Rattle.cmh_graph.specs.Judge.{IsFirst}
 use Rattle.cmh_graph.proofs.Listing.{length-by_index, by_index}
-use Rattle.cmh_graph.proofs.Verdicts.{test_then, then_test}
-use Rattle.cmh_run.specs.Hints.{IsVerdict}
+use Rattle.cmh_graph.proofs.Verdicts.{one_verdict, verdict_true}
 use Rattle.cmh_run.specs.Script.{Entry, is_for, told_at, AreTrueOf, IsOutOfRange, IsUntrue, Differs, IsNever}
 use Rattle.cmh_run.proofs.Theorem.{by_test}
 
@@ -91,28 +90,6 @@ pub agrees : (truth : List Verdict) (entries : List Entry) (i : ℕ) (d : Entry)
 agrees truth entries i d v h l same other =
     other.2 (subst (λ (e : Entry). slice_get truth e.1 ≡ Some e.2) (entry_is entries i d other.0 h other.1)
     (slice_get-get_or truth (get_or entries i d).1 v l ∙ ap Some same))
-
--- what the test of deadlock says of the verdict
-verdict_by : (g : Graph) (p : ℕ) (v : Verdict) → IsWithinGraph g → (b : Bool)
-    → is_deadlocked g p ≡ b → cond b Deadlocked Free ≡ v → IsVerdict g p v
-verdict_by g p Deadlocked w true t e = test_then g p w t
-verdict_by g p Free w true t e = absurd (cc)
-verdict_by g p Deadlocked w false t e = absurd (cc)
-verdict_by g p Free w false t e = λ dead. true_false (sym (then_test g p dead) ∙ t)
-  where
-    true_false : true ≡ false → ⊥
-    true_false h = cc
-
--- the verdict that is computed is true
-pub verdict_true : (g : Graph) (p : ℕ) (v : Verdict) → IsWithinGraph g → verdict g p ≡ v → IsVerdict g p v
-verdict_true g p v w e = verdict_by g p v w (is_deadlocked g p) refl e
-
--- no other verdict is true
-pub one_verdict : (g : Graph) (p : ℕ) (v u : Verdict) → IsVerdict g p v → IsVerdict g p u → v ≡ u
-one_verdict g p Deadlocked Deadlocked a b = refl
-one_verdict g p Deadlocked Free a b = absurd (b a)
-one_verdict g p Free Deadlocked a b = absurd (a b)
-one_verdict g p Free Free a b = refl
 
 -- the list of all verdicts has that of each process
 pub verdict_at : (g : Graph) (p : ℕ) → p < process_count g → slice_get (verdicts g) p ≡ Some (verdict g p)

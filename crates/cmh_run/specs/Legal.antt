@@ -2,13 +2,12 @@
 use Rattle.std.specs.Prelude.{◌≡◌, ◌≢◌, ℕ, ◌+◌, ◌*◌, ◌<◌, ◌≤◌, Bool, true, ◌&&◌, ◌==◌, if◌then◌else◌, List, [], ◌∷◌, length, slice_get, Contains, Option, Some, None, is_none, IsTrue, ⊤}
 use Rattle.cmh_graph.specs.declared.verdict.Verdict.{Verdict}
 use Rattle.cmh_graph.specs.Graph.{Graph, is_idle, is_awake, dependency_count, IsWithinGraph}
-use Rattle.cmh_graph.specs.Verdict.{IsDeadlocked}
+use Rattle.cmh_graph.specs.Verdict.{IsDeadlocked, IsVerdict}
 use Rattle.cmh_process.specs.declared.message.Message.{Message}
 use Rattle.cmh_run.specs.declared.delivery.Delivery.{Delivery}
 use Rattle.cmh_run.specs.declared.delivery.Ending.{Ending}
 use Rattle.cmh_run.specs.declared.delivery.Ending.TheVariants.{Declared, AtRest, CutFree}
 use Rattle.cmh_run.specs.Config.{Config, nothing_yet, start, delivered, asks}
-use Rattle.cmh_run.specs.Hints.{IsVerdict}
 
 -- A run on its way: after so many deliveries, with the restarts that are still to come, each by the
 -- number of deliveries before it, and how many restarts there were.

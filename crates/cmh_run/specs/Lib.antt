@@ -5,7 +5,6 @@ pub mod Config
 pub mod Engaged
 pub mod Fault
 pub mod Follow
-pub mod Hints
 pub mod Last
 pub mod Legal
 pub mod Packed

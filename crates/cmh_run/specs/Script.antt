@@ -6,7 +6,7 @@ use Rattle.cmh_graph.specs.Graph.{Graph, process_count}
 use Rattle.cmh_run.specs.declared.fault.ScriptFault.{ScriptFault}
 use Rattle.cmh_run.specs.declared.fault.ScriptFault.TheVariants.{ProcessOutOfRange, FalseVerdict, Memory}
 use Rattle.cmh_graph.specs.Judge.{IsFirst}
-use Rattle.cmh_run.specs.Hints.{IsVerdict}
+use Rattle.cmh_graph.specs.Verdict.{IsVerdict}
 
 -- the number of an ask, a process, and what is told of it at that ask
 abbrev pub Entry : Type 0

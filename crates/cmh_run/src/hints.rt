@@ -2,7 +2,7 @@
 
 ghost use Rattle.std.specs.Prelude.{◌≡◌, ◌<◌, ◌↔◌, ℕ, ⊤, None, IfSome};
 ghost use Rattle.cmh_graph.specs.Graph.{Graph, process_count};
-ghost use Rattle.cmh_run.specs.Hints.{IsVerdict};
+ghost use Rattle.cmh_graph.specs.Verdict.{IsVerdict};
 
 use cmh_graph::Verdict;
 

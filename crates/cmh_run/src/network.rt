@@ -4,7 +4,7 @@ ghost use Rattle.std.specs.Prelude.{◌≡◌, ◌+◌, ◌<◌, ◌^◌, ◌%�
 ghost use Rattle.cmh_graph.specs.Graph.{process_count, is_awake};
 ghost use Rattle.cmh_graph.specs.Build.{IsWellFormed};
 ghost use Rattle.cmh_process.specs.Process.{engages};
-ghost use Rattle.cmh_run.specs.Hints.{IsVerdict};
+ghost use Rattle.cmh_graph.specs.Verdict.{IsVerdict};
 ghost use Rattle.cmh_run.specs.Legal.{begun, HintIsFit};
 ghost use Rattle.cmh_run.specs.Packed.{CanSend, EngagersHaveRoom, HaveRoom, RepliesWithin};
 ghost use Rattle.cmh_run.specs.Config.{blank, proc_at, nothing_yet, start, does, engaged_by, hinted, query, answered, replied, received, asks, without};

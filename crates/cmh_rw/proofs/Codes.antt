@@ -12,12 +12,12 @@ parts : (p a b : ℕ) → a ≤ 1 → b ≤ 1
 parts p a b ha hb = (omega arith, omega arith, omega arith)
 
 -- a bit is at most 1
-bit-small : (b : Bool) → bit b ≤ 1
+pub bit-small : (b : Bool) → bit b ≤ 1
 bit-small true = omega arith
 bit-small false = omega arith
 
 -- so is a verdict's
-free_bit-small : (v : Verdict) → free_bit v ≤ 1
+pub free_bit-small : (v : Verdict) → free_bit v ≤ 1
 free_bit-small Deadlocked = omega arith
 free_bit-small Free = omega arith
 

@@ -150,7 +150,7 @@ true-distinct g [] h = tt
 true-distinct g (x ∷ xs) h = (none_apart x.process xs h.2, true-distinct g xs h.3)
 
 -- where one of two tests holds
-or_cases : (a b : Bool) → (a || b) ≡ true → (a ≡ true) ⊎ (b ≡ true)
+pub or_cases : (a b : Bool) → (a || b) ≡ true → (a ≡ true) ⊎ (b ≡ true)
 or_cases true b e = inl refl
 or_cases false b e = inr e
 

@@ -7,7 +7,7 @@ use Rattle.cmh_graph.specs.declared.verdict.Verdict.{Verdict}
 use Rattle.cmh_graph.specs.Graph.{Graph, is_idle}
 use Rattle.cmh_run.specs.declared.delivery.Ending.{Ending}
 use Rattle.cmh_run.specs.declared.delivery.Ending.TheVariants.{Declared, AtRest, CutFree}
-use Rattle.cmh_run.specs.Hints.{IsVerdict}
+use Rattle.cmh_graph.specs.Verdict.{IsVerdict}
 use Rattle.cmh_run.specs.Run.{Run, TellsTruth, verdict_of}
 use Rattle.cmh_rw.specs.declared.row.Row.{Row}
 use Rattle.cmh_rw.specs.declared.view.View.{View}

@@ -7,12 +7,11 @@ use Rattle.std.proofs.lemmas.List.Elements.{All-nil, All-cons, All-map, All-cont
 use Rattle.cmh_graph.specs.declared.verdict.Verdict.{Verdict}
 use Rattle.cmh_graph.specs.declared.verdict.Verdict.TheVariants.{Deadlocked, Free}
 use Rattle.cmh_graph.specs.Graph.{Graph, process_count, indices, is_idle, idle_list}
-use Rattle.cmh_graph.specs.Verdict.{is_deadlocked, verdict}
+use Rattle.cmh_graph.specs.Verdict.{is_deadlocked, verdict, IsVerdict}
 use Rattle.cmh_graph.specs.Build.{IsWellFormed}
 use Rattle.cmh_graph.specs.Graph.{IsWithinGraph}
 use Rattle.cmh_graph.proofs.Reaching.{contains_index}
-use Rattle.cmh_graph.proofs.Verdicts.{contains_filter, idle_within, test_then, then_test}
-use Rattle.cmh_run.specs.Hints.{IsVerdict}
+use Rattle.cmh_graph.proofs.Verdicts.{contains_filter, idle_within, true_verdict}
 use Rattle.cmh_run.specs.Run.{Run}
 use Rattle.cmh_rw.specs.declared.row.Row.{Row}
 use Rattle.cmh_rw.specs.History.{StartsWith, IsTrueOf, fold_at}
@@ -75,22 +74,13 @@ same_order rows (f ∷ fs) (r ∷ rs) n = let rest = same_order rows fs rs n.1 i
 
 -- ---- the whole history
 
--- a verdict that is true is the verdict
-verdict_is : (g : Graph) (p : ℕ) (v : Verdict) → IsWithinGraph g → IsVerdict g p v → v ≡ verdict g p
-verdict_is g p Deadlocked w is = rw (then_test g p is) refl
-verdict_is g p Free w is = free_is (is_deadlocked g p) refl
-  where
-    free_is : (b : Bool) → is_deadlocked g p ≡ b → Free ≡ cond b Deadlocked Free
-    free_is true e = absurd (is (test_then g p w e))
-    free_is false e = refl
-
 -- where the history says each record's verdict, and there is a record of each idle process, it says the verdict of each
 says_each : {L : Type 0} (g : Graph) (rows : List Row) (rs : List (Record Run L)) → IsWithinGraph g → map initiator_of rs ≡ idle_list g → All (λ r. IsVerdict g r.initiator r.verdict) rs → All (λ r. fold_at rows r.initiator ≡ Some r.verdict) rs
     → (p : ℕ) → IsTrue (is_idle g p) → fold_at rows p ≡ Some (verdict g p)
 says_each g rows rs w order verdicts agrees p idle =
     let P : ℕ → Type 0 = λ q. fold_at rows q ≡ Some (verdict g q) in
     let all : All P (map initiator_of rs) =
-    All-map P initiator_of rs (λ k d low. agrees k d low ∙ ap Some (verdict_is g (get_or rs k d).initiator (get_or rs k d).verdict w (verdicts k d low))) in
+    All-map P initiator_of rs (λ k d low. agrees k d low ∙ ap Some (true_verdict g (get_or rs k d).initiator (get_or rs k d).verdict w (verdicts k d low))) in
     let there : Contains (idle_list g) p = contains_filter (is_idle g) (indices g) p (contains_index (process_count g) p (idle_within g p idle)) idle in
     All-contains P (idle_list g) p (subst (All P) order all) there
 

@@ -25,18 +25,17 @@ cons_first x y xs ys e = ap (λ l. get_or l 0 x) e
 cons_rest : (x y : Row) (xs ys : List Row) → x ∷ xs ≡ y ∷ ys → xs ≡ ys
 cons_rest x y xs ys e = ap (λ l. drop 1 l) e
 
--- something isn't nothing
-some_none : (v : Verdict) → Some v ≡ None → ⊥
-some_none v e = cc
-
 -- what begins with something, or else says something, says something
 said_by : (b : Bool) (v : Verdict) (rest : Option Verdict) → (rest ≡ None → ⊥) → cond b (Some v) rest ≡ None → ⊥
-said_by true v rest f e = some_none v e
+said_by true v rest f e = cc
 said_by false v rest f e = f e
 
 -- a row that stands among the rows says something of its process
 said_of : (x : Row) (a c : List Row) → fold_at (a ++ x ∷ c) x.process ≡ None → ⊥
-said_of x [] c e = some_none x.verdict (sym (ap (λ b. cond b (Some x.verdict) (fold_at c x.process)) (eq-eqb x.process x.process refl)) ∙ e)
+said_of x [] c e =
+    let says : Some x.verdict ≡ None =
+        sym (ap (λ b. cond b (Some x.verdict) (fold_at c x.process)) (eq-eqb x.process x.process refl)) ∙ e in
+    cc
 said_of x (r ∷ rs) c e = said_by (eqb r.process x.process) r.verdict (fold_at (rs ++ x ∷ c) x.process) (said_of x rs c) e
 
 -- in rows in which no process stands twice a row has one place

@@ -8,6 +8,7 @@ use Rattle.std.proofs.lemmas.List.{set-get_or}
 use Rattle.atomic_table.specs.Table.{State, Me, step, keeps, stepped, Allows, Splits, Joins, opening}
 use Rattle.atomic_table.proofs.Lists.{at_set, at_snoc, set_again}
 use Rattle.cmh_work.specs.declared.ticket_rule.TicketView.{TicketView}
+use Rattle.cmh_rw.proofs.Folds.{or_cases}
 use Rattle.cmh_rw.specs.Machine.{total}
 use Rattle.cmh_rw.proofs.Lawful.{total-set, total-in, total-snoc}
 use Rattle.cmh_work.specs.Tickets.{sum_below, share_if, done_share, share_of, opening_view, less_one, newcomer, joined_views, spent, with_drawn, with_done, Has, Dealt, KnowsAll, after_draw, Drew, Measured}
@@ -182,11 +183,6 @@ splits key id v more s h at = let x = get_or s.words 0 0 in let has = h.each id 
           let k = h.numbers f in omega arith;
     }
 
--- one of two is true where their disjunction is
-or-true : (a b : Bool) → (a || b) ≡ true → (a ≡ true) ⊎ (b ≡ true)
-or-true true b e = inl refl
-or-true false b e = inr e
-
 -- two shares that are joined count at least the same
 join_done : (a b : Bool) (m n : ℕ) → share_if a m + share_if b n ≤ share_if (a || b) (m + n)
 join_done true true m n = omega arith
@@ -211,7 +207,7 @@ joins key id v other w some_share s h at apart there = let x = get_or s.words 0 
       each = λ i u g. ⊎_elim
           (λ t. subst (Has key x) t.1 record { bare = λ z. refl; knows = λ some. absurd (omega arith); past = λ d. absurd (no_true d) })
           (λ t. ⊎_elim
-          (λ t'. subst (Has key x) t'.1 record { bare = λ z. absurd (omega arith); knows = λ _. has.knows (omega arith); past = λ e. ⊎_elim has.past was.past (or-true v.done w.done e) })
+          (λ t'. subst (Has key x) t'.1 record { bare = λ z. absurd (omega arith); knows = λ _. has.knows (omega arith); past = λ e. ⊎_elim has.past was.past (or_cases v.done w.done e) })
           (λ t'. h.each i u t'.1)
           (at_set s.views id i both u t.1))
           (at_set mid other i spent u g);

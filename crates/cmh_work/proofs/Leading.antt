@@ -10,11 +10,12 @@ use Rattle.cmh_graph.specs.declared.verdict.Verdict.{Verdict}
 use Rattle.cmh_graph.specs.declared.verdict.Verdict.TheVariants.{Deadlocked, Free}
 use Rattle.cmh_graph.specs.Verdict.{is_deadlocked, verdicts}
 use Rattle.cmh_graph.specs.Core.{core_of, leader_of}
+use Rattle.cmh_graph.proofs.Groups.{in_own_core, leader_in_core, leader_least, same_leader, same_test}
 use Rattle.cmh_graph.proofs.Listing.{by_index, by_index_agree, length-by_index}
 use Rattle.cmh_graph.proofs.Searching.{taken_last, taken_more, taken_stays}
+use Rattle.cmh_graph.proofs.Verdicts.{verdict_listed}
 use Rattle.cmh_work.specs.Leaders.{group_leader, leader_below, is_deadlocked_at, leader_at, says_deadlocked, LeadsEach}
-use Rattle.cmh_work.proofs.Known.{verdict_at}
-use Rattle.cmh_work.proofs.Cores.{core_back, core_deadlocked, deadlocked_within, in_own_core, leader_in_core, leader_least, same_leader, same_test}
+use Rattle.cmh_work.proofs.Cores.{core_back, core_deadlocked, deadlocked_within}
 
 -- a deadlocked process's leader is deadlocked, and leads itself
 pub leader_of_leader : (g : Graph) (p : ℕ) → IsWithinGraph g → is_deadlocked g p ≡ true → (is_deadlocked g (leader_of g p) ≡ true) × (leader_of g (leader_of g p) ≡ leader_of g p)
@@ -193,7 +194,7 @@ says_chosen false = refl
 
 -- the known verdicts say who is deadlocked
 pub says_at : (g : Graph) (known : List Verdict) (p : ℕ) → known ≡ verdicts g → p < process_count g → is_deadlocked_at known p ≡ is_deadlocked g p
-says_at g known p are i = ap says_deadlocked (verdict_at g known p Free are i) ∙ says_chosen (is_deadlocked g p)
+says_at g known p are i = ap says_deadlocked (verdict_listed g known p Free are i) ∙ says_chosen (is_deadlocked g p)
 
 -- what a new leader passes
 new_leader_by : (dead : Bool) (o : Option ℕ) → (dead && is_none o) ≡ true → (dead ≡ true) × (o ≡ None)

@@ -9,7 +9,6 @@ pub mod Examples
 pub mod Faults
 pub mod Gathering
 pub mod Hinting
-pub mod Known
 pub mod Leading
 pub mod Naming
 pub mod Rising

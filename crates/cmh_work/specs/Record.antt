@@ -2,7 +2,7 @@
 use Rattle.std.specs.Prelude.{◌≡◌, ℕ, Bool, List, [], IsTrue, Some, slice_get}
 use Rattle.cmh_graph.specs.declared.verdict.Verdict.{Verdict}
 use Rattle.cmh_graph.specs.Graph.{Graph, is_idle}
-use Rattle.cmh_run.specs.Hints.{IsVerdict}
+use Rattle.cmh_graph.specs.Verdict.{IsVerdict}
 use Rattle.cmh_run.specs.Run.{Run, IsRunOf, verdict_of}
 use Rattle.cmh_rw.specs.declared.row.Row.{Row}
 use Rattle.cmh_work.specs.declared.record.Record.{Record}

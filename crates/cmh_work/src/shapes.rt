@@ -22,7 +22,7 @@ pub(crate) struct Shapes {
 }
 
 impl Shapes {
-    ghost use Rattle.cmh_run.specs.Hints.{IsVerdict};
+    ghost use Rattle.cmh_graph.specs.Verdict.{IsVerdict};
     ghost use Rattle.cmh_work.specs.Shape.{IsShape, AreShapesOf};
 
     /// Searches the graph once for all distances, and twice for each group that isn't soon seen to be

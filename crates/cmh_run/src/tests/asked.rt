@@ -3,7 +3,7 @@
 
 ghost use Rattle.std.specs.Prelude.{◌≡◌, ◌<◌, ⊤, None, IfSome};
 ghost use Rattle.cmh_graph.specs.Graph.{Graph, process_count};
-ghost use Rattle.cmh_run.specs.Hints.{IsVerdict};
+ghost use Rattle.cmh_graph.specs.Verdict.{IsVerdict};
 
 use super::{KNOT_OF_THREE, ONE_FREE_ONE_STUCK, TWO_IN_A_CYCLE, WAITS_FOR_ITSELF, Waits, graph_of};
 use crate::{Hints, RunFault, run_again};

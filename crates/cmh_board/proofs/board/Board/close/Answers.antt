@@ -24,7 +24,8 @@ returns-clause-begins c =
     let small = subst (λ n. n ≤ 4096) c.args.self.counted c.args.self.small in
     let shown = shows_history key (known c.args.seat) (words_of c.close_with-closed.result) h small in
     let read = c.read_closed.ensures (laid h.postings) shown in
-    subst (λ l. StartsWith l (known c.args.seat).seen) (sym read) (seen-prefix (known c.args.seat).seen h.postings h.seen)
+    subst (λ l. StartsWith l (known c.args.seat).seen) (sym read)
+        (seen-prefix (known c.args.seat).seen h.postings h.seen)
 
 pub returns-clause-whole : goal.returns-clause-whole
 returns-clause-whole c =

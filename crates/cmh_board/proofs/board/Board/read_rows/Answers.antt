@@ -25,7 +25,8 @@ loop-n-preserved c =
     let same : new ≡ old = row.reads.same held.reads.loaded in (
       held_on c.args.self.now c.args.seat.now c.loop-n.seat c.held_row-row.new.seat held row.sits row.sees row.reads,
       c.loop-n.invariant.1 ∙ ap length (sym same),
-      c.push_reserved.ensures.items ∙ ap (λ l. l ++ c.held_row-row.result ∷ []) (c.loop-n.invariant.2 ∙ ap (take c.loop-n.n) (sym same))
+      c.push_reserved.ensures.items
+          ∙ ap (λ l. l ++ c.held_row-row.result ∷ []) (c.loop-n.invariant.2 ∙ ap (take c.loop-n.n) (sym same))
           ∙ sym (take_got new c.loop-n.n c.held_row-row.result row.row),
       (let room = c.loop-n.invariant.3 in let kept = c.push_reserved.ensures.capacity in omega arith),
     )
