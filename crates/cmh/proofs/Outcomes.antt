@@ -1,5 +1,5 @@
 -- What each fault and each answer says of the table of statuses.
-use Rattle.std.proofs.Common.{◌≡◌, ◌≢◌, ◌⊎◌, inl, inr, ℕ, ◌<◌, ◌≤◌, ◌++◌, List, [], length, Bool, true, take, refl, sym, subst, arith, Bor}
+use Rattle.std.proofs.Common.{◌≡◌, ◌≢◌, ◌⊎◌, inl, inr, ℕ, ◌<◌, ◌≤◌, ◌++◌, List, [], length, true, take, refl, sym, subst, arith, Bor}
 use Rattle.std.proofs.lemmas.Bool.{cases_order}
 use Rattle.std.specs.Prelude.{IsFalse, String, string_bytes}
 use Rattle.std.specs.Global.{Global}
@@ -11,7 +11,7 @@ use Rattle.cmh_run.specs.declared.TheConstants.{MAX_CHOICES}
 use Rattle.cmh_run.specs.declared.delivery.Ending.{Ending}
 use Rattle.cmh_run.specs.declared.fault.RunFault.{RunFault}
 use Rattle.cmh_run.specs.declared.fault.RunFault.TheVariants as run
-use Rattle.cmh_work.specs.Plan.{Setup, IsFirstFault as IsPlanFault}
+use Rattle.cmh_work.specs.Plan.{IsFirstFault as IsPlanFault}
 use Rattle.cmh_work.specs.declared.fault.PlanFault.{PlanFault}
 use Rattle.cmh_work.specs.declared.fault.PlanFault.TheVariants as plan
 use Rattle.cmh_report.specs.declared.fault.AppFault.{AppFault}
@@ -21,7 +21,7 @@ use Rattle.cmh_report.specs.Fault.{IfDump, IfNoSuchProcess, IfRun, IfUnwritten, 
 use Rattle.cmh_report.specs.Report.{IsCountedReport, IsReport}
 use Rattle.cmh_report.specs.Trace.{HasNoRun, IsEndedTrace, IsFirstNamed, IsSomeTrace, NobodyIsNamed}
 use Rattle.cmh_command.specs.List.{IsFirstFault, IsListOf}
-use Rattle.cmh.specs.Status.{status_of, status_of_dump, status_of_run, status_of_list, status_of_plan, AreBadPlanWords, Ends, FitsTrace, HasAnswered, HasCuts, HasDeadlock, HasFailed, HasRefusedDump, IsBadList, IsBadPlan, IsCutsStatus, IsDone, IsListStatus, IsMisused, IsOutcome, IsOutcomeOf, IsPlanStatus, IsUnread, IsUnwritten, NobodyIdleIsNamed}
+use Rattle.cmh.specs.Status.{status_of, status_of_dump, status_of_run, status_of_list, status_of_plan, AreBadPlanWords, Ends, FitsTrace, HasAnswered, HasCuts, HasDeadlock, HasFailed, HasRefusedDump, IsCutsStatus, IsDone, IsListStatus, IsMisused, IsOutcome, IsOutcomeOf, IsPlanStatus, IsUnread, IsUnwritten, NobodyIdleIsNamed}
 use Rattle.cmh_command.specs.Words.{IsRequest}
 use Rattle.cmh_command.specs.declared.list.ListFault.{ListFault}
 use Rattle.cmh_command.specs.declared.list.ListFault.TheVariants as list
@@ -150,8 +150,14 @@ plan_status w cuts choices f listed next h = by_fault f h
         → AreBadPlanWords w
     bad f first =
         inr (inr
-            (record { cuts = cuts; choices = choices; cuts_listed = listed; choices_listed = next; fault = f;
-                first = first }))
+        (record {
+          cuts = cuts;
+          choices = choices;
+          cuts_listed = listed;
+          choices_listed = next;
+          fault = f;
+          first = first;
+        }))
 
     by_fault : (f : PlanFault)
         → (f ≡ plan.Memory) ⊎ IsPlanFault record { workers = w.workers; cuts = cuts; choices = choices } f
@@ -207,7 +213,7 @@ mislisted name list s e (inl h) unread unwritten =
     subst (λ (n : ℕ). IsOutcome (Trace name list) n e) (sym h) (has_failed (Trace name list) e (inl unwritten))
 mislisted name list s e (inr h) unread unwritten =
     subst (λ (n : ℕ). IsOutcome (Trace name list) n e) (sym h.0)
-        (is_misused (Trace name list) e (unwritten, inl (unread, h.1)))
+    (is_misused (Trace name list) e (unwritten, inl (unread, h.1)))
 
 -- however its run has ended, a trace fits
 any_ending : (name list choices : List ℕ) (ending : Ending) (g : Graph) (text : List ℕ) → IsListOf list choices
@@ -257,7 +263,7 @@ not_idle name choices f g few h = by_fault f h.cause
     by_fault f (inl memory) = inl memory
     by_fault run.NotIdle (inr active) =
         inr (λ p first. subst (λ (q : ℕ). IsFalse (is_idle g q))
-            (first_alone name g h.initiator p h.named first) active)
+        (first_alone name g h.initiator p h.named first) active)
     by_fault run.TooManyChoices (inr many) = let l : MAX_CHOICES < length choices = many.1 in absurd (omega arith)
     by_fault run.BadRestarts (inr bad) = absurd (bad.2 no_restarts)
     by_fault run.Memory (inr none) = absurd none
@@ -270,24 +276,25 @@ pub trace_failed : (name list : Bor (List ℕ)) (choices : List ℕ) (e : Ends) 
     → IfRun f (λ fault. GaveGraph e.given_old e.given_new e.has_ended (HasNoRun name.now choices fault))
     → IfUnwritten f (IsUnwritten e)
     → IfWriteFault f
-        (IsCutShort (IsSomeTrace name.now choices) e.given_old e.given_new e.has_ended e.taken_old e.taken_new)
+    (IsCutShort (IsSomeTrace name.now choices) e.given_old e.given_new e.has_ended e.taken_old e.taken_new)
     → IfWriteFault f (λ _. e.out_failed ≡ true) → IsOutcome (Trace name list) (status_of f) e
 trace_failed name list choices e (Dump f) listed few refused nobody no_run unwritten cut stopped =
     refused_dump (Trace name list) e f (λ own. (unwritten, (f, own, refused))) (inl unwritten)
 trace_failed name list choices e (Work f) listed few refused nobody no_run unwritten cut stopped =
     has_failed (Trace name list) e (inl unwritten)
 trace_failed name list choices e NoSuchProcess listed few refused nobody no_run unwritten cut stopped =
-    is_misused (Trace name list) e
-        (unwritten,
-            inr (record
-                { graph = nobody.graph; dump = nobody.dump; holds = nobody_named name.now nobody.graph nobody.holds }))
+    is_misused (Trace name list) e (
+      unwritten,
+      inr (record
+          { graph = nobody.graph; dump = nobody.dump; holds = nobody_named name.now nobody.graph nobody.holds }),
+    )
 trace_failed name list choices e (Run f) listed few refused nobody no_run unwritten cut stopped =
     by_run f (not_idle name.now choices f no_run.graph few no_run.holds)
   where
     misused : NobodyIdleIsNamed name.now no_run.graph → IsOutcome (Trace name list) MISUSED e
     misused none =
         is_misused (Trace name list) e
-            (unwritten, inr (record { graph = no_run.graph; dump = no_run.dump; holds = none }))
+        (unwritten, inr (record { graph = no_run.graph; dump = no_run.dump; holds = none }))
 
     by_run : (f : RunFault) → (f ≡ run.Memory) ⊎ NobodyIdleIsNamed name.now no_run.graph
         → IsOutcome (Trace name list) (status_of_run f) e
@@ -322,7 +329,7 @@ trace_failed name list choices e (WriteFault n) listed few refused nobody no_run
 pub shown : (text : String Global) (s : ℕ) (e : Ends) → (s ≡ FREE) ⊎ (s ≡ FAILED) → IsUnread e
     → (s ≡ FREE → e.taken_new ≡ e.taken_old ++ string_bytes text) → (s ≡ FREE → e.is_finished ≡ true)
     → (s ≡ FAILED
-        → (e.out_failed ≡ true) × ((written : ℕ) × (e.taken_new ≡ e.taken_old ++ take written (string_bytes text))))
+    → (e.out_failed ≡ true) × ((written : ℕ) × (e.taken_new ≡ e.taken_old ++ take written (string_bytes text))))
     → IsOutcome (Show text) s e
 shown text s e (inl is) unread taken finished front = record {
   free = λ x. (unread, taken x, finished x);

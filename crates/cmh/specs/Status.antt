@@ -1,13 +1,12 @@
 -- The table of statuses: what each says of what was asked for and of the two ends of the program.
-use Rattle.std.specs.Prelude.{◌≡◌, ◌⊎◌, ◌<◌, ◌≤◌, ◌++◌, ℕ, List, length, replicate, take, Bool, true, Option, None, Some, IsFalse, MatchOption, string_bytes}
+use Rattle.std.specs.Prelude.{◌≡◌, ◌⊎◌, ◌<◌, ◌≤◌, ◌++◌, ℕ, List, replicate, take, Bool, true, Option, IsFalse, MatchOption, string_bytes}
 use Rattle.std.specs.Borrow.{Bor}
 use Rattle.cmh_graph.specs.Graph.{Graph, is_idle}
 use Rattle.cmh_dump.specs.declared.fault.DumpFault.{DumpFault}
 use Rattle.cmh_dump.specs.declared.fault.DumpFault.TheVariants as dump
-use Rattle.cmh_run.specs.declared.delivery.Ending.{Ending}
 use Rattle.cmh_run.specs.declared.fault.RunFault.{RunFault}
 use Rattle.cmh_run.specs.declared.fault.RunFault.TheVariants as run
-use Rattle.cmh_work.specs.Plan.{Setup, IsFirstFault as IsPlanFault}
+use Rattle.cmh_work.specs.Plan.{IsFirstFault as IsPlanFault}
 use Rattle.cmh_work.specs.declared.TheConstants.{MAX_CUTS}
 use Rattle.cmh_work.specs.declared.fault.PlanFault.{PlanFault}
 use Rattle.cmh_work.specs.declared.fault.PlanFault.TheVariants as plan
@@ -15,7 +14,7 @@ use Rattle.cmh_report.specs.declared.fault.AppFault.{AppFault}
 use Rattle.cmh_report.specs.declared.fault.AppFault.TheVariants.{Dump, Work, NoSuchProcess, Run, Report, WriteFault}
 use Rattle.cmh_report.specs.Ends.{GaveGraph, IsAnswer, IsCutShort, IsRefused}
 use Rattle.cmh_report.specs.Report.{IsCountedReport, IsReport}
-use Rattle.cmh_report.specs.Trace.{IsEndedTrace, IsFirstNamed, IsSomeTrace}
+use Rattle.cmh_report.specs.Trace.{IsFirstNamed, IsSomeTrace}
 use Rattle.cmh_command.specs.List.{IsFirstFault, IsListOf}
 use Rattle.cmh_command.specs.Words.{IsRequest}
 use Rattle.cmh_command.specs.declared.list.ListFault.{ListFault}

@@ -46,7 +46,7 @@ pub adds_none : (t : Told) (v a b : View) (found : ℕ) → IsWriter v → CanPo
 adds_none t v a b found writer can h loads few =
     let none : new_rows t a.seen ≡ [] = ap (rows_of t.verdict) (nil_from_length (unposted a.seen t.processes) few) in
     let seen : b.seen ≡ a.seen ++ new_rows t a.seen =
-        loads.seen ∙ sym (append-nil a.seen) ∙ ap (λ l. a.seen ++ l) (sym none) in
+    loads.seen ∙ sym (append-nil a.seen) ∙ ap (λ l. a.seen ++ l) (sym none) in
     adds_from t v a b found can h seen
     (loads.mine ∙ ap (λ (u : View). u.mine) h.view ∙ ap (with_posting v.mine) (sym none))
     (loads.lock ∙ ap (λ (u : View). u.lock) h.view)
@@ -71,10 +71,10 @@ adds_rows t v a b s w found can h loads st e posting some =
     let staged : s.staged ≡ rows = st.staged ∙ ap (new_rows t) loads.seen in
     let kept : s.seen ≡ a.seen = st.seen ∙ loads.seen in
     let seen : w.seen ≡ a.seen ++ rows =
-        ap (λ (u : View). u.seen) e ∙ ap (λ l. l ++ s.staged) kept ∙ ap (λ l. a.seen ++ l) staged in
+    ap (λ (u : View). u.seen) e ∙ ap (λ l. l ++ s.staged) kept ∙ ap (λ l. a.seen ++ l) staged in
     adds_from t v a w found can h seen
     (ap (λ (u : View). u.mine) e
-        ∙ ap (λ l. l ++ s.staged ∷ []) (st.mine ∙ loads.mine ∙ ap (λ (u : View). u.mine) h.view)
+    ∙ ap (λ l. l ++ s.staged ∷ []) (st.mine ∙ loads.mine ∙ ap (λ (u : View). u.mine) h.view)
     ∙ ap (λ r. v.mine ++ r ∷ []) staged ∙ sym (some_posting v.mine t.verdict (unposted a.seen t.processes) some))
     (ap (λ (u : View). u.lock) e ∙ st.lock ∙ loads.lock ∙ ap (λ (u : View). u.lock) h.view)
     (ap (λ (u : View). u.staged) e)
@@ -94,7 +94,7 @@ staged_ends d ps v s st some = subst EndsLast (sym st.staged) (ends_some (unpost
 pub staged_told : (d : Verdict) (ps : List ℕ) (v s : View) → Stages d ps v s → AreTold s.staged s.told
 staged_told d ps v s st =
     subst (λ x. AreTold x s.told) (sym st.staged)
-        (subst (λ y. AreTold (rows_of d (unposted v.seen ps)) y) (sym st.told) (rows_told d (unposted v.seen ps)))
+    (subst (λ y. AreTold (rows_of d (unposted v.seen ps)) y) (sym st.told) (rows_told d (unposted v.seen ps)))
 
 -- the number of rows from then on
 pub staged_number : (d : Verdict) (ps : List ℕ) (v s : View) (count new : ℕ) → Stages d ps v s → count ≡ length v.seen

@@ -1,12 +1,11 @@
 -- What rows that are true for a graph say.
-use Rattle.std.proofs.Common.{◌≡◌, ◌≢◌, ℕ, ◌+◌, Bool, true, false, cond, eqb, List, [], ◌∷◌, ◌++◌, refl, sym, ◌∙◌, ap, arith, zero-add, Some, None, Option, IfSome}
+use Rattle.std.proofs.Common.{◌≡◌, ℕ, ◌+◌, cond, eqb, List, [], ◌∷◌, ◌++◌, refl, sym, ◌∙◌, ap, arith, zero-add, Some, None, Option, IfSome}
 use Rattle.std.proofs.lemmas.Bool.{eqb-true}
 use Rattle.std.proofs.lemmas.List.Sums.{sum_by-append}
 use Rattle.std.proofs.lemmas.Option.{same_Some}
 use Rattle.cmh_graph.specs.declared.verdict.Verdict.{Verdict}
-use Rattle.cmh_graph.specs.declared.verdict.Verdict.TheVariants.{Deadlocked, Free}
 use Rattle.cmh_graph.specs.Graph.{Graph, IsWithinGraph}
-use Rattle.cmh_graph.specs.Verdict.{is_deadlocked, verdict, IsVerdict}
+use Rattle.cmh_graph.specs.Verdict.{verdict, IsVerdict}
 use Rattle.cmh_graph.proofs.Verdicts.{verdict_true}
 use Rattle.cmh_run.proofs.Theorem.{by_test}
 use Rattle.cmh_rw.specs.declared.row.Row.{Row}

@@ -1,5 +1,5 @@
 -- Rows that are read back from their words.
-use Rattle.std.proofs.Common.{◌≡◌, ℕ, zero, suc, ◌+◌, ◌<◌, ◌≤◌, ◌^◌, List, [], ◌∷◌, ◌++◌, length, map, get_or, take, refl, sym, ◌∙◌, ap, arith, Some, None, slice_get, false, true, Bool}
+use Rattle.std.proofs.Common.{◌≡◌, ℕ, zero, suc, ◌+◌, ◌<◌, ◌≤◌, ◌^◌, List, [], ◌∷◌, ◌++◌, length, map, get_or, take, refl, sym, ◌∙◌, ap, arith, Some, None, slice_get}
 use Rattle.std.specs.Prelude.{Option}
 use Rattle.std.specs.List.{range_with_len}
 use Rattle.std.proofs.lemmas.Bool.{cases_lt}
@@ -8,12 +8,11 @@ use Rattle.std.proofs.lemmas.List.{take_more, length-map, get_or_past}
 use Rattle.std.proofs.lemmas.List.FromFn.{map-range_with_len_more, get_or-map-range_with_len, length-range_with_len}
 use Rattle.std.proofs.lemmas.Option.{slice_get_within, get_or_from_slice_get}
 use Rattle.cmh_graph.specs.declared.verdict.Verdict.{Verdict}
-use Rattle.cmh_graph.specs.declared.verdict.Verdict.TheVariants.{Deadlocked, Free}
 use Rattle.cmh_graph.specs.declared.TheConstants.{MAX_PROCESSES}
 use Rattle.cmh_graph.specs.Graph.{Graph, process_count, IsWithinGraph}
 use Rattle.cmh_graph.proofs.Verdicts.{idle_within, verdict_true}
 use Rattle.cmh_rw.specs.declared.row.Row.{Row}
-use Rattle.cmh_rw.specs.History.{bit, free_bit, row_code, row_of, fold_at, IsTrueOf}
+use Rattle.cmh_rw.specs.History.{row_code, row_of, fold_at, IsTrueOf}
 use Rattle.cmh_rw.proofs.Codes.{bit-small, free_bit-small, row_code_law}
 use Rattle.cmh_rw.proofs.Folds.{true-few, true-idle}
 use Rattle.cmh_board.specs.Snap.{verdict_at, Shows, IsTrueSnap}
@@ -62,8 +61,10 @@ shows_all g rows verdicts t e p = elim (cases_lt p (process_count g)) [
       ∙ get_or-map-range_with_len (fold_at rows) 0 (process_count g) p p None l (omega arith)
   | inr l ↦ ap (λ l. verdict_at l p) e
       ∙ get_or_past (map (fold_at rows) (range_with_len 0 (process_count g))) p None
-          (rw (length-map (range_with_len 0 (process_count g)) (fold_at rows),
-              length-range_with_len 0 (process_count g)) l)
+      (rw (
+        length-map (range_with_len 0 (process_count g)) (fold_at rows),
+        length-range_with_len 0 (process_count g),
+      ) l)
       ∙ sym (absent_past g rows p t l (fold_at rows p) refl)
 ]
 

@@ -5,7 +5,7 @@ use Rattle.std.proofs.lemmas.Bool.{ne_eqb, eq-eqb}
 use Rattle.std.proofs.lemmas.List.{get_or_default, take-append-drop, get_or-take, length-take-le, length-map}
 use Rattle.std.proofs.lemmas.List.Elements.{filter_more, filter-append}
 use Rattle.std.proofs.lemmas.Option.{slice_get-get_or}
-use Rattle.std.proofs.Math.Seq.{drop-cons, drop-length, take-length}
+use Rattle.std.proofs.Math.Seq.{drop-cons}
 use Rattle.cmh_graph.specs.declared.verdict.Verdict.{Verdict}
 use Rattle.cmh_graph.specs.declared.verdict.Verdict.TheVariants.{Deadlocked, Free}
 use Rattle.cmh_graph.specs.Graph.{is_idle}
@@ -16,8 +16,8 @@ use Rattle.cmh_rw.specs.declared.view.View.{View}
 use Rattle.cmh_rw.specs.History.{fold_at, verdict_code, IsOpen}
 use Rattle.cmh_rw.specs.View.{row, mark, AfterLoad, CanStage, with_row, with_told}
 use Rattle.cmh_rw.proofs.Folds.{fold-skip, fold-keeps}
-use Rattle.cmh_board.specs.Board.{is_empty, unposted, rows_of}
-use Rattle.cmh_board.specs.Adding.{CanPost, OnlyLoads, Stages, marks, rows_so_far}
+use Rattle.cmh_board.specs.Board.{is_empty, unposted}
+use Rattle.cmh_board.specs.Adding.{CanPost, OnlyLoads, marks, rows_so_far}
 use Rattle.cmh_board.proofs.Lists.{contains_filter}
 use Rattle.cmh_board.proofs.PostingRows.{absent-marks, marks-said, open-marks, rows_so_far-more, marks-more, none_is}
 
@@ -33,23 +33,6 @@ only_load v word found w had a = record {
   told = ap (λ (u : View). u.told) a.view;
   mine = ap (λ (u : View). u.mine) a.view;
   loads = (let e = ap (λ (u : View). u.loads) a.view in omega arith);
-}
-
--- no load at all
-pub no_load : (v : View) → v.loaded ≡ true → OnlyLoads v v
-no_load v had =
-    record { lock = refl; loaded = had; seen = refl; staged = refl; told = refl; mine = refl; loads = omega arith }
-
--- loads after loads
-pub loads_on : (u v w : View) → OnlyLoads u v → OnlyLoads v w → OnlyLoads u w
-loads_on u v w a b = record {
-  lock = b.lock ∙ a.lock;
-  loaded = b.loaded;
-  seen = b.seen ∙ a.seen;
-  staged = b.staged ∙ a.staged;
-  told = b.told ∙ a.told;
-  mine = b.mine ∙ a.mine;
-  loads = (let p = a.loads in let q = b.loads in omega arith);
 }
 
 -- a verdict word is 0 just where nothing is said
@@ -145,20 +128,6 @@ nothing_so_far : (d : Verdict) (rest : List ℕ) → rows_so_far d [] rest ≡ [
 nothing_so_far d [] = refl
 nothing_so_far d (p ∷ rest) = refl
 
-pub staging-first : (v : View) (d : Verdict) (ps : List ℕ) (n : ℕ) → v.loaded ≡ true → v.staged ≡ [] → v.told ≡ []
-    → n ≡ length v.seen
-    → Staging v d ps 0 v n
-staging-first v d ps n loaded staged told number = record {
-  lock = refl;
-  loaded = loaded;
-  seen = refl;
-  staged = staged ∙ sym (nothing_so_far d (to_come v.seen ps 0));
-  told = told;
-  mine = refl;
-  loads = omega arith;
-  number = omega arith;
-}
-
 -- what is told says nothing of the process at hand
 pub untold : (v : View) (d : Verdict) (ps : List ℕ) (i : ℕ) (w : View) (n : ℕ) → Staging v d ps i w n → HasNoRepeat ps
     → i < length ps
@@ -166,7 +135,7 @@ pub untold : (v : View) (d : Verdict) (ps : List ℕ) (i : ℕ) (w : View) (n : 
 untold v d ps i w n s once l =
     ap (λ t. fold_at (w.seen ++ t) (get_or ps i 0)) s.told
     ∙ absent-behind w.seen (marks d (done v.seen ps i)) (get_or ps i 0)
-        (absent-marks d (done v.seen ps i) (get_or ps i 0) (not_before v.seen ps i once l))
+    (absent-marks d (done v.seen ps i) (get_or ps i 0) (not_before v.seen ps i once l))
     ∙ ap (λ l. fold_at l (get_or ps i 0)) s.seen
 
 -- a process that stands in a row is passed over
@@ -204,7 +173,7 @@ can_stage v d ps i w u n last s can l new a =
       idle = ap (λ g. is_idle g p) graph ∙ can.idle p there;
       fresh = ap (λ r. fold_at (u.seen ++ r) p) bare
           ∙ absent-behind u.seen (marks d (done v.seen ps i)) p
-              (absent-marks d (done v.seen ps i) p (not_before v.seen ps i can.once l))
+          (absent-marks d (done v.seen ps i) p (not_before v.seen ps i can.once l))
           ∙ ap (λ r. fold_at r p) (a.seen ∙ s.seen) ∙ none_is (fold_at v.seen p) new;
       true_verdict = can.truth p there ∙ ap (λ g. verdict g p) (sym graph);
     }
@@ -231,7 +200,7 @@ pub is_last : (v : View) (d : Verdict) (ps : List ℕ) (i : ℕ) (w : View) (n e
 is_last v d ps i w n end s l new e =
     let p = get_or ps i 0 in
     let all = ap length (whole v.seen ps i ∙ ap (λ q. done v.seen ps i ++ q) (to_come-new v.seen ps i l new))
-        ∙ length-append (done v.seen ps i) (p ∷ to_come v.seen ps (i + 1)) in
+    ∙ length-append (done v.seen ps i) (p ∷ to_come v.seen ps (i + 1)) in
     let number = s.number in
     last_is (to_come v.seen ps (i + 1)) n end (omega arith)
 
@@ -242,7 +211,7 @@ pub below_end : (v : View) (d : Verdict) (ps : List ℕ) (i : ℕ) (w : View) (n
 below_end v d ps i w n end s l new e =
     let p = get_or ps i 0 in
     let all = ap length (whole v.seen ps i ∙ ap (λ q. done v.seen ps i ++ q) (to_come-new v.seen ps i l new))
-        ∙ length-append (done v.seen ps i) (p ∷ to_come v.seen ps (i + 1)) in
+    ∙ length-append (done v.seen ps i) (p ∷ to_come v.seen ps (i + 1)) in
     let number = s.number in
     omega arith
 
@@ -286,20 +255,4 @@ staging-new v d ps i w u x y n last s l new a ex ey el =
       loads = (let q = ap (λ (z : View). z.loads) ey ∙ ap (λ (z : View). z.loads) ex in let r = a.loads in
           let t = s.loads in omega arith);
       number = (let k = ap length now ∙ length-append was (p ∷ []) in let m = s.number in omega arith);
-    }
-
--- at the end all are done
-pub staging-end : (v : View) (d : Verdict) (ps : List ℕ) (i : ℕ) (w : View) (n : ℕ) → Staging v d ps i w n
-    → i ≡ length ps → Stages d ps v w
-staging-end v d ps i w n s e =
-    let all : done v.seen ps i ≡ unposted v.seen ps =
-        ap (λ k. done v.seen ps k) e ∙ ap (unposted v.seen) (take-length ps) in
-    let none : to_come v.seen ps i ≡ [] =
-        ap (λ k. to_come v.seen ps k) e ∙ ap (unposted v.seen) (drop-length ps) in record {
-      lock = s.lock;
-      seen = s.seen;
-      staged = s.staged ∙ ap (rows_so_far d (done v.seen ps i)) none ∙ ap (rows_of d) all;
-      told = s.told ∙ ap (marks d) all;
-      mine = s.mine;
-      loads = s.loads;
     }

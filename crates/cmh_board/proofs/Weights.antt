@@ -99,7 +99,7 @@ member_weighs : (x : List Row) (ps : List (List Row)) → Contains ps x → 0 < 
 member_weighs x [] c = absurd (let l = c.1 in omega arith)
 member_weighs x (p ∷ ps) c = ⊎_elim
     (λ e. let one : is_one x p ≡ 1 = ap (λ b. cond {A = ℕ} b 1 0) (ap (λ q. rows_eqb q x) e ∙ rows_eqb-refl x) in
-        omega arith)
+    omega arith)
     (λ r. let rest = member_weighs x ps r in omega arith)
     (cons_contains p ps x c)
 

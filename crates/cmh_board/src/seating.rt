@@ -2,9 +2,9 @@
 
 ghost use Rattle.std.specs.Prelude.{◌≡◌, ◌<◌, ◌≤◌, IfOk, IfErr, IfSome, IfNone};
 ghost use Rattle.cmh_rw.specs.declared.TheConstants.{MAX_SEATS};
-ghost use Rattle.cmh_rw.specs.History.{StartsWith, IsHistory, IsTrueOf};
+ghost use Rattle.cmh_rw.specs.History.{StartsWith};
 ghost use Rattle.cmh_rw.specs.View.{opening_view, less_one, newcomer, joined};
-ghost use Rattle.cmh_board.specs.Board.{known, graph_of, SitsAt, IsAway, IsMadeOf};
+ghost use Rattle.cmh_board.specs.Board.{known, graph_of, SitsAt, IsAway};
 
 use crate::fault::unopened;
 use crate::{Board, BoardFault, BoardSeat};

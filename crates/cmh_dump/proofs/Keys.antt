@@ -1,11 +1,11 @@
 -- The keys of an object, from those of the members that lie in memory.
-use Rattle.std.proofs.Common.{◌≡◌, ℕ, List, [], ◌∷◌, Bool, true, false, ◌&&◌, ◌||◌, Option, Some, None, refl, sym, ap, ◌∙◌, Bor}
+use Rattle.std.proofs.Common.{◌≡◌, ℕ, List, [], ◌∷◌, Bool, true, false, ◌&&◌, ◌||◌, Option, Some, refl, sym, ap, ◌∙◌, Bor}
 use Rattle.std.specs.Prelude.{is_some, bytes_eq, unwrap_or, option_map}
 use Rattle.std.specs.List.{list_all, list_any}
 use Rattle.json.specs.Find as json_find
 use Rattle.json.specs.Json as json
 use Rattle.json.specs.Value.{members_view}
-use Rattle.serde_json.specs.Data.{Data, Members, no_members}
+use Rattle.serde_json.specs.Data.{Members, no_members}
 use Rattle.serde_json.specs.Find.{as_object}
 use Rattle.cmh_dump.specs.Tree.{has_keys, has_key, keys_of}
 use Rattle.cmh_dump.specs.Texts.{texts}

@@ -55,7 +55,8 @@ pub first_is : (places : List ℕ) (j : ℕ) → IsFirst (IsRepeat places) j →
 first_is places j f =
     least_found (place_repeats places) (length places) j f.holds.0
     (λ k l. false_from_ne_true (place_repeats places k)
-    (λ e. let least = f.first k (passes_repeat places k (omega (arith, l, f.holds.0)) e) in absurd (omega (arith, l, least))))
+    (λ e. let least = f.first k (passes_repeat places k (omega (arith, l, f.holds.0)) e) in
+    absurd (omega (arith, l, least))))
     (repeat_passes places j f.holds)
 
 -- where there is no repeat, it finds none

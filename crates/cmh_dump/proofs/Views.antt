@@ -98,26 +98,30 @@ mutual
 pub read_is : (text : List ℕ) (j : json.Json) (rest : List Token) → json.value 127 (tokens text) ≡ Some (j, rest)
     → rest ≡ [] → fits j ≡ true → read text ≡ Some (data_of j)
 read_is text j rest h none f =
-    ap (λ (o : Option (json.Json × List Token)). option_and_then of_json (option_and_then (λ p. json.if_last p.0 p.1) o)) h
+    ap (λ (o : Option (json.Json × List Token)). option_and_then of_json
+    (option_and_then (λ p. json.if_last p.0 p.1) o)) h
     ∙ ap (λ ts. option_and_then of_json (json.if_last j ts)) none ∙ data_is j f
 
 -- a text that begins with no value doesn't read
 pub no_value : (text : List ℕ) → json.value 127 (tokens text) ≡ None → read text ≡ None
 no_value text h =
-    ap (λ (o : Option (json.Json × List Token)). option_and_then of_json (option_and_then (λ p. json.if_last p.0 p.1) o)) h
+    ap (λ (o : Option (json.Json × List Token)). option_and_then of_json
+    (option_and_then (λ p. json.if_last p.0 p.1) o)) h
 
 -- nor does one in which something follows it
 pub not_last : (text : List ℕ) (j : json.Json) (rest : List Token) (t : Token) (ts : List Token)
     → json.value 127 (tokens text) ≡ Some (j, rest) → rest ≡ t ∷ ts → read text ≡ None
 not_last text j rest t ts h more =
-    ap (λ (o : Option (json.Json × List Token)). option_and_then of_json (option_and_then (λ p. json.if_last p.0 p.1) o)) h
+    ap (λ (o : Option (json.Json × List Token)). option_and_then of_json
+    (option_and_then (λ p. json.if_last p.0 p.1) o)) h
     ∙ ap (λ us. option_and_then of_json (json.if_last j us)) more
 
 -- nor one with a number out of range
 pub no_fit : (text : List ℕ) (j : json.Json) (rest : List Token) → json.value 127 (tokens text) ≡ Some (j, rest)
     → rest ≡ [] → fits j ≡ false → read text ≡ None
 no_fit text j rest h none f =
-    ap (λ (o : Option (json.Json × List Token)). option_and_then of_json (option_and_then (λ p. json.if_last p.0 p.1) o)) h
+    ap (λ (o : Option (json.Json × List Token)). option_and_then of_json
+    (option_and_then (λ p. json.if_last p.0 p.1) o)) h
     ∙ ap (λ ts. option_and_then of_json (json.if_last j ts)) none ∙ no_data j f
 
 -- ---- what is looked up
@@ -288,7 +292,8 @@ keys_put test k d (member l e ms) = by (slice_cmp nat_cmp k l) refl (keys_put te
   where
     by : (o : Ordering) → slice_cmp nat_cmp k l ≡ o
         → list_all test (keys_of (put k d ms)) ≡ (test k && list_all test (keys_of ms))
-        → list_all test (keys_of (match_ordering o (member k d (member l e ms)) (member l d ms) (member l e (put k d ms))))
+        → list_all test
+        (keys_of (match_ordering o (member k d (member l e ms)) (member l d ms) (member l e (put k d ms))))
         ≡ (test k && (test l && list_all test (keys_of ms)))
     by Less is later = refl
     by Equal is later =
@@ -322,7 +327,9 @@ all_keys_are test ms = members_keys test ms no_members ∙ with_true (list_all t
 
 -- a number that begins with a minus is no natural number
 pub no_natural : (p : Parts) → None ≡ option_and_then as_u64 (number_from true p)
-no_natural p = by (is_integer p && nat_lt 0 (digits_of p) && nat_le (digits_of p) (2 ^ 63)) (float_is_finite (nearest binary64 true p))
+no_natural p =
+    by (is_integer p && nat_lt 0 (digits_of p) && nat_le (digits_of p) (2 ^ 63))
+    (float_is_finite (nearest binary64 true p))
   where
     by : (b c : Bool)
         → None ≡ option_and_then as_u64

@@ -6,7 +6,7 @@ ghost use Rattle.serde_json.specs.Find.{as_str};
 ghost use Rattle.cmh_dump.specs.View.{view};
 ghost use Rattle.cmh_dump.specs.Dump.{transit_of as transit_of_lem};
 ghost use Rattle.cmh_dump.specs.Entry.{is_pair as is_pair_lem, transits, names as names_lem};
-ghost use Rattle.cmh_dump.specs.Name.{is_among, place_of as place_of_lem, nth};
+ghost use Rattle.cmh_dump.specs.Name.{is_among, nth};
 ghost use Rattle.cmh_dump.specs.Read.{Judges, places_in_pair, transit_faults};
 ghost use Rattle.cmh_dump.specs.Texts.{texts};
 ghost use Rattle.cmh_dump.specs.Tree.{text_of, texts_of};

@@ -3,7 +3,7 @@
 
 ghost use Rattle.std.specs.Prelude.{◌≡◌, ◌≢◌, ◌||◌, [], Some, None, IfOk, IfErr, map, option_map, bytes_eq};
 ghost use Rattle.std.specs.List.{list_all, list_any};
-ghost use Rattle.json.specs.Find.{as_array as json_array, as_object as json_object, as_number as json_number};
+ghost use Rattle.json.specs.Find.{as_array as json_array, as_object as json_object};
 ghost use Rattle.json.specs.Value.{value_view, items_view, members_view};
 ghost use Rattle.serde_json.specs.Find.{get, as_array, as_str};
 ghost use Rattle.serde_json.specs.Read.{read};

@@ -14,7 +14,8 @@ use Rattle.cmh_graph.specs.Graph.{Process, Graph, process_count, dependents_of, 
 use Rattle.cmh_graph.specs.Judge.{IsFirst, IsFirstEntry}
 
 -- an active process without that fault has no dependents
-empty_by : (g : Graph) (i : ℕ) (ds : List ℕ) → dependents_of g i ≡ ds → is_idle g i ≡ false → ((fault : GraphFault) → Has g fault → ⊥) → ds ≡ []
+empty_by : (g : Graph) (i : ℕ) (ds : List ℕ) → dependents_of g i ≡ ds → is_idle g i ≡ false
+    → ((fault : GraphFault) → Has g fault → ⊥) → ds ≡ []
 empty_by g i [] e a h = refl
 empty_by g i (d ∷ ds) e a h =
     let some : 0 < length (dependents_of g i) = rw e (omega arith) in
@@ -51,7 +52,8 @@ no_fault g w TooManyProcesses h = omega (arith, w.processes, h)
 no_fault g w TooManyDependencies h = omega (arith, w.dependencies, h)
 no_fault g w (DependentOutOfRange i j) h = let l = w.within i j h.0 in omega (arith, l, h.1)
 no_fault g w (RepeatedDependent i j) h = w.distinct i j h.1 h.0 h.2 h.3
-no_fault g w (ActiveWithDependents i) h = let e = w.waiting i h.1 in let l : 0 < length (dependents_of g i) = h.0.1 in let z : 0 < 0 = subst (λ (ds : List ℕ). 0 < length ds) e l in omega (arith, z)
+no_fault g w (ActiveWithDependents i) h = let e = w.waiting i h.1 in let l : 0 < length (dependents_of g i) =
+    h.0.1 in let z : 0 < 0 = subst (λ (ds : List ℕ). 0 < length ds) e l in omega (arith, z)
 no_fault g w TooManyInTransit h = omega (arith, w.messages, h)
 no_fault g w (TransitOutOfRange i) (l, inl h) = let b = w.sent_within i l in omega (arith, b, h)
 no_fault g w (TransitOutOfRange i) (l, inr h) = let b = w.received_within i l in omega (arith, b, h)
@@ -80,12 +82,15 @@ one_first : (k i a : ℕ) → i ≤ a → is_lt (slice_cmp nat_cmp (k ∷ a ∷ 
 one_first k i a l = rw (cmp_same k) (not_below a i l)
 
 -- and those with two go by these
-pub pair_first : (k i j a b : ℕ) → (i < a) ⊎ ((i ≡ a) × (j ≤ b)) → is_lt (slice_cmp nat_cmp (k ∷ a ∷ b ∷ []) (k ∷ i ∷ j ∷ [])) ≡ false
+pub pair_first : (k i j a b : ℕ) → (i < a) ⊎ ((i ≡ a) × (j ≤ b))
+    → is_lt (slice_cmp nat_cmp (k ∷ a ∷ b ∷ []) (k ∷ i ∷ j ∷ [])) ≡ false
 pair_first k i j a b (inl h) = rw (cmp_same k, sym (nat_cmp_is a i Greater h)) refl
 pair_first k i j a b (inr h) = rw (cmp_same k, sym (nat_cmp_is a i Equal (sym h.0))) (not_below b j h.1)
 
 -- no fault that is left comes before the first repeat
-first_repeat_by : (g : Graph) (i j : ℕ) → process_count g ≤ MAX_PROCESSES → entry_count g ≤ MAX_DEPENDENCIES → IsWithinGraph g → IsFirstEntry (λ i j. Has g (RepeatedDependent i j)) i j → (other : GraphFault) → Has g other → IsFalse (comes_before other (RepeatedDependent i j))
+first_repeat_by : (g : Graph) (i j : ℕ) → process_count g ≤ MAX_PROCESSES → entry_count g ≤ MAX_DEPENDENCIES
+    → IsWithinGraph g → IsFirstEntry (λ i j. Has g (RepeatedDependent i j)) i j → (other : GraphFault) → Has g other
+    → IsFalse (comes_before other (RepeatedDependent i j))
 first_repeat_by g i j np nd nr f TooManyProcesses h = absurd (omega (arith, np, h))
 first_repeat_by g i j np nd nr f TooManyDependencies h = absurd (omega (arith, nd, h))
 first_repeat_by g i j np nd nr f (DependentOutOfRange a b) h = absurd (let l = nr a b h.0 in omega (arith, l, h.1))
@@ -96,11 +101,15 @@ first_repeat_by g i j np nd nr f (TransitOutOfRange a) h = refl
 first_repeat_by g i j np nd nr f Memory h = absurd h
 
 -- then the first repeat
-pub first_repeat : (g : Graph) (i j : ℕ) → process_count g ≤ MAX_PROCESSES → entry_count g ≤ MAX_DEPENDENCIES → IsWithinGraph g → IsFirstEntry (λ i j. Has g (RepeatedDependent i j)) i j → IsFirstFault g (RepeatedDependent i j)
+pub first_repeat : (g : Graph) (i j : ℕ) → process_count g ≤ MAX_PROCESSES → entry_count g ≤ MAX_DEPENDENCIES
+    → IsWithinGraph g → IsFirstEntry (λ i j. Has g (RepeatedDependent i j)) i j → IsFirstFault g (RepeatedDependent i j)
 first_repeat g i j np nd nr f = record { had = f.holds; first = first_repeat_by g i j np nd nr f }
 
 -- no fault that is left comes before the first active process with dependents
-first_active_by : (g : Graph) (i : ℕ) → process_count g ≤ MAX_PROCESSES → entry_count g ≤ MAX_DEPENDENCIES → IsWithinGraph g → ((i j : ℕ) → Has g (RepeatedDependent i j) → ⊥) → IsFirst (λ i. Has g (ActiveWithDependents i)) i → (other : GraphFault) → Has g other → IsFalse (comes_before other (ActiveWithDependents i))
+first_active_by : (g : Graph) (i : ℕ) → process_count g ≤ MAX_PROCESSES → entry_count g ≤ MAX_DEPENDENCIES
+    → IsWithinGraph g → ((i j : ℕ) → Has g (RepeatedDependent i j) → ⊥)
+    → IsFirst (λ i. Has g (ActiveWithDependents i)) i → (other : GraphFault) → Has g other
+    → IsFalse (comes_before other (ActiveWithDependents i))
 first_active_by g i np nd nr ne f TooManyProcesses h = absurd (omega (arith, np, h))
 first_active_by g i np nd nr ne f TooManyDependencies h = absurd (omega (arith, nd, h))
 first_active_by g i np nd nr ne f (DependentOutOfRange a b) h = absurd (let l = nr a b h.0 in omega (arith, l, h.1))
@@ -111,14 +120,20 @@ first_active_by g i np nd nr ne f (TransitOutOfRange a) h = refl
 first_active_by g i np nd nr ne f Memory h = absurd h
 
 -- then the first active process with dependents
-pub first_active : (g : Graph) (i : ℕ) → process_count g ≤ MAX_PROCESSES → entry_count g ≤ MAX_DEPENDENCIES → IsWithinGraph g → ((i j : ℕ) → Has g (RepeatedDependent i j) → ⊥) → IsFirst (λ i. Has g (ActiveWithDependents i)) i → IsFirstFault g (ActiveWithDependents i)
+pub first_active : (g : Graph) (i : ℕ) → process_count g ≤ MAX_PROCESSES → entry_count g ≤ MAX_DEPENDENCIES
+    → IsWithinGraph g → ((i j : ℕ) → Has g (RepeatedDependent i j) → ⊥)
+    → IsFirst (λ i. Has g (ActiveWithDependents i)) i → IsFirstFault g (ActiveWithDependents i)
 first_active g i np nd nr ne f = record { had = f.holds; first = first_active_by g i np nd nr ne f }
 
 -- no fault that is left comes before too many messages
-first_in_transit_by : (g : Graph) → process_count g ≤ MAX_PROCESSES → entry_count g ≤ MAX_DEPENDENCIES → IsWithinGraph g → ((i j : ℕ) → Has g (RepeatedDependent i j) → ⊥) → ((i : ℕ) → Has g (ActiveWithDependents i) → ⊥) → MAX_IN_TRANSIT < length g.in_transit → (other : GraphFault) → Has g other → IsFalse (comes_before other TooManyInTransit)
+first_in_transit_by : (g : Graph) → process_count g ≤ MAX_PROCESSES → entry_count g ≤ MAX_DEPENDENCIES → IsWithinGraph g
+    → ((i j : ℕ) → Has g (RepeatedDependent i j) → ⊥) → ((i : ℕ) → Has g (ActiveWithDependents i) → ⊥)
+    → MAX_IN_TRANSIT < length g.in_transit → (other : GraphFault) → Has g other
+    → IsFalse (comes_before other TooManyInTransit)
 first_in_transit_by g np nd nr ne na f TooManyProcesses h = absurd (omega (arith, np, h))
 first_in_transit_by g np nd nr ne na f TooManyDependencies h = absurd (omega (arith, nd, h))
-first_in_transit_by g np nd nr ne na f (DependentOutOfRange a b) h = absurd (let l = nr a b h.0 in omega (arith, l, h.1))
+first_in_transit_by g np nd nr ne na f (DependentOutOfRange a b) h =
+    absurd (let l = nr a b h.0 in omega (arith, l, h.1))
 first_in_transit_by g np nd nr ne na f (RepeatedDependent a b) h = absurd (ne a b h)
 first_in_transit_by g np nd nr ne na f (ActiveWithDependents a) h = absurd (na a h)
 first_in_transit_by g np nd nr ne na f TooManyInTransit h = refl
@@ -126,14 +141,20 @@ first_in_transit_by g np nd nr ne na f (TransitOutOfRange a) h = refl
 first_in_transit_by g np nd nr ne na f Memory h = absurd h
 
 -- then too many messages
-pub first_in_transit : (g : Graph) → process_count g ≤ MAX_PROCESSES → entry_count g ≤ MAX_DEPENDENCIES → IsWithinGraph g → ((i j : ℕ) → Has g (RepeatedDependent i j) → ⊥) → ((i : ℕ) → Has g (ActiveWithDependents i) → ⊥) → MAX_IN_TRANSIT < length g.in_transit → IsFirstFault g TooManyInTransit
+pub first_in_transit : (g : Graph) → process_count g ≤ MAX_PROCESSES → entry_count g ≤ MAX_DEPENDENCIES
+    → IsWithinGraph g → ((i j : ℕ) → Has g (RepeatedDependent i j) → ⊥) → ((i : ℕ) → Has g (ActiveWithDependents i) → ⊥)
+    → MAX_IN_TRANSIT < length g.in_transit → IsFirstFault g TooManyInTransit
 first_in_transit g np nd nr ne na f = record { had = f; first = first_in_transit_by g np nd nr ne na f }
 
 -- no fault that is left comes before the first message out of range
-first_transit_by : (g : Graph) (i : ℕ) → process_count g ≤ MAX_PROCESSES → entry_count g ≤ MAX_DEPENDENCIES → IsWithinGraph g → ((i j : ℕ) → Has g (RepeatedDependent i j) → ⊥) → ((i : ℕ) → Has g (ActiveWithDependents i) → ⊥) → length g.in_transit ≤ MAX_IN_TRANSIT → IsFirst (λ i. Has g (TransitOutOfRange i)) i → (other : GraphFault) → Has g other → IsFalse (comes_before other (TransitOutOfRange i))
+first_transit_by : (g : Graph) (i : ℕ) → process_count g ≤ MAX_PROCESSES → entry_count g ≤ MAX_DEPENDENCIES
+    → IsWithinGraph g → ((i j : ℕ) → Has g (RepeatedDependent i j) → ⊥) → ((i : ℕ) → Has g (ActiveWithDependents i) → ⊥)
+    → length g.in_transit ≤ MAX_IN_TRANSIT → IsFirst (λ i. Has g (TransitOutOfRange i)) i → (other : GraphFault)
+    → Has g other → IsFalse (comes_before other (TransitOutOfRange i))
 first_transit_by g i np nd nr ne na nt f TooManyProcesses h = absurd (omega (arith, np, h))
 first_transit_by g i np nd nr ne na nt f TooManyDependencies h = absurd (omega (arith, nd, h))
-first_transit_by g i np nd nr ne na nt f (DependentOutOfRange a b) h = absurd (let l = nr a b h.0 in omega (arith, l, h.1))
+first_transit_by g i np nd nr ne na nt f (DependentOutOfRange a b) h =
+    absurd (let l = nr a b h.0 in omega (arith, l, h.1))
 first_transit_by g i np nd nr ne na nt f (RepeatedDependent a b) h = absurd (ne a b h)
 first_transit_by g i np nd nr ne na nt f (ActiveWithDependents a) h = absurd (na a h)
 first_transit_by g i np nd nr ne na nt f TooManyInTransit h = absurd (omega (arith, nt, h))
@@ -141,19 +162,34 @@ first_transit_by g i np nd nr ne na nt f (TransitOutOfRange a) h = one_first 7 i
 first_transit_by g i np nd nr ne na nt f Memory h = absurd h
 
 -- then the first message out of range
-pub first_transit : (g : Graph) (i : ℕ) → process_count g ≤ MAX_PROCESSES → entry_count g ≤ MAX_DEPENDENCIES → IsWithinGraph g → ((i j : ℕ) → Has g (RepeatedDependent i j) → ⊥) → ((i : ℕ) → Has g (ActiveWithDependents i) → ⊥) → length g.in_transit ≤ MAX_IN_TRANSIT → IsFirst (λ i. Has g (TransitOutOfRange i)) i → IsFirstFault g (TransitOutOfRange i)
+pub first_transit : (g : Graph) (i : ℕ) → process_count g ≤ MAX_PROCESSES → entry_count g ≤ MAX_DEPENDENCIES
+    → IsWithinGraph g → ((i j : ℕ) → Has g (RepeatedDependent i j) → ⊥) → ((i : ℕ) → Has g (ActiveWithDependents i) → ⊥)
+    → length g.in_transit ≤ MAX_IN_TRANSIT → IsFirst (λ i. Has g (TransitOutOfRange i)) i
+    → IsFirstFault g (TransitOutOfRange i)
 first_transit g i np nd nr ne na nt f = record { had = f.holds; first = first_transit_by g i np nd nr ne na nt f }
 
 -- messages within the graph are not out of range
-transit_none : (g : Graph) → ((i : ℕ) → i < length g.in_transit → ((message_at g i).0 < process_count g) × ((message_at g i).1 < process_count g)) → (i : ℕ) → Has g (TransitOutOfRange i) → ⊥
+transit_none : (g : Graph)
+    → ((i : ℕ) → i < length g.in_transit
+    → ((message_at g i).0 < process_count g) × ((message_at g i).1 < process_count g)) → (i : ℕ)
+    → Has g (TransitOutOfRange i) → ⊥
 transit_none g n i (l, inl h) = let b = n i l in omega (arith, b.0, h)
 transit_none g n i (l, inr h) = let b = n i l in omega (arith, b.1, h)
 
 -- a graph without any of these is well formed
-pub well_formed_then : (g : Graph) → process_count g ≤ MAX_PROCESSES → entry_count g ≤ MAX_DEPENDENCIES → IsWithinGraph g → ((i j : ℕ) → Has g (RepeatedDependent i j) → ⊥) → ((i : ℕ) → Has g (ActiveWithDependents i) → ⊥) → length g.in_transit ≤ MAX_IN_TRANSIT → ((i : ℕ) → i < length g.in_transit → ((message_at g i).0 < process_count g) × ((message_at g i).1 < process_count g)) → IsWellFormed g
+pub well_formed_then : (g : Graph) → process_count g ≤ MAX_PROCESSES → entry_count g ≤ MAX_DEPENDENCIES
+    → IsWithinGraph g → ((i j : ℕ) → Has g (RepeatedDependent i j) → ⊥) → ((i : ℕ) → Has g (ActiveWithDependents i) → ⊥)
+    → length g.in_transit ≤ MAX_IN_TRANSIT
+    → ((i : ℕ) → i < length g.in_transit
+    → ((message_at g i).0 < process_count g) × ((message_at g i).1 < process_count g)) → IsWellFormed g
 well_formed_then g np nd nr ne na nt n = without_fault g (none_of g np nd nr ne na nt n)
   where
-    none_of : (g : Graph) → process_count g ≤ MAX_PROCESSES → entry_count g ≤ MAX_DEPENDENCIES → IsWithinGraph g → ((i j : ℕ) → Has g (RepeatedDependent i j) → ⊥) → ((i : ℕ) → Has g (ActiveWithDependents i) → ⊥) → length g.in_transit ≤ MAX_IN_TRANSIT → ((i : ℕ) → i < length g.in_transit → ((message_at g i).0 < process_count g) × ((message_at g i).1 < process_count g)) → (fault : GraphFault) → Has g fault → ⊥
+    none_of : (g : Graph) → process_count g ≤ MAX_PROCESSES → entry_count g ≤ MAX_DEPENDENCIES → IsWithinGraph g
+        → ((i j : ℕ) → Has g (RepeatedDependent i j) → ⊥) → ((i : ℕ) → Has g (ActiveWithDependents i) → ⊥)
+        → length g.in_transit ≤ MAX_IN_TRANSIT
+        → ((i : ℕ) → i < length g.in_transit
+        → ((message_at g i).0 < process_count g) × ((message_at g i).1 < process_count g)) → (fault : GraphFault)
+        → Has g fault → ⊥
     none_of g np nd nr ne na nt n TooManyProcesses h = omega (arith, np, h)
     none_of g np nd nr ne na nt n TooManyDependencies h = omega (arith, nd, h)
     none_of g np nd nr ne na nt n (DependentOutOfRange a b) h = let l = nr a b h.0 in omega (arith, l, h.1)

@@ -13,6 +13,7 @@ core_law = λ g p q w i. (
       (reaches_then g p q inner.1, reaches_then g q p outer.1),
   λ both. let j = reached_within g w p q i both.0 in
       contains_filter (λ r. reaches g r p) (reach_of g p) q
-      (contains_filter (reaches g p) (indices g) q (contains_index (process_count g) q j) (then_reaches g p q w i both.0))
+      (contains_filter (reaches g p) (indices g) q (contains_index (process_count g) q j)
+      (then_reaches g p q w i both.0))
       (then_reaches g q p w j both.1),
 )

@@ -21,20 +21,23 @@ reaches_awake g p n e =
     (w.0, w.1, (p ∷ w.2, (refl, w.3)))
 
 -- and a process that reaches an awake one has a distance
-pub distance_if_awake : (g : Graph) → IsWithinGraph g → (p q : ℕ) → p < process_count g → Reaches g p q → is_awake g q ≡ true → is_some (distance_of g p) ≡ true
+pub distance_if_awake : (g : Graph) → IsWithinGraph g → (p q : ℕ) → p < process_count g → Reaches g p q
+    → is_awake g q ≡ true → is_some (distance_of g p) ≡ true
 unfolding distance_of
 distance_if_awake g w p q i ([], l) a = absurd l
 distance_if_awake g w p q i (x ∷ rest, (e, l)) a = has_steps g (is_awake g) w p q i rest l a
 
 -- what a process without a distance reaches is not awake
-no_distance_asleep : (g : Graph) → IsWithinGraph g → (p q : ℕ) → p < process_count g → is_some (distance_of g p) ≡ false → Reaches g p q → is_awake g q ≡ false
+no_distance_asleep : (g : Graph) → IsWithinGraph g → (p q : ℕ) → p < process_count g → is_some (distance_of g p) ≡ false
+    → Reaches g p q → is_awake g q ≡ false
 no_distance_asleep g w p q i e r = elim (cases_Bool (is_awake g q)) [
   | inl a ↦ let bad : true ≡ false = sym (distance_if_awake g w p q i r a) ∙ e in absurd cc
   | inr a ↦ a
 ]
 
 -- a process without a distance is deadlocked
-deadlocked_by_distance : (g : Graph) → IsWithinGraph g → (p : ℕ) → p < process_count g → is_some (distance_of g p) ≡ false → is_deadlocked g p ≡ true
+deadlocked_by_distance : (g : Graph) → IsWithinGraph g → (p : ℕ) → p < process_count g
+    → is_some (distance_of g p) ≡ false → is_deadlocked g p ≡ true
 deadlocked_by_distance g w p i e =
     then_test g p (
       asleep_is_idle g p (no_distance_asleep g w p p i e (p ∷ [], (refl, refl))),
@@ -42,7 +45,8 @@ deadlocked_by_distance g w p i e =
     )
 
 -- and one with a distance is not
-free_by_distance : (g : Graph) → IsWithinGraph g → (p : ℕ) → is_some (distance_of g p) ≡ true → is_deadlocked g p ≡ false
+free_by_distance : (g : Graph) → IsWithinGraph g → (p : ℕ) → is_some (distance_of g p) ≡ true
+    → is_deadlocked g p ≡ false
 free_by_distance g w p e =
     elim (cases_Bool (is_deadlocked g p)) [
       | inl d ↦
@@ -54,7 +58,8 @@ free_by_distance g w p e =
     ]
 
 -- so the distance decides the verdict
-pub verdict_by_distance : (g : Graph) → IsWithinGraph g → (p : ℕ) → p < process_count g → verdict g p ≡ cond (is_some (distance_of g p)) Free Deadlocked
+pub verdict_by_distance : (g : Graph) → IsWithinGraph g → (p : ℕ) → p < process_count g
+    → verdict g p ≡ cond (is_some (distance_of g p)) Free Deadlocked
 verdict_by_distance g w p i =
     elim (cases_Bool (is_some (distance_of g p))) [
       | inl e ↦ rw (free_by_distance g w p e, e) refl
@@ -62,19 +67,24 @@ verdict_by_distance g w p i =
     ]
 
 -- the same, by the place of p in the list of all distances
-verdict_at : (g : Graph) → IsWithinGraph g → (p : ℕ) → p < process_count g → (distances : List (Option ℕ)) → distances ≡ map (distance_of g) (indices g) → (distance : Option ℕ) → get_or distances p None ≡ distance → cond (is_some distance) Free Deadlocked ≡ verdict g p
+verdict_at : (g : Graph) → IsWithinGraph g → (p : ℕ) → p < process_count g → (distances : List (Option ℕ))
+    → distances ≡ map (distance_of g) (indices g) → (distance : Option ℕ) → get_or distances p None ≡ distance
+    → cond (is_some distance) Free Deadlocked ≡ verdict g p
 verdict_at g w p i distances e distance f =
     let at = sym f ∙ by_index g (distance_of g) distances p None e i in
     ap (λ d. cond (is_some d) Free Deadlocked) at ∙ sym (verdict_by_distance g w p i)
 
 -- each process has a place there
-pub has_distance : (g : Graph) (p : ℕ) (distances : List (Option ℕ)) → p < process_count g → distances ≡ map (distance_of g) (indices g) → p < length distances
+pub has_distance : (g : Graph) (p : ℕ) (distances : List (Option ℕ)) → p < process_count g
+    → distances ≡ map (distance_of g) (indices g) → p < length distances
 has_distance g p distances i e = omega (arith, ap length e, length-by_index g (distance_of g), i)
 
 -- p is free where a distance stands there
-pub free_at : (g : Graph) (p d : ℕ) (distances : List (Option ℕ)) → IsWithinGraph g → p < process_count g → distances ≡ map (distance_of g) (indices g) → get_or distances p None ≡ Some d → Free ≡ verdict g p
+pub free_at : (g : Graph) (p d : ℕ) (distances : List (Option ℕ)) → IsWithinGraph g → p < process_count g
+    → distances ≡ map (distance_of g) (indices g) → get_or distances p None ≡ Some d → Free ≡ verdict g p
 free_at g p d distances w i e f = verdict_at g w p i distances e (Some d) f
 
 -- and deadlocked where none does
-pub deadlocked_at : (g : Graph) (p : ℕ) (distances : List (Option ℕ)) → IsWithinGraph g → p < process_count g → distances ≡ map (distance_of g) (indices g) → get_or distances p None ≡ None → Deadlocked ≡ verdict g p
+pub deadlocked_at : (g : Graph) (p : ℕ) (distances : List (Option ℕ)) → IsWithinGraph g → p < process_count g
+    → distances ≡ map (distance_of g) (indices g) → get_or distances p None ≡ None → Deadlocked ≡ verdict g p
 deadlocked_at g p distances w i e f = verdict_at g w p i distances e None f

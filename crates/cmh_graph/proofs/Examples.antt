@@ -45,7 +45,8 @@ cycle_and_follower =
 -- p@a: b a; a@a: z; b@a: z; z@a!
 abbrev two_shortest_paths : Graph
 two_shortest_paths =
-    graph (idle (codes "p") 0 (2 ∷ 1 ∷ []) ∷ idle (codes "a") 0 (3 ∷ []) ∷ idle (codes "b") 0 (3 ∷ []) ∷ active (codes "z") 0 ∷ [])
+    graph (idle (codes "p") 0 (2 ∷ 1 ∷ []) ∷ idle (codes "a") 0 (3 ∷ []) ∷ idle (codes "b") 0 (3 ∷ [])
+    ∷ active (codes "z") 0 ∷ [])
 
 -- ---- a cycle and one that waits for it
 
@@ -68,13 +69,15 @@ path_of_follower : chosen_path cycle_and_follower 2 ≡ None
 unfolding chosen_path distance_of
 path_of_follower = refl
 
-distances_of_cycle_and_follower : map (distance_of cycle_and_follower) (indices cycle_and_follower) ≡ None ∷ None ∷ None ∷ []
+distances_of_cycle_and_follower : map (distance_of cycle_and_follower) (indices cycle_and_follower)
+    ≡ None ∷ None ∷ None ∷ []
 unfolding distance_of
 distances_of_cycle_and_follower = refl
 
 -- ---- two shortest paths, of which the least is chosen
 
-distances_of_two_shortest_paths : map (distance_of two_shortest_paths) (indices two_shortest_paths) ≡ Some 2 ∷ Some 1 ∷ Some 1 ∷ Some 0 ∷ []
+distances_of_two_shortest_paths : map (distance_of two_shortest_paths) (indices two_shortest_paths)
+    ≡ Some 2 ∷ Some 1 ∷ Some 1 ∷ Some 0 ∷ []
 unfolding distance_of
 distances_of_two_shortest_paths = refl
 
@@ -123,7 +126,8 @@ path_of_woken_follower = refl
 abbrev message_from_another : Graph
 message_from_another = with_message (1, 2) cycle_and_follower
 
-awake_with_message_from_another : map (is_awake message_from_another) (indices message_from_another) ≡ false ∷ false ∷ false ∷ []
+awake_with_message_from_another : map (is_awake message_from_another) (indices message_from_another)
+    ≡ false ∷ false ∷ false ∷ []
 awake_with_message_from_another = refl
 
 verdicts_with_message_from_another : verdicts message_from_another ≡ Deadlocked ∷ Deadlocked ∷ Deadlocked ∷ []
@@ -157,7 +161,8 @@ repeat_is_fault : Has (graph (idle (codes "p") 0 (0 ∷ 0 ∷ []) ∷ [])) (Repe
 repeat_is_fault = ((omega arith, omega arith), 0, omega arith, refl)
 
 -- p@a! with the dependent p
-active_is_fault : Has (graph (record { name = codes "p"; site = 0; state = Active; dependents = 0 ∷ [] } ∷ [])) (ActiveWithDependents 0)
+active_is_fault : Has (graph (record { name = codes "p"; site = 0; state = Active; dependents = 0 ∷ [] } ∷ []))
+    (ActiveWithDependents 0)
 active_is_fault = ((omega arith, omega arith), refl)
 
 -- p@a: q; q@a: p with a message from p to no process

@@ -37,10 +37,14 @@ pub rest_law : RestLaw
 rest_law = λ g p q w i. (
   λ c. let kept = filter_contains (λ r. not (reaches g r p)) (reach_of g p) q c in
       let there = filter_contains (reaches g p) (indices g) q kept.0 in
-      let j = index_within (process_count g) q there.0 in
-      (reaches_then g p q there.1, λ d. never_both (reaches g q p) kept.1 (then_reaches g q p w j ((core_law g p q w i).0 d).1)),
+      let j = index_within (process_count g) q there.0 in (
+        reaches_then g p q there.1,
+        λ d. never_both (reaches g q p) kept.1 (then_reaches g q p w j ((core_law g p q w i).0 d).1),
+      ),
   λ both. let j = reached_within g w p q i both.0 in
-      let listed = contains_filter (reaches g p) (indices g) q (contains_index (process_count g) q j) (then_reaches g p q w i both.0) in
+      let listed =
+      contains_filter (reaches g p) (indices g) q (contains_index (process_count g) q j)
+      (then_reaches g p q w i both.0) in
       contains_filter (λ r. not (reaches g r p)) (reach_of g p) q listed
       (ap not (other_false (reaches g q p) (λ e. both.1 ((core_law g p q w i).1 (both.0, reaches_then g q p e))))),
 )
@@ -63,7 +67,12 @@ core_rises g p = IsStrictlyIncreasing-filter (λ q. reaches g q p) (reach_of g p
 
 -- all three lists rise
 pub rising_law : RisingLaw
-rising_law = λ g p. (reach_rises g p, core_rises g p, IsStrictlyIncreasing-filter (λ q. not (reaches g q p)) (reach_of g p) (reach_rises g p))
+rising_law =
+    λ g p. (
+      reach_rises g p,
+      core_rises g p,
+      IsStrictlyIncreasing-filter (λ q. not (reaches g q p)) (reach_of g p) (reach_rises g p),
+    )
 
 -- the first of rising numbers is the least
 first_least : (xs : List ℕ) (q : ℕ) → AllPairs (λ x y. x < y) xs → Contains xs q → get_or xs 0 0 ≤ q
@@ -103,36 +112,42 @@ core_within g p q c =
     (filter_contains (reaches g p) (indices g) q (filter_contains (λ r. reaches g r p) (reach_of g p) q c).0).0
 
 -- a core's members have one reach
-same_reach : (g : Graph) (p q : ℕ) → IsWithinGraph g → p < process_count g → q < process_count g → Reaches g p q → Reaches g q p → (r : ℕ) → reaches g p r ≡ reaches g q r
+same_reach : (g : Graph) (p q : ℕ) → IsWithinGraph g → p < process_count g → q < process_count g → Reaches g p q
+    → Reaches g q p → (r : ℕ) → reaches g p r ≡ reaches g q r
 same_reach g p q w i j a b r =
     same_test (reaches g p r) (reaches g q r)
     (λ e. then_reaches g q r w j (reaches_on g q p r b (reaches_then g p r e)))
     (λ e. then_reaches g p r w i (reaches_on g p q r a (reaches_then g q r e)))
 
 -- whoever reaches one member of a core reaches the other
-same_reached : (g : Graph) (p q : ℕ) → IsWithinGraph g → Reaches g p q → Reaches g q p → (r : ℕ) → r < process_count g → reaches g r p ≡ reaches g r q
+same_reached : (g : Graph) (p q : ℕ) → IsWithinGraph g → Reaches g p q → Reaches g q p → (r : ℕ) → r < process_count g
+    → reaches g r p ≡ reaches g r q
 same_reached g p q w a b r k =
     same_test (reaches g r p) (reaches g r q)
     (λ e. then_reaches g r q w k (reaches_on g r p q (reaches_then g r p e) a))
     (λ e. then_reaches g r p w k (reaches_on g r q p (reaches_then g r q e) b))
 
 -- members of a core have the same core
-pub same_core : (g : Graph) (p q : ℕ) → IsWithinGraph g → p < process_count g → Contains (core_of g p) q → core_of g p ≡ core_of g q
+pub same_core : (g : Graph) (p q : ℕ) → IsWithinGraph g → p < process_count g → Contains (core_of g p) q
+    → core_of g p ≡ core_of g q
 same_core g p q w i c =
     let both = (core_law g p q w i).0 c in
     let j = core_within g p q c in
     let reach : reach_of g p ≡ reach_of g q =
     filter_agree (reaches g p) (reaches g q) (same_reach g p q w i j both.0 both.1) (indices g) in
     filter_agree_on (λ r. reaches g r p) (λ r. reaches g r q) (reach_of g p)
-    (λ r d. same_reached g p q w both.0 both.1 r (index_within (process_count g) r (filter_contains (reaches g p) (indices g) r d).0))
+    (λ r d. same_reached g p q w both.0 both.1 r
+    (index_within (process_count g) r (filter_contains (reaches g p) (indices g) r d).0))
     ∙ ap (filter (λ r. reaches g r q)) reach
 
 -- and the same leader
-pub same_leader : (g : Graph) (p q : ℕ) → IsWithinGraph g → p < process_count g → Contains (core_of g p) q → leader_of g p ≡ leader_of g q
+pub same_leader : (g : Graph) (p q : ℕ) → IsWithinGraph g → p < process_count g → Contains (core_of g p) q
+    → leader_of g p ≡ leader_of g q
 same_leader g p q w i c = ap (λ xs. get_or xs 0 0) (same_core g p q w i c)
 
 -- the leader is a member
-pub leader_in_core : (g : Graph) (p : ℕ) → IsWithinGraph g → p < process_count g → Contains (core_of g p) (leader_of g p)
+pub leader_in_core : (g : Graph) (p : ℕ) → IsWithinGraph g → p < process_count g
+    → Contains (core_of g p) (leader_of g p)
 leader_in_core g p w i =
     let own = in_own_core g p w i in
     let some : 0 < length (core_of g p) = omega (arith, own.1) in
@@ -214,7 +229,8 @@ up_to (x ∷ xs) n = cond (leb x n) (1 + up_to xs n) (up_to xs n)
 -- the number of a group is how many leaders are up to its own
 number_is : (g : Graph) (p : ℕ) → group_number g p ≡ up_to (leaders g) (leader_of g p)
 unfolding up_to
-number_is g p = sym (is_count_by (λ xs. up_to xs (leader_of g p)) (λ x. leb x (leader_of g p)) refl (λ x xs. refl) (leaders g))
+number_is g p =
+    sym (is_count_by (λ xs. up_to xs (leader_of g p)) (λ x. leb x (leader_of g p)) refl (λ x xs. refl) (leaders g))
 
 -- and one leader has one number
 number_of_leader : (g : Graph) (p q : ℕ) → leader_of g p ≡ leader_of g q → group_number g p ≡ group_number g q
@@ -228,7 +244,8 @@ past x n e = elim (dec_lt n x) [
 ]
 
 -- one member more, by cases
-more_by : (x m n : ℕ) (a b : ℕ) (low high : Bool) → leb x m ≡ low → leb x n ≡ high → m ≤ n → a ≤ b → cond low (1 + a) a ≤ cond high (1 + b) b
+more_by : (x m n : ℕ) (a b : ℕ) (low high : Bool) → leb x m ≡ low → leb x n ≡ high → m ≤ n → a ≤ b
+    → cond low (1 + a) a ≤ cond high (1 + b) b
 more_by x m n a b true true e f l h = omega (arith, h)
 more_by x m n a b true false e f l h = absurd (omega (arith, leb-true x m e, past x n f, l))
 more_by x m n a b false true e f l h = omega (arith, h)
@@ -238,16 +255,19 @@ more_by x m n a b false false e f l h = h
 up_to_rises : (xs : List ℕ) (m n : ℕ) → m ≤ n → up_to xs m ≤ up_to xs n
 unfolding up_to
 up_to_rises [] m n l = omega arith
-up_to_rises (x ∷ xs) m n l = more_by x m n (up_to xs m) (up_to xs n) (leb x m) (leb x n) refl refl l (up_to_rises xs m n l)
+up_to_rises (x ∷ xs) m n l =
+    more_by x m n (up_to xs m) (up_to xs n) (leb x m) (leb x n) refl refl l (up_to_rises xs m n l)
 
 -- the member itself counts above what is less than it, by cases
-itself_by : (x m n : ℕ) (a b : ℕ) (low high : Bool) → leb x m ≡ low → leb x n ≡ high → x ≡ n → m < n → a ≤ b → cond low (1 + a) a < cond high (1 + b) b
+itself_by : (x m n : ℕ) (a b : ℕ) (low high : Bool) → leb x m ≡ low → leb x n ≡ high → x ≡ n → m < n → a ≤ b
+    → cond low (1 + a) a < cond high (1 + b) b
 itself_by x m n a b true high e f same l h = absurd (omega (arith, leb-true x m e, same, l))
 itself_by x m n a b false true e f same l h = omega (arith, h)
 itself_by x m n a b false false e f same l h = absurd (omega (arith, past x n f, same))
 
 -- another member counts alike or more, by cases
-other_by : (x m n : ℕ) (a b : ℕ) (low high : Bool) → leb x m ≡ low → leb x n ≡ high → m < n → a < b → cond low (1 + a) a < cond high (1 + b) b
+other_by : (x m n : ℕ) (a b : ℕ) (low high : Bool) → leb x m ≡ low → leb x n ≡ high → m < n → a < b
+    → cond low (1 + a) a < cond high (1 + b) b
 other_by x m n a b true true e f l h = omega (arith, h)
 other_by x m n a b true false e f l h = absurd (omega (arith, leb-true x m e, past x n f, l))
 other_by x m n a b false true e f l h = omega (arith, h)
@@ -259,7 +279,8 @@ unfolding up_to
 up_to_member [] m n c l = absurd (omega (arith, c.1))
 up_to_member (x ∷ xs) m n c l =
     elim (cons_contains x xs n c) [
-      | inl same ↦ itself_by x m n (up_to xs m) (up_to xs n) (leb x m) (leb x n) refl refl same l (up_to_rises xs m n (omega (arith, l)))
+      | inl same ↦ itself_by x m n (up_to xs m) (up_to xs n) (leb x m) (leb x n) refl refl same l
+          (up_to_rises xs m n (omega (arith, l)))
       | inr d ↦ other_by x m n (up_to xs m) (up_to xs n) (leb x m) (leb x n) refl refl l (up_to_member xs m n d l)
     ]
 
@@ -282,7 +303,8 @@ up_to_none : (xs : List ℕ) (n : ℕ) → ((x : ℕ) → Contains xs x → n < 
 unfolding up_to
 up_to_none [] n h = refl
 up_to_none (x ∷ xs) n h =
-    none_by x n (up_to xs n) (leb x n) refl (h x (zero, omega arith, refl)) (up_to_none xs n (λ y c. h y (contains_cons x xs y c)))
+    none_by x n (up_to xs n) (leb x n) refl (h x (zero, omega arith, refl))
+    (up_to_none xs n (λ y c. h y (contains_cons x xs y c)))
   where
     none_by : (x n a : ℕ) (b : Bool) → leb x n ≡ b → n < x → a ≡ 0 → cond b (1 + a) a ≡ 0
     none_by x n a true e l z = absurd (omega (arith, leb-true x n e, l))
@@ -294,7 +316,8 @@ tail_rises x xs pairs i j d l k = pairs (suc i) (suc j) d (omega (arith, l)) (om
 
 -- and are above the first
 pub head_below : (x : ℕ) (xs : List ℕ) → AllPairs (λ a b. a < b) (x ∷ xs) → (y : ℕ) → Contains xs y → x < y
-head_below x xs pairs y c = let less = pairs 0 (suc c.0) y (omega arith) (omega (arith, c.1)) in omega (arith, less, c.2)
+head_below x xs pairs y c = let less =
+    pairs 0 (suc c.0) y (omega arith) (omega (arith, c.1)) in omega (arith, less, c.2)
 
 -- up to the member at place k of a rising list there are k + 1
 up_to_place : (xs : List ℕ) (k : ℕ) → AllPairs (λ a b. a < b) xs → k < length xs → up_to xs (get_or xs k 0) ≡ suc k
@@ -318,11 +341,19 @@ compared m n =
     ]
 
 -- a lesser leader has a lesser number
-numbers_rise : (g : Graph) → IsWithinGraph g → (p q : ℕ) → IsDeadlocked g q → leader_of g p < leader_of g q → group_number g p < group_number g q
-numbers_rise g w p q dead l = omega (arith, number_is g p, number_is g q, up_to_member (leaders g) (leader_of g p) (leader_of g q) (leader_listed g w q dead) l)
+numbers_rise : (g : Graph) → IsWithinGraph g → (p q : ℕ) → IsDeadlocked g q → leader_of g p < leader_of g q
+    → group_number g p < group_number g q
+numbers_rise g w p q dead l =
+    omega (
+      arith,
+      number_is g p,
+      number_is g q,
+      up_to_member (leaders g) (leader_of g p) (leader_of g q) (leader_listed g w q dead) l,
+    )
 
 -- processes of one number have one leader
-one_number : (g : Graph) → IsWithinGraph g → (p q : ℕ) → IsDeadlocked g p → IsDeadlocked g q → group_number g p ≡ group_number g q → leader_of g p ≡ leader_of g q
+one_number : (g : Graph) → IsWithinGraph g → (p q : ℕ) → IsDeadlocked g p → IsDeadlocked g q
+    → group_number g p ≡ group_number g q → leader_of g p ≡ leader_of g q
 one_number g w p q a b e =
     elim (compared (leader_of g p) (leader_of g q)) [
       | inl l ↦ absurd (omega (arith, numbers_rise g w p q b l, e))
@@ -331,7 +362,8 @@ one_number g w p q a b e =
     ]
 
 -- processes of one leader are of one core
-led_alike : (g : Graph) → IsWithinGraph g → (p q : ℕ) → p < process_count g → q < process_count g → leader_of g p ≡ leader_of g q → Contains (core_of g p) q
+led_alike : (g : Graph) → IsWithinGraph g → (p q : ℕ) → p < process_count g → q < process_count g
+    → leader_of g p ≡ leader_of g q → Contains (core_of g p) q
 led_alike g w p q i j e =
     let l = leader_of g p in
     let mine = (core_law g p l w i).0 (leader_in_core g p w i) in
@@ -339,7 +371,8 @@ led_alike g w p q i j e =
     (core_law g p q w i).1 (reaches_on g p l q mine.0 its.1, reaches_on g q l p its.0 mine.1)
 
 -- a lesser number is that of a lesser leader
-leaders_by_number : (g : Graph) → IsWithinGraph g → (p q : ℕ) → IsDeadlocked g p → IsDeadlocked g q → group_number g p < group_number g q → leader_of g p < leader_of g q
+leaders_by_number : (g : Graph) → IsWithinGraph g → (p q : ℕ) → IsDeadlocked g p → IsDeadlocked g q
+    → group_number g p < group_number g q → leader_of g p < leader_of g q
 leaders_by_number g w p q a b l =
     elim (compared (leader_of g p) (leader_of g q)) [
       | inl less ↦ less
@@ -348,11 +381,16 @@ leaders_by_number g w p q a b l =
     ]
 
 -- the number of leaders at place k is k + 1
-number_at_place : (g : Graph) → IsWithinGraph g → (k : ℕ) → k < length (leaders g) → (p : ℕ) × IsDeadlocked g p × (group_number g p ≡ suc k)
+number_at_place : (g : Graph) → IsWithinGraph g → (k : ℕ) → k < length (leaders g)
+    → (p : ℕ) × IsDeadlocked g p × (group_number g p ≡ suc k)
 number_at_place g w k l =
     let leader = get_or (leaders g) k 0 in
-    let own = listed_leads g w leader (Contains-get_or (leaders g) k 0 l) in
-    (leader, own.0, number_is g leader ∙ ap (up_to (leaders g)) own.1 ∙ up_to_place (leaders g) k (AllPairs-from_increasing (leaders g) (leaders_rise g)) l)
+    let own = listed_leads g w leader (Contains-get_or (leaders g) k 0 l) in (
+      leader,
+      own.0,
+      number_is g leader ∙ ap (up_to (leaders g)) own.1
+          ∙ up_to_place (leaders g) k (AllPairs-from_increasing (leaders g) (leaders_rise g)) l,
+    )
 
 -- the groups are numbered as the words say
 pub group_number_law : GroupNumberLaw
@@ -367,6 +405,7 @@ group_number_law = λ g w. record {
   rise = λ p q a b. (λ l. leaders_by_number g w p q a b l, λ l. numbers_rise g w p q b l);
 }
   where
-    left_out : (g : Graph) → IsWithinGraph g → (n : ℕ) → 1 ≤ n → n ≤ length (leaders g) → (p : ℕ) × IsDeadlocked g p × (group_number g p ≡ n)
+    left_out : (g : Graph) → IsWithinGraph g → (n : ℕ) → 1 ≤ n → n ≤ length (leaders g)
+        → (p : ℕ) × IsDeadlocked g p × (group_number g p ≡ n)
     left_out g w zero l m = absurd (omega (arith, l))
     left_out g w (suc k) l m = number_at_place g w k (omega (arith, m))

@@ -17,15 +17,18 @@ indices_more n =
     ∙ ap (λ xs. xs ++ n ∷ []) (map-id (range_with_len 0 n))
 
 -- a filter of one index more keeps it where it passes
-pub filter_indices_more : (p : ℕ → Bool) (n : ℕ) → filter p (range_with_len 0 (n + 1)) ≡ filter p (range_with_len 0 n) ++ cond (p n) (n ∷ []) []
+pub filter_indices_more : (p : ℕ → Bool) (n : ℕ)
+    → filter p (range_with_len 0 (n + 1)) ≡ filter p (range_with_len 0 n) ++ cond (p n) (n ∷ []) []
 filter_indices_more p n = rw (indices_more n) (filter-append p (range_with_len 0 n) (n ∷ []))
 
 -- it keeps an index that passes
-pub filter_indices_kept : (p : ℕ → Bool) (n : ℕ) → p n ≡ true → filter p (range_with_len 0 (n + 1)) ≡ filter p (range_with_len 0 n) ++ n ∷ []
+pub filter_indices_kept : (p : ℕ → Bool) (n : ℕ) → p n ≡ true
+    → filter p (range_with_len 0 (n + 1)) ≡ filter p (range_with_len 0 n) ++ n ∷ []
 filter_indices_kept p n e = rw (filter_indices_more p n, e) refl
 
 -- and leaves out one that doesn't
-pub filter_indices_passed : (p : ℕ → Bool) (n : ℕ) → p n ≡ false → filter p (range_with_len 0 (n + 1)) ≡ filter p (range_with_len 0 n)
+pub filter_indices_passed : (p : ℕ → Bool) (n : ℕ) → p n ≡ false
+    → filter p (range_with_len 0 (n + 1)) ≡ filter p (range_with_len 0 n)
 filter_indices_passed p n e = rw (filter_indices_more p n, e) (append-nil (filter p (range_with_len 0 n)))
 
 -- ---- a list made by index
@@ -35,13 +38,17 @@ pub length-by_index : {X : Type 0} (g : Graph) (f : ℕ → X) → length (map f
 length-by_index g f = length-map (indices g) f ∙ length-range_with_len 0 (process_count g)
 
 -- what a list made by index has at a place
-pub by_index : {X : Type 0} (g : Graph) (f : ℕ → X) (xs : List X) (p : ℕ) (d : X) → xs ≡ map f (indices g) → p < process_count g → get_or xs p d ≡ f p
-by_index g f xs p d e l = ap (λ ys. get_or ys p d) e ∙ get_or-map-range_with_len f 0 (process_count g) p p d l (omega arith)
+pub by_index : {X : Type 0} (g : Graph) (f : ℕ → X) (xs : List X) (p : ℕ) (d : X) → xs ≡ map f (indices g)
+    → p < process_count g → get_or xs p d ≡ f p
+by_index g f xs p d e l =
+    ap (λ ys. get_or ys p d) e ∙ get_or-map-range_with_len f 0 (process_count g) p p d l (omega arith)
 
 -- two lists made by index are one where the functions agree within the graph
-pub by_index_agree : {X : Type 0} (g : Graph) (f h : ℕ → X) (d : X) → ((p : ℕ) → p < process_count g → f p ≡ h p) → map f (indices g) ≡ map h (indices g)
+pub by_index_agree : {X : Type 0} (g : Graph) (f h : ℕ → X) (d : X) → ((p : ℕ) → p < process_count g → f p ≡ h p)
+    → map f (indices g) ≡ map h (indices g)
 by_index_agree g f h d e =
-    fill_by_all h (map f (indices g)) (process_count g) d (length-by_index g f) (λ k l. by_index g f (map f (indices g)) k d refl l ∙ e k l)
+    fill_by_all h (map f (indices g)) (process_count g) d (length-by_index g f)
+    (λ k l. by_index g f (map f (indices g)) k d refl l ∙ e k l)
 
 -- ---- filters
 

@@ -20,7 +20,8 @@ pub contains_cons : {X : Type 0} (x : X) (xs : List X) (y : X) → Contains xs y
 contains_cons x xs y (k, l, e) = (suc k, omega arith, e)
 
 -- joined lists that are not empty have one that is not
-nonempty_append : (xs ys : List (List ℕ)) → is_nonempty (xs ++ ys) ≡ true → (is_nonempty xs ≡ true) ⊎ (is_nonempty ys ≡ true)
+nonempty_append : (xs ys : List (List ℕ)) → is_nonempty (xs ++ ys) ≡ true
+    → (is_nonempty xs ≡ true) ⊎ (is_nonempty ys ≡ true)
 nonempty_append [] ys e = inr e
 nonempty_append (x ∷ xs) ys e = inl refl
 
@@ -45,7 +46,8 @@ map_nonempty f [] e = e
 map_nonempty f (x ∷ xs) e = refl
 
 -- joined lists are not empty only where a member's list is not
-pub nonempty_flat_map : (f : ℕ → List (List ℕ)) (xs : List ℕ) → is_nonempty (flat_map f xs) ≡ true → (r : ℕ) × Contains xs r × (is_nonempty (f r) ≡ true)
+pub nonempty_flat_map : (f : ℕ → List (List ℕ)) (xs : List ℕ) → is_nonempty (flat_map f xs) ≡ true
+    → (r : ℕ) × Contains xs r × (is_nonempty (f r) ≡ true)
 nonempty_flat_map f [] e = cc
 nonempty_flat_map f (x ∷ xs) e =
     elim (nonempty_append (f x) (flat_map f xs) e) [
@@ -54,7 +56,8 @@ nonempty_flat_map f (x ∷ xs) e =
     ]
 
 -- and there they are not
-pub flat_map_nonempty : (f : ℕ → List (List ℕ)) (xs : List ℕ) (r : ℕ) → Contains xs r → is_nonempty (f r) ≡ true → is_nonempty (flat_map f xs) ≡ true
+pub flat_map_nonempty : (f : ℕ → List (List ℕ)) (xs : List ℕ) (r : ℕ) → Contains xs r → is_nonempty (f r) ≡ true
+    → is_nonempty (flat_map f xs) ≡ true
 flat_map_nonempty f [] r (k, l, e) h = absurd (omega arith)
 flat_map_nonempty f (x ∷ xs) r c h =
     elim (cons_contains x xs r c) [
@@ -65,7 +68,8 @@ flat_map_nonempty f (x ∷ xs) r c h =
 -- ---- dependencies
 
 -- a dependency is idle and has the dependent
-depends_by : (g : Graph) (p r : ℕ) (b : Bool) → is_idle g p ≡ b → Contains (cond b (dependents_of g p) []) r → Depends g p r
+depends_by : (g : Graph) (p r : ℕ) (b : Bool) → is_idle g p ≡ b → Contains (cond b (dependents_of g p) []) r
+    → Depends g p r
 depends_by g p r true e c = (e, c)
 depends_by g p r false e (k, l, c) = absurd (omega arith)
 
@@ -110,10 +114,12 @@ start_nonempty p false e = e
 -- ---- paths are listed
 
 -- a path is listed by its length
-pub listed : (g : Graph) (test : ℕ → Bool) (p : ℕ) (rest : List ℕ) (q : ℕ) → Leads g p rest q → test q ≡ true → is_nonempty (paths_to g test (length rest) p) ≡ true
+pub listed : (g : Graph) (test : ℕ → Bool) (p : ℕ) (rest : List ℕ) (q : ℕ) → Leads g p rest q → test q ≡ true
+    → is_nonempty (paths_to g test (length rest) p) ≡ true
 listed g test p [] q e t = start_nonempty p (test p) (ap test e ∙ t)
 listed g test p (r ∷ rest) q l t =
-    flat_map_nonempty (λ r. map (λ path. p ∷ path) (paths_to g test (length rest) r)) (dependencies_of g p) r (dependency g p r l.0)
+    flat_map_nonempty (λ r. map (λ path. p ∷ path) (paths_to g test (length rest) r)) (dependencies_of g p) r
+    (dependency g p r l.0)
     (map_nonempty (λ path. p ∷ path) (paths_to g test (length rest) r) (listed g test r rest q l.1 t))
 
 -- ---- a path without repeats
@@ -132,7 +138,8 @@ unfoldable pub Simple : Graph → ℕ → ℕ → Type 0
 Simple g p q = (rest : List ℕ) × Leads g p rest q × Apart (p ∷ rest)
 
 -- a path that comes back to p has a part from p that doesn't
-suffix : (g : Graph) (p r : ℕ) (rest : List ℕ) (q : ℕ) → Leads g r rest q → Apart (r ∷ rest) → (b : Bool) → eqb p r ≡ b → list_any (λ y. eqb p y) (r ∷ rest) ≡ true → Simple g p q
+suffix : (g : Graph) (p r : ℕ) (rest : List ℕ) (q : ℕ) → Leads g r rest q → Apart (r ∷ rest) → (b : Bool) → eqb p r ≡ b
+    → list_any (λ y. eqb p y) (r ∷ rest) ≡ true → Simple g p q
 unfolding Simple
 suffix g p r rest q l a true e h =
     let same : p ≡ r = eqb-true p r e in
@@ -143,7 +150,8 @@ suffix g p r (s ∷ rest) q l a false e h =
     suffix g p s rest q l.1 a.1 (eqb p s) refl z
 
 -- a step before a simple path, which may come back to p
-simple_by : (g : Graph) (p r : ℕ) (rest : List ℕ) (q : ℕ) → Depends g p r → Leads g r rest q → Apart (r ∷ rest) → (b : Bool) → list_any (λ y. eqb p y) (r ∷ rest) ≡ b → Simple g p q
+simple_by : (g : Graph) (p r : ℕ) (rest : List ℕ) (q : ℕ) → Depends g p r → Leads g r rest q → Apart (r ∷ rest)
+    → (b : Bool) → list_any (λ y. eqb p y) (r ∷ rest) ≡ b → Simple g p q
 unfolding Simple
 simple_by g p r rest q d l a true h = unfold Simple in suffix g p r rest q l a (eqb p r) refl h
 simple_by g p r rest q d l a false h = (r ∷ rest, (d, l), (h, a))
@@ -169,7 +177,8 @@ without m [] = []
 without m (x ∷ xs) = cond (eqb m x) xs (x ∷ without m xs)
 
 -- one member is left out at most, by cases
-length_without_by : (m x : ℕ) (xs ys : List ℕ) (b : Bool) → length xs ≤ suc (length ys) → length (x ∷ xs) ≤ suc (length (cond b xs (x ∷ ys)))
+length_without_by : (m x : ℕ) (xs ys : List ℕ) (b : Bool) → length xs ≤ suc (length ys)
+    → length (x ∷ xs) ≤ suc (length (cond b xs (x ∷ ys)))
 length_without_by m x xs ys true h = omega arith
 length_without_by m x xs ys false h = omega arith
 
@@ -185,7 +194,8 @@ or_false true b e = absurd cc
 or_false false b e = (refl, e)
 
 -- what no member passes, none of the rest does, by cases
-any_without_by : (t : ℕ → Bool) (x : ℕ) (xs ys : List ℕ) (b : Bool) → t x ≡ false → list_any t xs ≡ false → list_any t ys ≡ false → list_any t (cond b xs (x ∷ ys)) ≡ false
+any_without_by : (t : ℕ → Bool) (x : ℕ) (xs ys : List ℕ) (b : Bool) → t x ≡ false → list_any t xs ≡ false
+    → list_any t ys ≡ false → list_any t (cond b xs (x ∷ ys)) ≡ false
 any_without_by t x xs ys true e f h = f
 any_without_by t x xs ys false e f h = rw (e, h) refl
 
@@ -198,7 +208,8 @@ any_without t m (x ∷ xs) e =
     any_without_by t x xs (without m xs) (eqb m x) both.0 both.1 (any_without t m xs both.1)
 
 -- members that are apart stay apart, by cases
-apart_without_by : (x : ℕ) (xs ys : List ℕ) (b : Bool) → Apart xs → list_any (λ y. eqb x y) ys ≡ false → Apart ys → Apart (cond b xs (x ∷ ys))
+apart_without_by : (x : ℕ) (xs ys : List ℕ) (b : Bool) → Apart xs → list_any (λ y. eqb x y) ys ≡ false → Apart ys
+    → Apart (cond b xs (x ∷ ys))
 apart_without_by x xs ys true a e h = a
 apart_without_by x xs ys false a e h = (e, h)
 
@@ -219,8 +230,10 @@ below_unless m (x ∷ xs) b e =
     (strict, below_unless m xs b.1 both.1)
 
 -- without m the members are below m, by cases
-below_without_by : (m x : ℕ) (xs ys : List ℕ) (b : Bool) → eqb m x ≡ b → x < suc m → AllBelow (suc m) xs → list_any (λ y. eqb x y) xs ≡ false → AllBelow m ys → AllBelow m (cond b xs (x ∷ ys))
-below_without_by m x xs ys true e l h f t = below_unless m xs h (subst (λ z. list_any (λ y. eqb z y) xs ≡ false) (sym (eqb-true m x e)) f)
+below_without_by : (m x : ℕ) (xs ys : List ℕ) (b : Bool) → eqb m x ≡ b → x < suc m → AllBelow (suc m) xs
+    → list_any (λ y. eqb x y) xs ≡ false → AllBelow m ys → AllBelow m (cond b xs (x ∷ ys))
+below_without_by m x xs ys true e l h f t =
+    below_unless m xs h (subst (λ z. list_any (λ y. eqb z y) xs ≡ false) (sym (eqb-true m x e)) f)
 below_without_by m x xs ys false e l h f t =
     let other = eqb-false m x e in
     let strict : x < m = omega (arith, l, other) in
@@ -230,7 +243,8 @@ below_without_by m x xs ys false e l h f t =
 below_without : (m : ℕ) (xs : List ℕ) → AllBelow (suc m) xs → Apart xs → AllBelow m (without m xs)
 unfolding without
 below_without m [] b a = tt
-below_without m (x ∷ xs) b a = below_without_by m x xs (without m xs) (eqb m x) refl b.0 b.1 a.0 (below_without m xs b.1 a.1)
+below_without m (x ∷ xs) b a =
+    below_without_by m x xs (without m xs) (eqb m x) refl b.0 b.1 a.0 (below_without m xs b.1 a.1)
 
 -- at most n numbers below n are apart
 pub length_apart : (n : ℕ) (xs : List ℕ) → AllBelow n xs → Apart xs → length xs ≤ n
@@ -242,21 +256,24 @@ length_apart (suc m) xs b a =
 -- ---- a path stays within the graph
 
 -- a dependency of a process of the graph is one of the graph
-pub depends_within : (g : Graph) → IsWithinGraph g → (p r : ℕ) → p < process_count g → Depends g p r → r < process_count g
+pub depends_within : (g : Graph) → IsWithinGraph g → (p r : ℕ) → p < process_count g → Depends g p r
+    → r < process_count g
 depends_within g w p r i d =
     let c = d.1 in
     let same : get_or (dependents_of g p) c.0 0 ≡ r = get_or_default (dependents_of g p) c.0 0 r c.1 ∙ c.2 in
     subst (λ y. y < process_count g) same (w p c.0 (i, c.1))
 
 -- a path stays within the graph
-pub within : (g : Graph) → IsWithinGraph g → (p : ℕ) (rest : List ℕ) (q : ℕ) → p < process_count g → Leads g p rest q → AllBelow (process_count g) (p ∷ rest)
+pub within : (g : Graph) → IsWithinGraph g → (p : ℕ) (rest : List ℕ) (q : ℕ) → p < process_count g → Leads g p rest q
+    → AllBelow (process_count g) (p ∷ rest)
 within g w p [] q i l = (i, tt)
 within g w p (r ∷ rest) q i l = (i, within g w r rest q (depends_within g w p r i l.0) l.1)
 
 -- ---- the test of a search
 
 -- a search finds something where its head or its rest does
-is_some_find_by : (x : ℕ) (o : Option ℕ) (b : Bool) → (b ≡ true) ⊎ (is_some o ≡ true) → is_some (cond b (Some x) o) ≡ true
+is_some_find_by : (x : ℕ) (o : Option ℕ) (b : Bool) → (b ≡ true) ⊎ (is_some o ≡ true)
+    → is_some (cond b (Some x) o) ≡ true
 is_some_find_by x o true h = refl
 is_some_find_by x o false (inl e) = cc
 is_some_find_by x o false (inr e) = e
@@ -272,7 +289,9 @@ is_some_find t (y ∷ ys) x c e =
     ])
 
 -- what a search finds passes, by cases
-found_by : (t : ℕ → Bool) (x : ℕ) (xs : List ℕ) (b : Bool) → t x ≡ b → ((is_some (find t xs) ≡ true) → (n : ℕ) × (t n ≡ true)) → is_some (cond b (Some x) (find t xs)) ≡ true → (n : ℕ) × (t n ≡ true)
+found_by : (t : ℕ → Bool) (x : ℕ) (xs : List ℕ) (b : Bool) → t x ≡ b
+    → ((is_some (find t xs) ≡ true) → (n : ℕ) × (t n ≡ true)) → is_some (cond b (Some x) (find t xs)) ≡ true
+    → (n : ℕ) × (t n ≡ true)
 found_by t x xs true e h s = (x, e)
 found_by t x xs false e h s = h s
 
@@ -302,11 +321,13 @@ reaches_then g p q e =
     (p ∷ w.2, (refl, subst (λ z. Leads g p w.2 z) (eqb-true w.0 q w.1) w.3))
 
 -- where p is led to q the test of reach holds
-leads_reaches : (g : Graph) (p q : ℕ) → IsWithinGraph g → p < process_count g → (rest : List ℕ) → Leads g p rest q → reaches g p q ≡ true
+leads_reaches : (g : Graph) (p q : ℕ) → IsWithinGraph g → p < process_count g → (rest : List ℕ) → Leads g p rest q
+    → reaches g p q ≡ true
 unfolding reaches Simple
 leads_reaches g p q w i rest l =
     let s = simple g p rest q l in
-    let short : length (p ∷ s.0) ≤ process_count g = length_apart (process_count g) (p ∷ s.0) (within g w p s.0 q i s.1) s.2 in
+    let short : length (p ∷ s.0) ≤ process_count g =
+    length_apart (process_count g) (p ∷ s.0) (within g w p s.0 q i s.1) s.2 in
     is_some_find (λ n. is_nonempty (paths_to g (λ r. eqb r q) n p)) (indices g) (length s.0)
     (contains_index (process_count g) (length s.0) (omega (arith, short)))
     (listed g (λ r. eqb r q) p s.0 q s.1 (eq-eqb q q refl))

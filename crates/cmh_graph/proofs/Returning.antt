@@ -28,13 +28,15 @@ pub record ReturnsTo (g : Graph) (p : ℕ) (marks : List Bool) (pending found : 
   pub sound : (q : ℕ) → is_marked marks q ≡ true → Reaches g p q × Reaches g q p
   pub pending_marked : (q : ℕ) → Contains pending q → is_marked marks q ≡ true
   pub found_marked : (q : ℕ) → Contains found q → is_marked marks q ≡ true
-  pub closed : (q : ℕ) → is_marked marks q ≡ true → Contains pending q ⊎ (Contains found q × ((r : ℕ) → Depends g r q → Reaches g p r → is_marked marks r ≡ true))
+  pub closed : (q : ℕ) → is_marked marks q ≡ true
+      → Contains pending q ⊎ (Contains found q × ((r : ℕ) → Depends g r q → Reaches g p r → is_marked marks r ≡ true))
   pub count : unmarked_count marks + length pending + length found ≤ process_count g
 
 -- ---- how many are marked
 
 -- one place more is marked or not
-places_by : (b : Bool) (x n unmarked : ℕ) (marked : List ℕ) → unmarked + length marked ≡ n → cond {A = ℕ} (not b) 1 0 + unmarked + length (cond b (x ∷ marked) marked) ≡ suc n
+places_by : (b : Bool) (x n unmarked : ℕ) (marked : List ℕ) → unmarked + length marked ≡ n
+    → cond {A = ℕ} (not b) 1 0 + unmarked + length (cond b (x ∷ marked) marked) ≡ suc n
 places_by true x n unmarked marked e = omega (arith, e)
 places_by false x n unmarked marked e = omega (arith, e)
 
@@ -46,24 +48,32 @@ places t (x ∷ xs) =
     ∙ places_by (t x) x (length xs) (unmarked_count (map t xs)) (filter t xs) (places t xs)
 
 -- so the unmarked places and the list of the marked ones are all
-marked_and_not : (marks : List Bool) → unmarked_count marks + length (filter (is_marked marks) (range_with_len 0 (length marks))) ≡ length marks
+marked_and_not : (marks : List Bool)
+    → unmarked_count marks + length (filter (is_marked marks) (range_with_len 0 (length marks))) ≡ length marks
 marked_and_not marks =
     let all = range_with_len 0 (length marks) in
-    let is : marks ≡ map (is_marked marks) all = fill_by_all (is_marked marks) marks (length marks) false refl (λ q l. refl) in
+    let is : marks ≡ map (is_marked marks) all =
+    fill_by_all (is_marked marks) marks (length marks) false refl (λ q l. refl) in
     ap (λ ms. unmarked_count ms + length (filter (is_marked marks) all)) is
     ∙ places (is_marked marks) all ∙ length-range_with_len 0 (length marks)
 
 -- ---- the search
 
 -- at first p is marked alone
-pub returns_start : (g : Graph) (p : ℕ) (marks : List Bool) (pending found : List ℕ) → length marks ≡ process_count g → p < process_count g → ((q : ℕ) → is_marked marks q ≡ eqb q p) → pending ≡ p ∷ [] → found ≡ [] → ReturnsTo g p marks pending found
+pub returns_start : (g : Graph) (p : ℕ) (marks : List Bool) (pending found : List ℕ) → length marks ≡ process_count g
+    → p < process_count g → ((q : ℕ) → is_marked marks q ≡ eqb q p) → pending ≡ p ∷ [] → found ≡ []
+    → ReturnsTo g p marks pending found
 returns_start g p marks pending found size i alone e f =
-    subst (λ xs. ReturnsTo g p marks xs found) (sym e) (subst (λ xs. ReturnsTo g p marks (p ∷ []) xs) (sym f) (start g p marks size i alone))
+    subst (λ xs. ReturnsTo g p marks xs found) (sym e)
+    (subst (λ xs. ReturnsTo g p marks (p ∷ []) xs) (sym f) (start g p marks size i alone))
   where
-    start : (g : Graph) (p : ℕ) (marks : List Bool) → length marks ≡ process_count g → p < process_count g → ((q : ℕ) → is_marked marks q ≡ eqb q p) → ReturnsTo g p marks (p ∷ []) []
+    start : (g : Graph) (p : ℕ) (marks : List Bool) → length marks ≡ process_count g → p < process_count g
+        → ((q : ℕ) → is_marked marks q ≡ eqb q p) → ReturnsTo g p marks (p ∷ []) []
     start g p marks size i alone =
         let here : is_marked marks p ≡ true = alone p ∙ eq-eqb p p refl in
-        let some = contains_filter (is_marked marks) (range_with_len 0 (length marks)) p (contains_index (length marks) p (omega (arith, i, size))) here in
+        let some =
+        contains_filter (is_marked marks) (range_with_len 0 (length marks)) p
+        (contains_index (length marks) p (omega (arith, i, size))) here in
         record {
           size = size;
           start = here;
@@ -79,9 +89,14 @@ returns_start g p marks pending found size i alone e f =
         }
 
 -- a pending process is one of the graph
-pub returning_within : (g : Graph) (p q : ℕ) (marks : List Bool) (pending rest found : List ℕ) → ReturnsTo g p marks pending found → pending ≡ rest ++ q ∷ [] → q < process_count g
+pub returning_within : (g : Graph) (p q : ℕ) (marks : List Bool) (pending rest found : List ℕ)
+    → ReturnsTo g p marks pending found → pending ≡ rest ++ q ∷ [] → q < process_count g
 returning_within g p q marks pending rest found s e =
-    omega (arith, marked_within marks q (s.pending_marked q (subst (λ xs. Contains xs q) (sym e) (Contains-push rest q))), s.size)
+    omega (
+      arith,
+      marked_within marks q (s.pending_marked q (subst (λ xs. Contains xs q) (sym e) (Contains-push rest q))),
+      s.size,
+    )
 
 -- who depends on a process reaches what it reaches
 reaches_before : (g : Graph) (r q p : ℕ) → Depends g r q → Reaches g q p → Reaches g r p
@@ -89,7 +104,9 @@ reaches_before g r q p d ([], e) = absurd e
 reaches_before g r q p d (x ∷ rest, (e, l)) = (r ∷ q ∷ rest, (refl, (d, l)))
 
 -- a predecessor that the search enters is in the core
-entered : (g : Graph) (p q r : ℕ) (lists : List (List ℕ)) (reached : List Bool) → ArePredecessors g lists → reached ≡ map (reaches g p) (indices g) → Reaches g q p → Contains (filter (is_marked reached) (predecessors_at lists q)) r → Reaches g p r × Reaches g r p
+entered : (g : Graph) (p q r : ℕ) (lists : List (List ℕ)) (reached : List Bool) → ArePredecessors g lists
+    → reached ≡ map (reaches g p) (indices g) → Reaches g q p
+    → Contains (filter (is_marked reached) (predecessors_at lists q)) r → Reaches g p r × Reaches g r p
 entered g p q r lists reached pre e back c =
     let both = filter_contains (is_marked reached) (predecessors_at lists q) r c in
     let d = pre.sound r q both.0 in
@@ -97,19 +114,32 @@ entered g p q r lists reached pre e back c =
     (reaches_then g p r (sym at ∙ both.1), reaches_before g r q p d back)
 
 -- and each one that p reaches is entered
-enters : (g : Graph) (p q r : ℕ) (lists : List (List ℕ)) (reached : List Bool) → IsWithinGraph g → p < process_count g → ArePredecessors g lists → reached ≡ map (reaches g p) (indices g) → Depends g r q → Reaches g p r → Contains (filter (is_marked reached) (predecessors_at lists q)) r
+enters : (g : Graph) (p q r : ℕ) (lists : List (List ℕ)) (reached : List Bool) → IsWithinGraph g → p < process_count g
+    → ArePredecessors g lists → reached ≡ map (reaches g p) (indices g) → Depends g r q → Reaches g p r
+    → Contains (filter (is_marked reached) (predecessors_at lists q)) r
 enters g p q r lists reached w i pre e d there =
     let at = by_index g (reaches g p) reached r false e (idle_within g r d.0) in
-    contains_filter (is_marked reached) (predecessors_at lists q) r (pre.complete r q d) (at ∙ then_reaches g p r w i there)
+    contains_filter (is_marked reached) (predecessors_at lists q) r (pre.complete r q d)
+    (at ∙ then_reaches g p r w i there)
 
 -- its predecessors that p reaches are marked, and it is found
-pub returns_more : (g : Graph) (p q : ℕ) (lists : List (List ℕ)) (reached old new : List Bool) (pending rest after found more : List ℕ) → IsWithinGraph g → p < process_count g → ArePredecessors g lists → reached ≡ map (reaches g p) (indices g) → ReturnsTo g p old pending found → pending ≡ rest ++ q ∷ [] → more ≡ found ++ q ∷ [] → MarksEach (filter (is_marked reached) (predecessors_at lists q)) old new rest after → ReturnsTo g p new after more
+pub returns_more : (g : Graph) (p q : ℕ) (lists : List (List ℕ)) (reached old new : List Bool)
+    (pending rest after found more : List ℕ) → IsWithinGraph g → p < process_count g → ArePredecessors g lists
+    → reached ≡ map (reaches g p) (indices g) → ReturnsTo g p old pending found → pending ≡ rest ++ q ∷ []
+    → more ≡ found ++ q ∷ [] → MarksEach (filter (is_marked reached) (predecessors_at lists q)) old new rest after
+    → ReturnsTo g p new after more
 returns_more g p q lists reached old new pending rest after found more w i pre f s e is h =
-    subst (λ xs. ReturnsTo g p new after xs) (sym is) (step g p q lists reached old new pending rest after found w i pre f s e h)
+    subst (λ xs. ReturnsTo g p new after xs) (sym is)
+    (step g p q lists reached old new pending rest after found w i pre f s e h)
   where
-    step : (g : Graph) (p q : ℕ) (lists : List (List ℕ)) (reached old new : List Bool) (pending rest after found : List ℕ) → IsWithinGraph g → p < process_count g → ArePredecessors g lists → reached ≡ map (reaches g p) (indices g) → ReturnsTo g p old pending found → pending ≡ rest ++ q ∷ [] → MarksEach (filter (is_marked reached) (predecessors_at lists q)) old new rest after → ReturnsTo g p new after (found ++ q ∷ [])
+    step : (g : Graph) (p q : ℕ) (lists : List (List ℕ)) (reached old new : List Bool)
+        (pending rest after found : List ℕ) → IsWithinGraph g → p < process_count g → ArePredecessors g lists
+        → reached ≡ map (reaches g p) (indices g) → ReturnsTo g p old pending found → pending ≡ rest ++ q ∷ []
+        → MarksEach (filter (is_marked reached) (predecessors_at lists q)) old new rest after
+        → ReturnsTo g p new after (found ++ q ∷ [])
     step g p q lists reached old new pending rest after found w i pre f s e h =
-        let was : is_marked old q ≡ true = s.pending_marked q (subst (λ xs. Contains xs q) (sym e) (Contains-push rest q)) in
+        let was : is_marked old q ≡ true =
+        s.pending_marked q (subst (λ xs. Contains xs q) (sym e) (Contains-push rest q)) in
         record {
           size = h.size ∙ s.size;
           start = h.kept p s.start;
@@ -118,7 +148,8 @@ returns_more g p q lists reached old new pending rest after found more w i pre f
             | inr o ↦ entered g p q r lists reached pre f (s.sound q was).1 o.0
           ];
           pending_marked = λ r c. elim (h.only r c) [
-            | inl d ↦ h.kept r (s.pending_marked r (subst (λ xs. Contains xs r) (sym e) (Contains-append_left rest (q ∷ []) r d)))
+            | inl d ↦ h.kept r
+                (s.pending_marked r (subst (λ xs. Contains xs r) (sym e) (Contains-append_left rest (q ∷ []) r d)))
             | inr m ↦ m
           ];
           found_marked = λ r c. elim (Contains-push_cases found q r c) [
@@ -131,7 +162,8 @@ returns_more g p q lists reached old new pending rest after found more w i pre f
                 | inl d ↦ inl (h.stays r d)
                 | inr same ↦ inr (
                   subst (λ z. Contains (found ++ q ∷ []) z) same (Contains-push found q),
-                  λ t d there. h.marked t (enters g p q t lists reached w i pre f (subst (λ z. Depends g t z) (sym same) d) there),
+                  λ t d there. h.marked t
+                      (enters g p q t lists reached w i pre f (subst (λ z. Depends g t z) (sym same) d) there),
                 )
               ]
               | inr all ↦ inr (Contains-append_left found (q ∷ []) r all.0, λ t d there. h.kept t (all.1 t d there))
@@ -142,13 +174,16 @@ returns_more g p q lists reached old new pending rest after found more w i pre f
         }
 
 -- where nothing is pending, who is on a way from p back to p is marked
-led_back : (g : Graph) (p : ℕ) (marks : List Bool) → is_marked marks p ≡ true → ((q : ℕ) → is_marked marks q ≡ true → (r : ℕ) → Depends g r q → Reaches g p r → is_marked marks r ≡ true) → (q : ℕ) (rest : List ℕ) → Reaches g p q → Leads g q rest p → is_marked marks q ≡ true
+led_back : (g : Graph) (p : ℕ) (marks : List Bool) → is_marked marks p ≡ true
+    → ((q : ℕ) → is_marked marks q ≡ true → (r : ℕ) → Depends g r q → Reaches g p r → is_marked marks r ≡ true)
+    → (q : ℕ) (rest : List ℕ) → Reaches g p q → Leads g q rest p → is_marked marks q ≡ true
 led_back g p marks start closed q [] there e = ap (is_marked marks) e ∙ start
 led_back g p marks start closed q (r ∷ rest) there l =
     closed r (led_back g p marks start closed r rest (reaches_more g p q r there l.0) l.1) q l.0 there
 
 -- so the core is marked
-returned_marked : (g : Graph) (p : ℕ) (marks : List Bool) (found : List ℕ) → ReturnsTo g p marks [] found → (q : ℕ) → Reaches g p q → Reaches g q p → is_marked marks q ≡ true
+returned_marked : (g : Graph) (p : ℕ) (marks : List Bool) (found : List ℕ) → ReturnsTo g p marks [] found → (q : ℕ)
+    → Reaches g p q → Reaches g q p → is_marked marks q ≡ true
 returned_marked g p marks found s q there ([], e) = absurd e
 returned_marked g p marks found s q there (x ∷ rest, (e, l)) =
     led_back g p marks s.start
@@ -159,14 +194,16 @@ returned_marked g p marks found s q there (x ∷ rest, (e, l)) =
     q rest there l
 
 -- a mark is right, by cases of the tests
-mark_by : (there back mark : Bool) → (mark ≡ true → (there ≡ true) × (back ≡ true)) → (there ≡ true → back ≡ true → mark ≡ true) → mark ≡ (there && back)
+mark_by : (there back mark : Bool) → (mark ≡ true → (there ≡ true) × (back ≡ true))
+    → (there ≡ true → back ≡ true → mark ≡ true) → mark ≡ (there && back)
 mark_by there back true sound complete = let both = sound refl in rw (both.0, both.1) refl
 mark_by true true false sound complete = complete refl refl
 mark_by true false false sound complete = refl
 mark_by false back false sound complete = refl
 
 -- and the marks say who is in the core
-marks_end : (g : Graph) (p : ℕ) (marks : List Bool) (found : List ℕ) → IsWithinGraph g → p < process_count g → ReturnsTo g p marks [] found → marks ≡ map (λ q. reaches g p q && reaches g q p) (indices g)
+marks_end : (g : Graph) (p : ℕ) (marks : List Bool) (found : List ℕ) → IsWithinGraph g → p < process_count g
+    → ReturnsTo g p marks [] found → marks ≡ map (λ q. reaches g p q && reaches g q p) (indices g)
 marks_end g p marks found w i s =
     fill_by_all (λ q. reaches g p q && reaches g q p) marks (process_count g) false s.size
     (λ q l. mark_by (reaches g p q) (reaches g q p) (is_marked marks q)
@@ -176,7 +213,8 @@ marks_end g p marks found w i s =
 -- ---- the list of the core
 
 -- a filter after a filter asks both tests, by cases of the first
-filter_both_by : (u : ℕ → Bool) (x : ℕ) (xs ys : List ℕ) (b : Bool) → xs ≡ filter u ys → cond (b && u x) (x ∷ xs) xs ≡ filter u (cond b (x ∷ ys) ys)
+filter_both_by : (u : ℕ → Bool) (x : ℕ) (xs ys : List ℕ) (b : Bool) → xs ≡ filter u ys
+    → cond (b && u x) (x ∷ xs) xs ≡ filter u (cond b (x ∷ ys) ys)
 filter_both_by u x xs ys true e = λ i. cond (u x) (x ∷ e i) (e i)
 filter_both_by u x xs ys false e = e
 
@@ -186,7 +224,8 @@ filter_both t u [] = refl
 filter_both t u (x ∷ xs) = filter_both_by u x (filter (λ y. t y && u y) xs) (filter t xs) (t x) (filter_both t u xs)
 
 -- the marked places are the core
-core_listed : (g : Graph) (p : ℕ) (marks : List Bool) → marks ≡ map (λ q. reaches g p q && reaches g q p) (indices g) → filter (is_marked marks) (range_with_len 0 (length marks)) ≡ core_of g p
+core_listed : (g : Graph) (p : ℕ) (marks : List Bool) → marks ≡ map (λ q. reaches g p q && reaches g q p) (indices g)
+    → filter (is_marked marks) (range_with_len 0 (length marks)) ≡ core_of g p
 core_listed g p marks e =
     let both : ℕ → Bool = λ q. reaches g p q && reaches g q p in
     let size = ap length e ∙ length-by_index g both in
@@ -201,13 +240,16 @@ first_lowest x xs sorted y c = omega (arith, sorted 0 c.0 y (omega arith) c.1, c
 
 -- Numbers that don't fall, among which are all of a rising list, and which are no more than those,
 -- are the rising list.
-sorted_is : (xs ys : List ℕ) → IsNonDecreasing xs → AllPairs (λ a b. a < b) ys → ((y : ℕ) → Contains ys y → Contains xs y) → length xs ≤ length ys → xs ≡ ys
+sorted_is : (xs ys : List ℕ) → IsNonDecreasing xs → AllPairs (λ a b. a < b) ys
+    → ((y : ℕ) → Contains ys y → Contains xs y) → length xs ≤ length ys → xs ≡ ys
 sorted_is [] [] sorted rises has l = refl
 sorted_is [] (y ∷ ys) sorted rises has l = absurd (omega (arith, (has y (0, omega arith, refl)).1))
 sorted_is (x ∷ xs) [] sorted rises has l = absurd (omega (arith, l))
 sorted_is (x ∷ xs) (y ∷ ys) sorted rises has l =
     let low : x ≤ y = first_lowest x xs sorted y (has y (0, omega arith, refl)) in
-    let rest : xs ≡ ys = sorted_is xs ys (λ i j d a b. sorted (suc i) (suc j) d (omega (arith, a)) (omega (arith, b))) (tail_rises y ys rises)
+    let rest : xs ≡ ys =
+    sorted_is xs ys (λ i j d a b. sorted (suc i) (suc j) d (omega (arith, a)) (omega (arith, b)))
+    (tail_rises y ys rises)
     (λ z c. elim (cons_contains x xs z (has z (contains_cons y ys z c))) [
       | inl same ↦ absurd (omega (arith, same, low, head_below y ys rises z c))
       | inr d ↦ d
@@ -219,7 +261,9 @@ sorted_is (x ∷ xs) (y ∷ ys) sorted rises has l =
     λ k. first k ∷ rest k
 
 -- those that are found, in order, are the core
-pub returns_end : (g : Graph) (p : ℕ) (marks : List Bool) (pending found sorted : List ℕ) → IsWithinGraph g → p < process_count g → pending ≡ [] → ReturnsTo g p marks pending found → IsPermutation found sorted → IsSorted nat_cmp sorted → sorted ≡ core_of g p
+pub returns_end : (g : Graph) (p : ℕ) (marks : List Bool) (pending found sorted : List ℕ) → IsWithinGraph g
+    → p < process_count g → pending ≡ [] → ReturnsTo g p marks pending found → IsPermutation found sorted
+    → IsSorted nat_cmp sorted → sorted ≡ core_of g p
 returns_end g p marks pending found sorted w i e s moved order =
     let done = subst (λ xs. ReturnsTo g p marks xs found) e s in
     let all = range_with_len 0 (length marks) in

@@ -24,7 +24,10 @@ at_or_past : (a m : ℕ) → a ≤ m → (a ≡ m) ⊎ (a + 1 ≤ m)
 at_or_past a m l = elim (dec_lt a m) [ yes h ↦ inr (omega (arith, h)) | no h ↦ inl (omega (arith, h, l)) ]
 
 -- what is found first passes, and none before it, by cases
-first_by : (t : ℕ → Bool) (a k n : ℕ) (b : Bool) → t a ≡ b → (find t (range_with_len (a + 1) k) ≡ Some n → (t n ≡ true) × ((m : ℕ) → a + 1 ≤ m → m < n → t m ≡ false)) → cond b (Some a) (find t (range_with_len (a + 1) k)) ≡ Some n → (t n ≡ true) × ((m : ℕ) → a ≤ m → m < n → t m ≡ false)
+first_by : (t : ℕ → Bool) (a k n : ℕ) (b : Bool) → t a ≡ b
+    → (find t (range_with_len (a + 1) k) ≡ Some n → (t n ≡ true) × ((m : ℕ) → a + 1 ≤ m → m < n → t m ≡ false))
+    → cond b (Some a) (find t (range_with_len (a + 1) k)) ≡ Some n
+    → (t n ≡ true) × ((m : ℕ) → a ≤ m → m < n → t m ≡ false)
 first_by t a k n true e h s =
     let same : a ≡ n = ap (λ o. unwrap_or o 0) s in
     (subst (λ z. t z ≡ true) same e, λ m l u. absurd (omega (arith, same, l, u)))
@@ -33,12 +36,14 @@ first_by t a k n false e h s =
     (w.0, λ m l u. elim (at_or_past a m l) [ inl same ↦ subst (λ z. t z ≡ false) same e | inr more ↦ w.1 m more u ])
 
 -- the number that is found passes, and none before it does
-pub first : (t : ℕ → Bool) (a k n : ℕ) → find t (range_with_len a k) ≡ Some n → (t n ≡ true) × ((m : ℕ) → a ≤ m → m < n → t m ≡ false)
+pub first : (t : ℕ → Bool) (a k n : ℕ) → find t (range_with_len a k) ≡ Some n
+    → (t n ≡ true) × ((m : ℕ) → a ≤ m → m < n → t m ≡ false)
 first t a zero n e = absurd cc
 first t a (suc k) n e = first_by t a k n (t a) refl (λ s. first t (a + 1) k n s) e
 
 -- what is found is one of the range, by cases
-found_within_by : (t : ℕ → Bool) (a k n : ℕ) (b : Bool) → (find t (range_with_len (a + 1) k) ≡ Some n → n < a + 1 + k) → cond b (Some a) (find t (range_with_len (a + 1) k)) ≡ Some n → n < a + suc k
+found_within_by : (t : ℕ → Bool) (a k n : ℕ) (b : Bool) → (find t (range_with_len (a + 1) k) ≡ Some n → n < a + 1 + k)
+    → cond b (Some a) (find t (range_with_len (a + 1) k)) ≡ Some n → n < a + suc k
 found_within_by t a k n true h s = let same : a ≡ n = ap (λ o. unwrap_or o 0) s in omega (arith, same)
 found_within_by t a k n false h s = omega (arith, h s)
 
@@ -54,17 +59,20 @@ pub steps_within : (g : Graph) (test : ℕ → Bool) (p n : ℕ) → steps_to g 
 steps_within g test p n e = omega (arith, found_within (λ m. is_nonempty (paths_to g test m p)) 0 (process_count g) n e)
 
 -- there is one where a path leads to a process that passes
-pub has_steps : (g : Graph) (test : ℕ → Bool) → IsWithinGraph g → (p q : ℕ) → p < process_count g → (rest : List ℕ) → Leads g p rest q → test q ≡ true → is_some (steps_to g test p) ≡ true
+pub has_steps : (g : Graph) (test : ℕ → Bool) → IsWithinGraph g → (p q : ℕ) → p < process_count g → (rest : List ℕ)
+    → Leads g p rest q → test q ≡ true → is_some (steps_to g test p) ≡ true
 unfolding Simple
 has_steps g test w p q i rest l a =
     let s = simple g p rest q l in
-    let short : length (p ∷ s.0) ≤ process_count g = length_apart (process_count g) (p ∷ s.0) (within g w p s.0 q i s.1) s.2 in
+    let short : length (p ∷ s.0) ≤ process_count g =
+    length_apart (process_count g) (p ∷ s.0) (within g w p s.0 q i s.1) s.2 in
     is_some_find (λ n. is_nonempty (paths_to g test n p)) (indices g) (length s.0)
     (contains_index (process_count g) (length s.0) (omega (arith, short)))
     (listed g test p s.0 q s.1 a)
 
 -- it is at most the length of each path
-pub near_then : (g : Graph) (test : ℕ → Bool) → IsWithinGraph g → (p m : ℕ) → p < process_count g → is_nonempty (paths_to g test m p) ≡ true → (k : ℕ) × (k ≤ m) × (steps_to g test p ≡ Some k)
+pub near_then : (g : Graph) (test : ℕ → Bool) → IsWithinGraph g → (p m : ℕ) → p < process_count g
+    → is_nonempty (paths_to g test m p) ≡ true → (k : ℕ) × (k ≤ m) × (steps_to g test p ≡ Some k)
 unfolding Walk
 near_then g test w p m i e =
     let v = walk g test m p e in
@@ -79,33 +87,40 @@ near_then g test w p m i e =
     )
 
 -- a path from a dependency is one longer from the process
-near_more : (g : Graph) (test : ℕ → Bool) (n p r : ℕ) → Depends g p r → is_nonempty (paths_to g test n r) ≡ true → is_nonempty (paths_to g test (suc n) p) ≡ true
+near_more : (g : Graph) (test : ℕ → Bool) (n p r : ℕ) → Depends g p r → is_nonempty (paths_to g test n r) ≡ true
+    → is_nonempty (paths_to g test (suc n) p) ≡ true
 near_more g test n p r d e =
     flat_map_nonempty (λ r. map (λ path. p ∷ path) (paths_to g test n r)) (dependencies_of g p) r (dependency g p r d)
     (map_nonempty (λ path. p ∷ path) (paths_to g test n r) e)
 
 -- a path of that length is listed
-pub near : (g : Graph) (test : ℕ → Bool) (p n : ℕ) → steps_to g test p ≡ Some n → is_nonempty (paths_to g test n p) ≡ true
+pub near : (g : Graph) (test : ℕ → Bool) (p n : ℕ) → steps_to g test p ≡ Some n
+    → is_nonempty (paths_to g test n p) ≡ true
 near g test p n e = (first (λ m. is_nonempty (paths_to g test m p)) 0 (process_count g) n e).0
 
 -- a process has at most one dependency more than each that it depends on
-pub steps_on : (g : Graph) (test : ℕ → Bool) → IsWithinGraph g → (p q n : ℕ) → p < process_count g → Depends g p q → steps_to g test q ≡ Some n → (m : ℕ) × (m ≤ suc n) × (steps_to g test p ≡ Some m)
+pub steps_on : (g : Graph) (test : ℕ → Bool) → IsWithinGraph g → (p q n : ℕ) → p < process_count g → Depends g p q
+    → steps_to g test q ≡ Some n → (m : ℕ) × (m ≤ suc n) × (steps_to g test p ≡ Some m)
 steps_on g test w p q n i d e = near_then g test w p (suc n) i (near_more g test n p q d (near g test q n e))
 
 -- and just one more than some of these
-pub steps_back : (g : Graph) (test : ℕ → Bool) → IsWithinGraph g → (p n : ℕ) → p < process_count g → steps_to g test p ≡ Some (suc n) → (r : ℕ) × Depends g p r × (steps_to g test r ≡ Some n)
+pub steps_back : (g : Graph) (test : ℕ → Bool) → IsWithinGraph g → (p n : ℕ) → p < process_count g
+    → steps_to g test p ≡ Some (suc n) → (r : ℕ) × Depends g p r × (steps_to g test r ≡ Some n)
 steps_back g test w p n i e =
     let f = first (λ m. is_nonempty (paths_to g test m p)) 0 (process_count g) (suc n) e in
     let v = nonempty_flat_map (λ r. map (λ path. p ∷ path) (paths_to g test n r)) (dependencies_of g p) f.0 in
     let d = depends g p v.0 v.1 in
-    let k = near_then g test w v.0 n (depends_within g w p v.0 i d) (nonempty_map (λ path. p ∷ path) (paths_to g test n v.0) v.2) in
+    let k = near_then g test w v.0 n (depends_within g w p v.0 i d)
+    (nonempty_map (λ path. p ∷ path) (paths_to g test n v.0) v.2) in
     elim (dec_lt k.0 n) [
-      | yes h ↦ let z : true ≡ false = sym (near_more g test k.0 p v.0 d (near g test v.0 k.0 k.2)) ∙ f.1 (suc k.0) (omega arith) (omega (arith, h)) in absurd cc
+      | yes h ↦ let z : true ≡ false = sym (near_more g test k.0 p v.0 d (near g test v.0 k.0 k.2))
+          ∙ f.1 (suc k.0) (omega arith) (omega (arith, h)) in absurd cc
       | no h ↦ let same : k.0 ≡ n = omega (arith, h, k.1) in (v.0, d, k.2 ∙ ap (λ m. Some m) same)
     ]
 
 -- none is needed where the process passes itself
-pub steps_none : (g : Graph) (test : ℕ → Bool) → IsWithinGraph g → (p : ℕ) → p < process_count g → test p ≡ true → steps_to g test p ≡ Some 0
+pub steps_none : (g : Graph) (test : ℕ → Bool) → IsWithinGraph g → (p : ℕ) → p < process_count g → test p ≡ true
+    → steps_to g test p ≡ Some 0
 steps_none g test w p i e =
     let k = near_then g test w p 0 i (start_nonempty p (test p) e) in
     let same : k.0 ≡ 0 = omega (arith, k.1) in
@@ -118,19 +133,24 @@ passes_itself g test p e = start_by test p (test p) (near g test p 0 e)
 -- ---- tests that agree within the graph
 
 -- functions that agree on the members join the same lists
-flat_map_agree : (f h : ℕ → List (List ℕ)) (xs : List ℕ) → ((r : ℕ) → Contains xs r → f r ≡ h r) → flat_map f xs ≡ flat_map h xs
+flat_map_agree : (f h : ℕ → List (List ℕ)) (xs : List ℕ) → ((r : ℕ) → Contains xs r → f r ≡ h r)
+    → flat_map f xs ≡ flat_map h xs
 flat_map_agree f h [] e = refl
-flat_map_agree f h (x ∷ xs) e = λ i. e x (zero, omega arith, refl) i ++ flat_map_agree f h xs (λ r c. e r (contains_cons x xs r c)) i
+flat_map_agree f h (x ∷ xs) e =
+    λ i. e x (zero, omega arith, refl) i ++ flat_map_agree f h xs (λ r c. e r (contains_cons x xs r c)) i
 
 -- tests that agree within the graph list the same paths
-paths_agree : (g : Graph) (t u : ℕ → Bool) → IsWithinGraph g → ((r : ℕ) → r < process_count g → t r ≡ u r) → (n p : ℕ) → p < process_count g → paths_to g t n p ≡ paths_to g u n p
+paths_agree : (g : Graph) (t u : ℕ → Bool) → IsWithinGraph g → ((r : ℕ) → r < process_count g → t r ≡ u r) → (n p : ℕ)
+    → p < process_count g → paths_to g t n p ≡ paths_to g u n p
 paths_agree g t u w e zero p i = ap (λ b. cond b ((p ∷ []) ∷ []) []) (e p i)
 paths_agree g t u w e (suc n) p i =
-    flat_map_agree (λ r. map (λ path. p ∷ path) (paths_to g t n r)) (λ r. map (λ path. p ∷ path) (paths_to g u n r)) (dependencies_of g p)
+    flat_map_agree (λ r. map (λ path. p ∷ path) (paths_to g t n r)) (λ r. map (λ path. p ∷ path) (paths_to g u n r))
+    (dependencies_of g p)
     (λ r c. ap (map (λ path. p ∷ path)) (paths_agree g t u w e n r (depends_within g w p r i (depends g p r c))))
 
 -- they give one answer
-pub steps_agree : (g : Graph) (t u : ℕ → Bool) → IsWithinGraph g → ((r : ℕ) → r < process_count g → t r ≡ u r) → (p : ℕ) → p < process_count g → steps_to g t p ≡ steps_to g u p
+pub steps_agree : (g : Graph) (t u : ℕ → Bool) → IsWithinGraph g → ((r : ℕ) → r < process_count g → t r ≡ u r) → (p : ℕ)
+    → p < process_count g → steps_to g t p ≡ steps_to g u p
 steps_agree g t u w e p l = λ i. find (λ n. is_nonempty (paths_agree g t u w e n p l i)) (indices g)
 
 -- ---- the search by levels
@@ -145,7 +165,8 @@ pub record StepsUpTo (g : Graph) (test : ℕ → Bool) (n : ℕ) (steps : List (
   pub level_has : (q : ℕ) → q < process_count g → steps_to g test q ≡ Some n → Contains level q
 
 -- whether a place of a marked list is numbered
-number_of_mark : (marks : List Bool) (p : ℕ) → number_at (map (λ b. cond b (Some 0) None) marks) p ≡ cond (is_marked marks p) (Some 0) None
+number_of_mark : (marks : List Bool) (p : ℕ)
+    → number_at (map (λ b. cond b (Some 0) None) marks) p ≡ cond (is_marked marks p) (Some 0) None
 number_of_mark [] p = refl
 number_of_mark (b ∷ bs) zero = refl
 number_of_mark (b ∷ bs) (suc p) = number_of_mark bs p
@@ -162,7 +183,9 @@ zero_if_true true d e = (refl, sym (ap (λ o. unwrap_or o 0) e))
 zero_if_true false d e = absurd cc
 
 -- at first the marked processes are numbered
-marked_start : (g : Graph) (marks : List Bool) → IsWithinGraph g → length marks ≡ process_count g → StepsUpTo g (is_marked marks) 0 (map (λ b. cond b (Some 0) None) marks) (filter (is_marked marks) (range_with_len 0 (length marks)))
+marked_start : (g : Graph) (marks : List Bool) → IsWithinGraph g → length marks ≡ process_count g
+    → StepsUpTo g (is_marked marks) 0 (map (λ b. cond b (Some 0) None) marks)
+    (filter (is_marked marks) (range_with_len 0 (length marks)))
 marked_start g marks w size = record {
   size = length-map marks (λ b. cond b (Some 0) None) ∙ size;
   sound = λ p d e.
@@ -182,16 +205,23 @@ marked_start g marks w size = record {
 }
 
 -- the same, by what the list and the level are
-pub steps_start : (g : Graph) (marks : List Bool) (steps : List (Option ℕ)) (level : List ℕ) → IsWithinGraph g → length marks ≡ process_count g → steps ≡ map (λ b. cond b (Some 0) None) marks → level ≡ filter (is_marked marks) (range_with_len 0 (length marks)) → StepsUpTo g (is_marked marks) 0 steps level
+pub steps_start : (g : Graph) (marks : List Bool) (steps : List (Option ℕ)) (level : List ℕ) → IsWithinGraph g
+    → length marks ≡ process_count g → steps ≡ map (λ b. cond b (Some 0) None) marks
+    → level ≡ filter (is_marked marks) (range_with_len 0 (length marks)) → StepsUpTo g (is_marked marks) 0 steps level
 steps_start g marks steps level w size e f =
-    subst (λ xs. StepsUpTo g (is_marked marks) 0 xs level) (sym e) (subst (λ xs. StepsUpTo g (is_marked marks) 0 (map (λ b. cond b (Some 0) None) marks) xs) (sym f) (marked_start g marks w size))
+    subst (λ xs. StepsUpTo g (is_marked marks) 0 xs level) (sym e)
+    (subst (λ xs. StepsUpTo g (is_marked marks) 0 (map (λ b. cond b (Some 0) None) marks) xs) (sym f)
+    (marked_start g marks w size))
 
 -- numbers are equal where they are there alike
 some_same : (a b : ℕ) → Some a ≡ Some b → a ≡ b
 some_same a b e = ap (λ o. unwrap_or o 0) e
 
 -- a number that the level gives is right
-level_sound : (g : Graph) (test : ℕ → Bool) (n m : ℕ) (lists : List (List ℕ)) (old new : List (Option ℕ)) (level next : List ℕ) → IsWithinGraph g → ArePredecessors g lists → m ≡ suc n → StepsUpTo g test n old level → Numbers (IsNamedBy lists level) m old new [] next → (p d : ℕ) → number_at new p ≡ Some d → (steps_to g test p ≡ Some d) × (d ≤ m)
+level_sound : (g : Graph) (test : ℕ → Bool) (n m : ℕ) (lists : List (List ℕ)) (old new : List (Option ℕ))
+    (level next : List ℕ) → IsWithinGraph g → ArePredecessors g lists → m ≡ suc n → StepsUpTo g test n old level
+    → Numbers (IsNamedBy lists level) m old new [] next → (p d : ℕ) → number_at new p ≡ Some d
+    → (steps_to g test p ≡ Some d) × (d ≤ m)
 level_sound g test n m lists old new level next w pre e s h p d f =
     elim (cases_number (number_at old p)) [
       | inl k ↦ let same = some_same d k.0 (sym f ∙ h.kept p k.0 k.1) in
@@ -202,13 +232,17 @@ level_sound g test n m lists old new level next w pre e s h p d f =
           let q = made.1.0 in
           let on = steps_on g test w p q n here (pre.sound p q made.1.2) (s.members q made.1.1).1 in
           elim (dec_lt n on.0) [
-            | yes l ↦ let same : on.0 ≡ d = omega (arith, on.1, l, e, made.0) in (on.2 ∙ ap (λ z. Some z) same, omega (arith, made.0))
+            | yes l ↦ let same : on.0 ≡ d =
+                omega (arith, on.1, l, e, made.0) in (on.2 ∙ ap (λ z. Some z) same, omega (arith, made.0))
             | no l ↦ let bad : None ≡ Some on.0 = sym k ∙ s.complete p on.0 here on.2 (omega (arith, l)) in absurd cc
           ]
     ]
 
 -- and each process of that number gets it
-level_complete : (g : Graph) (test : ℕ → Bool) (n m : ℕ) (lists : List (List ℕ)) (old new : List (Option ℕ)) (level next : List ℕ) → IsWithinGraph g → ArePredecessors g lists → m ≡ suc n → StepsUpTo g test n old level → Numbers (IsNamedBy lists level) m old new [] next → (p d : ℕ) → p < process_count g → steps_to g test p ≡ Some d → d ≤ m → number_at new p ≡ Some d
+level_complete : (g : Graph) (test : ℕ → Bool) (n m : ℕ) (lists : List (List ℕ)) (old new : List (Option ℕ))
+    (level next : List ℕ) → IsWithinGraph g → ArePredecessors g lists → m ≡ suc n → StepsUpTo g test n old level
+    → Numbers (IsNamedBy lists level) m old new [] next → (p d : ℕ) → p < process_count g
+    → steps_to g test p ≡ Some d → d ≤ m → number_at new p ≡ Some d
 level_complete g test n m lists old new level next w pre e s h p d i f l =
     elim (dec_lt n d) [
       | yes k ↦ let is : d ≡ suc n = omega (arith, k, l, e) in
@@ -222,14 +256,19 @@ level_complete g test n m lists old new level next w pre e s h p d i f l =
     ]
 
 -- a level more
-pub steps_more : (g : Graph) (test : ℕ → Bool) (n m : ℕ) (lists : List (List ℕ)) (old new : List (Option ℕ)) (level next : List ℕ) → IsWithinGraph g → ArePredecessors g lists → m ≡ suc n → StepsUpTo g test n old level → Numbers (IsNamedBy lists level) m old new [] next → StepsUpTo g test m new next
+pub steps_more : (g : Graph) (test : ℕ → Bool) (n m : ℕ) (lists : List (List ℕ)) (old new : List (Option ℕ))
+    (level next : List ℕ) → IsWithinGraph g → ArePredecessors g lists → m ≡ suc n → StepsUpTo g test n old level
+    → Numbers (IsNamedBy lists level) m old new [] next → StepsUpTo g test m new next
 steps_more g test n m lists old new level next w pre e s h = record {
   size = h.size ∙ s.size;
   sound = level_sound g test n m lists old new level next w pre e s h;
   complete = level_complete g test n m lists old new level next w pre e s h;
   members = λ q c. elim (h.only q c) [
     | inl d ↦ absurd (omega (arith, d.1))
-    | inr d ↦ (omega (arith, numbered_within new q m d.1, h.size, s.size), (level_sound g test n m lists old new level next w pre e s h q m d.1).0)
+    | inr d ↦ (
+      omega (arith, numbered_within new q m d.1, h.size, s.size),
+      (level_sound g test n m lists old new level next w pre e s h q m d.1).0,
+    )
   ];
   level_has = λ q i f.
       let got = level_complete g test n m lists old new level next w pre e s h q m i f (omega arith) in
@@ -242,20 +281,24 @@ steps_more g test n m lists old new level next w pre e s h = record {
 }
 
 -- the members of a level have predecessors
-pub level_listed : (g : Graph) (test : ℕ → Bool) (n : ℕ) (lists : List (List ℕ)) (steps : List (Option ℕ)) (level xs : List ℕ) → ArePredecessors g lists → StepsUpTo g test n steps level → xs ≡ level → (k d : ℕ) → k < length xs → get_or xs k d < length lists
+pub level_listed : (g : Graph) (test : ℕ → Bool) (n : ℕ) (lists : List (List ℕ)) (steps : List (Option ℕ))
+    (level xs : List ℕ) → ArePredecessors g lists → StepsUpTo g test n steps level → xs ≡ level → (k d : ℕ)
+    → k < length xs → get_or xs k d < length lists
 level_listed g test n lists steps level xs pre s e k d l =
     let c : Contains level (get_or xs k d) = subst (λ zs. Contains zs (get_or xs k d)) e (Contains-get_or xs k d l) in
     omega (arith, (s.members (get_or xs k d) c).0, pre.size)
 
 -- a predecessor is one of the graph
-pub listed_within : (g : Graph) (lists : List (List ℕ)) (q : ℕ) (row : List ℕ) (n : ℕ) → ArePredecessors g lists → row ≡ predecessors_at lists q → n ≡ process_count g → (k d : ℕ) → k < length row → get_or row k d < n
+pub listed_within : (g : Graph) (lists : List (List ℕ)) (q : ℕ) (row : List ℕ) (n : ℕ) → ArePredecessors g lists
+    → row ≡ predecessors_at lists q → n ≡ process_count g → (k d : ℕ) → k < length row → get_or row k d < n
 listed_within g lists q row n pre e f k d l =
     let p = get_or row k d in
     let c = subst (λ xs. Contains xs p) e (Contains-get_or row k d l) in
     omega (arith, idle_within g p (pre.sound p q c).0, f)
 
 -- some process is at each number up to that of another
-steps_between : (g : Graph) (test : ℕ → Bool) → IsWithinGraph g → (n k p : ℕ) → p < process_count g → steps_to g test p ≡ Some (k + n) → (q : ℕ) × (q < process_count g) × (steps_to g test q ≡ Some n)
+steps_between : (g : Graph) (test : ℕ → Bool) → IsWithinGraph g → (n k p : ℕ) → p < process_count g
+    → steps_to g test p ≡ Some (k + n) → (q : ℕ) × (q < process_count g) × (steps_to g test q ≡ Some n)
 steps_between g test w n zero p i e =
     let same : 0 + n ≡ n = omega arith in
     (p, i, e ∙ ap (λ z. Some z) same)
@@ -265,13 +308,15 @@ steps_between g test w n (suc k) p i e =
     steps_between g test w n k back.0 (depends_within g w p back.0 i back.1) back.2
 
 -- a level that has members is below the number of processes
-pub level_below : (g : Graph) (test : ℕ → Bool) (n : ℕ) (steps : List (Option ℕ)) (level : List ℕ) → 0 < length level → StepsUpTo g test n steps level → n < process_count g
+pub level_below : (g : Graph) (test : ℕ → Bool) (n : ℕ) (steps : List (Option ℕ)) (level : List ℕ) → 0 < length level
+    → StepsUpTo g test n steps level → n < process_count g
 level_below g test n steps level l s =
     let q = get_or level 0 0 in
     steps_within g test q n (s.members q (Contains-get_or level 0 0 l)).1
 
 -- past an empty level there is nobody, so all are found
-pub steps_end : (g : Graph) (test : ℕ → Bool) (n : ℕ) (steps : List (Option ℕ)) (level : List ℕ) → IsWithinGraph g → length level ≡ 0 → StepsUpTo g test n steps level → steps ≡ map (steps_to g test) (indices g)
+pub steps_end : (g : Graph) (test : ℕ → Bool) (n : ℕ) (steps : List (Option ℕ)) (level : List ℕ) → IsWithinGraph g
+    → length level ≡ 0 → StepsUpTo g test n steps level → steps ≡ map (steps_to g test) (indices g)
 steps_end g test n steps level w none s =
     fill_by_all (steps_to g test) steps (process_count g) None s.size
     (λ p i. elim (cases_number (steps_to g test p)) [
@@ -296,13 +341,17 @@ steps_end g test n steps level w none s =
 
 -- the least numbers of dependencies to marked processes are the distances where the awake ones
 -- are marked
-pub steps_to_awake : (g : Graph) (marks : List Bool) → IsWithinGraph g → marks ≡ map (is_awake g) (indices g) → map (steps_to g (is_marked marks)) (indices g) ≡ map (distance_of g) (indices g)
+pub steps_to_awake : (g : Graph) (marks : List Bool) → IsWithinGraph g → marks ≡ map (is_awake g) (indices g)
+    → map (steps_to g (is_marked marks)) (indices g) ≡ map (distance_of g) (indices g)
 unfolding distance_of
 steps_to_awake g marks w e =
     by_index_agree g (steps_to g (is_marked marks)) (steps_to g (is_awake g)) None
     (steps_agree g (is_marked marks) (is_awake g) w (λ r l. by_index g (is_awake g) marks r false e l))
 
 -- a search that gives the ones gives the others
-pub distances_found : (g : Graph) (marks : List Bool) (found : Result (Vec (Option ℕ)) GraphFault) → IsWithinGraph g → marks ≡ map (is_awake g) (indices g) → IfOk found (λ steps. steps.items ≡ map (steps_to g (is_marked marks)) (indices g)) → IfOk found (λ steps. steps.items ≡ map (distance_of g) (indices g))
+pub distances_found : (g : Graph) (marks : List Bool) (found : Result (Vec (Option ℕ)) GraphFault) → IsWithinGraph g
+    → marks ≡ map (is_awake g) (indices g)
+    → IfOk found (λ steps. steps.items ≡ map (steps_to g (is_marked marks)) (indices g))
+    → IfOk found (λ steps. steps.items ≡ map (distance_of g) (indices g))
 distances_found g marks (Ok steps) w e h = h ∙ steps_to_awake g marks w e
 distances_found g marks (Err fault) w e h = tt

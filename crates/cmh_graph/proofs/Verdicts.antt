@@ -31,7 +31,8 @@ pub asleep_is_idle : (g : Graph) (p : ℕ) → is_awake g p ≡ false → is_idl
 asleep_is_idle g p e = asleep_is_idle_by (is_idle g p) (is_woken g p) e
 
 -- a path goes on by a dependency
-leads_more : (g : Graph) (p : ℕ) (rest : List ℕ) (q r : ℕ) → Leads g p rest q → Depends g q r → (longer : List ℕ) × Leads g p longer r
+leads_more : (g : Graph) (p : ℕ) (rest : List ℕ) (q r : ℕ) → Leads g p rest q → Depends g q r
+    → (longer : List ℕ) × Leads g p longer r
 leads_more g p [] q r e d = (r ∷ [], (subst (λ z. Depends g z r) (sym e) d, refl))
 leads_more g p (s ∷ rest) q r l d = let m = leads_more g s rest q r l.1 d in (s ∷ m.0, (l.0, m.1))
 
@@ -41,46 +42,55 @@ reaches_more g p q r ([], e) d = absurd e
 reaches_more g p q r (x ∷ rest, (e, l)) d = let m = leads_more g p rest q r l d in (p ∷ m.0, (refl, m.1))
 
 -- a path ends within the graph
-leads_last : (g : Graph) → IsWithinGraph g → (p : ℕ) (rest : List ℕ) (q : ℕ) → p < process_count g → Leads g p rest q → q < process_count g
+leads_last : (g : Graph) → IsWithinGraph g → (p : ℕ) (rest : List ℕ) (q : ℕ) → p < process_count g → Leads g p rest q
+    → q < process_count g
 leads_last g w p [] q i e = subst (λ z. z < process_count g) e i
 leads_last g w p (r ∷ rest) q i l = leads_last g w r rest q (depends_within g w p r i l.0) l.1
 
 -- what a process of the graph reaches is one of the graph
-pub reached_within : (g : Graph) → IsWithinGraph g → (p q : ℕ) → p < process_count g → Reaches g p q → q < process_count g
+pub reached_within : (g : Graph) → IsWithinGraph g → (p q : ℕ) → p < process_count g → Reaches g p q
+    → q < process_count g
 reached_within g w p q i ([], e) = absurd e
 reached_within g w p q i (x ∷ rest, (e, l)) = leads_last g w p rest q i l
 
 -- ---- deadlocked sets
 
 -- a path from a member of a deadlocked set ends with a member
-member_along : (g : Graph) (member : ℕ → Bool) → IsDeadlockedSet g member → (p : ℕ) (rest : List ℕ) (q : ℕ) → member p ≡ true → Leads g p rest q → member q ≡ true
+member_along : (g : Graph) (member : ℕ → Bool) → IsDeadlockedSet g member → (p : ℕ) (rest : List ℕ) (q : ℕ)
+    → member p ≡ true → Leads g p rest q → member q ≡ true
 member_along g member s p [] q m e = ap member (sym e) ∙ m
 member_along g member s p (r ∷ rest) q m l = member_along g member s r rest q (s.closed p r m l.0.1) l.1
 
 -- what a member of a deadlocked set reaches is a member
-member_reached : (g : Graph) (member : ℕ → Bool) → IsDeadlockedSet g member → (p q : ℕ) → member p ≡ true → Reaches g p q → member q ≡ true
+member_reached : (g : Graph) (member : ℕ → Bool) → IsDeadlockedSet g member → (p q : ℕ) → member p ≡ true
+    → Reaches g p q → member q ≡ true
 member_reached g member s p q m ([], e) = absurd e
 member_reached g member s p q m (x ∷ rest, (e, l)) = member_along g member s p rest q m l
 
 -- what a deadlocked process reaches is a deadlocked set
-reach_is_set : (g : Graph) (p : ℕ) → IsWithinGraph g → p < process_count g → IsDeadlocked g p → IsDeadlockedSet g (reaches g p)
+reach_is_set : (g : Graph) (p : ℕ) → IsWithinGraph g → p < process_count g → IsDeadlocked g p
+    → IsDeadlockedSet g (reaches g p)
 reach_is_set g p w i d = record {
   idle = λ q m. asleep_is_idle g q (d.1 q (reaches_then g p q m));
   asleep = λ q m. d.1 q (reaches_then g p q m);
-  closed = λ q r m c. then_reaches g p r w i (reaches_more g p q r (reaches_then g p q m) (asleep_is_idle g q (d.1 q (reaches_then g p q m)), c));
+  closed =
+      λ q r m c. then_reaches g p r w i
+      (reaches_more g p q r (reaches_then g p q m) (asleep_is_idle g q (d.1 q (reaches_then g p q m)), c));
 }
 
 -- deadlocked by paths is deadlocked by sets
 pub closed_set_law : ClosedSetLaw
 closed_set_law = λ g p w. (
-  λ d. let i = idle_within g p d.0 in (reaches g p, then_reaches g p p w i (p ∷ [], (refl, refl)), reach_is_set g p w i d),
+  λ d. let i =
+      idle_within g p d.0 in (reaches g p, then_reaches g p p w i (p ∷ [], (refl, refl)), reach_is_set g p w i d),
   λ s. (s.2.idle p s.1, λ q r. s.2.asleep q (member_reached g s.0 s.2 p q s.1 r)),
 )
 
 -- ---- the test
 
 -- a member that passes is kept, by cases
-contains_filter_by : (t : ℕ → Bool) (x : ℕ) (xs : List ℕ) (y : ℕ) (b : Bool) → t x ≡ b → t y ≡ true → (x ≡ y) ⊎ Contains (filter t xs) y → Contains (cond b (x ∷ filter t xs) (filter t xs)) y
+contains_filter_by : (t : ℕ → Bool) (x : ℕ) (xs : List ℕ) (y : ℕ) (b : Bool) → t x ≡ b → t y ≡ true
+    → (x ≡ y) ⊎ Contains (filter t xs) y → Contains (cond b (x ∷ filter t xs) (filter t xs)) y
 contains_filter_by t x xs y true e f (inl s) = (zero, omega arith, s)
 contains_filter_by t x xs y true e f (inr c) = contains_cons x (filter t xs) y c
 contains_filter_by t x xs y false e f (inl s) = let z : false ≡ true = sym e ∙ ap t s ∙ f in absurd cc
@@ -94,7 +104,9 @@ contains_filter t (x ∷ xs) y c f =
     (elim (cons_contains x xs y c) [ inl s ↦ inl s | inr d ↦ inr (contains_filter t xs y d f) ])
 
 -- what is kept is a member and passes, by cases
-filter_contains_by : (t : ℕ → Bool) (x : ℕ) (xs : List ℕ) (y : ℕ) (b : Bool) → t x ≡ b → (Contains (filter t xs) y → Contains xs y × (t y ≡ true)) → Contains (cond b (x ∷ filter t xs) (filter t xs)) y → Contains (x ∷ xs) y × (t y ≡ true)
+filter_contains_by : (t : ℕ → Bool) (x : ℕ) (xs : List ℕ) (y : ℕ) (b : Bool) → t x ≡ b
+    → (Contains (filter t xs) y → Contains xs y × (t y ≡ true)) → Contains (cond b (x ∷ filter t xs) (filter t xs)) y
+    → Contains (x ∷ xs) y × (t y ≡ true)
 filter_contains_by t x xs y true e h c =
     elim (cons_contains x (filter t xs) y c) [
       | inl s ↦ ((zero, omega arith, s), ap t (sym s) ∙ e)
@@ -108,7 +120,8 @@ filter_contains t [] y c = absurd (omega (arith, c.1))
 filter_contains t (x ∷ xs) y c = filter_contains_by t x xs y (t x) refl (λ d. filter_contains t xs y d) c
 
 -- what is kept by a stronger test passes, by cases
-all_pass_by : (t u : ℕ → Bool) (x : ℕ) (xs : List ℕ) (b : Bool) → u x ≡ b → (u x ≡ true → t x ≡ true) → list_all t (filter u xs) ≡ true → list_all t (cond b (x ∷ filter u xs) (filter u xs)) ≡ true
+all_pass_by : (t u : ℕ → Bool) (x : ℕ) (xs : List ℕ) (b : Bool) → u x ≡ b → (u x ≡ true → t x ≡ true)
+    → list_all t (filter u xs) ≡ true → list_all t (cond b (x ∷ filter u xs) (filter u xs)) ≡ true
 all_pass_by t u x xs true e h rest = rw (h e, rest) refl
 all_pass_by t u x xs false e h rest = rest
 
@@ -147,14 +160,19 @@ test_then g p w e =
       both.0,
       λ q r. not_true (is_awake g q)
           (list_all_contains (λ q. not (is_awake g q)) (reach_of g p) q both.1
-          (contains_filter (reaches g p) (indices g) q (contains_index (process_count g) q (reached_within g w p q i r)) (then_reaches g p q w i r))),
+          (contains_filter (reaches g p) (indices g) q (contains_index (process_count g) q (reached_within g w p q i r))
+          (then_reaches g p q w i r))),
     )
 
 -- where the process is deadlocked the test holds
 pub then_test : (g : Graph) (p : ℕ) → IsDeadlocked g p → is_deadlocked g p ≡ true
 unfolding is_deadlocked
 then_test g p d =
-    rw (d.0, all_pass (λ q. not (is_awake g q)) (reaches g p) (indices g) (λ q m. not_false (is_awake g q) (d.1 q (reaches_then g p q m)))) refl
+    rw (
+      d.0,
+      all_pass (λ q. not (is_awake g q)) (reaches g p) (indices g)
+          (λ q m. not_false (is_awake g q) (d.1 q (reaches_then g p q m))),
+    ) refl
 
 -- the test of deadlock says what the relation says
 pub verdict_law : VerdictLaw

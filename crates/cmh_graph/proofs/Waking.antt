@@ -16,7 +16,8 @@ wakes g p message = eqb message.1 p && has_dependent g p message.0
 -- The marks say which processes are active, or woken by one of the first n messages.
 pub record AwakeUpTo (g : Graph) (n : ℕ) (marks : List Bool) : Type 0 where
   pub size : length marks ≡ process_count g
-  pub mark : (p : ℕ) → p < process_count g → is_marked marks p ≡ (not (is_idle g p) || list_any (wakes g p) (take n g.in_transit))
+  pub mark : (p : ℕ) → p < process_count g
+      → is_marked marks p ≡ (not (is_idle g p) || list_any (wakes g p) (take n g.in_transit))
 
 -- an "or" with false is the other
 or_none : (a : Bool) → (a || false) ≡ a
@@ -24,20 +25,24 @@ or_none true = refl
 or_none false = refl
 
 -- a part is marked where its process is active
-active_mark : (parts : List Part) (t : List (ℕ × ℕ)) (p : ℕ) → p < length parts → get_or (map (λ part. not (is_idle_state part.state)) parts) p false ≡ not (is_idle (graph_of parts t) p)
+active_mark : (parts : List Part) (t : List (ℕ × ℕ)) (p : ℕ) → p < length parts
+    → get_or (map (λ part. not (is_idle_state part.state)) parts) p false ≡ not (is_idle (graph_of parts t) p)
 active_mark [] t p l = absurd (omega (arith, l))
 active_mark (x ∷ parts) t zero l = refl
 active_mark (x ∷ parts) t (suc p) l = active_mark parts t p (omega (arith, l))
 
 -- at first the active ones are marked
-pub awake_start : (parts : List Part) (t : List (ℕ × ℕ)) (marks : List Bool) → marks ≡ map (λ part. not (is_idle_state part.state)) parts → AwakeUpTo (graph_of parts t) 0 marks
+pub awake_start : (parts : List Part) (t : List (ℕ × ℕ)) (marks : List Bool)
+    → marks ≡ map (λ part. not (is_idle_state part.state)) parts → AwakeUpTo (graph_of parts t) 0 marks
 awake_start parts t marks e = record {
   size = ap length e ∙ length-map parts (λ part. not (is_idle_state part.state)) ∙ sym (as_many parts);
-  mark = λ p l. ap (λ xs. get_or xs p false) e ∙ active_mark parts t p (omega (arith, l, as_many parts)) ∙ sym (or_none (not (is_idle (graph_of parts t) p)));
+  mark = λ p l. ap (λ xs. get_or xs p false) e ∙ active_mark parts t p (omega (arith, l, as_many parts))
+      ∙ sym (or_none (not (is_idle (graph_of parts t) p)));
 }
 
 -- after all messages the marks say which processes are awake
-pub awake_end : (g : Graph) (n : ℕ) (marks : List Bool) → length g.in_transit ≤ n → AwakeUpTo g n marks → marks ≡ map (is_awake g) (indices g)
+pub awake_end : (g : Graph) (n : ℕ) (marks : List Bool) → length g.in_transit ≤ n → AwakeUpTo g n marks
+    → marks ≡ map (is_awake g) (indices g)
 awake_end g n marks l s =
     fill_by_all (is_awake g) marks (process_count g) false s.size
     (λ p i. s.mark p i ∙ ap (λ ms. not (is_idle g p) || list_any (wakes g p) ms) (take_all n g.in_transit l))

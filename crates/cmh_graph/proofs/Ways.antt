@@ -21,12 +21,14 @@ way_at g p n e =
     (some.0, (l.goal, l.passes, subst (λ z. IsPath g p l.goal z) l.is (refl, l.leads)), length_is g p n some.0 l)
 
 -- a process with a way out has a distance
-way_distance : (g : Graph) → IsWithinGraph g → (p : ℕ) (path : List ℕ) → p < process_count g → IsWayOut g p path → is_some (distance_of g p) ≡ true
+way_distance : (g : Graph) → IsWithinGraph g → (p : ℕ) (path : List ℕ) → p < process_count g → IsWayOut g p path
+    → is_some (distance_of g p) ≡ true
 way_distance g w p [] i way = absurd way.2
 way_distance g w p (x ∷ rest) i way = has_distance g w p way.0 i rest way.2.1 way.1
 
 -- a distance is one in words
-distance_is : (g : Graph) → IsWithinGraph g → (p : ℕ) → p < process_count g → (distance : Option ℕ) → distance_of g p ≡ distance → IsDistance g p distance
+distance_is : (g : Graph) → IsWithinGraph g → (p : ℕ) → p < process_count g → (distance : Option ℕ)
+    → distance_of g p ≡ distance → IsDistance g p distance
 distance_is g w p i (Some n) e =
     let way = way_at g p n e in
     ((way.0, way.1, omega (arith, way.2)), λ other out. omega (arith, way_out_length g p n other e out))
@@ -34,7 +36,8 @@ distance_is g w p i None e =
     λ path way. let bad : true ≡ false = sym (way_distance g w p path i way) ∙ ap is_some e in absurd cc
 
 -- a distance in words is the one that is computed, by cases of the latter
-is_distance_by : (g : Graph) → IsWithinGraph g → (p : ℕ) → p < process_count g → (distance found : Option ℕ) → IsDistance g p distance → distance_of g p ≡ found → IsDistance g p found → found ≡ distance
+is_distance_by : (g : Graph) → IsWithinGraph g → (p : ℕ) → p < process_count g → (distance found : Option ℕ)
+    → IsDistance g p distance → distance_of g p ≡ found → IsDistance g p found → found ≡ distance
 is_distance_by g w p i (Some n) (Some m) d e f =
     let same : m ≡ n = omega (arith, d.0.2, f.0.2, d.1 f.0.0 f.0.1, f.1 d.0.0 d.0.1) in
     ap (λ k. Some k) same
@@ -43,7 +46,8 @@ is_distance_by g w p i None (Some m) d e f = absurd (d f.0.0 f.0.1)
 is_distance_by g w p i None None d e f = refl
 
 -- a distance in words is the one that is computed
-is_distance : (g : Graph) → IsWithinGraph g → (p : ℕ) → p < process_count g → (distance : Option ℕ) → IsDistance g p distance → distance_of g p ≡ distance
+is_distance : (g : Graph) → IsWithinGraph g → (p : ℕ) → p < process_count g → (distance : Option ℕ)
+    → IsDistance g p distance → distance_of g p ≡ distance
 is_distance g w p i distance d =
     is_distance_by g w p i distance (distance_of g p) d refl (distance_is g w p i (distance_of g p) refl)
 
@@ -52,7 +56,8 @@ pub distance_law : DistanceLaw
 distance_law = λ g p distance w i. (λ e. distance_is g w p i distance e, λ d. is_distance g w p i distance d)
 
 -- a process with a chosen path has a distance, by cases
-length_by : (g : Graph) (p : ℕ) (path : List ℕ) → chosen_path g p ≡ Some path → (distance : Option ℕ) → distance_of g p ≡ distance → (n : ℕ) × (distance_of g p ≡ Some n) × (length path ≡ suc n)
+length_by : (g : Graph) (p : ℕ) (path : List ℕ) → chosen_path g p ≡ Some path → (distance : Option ℕ)
+    → distance_of g p ≡ distance → (n : ℕ) × (distance_of g p ≡ Some n) × (length path ≡ suc n)
 unfolding chosen_path
 length_by g p path e (Some n) f = (n, f, chosen_length g p n path f (chosen_is g p path e))
 length_by g p path e None f = cc

@@ -81,4 +81,5 @@ pub record SpreadsFrom (g : Graph) (p : ℕ) (marks : List Bool) (pending : List
   pub start : IsTrue (is_marked marks p)
   pub sound : (q : ℕ) → IsTrue (is_marked marks q) → Reaches g p q
   pub pending_marked : (q : ℕ) → Contains pending q → IsTrue (is_marked marks q)
-  pub closed : (q : ℕ) → IsTrue (is_marked marks q) → Contains pending q ⊎ ((r : ℕ) → Depends g q r → IsTrue (is_marked marks r))
+  pub closed : (q : ℕ) → IsTrue (is_marked marks q)
+      → Contains pending q ⊎ ((r : ℕ) → Depends g q r → IsTrue (is_marked marks r))

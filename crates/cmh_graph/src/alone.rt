@@ -1,8 +1,8 @@
 //! Which processes are soon seen to be a core by themselves, so that no search is spent on them.
 
 ghost use Rattle.std.specs.Prelude.{◌≡◌, ◌==◌, ◌<◌, ◌≤◌, ℕ, map, length, slice_index, All, IfOk, IfErr, IsTrue, OnOk};
-ghost use Rattle.cmh_graph.specs.Alone.{AreAlone, ArePassed, IsTrimming};
-ghost use Rattle.cmh_graph.specs.Graph.{dependents_of, indices, process_count};
+ghost use Rattle.cmh_graph.specs.Alone.{AreAlone, IsTrimming};
+ghost use Rattle.cmh_graph.specs.Graph.{indices, process_count};
 ghost use Rattle.cmh_graph.specs.Search.{is_marked, predecessors_at, ArePredecessors};
 
 use crate::{GraphFault, Predecessors, WaitGraph};

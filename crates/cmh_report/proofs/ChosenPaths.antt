@@ -16,13 +16,16 @@ all_below n (x ∷ xs) a zero d l = a.0
 all_below n (x ∷ xs) a (suc k) d l = all_below n xs a.1 k d (omega arith)
 
 -- a way out goes along processes of the graph
-way_within : (g : Graph) (p : ℕ) (path : List ℕ) → IsWithinGraph g → p < process_count g → IsWayOut g p path → All (λ q. q < process_count g) path
+way_within : (g : Graph) (p : ℕ) (path : List ℕ) → IsWithinGraph g → p < process_count g → IsWayOut g p path
+    → All (λ q. q < process_count g) path
 way_within g p [] w i (q, awake, e) = absurd e
 way_within g p (x ∷ rest) w i (q, awake, (e, leads)) =
-    subst (λ y. All (λ q. q < process_count g) (y ∷ rest)) (sym e) (all_below (process_count g) (p ∷ rest) (within g w p rest q i leads))
+    subst (λ y. All (λ q. q < process_count g) (y ∷ rest)) (sym e)
+    (all_below (process_count g) (p ∷ rest) (within g w p rest q i leads))
 
 -- a chosen path goes along processes of the graph
-pub path_within : (g : Graph) (p : ℕ) (path : List ℕ) → IsWithinGraph g → p < process_count g → chosen_path g p ≡ Some path → All (λ q. q < process_count g) path
+pub path_within : (g : Graph) (p : ℕ) (path : List ℕ) → IsWithinGraph g → p < process_count g
+    → chosen_path g p ≡ Some path → All (λ q. q < process_count g) path
 path_within g p path w i e = way_within g p path w i ((chosen_path_law g p path w i).0 e).awake
 
 -- who isn't found deadlocked isn't deadlocked

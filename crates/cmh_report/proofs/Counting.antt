@@ -1,5 +1,5 @@
 -- Sites that are counted by marks.
-use Rattle.std.proofs.Common.{◌≡◌, ℕ, zero, suc, ◌+◌, ◌<◌, Bool, true, false, ◌||◌, inl, inr, List, [], ◌∷◌, ◌++◌, map, length, get_or, take, set, replicate, refl, sym, ◌∙◌, ap, subst, arith, eqb, eqb-true, eq-eqb}
+use Rattle.std.proofs.Common.{◌≡◌, ℕ, zero, suc, ◌+◌, ◌<◌, Bool, true, false, ◌||◌, inl, inr, List, [], ◌∷◌, ◌++◌, map, length, get_or, take, set, replicate, refl, sym, ◌∙◌, ap, arith, eqb, eqb-true, eq-eqb}
 use Rattle.std.specs.Prelude.{nat_eq}
 use Rattle.std.specs.Set.{is_member}
 use Rattle.std.specs.List.{IsDistinct, list_any}
@@ -40,7 +40,8 @@ or_false false = refl
 
 -- a site more is a member too
 member_push : (xs : List ℕ) (x s : ℕ) → is_member nat_eq (xs ++ x ∷ []) s ≡ (is_member nat_eq xs s || nat_eq s x)
-member_push xs x s = list_any-append (nat_eq s) xs (x ∷ []) ∙ ap (λ b. list_any (nat_eq s) xs || b) (or_false (nat_eq s x))
+member_push xs x s =
+    list_any-append (nat_eq s) xs (x ∷ []) ∙ ap (λ b. list_any (nat_eq s) xs || b) (or_false (nat_eq s x))
 
 -- what follows from one part adds nothing
 or_known : (a b : Bool) → (b ≡ true → a ≡ true) → a ≡ (a || b)
@@ -59,18 +60,21 @@ other_false true h = absurd (h refl)
 other_false false h = refl
 
 -- a site more that is marked already
-pub seen_again : (bound : ℕ) (seen : List Bool) (sites all : List ℕ) (x : ℕ) → AreSeen bound seen sites all → is_marked seen x ≡ true → AreSeen bound seen sites (all ++ x ∷ [])
+pub seen_again : (bound : ℕ) (seen : List Bool) (sites all : List ℕ) (x : ℕ) → AreSeen bound seen sites all
+    → is_marked seen x ≡ true → AreSeen bound seen sites (all ++ x ∷ [])
 seen_again bound seen sites all x h m = record {
   size = h.size;
   distinct = h.distinct;
   same = λ s.
-      or_known (is_member nat_eq sites s) (nat_eq s x) (λ e. ap (is_member nat_eq sites) (eqb-true s x e) ∙ sym (h.marked x) ∙ m)
+      or_known (is_member nat_eq sites s) (nat_eq s x)
+      (λ e. ap (is_member nat_eq sites) (eqb-true s x e) ∙ sym (h.marked x) ∙ m)
       ∙ ap (λ b. b || nat_eq s x) (h.same s) ∙ sym (member_push all x s);
   marked = h.marked;
 }
 
 -- a site more that is marked now
-pub seen_more : (bound : ℕ) (seen : List Bool) (sites all : List ℕ) (x : ℕ) → AreSeen bound seen sites all → x < bound → is_marked seen x ≡ false → AreSeen bound (set seen x true) (sites ++ x ∷ []) (all ++ x ∷ [])
+pub seen_more : (bound : ℕ) (seen : List Bool) (sites all : List ℕ) (x : ℕ) → AreSeen bound seen sites all → x < bound
+    → is_marked seen x ≡ false → AreSeen bound (set seen x true) (sites ++ x ∷ []) (all ++ x ∷ [])
 seen_more bound seen sites all x h l m = record {
   size = length-set seen x true ∙ h.size;
   distinct = IsDistinct-push nat_eq_equiv sites x h.distinct (sym (h.marked x) ∙ m);
@@ -83,10 +87,13 @@ seen_more bound seen sites all x h l m = record {
     | inr other ↦
         get_or-set_other seen x s true false other
         ∙ h.marked s
-        ∙ sym (member_push sites x s ∙ ap (λ b. is_member nat_eq sites s || b) (other_false (eqb s x) (λ e. other (eqb-true s x e))) ∙ or_false (is_member nat_eq sites s))
+        ∙ sym (member_push sites x s
+        ∙ ap (λ b. is_member nat_eq sites s || b) (other_false (eqb s x) (λ e. other (eqb-true s x e)))
+        ∙ or_false (is_member nat_eq sites s))
   ];
 }
 
 -- the sites of one process more
-pub sites_more : (site : ℕ → ℕ) (list : List ℕ) (i : ℕ) → i < length list → map site (take (i + 1) list) ≡ map site (take i list) ++ site (get_or list i 0) ∷ []
+pub sites_more : (site : ℕ → ℕ) (list : List ℕ) (i : ℕ) → i < length list
+    → map site (take (i + 1) list) ≡ map site (take i list) ++ site (get_or list i 0) ∷ []
 sites_more site list i l = ap (map site) (take_more list i 0 l) ∙ map-append site (take i list) (get_or list i 0 ∷ [])

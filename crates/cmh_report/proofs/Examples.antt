@@ -30,11 +30,13 @@ pub two_in_a_cycle_report : report_text (record { processes = two_in_a_cycle; in
     ++ codes "deadlocked p group 1" ++ lf
     ++ codes "deadlocked q group 1" ++ lf
     ++ codes "group 1 | p q | - | sites 1" ++ lf
-unfolding report_text totals_line deadlocked_line free_line group_line digits reaches is_deadlocked chosen_path distance_of
+unfolding report_text totals_line deadlocked_line free_line group_line digits reaches is_deadlocked chosen_path
+    distance_of
 two_in_a_cycle_report = refl
 
 pub two_in_a_cycle_length : length (report_text (record { processes = two_in_a_cycle; in_transit = [] })) ≡ 111
-unfolding report_text totals_line deadlocked_line free_line group_line digits reaches is_deadlocked chosen_path distance_of
+unfolding report_text totals_line deadlocked_line free_line group_line digits reaches is_deadlocked chosen_path
+    distance_of
 two_in_a_cycle_length = refl
 
 -- there is no process
@@ -44,7 +46,8 @@ empty =
 
 pub empty_report : report_text (record { processes = empty; in_transit = [] })
     ≡ codes "processes 0 active 0 idle 0 deadlocked 0" ++ lf
-unfolding report_text totals_line deadlocked_line free_line group_line digits reaches is_deadlocked chosen_path distance_of
+unfolding report_text totals_line deadlocked_line free_line group_line digits reaches is_deadlocked chosen_path
+    distance_of
 empty_report = refl
 
 -- p waits, and nobody can let it go on
@@ -56,7 +59,8 @@ pub waits_for_nobody_report : report_text (record { processes = waits_for_nobody
     ≡ codes "processes 1 active 0 idle 1 deadlocked 1" ++ lf
     ++ codes "deadlocked p group 1" ++ lf
     ++ codes "group 1 | p | - | sites 1" ++ lf
-unfolding report_text totals_line deadlocked_line free_line group_line digits reaches is_deadlocked chosen_path distance_of
+unfolding report_text totals_line deadlocked_line free_line group_line digits reaches is_deadlocked chosen_path
+    distance_of
 waits_for_nobody_report = refl
 
 -- p waits for itself alone
@@ -68,7 +72,8 @@ pub waits_for_itself_report : report_text (record { processes = waits_for_itself
     ≡ codes "processes 1 active 0 idle 1 deadlocked 1" ++ lf
     ++ codes "deadlocked p group 1" ++ lf
     ++ codes "group 1 | p | - | sites 1" ++ lf
-unfolding report_text totals_line deadlocked_line free_line group_line digits reaches is_deadlocked chosen_path distance_of
+unfolding report_text totals_line deadlocked_line free_line group_line digits reaches is_deadlocked chosen_path
+    distance_of
 waits_for_itself_report = refl
 
 -- p can be let go by r, which is active; q waits for itself
@@ -83,7 +88,8 @@ pub one_free_one_stuck_report : report_text (record { processes = one_free_one_s
     ++ codes "free p path p r" ++ lf
     ++ codes "deadlocked q group 1" ++ lf
     ++ codes "group 1 | q | - | sites 1" ++ lf
-unfolding report_text totals_line deadlocked_line free_line group_line digits reaches is_deadlocked chosen_path distance_of
+unfolding report_text totals_line deadlocked_line free_line group_line digits reaches is_deadlocked chosen_path
+    distance_of
 one_free_one_stuck_report = refl
 
 -- p and q wait for each other, and r, at another site, waits for p
@@ -100,7 +106,8 @@ pub cycle_and_follower_report : report_text (record { processes = cycle_and_foll
     ++ codes "deadlocked r group 2" ++ lf
     ++ codes "group 1 | p q | - | sites 1" ++ lf
     ++ codes "group 2 | r | p q | sites 2" ++ lf
-unfolding report_text totals_line deadlocked_line free_line group_line digits reaches is_deadlocked chosen_path distance_of
+unfolding report_text totals_line deadlocked_line free_line group_line digits reaches is_deadlocked chosen_path
+    distance_of
 cycle_and_follower_report = refl
 
 -- p waits for b and a, and both of these for z, which is active
@@ -116,7 +123,8 @@ pub two_shortest_paths_report : report_text (record { processes = two_shortest_p
     ++ codes "free p path p a z" ++ lf
     ++ codes "free a path a z" ++ lf
     ++ codes "free b path b z" ++ lf
-unfolding report_text totals_line deadlocked_line free_line group_line digits reaches is_deadlocked chosen_path distance_of
+unfolding report_text totals_line deadlocked_line free_line group_line digits reaches is_deadlocked chosen_path
+    distance_of
 two_shortest_paths_report = refl
 
 -- the short way from p goes before the lesser one by a
@@ -130,7 +138,8 @@ pub shortest_before_least_report : report_text (record { processes = shortest_be
     ≡ codes "processes 3 active 1 idle 2 deadlocked 0" ++ lf
     ++ codes "free p path p z" ++ lf
     ++ codes "free a path a z" ++ lf
-unfolding report_text totals_line deadlocked_line free_line group_line digits reaches is_deadlocked chosen_path distance_of
+unfolding report_text totals_line deadlocked_line free_line group_line digits reaches is_deadlocked chosen_path
+    distance_of
 shortest_before_least_report = refl
 
 -- q and r wait for each other, and p waits for both
@@ -147,7 +156,8 @@ pub knot_of_three_report : report_text (record { processes = knot_of_three; in_t
     ++ codes "deadlocked r group 2" ++ lf
     ++ codes "group 1 | p | q r | sites 1" ++ lf
     ++ codes "group 2 | q r | - | sites 1" ++ lf
-unfolding report_text totals_line deadlocked_line free_line group_line digits reaches is_deadlocked chosen_path distance_of
+unfolding report_text totals_line deadlocked_line free_line group_line digits reaches is_deadlocked chosen_path
+    distance_of
 knot_of_three_report = refl
 
 -- a message from q to p is in transit
@@ -155,14 +165,16 @@ pub woken_in_a_cycle_report : report_text (record { processes = two_in_a_cycle; 
     ≡ codes "processes 2 active 0 idle 2 deadlocked 0" ++ lf
     ++ codes "free p path p" ++ lf
     ++ codes "free q path q p" ++ lf
-unfolding report_text totals_line deadlocked_line free_line group_line digits reaches is_deadlocked chosen_path distance_of
+unfolding report_text totals_line deadlocked_line free_line group_line digits reaches is_deadlocked chosen_path
+    distance_of
 woken_in_a_cycle_report = refl
 
 -- a message from p to itself is in transit
 pub woken_by_itself_report : report_text (record { processes = waits_for_itself; in_transit = (0, 0) ∷ [] })
     ≡ codes "processes 1 active 0 idle 1 deadlocked 0" ++ lf
     ++ codes "free p path p" ++ lf
-unfolding report_text totals_line deadlocked_line free_line group_line digits reaches is_deadlocked chosen_path distance_of
+unfolding report_text totals_line deadlocked_line free_line group_line digits reaches is_deadlocked chosen_path
+    distance_of
 woken_by_itself_report = refl
 
 -- a message from q to r is in transit, for which r does not wait
@@ -173,7 +185,8 @@ pub told_by_no_dependent_report : report_text (record { processes = cycle_and_fo
     ++ codes "deadlocked r group 2" ++ lf
     ++ codes "group 1 | p q | - | sites 1" ++ lf
     ++ codes "group 2 | r | p q | sites 2" ++ lf
-unfolding report_text totals_line deadlocked_line free_line group_line digits reaches is_deadlocked chosen_path distance_of
+unfolding report_text totals_line deadlocked_line free_line group_line digits reaches is_deadlocked chosen_path
+    distance_of
 told_by_no_dependent_report = refl
 
 -- a message from p to r is in transit
@@ -183,5 +196,6 @@ pub follower_woken_report : report_text (record { processes = cycle_and_follower
     ++ codes "deadlocked q group 1" ++ lf
     ++ codes "free r path r" ++ lf
     ++ codes "group 1 | p q | - | sites 1" ++ lf
-unfolding report_text totals_line deadlocked_line free_line group_line digits reaches is_deadlocked chosen_path distance_of
+unfolding report_text totals_line deadlocked_line free_line group_line digits reaches is_deadlocked chosen_path
+    distance_of
 follower_woken_report = refl

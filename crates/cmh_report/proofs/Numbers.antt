@@ -29,23 +29,28 @@ leaders_below g n = filter (leads_itself g) (range_with_len 0 n)
 -- ---- how many leaders there are up to a place
 
 -- the leaders up to p, among one process more
-kept_more : (t : ℕ → Bool) (p n : ℕ) (b : Bool) → t n ≡ b → count_by (λ q. leb q p) (filter t (range_with_len 0 (n + 1))) ≡ count_by (λ q. leb q p) (filter t (range_with_len 0 n)) + cond b (cond (leb n p) 1 0) 0
+kept_more : (t : ℕ → Bool) (p n : ℕ) (b : Bool) → t n ≡ b
+    → count_by (λ q. leb q p) (filter t (range_with_len 0 (n + 1)))
+    ≡ count_by (λ q. leb q p) (filter t (range_with_len 0 n)) + cond b (cond (leb n p) 1 0) 0
 kept_more t p n true e =
     ap (count_by (λ q. leb q p)) (filter_indices_kept t n e)
     ∙ omega (arith, sum_by-append (λ q. cond {A = ℕ} (leb q p) 1 0) (filter t (range_with_len 0 n)) (n ∷ []))
 kept_more t p n false e = ap (count_by (λ q. leb q p)) (filter_indices_passed t n e) ∙ omega arith
 
 -- the length of a filter of one place more
-length_more : (t : ℕ → Bool) (n : ℕ) (b : Bool) → t n ≡ b → length (filter t (range_with_len 0 (n + 1))) ≡ length (filter t (range_with_len 0 n)) + cond b 1 0
+length_more : (t : ℕ → Bool) (n : ℕ) (b : Bool) → t n ≡ b
+    → length (filter t (range_with_len 0 (n + 1))) ≡ length (filter t (range_with_len 0 n)) + cond b 1 0
 length_more t n true e = ap length (filter_indices_kept t n e) ∙ length-append (filter t (range_with_len 0 n)) (n ∷ [])
 length_more t n false e = ap length (filter_indices_passed t n e) ∙ omega arith
 
 -- all that are kept below p + 1 are up to p
-low : (t : ℕ → Bool) (p n : ℕ) → n ≤ p + 1 → count_by (λ q. leb q p) (filter t (range_with_len 0 n)) ≡ length (filter t (range_with_len 0 n))
+low : (t : ℕ → Bool) (p n : ℕ) → n ≤ p + 1
+    → count_by (λ q. leb q p) (filter t (range_with_len 0 n)) ≡ length (filter t (range_with_len 0 n))
 low t p zero l = refl
 low t p (suc n) l =
     let here : leb n p ≡ true = le-leb n p (omega arith) in
-    subst (λ m. count_by (λ q. leb q p) (filter t (range_with_len 0 m)) ≡ length (filter t (range_with_len 0 m))) (add-one n)
+    subst (λ m. count_by (λ q. leb q p) (filter t (range_with_len 0 m)) ≡ length (filter t (range_with_len 0 m)))
+    (add-one n)
     (kept_more t p n (t n) refl
     ∙ ap (λ b. count_by (λ q. leb q p) (filter t (range_with_len 0 n)) + cond (t n) (cond b 1 0) 0) here
     ∙ ap (λ k. k + cond (t n) 1 0) (low t p n (omega arith))
@@ -57,15 +62,19 @@ above n p l true e = let z : n ≤ p = leb-true n p e in absurd (omega arith)
 above n p l false e = refl
 
 -- and none that is kept from p + 1 on
-high : (t : ℕ → Bool) (p m : ℕ) → count_by (λ q. leb q p) (filter t (range_with_len 0 ((p + 1) + m))) ≡ length (filter t (range_with_len 0 (p + 1)))
+high : (t : ℕ → Bool) (p m : ℕ)
+    → count_by (λ q. leb q p) (filter t (range_with_len 0 ((p + 1) + m))) ≡ length (filter t (range_with_len 0 (p + 1)))
 high t p zero =
     let same : p + 1 ≡ (p + 1) + 0 = omega arith in
-    subst (λ m. count_by (λ q. leb q p) (filter t (range_with_len 0 m)) ≡ length (filter t (range_with_len 0 (p + 1)))) same (low t p (p + 1) (omega arith))
+    subst (λ m. count_by (λ q. leb q p) (filter t (range_with_len 0 m)) ≡ length (filter t (range_with_len 0 (p + 1))))
+    same (low t p (p + 1) (omega arith))
 high t p (suc m) =
     let same : ((p + 1) + m) + 1 ≡ (p + 1) + suc m = omega arith in
-    subst (λ k. count_by (λ q. leb q p) (filter t (range_with_len 0 k)) ≡ length (filter t (range_with_len 0 (p + 1)))) same
+    subst (λ k. count_by (λ q. leb q p) (filter t (range_with_len 0 k)) ≡ length (filter t (range_with_len 0 (p + 1))))
+    same
     (kept_more t p ((p + 1) + m) (t ((p + 1) + m)) refl
-    ∙ nothing_more _ (t ((p + 1) + m)) (leb ((p + 1) + m) p) (above ((p + 1) + m) p (omega arith) (leb ((p + 1) + m) p) refl)
+    ∙ nothing_more _ (t ((p + 1) + m)) (leb ((p + 1) + m) p)
+    (above ((p + 1) + m) p (omega arith) (leb ((p + 1) + m) p) refl)
     ∙ high t p m)
   where
     nothing_more : (k : ℕ) (b d : Bool) → d ≡ false → k + cond b (cond d 1 0) 0 ≡ k
@@ -77,7 +86,8 @@ pub up_to_is : (g : Graph) (p : ℕ) → p < process_count g → leaders_up_to g
 unfolding leaders_up_to
 up_to_is g p l =
     let all : (p + 1) + (process_count g - (p + 1)) ≡ process_count g = omega arith in
-    subst (λ n. count_by (λ q. leb q p) (filter (leads_itself g) (range_with_len 0 n)) ≡ length (leaders_below g (p + 1))) all
+    subst (λ n. count_by (λ q. leb q p) (filter (leads_itself g) (range_with_len 0 n))
+    ≡ length (leaders_below g (p + 1))) all
     (high (leads_itself g) p (process_count g - (p + 1)))
 
 -- the group's number is that of its leader
@@ -88,28 +98,38 @@ number_is g p = refl
 -- the first n processes have at most n leaders
 pub leaders_few : (g : Graph) (n : ℕ) → length (leaders_below g n) ≤ n
 leaders_few g n =
-    omega (arith, length-filter (leads_itself g) (range_with_len 0 n), count_by-le-length (leads_itself g) (range_with_len 0 n), length-range_with_len 0 n)
+    omega (
+      arith,
+      length-filter (leads_itself g) (range_with_len 0 n),
+      count_by-le-length (leads_itself g) (range_with_len 0 n),
+      length-range_with_len 0 n,
+    )
 
 -- ---- the table of leaders
 
 -- the test of the table, by cases of the process
-led_by : (dead : Bool) (leader l : ℕ) → option_eq eqb (cond {A = Option ℕ} dead (Some leader) None) (Some l) ≡ (dead && eqb leader l)
+led_by : (dead : Bool) (leader l : ℕ)
+    → option_eq eqb (cond {A = Option ℕ} dead (Some leader) None) (Some l) ≡ (dead && eqb leader l)
 led_by true leader l = refl
 led_by false leader l = refl
 
 -- the table says who is led by whom
-pub led_test : (g : Graph) (list : List (Option ℕ)) (l p : ℕ) → list ≡ map (group_leader g) (indices g) → p < process_count g → is_led_by list l p ≡ (is_deadlocked g p && eqb (leader_of g p) l)
+pub led_test : (g : Graph) (list : List (Option ℕ)) (l p : ℕ) → list ≡ map (group_leader g) (indices g)
+    → p < process_count g → is_led_by list l p ≡ (is_deadlocked g p && eqb (leader_of g p) l)
 unfolding group_leader
-led_test g list l p are i = ap (λ o. option_eq eqb o (Some l)) (by_index g (group_leader g) list p None are i) ∙ led_by (is_deadlocked g p) (leader_of g p) l
+led_test g list l p are i = ap (λ o. option_eq eqb o (Some l)) (by_index g (group_leader g) list p None are i)
+    ∙ led_by (is_deadlocked g p) (leader_of g p) l
 
 -- a leader's number is that of its group
-pub own_number : (g : Graph) (list : List (Option ℕ)) (l : ℕ) → list ≡ map (group_leader g) (indices g) → l < process_count g → is_led_by list l l ≡ true → leaders_up_to g l ≡ group_number g l
+pub own_number : (g : Graph) (list : List (Option ℕ)) (l : ℕ) → list ≡ map (group_leader g) (indices g)
+    → l < process_count g → is_led_by list l l ≡ true → leaders_up_to g l ≡ group_number g l
 own_number g list l are i leads =
     let itself = and_true (is_deadlocked g l) (eqb (leader_of g l) l) (sym (led_test g list l l are i) ∙ leads) in
     ap (leaders_up_to g) (sym (eqb-true (leader_of g l) l itself.1)) ∙ number_is g l
 
 -- the same for a test and a leader
-leader_known_by : (dead : Bool) (leader l : ℕ) → cond {A = Option ℕ} dead (Some leader) None ≡ Some l → (dead ≡ true) × (leader ≡ l)
+leader_known_by : (dead : Bool) (leader l : ℕ) → cond {A = Option ℕ} dead (Some leader) None ≡ Some l
+    → (dead ≡ true) × (leader ≡ l)
 leader_known_by true leader l e = (refl, cc)
 leader_known_by false leader l e = cc
 
@@ -129,13 +149,17 @@ unfolding group_leader
 no_leader g p e = no_leader_by (is_deadlocked g p) (leader_of g p) e
 
 -- one leader more
-pub leaders_one_more : (g : Graph) (list : List (Option ℕ)) (p count : ℕ) → list ≡ map (group_leader g) (indices g) → p < process_count g → count ≡ length (leaders_below g p) → is_led_by list p p ≡ true → count + 1 ≡ length (leaders_below g (p + 1))
+pub leaders_one_more : (g : Graph) (list : List (Option ℕ)) (p count : ℕ) → list ≡ map (group_leader g) (indices g)
+    → p < process_count g → count ≡ length (leaders_below g p) → is_led_by list p p ≡ true
+    → count + 1 ≡ length (leaders_below g (p + 1))
 leaders_one_more g list p count are i is so =
     let itself : leads_itself g p ≡ true = sym (led_test g list p p are i) ∙ so in
     omega (arith, length_more (leads_itself g) p true itself)
 
 -- and none
-pub leaders_no_more : (g : Graph) (list : List (Option ℕ)) (p count : ℕ) → list ≡ map (group_leader g) (indices g) → p < process_count g → count ≡ length (leaders_below g p) → is_led_by list p p ≡ false → count ≡ length (leaders_below g (p + 1))
+pub leaders_no_more : (g : Graph) (list : List (Option ℕ)) (p count : ℕ) → list ≡ map (group_leader g) (indices g)
+    → p < process_count g → count ≡ length (leaders_below g p) → is_led_by list p p ≡ false
+    → count ≡ length (leaders_below g (p + 1))
 leaders_no_more g list p count are i is not_so =
     let itself : leads_itself g p ≡ false = sym (led_test g list p p are i) ∙ not_so in
     omega (arith, length_more (leads_itself g) p false itself)
@@ -143,7 +167,9 @@ leaders_no_more g list p count are i is not_so =
 -- ---- core and rest by the table of leaders
 
 -- of those that a leader reaches, it leads those that reach it
-pub leads_back : (g : Graph) (list : List (Option ℕ)) (l q : ℕ) → IsWithinGraph g → l < process_count g → list ≡ map (group_leader g) (indices g) → is_led_by list l l ≡ true → Contains (reach_of g l) q → is_led_by list l q ≡ reaches g q l
+pub leads_back : (g : Graph) (list : List (Option ℕ)) (l q : ℕ) → IsWithinGraph g → l < process_count g
+    → list ≡ map (group_leader g) (indices g) → is_led_by list l l ≡ true → Contains (reach_of g l) q
+    → is_led_by list l q ≡ reaches g q l
 leads_back g list l q w i are leads c =
     let itself = and_true (is_deadlocked g l) (eqb (leader_of g l) l) (sym (led_test g list l l are i) ∙ leads) in
     let own = eqb-true (leader_of g l) l itself.1 in
@@ -154,17 +180,25 @@ leads_back g list l q w i are leads c =
     led_test g list l q are j
     ∙ ap (λ b. b && eqb (leader_of g q) l) dead
     ∙ same_test (eqb (leader_of g q) l) (reaches g q l)
-    (λ e. then_reaches g q l w j ((core_law g q l w j).0 (subst (Contains (core_of g q)) (eqb-true (leader_of g q) l e) (leader_in_core g q w j))).0)
+    (λ e. then_reaches g q l w j
+    ((core_law g q l w j).0
+    (subst (Contains (core_of g q)) (eqb-true (leader_of g q) l e) (leader_in_core g q w j))).0)
     (λ e. eq-eqb (leader_of g q) l (same_leader g q l w j ((core_law g q l w j).1 (reaches_then g q l e, there)) ∙ own))
 
 -- so the led ones are the core
-pub led_core : (g : Graph) (list : List (Option ℕ)) (l : ℕ) (reach : List ℕ) → IsWithinGraph g → l < process_count g → list ≡ map (group_leader g) (indices g) → is_led_by list l l ≡ true → reach ≡ reach_of g l → filter (is_led_by list l) reach ≡ core_of g l
+pub led_core : (g : Graph) (list : List (Option ℕ)) (l : ℕ) (reach : List ℕ) → IsWithinGraph g → l < process_count g
+    → list ≡ map (group_leader g) (indices g) → is_led_by list l l ≡ true → reach ≡ reach_of g l
+    → filter (is_led_by list l) reach ≡ core_of g l
 led_core g list l reach w i are leads is =
     ap (filter (is_led_by list l)) is
-    ∙ filter_agree_on (is_led_by list l) (λ q. reaches g q l) (reach_of g l) (λ q c. leads_back g list l q w i are leads c)
+    ∙ filter_agree_on (is_led_by list l) (λ q. reaches g q l) (reach_of g l)
+    (λ q c. leads_back g list l q w i are leads c)
 
 -- and the others the rest
-pub led_rest : (g : Graph) (list : List (Option ℕ)) (l : ℕ) (reach : List ℕ) → IsWithinGraph g → l < process_count g → list ≡ map (group_leader g) (indices g) → is_led_by list l l ≡ true → reach ≡ reach_of g l → filter (λ q. not (is_led_by list l q)) reach ≡ rest_of g l
+pub led_rest : (g : Graph) (list : List (Option ℕ)) (l : ℕ) (reach : List ℕ) → IsWithinGraph g → l < process_count g
+    → list ≡ map (group_leader g) (indices g) → is_led_by list l l ≡ true → reach ≡ reach_of g l
+    → filter (λ q. not (is_led_by list l q)) reach ≡ rest_of g l
 led_rest g list l reach w i are leads is =
     ap (filter (λ q. not (is_led_by list l q))) is
-    ∙ filter_agree_on (λ q. not (is_led_by list l q)) (λ q. not (reaches g q l)) (reach_of g l) (λ q c. ap not (leads_back g list l q w i are leads c))
+    ∙ filter_agree_on (λ q. not (is_led_by list l q)) (λ q. not (reaches g q l)) (reach_of g l)
+    (λ q c. ap not (leads_back g list l q w i are leads c))

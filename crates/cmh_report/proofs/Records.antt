@@ -27,22 +27,26 @@ use Rattle.cmh_report.specs.Report.{deadlocked_count}
 use Rattle.cmh_report.proofs.Counts.{active_and_idle}
 
 -- there are as many records as idle processes
-pub records_count : {L : Type 0} (g : Graph) (records : List (Record Run L)) → AreRecordsOf g records → length records ≡ length (idle_list g)
+pub records_count : {L : Type 0} (g : Graph) (records : List (Record Run L)) → AreRecordsOf g records
+    → length records ≡ length (idle_list g)
 records_count g records are = sym (length-map records initiator_of) ∙ ap length are.order
 
 -- and no more than processes
-pub records_few : {L : Type 0} (g : Graph) (records : List (Record Run L)) → AreRecordsOf g records → length records ≤ process_count g
+pub records_few : {L : Type 0} (g : Graph) (records : List (Record Run L)) → AreRecordsOf g records
+    → length records ≤ process_count g
 records_few g records are = omega (arith, records_count g records are, active_and_idle g)
 
 -- a record is of the idle process at its place
-pub initiator_at : {L : Type 0} (g : Graph) (records : List (Record Run L)) (i : ℕ) (r : Record Run L) → AreRecordsOf g records → i < length records → get_or records i r ≡ r → get_or (idle_list g) i 0 ≡ r.initiator
+pub initiator_at : {L : Type 0} (g : Graph) (records : List (Record Run L)) (i : ℕ) (r : Record Run L)
+    → AreRecordsOf g records → i < length records → get_or records i r ≡ r → get_or (idle_list g) i 0 ≡ r.initiator
 initiator_at g records i r are l is =
     ap (λ xs. get_or xs i 0) (sym are.order)
     ∙ get_or-map initiator_of records i r 0 l
     ∙ ap initiator_of is
 
 -- and tells of it
-pub tells_at : {L : Type 0} (g : Graph) (records : List (Record Run L)) (i : ℕ) (r : Record Run L) → AreRecordsOf g records → i < length records → get_or records i r ≡ r → TellsOf g r
+pub tells_at : {L : Type 0} (g : Graph) (records : List (Record Run L)) (i : ℕ) (r : Record Run L)
+    → AreRecordsOf g records → i < length records → get_or records i r ≡ r → TellsOf g r
 tells_at g records i r are l is = subst (TellsOf g) is (are.tell i r l)
 
 -- ---- verdicts
@@ -53,16 +57,19 @@ freed g p true w free e = absurd (free (test_then g p w e))
 freed g p false w free e = refl
 
 -- a true verdict is what the test says
-pub verdict_test : (g : Graph) (p : ℕ) (v : Verdict) → IsWithinGraph g → IsVerdict g p v → is_deadlocked g p ≡ says_deadlocked v
+pub verdict_test : (g : Graph) (p : ℕ) (v : Verdict) → IsWithinGraph g → IsVerdict g p v
+    → is_deadlocked g p ≡ says_deadlocked v
 verdict_test g p Deadlocked w is = then_test g p is
 verdict_test g p Free w is = freed g p (is_deadlocked g p) w is refl
 
 -- a count of one element more
-count_cons : {X : Type 0} (p : X → Bool) (x : X) (xs : List X) → count_by p (x ∷ xs) ≡ cond {A = ℕ} (p x) 1 0 + count_by p xs
+count_cons : {X : Type 0} (p : X → Bool) (x : X) (xs : List X)
+    → count_by p (x ∷ xs) ≡ cond {A = ℕ} (p x) 1 0 + count_by p xs
 count_cons p x xs = sum_by-cons (λ y. cond {A = ℕ} (p y) 1 0) x xs
 
 -- so many records tell of a deadlocked process as are of one
-counted : {L : Type 0} (g : Graph) (records : List (Record Run L)) → IsWithinGraph g → All (TellsOf g) records → count_by tells_deadlocked records ≡ count_by (is_deadlocked g) (map initiator_of records)
+counted : {L : Type 0} (g : Graph) (records : List (Record Run L)) → IsWithinGraph g → All (TellsOf g) records
+    → count_by tells_deadlocked records ≡ count_by (is_deadlocked g) (map initiator_of records)
 counted g [] w tell = refl
 counted g (r ∷ rs) w tell =
     let here = tell zero r (omega arith) in
@@ -78,7 +85,10 @@ unfolding is_deadlocked
 active_free g p e = rw e refl
 
 -- one process before the others
-count_more : (g : Graph) (p : ℕ) (ps : List ℕ) (b : Bool) → is_idle g p ≡ b → count_by (is_deadlocked g) (filter (is_idle g) ps) ≡ count_by (is_deadlocked g) ps → count_by (is_deadlocked g) (cond b (p ∷ filter (is_idle g) ps) (filter (is_idle g) ps)) ≡ count_by (is_deadlocked g) (p ∷ ps)
+count_more : (g : Graph) (p : ℕ) (ps : List ℕ) (b : Bool) → is_idle g p ≡ b
+    → count_by (is_deadlocked g) (filter (is_idle g) ps) ≡ count_by (is_deadlocked g) ps
+    → count_by (is_deadlocked g) (cond b (p ∷ filter (is_idle g) ps) (filter (is_idle g) ps))
+    ≡ count_by (is_deadlocked g) (p ∷ ps)
 count_more g p ps true e h =
     count_cons (is_deadlocked g) p (filter (is_idle g) ps)
     ∙ ap (λ n. cond {A = ℕ} (is_deadlocked g p) 1 0 + n) h
@@ -88,12 +98,14 @@ count_more g p ps false e h =
     omega (arith, h, none, count_cons (is_deadlocked g) p ps)
 
 -- all deadlocked ones are among the idle ones
-count_idle : (g : Graph) (ps : List ℕ) → count_by (is_deadlocked g) (filter (is_idle g) ps) ≡ count_by (is_deadlocked g) ps
+count_idle : (g : Graph) (ps : List ℕ)
+    → count_by (is_deadlocked g) (filter (is_idle g) ps) ≡ count_by (is_deadlocked g) ps
 count_idle g [] = refl
 count_idle g (p ∷ ps) = count_more g p ps (is_idle g p) refl (count_idle g ps)
 
 -- so many processes are deadlocked as records tell
-pub deadlocked_told : {L : Type 0} (g : Graph) (records : List (Record Run L)) → IsWithinGraph g → AreRecordsOf g records → count_by tells_deadlocked records ≡ deadlocked_count g
+pub deadlocked_told : {L : Type 0} (g : Graph) (records : List (Record Run L)) → IsWithinGraph g
+    → AreRecordsOf g records → count_by tells_deadlocked records ≡ deadlocked_count g
 deadlocked_told g records w are =
     counted g records w are.tell
     ∙ ap (count_by (is_deadlocked g)) are.order
@@ -102,7 +114,8 @@ deadlocked_told g records w are =
 -- ---- leaders
 
 -- a true shape names the leader, if there is one
-shape_leader : {L : Type 0} (listed : L → List ℕ) (g : Graph) (p : ℕ) (v : Verdict) (s : Shape L) → IsWithinGraph g → IsVerdict g p v → IsShape listed g p v s → leader_in s ≡ group_leader g p
+shape_leader : {L : Type 0} (listed : L → List ℕ) (g : Graph) (p : ℕ) (v : Verdict) (s : Shape L) → IsWithinGraph g
+    → IsVerdict g p v → IsShape listed g p v s → leader_in s ≡ group_leader g p
 unfolding group_leader
 shape_leader listed g p Deadlocked (Leader leader) w is e = rw (then_test g p is) (ap Some e)
 shape_leader listed g p Deadlocked (Path path) w is e = absurd e
@@ -128,7 +141,8 @@ pub record AreLeadersOf (g : Graph) (done : List ℕ) (list : List (Option ℕ))
   pub other : (p : ℕ) → (Contains done p → ⊥) → leader_at list p ≡ None
 
 -- at first it has nothing
-pub leaders_none : (g : Graph) (n : ℕ) (list : List (Option ℕ)) → n ≡ process_count g → list ≡ replicate n None → length list ≡ n → AreLeadersOf g [] list
+pub leaders_none : (g : Graph) (n : ℕ) (list : List (Option ℕ)) → n ≡ process_count g → list ≡ replicate n None
+    → length list ≡ n → AreLeadersOf g [] list
 leaders_none g n list size none long = record {
   size = long ∙ size;
   named = λ p c. absurd (omega (arith, c.1));
@@ -136,7 +150,9 @@ leaders_none g n list size none long = record {
 }
 
 -- one process more
-pub leaders_more : (g : Graph) (ps : List ℕ) (i p : ℕ) (list : List (Option ℕ)) (leader : Option ℕ) → i < length ps → get_or ps i 0 ≡ p → p < length list → leader ≡ group_leader g p → AreLeadersOf g (take i ps) list → AreLeadersOf g (take (i + 1) ps) (set list p leader)
+pub leaders_more : (g : Graph) (ps : List ℕ) (i p : ℕ) (list : List (Option ℕ)) (leader : Option ℕ) → i < length ps
+    → get_or ps i 0 ≡ p → p < length list → leader ≡ group_leader g p → AreLeadersOf g (take i ps) list
+    → AreLeadersOf g (take (i + 1) ps) (set list p leader)
 leaders_more g ps i p list leader l at k is h = record {
   size = length-set list p leader ∙ h.size;
   named = λ q c. elim (cases_eq q p) [
@@ -166,15 +182,19 @@ not_both true e f = cc
 not_both false e f = cc
 
 -- the table has the leader of each process, if it is deadlocked
-leader_stands : (g : Graph) (p : ℕ) (b : Bool) (list : List (Option ℕ)) → p < process_count g → is_idle g p ≡ b → AreLeadersOf g (idle_list g) list → leader_at list p ≡ group_leader g p
+leader_stands : (g : Graph) (p : ℕ) (b : Bool) (list : List (Option ℕ)) → p < process_count g → is_idle g p ≡ b
+    → AreLeadersOf g (idle_list g) list → leader_at list p ≡ group_leader g p
 unfolding group_leader
-leader_stands g p true list l e h = h.named p (contains_filter (is_idle g) (indices g) p (contains_index (process_count g) p l) e)
+leader_stands g p true list l e h =
+    h.named p (contains_filter (is_idle g) (indices g) p (contains_index (process_count g) p l) e)
 leader_stands g p false list l e h =
     h.other p (λ c. not_both (is_idle g p) (filter_contains (is_idle g) (indices g) p c).1 e)
     ∙ rw (active_free g p e) refl
 
 -- all idle processes done, it is the table of all leaders
-pub leaders_all : (g : Graph) (i : ℕ) (list : List (Option ℕ)) → length (idle_list g) ≤ i → AreLeadersOf g (take i (idle_list g)) list → list ≡ map (group_leader g) (indices g)
+pub leaders_all : (g : Graph) (i : ℕ) (list : List (Option ℕ)) → length (idle_list g) ≤ i
+    → AreLeadersOf g (take i (idle_list g)) list → list ≡ map (group_leader g) (indices g)
 leaders_all g i list l h =
     fill_by_all (group_leader g) list (process_count g) None h.size
-    (λ p k. leader_stands g p (is_idle g p) list k refl (subst (λ ps. AreLeadersOf g ps list) (take_all i (idle_list g) l) h))
+    (λ p k. leader_stands g p (is_idle g p) list k refl
+    (subst (λ ps. AreLeadersOf g ps list) (take_all i (idle_list g) l) h))

@@ -32,18 +32,22 @@ use Rattle.cmh_report.specs.Report.{line}
 
 -- what leads on from a sound state has messages between processes of the graph alone
 leads_between : (rule : Rule) (g : Graph) (i : ℕ) → IsWithinGraph g → i < process_count g → is_awake g i ≡ false
-    → (log : List Delivery) (s end : Going) → Stands g i s.config → Leads rule g i s log end → All (λ d. IsBetween g d.message) log
+    → (log : List Delivery) (s end : Going) → Stands g i s.config → Leads rule g i s log end
+    → All (λ d. IsBetween g d.message) log
 leads_between rule g i ok within rests [] s end h l = All-nil (λ d. IsBetween g d.message)
 leads_between rule g i ok within rests (d ∷ log) s end h l =
     let now : Stands g i (ready g i s).config = ready_stands g i s ok within rests h s.restarts in
     let live = status_none g i (ready g i s).config now l.1.going in
-    let fine = each_at (Fine g i (ready g i s).config.number (proc_at (ready g i s).config.procs)) (ready g i s).config.bag l.0 d.message live.0.fine l.1.there in
+    let fine =
+    each_at (Fine g i (ready g i s).config.number (proc_at (ready g i s).config.procs))
+    (ready g i s).config.bag l.0 d.message live.0.fine l.1.there in
     All-cons (λ (x : Delivery). IsBetween g x.message) d log (fine.from_in, fine.to_in)
     (leads_between rule g i ok within rests log (after g i (ready g i s) l.0 d) end
     (stepped g i (ready g i s).config ok now.size l.1.going live.0 live.1 l.0 d.message l.1.there d.hint l.1.hint) l.3)
 
 -- where nothing was started, no message comes
-nothing_between : (rule : Rule) (g : Graph) (i : ℕ) (log : List Delivery) (end : Going) → Leads rule g i (going_from (nothing_yet g) []) log end
+nothing_between : (rule : Rule) (g : Graph) (i : ℕ) (log : List Delivery) (end : Going)
+    → Leads rule g i (going_from (nothing_yet g) []) log end
     → All (λ d. IsBetween g d.message) log
 nothing_between rule g i [] end l = All-nil (λ d. IsBetween g d.message)
 nothing_between rule g i (d ∷ log) end l = absurd (nothing_there l.1.there)
@@ -52,13 +56,16 @@ nothing_between rule g i (d ∷ log) end l = absurd (nothing_there l.1.there)
     nothing_there h = cc
 
 -- a run of an idle process has messages between processes of the graph alone
-run_between : (rule : Rule) (g : Graph) (i : ℕ) (log : List Delivery) (end : Going) → IsWithinGraph g → is_idle g i ≡ true
+run_between : (rule : Rule) (g : Graph) (i : ℕ) (log : List Delivery) (end : Going) → IsWithinGraph g
+    → is_idle g i ≡ true
     → Leads rule g i (begun g i []) log end → All (λ d. IsBetween g d.message) log
 run_between rule g i log end ok idle =
     by_test (is_awake g i)
-    (λ b. Leads rule g i (cond b (going_from (nothing_yet g) []) (going_from (start g i (nothing_yet g)) [])) log end → All (λ d. IsBetween g d.message) log)
+    (λ b. Leads rule g i (cond b (going_from (nothing_yet g) []) (going_from (start g i (nothing_yet g)) [])) log end
+    → All (λ d. IsBetween g d.message) log)
     (λ e l. nothing_between rule g i log end l)
-    (λ e l. leads_between rule g i ok (idle_within g i idle) e log (going_from (start g i (nothing_yet g)) []) end (first_start g i ok (idle_within g i idle) e) l)
+    (λ e l. leads_between rule g i ok (idle_within g i idle) e log (going_from (start g i (nothing_yet g)) []) end
+    (first_start g i ok (idle_within g i idle) e) l)
 
 -- ---- endings
 
@@ -77,7 +84,8 @@ none_uncut : IsUncut None
 none_uncut k e = cc
 
 -- what a message does without a hint
-received_uncut : (g : Graph) (i : ℕ) (c : Config) (m : Message) (kind : Kind) → IsUncut (received g i c m kind None).ended
+received_uncut : (g : Graph) (i : ℕ) (c : Config) (m : Message) (kind : Kind)
+    → IsUncut (received g i c m kind None).ended
 received_uncut g i c m Reply = action_uncut (reply_action (proc_at c.procs m.to) m.number)
 received_uncut g i c m Query =
     by_test (engages (proc_at c.procs m.to) m.number)
@@ -86,7 +94,8 @@ received_uncut g i c m Query =
     (λ e. action_uncut (query_action (proc_at c.procs m.to) m.number m.from 0))
 
 -- a delivery without a hint
-delivered_uncut : (g : Graph) (i : ℕ) (c : Config) (x : ℕ) (m : Message) (hint : Option Verdict) → c.ended ≡ None → hint ≡ None
+delivered_uncut : (g : Graph) (i : ℕ) (c : Config) (x : ℕ) (m : Message) (hint : Option Verdict) → c.ended ≡ None
+    → hint ≡ None
     → IsUncut (delivered g i c x m hint).ended
 delivered_uncut g i c x m hint going none =
     subst (λ (h : Option Verdict). IsUncut (delivered g i c x m h).ended) (sym none)
@@ -96,7 +105,8 @@ delivered_uncut g i c x m hint going none =
     (λ e. received_uncut g i (without c x) m m.kind))
 
 -- a restart
-ready_uncut : (g : Graph) (i : ℕ) (s : Going) (restarts : List ℕ) → IsUncut s.config.ended → IsUncut (restarted_at g i s restarts).config.ended
+ready_uncut : (g : Graph) (i : ℕ) (s : Going) (restarts : List ℕ) → IsUncut s.config.ended
+    → IsUncut (restarted_at g i s restarts).config.ended
 ready_uncut g i s [] h = h
 ready_uncut g i s (n ∷ rest) h =
     by_test (is_none s.config.ended && (n == s.done))
@@ -105,9 +115,11 @@ ready_uncut g i s (n ∷ rest) h =
     (λ e. h)
 
 -- whatever comes without hints
-leads_uncut : (rule : Rule) (g : Graph) (i : ℕ) (log : List Delivery) (s end : Going) → HasNoHints log → IsUncut s.config.ended → Leads rule g i s log end
+leads_uncut : (rule : Rule) (g : Graph) (i : ℕ) (log : List Delivery) (s end : Going) → HasNoHints log
+    → IsUncut s.config.ended → Leads rule g i s log end
     → IsUncut end.config.ended
-leads_uncut rule g i [] s end none h l = subst (λ (t : Going). IsUncut t.config.ended) l (ready_uncut g i s s.restarts h)
+leads_uncut rule g i [] s end none h l =
+    subst (λ (t : Going). IsUncut t.config.ended) l (ready_uncut g i s s.restarts h)
 leads_uncut rule g i (d ∷ log) s end none h l =
     leads_uncut rule g i log (after g i (ready g i s) l.0 d) end none.1
     (delivered_uncut g i (ready g i s).config l.0 d.message d.hint l.1.going none.0) l.3
@@ -116,21 +128,25 @@ leads_uncut rule g i (d ∷ log) s end none h l =
 begun_uncut : (g : Graph) (i : ℕ) (restarts : List ℕ) → IsUncut (begun g i restarts).config.ended
 begun_uncut g i restarts =
     by_test (is_awake g i)
-    (λ b. IsUncut (cond b (going_from (nothing_yet g) []) (going_from (start g i (nothing_yet g)) restarts)).config.ended)
+    (λ b. IsUncut
+    (cond b (going_from (nothing_yet g) []) (going_from (start g i (nothing_yet g)) restarts)).config.ended)
     (λ e. none_uncut)
     (λ e. action_uncut (start_action (length (dependents_of g i))))
 
 -- a run without hints is never cut free
-pub never_cut : (g : Graph) (choices restarts : List ℕ) (r : Run) → IsRunOf g choices restarts r → HasNoHints r.log → (k : ℕ) → r.ending ≢ CutFree k
+pub never_cut : (g : Graph) (choices restarts : List ℕ) (r : Run) → IsRunOf g choices restarts r → HasNoHints r.log
+    → (k : ℕ) → r.ending ≢ CutFree k
 never_cut g choices restarts r run none k e =
-    leads_uncut (chosen_place choices) g r.initiator r.log (begun g r.initiator restarts) run.end none (begun_uncut g r.initiator restarts) run.legal.leads k
+    leads_uncut (chosen_place choices) g r.initiator r.log (begun g r.initiator restarts) run.end none
+    (begun_uncut g r.initiator restarts) run.legal.leads k
     (subst (λ (ending : Ending). EndsAs run.end.config ending) e run.legal.ends)
 
 -- a run without hints has its lines
 pub has_lines : (choices : List ℕ) (g : Graph) (r : Run) → IsWithinGraph g → IsPlainRun choices g r → HasLines g r
 has_lines choices g r ok plain = record {
   initiator = idle_within g r.initiator plain.idle;
-  messages = run_between (chosen_place choices) g r.initiator r.log plain.legal.end ok plain.idle plain.legal.legal.leads;
+  messages =
+      run_between (chosen_place choices) g r.initiator r.log plain.legal.end ok plain.idle plain.legal.legal.leads;
   ended = never_cut g choices [] r plain.legal plain.unhinted;
 }
 
@@ -138,9 +154,13 @@ has_lines choices g r ok plain = record {
 
 -- the lines of all deliveries and of the ending are the whole text
 pub whole_trace : (g : Graph) (r : Run) (n : ℕ) → length r.log ≤ n
-    → flat_map line (map (λ d. message_line g d.message) (take n r.log)) ++ flat_map line (ending_lines (name_of g r.initiator) r.ending) ≡ trace_text g r
+    → flat_map line (map (λ d. message_line g d.message) (take n r.log))
+    ++ flat_map line (ending_lines (name_of g r.initiator) r.ending) ≡ trace_text g r
 unfolding trace_text
-whole_trace g r n l = rw (take_all n r.log l) (sym (flat_map-append line (map (λ d. message_line g d.message) r.log) (ending_lines (name_of g r.initiator) r.ending)))
+whole_trace g r n l =
+    rw (take_all n r.log l)
+    (sym (flat_map-append line (map (λ d. message_line g d.message) r.log)
+    (ending_lines (name_of g r.initiator) r.ending)))
 
 -- ---- one trace
 
@@ -149,7 +169,8 @@ named_once : (g : Graph) (name : List ℕ) (p q : ℕ) → IsFirstNamed g name p
 named_once g name p q a b =
     ⊎_elim (λ (e : p ≡ q). e)
     (λ (ne : p ≡ q → ⊥).
-    ⊎_elim (λ (l : p < q). absurd (b.first p l a.named)) (λ (l : q ≤ p). absurd (a.first q (omega arith) b.named)) (cases_lt p q))
+    ⊎_elim (λ (l : p < q). absurd (b.first p l a.named)) (λ (l : q ≤ p). absurd (a.first q (omega arith) b.named))
+    (cases_lt p q))
     (cases_eq p q)
 
 -- a configuration is the end of runs with one ending
@@ -165,7 +186,8 @@ ends_once c (CutFree k) AtRest e f = absurd (let no : None ≡ Some (CutFree k) 
 ends_once c (CutFree k) (CutFree j) e f = let same : Some (CutFree k) ≡ Some (CutFree j) = sym e ∙ f in cc
 
 -- the text goes by who ran, what was delivered and how the run ended
-text_by_parts : (g : Graph) (r t : Run) → r.initiator ≡ t.initiator → r.log ≡ t.log → r.ending ≡ t.ending → trace_text g r ≡ trace_text g t
+text_by_parts : (g : Graph) (r t : Run) → r.initiator ≡ t.initiator → r.log ≡ t.log → r.ending ≡ t.ending
+    → trace_text g r ≡ trace_text g t
 unfolding trace_text
 text_by_parts g r t a b c = rw (a, b, c) refl
 
@@ -176,7 +198,8 @@ one_trace name choices g text other ending last a b =
     let t = b.run in
     let same = named_once g name r.initiator t.initiator a.named b.named in
     let its : IsRun (chosen_place choices) g r.initiator [] t.log t.ending b.plain.legal.end =
-    subst (λ (i : ℕ). IsRun (chosen_place choices) g i [] t.log t.ending b.plain.legal.end) (sym same) b.plain.legal.legal in
+    subst (λ (i : ℕ). IsRun (chosen_place choices) g i [] t.log t.ending b.plain.legal.end)
+    (sym same) b.plain.legal.legal in
     let one = choices_decide choices g r.initiator [] r.log t.log r.ending t.ending a.plain.legal.end b.plain.legal.end
     a.plain.legal.legal its a.plain.unhinted b.plain.unhinted in
     let ended : r.ending ≡ t.ending = ends_once b.plain.legal.end.config r.ending t.ending

@@ -1,8 +1,7 @@
 -- Lines of words, and the lines of the report, one after the other.
-use Rattle.std.proofs.Common.{◌≡◌, ℕ, ◌+◌, ◌<◌, List, [], ◌∷◌, ◌++◌, map, length, get_or, take, true, false, refl, sym, ◌∙◌, ap, append-nil, append_assoc}
+use Rattle.std.proofs.Common.{◌≡◌, ℕ, ◌+◌, List, [], ◌∷◌, ◌++◌, map, true, false, refl, sym, ◌∙◌, ap, append-nil, append_assoc}
 use Rattle.std.specs.Prelude.{flat_map, codes, decimal, unwrap_or}
 use Rattle.std.specs.List.{join_with_byte}
-use Rattle.std.proofs.lemmas.List.{take_more, map-append}
 use Rattle.std.proofs.lemmas.List.Concat.{flat_map-append}
 use Rattle.cmh_graph.specs.Graph.{Graph, idle_list, name_of}
 use Rattle.cmh_graph.specs.ChosenPath.{chosen_path}
@@ -22,57 +21,68 @@ join_spaced word (next ∷ words) = ap (λ xs. word ++ (32 ∷ xs)) (join_spaced
 pub line_spaced : (word : List ℕ) (words : List (List ℕ)) → line (word ∷ words) ≡ word ++ (spaced words ++ 10 ∷ [])
 line_spaced word words = ap (λ xs. xs ++ 10 ∷ []) (join_spaced word words) ∙ append_assoc word (spaced words) (10 ∷ [])
 
--- the word of one place more
-pub spaced_more : (first : List ℕ) (word_of : ℕ → List ℕ) (ps : List ℕ) (i : ℕ) → i < length ps
-    → (first ++ spaced (map word_of (take i ps))) ++ 32 ∷ word_of (get_or ps i 0) ≡ first ++ spaced (map word_of (take (i + 1) ps))
-spaced_more first word_of ps i l =
-    rw (take_more ps i 0 l, map-append, flat_map-append) (rw (append_assoc, append-nil) refl)
-
 -- the pieces of a free process's line
-pub free_pieces : (old name : List ℕ) (path : List (List ℕ)) (a b new : List ℕ) → a ≡ old ++ (codes "free " ++ (name ++ codes " path")) → b ≡ a ++ spaced path → new ≡ b ++ 10 ∷ []
+pub free_pieces : (old name : List ℕ) (path : List (List ℕ)) (a b new : List ℕ)
+    → a ≡ old ++ (codes "free " ++ (name ++ codes " path")) → b ≡ a ++ spaced path → new ≡ b ++ 10 ∷ []
     → new ≡ old ++ line (codes "free" ∷ name ∷ codes "path" ∷ path)
 free_pieces old name path a b new e f h = h ∙ rw (f, e, line_spaced) (simp append_assoc)
 
 -- the words of three lists
-spaced_parts : (front middle back : List (List ℕ)) → spaced (front ++ middle ++ back) ≡ spaced front ++ spaced middle ++ spaced back
+spaced_parts : (front middle back : List (List ℕ))
+    → spaced (front ++ middle ++ back) ≡ spaced front ++ spaced middle ++ spaced back
 spaced_parts front middle back =
     flat_map-append (λ word. 32 ∷ word) (front ++ middle) back
     ∙ ap (λ xs. xs ++ spaced back) (flat_map-append (λ word. 32 ∷ word) front middle)
 
 -- the pieces of a group's line
-pub group_pieces : (old number sites : List ℕ) (core rest : List (List ℕ)) (a b d e new : List ℕ) → a ≡ old ++ (codes "group " ++ (number ++ codes " |")) → b ≡ a ++ spaced core → d ≡ b ++ codes " |" → e ≡ d ++ spaced rest → new ≡ e ++ (codes " | sites " ++ (sites ++ 10 ∷ []))
-    → new ≡ old ++ line (codes "group" ∷ number ∷ codes "|" ∷ core ++ codes "|" ∷ rest ++ codes "|" ∷ codes "sites" ∷ sites ∷ [])
+pub group_pieces : (old number sites : List ℕ) (core rest : List (List ℕ)) (a b d e new : List ℕ)
+    → a ≡ old ++ (codes "group " ++ (number ++ codes " |")) → b ≡ a ++ spaced core → d ≡ b ++ codes " |"
+    → e ≡ d ++ spaced rest → new ≡ e ++ (codes " | sites " ++ (sites ++ 10 ∷ []))
+    → new ≡ old
+    ++ line (codes "group" ∷ number ∷ codes "|" ∷ core ++ codes "|" ∷ rest ++ codes "|" ∷ codes "sites" ∷ sites ∷ [])
 group_pieces old number sites core rest a b d e new h1 h2 h3 h4 h5 =
     let front = number ∷ codes "|" ∷ core in
     let middle = codes "|" ∷ rest in
     let back = codes "|" ∷ codes "sites" ∷ sites ∷ [] in
-    let words = line_spaced (codes "group") (front ++ middle ++ back) ∙ ap (λ xs. codes "group" ++ (xs ++ 10 ∷ [])) (spaced_parts front middle back) in
-    let pieces : ((((old ++ (codes "group " ++ (number ++ codes " |"))) ++ spaced core) ++ codes " |") ++ spaced rest) ++ (codes " | sites " ++ (sites ++ 10 ∷ []))
-    ≡ old ++ (codes "group" ++ ((((32 ∷ (number ++ (codes " |" ++ spaced core))) ++ (codes " |" ++ spaced rest)) ++ (codes " | sites" ++ ((32 ∷ sites) ++ []))) ++ 10 ∷ [])) =
+    let words = line_spaced (codes "group") (front ++ middle ++ back)
+    ∙ ap (λ xs. codes "group" ++ (xs ++ 10 ∷ [])) (spaced_parts front middle back) in
+    let pieces : ((((old ++ (codes "group " ++ (number ++ codes " |"))) ++ spaced core) ++ codes " |") ++ spaced rest)
+    ++ (codes " | sites " ++ (sites ++ 10 ∷ []))
+    ≡ old ++
+    (codes "group"
+    ++ ((((32 ∷ (number ++ (codes " |" ++ spaced core))) ++ (codes " |" ++ spaced rest))
+    ++ (codes " | sites" ++ ((32 ∷ sites) ++ []))) ++ 10 ∷ [])) =
     simp append_assoc in
     h5 ∙ rw (h4, h3, h2, h1) pieces ∙ ap (λ xs. old ++ xs) (sym words)
 
 -- ---- whose words they are
 
 -- the words of a deadlocked process
-pub deadlocked_words : (g : Graph) (p number : ℕ) (name : List ℕ) → is_deadlocked g p ≡ true → name ≡ name_of g p → number ≡ group_number g p → codes "deadlocked" ∷ name ∷ codes "group" ∷ decimal number ∷ [] ≡ process_line g p
+pub deadlocked_words : (g : Graph) (p number : ℕ) (name : List ℕ) → is_deadlocked g p ≡ true → name ≡ name_of g p
+    → number ≡ group_number g p → codes "deadlocked" ∷ name ∷ codes "group" ∷ decimal number ∷ [] ≡ process_line g p
 unfolding deadlocked_line
 deadlocked_words g p number name dead named numbered = rw (named, numbered, dead) refl
 
 -- the words of a free process
-pub free_words : (g : Graph) (p : ℕ) (name path : List ℕ) → is_deadlocked g p ≡ false → name ≡ name_of g p → path ≡ unwrap_or (chosen_path g p) [] → codes "free" ∷ name ∷ codes "path" ∷ names g path ≡ process_line g p
+pub free_words : (g : Graph) (p : ℕ) (name path : List ℕ) → is_deadlocked g p ≡ false → name ≡ name_of g p
+    → path ≡ unwrap_or (chosen_path g p) [] → codes "free" ∷ name ∷ codes "path" ∷ names g path ≡ process_line g p
 unfolding free_line
 free_words g p name path free named chosen = rw (named, chosen, free) refl
 
 -- the words of a group
-pub group_words : (g : Graph) (p number sites : ℕ) (core rest : List ℕ) → number ≡ group_number g p → core ≡ core_of g p → rest ≡ rest_of g p → sites ≡ site_count g (reach_of g p)
-    → codes "group" ∷ decimal number ∷ codes "|" ∷ names g core ++ codes "|" ∷ names_or_dash g rest ++ codes "|" ∷ codes "sites" ∷ decimal sites ∷ [] ≡ group_line g p
+pub group_words : (g : Graph) (p number sites : ℕ) (core rest : List ℕ) → number ≡ group_number g p → core ≡ core_of g p
+    → rest ≡ rest_of g p → sites ≡ site_count g (reach_of g p)
+    → codes "group" ∷ decimal number ∷ codes "|" ∷ names g core ++ codes "|" ∷ names_or_dash g rest
+    ++ codes "|" ∷ codes "sites" ∷ decimal sites ∷ [] ≡ group_line g p
 unfolding group_line
 group_words g p number sites core rest e1 e2 e3 e4 = rw (e1, e2, e3, e4) refl
 
 -- ---- lines
 
 -- the totals, the lines of processes and those of groups are the whole text
-pub whole_text : (g : Graph) → (line (totals_line g) ++ flat_map line (map (process_line g) (idle_list g))) ++ flat_map line (map (group_line g) (leaders g)) ≡ report_text g
+pub whole_text : (g : Graph)
+    → (line (totals_line g) ++ flat_map line (map (process_line g) (idle_list g)))
+    ++ flat_map line (map (group_line g) (leaders g)) ≡ report_text g
 unfolding report_text
-whole_text g = sym (flat_map-append line (totals_line g ∷ map (process_line g) (idle_list g)) (map (group_line g) (leaders g)))
+whole_text g =
+    sym (flat_map-append line (totals_line g ∷ map (process_line g) (idle_list g)) (map (group_line g) (leaders g)))

@@ -1,6 +1,6 @@
 -- A group whose reach is known while the lines of others are made.
-use Rattle.std.specs.Prelude.{◌≡◌, ◌<◌, ℕ, List, map, Contains, IfSome, IsTrue, Option}
-use Rattle.cmh_graph.specs.Graph.{Graph, indices, process_count}
+use Rattle.std.specs.Prelude.{◌≡◌, ℕ, List, map, Contains, IfSome, IsTrue, Option}
+use Rattle.cmh_graph.specs.Graph.{Graph, indices}
 use Rattle.cmh_graph.specs.Path.{reaches}
 use Rattle.cmh_report.specs.Group.{is_led_by}
 use Rattle.cmh_report.specs.Sites.{AreSitesBelow}

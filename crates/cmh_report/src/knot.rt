@@ -1,7 +1,7 @@
 //! The group whose reach is searched once for all lines: many groups may wait for it.
 
 ghost use Rattle.std.specs.Prelude.{◌≡◌, ◌<◌, map, length, All, Contains, IfOk, IfSome, IsTrue};
-ghost use Rattle.cmh_graph.specs.Graph.{dependents_of, indices, process_count};
+ghost use Rattle.cmh_graph.specs.Graph.{indices, process_count};
 ghost use Rattle.cmh_graph.specs.Path.{reaches, Reaches};
 ghost use Rattle.cmh_report.specs.Group.{AreGroupsOf};
 ghost use Rattle.cmh_report.specs.Knot.{HasLed};

@@ -2,7 +2,7 @@
 //! place. Lines are made from the last to the first, and joined from the first on: what was taken
 //! last is given back first, so that the heap can shrink while the text grows.
 
-ghost use Rattle.std.specs.Prelude.{◌≡◌, ◌++◌, ◌<◌, IfOk, IsTrue, OnOk, map, reverse, string_bytes};
+ghost use Rattle.std.specs.Prelude.{◌≡◌, ◌<◌, IfOk, IsTrue, map, reverse, string_bytes};
 ghost use Rattle.cmh_graph.specs.Core.{leaders};
 ghost use Rattle.cmh_graph.specs.Graph.{idle_list, process_count};
 ghost use Rattle.cmh_report.specs.Group.{AreGroupsOf, is_led_by};

@@ -14,12 +14,14 @@ use Rattle.cmh_graph.specs.Verdict.{IsVerdict}
 use Rattle.cmh_run.specs.Legal.{HintIsFit}
 
 -- a true hint fits where hints are asked
-pub fit_where_asked : (g : Graph) (c : Config) (m : Message) (hint : Option Verdict) → IsTrue (asks g c m) → IfSome hint (IsVerdict g m.to) → HintIsFit g c m hint
+pub fit_where_asked : (g : Graph) (c : Config) (m : Message) (hint : Option Verdict) → IsTrue (asks g c m)
+    → IfSome hint (IsVerdict g m.to) → HintIsFit g c m hint
 fit_where_asked g c m None asked is = tt
 fit_where_asked g c m (Some v) asked is = (asked, is)
 
 -- what a query does that engages is told by its parts
-hinted_parts : (g : Graph) (i : ℕ) (c : Config) (m : Message) (hint : Option Verdict) → hinted g i c (query i m.number m.from m.to) hint ≡ hinted g i c m hint
+hinted_parts : (g : Graph) (i : ℕ) (c : Config) (m : Message) (hint : Option Verdict)
+    → hinted g i c (query i m.number m.from m.to) hint ≡ hinted g i c m hint
 hinted_parts g i c m None = refl
 hinted_parts g i c m (Some Deadlocked) = refl
 hinted_parts g i c m (Some Free) = refl

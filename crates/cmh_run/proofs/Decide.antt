@@ -21,7 +21,8 @@ over g c x d AtRest e may = none-some _ (ap (λ (bag : List Message). slice_get 
 
 -- from the same state, without hints, the choices lead to one end by one list of deliveries
 decides : (choices : List ℕ) (g : Graph) (i : ℕ) (log other : List Delivery) (s end far : Going) (ending last : Ending)
-    → Leads (chosen_place choices) g i s log end → Leads (chosen_place choices) g i s other far → EndsAs end.config ending → EndsAs far.config last
+    → Leads (chosen_place choices) g i s log end → Leads (chosen_place choices) g i s other far
+    → EndsAs end.config ending → EndsAs far.config last
     → HasNoHints log → HasNoHints other → (log ≡ other) × (end ≡ far)
 decides choices g i [] [] s end far ending last l k e f a b = (refl, sym l ∙ k)
 decides choices g i [] (d ∷ other) s end far ending last l k e f a b =
@@ -29,10 +30,16 @@ decides choices g i [] (d ∷ other) s end far ending last l k e f a b =
 decides choices g i (d ∷ log) [] s end far ending last l k e f a b =
     absurd (over g (ready g i s).config l.0 d last (subst (λ (t : Going). EndsAs t.config last) (sym k) f) l.1)
 decides choices g i (d ∷ log) (h ∷ other) s end far ending last l k e f a b =
-    let place : l.0 ≡ k.0 = eqb-true l.0 (slice_index choices s.done % length (ready g i s).config.bag) l.2 ∙ sym (eqb-true k.0 (slice_index choices s.done % length (ready g i s).config.bag) k.2) in
-    let message : d.message ≡ h.message = same_Some d.message h.message (sym l.1.there ∙ ap (λ (x : ℕ). slice_get (ready g i s).config.bag x) place ∙ k.1.there) in
-    let same : d ≡ h = ap₂ (λ (m : Message) (v : Option Verdict). let r : Delivery = record { message = m; hint = v } in r) message (a.0 ∙ sym b.0) in
-    let next : after g i (ready g i s) l.0 d ≡ after g i (ready g i s) k.0 h = ap₂ (λ (x : ℕ) (y : Delivery). after g i (ready g i s) x y) place same in
+    let place : l.0 ≡ k.0 = eqb-true l.0 (slice_index choices s.done % length (ready g i s).config.bag) l.2
+    ∙ sym (eqb-true k.0 (slice_index choices s.done % length (ready g i s).config.bag) k.2) in
+    let message : d.message ≡ h.message =
+    same_Some d.message h.message
+    (sym l.1.there ∙ ap (λ (x : ℕ). slice_get (ready g i s).config.bag x) place ∙ k.1.there) in
+    let same : d ≡ h =
+    ap₂ (λ (m : Message) (v : Option Verdict). let r : Delivery = record { message = m; hint = v } in r) message
+    (a.0 ∙ sym b.0) in
+    let next : after g i (ready g i s) l.0 d ≡ after g i (ready g i s) k.0 h =
+    ap₂ (λ (x : ℕ) (y : Delivery). after g i (ready g i s) x y) place same in
     let rest = decides choices g i log other (after g i (ready g i s) l.0 d) end far ending last l.3
     (subst (λ (t : Going). Leads (chosen_place choices) g i t other far) (sym next) k.3) e f a.1 b.1 in
     (ap₂ (λ (x : Delivery) (xs : List Delivery). x ∷ xs) same rest.0, rest.1)
@@ -64,18 +71,29 @@ one_ending c AtRest last e f = by_last last f
     by_last AtRest f = refl
 
 -- two runs that are kept are equal where all that is kept of them is
-pub same_run : (r s : Run) → r.initiator ≡ s.initiator → r.log ≡ s.log → r.ending ≡ s.ending → r.engaged ≡ s.engaged → r.restarted ≡ s.restarted → r ≡ s
+pub same_run : (r s : Run) → r.initiator ≡ s.initiator → r.log ≡ s.log → r.ending ≡ s.ending → r.engaged ≡ s.engaged
+    → r.restarted ≡ s.restarted → r ≡ s
 same_run r s a b c d e =
-    let whole : ◌≡◌ {A = Run} (record { initiator = r.initiator; log = r.log; ending = r.ending; engaged = r.engaged; restarted = r.restarted })
-    (record { initiator = s.initiator; log = s.log; ending = s.ending; engaged = s.engaged; restarted = s.restarted }) = rw (a, b, c, d, e) refl in
+    let whole : ◌≡◌ {A = Run}
+    (record {
+      initiator = r.initiator;
+      log = r.log;
+      ending = r.ending;
+      engaged = r.engaged;
+      restarted = r.restarted;
+    })
+    (record { initiator = s.initiator; log = s.log; ending = s.ending; engaged = s.engaged; restarted = s.restarted }) =
+    rw (a, b, c, d, e) refl in
     whole
 
 -- without hints there is one run to be kept
 pub one_run : OneRun
 one_run g choices restarts r s mine a b c d =
     let other = subst (λ (i : ℕ). IsRun (chosen_place choices) g i restarts s.log s.ending b.end) (sym mine) b.legal in
-    let same = choices_decide choices g r.initiator restarts r.log s.log r.ending s.ending a.end b.end a.legal other c d in
+    let same =
+    choices_decide choices g r.initiator restarts r.log s.log r.ending s.ending a.end b.end a.legal other c d in
     same_run r s mine same.0
-    (one_ending a.end.config r.ending s.ending a.legal.ends (subst (λ (t : Going). EndsAs t.config s.ending) (sym same.1) b.legal.ends))
+    (one_ending a.end.config r.ending s.ending a.legal.ends
+    (subst (λ (t : Going). EndsAs t.config s.ending) (sym same.1) b.legal.ends))
     (a.engaged ∙ ap (λ (t : Going). t.config.engaged) same.1 ∙ sym b.engaged)
     (a.restarted ∙ ap (λ (t : Going). t.restarted) same.1 ∙ sym b.restarted)

@@ -44,15 +44,20 @@ module _ (g : Graph) (i n : ℕ) (F : ℕ → Proc) (engaged : List ℕ) (p : Pa
 engaged_at : (g : Graph) (i : ℕ) (ending : Ending) (c : Config) → Stands g i c → EndsAs c ending
     → (ending ≡ Declared → (k : ℕ) → Contains c.engaged k → IsDeadlocked g k) → AreEngaged g i ending c.engaged
 engaged_at g i Declared c s e dead =
-    let h : Status g i c.number (proc_at c.procs) c.bag c.engaged (Some Declared) = subst (λ (o : Option Ending). Status g i c.number (proc_at c.procs) c.bag c.engaged o) e s.status in
-    engaged_by_ending g i c.number (proc_at c.procs) c.engaged (party_of g i c.number (proc_at c.procs) c.bag c.engaged h.0) Declared dead (λ k q. absurd (cc))
+    let h : Status g i c.number (proc_at c.procs) c.bag c.engaged (Some Declared) =
+    subst (λ (o : Option Ending). Status g i c.number (proc_at c.procs) c.bag c.engaged o) e s.status in
+    engaged_by_ending g i c.number (proc_at c.procs) c.engaged
+    (party_of g i c.number (proc_at c.procs) c.bag c.engaged h.0) Declared dead (λ k q. absurd (cc))
 engaged_at g i AtRest c s e dead =
     let h = status_none g i c s e.0 in
-    engaged_by_ending g i c.number (proc_at c.procs) c.engaged (party_of g i c.number (proc_at c.procs) c.bag c.engaged h.0) AtRest dead (λ k q. absurd (cc))
+    engaged_by_ending g i c.number (proc_at c.procs) c.engaged
+    (party_of g i c.number (proc_at c.procs) c.bag c.engaged h.0) AtRest dead (λ k q. absurd (cc))
 engaged_at g i (CutFree p) c s e dead =
-    let h : CutAt g i c.number (proc_at c.procs) c.engaged p = subst (λ (o : Option Ending). Status g i c.number (proc_at c.procs) c.bag c.engaged o) e s.status in
+    let h : CutAt g i c.number (proc_at c.procs) c.engaged p =
+    subst (λ (o : Option Ending). Status g i c.number (proc_at c.procs) c.bag c.engaged o) e s.status in
     engaged_by_ending g i c.number (proc_at c.procs) c.engaged h.party (CutFree p) dead
-    (λ k q. let same : p ≡ k = cc in subst (λ (x : ℕ). IsCutAt g i x c.engaged) same (cut_at g i c.number (proc_at c.procs) c.engaged h.party p h))
+    (λ k q. let same : p ≡ k = cc in
+    subst (λ (x : ℕ). IsCutAt g i x c.engaged) same (cut_at g i c.number (proc_at c.procs) c.engaged h.party p h))
 
 -- nothing is never an ending
 no_ending : {e : Ending} → None ≡ Some e → ⊥
@@ -103,7 +108,8 @@ who_engages rule g i restarts log ending end ok idle run = by_awake (is_awake g 
     resting rests =
         let leads : Leads rule g i (going_from (start g i (nothing_yet g)) restarts) log end = rw rests at run.leads in
         engaged_at g i ending end.config
-        (leads_stands rule g i ok (idle_within g i idle) rests log (going_from (start g i (nothing_yet g)) restarts) end (first_start g i ok (idle_within g i idle) rests) leads)
+        (leads_stands rule g i ok (idle_within g i idle) rests log (going_from (start g i (nothing_yet g)) restarts) end
+        (first_start g i ok (idle_within g i idle) rests) leads)
         run.ends (runs_are_right rule g i restarts log ending end ok idle run).engaged
 
     by_awake : (b : Bool) → is_awake g i ≡ b → AreEngaged g i ending end.config.engaged

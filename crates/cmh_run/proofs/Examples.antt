@@ -50,7 +50,12 @@ legal = (
         0,
         record { going = refl; there = refl; hint = tt },
         refl,
-        (0, record { going = refl; there = refl; hint = tt }, refl, (0, record { going = refl; there = refl; hint = tt }, refl, refl)),
+        (
+          0,
+          record { going = refl; there = refl; hint = tt },
+          refl,
+          (0, record { going = refl; there = refl; hint = tt }, refl, refl),
+        ),
       ),
     );
     ends = refl;
@@ -86,7 +91,12 @@ legal_again = (
                 0,
                 record { going = refl; there = refl; hint = tt },
                 refl,
-                (0, record { going = refl; there = refl; hint = tt }, refl, (0, record { going = refl; there = refl; hint = tt }, refl, refl)),
+                (
+                  0,
+                  record { going = refl; there = refl; hint = tt },
+                  refl,
+                  (0, record { going = refl; there = refl; hint = tt }, refl, refl),
+                ),
               ),
             ),
           ),

@@ -4,7 +4,7 @@ use Rattle.std.specs.Prelude.{IfSome, IfNone, IfOk, IfErr, ok_or, ◌↔◌, tak
 use Rattle.std.proofs.lemmas.Bool.{true≢false, cases_Bool}
 use Rattle.cmh_process.specs.declared.message.Message.{Message}
 use Rattle.cmh_graph.specs.declared.verdict.Verdict.{Verdict}
-use Rattle.std.proofs.lemmas.Option.{none-some, same_Some, slice_get-get_or}
+use Rattle.std.proofs.lemmas.Option.{none-some}
 use denote.Enum.Bare.{sameb}
 use Rattle.cmh_graph.specs.contracts.verdict.Verdict.{the_type}
 use Rattle.cmh_graph.specs.Graph.{Graph, process_count, is_idle, is_awake}
@@ -12,7 +12,7 @@ use Rattle.cmh_graph.specs.Build.{IsWellFormed}
 use Rattle.cmh_graph.proofs.Verdicts.{idle_within}
 use Rattle.cmh_graph.specs.Verdict.{verdict, verdicts, IsDeadlocked}
 use Rattle.cmh_graph.proofs.Verdicts.{one_verdict, verdict_listed, verdict_true}
-use Rattle.cmh_run.proofs.Scripts.{verdict_at, verdict_count}
+use Rattle.cmh_run.proofs.Scripts.{verdict_count}
 use Rattle.cmh_run.proofs.Verdicts.{same, same_as_itself}
 use Rattle.cmh_run.specs.declared.delivery.Delivery.{Delivery}
 use Rattle.cmh_run.specs.declared.delivery.Ending.{Ending}
@@ -31,12 +31,14 @@ use Rattle.cmh_run.proofs.Places.{IsIn, in_nothing, none_in}
 use Rattle.cmh_run.proofs.Auditing.{Own, Firm, firm, agrees_after}
 
 -- a hint is fit whatever is in the bag
-fit_bag : (g : Graph) (c : Config) (bag : List Message) (m : Message) (hint : Option Verdict) → HintIsFit g c m hint → HintIsFit g (with_bag c bag) m hint
+fit_bag : (g : Graph) (c : Config) (bag : List Message) (m : Message) (hint : Option Verdict) → HintIsFit g c m hint
+    → HintIsFit g (with_bag c bag) m hint
 fit_bag g c bag m None h = h
 fit_bag g c bag m (Some v) h = h
 
 -- and with another bag, whatever is in this one
-bag_fit : (g : Graph) (c : Config) (bag : List Message) (m : Message) (hint : Option Verdict) → HintIsFit g (with_bag c bag) m hint → HintIsFit g c m hint
+bag_fit : (g : Graph) (c : Config) (bag : List Message) (m : Message) (hint : Option Verdict)
+    → HintIsFit g (with_bag c bag) m hint → HintIsFit g c m hint
 bag_fit g c bag m None h = h
 bag_fit g c bag m (Some v) h = h
 
@@ -79,10 +81,6 @@ module _ (g : Graph) (i : ℕ) (log : List Delivery) (s : Going) (a : Audit) (h 
   pub fit_run : (m : Message) (hint : Option Verdict) → HintIsFit g a.network m hint → HintIsFit g s.config m hint
   fit_run m hint f = bag_fit g s.config a.network.bag m hint (subst (λ (c : Config). HintIsFit g c m hint) h.network f)
 
-  -- and for the run as they are for the network
-  pub fit_network : (m : Message) (hint : Option Verdict) → HintIsFit g s.config m hint → HintIsFit g a.network m hint
-  fit_network m hint f = subst (λ (c : Config). HintIsFit g c m hint) (sym h.network) (fit_bag g s.config a.network.bag m hint f)
-
   module _ (settled : IsSettled a) where
     -- an undelivered message is awaited
     pub awaited : (m : Message) → IsUndelivered s.config m → IsAwaited i a m
@@ -92,7 +90,8 @@ module _ (g : Graph) (i : ℕ) (log : List Delivery) (s : Going) (a : Audit) (h 
           mine = mine.mine;
           first = mine.first;
           waits = ⊎_elim (λ (q : is_waiting a.undelivered m ≡ true). q)
-              (λ (n : IsUndelivered a.network m). absurd (in_nothing m (subst (λ (bag : List Message). IsIn bag m) settled n))) (h.pending m u);
+              (λ (n : IsUndelivered a.network m). absurd
+              (in_nothing m (subst (λ (bag : List Message). IsIn bag m) settled n))) (h.pending m u);
         }
 
     -- where nothing is awaited, the run is at rest unless it was ended
@@ -100,14 +99,17 @@ module _ (g : Graph) (i : ℕ) (log : List Delivery) (s : Going) (a : Audit) (h 
     rests e none = (sym same_ended ∙ e, none_in s.config.bag (λ m u. true≢false (sym (awaited m u).waits ∙ none m)))
 
     -- where something is, the run hasn't ended unless it was ended
-    pub goes_on : a.network.ended ≡ None → (((m : Message) → is_waiting a.undelivered m ≡ false) → ⊥) → ¬ (HasEnded s.config)
+    pub goes_on : a.network.ended ≡ None → (((m : Message) → is_waiting a.undelivered m ≡ false) → ⊥)
+        → ¬ (HasEnded s.config)
     goes_on e some end = by_ending end.0 end.1
       where
         by_ending : (last : Ending) → EndsAs s.config last → ⊥
         by_ending Declared f = none-some _ (sym e ∙ same_ended ∙ f)
         by_ending (CutFree k) f = none-some _ (sym e ∙ same_ended ∙ f)
         by_ending AtRest f = some (λ m. ⊎_elim
-            (λ (waits : is_waiting a.undelivered m ≡ true). absurd (in_nothing (own m) (subst (λ (bag : List Message). IsIn bag (own m)) f.1 (h.waiting (own m) refl refl waits))))
+            (λ (waits : is_waiting a.undelivered m ≡ true). absurd
+            (in_nothing (own m)
+            (subst (λ (bag : List Message). IsIn bag (own m)) f.1 (h.waiting (own m) refl refl waits))))
             (λ (no_wait : is_waiting a.undelivered m ≡ false). no_wait) (cases_Bool (is_waiting a.undelivered m)))
           where
             own : Message → Message
@@ -120,14 +122,19 @@ pub truth_at : (g : Graph) (truth : List Verdict) (p : ℕ) → truth ≡ verdic
 truth_at g truth p is within = subst (λ (n : ℕ). p < n) (sym (ap length is ∙ verdict_count g)) within
 
 -- a hint that is asked for is fit where it is the verdict of the list
-pub fit_where_true : (g : Graph) (c : Config) (m : Message) (hint : Option Verdict) (v d : Verdict) (truth : List Verdict) (b : Bool) → IsWellFormed g → hint ≡ Some v → asks g c m ≡ true
+pub fit_where_true : (g : Graph) (c : Config) (m : Message) (hint : Option Verdict) (v d : Verdict)
+    (truth : List Verdict) (b : Bool) → IsWellFormed g → hint ≡ Some v → asks g c m ≡ true
     → truth ≡ verdicts g → m.to < process_count g → b ≡ sameb the_type (get_or truth m.to d) v
     → (b ≡ true → HintIsFit g c m hint) × (HintIsFit g c m hint → b ≡ true)
 fit_where_true g c m hint v d truth b w is asked all within test = (
-  λ e. subst (λ (o : Option Verdict). HintIsFit g c m o) (sym is)
-      (asked, verdict_true g m.to v w.within (sym (verdict_listed g truth m.to d all within) ∙ same (get_or truth m.to d) v (sym test ∙ e))),
+  λ e. subst (λ (o : Option Verdict). HintIsFit g c m o) (sym is) (
+    asked,
+    verdict_true g m.to v w.within
+        (sym (verdict_listed g truth m.to d all within) ∙ same (get_or truth m.to d) v (sym test ∙ e)),
+  ),
   λ fit. let told : HintIsFit g c m (Some v) = subst (λ (o : Option Verdict). HintIsFit g c m o) is fit in
-      let equal : get_or truth m.to d ≡ v = verdict_listed g truth m.to d all within ∙ one_verdict g m.to (verdict g m.to) v (verdict_true g m.to (verdict g m.to) w.within refl) told.1 in
+      let equal : get_or truth m.to d ≡ v = verdict_listed g truth m.to d all within
+      ∙ one_verdict g m.to (verdict g m.to) v (verdict_true g m.to (verdict g m.to) w.within refl) told.1 in
       test ∙ ap (λ (u : Verdict). sameb the_type u v) equal ∙ same_as_itself v,
 )
 
@@ -138,7 +145,8 @@ pub where_none : (o : Option Ending) (P : Type 0) → false ≡ is_some o → If
 where_none None P e h = h
 where_none (Some x) P e h = absurd (true≢false (sym e))
 
-module _ (g : Graph) (i : ℕ) (log : List Delivery) (s : Going) (a : Audit) (d : Delivery) (h : Agrees g i log s a) (settled : IsSettled a) (going : ¬ (HasEnded s.config)) (aw : IsAwaited i a d.message) where
+module _ (g : Graph) (i : ℕ) (log : List Delivery) (s : Going) (a : Audit) (d : Delivery) (h : Agrees g i log s a)
+    (settled : IsSettled a) (going : ¬ (HasEnded s.config)) (aw : IsAwaited i a d.message) where
   -- the message of the delivery is undelivered
   pub is_there : IsUndelivered s.config d.message
   is_there = h.waiting d.message aw.mine aw.first aw.waits
@@ -159,7 +167,13 @@ module _ (g : Graph) (i : ℕ) (log : List Delivery) (s : Going) (a : Audit) (d 
   pub delivery_from : d.message.from < 4096
   delivery_from =
       let live = (here g i log s a h).live d.message is_there (is_going g i log s a h going) in
-      omega (arith, h.graph.processes, (each_at (Fine g i s.config.number (proc_at s.config.procs)) s.config.bag is_there.0 d.message live.fine is_there.1).from_in)
+      omega (
+        arith,
+        h.graph.processes,
+        (each_at
+            (Fine g i s.config.number (proc_at s.config.procs)) s.config.bag is_there.0 d.message live.fine
+            is_there.1).from_in,
+      )
 
   -- and whoever engaged a process
   pub delivery_engagers : EngagersHaveRoom a.network.procs
@@ -172,13 +186,22 @@ module _ (g : Graph) (i : ℕ) (log : List Delivery) (s : Going) (a : Audit) (d 
   network_going = ap (λ (c : Config). c.ended) h.network ∙ is_going g i log s a h going
 
   -- and after the delivery what is kept agrees with the run
-  pub after_delivery : (t b : Audit) → t.network ≡ a.network → ((m : Message) → is_waiting t.undelivered m ≡ (not (goes_like d.message m) && is_waiting a.undelivered m))
-      → HintIsFit g t.network d.message d.hint → b.network ≡ cond (is_awake g d.message.to) t.network (received g i t.network d.message d.message.kind d.hint) → b.undelivered ≡ t.undelivered
+  pub after_delivery : (t b : Audit) → t.network ≡ a.network
+      → ((m : Message) → is_waiting t.undelivered m ≡ (not (goes_like d.message m) && is_waiting a.undelivered m))
+      → HintIsFit g t.network d.message d.hint
+      → b.network ≡ cond (is_awake g d.message.to) t.network (received g i t.network d.message d.message.kind d.hint)
+      → b.undelivered ≡ t.undelivered
       → Agrees g i (log ++ d ∷ []) (after g i s is_there.0 d) b
   after_delivery t b same fewer fit moved kept =
       agrees_after g i log s a b h is_there.0 d settled
-      (record { going = is_going g i log s a h going; there = is_there.1; hint = fit_run g i log s a h d.message d.hint (subst (λ (c : Config). HintIsFit g c d.message d.hint) same fit) })
-      (moved ∙ ap (λ (c : Config). cond (is_awake g d.message.to) c (received g i c d.message d.message.kind d.hint)) whole)
+      (record {
+        going = is_going g i log s a h going;
+        there = is_there.1;
+        hint = fit_run g i log s a h d.message d.hint
+            (subst (λ (c : Config). HintIsFit g c d.message d.hint) same fit);
+      })
+      (moved ∙ ap
+      (λ (c : Config). cond (is_awake g d.message.to) c (received g i c d.message d.message.kind d.hint)) whole)
       (λ m. ap (λ (w : Waiting). is_waiting w m) kept ∙ fewer m)
     where
       whole : t.network ≡ with_bag s.config []
@@ -187,20 +210,38 @@ module _ (g : Graph) (i : ℕ) (log : List Delivery) (s : Going) (a : Audit) (d 
 -- ---- the whole log
 
 -- what is wrong with delivery t is the first fault of the log
-pub flaw_is_fault : (g : Graph) (i : ℕ) (log : List Delivery) (t : ℕ) (d : Delivery) (s : Going) (e : CheckFault) → is_idle g i ≡ true → slice_get log t ≡ Some d → LeadTo g i (take t log) s
+pub flaw_is_fault : (g : Graph) (i : ℕ) (log : List Delivery) (t : ℕ) (d : Delivery) (s : Going) (e : CheckFault)
+    → is_idle g i ≡ true → slice_get log t ≡ Some d → LeadTo g i (take t log) s
     → IsFlaw g s.config t d e → IsFirstFault g i log e
 flaw_is_fault g i log t d s (AfterEnd n) idle there leads f =
-    subst (λ (k : ℕ). IsAfterEnd g i log k) (sym f.0) (record { delivery = d; state = s; comes = record { idle = idle; there = there; before = leads }; ended = f.1 })
+    subst (λ (k : ℕ). IsAfterEnd g i log k) (sym f.0)
+    (record { delivery = d; state = s; comes = record { idle = idle; there = there; before = leads }; ended = f.1 })
 flaw_is_fault g i log t d s (NotUndelivered n) idle there leads f =
-    subst (λ (k : ℕ). IsStray g i log k) (sym f.0) (record { delivery = d; state = s; comes = record { idle = idle; there = there; before = leads }; going = f.1; stray = f.2 })
+    subst (λ (k : ℕ). IsStray g i log k) (sym f.0)
+    (record {
+      delivery = d;
+      state = s;
+      comes = record { idle = idle; there = there; before = leads };
+      going = f.1;
+      stray = f.2;
+    })
 flaw_is_fault g i log t d s (FalseHint n) idle there leads f =
-    subst (λ (k : ℕ). IsMisled g i log k) (sym f.0) (record { delivery = d; state = s; comes = record { idle = idle; there = there; before = leads }; going = f.1; there = f.2; misled = f.3 })
+    subst (λ (k : ℕ). IsMisled g i log k) (sym f.0)
+    (record {
+      delivery = d;
+      state = s;
+      comes = record { idle = idle; there = there; before = leads };
+      going = f.1;
+      there = f.2;
+      misled = f.3;
+    })
 flaw_is_fault g i log t d s NotIdle idle there leads f = absurd f
 flaw_is_fault g i log t d s NotEnded idle there leads f = absurd f
 flaw_is_fault g i log t d s Memory idle there leads f = absurd f
 
 -- an ending tells the truth
-ending_tells : (g : Graph) (i : ℕ) (log : List Delivery) (s : Going) (e : Ending) → IsWellFormed g → is_idle g i ≡ true → LeadTo g i log s → EndsAs s.config e → (e ≡ Declared) ↔ IsDeadlocked g i
+ending_tells : (g : Graph) (i : ℕ) (log : List Delivery) (s : Going) (e : Ending) → IsWellFormed g → is_idle g i ≡ true
+    → LeadTo g i log s → EndsAs s.config e → (e ≡ Declared) ↔ IsDeadlocked g i
 ending_tells g i log s e w idle leads ends =
     let right = runs_are_right any_place g i [] log e s w.within idle (record { leads = leads; ends = ends }) in
     (right.declared, λ dead. by_ending e (λ other. right.free other dead))
@@ -213,23 +254,43 @@ ending_tells g i log s e w idle leads ends =
 module _ (g : Graph) (i : ℕ) (log : List Delivery) (a : Audit) (audited : IsAudited g i log a) where
   -- all that the auditor answers of an ending
   abbrev pub IsAnswer : Option Ending → Type 0
-  IsAnswer o = IfSome o (λ e. (g : Graph) (i : ℕ) (log : List Delivery) (s : Going) → Agrees g i log s a → IsSettled a → EndsAs s.config e)
+  IsAnswer o =
+      IfSome o
+      (λ e. (g : Graph) (i : ℕ) (log : List Delivery) (s : Going) → Agrees g i log s a → IsSettled a
+      → EndsAs s.config e)
 
   -- and of none
   abbrev pub IsNoAnswer : Option Ending → Type 0
-  IsNoAnswer o = IfNone o ((g : Graph) (i : ℕ) (log : List Delivery) (s : Going) → Agrees g i log s a → IsSettled a → ¬ (HasEnded s.config))
+  IsNoAnswer o =
+      IfNone o
+      ((g : Graph) (i : ℕ) (log : List Delivery) (s : Going) → Agrees g i log s a → IsSettled a
+      → ¬ (HasEnded s.config))
 
   -- an ending makes the log a legal run
   pub answer_legal : (o : Option Ending) → IsAnswer o → IfOk (ok_or o NotEnded) (IsLegalRun g i log)
   answer_legal None f = tt
-  answer_legal (Some e) f = record { idle = audited.1.idle; end = audited.0; legal = record { leads = audited.1.leads; ends = f g i log audited.0 audited.1 audited.2 } }
+  answer_legal (Some e) f =
+      record {
+        idle = audited.1.idle;
+        end = audited.0;
+        legal = record { leads = audited.1.leads; ends = f g i log audited.0 audited.1 audited.2 };
+      }
 
   -- which tells the truth
   pub answer_true : (o : Option Ending) → IsAnswer o → IfOk (ok_or o NotEnded) (λ e. (e ≡ Declared) ↔ IsDeadlocked g i)
   answer_true None f = tt
-  answer_true (Some e) f = ending_tells g i log audited.0 e audited.1.graph audited.1.idle audited.1.leads (f g i log audited.0 audited.1 audited.2)
+  answer_true (Some e) f =
+      ending_tells g i log audited.0 e audited.1.graph audited.1.idle audited.1.leads
+      (f g i log audited.0 audited.1 audited.2)
 
   -- without an ending the log is cut short
-  pub answer_cut : (o : Option Ending) → IsNoAnswer o → IfErr (ok_or o NotEnded) (λ e. (e ≡ Memory) ⊎ IsFirstFault g i log e)
-  answer_cut None f = inr (record { idle = audited.1.idle; state = audited.0; leads = audited.1.leads; going = f g i log audited.0 audited.1 audited.2 })
+  pub answer_cut : (o : Option Ending) → IsNoAnswer o
+      → IfErr (ok_or o NotEnded) (λ e. (e ≡ Memory) ⊎ IsFirstFault g i log e)
+  answer_cut None f =
+      inr (record {
+        idle = audited.1.idle;
+        state = audited.0;
+        leads = audited.1.leads;
+        going = f g i log audited.0 audited.1 audited.2;
+      })
   answer_cut (Some e) f = tt

@@ -19,7 +19,8 @@ bit_below Reply = omega arith
 
 -- the message that parts make, each the rest of a division
 pub packed_parts : (k : Kind) (i number from to : ℕ) → i < 4096 → from < 4096 → to < 4096
-    → message_of (head_of k i number from + to) ≡ record { kind = k; initiator = i; number = number; from = from; to = to }
+    → message_of (head_of k i number from + to)
+    ≡ record { kind = k; initiator = i; number = number; from = from; to = to }
 packed_parts k i number from to hi hf ht =
     let c = number * 2 + bit_of k in
     let b = c * 4096 + i in
@@ -71,7 +72,8 @@ queries_more words new rs head i number from can room is more =
 -- ---- a word is taken
 
 -- at a word's place stands its message
-message_at : (words : List ℕ) (k word : ℕ) → slice_get words k ≡ Some word → slice_get (map message_of words) k ≡ Some (message_of word)
+message_at : (words : List ℕ) (k word : ℕ) → slice_get words k ≡ Some word
+    → slice_get (map message_of words) k ≡ Some (message_of word)
 message_at [] k word there = absurd (cc)
 message_at (w ∷ words) zero word there = let same : w ≡ word = cc in ap (λ x. Some (message_of x)) same
 message_at (w ∷ words) (suc k) word there = message_at words k word there

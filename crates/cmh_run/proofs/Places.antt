@@ -43,7 +43,8 @@ in_either (x ∷ xs) ys m (suc k, e) =
     ⊎_elim (λ (h : IsIn xs m). inl (in_rest x xs m h)) (λ (h : IsIn ys m). inr h) (in_either xs ys m (k, e))
 
 -- what is left when place x is taken stood at another place
-pub left_was : (bag : List Message) (x : ℕ) (m : Message) → IsIn (remove bag x) m → (y : ℕ) × (slice_get bag y ≡ Some m) × (y ≡ x → ⊥)
+pub left_was : (bag : List Message) (x : ℕ) (m : Message) → IsIn (remove bag x) m
+    → (y : ℕ) × (slice_get bag y ≡ Some m) × (y ≡ x → ⊥)
 left_was [] zero m h = absurd (in_nothing m h)
 left_was [] (suc x) m h = absurd (in_nothing m h)
 left_was (b ∷ bag) zero m h = (suc h.0, h.1, λ e. omega arith)
@@ -53,7 +54,8 @@ left_was (b ∷ bag) (suc x) m (suc k, e) =
     (suc rest.0, rest.1, λ q. rest.2 (omega arith))
 
 -- what stands at another place is left when place x is taken
-pub was_left : (bag : List Message) (x y : ℕ) (m : Message) → slice_get bag y ≡ Some m → (y ≡ x → ⊥) → IsIn (remove bag x) m
+pub was_left : (bag : List Message) (x y : ℕ) (m : Message) → slice_get bag y ≡ Some m → (y ≡ x → ⊥)
+    → IsIn (remove bag x) m
 was_left [] x y m h w = absurd (cc)
 was_left (b ∷ bag) zero zero m h w = absurd (w refl)
 was_left (b ∷ bag) zero (suc y) m h w = (y, h)
@@ -77,7 +79,8 @@ few_of q (d ∷ ds) h =
     let c = contains_from_tally q ds more in
     h (suc c.0) 0 (omega (arith, c.1)) (omega arith) (e ∙ sym (same_get ds c.0 q 0 c.1 ∙ c.2)) in
     rw (eq-eqb d q e) (omega arith))
-    (λ (w : d ≡ q → ⊥). rw (ne_eqb d q w) (omega (arith, few_of q ds (λ j k l m. h (suc j) (suc k) (omega arith) (omega arith)))))
+    (λ (w : d ≡ q → ⊥). rw (ne_eqb d q w)
+    (omega (arith, few_of q ds (λ j k l m. h (suc j) (suc k) (omega arith) (omega arith)))))
     (cases_eq d q)
   where
     same_get : (es : List ℕ) (k d e : ℕ) → k < length es → get_or es k e ≡ get_or es k d
@@ -90,23 +93,32 @@ once : (g : Graph) → IsWellFormed g → (p q : ℕ) → p < process_count g �
 once g w p q within = few_of q (dependents_of g p) (λ j k l m. w.distinct p j k (within, l) m)
 
 -- two places with one message count two along its dependency
-two_places : (n a r : ℕ) (bag : List Message) (x y : ℕ) (m : Message) → (x ≡ y → ⊥) → slice_get bag x ≡ Some m → slice_get bag y ≡ Some m → token n a r m ≡ 1 → 2 ≤ tokens n bag a r
+two_places : (n a r : ℕ) (bag : List Message) (x y : ℕ) (m : Message) → (x ≡ y → ⊥) → slice_get bag x ≡ Some m
+    → slice_get bag y ≡ Some m → token n a r m ≡ 1 → 2 ≤ tokens n bag a r
 two_places n a r [] x y m d there also one = absurd (cc)
 two_places n a r (z ∷ bag) zero zero m d there also one = absurd (d refl)
 two_places n a r (z ∷ bag) zero (suc y) m d there also one =
-    rw (sum_by-cons (token n a r) z bag) (let same : z ≡ m = cc in rw same (omega (arith, one, tokens-remove n bag y m a r also)))
+    rw (sum_by-cons (token n a r) z bag)
+    (let same : z ≡ m = cc in rw same (omega (arith, one, tokens-remove n bag y m a r also)))
 two_places n a r (z ∷ bag) (suc x) zero m d there also one =
-    rw (sum_by-cons (token n a r) z bag) (let same : z ≡ m = cc in rw same (omega (arith, one, tokens-remove n bag x m a r there)))
+    rw (sum_by-cons (token n a r) z bag)
+    (let same : z ≡ m = cc in rw same (omega (arith, one, tokens-remove n bag x m a r there)))
 two_places n a r (z ∷ bag) (suc x) (suc y) m d there also one =
     rw (sum_by-cons (token n a r) z bag) (omega (arith, two_places n a r bag x y m (λ e. d (ap suc e)) there also one))
 
 -- in a run with one start a message stands in the bag at one place
-pub one_place : (g : Graph) (i : ℕ) (c : Config) → IsWellFormed g → Live g i c.number (proc_at c.procs) c.bag c.engaged → c.number ≡ 1
+pub one_place : (g : Graph) (i : ℕ) (c : Config) → IsWellFormed g → Live g i c.number (proc_at c.procs) c.bag c.engaged
+    → c.number ≡ 1
     → (x y : ℕ) (m : Message) → slice_get c.bag x ≡ Some m → slice_get c.bag y ≡ Some m → x ≡ y
 one_place g i c w L first x y m there also =
     let fine = each_at (Fine g i c.number (proc_at c.procs)) c.bag x m L.fine there in
     let newest : m.number ≡ c.number = omega (arith, first, fine.low, fine.positive) in
-    let one : token c.number (edge_from m.kind m) (edge_to m.kind m) m ≡ 1 = rw (eq-eqb m.number c.number newest, eq-eqb (edge_from m.kind m) (edge_from m.kind m) refl, eq-eqb (edge_to m.kind m) (edge_to m.kind m) refl) refl in
+    let one : token c.number (edge_from m.kind m) (edge_to m.kind m) m ≡ 1 =
+    rw (
+      eq-eqb m.number c.number newest,
+      eq-eqb (edge_from m.kind m) (edge_from m.kind m) refl,
+      eq-eqb (edge_to m.kind m) (edge_to m.kind m) refl,
+    ) refl in
     ⊎_elim (λ (e : x ≡ y). e)
     (λ (d : x ≡ y → ⊥). absurd (omega (
       arith,

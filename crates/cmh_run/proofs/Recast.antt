@@ -33,7 +33,8 @@ pub kept_append : (n : ℕ) (xs ys : List Message) → kept n (xs ++ ys) ≡ kep
 kept_append n [] ys = refl
 kept_append n (m ∷ xs) ys =
     by_test (eqb m.number n)
-    (λ b. cond b (renumbered m ∷ kept n (xs ++ ys)) (kept n (xs ++ ys)) ≡ cond b (renumbered m ∷ kept n xs) (kept n xs) ++ kept n ys)
+    (λ b. cond b (renumbered m ∷ kept n (xs ++ ys)) (kept n (xs ++ ys))
+    ≡ cond b (renumbered m ∷ kept n xs) (kept n xs) ++ kept n ys)
     (λ e. ap (λ (zs : List Message). renumbered m ∷ zs) (kept_append n xs ys)) (λ e. kept_append n xs ys)
 
 -- a message of computation n stands at its place among those
@@ -45,7 +46,8 @@ kept_at n (y ∷ bag) zero m h e =
     rw (same, eq-eqb m.number n e) refl
 kept_at n (y ∷ bag) (suc x) m h e =
     by_test (eqb y.number n)
-    (λ b. slice_get (cond b (renumbered y ∷ kept n bag) (kept n bag)) (cond b (suc (place_among n bag x)) (place_among n bag x)) ≡ Some (renumbered m))
+    (λ b. slice_get (cond b (renumbered y ∷ kept n bag) (kept n bag))
+    (cond b (suc (place_among n bag x)) (place_among n bag x)) ≡ Some (renumbered m))
     (λ t. kept_at n bag x m h e) (λ t. kept_at n bag x m h e)
 
 -- once it is taken, the others are those without it
@@ -57,7 +59,9 @@ kept_taken n (y ∷ bag) zero m h e =
     rw (same, eq-eqb m.number n e) refl
 kept_taken n (y ∷ bag) (suc x) m h e =
     by_test (eqb y.number n)
-    (λ b. cond b (renumbered y ∷ kept n (remove bag x)) (kept n (remove bag x)) ≡ remove (cond b (renumbered y ∷ kept n bag) (kept n bag)) (cond b (suc (place_among n bag x)) (place_among n bag x)))
+    (λ b. cond b (renumbered y ∷ kept n (remove bag x)) (kept n (remove bag x))
+    ≡ remove (cond b (renumbered y ∷ kept n bag) (kept n bag))
+    (cond b (suc (place_among n bag x)) (place_among n bag x)))
     (λ t. ap (λ (zs : List Message). renumbered y ∷ zs) (kept_taken n bag x m h e)) (λ t. kept_taken n bag x m h e)
 
 -- a message of another computation may be taken, and they stay the same
@@ -69,11 +73,13 @@ kept_other n (y ∷ bag) zero m h e =
     rw (same, ne_eqb m.number n e) refl
 kept_other n (y ∷ bag) (suc x) m h e =
     by_test (eqb y.number n)
-    (λ b. cond b (renumbered y ∷ kept n (remove bag x)) (kept n (remove bag x)) ≡ cond b (renumbered y ∷ kept n bag) (kept n bag))
+    (λ b. cond b (renumbered y ∷ kept n (remove bag x)) (kept n (remove bag x))
+    ≡ cond b (renumbered y ∷ kept n bag) (kept n bag))
     (λ t. ap (λ (zs : List Message). renumbered y ∷ zs) (kept_other n bag x m h e)) (λ t. kept_other n bag x m h e)
 
 -- queries of computation n, as it has them
-kept_queries : (n i k : ℕ) (ds : List ℕ) → kept n (map (λ (r : ℕ). query i n k r) ds) ≡ map (λ (r : ℕ). query i 1 k r) ds
+kept_queries : (n i k : ℕ) (ds : List ℕ)
+    → kept n (map (λ (r : ℕ). query i n k r) ds) ≡ map (λ (r : ℕ). query i 1 k r) ds
 kept_queries n i k [] = refl
 kept_queries n i k (d ∷ ds) = rw (eq-eqb n n refl, kept_queries n i k ds) refl
 
@@ -122,7 +128,8 @@ module _ (n : ℕ) (p : Proc) (low : p.latest ≤ n) (positive : 0 < n) where
   pub same_query_action : (from size : ℕ) → query_action (recast n p) 1 from size ≡ query_action p n from size
   same_query_action from size = rw same_engages
       (by_test (engages p n)
-      (λ b. cond b (engage_action from size) (repeat_action (recast n p) 1 from) ≡ cond b (engage_action from size) (repeat_action p n from))
+      (λ b. cond b (engage_action from size) (repeat_action (recast n p) 1 from)
+      ≡ cond b (engage_action from size) (repeat_action p n from))
       (λ e. refl) (λ e. rw (eq-eqb p.latest n (in_it e)) refl))
 
   -- a reply counts for both or for neither
@@ -135,7 +142,9 @@ module _ (n : ℕ) (p : Proc) (low : p.latest ≤ n) (positive : 0 < n) where
 
   -- a process for which a reply counts is in computation n
   counts_in : counts p n ≡ true → p.latest ≡ n
-  counts_in e = eqb-true p.latest n (and_parts (eqb p.latest n) (ltb 0 p.num) (and_parts p.wait (eqb p.latest n && ltb 0 p.num) e).1).0
+  counts_in e =
+      eqb-true p.latest n
+      (and_parts (eqb p.latest n) (ltb 0 p.num) (and_parts p.wait (eqb p.latest n && ltb 0 p.num) e).1).0
 
   -- after a reply they are still the same
   pub same_replied : proc_replied (recast n p) 1 ≡ recast n (proc_replied p n)
@@ -148,7 +157,8 @@ module _ (n : ℕ) (p : Proc) (low : p.latest ≤ n) (positive : 0 < n) where
   pub same_reply_action : reply_action (recast n p) 1 ≡ reply_action p n
   same_reply_action = rw same_counts
       (by_test (counts p n)
-      (λ b. cond b (cond (eqb (recast n p).num 1) (last_action (recast n p).engager) Nothing) Nothing ≡ cond b (cond (eqb p.num 1) (last_action p.engager) Nothing) Nothing)
+      (λ b. cond b (cond (eqb (recast n p).num 1) (last_action (recast n p).engager) Nothing) Nothing
+      ≡ cond b (cond (eqb p.num 1) (last_action p.engager) Nothing) Nothing)
       (λ e. rw (eq-eqb p.latest n (counts_in e)) refl) (λ e. refl))
 
 -- ---- a process and a message of an older computation
@@ -159,7 +169,8 @@ module _ (n l : ℕ) (p : Proc) (below : l < n) where
   queried_below from size =
       by_test (engages p l)
       (λ b. recast n (cond b (proc_engaged l from size) p) ≡ recast n p)
-      (λ e. let h = ltb-true p.latest l e in rw (ne_eqb l n (λ q. omega arith), ne_eqb p.latest n (λ q. omega arith)) refl)
+      (λ e. let h = ltb-true p.latest l e in
+      rw (ne_eqb l n (λ q. omega arith), ne_eqb p.latest n (λ q. omega arith)) refl)
       (λ e. refl)
 
   -- nor does a reply
@@ -168,20 +179,24 @@ module _ (n l : ℕ) (p : Proc) (below : l < n) where
       by_test (counts p l)
       (λ b. recast n (cond b (lowered p) p) ≡ recast n p)
       (λ e.
-      let same : p.latest ≡ l = eqb-true p.latest l (and_parts (eqb p.latest l) (ltb 0 p.num) (and_parts p.wait (eqb p.latest l && ltb 0 p.num) e).1).0 in
+      let same : p.latest ≡ l =
+      eqb-true p.latest l
+      (and_parts (eqb p.latest l) (ltb 0 p.num) (and_parts p.wait (eqb p.latest l && ltb 0 p.num) e).1).0 in
       rw (ne_eqb p.latest n (λ q. omega arith)) refl)
       (λ e. refl)
 
 -- ---- all processes
 
 -- at each place stands the process there, as computation n has it
-pub recast_at : (n : ℕ) (procs : List Proc) (k : ℕ) → 0 < n → proc_at (map (recast n) procs) k ≡ recast n (proc_at procs k)
+pub recast_at : (n : ℕ) (procs : List Proc) (k : ℕ) → 0 < n
+    → proc_at (map (recast n) procs) k ≡ recast n (proc_at procs k)
 recast_at n [] k h = rw (ne_eqb 0 n (λ e. omega arith)) refl
 recast_at n (p ∷ procs) zero h = refl
 recast_at n (p ∷ procs) (suc k) h = recast_at n procs k h
 
 -- before anybody is in computation n, nobody has heard of anything
-pub all_fresh : (n : ℕ) (procs : List Proc) → ((k : ℕ) → (proc_at procs k).latest < n) → map (recast n) procs ≡ replicate (length procs) fresh
+pub all_fresh : (n : ℕ) (procs : List Proc) → ((k : ℕ) → (proc_at procs k).latest < n)
+    → map (recast n) procs ≡ replicate (length procs) fresh
 all_fresh n [] h = refl
 all_fresh n (p ∷ procs) h =
     let first : p.latest < n = h 0 in

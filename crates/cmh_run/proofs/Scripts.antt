@@ -1,12 +1,12 @@
 -- What entries tell, and which of them are refused.
-use Rattle.std.proofs.Common.{◌≡◌, ◌≢◌, ℕ, suc, ◌<◌, ◌≤◌, Bool, true, false, cond, eqb, List, [], ◌∷◌, length, get_or, slice_get, Some, refl, sym, ◌∙◌, ap, subst, arith, IfSome}
+use Rattle.std.proofs.Common.{◌≡◌, ◌≢◌, ℕ, suc, ◌<◌, ◌≤◌, cond, eqb, List, [], ◌∷◌, length, get_or, slice_get, Some, refl, sym, ◌∙◌, ap, subst, arith, IfSome}
 use Rattle.std.specs.Prelude.{option_map, find}
 use Rattle.std.proofs.lemmas.Bool.{eqb-true, and_parts}
 use Rattle.std.proofs.lemmas.Option.{same_Some, slice_get-get_or}
 use Rattle.cmh_graph.specs.declared.verdict.Verdict.{Verdict}
 use Rattle.cmh_graph.specs.declared.verdict.Verdict.TheVariants.{Deadlocked, Free}
 use Rattle.cmh_graph.specs.Graph.{Graph, process_count, IsWithinGraph}
-use Rattle.cmh_graph.specs.Verdict.{is_deadlocked, verdict, verdicts, IsVerdict}
+use Rattle.cmh_graph.specs.Verdict.{verdict, verdicts, IsVerdict}
 use Rattle.cmh_graph.specs.Judge.{IsFirst}
 use Rattle.cmh_graph.proofs.Listing.{length-by_index, by_index}
 use Rattle.cmh_graph.proofs.Verdicts.{one_verdict, verdict_true}

@@ -22,7 +22,8 @@ abbrev pub weight : ℕ → (ℕ → Proc) → (ℕ → ℕ → ℕ) → ℕ →
 weight m P T k r = T k r + one_if (owes m k (P r))
 
 -- out k: the dependents of which k still waits to hear. rank: the order of engagement.
-pub record Sound (g : Graph) (i m : ℕ) (P : ℕ → Proc) (T : ℕ → ℕ → ℕ) (out : ℕ → List ℕ) (rank : ℕ → ℕ) (clock : ℕ) : Type 0 where
+pub record Sound (g : Graph) (i m : ℕ) (P : ℕ → Proc) (T : ℕ → ℕ → ℕ) (out : ℕ → List ℕ) (rank : ℕ → ℕ)
+    (clock : ℕ) : Type 0 where
   pub positive : 0 < m
   pub root_in : (P i).latest ≡ m
   pub root_top : (P i).engager ≡ None
@@ -37,7 +38,8 @@ pub record Sound (g : Graph) (i m : ℕ) (P : ℕ → Proc) (T : ℕ → ℕ →
   pub clocked : (k : ℕ) → (P k).latest ≡ m → rank k < clock
   pub held : (k r : ℕ) → weight m P T k r ≤ tally r (out k)
   pub kept : (k r : ℕ) → is_awake g r ≡ false → tally r (out k) ≤ weight m P T k r
-  pub settled : (k : ℕ) → (P k).latest ≡ m → IsDeadlocked g k ⊎ ((r : ℕ) → Contains (dependents_of g k) r → (0 < tally r (out k)) ⊎ ((P r).latest ≡ m))
+  pub settled : (k : ℕ) → (P k).latest ≡ m
+      → IsDeadlocked g k ⊎ ((r : ℕ) → Contains (dependents_of g k) r → (0 < tally r (out k)) ⊎ ((P r).latest ≡ m))
   pub known : (k r : ℕ) → 0 < tally r (out k) → Depends g k r
   pub few : (k r : ℕ) → tally r (out k) ≤ tally r (dependents_of g k)
 
@@ -63,13 +65,15 @@ one_if_true : (b : Bool) → 0 < one_if b → b ≡ true
 one_if_true true h = refl
 one_if_true false h = absurd (omega arith)
 
-module _ (g : Graph) (i m : ℕ) (P : ℕ → Proc) (T : ℕ → ℕ → ℕ) (out : ℕ → List ℕ) (rank : ℕ → ℕ) (clock : ℕ) (s : Sound g i m P T out rank clock) where
+module _ (g : Graph) (i m : ℕ) (P : ℕ → Proc) (T : ℕ → ℕ → ℕ) (out : ℕ → List ℕ) (rank : ℕ → ℕ) (clock : ℕ)
+    (s : Sound g i m P T out rank clock) where
   -- once the initiator has all its replies, so has everyone that is engaged
   none_waits_below : (P i).num ≡ 0 → (n k : ℕ) → rank k < n → (P k).latest ≡ m → (P k).num ≡ 0
   none_waits_below top zero k h l = absurd (omega arith)
   none_waits_below top (suc n) k h l = by_engager (P k).engager refl (λ e. none_waits_below top n e)
     where
-      by_engager : (o : Option ℕ) → (P k).engager ≡ o → ((e : ℕ) → rank e < n → (P e).latest ≡ m → (P e).num ≡ 0) → (P k).num ≡ 0
+      by_engager : (o : Option ℕ) → (P k).engager ≡ o → ((e : ℕ) → rank e < n → (P e).latest ≡ m → (P e).num ≡ 0)
+          → (P k).num ≡ 0
       by_engager None e ih =
           let same : k ≡ i = s.tops k (omega (arith, s.positive, l)) e in
           rw same top
@@ -95,26 +99,32 @@ module _ (g : Graph) (i m : ℕ) (P : ℕ → Proc) (T : ℕ → ℕ → ℕ) (o
       (λ (d : IsDeadlocked g k). d.1 q (reaches_leading g k q (r ∷ rest) h))
       (λ (all : (x : ℕ) → Contains (dependents_of g k) x → (0 < tally x (out k)) ⊎ ((P x).latest ≡ m)).
       ⊎_elim
-      (λ (more : 0 < tally r (out k)). absurd (omega (arith, tally-le-length r (out k), s.nums k l, none_waits top k l)))
+      (λ (more : 0 < tally r (out k)). absurd
+      (omega (arith, tally-le-length r (out k), s.nums k l, none_waits top k l)))
       (λ (in_it : (P r).latest ≡ m). all_rest top rest r q in_it h.1)
       (all r h.0.1))
       (s.settled k l)
 
   -- then everyone in its computation is deadlocked
   pub engaged_deadlocked : (P i).num ≡ 0 → (k : ℕ) → (P k).latest ≡ m → IsDeadlocked g k
-  engaged_deadlocked top k l =
-      (asleep_is_idle g k (s.rests k (omega (arith, s.positive, l))), λ q way. let on = leads_reached g k q way in all_rest top on.0 k q l on.1)
+  engaged_deadlocked top k l = (
+    asleep_is_idle g k (s.rests k (omega (arith, s.positive, l))),
+    λ q way. let on = leads_reached g k q way in
+        all_rest top on.0 k q l on.1,
+  )
 
   -- nothing of this computation is on its way then
   pub none_on_way : (P i).num ≡ 0 → (k r : ℕ) → T k r ≡ 0
   none_on_way top k r =
       ⊎_elim
       (λ (l : (P k).latest ≡ m). omega (arith, s.held k r, tally-le-length r (out k), s.nums k l, none_waits top k l))
-      (λ (l : (P k).latest ≡ m → ⊥). omega (arith, s.held k r, tally-le-length r (out k), s.idle_out k (omega (arith, s.latest k, l))))
+      (λ (l : (P k).latest ≡ m → ⊥). omega
+      (arith, s.held k r, tally-le-length r (out k), s.idle_out k (omega (arith, s.latest k, l))))
       (cases_eq (P k).latest m)
 
   -- where nothing is on its way and nobody awake can be reached, nobody waits
-  at_rest_above : IsDeadlocked g i → ((k r : ℕ) → T k r ≡ 0) → (n k : ℕ) → clock ≤ rank k + n → (P k).latest ≡ m → (P k).num ≡ 0
+  at_rest_above : IsDeadlocked g i → ((k r : ℕ) → T k r ≡ 0) → (n k : ℕ) → clock ≤ rank k + n → (P k).latest ≡ m
+      → (P k).num ≡ 0
   at_rest_above dead none zero k h l = absurd (omega (arith, s.clocked k l))
   at_rest_above dead none (suc n) k h l =
       ⊎_elim (λ (z : (P k).num ≡ 0). z)
@@ -124,9 +134,11 @@ module _ (g : Graph) (i m : ℕ) (P : ℕ → Proc) (T : ℕ → ℕ → ℕ) (o
       waits : 0 < (P k).num → ((r : ℕ) → clock ≤ rank r + n → (P r).latest ≡ m → (P r).num ≡ 0) → ⊥
       waits more ih =
           let some : (r : ℕ) × (0 < tally r (out k)) = some_tally (out k) (omega (arith, s.nums k l)) in
-          let way : Reaches g i some.0 = reaches_more g i k some.0 (s.reached k (omega (arith, s.positive, l))) (s.known k some.0 some.1) in
+          let way : Reaches g i some.0 =
+          reaches_more g i k some.0 (s.reached k (omega (arith, s.positive, l))) (s.known k some.0 some.1) in
           let kept : tally some.0 (out k) ≤ weight m P T k some.0 = s.kept k some.0 (dead.1 some.0 way) in
-          let owed = owes_parts m k (P some.0) (one_if_true (owes m k (P some.0)) (omega (arith, none k some.0, some.1))) in
+          let owed =
+          owes_parts m k (P some.0) (one_if_true (owes m k (P some.0)) (omega (arith, none k some.0, some.1))) in
           let later : rank k < rank some.0 = (s.parents some.0 k owed.0 owed.1).1 in
           let zero_r : (P some.0).num ≡ 0 = ih some.0 (omega arith) owed.0 in
           omega (arith, owed.2)

@@ -18,22 +18,30 @@ took_none new x None e = record { none = (λ n. λ i. [], λ n. search rules); t
 took_none new x (Some m) e = cc
 
 -- where there are some, the first of those that were put in order is taken
-took_one : {A : Type 0} (old mid new : List A) (x : ℕ) (m : A) (r : Option A) → 0 < length old → slice_get old x ≡ Some m
+took_one : {A : Type 0} (old mid new : List A) (x : ℕ) (m : A) (r : Option A) → 0 < length old
+    → slice_get old x ≡ Some m
     → mid ≡ m ∷ remove old x → mid ≡ option_to_list r ++ new → new ≡ drop 1 mid → Took old new x r
 took_one old mid new x m None l there put popped rest =
     absurd (omega (arith, ap length (popped ∙ rest ∙ ap (drop 1) put), ap length put))
 took_one old mid new x m (Some a) l there put popped rest =
     let same : a ≡ m = cc in
-    record { none = (λ n. absurd (cc), λ e. absurd (omega (arith, l, ap length e))); taken = there ∙ ap Some (sym same); rest = rest ∙ ap (drop 1) put; unchanged = tt }
+    record {
+      none = (λ n. absurd (cc), λ e. absurd (omega (arith, l, ap length e)));
+      taken = there ∙ ap Some (sym same);
+      rest = rest ∙ ap (drop 1) put;
+      unchanged = tt;
+    }
 
 -- both
 pub took : {A : Type 0} (old mid new : List A) (x : ℕ) (r : Option A)
-    → (0 < length old → x < length old) → (old ≡ [] → mid ≡ []) → ((m : A) → slice_get old x ≡ Some m → mid ≡ m ∷ remove old x)
+    → (0 < length old → x < length old) → (old ≡ [] → mid ≡ [])
+    → ((m : A) → slice_get old x ≡ Some m → mid ≡ m ∷ remove old x)
     → mid ≡ option_to_list r ++ new → new ≡ drop 1 mid → Took old new x r
 took [] mid new x r within none first popped rest = took_none new x r (sym (none (λ i. [])) ∙ popped)
 took (y ∷ ys) mid new x r within none first popped rest =
     let there = slice_get-get_or (y ∷ ys) x y (within (omega arith)) in
-    took_one (y ∷ ys) mid new x (get_or (y ∷ ys) x y) r (omega arith) there (first (get_or (y ∷ ys) x y) there) popped rest
+    took_one (y ∷ ys) mid new x (get_or (y ∷ ys) x y) r (omega arith) there
+    (first (get_or (y ∷ ys) x y) there) popped rest
 
 -- ---- one that is brought to the front
 
@@ -63,20 +71,25 @@ past_taken xs rest t l =
     ap (λ n. drop n (take t xs ++ rest)) (sym (length-take-le t xs l)) ∙ drop-append_seam (take t xs) rest
 
 -- so it is where they stand behind some that were taken
-pub brought_in : {A : Type 0} (xs turned now : List A) (t x k : ℕ) (m : A) → t ≤ length xs → drop t xs ≡ now → x < length now → k ≡ suc x → slice_get now x ≡ Some m
-    → turned ≡ drop (length (take k (drop t xs)) - 1) (take k (drop t xs)) ++ take (length (take k (drop t xs)) - 1) (take k (drop t xs))
+pub brought_in : {A : Type 0} (xs turned now : List A) (t x k : ℕ) (m : A) → t ≤ length xs → drop t xs ≡ now
+    → x < length now → k ≡ suc x → slice_get now x ≡ Some m
+    → turned
+    ≡ drop (length (take k (drop t xs)) - 1) (take k (drop t xs))
+    ++ take (length (take k (drop t xs)) - 1) (take k (drop t xs))
     → drop t (take t xs ++ (turned ++ drop k (drop t xs))) ≡ m ∷ remove now x
 brought_in xs turned now t x k m l are within is there by =
     let last : length (take (suc x) now) - 1 ≡ x = omega (arith, length-take-le (suc x) now (omega arith)) in
     past_taken xs (turned ++ drop k (drop t xs)) t l
     ∙ ap (λ r. r ++ drop k (drop t xs)) by
     ∙ ap (λ v. (drop (length (take k v) - 1) (take k v) ++ take (length (take k v) - 1) (take k v)) ++ drop k v) are
-    ∙ ap (λ j. (drop (length (take j now) - 1) (take j now) ++ take (length (take j now) - 1) (take j now)) ++ drop j now) is
+    ∙ ap (λ j. (drop (length (take j now) - 1) (take j now) ++ take (length (take j now) - 1) (take j now))
+    ++ drop j now) is
     ∙ ap (λ n. (drop n (take (suc x) now) ++ take n (take (suc x) now)) ++ drop (suc x) now) last
     ∙ brought now x m there
 
 -- nor does it change how many there are
-pub turned_length : {A : Type 0} (xs turned : List A) (t k : ℕ) → t ≤ length xs → k ≤ length (drop t xs) → length turned ≡ k
+pub turned_length : {A : Type 0} (xs turned : List A) (t k : ℕ) → t ≤ length xs → k ≤ length (drop t xs)
+    → length turned ≡ k
     → length (take t xs ++ (turned ++ drop k (drop t xs))) ≡ length xs
 turned_length xs turned t k l low is = omega (
   arith,

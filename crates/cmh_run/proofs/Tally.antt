@@ -30,16 +30,20 @@ pub length-without_one : (r : ℕ) (ys : List ℕ) → 0 < tally r ys → length
 length-without_one r [] h = omega arith
 length-without_one r (y ∷ ys) h = step (eqb y r) h (length-without_one r ys)
   where
-    step : (b : Bool) → 0 < one_if b + tally r ys → (0 < tally r ys → length (without_one r ys) + 1 ≡ length ys) → length (cond b ys (y ∷ without_one r ys)) + 1 ≡ suc (length ys)
+    step : (b : Bool) → 0 < one_if b + tally r ys → (0 < tally r ys → length (without_one r ys) + 1 ≡ length ys)
+        → length (cond b ys (y ∷ without_one r ys)) + 1 ≡ suc (length ys)
     step true h ih = omega arith
     step false h ih = omega (arith, ih (omega arith))
 
 -- without one r, r stands in the list once less, and any other as often as before
-pub tally-without_one : (r x : ℕ) (ys : List ℕ) → 0 < tally r ys → tally x (without_one r ys) + one_if (eqb r x) ≡ tally x ys
+pub tally-without_one : (r x : ℕ) (ys : List ℕ) → 0 < tally r ys
+    → tally x (without_one r ys) + one_if (eqb r x) ≡ tally x ys
 tally-without_one r x [] h = omega arith
 tally-without_one r x (y ∷ ys) h = step (eqb y r) refl h (tally-without_one r x ys)
   where
-    step : (b : Bool) → eqb y r ≡ b → 0 < one_if b + tally r ys → (0 < tally r ys → tally x (without_one r ys) + one_if (eqb r x) ≡ tally x ys) → tally x (cond b ys (y ∷ without_one r ys)) + one_if (eqb r x) ≡ one_if (eqb y x) + tally x ys
+    step : (b : Bool) → eqb y r ≡ b → 0 < one_if b + tally r ys
+        → (0 < tally r ys → tally x (without_one r ys) + one_if (eqb r x) ≡ tally x ys)
+        → tally x (cond b ys (y ∷ without_one r ys)) + one_if (eqb r x) ≡ one_if (eqb y x) + tally x ys
     step true e h ih = let same : y ≡ r = eqb-true y r e in rw (← same) (omega arith)
     step false e h ih = omega (arith, ih (omega arith))
 

@@ -76,7 +76,8 @@ abbrev pub tokens : ℕ → List Message → ℕ → ℕ → ℕ
 tokens m bag k r = sum_by (token m k r) bag
 
 -- a message of computation m along a dependency has that number and these two ends
-pub is_token_parts : (m k r : ℕ) (x : Message) → is_token m k r x ≡ true → (x.number ≡ m) × (k ≡ edge_from x.kind x) × (edge_to x.kind x ≡ r)
+pub is_token_parts : (m k r : ℕ) (x : Message) → is_token m k r x ≡ true
+    → (x.number ≡ m) × (k ≡ edge_from x.kind x) × (edge_to x.kind x ≡ r)
 is_token_parts m k r x h =
     let a = and_parts (eqb x.number m) (eqb k (edge_from x.kind x) && eqb (edge_to x.kind x) r) h in
     let b = and_parts (eqb k (edge_from x.kind x)) (eqb (edge_to x.kind x) r) a.1 in
@@ -87,14 +88,16 @@ pub token_old : (m k r : ℕ) (x : Message) → (x.number ≡ m → ⊥) → tok
 token_old m k r x h = rw (ne_eqb x.number m h) refl
 
 -- a message that is taken counts no longer along its dependency
-pub tokens-remove : (m : ℕ) (bag : List Message) (n : ℕ) (x : Message) (k r : ℕ) → slice_get bag n ≡ Some x → tokens m (remove bag n) k r + token m k r x ≡ tokens m bag k r
+pub tokens-remove : (m : ℕ) (bag : List Message) (n : ℕ) (x : Message) (k r : ℕ) → slice_get bag n ≡ Some x
+    → tokens m (remove bag n) k r + token m k r x ≡ tokens m bag k r
 tokens-remove m bag n x k r e =
     let same : get_or bag n x ≡ x = get_or_from_slice_get bag n x x e in
     let h = sum_by-remove (token m k r) bag n x (slice_get_within bag n x e) in
     subst (λ (y : Message). tokens m (remove bag n) k r + token m k r y ≡ tokens m bag k r) same h
 
 -- along a dependency, two lists of messages count together what each counts
-pub tokens-append : (m : ℕ) (xs ys : List Message) (k r : ℕ) → tokens m (xs ++ ys) k r ≡ tokens m xs k r + tokens m ys k r
+pub tokens-append : (m : ℕ) (xs ys : List Message) (k r : ℕ)
+    → tokens m (xs ++ ys) k r ≡ tokens m xs k r + tokens m ys k r
 tokens-append m xs ys k r = sum_by-append (token m k r) xs ys
 
 -- a single message counts what it is along a dependency
@@ -102,18 +105,26 @@ pub tokens-one : (m : ℕ) (x : Message) (k r : ℕ) → tokens m (x ∷ []) k r
 tokens-one m x k r = omega arith
 
 -- queries from a count along its dependency on r as often as they go to r, and along no others
-pub tokens-queries : (i m n a k r : ℕ) (ds : List ℕ) → n ≡ m → tokens m (map (λ (y : ℕ). query i n a y) ds) k r ≡ cond (eqb k a) (tally r ds) 0
+pub tokens-queries : (i m n a k r : ℕ) (ds : List ℕ) → n ≡ m
+    → tokens m (map (λ (y : ℕ). query i n a y) ds) k r ≡ cond (eqb k a) (tally r ds) 0
 tokens-queries i m n a k r [] e = place a k (λ b. ◌≡◌ {A = ℕ} 0 (cond b 0 0)) (λ q. refl) (λ q. refl)
 tokens-queries i m n a k r (d ∷ ds) e =
-    rw (sum_by-cons (token m k r) (query i n a d) (map (λ (y : ℕ). query i n a y) ds), tokens-queries i m n a k r ds e, eq-eqb n m e)
-    (place a k (λ b. one_if (b && eqb d r) + cond b (tally r ds) 0 ≡ cond b (one_if (eqb d r) + tally r ds) 0) (λ q. refl) (λ q. omega arith))
+    rw (
+      sum_by-cons (token m k r) (query i n a d) (map (λ (y : ℕ). query i n a y) ds),
+      tokens-queries i m n a k r ds e,
+      eq-eqb n m e,
+    )
+    (place a k (λ b. one_if (b && eqb d r) + cond b (tally r ds) 0 ≡ cond b (one_if (eqb d r) + tally r ds) 0)
+    (λ q. refl) (λ q. omega arith))
 
 -- messages with other numbers count nothing in computation m
 pub tokens-old : (m : ℕ) (k r : ℕ) (xs : List Message) → Each (λ x. x.number ≡ m → ⊥) xs → tokens m xs k r ≡ 0
 tokens-old m k r [] a = refl
-tokens-old m k r (x ∷ xs) a = rw (sum_by-cons (token m k r) x xs) (omega (arith, token_old m k r x a.0, tokens-old m k r xs a.1))
+tokens-old m k r (x ∷ xs) a =
+    rw (sum_by-cons (token m k r) x xs) (omega (arith, token_old m k r x a.0, tokens-old m k r xs a.1))
 
 -- the processes of a list with p at place k are those of the list with process k changed to p
-pub set_is : (procs : List Proc) (k : ℕ) (p : Proc) → k < length procs → ◌≡◌ {A = ℕ → Proc} (proc_at (set procs k p)) (upd (proc_at procs) k p)
+pub set_is : (procs : List Proc) (k : ℕ) (p : Proc) → k < length procs
+    → ◌≡◌ {A = ℕ → Proc} (proc_at (set procs k p)) (upd (proc_at procs) k p)
 set_is procs k p h = fun_ext (λ x. place k x (λ b. get_or (set procs k p) x fresh ≡ cond b p (get_or procs x fresh))
     (λ q. rw q (get_or-set_same procs k p fresh h)) (λ n. get_or-set_other procs k x p fresh n))

@@ -26,22 +26,30 @@ one_in k j (zero, l, e) = sym e
 one_in k j (suc i, l, e) = absurd (omega (arith, l))
 
 -- once a process has taken part it is one of them
-pub one_touched : (touched : List ℕ) (procs : List Proc) (k : ℕ) (p : Proc) → AreTouched touched procs → k < length procs → AreTouched (touched ++ k ∷ []) (slice_set procs k p)
+pub one_touched : (touched : List ℕ) (procs : List Proc) (k : ℕ) (p : Proc) → AreTouched touched procs
+    → k < length procs → AreTouched (touched ++ k ∷ []) (slice_set procs k p)
 one_touched touched procs k p h l = record {
-  within = rw (length-set procs k p) (All-append (λ j. j < length procs) touched (k ∷ []) h.within (all_one (λ j. j < length procs) k l));
+  within =
+      rw (length-set procs k p)
+      (All-append (λ j. j < length procs) touched (k ∷ []) h.within (all_one (λ j. j < length procs) k l));
   others = λ j out.
-      let other : j ≢ k = λ e. out (Contains-append_right touched (k ∷ []) j (subst (Contains (k ∷ [])) (sym e) (zero, omega arith, refl))) in
+      let other : j ≢ k =
+      λ e. out
+      (Contains-append_right touched (k ∷ []) j
+      (subst (Contains (k ∷ [])) (sym e) (zero, omega arith, refl))) in
       get_or-set_other procs k j p fresh other ∙ h.others j (λ c. out (Contains-append_left touched (k ∷ []) j c));
 }
 
 -- a query that doesn't engage its receiver changes nothing
-pub asked_in_vain : (touched : List ℕ) (procs : List Proc) (k number from size : ℕ) → AreTouched touched procs → engages (proc_at procs k) number ≡ false
+pub asked_in_vain : (touched : List ℕ) (procs : List Proc) (k number from size : ℕ) → AreTouched touched procs
+    → engages (proc_at procs k) number ≡ false
     → AreTouched touched (slice_set procs k (proc_queried (proc_at procs k) number from size))
 asked_in_vain touched procs k number from size h stale =
     subst (AreTouched touched) (sym (rw stale (set-get_or procs k fresh))) h
 
 -- nor does a reply to a process that has heard of nothing
-pub replied_in_vain : (touched : List ℕ) (procs : List Proc) (k number : ℕ) → AreTouched touched procs → k < length procs
+pub replied_in_vain : (touched : List ℕ) (procs : List Proc) (k number : ℕ) → AreTouched touched procs
+    → k < length procs
     → AreTouched touched (slice_set procs k (proc_replied (proc_at procs k) number))
 replied_in_vain touched procs k number h l = record {
   within = rw (length-set procs k (proc_replied (proc_at procs k) number)) h.within;
@@ -62,14 +70,18 @@ last_within touched procs k h =
     (h.within (length touched + 0) 0 (omega (arith, length-append touched (k ∷ []))))
 
 -- the last of them has heard of nothing again
-pub last_cleared : (touched : List ℕ) (procs : List Proc) (k : ℕ) → AreTouched (touched ++ k ∷ []) procs → AreTouched touched (slice_set procs k fresh)
+pub last_cleared : (touched : List ℕ) (procs : List Proc) (k : ℕ) → AreTouched (touched ++ k ∷ []) procs
+    → AreTouched touched (slice_set procs k fresh)
 last_cleared touched procs k h = record {
   within = rw (length-set procs k fresh) (front_all (λ j. j < length procs) touched (k ∷ []) h.within);
   others = λ j out. elim (cases_eq j k) [
-    | inl same ↦ ap (proc_at (slice_set procs k fresh)) same ∙ get_or-set_same procs k fresh fresh (last_within touched procs k h)
+    | inl same ↦ ap (proc_at (slice_set procs k fresh)) same
+        ∙ get_or-set_same procs k fresh fresh (last_within touched procs k h)
     | inr other ↦
         get_or-set_other procs k j fresh fresh other
-        ∙ h.others j (λ c. ⊎_elim out (λ (last : Contains (k ∷ []) j). other (one_in k j last)) (Contains-append_cases touched (k ∷ []) j c))
+        ∙ h.others j
+        (λ c. ⊎_elim out (λ (last : Contains (k ∷ []) j). other (one_in k j last))
+        (Contains-append_cases touched (k ∷ []) j c))
   ];
 }
 

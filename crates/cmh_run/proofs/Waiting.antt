@@ -25,7 +25,8 @@ is_at_pair a b = sym (tied_then (nat_cmp a.0 b.0) (nat_cmp a.1 b.1)) ∙ rw (is_
 
 -- a set in which k is now as b says, and all else is as before
 abbrev pub Updated : List (ℕ × ℕ) → List (ℕ × ℕ) → ℕ × ℕ → Bool → Type 0
-Updated old new k b = (q : ℕ × ℕ) → list_any (is_at (pair_cmp q)) new ≡ cond (is_at (pair_cmp k) q) b (list_any (is_at (pair_cmp q)) old)
+Updated old new k b =
+    (q : ℕ × ℕ) → list_any (is_at (pair_cmp q)) new ≡ cond (is_at (pair_cmp k) q) b (list_any (is_at (pair_cmp q)) old)
 
 -- one choice or the other, by what is added
 chosen_or : (a b : Bool) → cond a true b ≡ (a || b)
@@ -39,48 +40,65 @@ chosen_and false b = refl
 
 -- in the set of the message's own kind
 same_set : (o n : List (ℕ × ℕ)) (x m : Message) (b : Bool) → Updated o n (x.from, x.to) b
-    → list_any (is_at (pair_cmp (m.from, m.to))) n ≡ cond (eqb x.from m.from && eqb x.to m.to) b (list_any (is_at (pair_cmp (m.from, m.to))) o)
+    → list_any (is_at (pair_cmp (m.from, m.to))) n
+    ≡ cond (eqb x.from m.from && eqb x.to m.to) b (list_any (is_at (pair_cmp (m.from, m.to))) o)
 same_set o n x m b h = rw (← is_at_pair (x.from, x.to) (m.from, m.to)) (h (m.from, m.to))
 
 -- a query was added
 pub query_added : (o n r : List (ℕ × ℕ)) (x : Message) → x.kind ≡ Query → Updated o n (x.from, x.to) true
-    → (m : Message) → is_waiting (record { queries = n; replies = r }) m ≡ (goes_like x m || is_waiting (record { queries = o; replies = r }) m)
+    → (m : Message)
+    → is_waiting (record { queries = n; replies = r }) m
+    ≡ (goes_like x m || is_waiting (record { queries = o; replies = r }) m)
 query_added o n r x is h m = rw is (by_kind m.kind)
   where
     by_kind : (k : Kind) → list_any (is_at (pair_cmp (m.from, m.to))) (of_kind k n r)
-        ≡ ((is_same_kind Query k && (eqb x.from m.from && eqb x.to m.to)) || list_any (is_at (pair_cmp (m.from, m.to))) (of_kind k o r))
-    by_kind Query = same_set o n x m true h ∙ chosen_or (eqb x.from m.from && eqb x.to m.to) (list_any (is_at (pair_cmp (m.from, m.to))) o)
+        ≡ ((is_same_kind Query k && (eqb x.from m.from && eqb x.to m.to))
+        || list_any (is_at (pair_cmp (m.from, m.to))) (of_kind k o r))
+    by_kind Query = same_set o n x m true h
+        ∙ chosen_or (eqb x.from m.from && eqb x.to m.to) (list_any (is_at (pair_cmp (m.from, m.to))) o)
     by_kind Reply = refl
 
 -- a reply was added
 pub reply_added : (o n q : List (ℕ × ℕ)) (x : Message) → x.kind ≡ Reply → Updated o n (x.from, x.to) true
-    → (m : Message) → is_waiting (record { queries = q; replies = n }) m ≡ (goes_like x m || is_waiting (record { queries = q; replies = o }) m)
+    → (m : Message)
+    → is_waiting (record { queries = q; replies = n }) m
+    ≡ (goes_like x m || is_waiting (record { queries = q; replies = o }) m)
 reply_added o n q x is h m = rw is (by_kind m.kind)
   where
     by_kind : (k : Kind) → list_any (is_at (pair_cmp (m.from, m.to))) (of_kind k q n)
-        ≡ ((is_same_kind Reply k && (eqb x.from m.from && eqb x.to m.to)) || list_any (is_at (pair_cmp (m.from, m.to))) (of_kind k q o))
+        ≡ ((is_same_kind Reply k && (eqb x.from m.from && eqb x.to m.to))
+        || list_any (is_at (pair_cmp (m.from, m.to))) (of_kind k q o))
     by_kind Query = refl
-    by_kind Reply = same_set o n x m true h ∙ chosen_or (eqb x.from m.from && eqb x.to m.to) (list_any (is_at (pair_cmp (m.from, m.to))) o)
+    by_kind Reply = same_set o n x m true h
+        ∙ chosen_or (eqb x.from m.from && eqb x.to m.to) (list_any (is_at (pair_cmp (m.from, m.to))) o)
 
 -- a query was taken
 pub query_taken : (o n r : List (ℕ × ℕ)) (x : Message) → x.kind ≡ Query → Updated o n (x.from, x.to) false
-    → (m : Message) → is_waiting (record { queries = n; replies = r }) m ≡ (not (goes_like x m) && is_waiting (record { queries = o; replies = r }) m)
+    → (m : Message)
+    → is_waiting (record { queries = n; replies = r }) m
+    ≡ (not (goes_like x m) && is_waiting (record { queries = o; replies = r }) m)
 query_taken o n r x is h m = rw is (by_kind m.kind)
   where
     by_kind : (k : Kind) → list_any (is_at (pair_cmp (m.from, m.to))) (of_kind k n r)
-        ≡ (not (is_same_kind Query k && (eqb x.from m.from && eqb x.to m.to)) && list_any (is_at (pair_cmp (m.from, m.to))) (of_kind k o r))
-    by_kind Query = same_set o n x m false h ∙ chosen_and (eqb x.from m.from && eqb x.to m.to) (list_any (is_at (pair_cmp (m.from, m.to))) o)
+        ≡ (not (is_same_kind Query k && (eqb x.from m.from && eqb x.to m.to))
+        && list_any (is_at (pair_cmp (m.from, m.to))) (of_kind k o r))
+    by_kind Query = same_set o n x m false h
+        ∙ chosen_and (eqb x.from m.from && eqb x.to m.to) (list_any (is_at (pair_cmp (m.from, m.to))) o)
     by_kind Reply = refl
 
 -- a reply was taken
 pub reply_taken : (o n q : List (ℕ × ℕ)) (x : Message) → x.kind ≡ Reply → Updated o n (x.from, x.to) false
-    → (m : Message) → is_waiting (record { queries = q; replies = n }) m ≡ (not (goes_like x m) && is_waiting (record { queries = q; replies = o }) m)
+    → (m : Message)
+    → is_waiting (record { queries = q; replies = n }) m
+    ≡ (not (goes_like x m) && is_waiting (record { queries = q; replies = o }) m)
 reply_taken o n q x is h m = rw is (by_kind m.kind)
   where
     by_kind : (k : Kind) → list_any (is_at (pair_cmp (m.from, m.to))) (of_kind k q n)
-        ≡ (not (is_same_kind Reply k && (eqb x.from m.from && eqb x.to m.to)) && list_any (is_at (pair_cmp (m.from, m.to))) (of_kind k q o))
+        ≡ (not (is_same_kind Reply k && (eqb x.from m.from && eqb x.to m.to))
+        && list_any (is_at (pair_cmp (m.from, m.to))) (of_kind k q o))
     by_kind Query = refl
-    by_kind Reply = same_set o n x m false h ∙ chosen_and (eqb x.from m.from && eqb x.to m.to) (list_any (is_at (pair_cmp (m.from, m.to))) o)
+    by_kind Reply = same_set o n x m false h
+        ∙ chosen_and (eqb x.from m.from && eqb x.to m.to) (list_any (is_at (pair_cmp (m.from, m.to))) o)
 
 -- ---- none
 

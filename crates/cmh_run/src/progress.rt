@@ -1,9 +1,9 @@
 //! A run on its way.
 
-ghost use Rattle.std.specs.Prelude.{◌≡◌, ℕ, List, ◌+◌, ◌<◌, ◌^◌, ◌%◌, ◌↔◌, [], ◌∷◌, ◌++◌, None, Some, length, slice_get, slice_index, IfOk, IfSome, IfNone, OnOk};
+ghost use Rattle.std.specs.Prelude.{◌≡◌, ℕ, List, ◌+◌, ◌<◌, ◌^◌, [], None, Some, length, slice_index, IfOk, IfSome, OnOk};
 ghost use Rattle.cmh_graph.specs.Graph.{process_count};
 ghost use Rattle.cmh_graph.specs.Build.{IsWellFormed};
-ghost use Rattle.cmh_run.specs.Config.{blank, nothing_yet, proc_at};
+ghost use Rattle.cmh_run.specs.Config.{blank, nothing_yet};
 ghost use Rattle.cmh_run.specs.Legal.{begun, ready};
 ghost use Rattle.cmh_run.specs.Packed.{CanSend, EngagersHaveRoom};
 ghost use Rattle.cmh_run.specs.Run.{MayStart, IsTakenBy, IsDelivered, ending_of};

@@ -1,7 +1,7 @@
 //! Runs one after another, in memory that is taken once.
 
-ghost use Rattle.std.specs.Prelude.{◌≡◌, ◌⊎◌, [], Some, ◌+◌, ◌*◌, ◌<◌, ◌≤◌, ◌↔◌, length, IfOk, IfErr, IsTrue};
-ghost use Rattle.cmh_graph.specs.Graph.{process_count, is_idle, is_awake, dependency_count};
+ghost use Rattle.std.specs.Prelude.{◌≡◌, ◌⊎◌, [], Some, ◌*◌, ◌<◌, ◌≤◌, ◌↔◌, length, IfOk, IfErr, IsTrue};
+ghost use Rattle.cmh_graph.specs.Graph.{is_idle, is_awake, dependency_count};
 ghost use Rattle.cmh_graph.specs.Build.{IsWellFormed};
 ghost use Rattle.cmh_run.specs.Choices.{HasNoHints};
 ghost use Rattle.cmh_run.specs.Config.{nothing_yet};

@@ -1,11 +1,10 @@
 //! Runs of one initiator.
 
-ghost use Rattle.std.specs.Prelude.{◌≡◌, ◌⊎◌, [], None, ◌+◌, ◌*◌, ◌<◌, ◌≤◌, ◌↔◌, length, IfOk, IfErr, IsTrue};
-ghost use Rattle.cmh_graph.specs.Graph.{process_count, is_idle, is_awake, dependency_count};
-ghost use Rattle.cmh_graph.specs.Build.{IsWellFormed};
+ghost use Rattle.std.specs.Prelude.{◌≡◌, ◌⊎◌, [], ◌*◌, ◌<◌, ◌≤◌, length, IfOk, IfErr, IsTrue};
+ghost use Rattle.cmh_graph.specs.Graph.{is_awake, dependency_count};
 ghost use Rattle.cmh_run.specs.Choices.{HasNoHints};
 ghost use Rattle.cmh_run.specs.Engaged.{AreEngaged};
-ghost use Rattle.cmh_run.specs.Run.{IsRising, IsAccepted, IsFirstFault, IsRunOf, TellsTruth, empty_run_of};
+ghost use Rattle.cmh_run.specs.Run.{IsAccepted, IsFirstFault, IsRunOf, TellsTruth, empty_run_of};
 
 use crate::runner::Runner;
 use crate::{Hints, RunFault, RunLog};

@@ -29,13 +29,15 @@ contains_first : (xs : List ℕ) (x : ℕ) → slice_get xs 0 ≡ Some x → Con
 contains_first xs x e = (0, slice_get_within xs 0 x e, get_or_from_slice_get xs 0 x x e)
 
 -- a run speaks of its initiator
-speaks_of_initiator : (ending : Ending) (i : ℕ) (engaged : List ℕ) → (ending ≡ Declared → slice_get engaged 0 ≡ Some i) → Contains (spoken_of (verdict_of ending) (i ∷ []) engaged) i
+speaks_of_initiator : (ending : Ending) (i : ℕ) (engaged : List ℕ) → (ending ≡ Declared → slice_get engaged 0 ≡ Some i)
+    → Contains (spoken_of (verdict_of ending) (i ∷ []) engaged) i
 speaks_of_initiator Declared i engaged begins = contains_first engaged i (begins refl)
 speaks_of_initiator AtRest i engaged begins = contains_first (i ∷ []) i refl
 speaks_of_initiator (CutFree k) i engaged begins = contains_first (i ∷ []) i refl
 
 -- what the board knows is an answer
-pub looked : (g : Graph) (choices : List ℕ) (p : ℕ) (v w : View) (verdict : Verdict) → Sees v w → IsVerdict g p verdict → fold_at w.seen p ≡ Some verdict
+pub looked : (g : Graph) (choices : List ℕ) (p : ℕ) (v w : View) (verdict : Verdict) → Sees v w → IsVerdict g p verdict
+    → fold_at w.seen p ≡ Some verdict
     → IsAnswered g choices p v w record { verdict = verdict; run = None }
 looked g choices p v w verdict s true_of stands = record {
   sees = s.seen;
@@ -46,15 +48,18 @@ looked g choices p v w verdict s true_of stands = record {
 }
 
 -- a posting that a seat added is its next one, if it has rows
-next_posting : (mine more : List (List Row)) (rows : List Row) → more ≡ with_posting mine rows → (more ≡ mine) ⊎ (more ≡ mine ++ rows ∷ [])
+next_posting : (mine more : List (List Row)) (rows : List Row) → more ≡ with_posting mine rows
+    → (more ≡ mine) ⊎ (more ≡ mine ++ rows ∷ [])
 next_posting mine more [] e = inl e
 next_posting mine more (r ∷ rs) e = inr e
 
 -- so is what a run tells, once it is posted
-pub ran : (g : Graph) (choices : List ℕ) (p : ℕ) (v v1 v2 w : View) (run : Run) → Sees v v1 → Sees v1 v2 → IsRunFor g choices p (verdict_of run.ending) run → TellsTruth g run → Posts (posting_of run) v2 w
+pub ran : (g : Graph) (choices : List ℕ) (p : ℕ) (v v1 v2 w : View) (run : Run) → Sees v v1 → Sees v1 v2
+    → IsRunFor g choices p (verdict_of run.ending) run → TellsTruth g run → Posts (posting_of run) v2 w
     → IsAnswered g choices p v w record { verdict = verdict_of run.ending; run = Some run }
 ran g choices p v v1 v2 w run s t is truth post =
-    let step : StartsWith w.seen v2.seen = (post.between ++ post.rows, post.seen ∙ append_assoc v2.seen post.between post.rows) in
+    let step : StartsWith w.seen v2.seen =
+    (post.between ++ post.rows, post.seen ∙ append_assoc v2.seen post.between post.rows) in
     let mine : v2.mine ≡ v.mine = t.mine ∙ s.mine in
     let spoken : fold_at w.seen run.initiator ≡ Some (verdict_of run.ending) =
     post.says run.initiator (speaks_of_initiator run.ending run.initiator run.engaged truth.begins) in record {
@@ -79,7 +84,8 @@ ran g choices p v v1 v2 w run s t is truth post =
     }
 
 -- an answer with its shape is a finding
-pub recorded : {L : Type 0} (listed : L → List ℕ) (g : Graph) (choices : List ℕ) (p : ℕ) (v w : View) (a : Answer Run) (shape : Shape L) → IsTrue (is_idle g p) → IsAnswered g choices p v w a → IsShape listed g p a.verdict shape
+pub recorded : {L : Type 0} (listed : L → List ℕ) (g : Graph) (choices : List ℕ) (p : ℕ) (v w : View) (a : Answer Run)
+    (shape : Shape L) → IsTrue (is_idle g p) → IsAnswered g choices p v w a → IsShape listed g p a.verdict shape
     → IsRecorded listed g choices v w record { initiator = p; verdict = a.verdict; run = a.run; shape = shape }
 recorded listed g choices p v w a shape idle is shaped = record {
   sees = is.sees;
@@ -90,7 +96,8 @@ recorded listed g choices p v w a shape idle is shaped = record {
 -- ---- many
 
 -- a sound finding stays sound when more is seen
-pub sound_more : {L : Type 0} (listed : L → List ℕ) (g : Graph) (choices : List ℕ) (a b : List Row) (f : Finding Run L) → StartsWith a b → IsSound listed g choices b f → IsSound listed g choices a f
+pub sound_more : {L : Type 0} (listed : L → List ℕ) (g : Graph) (choices : List ℕ) (a b : List Row) (f : Finding Run L)
+    → StartsWith a b → IsSound listed g choices b f → IsSound listed g choices a f
 sound_more listed g choices a b f h s = record {
   idle = s.idle;
   verdict = s.verdict;
@@ -100,17 +107,27 @@ sound_more listed g choices a b f h s = record {
 }
 
 -- an explained posting stays explained when more is seen, by more findings
-explained_more : {L : Type 0} (a b : List Row) (found all : List (Finding Run L)) (m : List Row) → StartsWith a b → ((f : Finding Run L) → Contains found f → Contains all f) → IsExplained b found m → IsExplained a all m
-explained_more a b found all m h more (f, there, run, is, from) =
-    (f, more f there, run, is, record { before = from.before; place = starts_trans a b (from.before ++ m) h from.place; posted = from.posted })
+explained_more : {L : Type 0} (a b : List Row) (found all : List (Finding Run L)) (m : List Row) → StartsWith a b
+    → ((f : Finding Run L) → Contains found f → Contains all f) → IsExplained b found m → IsExplained a all m
+explained_more a b found all m h more (f, there, run, is, from) = (
+  f,
+  more f there,
+  run,
+  is,
+  record { before = from.before; place = starts_trans a b (from.before ++ m) h from.place; posted = from.posted },
+)
 
 -- so do all
-pub all_explained_more : {L : Type 0} (a b : List Row) (found all : List (Finding Run L)) (ms : List (List Row)) → StartsWith a b → ((f : Finding Run L) → Contains found f → Contains all f) → AreExplained b found ms → AreExplained a all ms
+pub all_explained_more : {L : Type 0} (a b : List Row) (found all : List (Finding Run L)) (ms : List (List Row))
+    → StartsWith a b → ((f : Finding Run L) → Contains found f → Contains all f) → AreExplained b found ms
+    → AreExplained a all ms
 all_explained_more a b found all [] h more e = tt
-all_explained_more a b found all (m ∷ ms) h more e = (explained_more a b found all m h more e.0, all_explained_more a b found all ms h more e.1)
+all_explained_more a b found all (m ∷ ms) h more e =
+    (explained_more a b found all m h more e.0, all_explained_more a b found all ms h more e.1)
 
 -- two lists of explained postings are one
-all_explained_append : {L : Type 0} (a : List Row) (found : List (Finding Run L)) (ms ns : List (List Row)) → AreExplained a found ms → AreExplained a found ns → AreExplained a found (ms ++ ns)
+all_explained_append : {L : Type 0} (a : List Row) (found : List (Finding Run L)) (ms ns : List (List Row))
+    → AreExplained a found ms → AreExplained a found ns → AreExplained a found (ms ++ ns)
 all_explained_append a found [] ns e f = f
 all_explained_append a found (m ∷ ms) ns e f = (e.0, all_explained_append a found ms ns e.1 f)
 
@@ -119,18 +136,15 @@ all_one : {L : Type 0} (P : Finding Run L → Type 0) (f : Finding Run L) → P 
 all_one P f p zero d low = p
 all_one P f p (suc k) d low = absurd (omega arith)
 
--- nothing is found yet, and nothing added
-pub accounts_none : {L : Type 0} (listed : L → List ℕ) (g : Graph) (choices : List ℕ) (v : View) → v.mine ≡ [] → Accounts listed g choices v []
-accounts_none listed g choices v none = record {
-  sound = λ k d low. absurd (omega arith);
-  explained = subst (AreExplained v.seen []) (sym none) tt;
-}
-
 -- one finding more
-pub accounts_more : {L : Type 0} (listed : L → List ℕ) (g : Graph) (choices : List ℕ) (v w : View) (found : List (Finding Run L)) (f : Finding Run L) → Accounts listed g choices v found → IsRecorded listed g choices v w f → Accounts listed g choices w (found ++ f ∷ [])
+pub accounts_more : {L : Type 0} (listed : L → List ℕ) (g : Graph) (choices : List ℕ) (v w : View)
+    (found : List (Finding Run L)) (f : Finding Run L) → Accounts listed g choices v found
+    → IsRecorded listed g choices v w f → Accounts listed g choices w (found ++ f ∷ [])
 accounts_more listed g choices v w found f a h =
     let all = found ++ f ∷ [] in
-    let old : AreExplained w.seen all v.mine = all_explained_more w.seen v.seen found all v.mine h.sees (λ q c. Contains-append_left found (f ∷ []) q c) a.explained in record {
+    let old : AreExplained w.seen all v.mine =
+    all_explained_more w.seen v.seen found all v.mine h.sees
+    (λ q c. Contains-append_left found (f ∷ []) q c) a.explained in record {
       sound = All-append (IsSound listed g choices w.seen) found (f ∷ [])
           (λ k d low. sound_more listed g choices w.seen v.seen (get_or found k d) h.sees (a.sound k d low))
           (all_one (IsSound listed g choices w.seen) f h.sound);
@@ -143,7 +157,9 @@ accounts_more listed g choices v w found f a h =
     }
 
 -- the findings of two workers whose seats are joined
-pub accounts_joined : {L : Type 0} (listed : L → List ℕ) (g : Graph) (choices : List ℕ) (v w u : View) (xs ys : List (Finding Run L)) → StartsWith u.seen v.seen → StartsWith u.seen w.seen → u.mine ≡ v.mine ++ w.mine → Accounts listed g choices v xs → Accounts listed g choices w ys → Accounts listed g choices u (xs ++ ys)
+pub accounts_joined : {L : Type 0} (listed : L → List ℕ) (g : Graph) (choices : List ℕ) (v w u : View)
+    (xs ys : List (Finding Run L)) → StartsWith u.seen v.seen → StartsWith u.seen w.seen → u.mine ≡ v.mine ++ w.mine
+    → Accounts listed g choices v xs → Accounts listed g choices w ys → Accounts listed g choices u (xs ++ ys)
 accounts_joined listed g choices v w u xs ys first second mine a b = record {
   sound = All-append (IsSound listed g choices u.seen) xs ys
       (λ k d low. sound_more listed g choices u.seen v.seen (get_or xs k d) first (a.sound k d low))
@@ -151,5 +167,6 @@ accounts_joined listed g choices v w u xs ys first second mine a b = record {
   explained = subst (AreExplained u.seen (xs ++ ys)) (sym mine)
       (all_explained_append u.seen (xs ++ ys) v.mine w.mine
       (all_explained_more u.seen v.seen xs (xs ++ ys) v.mine first (λ q c. Contains-append_left xs ys q c) a.explained)
-      (all_explained_more u.seen w.seen ys (xs ++ ys) w.mine second (λ q c. Contains-append_right xs ys q c) b.explained));
+      (all_explained_more u.seen w.seen ys (xs ++ ys) w.mine second
+      (λ q c. Contains-append_right xs ys q c) b.explained));
 }

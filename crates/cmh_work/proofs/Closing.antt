@@ -34,12 +34,14 @@ said_by false v rest f e = f e
 said_of : (x : Row) (a c : List Row) → fold_at (a ++ x ∷ c) x.process ≡ None → ⊥
 said_of x [] c e =
     let says : Some x.verdict ≡ None =
-        sym (ap (λ b. cond b (Some x.verdict) (fold_at c x.process)) (eq-eqb x.process x.process refl)) ∙ e in
+    sym (ap (λ b. cond b (Some x.verdict) (fold_at c x.process)) (eq-eqb x.process x.process refl)) ∙ e in
     cc
-said_of x (r ∷ rs) c e = said_by (eqb r.process x.process) r.verdict (fold_at (rs ++ x ∷ c) x.process) (said_of x rs c) e
+said_of x (r ∷ rs) c e =
+    said_by (eqb r.process x.process) r.verdict (fold_at (rs ++ x ∷ c) x.process) (said_of x rs c) e
 
 -- in rows in which no process stands twice a row has one place
-one_place : (g : Graph) (a b : List Row) (x : Row) (c d : List Row) → IsTrueOf g (a ++ x ∷ c) → a ++ x ∷ c ≡ b ++ x ∷ d → a ≡ b
+one_place : (g : Graph) (a b : List Row) (x : Row) (c d : List Row) → IsTrueOf g (a ++ x ∷ c) → a ++ x ∷ c ≡ b ++ x ∷ d
+    → a ≡ b
 one_place g [] [] x c d once e = refl
 one_place g [] (y ∷ ys) x c d once e =
     let rest = cons_rest x y c (ys ++ x ∷ d) e in
@@ -59,7 +61,8 @@ posting_first m ([], r, is, front, last) = (r, [], is)
 posting_first m (b ∷ bs, r, is, front, last) = (b, bs ++ r ∷ [], is)
 
 -- a posting has one place in a history
-posting_place : (g : Graph) (a b m c d : List Row) → IsPosting m → IsTrueOf g (a ++ (m ++ c)) → a ++ (m ++ c) ≡ b ++ (m ++ d) → a ≡ b
+posting_place : (g : Graph) (a b m c d : List Row) → IsPosting m → IsTrueOf g (a ++ (m ++ c))
+    → a ++ (m ++ c) ≡ b ++ (m ++ d) → a ≡ b
 posting_place g a b m c d posting once e =
     let (x, rest, is) = posting_first m posting in
     one_place g a b x (rest ++ c) (rest ++ d) (subst (λ l. IsTrueOf g (a ++ (l ++ c))) is once)
@@ -68,7 +71,9 @@ posting_place g a b m c d posting once e =
 -- ---- each posting
 
 -- postings that are explained one by one are explained by those that the history is made of
-pub each_explained : {L : Type 0} (rows : List Row) (found : List (Finding Run L)) (mine postings : List (List Row)) → AreExplained rows found mine → ((m : List Row) → Contains postings m → Contains mine m) → AreExplained rows found postings
+pub each_explained : {L : Type 0} (rows : List Row) (found : List (Finding Run L)) (mine postings : List (List Row))
+    → AreExplained rows found mine → ((m : List Row) → Contains postings m → Contains mine m)
+    → AreExplained rows found postings
 each_explained rows found mine [] e in_mine = tt
 each_explained rows found mine (m ∷ ms) e in_mine =
     (pick mine e (in_mine m (0, omega arith, refl)), each_explained rows found mine ms e (λ n c. in_mine n (later c)))
@@ -82,29 +87,42 @@ each_explained rows found mine (m ∷ ms) e in_mine =
     pick (n ∷ ns) e (suc k, low, at) = pick ns e.1 (k, omega arith, at)
 
 -- the record of a finding with a run has that run
-record_of : {L : Type 0} (rows : List Row) (fs : List (Finding Run L)) (rs : List (Record Run L)) (f : Finding Run L) (run : Run) → AreNumbered rows fs rs → Contains fs f → f.run ≡ Some run → (r : Record Run L) × Contains rs r × (r.source ≡ FromRun run)
+record_of : {L : Type 0} (rows : List Row) (fs : List (Finding Run L)) (rs : List (Record Run L)) (f : Finding Run L)
+    (run : Run) → AreNumbered rows fs rs → Contains fs f → f.run ≡ Some run
+    → (r : Record Run L) × Contains rs r × (r.source ≡ FromRun run)
 record_of rows [] rs f run h (k, low, at) is = absurd (omega arith)
 record_of rows (x ∷ xs) [] f run h there is = absurd h
-record_of rows (x ∷ xs) (y ∷ ys) f run h (zero, low, at) is =
-    (y, (0, omega arith, refl), subst (λ o. IsNamed rows x.initiator x.verdict o y.source) (ap (λ z. z.run) at ∙ is) h.0.source)
+record_of rows (x ∷ xs) (y ∷ ys) f run h (zero, low, at) is = (
+  y,
+  (0, omega arith, refl),
+  subst (λ o. IsNamed rows x.initiator x.verdict o y.source) (ap (λ z. z.run) at ∙ is) h.0.source,
+)
 record_of rows (x ∷ xs) (y ∷ ys) f run h (suc k, low, at) is =
     let (r, (n, within, here), ran) = record_of rows xs ys f run h.1 (k, omega arith, at) is in
     (r, (suc n, omega arith, here), ran)
 
 -- explained postings of a history, laid end to end, are of records' runs, with what stands before each
-pub of_records : {L : Type 0} (g : Graph) (rows : List Row) (found : List (Finding Run L)) (records : List (Record Run L)) (before : List Row) (postings : List (List Row)) → IsTrueOf g rows → rows ≡ before ++ laid postings → ArePostings postings → AreExplained rows found postings → AreNumbered rows found records → AreOfRecords records before postings
+pub of_records : {L : Type 0} (g : Graph) (rows : List Row) (found : List (Finding Run L))
+    (records : List (Record Run L)) (before : List Row) (postings : List (List Row)) → IsTrueOf g rows
+    → rows ≡ before ++ laid postings → ArePostings postings → AreExplained rows found postings
+    → AreNumbered rows found records → AreOfRecords records before postings
 of_records g rows found records before [] true_of e whole explained n = tt
 of_records g rows found records before (m ∷ ms) true_of e whole explained n =
     let (f, there, run, is, from) = explained.0 in
     let other : rows ≡ from.before ++ (m ++ from.place.0) = from.place.1 ∙ append_assoc from.before m from.place.0 in
-    let same : before ≡ from.before = posting_place g before from.before m (laid ms) from.place.0 whole.0 (subst (IsTrueOf g) e true_of) (sym e ∙ other) in
+    let same : before ≡ from.before =
+    posting_place g before from.before m (laid ms) from.place.0 whole.0 (subst (IsTrueOf g) e true_of)
+    (sym e ∙ other) in
     let (r, in_records, ran) = record_of rows found records f run n there is in (
       (r, in_records, run, ran, subst (λ b. IsPostedBy b m run) (sym same) from.posted),
-      of_records g rows found records (before ++ m) ms true_of (e ∙ sym (append_assoc before m (laid ms))) whole.1 explained.1 n,
+      of_records g rows found records (before ++ m) ms true_of
+          (e ∙ sym (append_assoc before m (laid ms))) whole.1 explained.1 n,
     )
 
 -- the order of findings is of no matter
-pub explained_permuted : {L : Type 0} (rows : List Row) (found sorted : List (Finding Run L)) (postings : List (List Row)) → IsPermutation found sorted → AreExplained rows found postings → AreExplained rows sorted postings
+pub explained_permuted : {L : Type 0} (rows : List Row) (found sorted : List (Finding Run L))
+    (postings : List (List Row)) → IsPermutation found sorted → AreExplained rows found postings
+    → AreExplained rows sorted postings
 explained_permuted rows found sorted [] p e = tt
 explained_permuted rows found sorted (m ∷ ms) p e =
     let (f, there, run, is, from) = e.0 in

@@ -164,7 +164,12 @@ legal_p = record {
           0,
           record { going = refl; there = refl; hint = tt },
           refl,
-          (0, record { going = refl; there = refl; hint = tt }, refl, (0, record { going = refl; there = refl; hint = tt }, refl, refl)),
+          (
+            0,
+            record { going = refl; there = refl; hint = tt },
+            refl,
+            (0, record { going = refl; there = refl; hint = tt }, refl, refl),
+          ),
         ),
       );
       ends = refl;
@@ -182,7 +187,12 @@ legal_r = record {
   legal = record {
     end = _;
     legal = record {
-      leads = (0, record { going = refl; there = refl; hint = (refl, dead_p) }, refl, (0, record { going = refl; there = refl; hint = tt }, refl, refl));
+      leads = (
+        0,
+        record { going = refl; there = refl; hint = (refl, dead_p) },
+        refl,
+        (0, record { going = refl; there = refl; hint = tt }, refl, refl),
+      );
       ends = refl;
     };
     engaged = refl;
@@ -222,7 +232,10 @@ posted : IsPostedByRecords (of_p ∷ of_q ∷ of_r ∷ []) rows
 posted = (
   p_and_q ∷ r_alone ∷ [],
   refl,
-  ((row 0 Deadlocked false ∷ [], row 1 Deadlocked true, refl, (refl, tt), refl), (([], row 2 Deadlocked true, refl, tt, refl), tt)),
+  (
+    (row 0 Deadlocked false ∷ [], row 1 Deadlocked true, refl, (refl, tt), refl),
+    (([], row 2 Deadlocked true, refl, tt, refl), tt),
+  ),
   ((of_p, (0, omega arith, refl), run_of_p, refl, refl), ((of_r, (2, omega arith, refl), run_of_r, refl, refl), tt)),
 )
 
@@ -231,22 +244,31 @@ all_three : (P : Record Run (Vec ℕ) → Type 0) (a b c : Record Run (Vec ℕ))
 all_three P a b c x y z = All-cons P a (b ∷ c ∷ []) x (All-cons P b (c ∷ []) y (All-cons P c [] z (All-nil P)))
 
 -- these records with this history are an analysis
-pub is_analysis : (a : Analysis Run (Vec ℕ)) → records_of a ≡ of_p ∷ of_q ∷ of_r ∷ [] → history_of a ≡ rows → IsAnalysisOf (λ path. path.items) cycle_and_follower [] a
+pub is_analysis : (a : Analysis Run (Vec ℕ)) → records_of a ≡ of_p ∷ of_q ∷ of_r ∷ [] → history_of a ≡ rows
+    → IsAnalysisOf (λ path. path.items) cycle_and_follower [] a
 unfolding reaches
 is_analysis a is has = record {
   order = ap (map initiator_of) is;
   records = subst (λ h. All (IsTrueRecord (λ path. path.items) cycle_and_follower [] h) (records_of a)) (sym has)
-      (subst (All (IsTrueRecord (λ path. path.items) cycle_and_follower [] rows)) (sym is) (all_three (IsTrueRecord (λ path. path.items) cycle_and_follower [] rows) of_p of_q of_r true_p true_q true_r));
+      (subst (All (IsTrueRecord (λ path. path.items) cycle_and_follower [] rows)) (sym is)
+      (all_three
+      (IsTrueRecord (λ path. path.items) cycle_and_follower [] rows) of_p of_q of_r true_p true_q true_r));
   history = subst (IsTrueOf cycle_and_follower) (sym has) true_rows;
   whole = λ p idle. ap (λ h. fold_at h p) has ∙ whole_rows p idle;
-  agrees = subst (λ h. All (λ (r : Record Run (Vec ℕ)). fold_at h r.initiator ≡ Some r.verdict) (records_of a)) (sym has)
-      (subst (All (λ (r : Record Run (Vec ℕ)). fold_at rows r.initiator ≡ Some r.verdict)) (sym is) (all_three (λ (r : Record Run (Vec ℕ)). fold_at rows r.initiator ≡ Some r.verdict) of_p of_q of_r refl refl refl));
-  postings = subst (λ h. IsPostedByRecords (records_of a) h) (sym has) (subst (λ l. IsPostedByRecords l rows) (sym is) posted);
+  agrees =
+      subst (λ h. All (λ (r : Record Run (Vec ℕ)). fold_at h r.initiator ≡ Some r.verdict) (records_of a)) (sym has)
+      (subst (All (λ (r : Record Run (Vec ℕ)). fold_at rows r.initiator ≡ Some r.verdict)) (sym is)
+      (all_three
+      (λ (r : Record Run (Vec ℕ)). fold_at rows r.initiator ≡ Some r.verdict) of_p of_q of_r refl refl refl));
+  postings =
+      subst (λ h. IsPostedByRecords (records_of a) h) (sym has) (subst (λ l. IsPostedByRecords l rows) (sym is) posted);
 }
 
 -- without the record of r they are none
-pub lost_record : (a : Analysis Run (Vec ℕ)) → records_of a ≡ of_p ∷ of_q ∷ [] → IsAnalysisOf (λ path. path.items) cycle_and_follower [] a → ⊥
-lost_record a is h = let e : ◌≡◌ {A = List ℕ} (0 ∷ 1 ∷ []) (0 ∷ 1 ∷ 2 ∷ []) = sym (ap (map initiator_of) is) ∙ h.order in cc
+pub lost_record : (a : Analysis Run (Vec ℕ)) → records_of a ≡ of_p ∷ of_q ∷ []
+    → IsAnalysisOf (λ path. path.items) cycle_and_follower [] a → ⊥
+lost_record a is h = let e : ◌≡◌ {A = List ℕ} (0 ∷ 1 ∷ []) (0 ∷ 1 ∷ 2 ∷ []) =
+    sym (ap (map initiator_of) is) ∙ h.order in cc
 
 -- the posting of p and q, cut in two
 abbrev cut_rows : List Row
@@ -258,20 +280,26 @@ is_cut [] = false
 is_cut (r ∷ rs) = r.last
 
 -- what a run of one of the three records posts first is two rows, of which the first is no last one
-begins_open : (r : Record Run (Vec ℕ)) (posting rest : List Row) (run : Run) → Contains (of_p ∷ of_q ∷ of_r ∷ []) r → r.source ≡ FromRun run → IsPostedBy [] posting run → is_cut (posting ++ rest) ≡ false
-begins_open r posting rest run (zero, low, is) source told = let e : run ≡ run_of_p = cc in let p : posting ≡ p_and_q = subst (IsPostedBy [] posting) e told in ap (λ l. is_cut (l ++ rest)) p
+begins_open : (r : Record Run (Vec ℕ)) (posting rest : List Row) (run : Run) → Contains (of_p ∷ of_q ∷ of_r ∷ []) r
+    → r.source ≡ FromRun run → IsPostedBy [] posting run → is_cut (posting ++ rest) ≡ false
+begins_open r posting rest run (zero, low, is) source told = let e : run ≡ run_of_p = cc in let p : posting ≡ p_and_q =
+    subst (IsPostedBy [] posting) e told in ap (λ l. is_cut (l ++ rest)) p
 begins_open r posting rest run (suc zero, low, is) source told = cc
 begins_open r posting rest run (suc (suc zero), low, is) source told =
-    let e : run ≡ run_of_r = cc in let p : posting ≡ row 2 Deadlocked false ∷ row 0 Deadlocked true ∷ [] = subst (IsPostedBy [] posting) e told in ap (λ l. is_cut (l ++ rest)) p
+    let e : run ≡ run_of_r = cc in let p : posting ≡ row 2 Deadlocked false ∷ row 0 Deadlocked true ∷ [] =
+    subst (IsPostedBy [] posting) e told in ap (λ l. is_cut (l ++ rest)) p
 begins_open r posting rest run (suc (suc (suc k)), low, is) source told = absurd (omega arith)
 
 -- with a posting cut in two they are none
-pub cut_posting : (a : Analysis Run (Vec ℕ)) → records_of a ≡ of_p ∷ of_q ∷ of_r ∷ [] → history_of a ≡ cut_rows → IsAnalysisOf (λ path. path.items) cycle_and_follower [] a → ⊥
-cut_posting a is has h = refuted (subst (λ l. IsPostedByRecords l cut_rows) is (subst (IsPostedByRecords (records_of a)) has h.postings))
+pub cut_posting : (a : Analysis Run (Vec ℕ)) → records_of a ≡ of_p ∷ of_q ∷ of_r ∷ [] → history_of a ≡ cut_rows
+    → IsAnalysisOf (λ path. path.items) cycle_and_follower [] a → ⊥
+cut_posting a is has h =
+    refuted (subst (λ l. IsPostedByRecords l cut_rows) is (subst (IsPostedByRecords (records_of a)) has h.postings))
   where
     refuted : IsPostedByRecords (of_p ∷ of_q ∷ of_r ∷ []) cut_rows → ⊥
     refuted ([], all, postings, of) = cc
-    refuted (x ∷ xs, all, postings, of) = let first = of.0 in let opens : true ≡ false = ap is_cut all ∙ begins_open first.0 x (laid xs) first.2 first.1 first.3 first.4 in cc
+    refuted (x ∷ xs, all, postings, of) = let first = of.0 in let opens : true ≡ false =
+        ap is_cut all ∙ begins_open first.0 x (laid xs) first.2 first.1 first.3 first.4 in cc
 
 -- ---- two tickets, drawn by two seats
 
@@ -302,13 +330,20 @@ dealt = record {
 }
   where
     each : (i : ℕ) (v : TicketView) → get_elem? (x_seat ∷ y_seat ∷ []) i ≡ some v → Has 2 2 v
-    each zero v at = subst (Has 2 2) (some-injective x_seat v at) record { bare = λ z. absurd (omega arith); knows = λ some. refl; past = λ done. omega arith }
-    each (suc zero) v at = subst (Has 2 2) (some-injective y_seat v at) record { bare = λ z. absurd (omega arith); knows = λ some. refl; past = λ done. omega arith }
+    each zero v at =
+        subst (Has 2 2) (some-injective x_seat v at) record
+        { bare = λ z. absurd (omega arith); knows = λ some. refl; past = λ done. omega arith }
+    each (suc zero) v at =
+        subst (Has 2 2) (some-injective y_seat v at) record
+        { bare = λ z. absurd (omega arith); knows = λ some. refl; past = λ done. omega arith }
     each (suc (suc i)) v at = absurd (some-ne-none v (sym at))
 
 -- it doesn't where both drew 0
 pub drawn_twice : Dealt 2 (table 2 (x_seat ∷ with_drawn (newcomer (opening_view 2)) 0 ∷ [])) → ⊥
-drawn_twice h = no 2 (omega arith) ((drawn_once 2 (table 2 (x_seat ∷ with_drawn (newcomer (opening_view 2)) 0 ∷ [])) h 0).0 (omega arith) (omega arith))
+drawn_twice h =
+    no 2 (omega arith)
+    ((drawn_once 2 (table 2 (x_seat ∷ with_drawn (newcomer (opening_view 2)) 0 ∷ [])) h 0).0 (omega arith)
+    (omega arith))
   where
     no : (n : ℕ) → 1 < n → n ≡ 1 → ⊥
     no n more is = absurd (omega arith)

@@ -13,14 +13,17 @@ use Rattle.cmh_work.proofs.Dealing.{total-append}
 -- what is gathered by two lists of numbers
 pub gathered-append : (cs : List (List ℕ)) (a b : List ℕ) → gathered cs (a ++ b) ≡ gathered cs a ++ gathered cs b
 gathered-append cs [] b = refl
-gathered-append cs (x ∷ xs) b = ap (λ l. get_or cs x [] ++ l) (gathered-append cs xs b) ∙ sym (append_assoc (get_or cs x []) (gathered cs xs) (gathered cs b))
+gathered-append cs (x ∷ xs) b = ap (λ l. get_or cs x [] ++ l) (gathered-append cs xs b)
+    ∙ sym (append_assoc (get_or cs x []) (gathered cs xs) (gathered cs b))
 
 -- what is gathered by one number more
-pub gathered_snoc : (cs : List (List ℕ)) (a : List ℕ) (n : ℕ) → gathered cs (a ++ n ∷ []) ≡ gathered cs a ++ get_or cs n []
+pub gathered_snoc : (cs : List (List ℕ)) (a : List ℕ) (n : ℕ)
+    → gathered cs (a ++ n ∷ []) ≡ gathered cs a ++ get_or cs n []
 gathered_snoc cs a n = gathered-append cs a (n ∷ []) ∙ ap (λ l. gathered cs a ++ l) (append-nil (get_or cs n []))
 
 -- the weight of what is gathered is that of its chunks
-pub total-gathered : (h : ℕ → ℕ) (cs : List (List ℕ)) (ds : List ℕ) → total h (gathered cs ds) ≡ total (λ c. total h (get_or cs c [])) ds
+pub total-gathered : (h : ℕ → ℕ) (cs : List (List ℕ)) (ds : List ℕ)
+    → total h (gathered cs ds) ≡ total (λ c. total h (get_or cs c [])) ds
 total-gathered h cs [] = refl
 total-gathered h cs (d ∷ ds) = omega (arith, total-gathered h cs ds, total-append h (get_or cs d []) (gathered cs ds))
 
@@ -32,7 +35,8 @@ sum-shift f (suc n) = let a = sum-shift f n in omega arith
 -- the weights of all chunks, by their numbers
 sum-each : (h : ℕ → ℕ) (cs : List (List ℕ)) → sum_below (λ c. total h (get_or cs c [])) (length cs) ≡ total (total h) cs
 sum-each h [] = refl
-sum-each h (x ∷ xs) = let a = sum-shift (λ c. total h (get_or (x ∷ xs) c [])) (length xs) in let b = sum-each h xs in omega arith
+sum-each h (x ∷ xs) = let a = sum-shift (λ c. total h (get_or (x ∷ xs) c [])) (length xs) in let b =
+    sum-each h xs in omega arith
 
 -- a front and the rest weigh what the list does
 total-parts : (h : ℕ → ℕ) (c : ℕ) (xs : List ℕ) → total h (take c xs) + total h (drop c xs) ≡ total h xs
@@ -51,8 +55,12 @@ length_chunks [] xs = refl
 length_chunks (c ∷ cs) xs = omega (arith, length_chunks cs (drop c xs))
 
 -- each chunk gathered once
-pub gathered_once : (h : ℕ → ℕ) (cuts xs ds : List ℕ) → ((f : ℕ → ℕ) → total f ds ≡ sum_below f (length cuts + 1)) → total h (gathered (chunks_of cuts xs) ds) ≡ total h xs
-gathered_once h cuts xs ds all = let cs = chunks_of cuts xs in total-gathered h cs ds ∙ all (λ c. total h (get_or cs c [])) ∙ ap (sum_below (λ c. total h (get_or cs c []))) (sym (length_chunks cuts xs)) ∙ sum-each h cs ∙ total-chunks h cuts xs
+pub gathered_once : (h : ℕ → ℕ) (cuts xs ds : List ℕ) → ((f : ℕ → ℕ) → total f ds ≡ sum_below f (length cuts + 1))
+    → total h (gathered (chunks_of cuts xs) ds) ≡ total h xs
+gathered_once h cuts xs ds all = let cs = chunks_of cuts xs in
+    total-gathered h cs ds ∙ all (λ c. total h (get_or cs c []))
+    ∙ ap (sum_below (λ c. total h (get_or cs c []))) (sym (length_chunks cuts xs)) ∙ sum-each h cs
+    ∙ total-chunks h cuts xs
 
 -- end to end, the chunks are the list
 joined_chunks : (cuts xs : List ℕ) → joined (chunks_of cuts xs) ≡ xs
@@ -73,4 +81,5 @@ all_chunk P (c ∷ cs) xs (suc n) h = all_chunk P cs (drop c xs) n (All-drop P c
 -- the idle processes are idle
 pub all_idle : (g : Graph) → All (λ p. IsTrue (is_idle g p)) (idle_list g)
 all_idle g k d low =
-    (filter_contains (is_idle g) (indices g) (get_or (idle_list g) k d) (k, low, get_or_default (idle_list g) k (get_or (idle_list g) k d) d low)).1
+    (filter_contains (is_idle g) (indices g) (get_or (idle_list g) k d)
+    (k, low, get_or_default (idle_list g) k (get_or (idle_list g) k d) d low)).1

@@ -6,7 +6,8 @@ use Rattle.cmh_board.specs.Board.{graph_of, SitsAt, IsAway}
 use Rattle.cmh_board.specs.Hints.{SpeaksOf, Keeps}
 
 -- it sits at the board afterwards, and holds nothing
-pub still_sits : (b : Board) (h after : BoardHints) → h.board.now ≡ b → SpeaksOf h (graph_of b) → Keeps h after → SitsAt b after.seat.now × IsAway after.seat.now
+pub still_sits : (b : Board) (h after : BoardHints) → h.board.now ≡ b → SpeaksOf h (graph_of b) → Keeps h after
+    → SitsAt b after.seat.now × IsAway after.seat.now
 still_sits b h after is s k =
     let t = (k.speaks (graph_of b)).0 s in
     (subst (λ x. SitsAt x after.seat.now) (sym k.board ∙ is) t.sits, t.away)

@@ -13,14 +13,16 @@ pub starts_trans : (a b c : List Row) → StartsWith a b → StartsWith b c → 
 starts_trans a b c h k = (k.0 ++ h.0, h.1 ∙ ap (λ l. l ++ h.0) k.1 ∙ append_assoc c k.0 h.0)
 
 -- an answer of the first row, or of the rest, stays where the rest's does
-first_or : (b : Bool) (a x y : Option Verdict) (v : Verdict) → (x ≡ Some v → y ≡ Some v) → cond b a x ≡ Some v → cond b a y ≡ Some v
+first_or : (b : Bool) (a x y : Option Verdict) (v : Verdict) → (x ≡ Some v → y ≡ Some v) → cond b a x ≡ Some v
+    → cond b a y ≡ Some v
 first_or true a x y v f e = e
 first_or false a x y v f e = f e
 
 -- what rows say, more rows say
 fold_append : (rows more : List Row) (p : ℕ) (v : Verdict) → fold_at rows p ≡ Some v → fold_at (rows ++ more) p ≡ Some v
 fold_append [] more p v e = cc
-fold_append (r ∷ rs) more p v e = first_or (eqb r.process p) (Some r.verdict) (fold_at rs p) (fold_at (rs ++ more) p) v (fold_append rs more p v) e
+fold_append (r ∷ rs) more p v e =
+    first_or (eqb r.process p) (Some r.verdict) (fold_at rs p) (fold_at (rs ++ more) p) v (fold_append rs more p v) e
 
 -- what a beginning says, the rows say
 pub fold_more : (a b : List Row) (p : ℕ) (v : Verdict) → StartsWith a b → fold_at b p ≡ Some v → fold_at a p ≡ Some v

@@ -12,7 +12,9 @@ use Rattle.cmh_graph.proofs.Verdicts.{asleep_is_idle, then_test}
 use Rattle.cmh_work.specs.Leaders.{group_leader}
 
 -- the leader of a deadlocked process stands in the table of leaders
-pub leader_stands : (g : Graph) (p : ℕ) (leaders : List (Option ℕ)) (d : Option ℕ) → leaders ≡ map (group_leader g) (indices g) → p < process_count g → IsDeadlocked g p → get_or leaders p d ≡ Some (leader_of g p)
+pub leader_stands : (g : Graph) (p : ℕ) (leaders : List (Option ℕ)) (d : Option ℕ)
+    → leaders ≡ map (group_leader g) (indices g) → p < process_count g → IsDeadlocked g p
+    → get_or leaders p d ≡ Some (leader_of g p)
 unfolding group_leader
 leader_stands g p leaders d are i dead = by_index g (group_leader g) leaders p d are i ∙ rw (then_test g p dead) refl
 
@@ -21,7 +23,8 @@ asleep_deadlocked : (g : Graph) (p : ℕ) → ((q : ℕ) → Reaches g p q → I
 asleep_deadlocked g p asleep = (asleep_is_idle g p (asleep p (p ∷ [], (refl, refl))), asleep)
 
 -- a process that isn't deadlocked has a chosen path
-pub way_out : (g : Graph) (p : ℕ) (o : Option (List ℕ)) → IsWithinGraph g → p < process_count g → ¬ (IsDeadlocked g p) → chosen_path g p ≡ o → IsSome o
+pub way_out : (g : Graph) (p : ℕ) (o : Option (List ℕ)) → IsWithinGraph g → p < process_count g → ¬ (IsDeadlocked g p)
+    → chosen_path g p ≡ o → IsSome o
 way_out g p (Some path) w i free e = refl
 way_out g p None w i free e = absurd (free (asleep_deadlocked g p ((no_path_law g p w i).0 e)))
 

@@ -44,7 +44,8 @@ IsPostedByRecords records history = (postings : List (List Row))
 
 -- The records are of the idle processes, one of each, by rising index, and true. The history holds
 -- each idle process once, and no other, with the verdict that its record tells.
-pub record IsAnalysisOf {L : Type 0} (listed : L → List ℕ) (g : Graph) (choices : List ℕ) (a : Analysis Run L) : Type 0 where
+pub record IsAnalysisOf {L : Type 0} (listed : L → List ℕ) (g : Graph) (choices : List ℕ)
+    (a : Analysis Run L) : Type 0 where
   pub order : map initiator_of (records_of a) ≡ idle_list g
   pub records : All (IsTrueRecord listed g choices (history_of a)) (records_of a)
   pub history : IsTrueOf g (history_of a)

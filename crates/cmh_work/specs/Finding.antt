@@ -34,7 +34,8 @@ pub record IsAnswered (g : Graph) (choices : List ℕ) (p : ℕ) (v w : View) (a
       × (run : Run) × (a.run ≡ Some run) × IsSeenFrom w.seen posting run)
 
 -- what was found of a process is true, and stands in what is seen
-pub record IsSound {L : Type 0} (listed : L → List ℕ) (g : Graph) (choices : List ℕ) (seen : List Row) (f : Finding Run L) : Type 0 where
+pub record IsSound {L : Type 0} (listed : L → List ℕ) (g : Graph) (choices : List ℕ) (seen : List Row)
+    (f : Finding Run L) : Type 0 where
   pub idle : IsTrue (is_idle g f.initiator)
   pub verdict : IsVerdict g f.initiator f.verdict
   pub shape : IsShape listed g f.initiator f.verdict f.shape
@@ -42,7 +43,8 @@ pub record IsSound {L : Type 0} (listed : L → List ℕ) (g : Graph) (choices :
   pub stands : fold_at seen f.initiator ≡ Some f.verdict
 
 -- the seat that knew v before and w after, and found this, has added a posting of its run, or none
-pub record IsRecorded {L : Type 0} (listed : L → List ℕ) (g : Graph) (choices : List ℕ) (v w : View) (f : Finding Run L) : Type 0 where
+pub record IsRecorded {L : Type 0} (listed : L → List ℕ) (g : Graph) (choices : List ℕ) (v w : View)
+    (f : Finding Run L) : Type 0 where
   pub sees : StartsWith w.seen v.seen
   pub sound : IsSound listed g choices w.seen f
   pub mine : (w.mine ≡ v.mine)
@@ -60,7 +62,8 @@ AreExplained seen found (posting ∷ postings) =
     IsExplained seen found posting × AreExplained seen found postings
 
 -- what was found is sound, and explains the postings that the seat added
-pub record Accounts {L : Type 0} (listed : L → List ℕ) (g : Graph) (choices : List ℕ) (v : View) (found : List (Finding Run L))
+pub record Accounts {L : Type 0} (listed : L → List ℕ) (g : Graph) (choices : List ℕ) (v : View)
+    (found : List (Finding Run L))
     : Type 0 where
   pub sound : All (IsSound listed g choices v.seen) found
   pub explained : AreExplained v.seen found v.mine

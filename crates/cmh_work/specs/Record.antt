@@ -28,7 +28,8 @@ IsSource g choices history p verdict (FromRun run) = IsRunFor g choices p verdic
 IsSource g choices history p verdict (FromBoard n) = IsRowFor history n p verdict
 
 -- the record of an idle process tells its verdict, its shape, and how the verdict is known
-pub record IsTrueRecord {L : Type 0} (listed : L → List ℕ) (g : Graph) (choices : List ℕ) (history : List Row) (r : Record Run L)
+pub record IsTrueRecord {L : Type 0} (listed : L → List ℕ) (g : Graph) (choices : List ℕ) (history : List Row)
+    (r : Record Run L)
     : Type 0 where
   pub idle : IsTrue (is_idle g r.initiator)
   pub verdict : IsVerdict g r.initiator r.verdict

@@ -45,13 +45,15 @@ pub record AreBack (s : Shared) (old new : Seats) : Type 0 where
   pub board : (known new.board).lock.share ≡ (known old.board).lock.share
 
 -- what was found is of the chunks that the seat drew, in order, and explains what it added
-pub record AreOf {L : Type 0} (listed : L → List ℕ) (g : Graph) (plan : Setup) (s : Shared) (seats : Seats) (found : List (Finding Run L))
+pub record AreOf {L : Type 0} (listed : L → List ℕ) (g : Graph) (plan : Setup) (s : Shared) (seats : Seats)
+    (found : List (Finding Run L))
     : Type 0 where
   pub accounts : Accounts listed g plan.choices (known seats.board) found
   pub order : map finder_of found ≡ gathered (chunks_in plan s) (view seats.tickets).drawn
 
 -- and no chunk is left
-pub record IsWorked {L : Type 0} (listed : L → List ℕ) (g : Graph) (plan : Setup) (s : Shared) (seats : Seats) (found : List (Finding Run L))
+pub record IsWorked {L : Type 0} (listed : L → List ℕ) (g : Graph) (plan : Setup) (s : Shared) (seats : Seats)
+    (found : List (Finding Run L))
     : Type 0 where
   pub of : AreOf listed g plan s seats found
   pub done : (view seats.tickets).done ≡ true

@@ -1,7 +1,6 @@
 //! The words at each step of a posting, as a closing shows them.
 
 ghost use Rattle.std.specs.Prelude.{◌≡◌, ◌<◌};
-ghost use Rattle.cmh_graph.specs.Graph.{process_count};
 ghost use Rattle.cmh_graph.specs.Verdict.{verdicts};
 ghost use Rattle.cmh_rw.specs.Seats.{view, IsSeatOf, IsAway};
 

@@ -1,7 +1,7 @@
 //! Each public call, as a caller writes it.
 
-ghost use Rattle.std.specs.Prelude.{◌≡◌, ◌<◌};
-ghost use Rattle.cmh_rw.specs.Seats.{view, IsSeatOf, IsAway};
+ghost use Rattle.std.specs.Prelude.{◌<◌};
+ghost use Rattle.cmh_rw.specs.Seats.{IsSeatOf, IsAway};
 
 use super::graphs::two_in_a_cycle;
 use super::posting::post_two;

@@ -24,20 +24,20 @@ overflow_add-end c =
 pub store_count-requires-clause-ended : goal.store_count-requires-clause-ended
 store_count-requires-clause-ended c =
     staged_ends c.verdict.result c.processes-processes.result.now (view c.count_unposted-new.new.seat)
-        (view c.stage.new.seat) c.stage.ensures.stages
+    (view c.stage.new.seat) c.stage.ensures.stages
     (subst (λ l. 0 < length (unposted l c.processes-processes.result.now)) (sym c.count_unposted-new.ensures.loads.seen)
     (omega (arith, c.if-new-gt0.true, c.count_unposted-new.ensures.count)))
 
 pub store_count-requires-clause-told : goal.store_count-requires-clause-told
 store_count-requires-clause-told c =
     staged_told c.verdict.result c.processes-processes.result.now (view c.count_unposted-new.new.seat)
-        (view c.stage.new.seat) c.stage.ensures.stages
+    (view c.stage.new.seat) c.stage.ensures.stages
 
 pub store_count-requires-clause-end : goal.store_count-requires-clause-end
 store_count-requires-clause-end c =
     let kept = sym c.count_unposted-new.ensures.loads.seen in
     staged_number c.verdict.result c.processes-processes.result.now (view c.count_unposted-new.new.seat)
-        (view c.stage.new.seat)
+    (view c.stage.new.seat)
     c.load-count.result c.count_unposted-new.result c.stage.ensures.stages
     (c.load-count.ensures.loaded.count refl ∙ ap length kept)
     (c.count_unposted-new.ensures.count ∙ ap (λ l. length (unposted l c.processes-processes.result.now)) kept)
@@ -52,7 +52,7 @@ returns-then-new-gt0-clause-adds c =
     subst (λ ps. 0 < length (unposted (view c.load-count.new.seat).seen ps)) c.processes-processes.ensures
     (omega (arith, c.if-new-gt0.true, c.count_unposted-new.ensures.count)) in
     adds_rows c.args.posting.now (view c.args.seat.now) (view c.load-count.new.seat) counted staged
-        (view c.store_count.new.seat)
+    (view c.store_count.new.seat)
     c.load-count.result c.requires.can c.load-count.ensures.loaded c.count_unposted-new.ensures.loads stages
     c.store_count.ensures.posted c.store_count.ensures.posting some
 
@@ -62,6 +62,6 @@ returns-else-new-gt0-clause-adds c =
     subst (λ ps. length (unposted (view c.load-count.new.seat).seen ps) ≡ 0) c.processes-processes.ensures
     (omega (arith, c.if-new-gt0.false, c.count_unposted-new.ensures.count)) in
     adds_none c.args.posting.now (view c.args.seat.now) (view c.load-count.new.seat)
-        (view c.count_unposted-new.new.seat)
+    (view c.count_unposted-new.new.seat)
     c.load-count.result c.requires.writer c.requires.can c.load-count.ensures.loaded c.count_unposted-new.ensures.loads
-        none
+    none

@@ -20,8 +20,8 @@ is_unposted-requires-clause-process c =
 pub overflow_add-count : goal.overflow_add-count
 overflow_add-count c =
     let kept =
-        length-filter-le (λ p. is_none (fold_at (view c.args.seat.now).seen p))
-            (take c.loop-p.p-index c.args.processes.now) in
+    length-filter-le (λ p. is_none (fold_at (view c.args.seat.now).seen p))
+    (take c.loop-p.p-index c.args.processes.now) in
     let taken = length-take-le c.loop-p.p-index c.args.processes.now (omega (arith, c.loop-p-test.true)) in
     let few : c.loop-p.count ≤ c.loop-p.p-index = omega (arith, c.loop-p.invariant.2) in
     search rules

@@ -25,10 +25,10 @@ overflow_add-n c =
     let i = c.loop-p.p-index in
     let staging = c.loop-p.invariant.1 in
     let new =
-        found_new v c.args.verdict ps i w c.loop-p.n true staging c.requires.can.once c.loop-p-test.true
-            (sym c.if-is_unposted.true ∙ c.is_unposted.ensures.answer) in
+    found_new v c.args.verdict ps i w c.loop-p.n true staging c.requires.can.once c.loop-p-test.true
+    (sym c.if-is_unposted.true ∙ c.is_unposted.ensures.answer) in
     let end : c.args.end ≡ length v.seen + length (unposted v.seen ps) =
-        omega (arith, c.requires.end, c.requires.count) in
+    omega (arith, c.requires.end, c.requires.count) in
     let low = below_end v c.args.verdict ps i w c.loop-p.n c.args.end staging c.loop-p-test.true new end in
     let fits = c.ranges.end in
     omega arith
@@ -41,10 +41,10 @@ store_row-requires-clause-end c =
     let i = c.loop-p.p-index in
     let staging = c.loop-p.invariant.1 in
     let new =
-        found_new v c.args.verdict ps i w c.loop-p.n true staging c.requires.can.once c.loop-p-test.true
-            (sym c.if-is_unposted.true ∙ c.is_unposted.ensures.answer) in
+    found_new v c.args.verdict ps i w c.loop-p.n true staging c.requires.can.once c.loop-p-test.true
+    (sym c.if-is_unposted.true ∙ c.is_unposted.ensures.answer) in
     next_number v c.args.verdict ps i w
-        (view c.is_unposted.new.seat) c.loop-p.n staging c.loop-p-test.true new c.is_unposted.ensures.loads
+    (view c.is_unposted.new.seat) c.loop-p.n staging c.loop-p-test.true new c.is_unposted.ensures.loads
 
 pub store_row-requires-clause-can : goal.store_row-requires-clause-can
 store_row-requires-clause-can c =
@@ -54,10 +54,10 @@ store_row-requires-clause-can c =
     let i = c.loop-p.p-index in
     let staging = c.loop-p.invariant.1 in
     let new =
-        found_new v c.args.verdict ps i w c.loop-p.n true staging c.requires.can.once c.loop-p-test.true
-            (sym c.if-is_unposted.true ∙ c.is_unposted.ensures.answer) in
+    found_new v c.args.verdict ps i w c.loop-p.n true staging c.requires.can.once c.loop-p-test.true
+    (sym c.if-is_unposted.true ∙ c.is_unposted.ensures.answer) in
     can_stage v c.args.verdict ps i w (view c.is_unposted.new.seat) c.loop-p.n
-        (eqb (c.loop-p.n + 1) c.args.end) staging c.requires.can c.loop-p-test.true new c.is_unposted.ensures.loads
+    (eqb (c.loop-p.n + 1) c.args.end) staging c.requires.can c.loop-p-test.true new c.is_unposted.ensures.loads
 
 pub store_verdict-requires-clause-says : goal.store_verdict-requires-clause-says
 store_verdict-requires-clause-says c =
@@ -67,10 +67,10 @@ store_verdict-requires-clause-says c =
     let i = c.loop-p.p-index in
     let staging = c.loop-p.invariant.1 in
     let new =
-        found_new v c.args.verdict ps i w c.loop-p.n true staging c.requires.can.once c.loop-p-test.true
-            (sym c.if-is_unposted.true ∙ c.is_unposted.ensures.answer) in
+    found_new v c.args.verdict ps i w c.loop-p.n true staging c.requires.can.once c.loop-p-test.true
+    (sym c.if-is_unposted.true ∙ c.is_unposted.ensures.answer) in
     can_tell v c.args.verdict ps i w (view c.is_unposted.new.seat) c.loop-p.n
-        (eqb (c.loop-p.n + 1) c.args.end) staging c.requires.can.once c.loop-p-test.true new c.is_unposted.ensures.loads
+    (eqb (c.loop-p.n + 1) c.args.end) staging c.requires.can.once c.loop-p-test.true new c.is_unposted.ensures.loads
     (view c.store_row.new.seat) c.store_row.ensures.staged
 
 pub overflow_add-n-then-is_unposted : goal.overflow_add-n-then-is_unposted
@@ -81,10 +81,10 @@ overflow_add-n-then-is_unposted c =
     let i = c.loop-p.p-index in
     let staging = c.loop-p.invariant.1 in
     let new =
-        found_new v c.args.verdict ps i w c.loop-p.n true staging c.requires.can.once c.loop-p-test.true
-            (sym c.if-is_unposted.true ∙ c.is_unposted.ensures.answer) in
+    found_new v c.args.verdict ps i w c.loop-p.n true staging c.requires.can.once c.loop-p-test.true
+    (sym c.if-is_unposted.true ∙ c.is_unposted.ensures.answer) in
     let end : c.args.end ≡ length v.seen + length (unposted v.seen ps) =
-        omega (arith, c.requires.end, c.requires.count) in
+    omega (arith, c.requires.end, c.requires.count) in
     let low = below_end v c.args.verdict ps i w c.loop-p.n c.args.end staging c.loop-p-test.true new end in
     let fits = c.ranges.end in
     omega arith
@@ -105,15 +105,15 @@ loop-p-preserved c = elim c.if-is_unposted.branch [
       let i = c.loop-p.p-index in
       let staging = c.loop-p.invariant.1 in
       let new =
-          found_new v d ps i now c.loop-p.n true staging c.requires.can.once c.loop-p-test.true
-              (sym w.if-is_unposted.true ∙ c.is_unposted.ensures.answer) in
+      found_new v d ps i now c.loop-p.n true staging c.requires.can.once c.loop-p-test.true
+      (sym w.if-is_unposted.true ∙ c.is_unposted.ensures.answer) in
       let end : c.args.end ≡ length v.seen + length (unposted v.seen ps) =
-          omega (arith, c.requires.end, c.requires.count) in
+      omega (arith, c.requires.end, c.requires.count) in
       let staged =
-          staging-new v d ps i now (view c.is_unposted.new.seat) (view w.store_row.new.seat)
-              (view w.store_verdict.new.seat) c.loop-p.n
+      staging-new v d ps i now (view c.is_unposted.new.seat) (view w.store_row.new.seat)
+      (view w.store_verdict.new.seat) c.loop-p.n
       (eqb (c.loop-p.n + 1) c.args.end) staging c.loop-p-test.true new c.is_unposted.ensures.loads
-          w.store_row.ensures.staged w.store_verdict.ensures.told
+      w.store_row.ensures.staged w.store_verdict.ensures.told
       (is_last v d ps i now c.loop-p.n c.args.end staging c.loop-p-test.true new end) in
       subst (λ s. Next c s c.if-is_unposted.n) (sym w.seat-is)
       (subst (λ n. Next c w.store_verdict.new.seat n) (sym w.n-is) (w.store_verdict.ensures.own, staged))
@@ -125,11 +125,11 @@ loop-p-preserved c = elim c.if-is_unposted.branch [
       let i = c.loop-p.p-index in
       let staging = c.loop-p.invariant.1 in
       let old =
-          found_new v d ps i now c.loop-p.n false staging c.requires.can.once c.loop-p-test.true
-              (sym w.if-is_unposted.false ∙ c.is_unposted.ensures.answer) in
+      found_new v d ps i now c.loop-p.n false staging c.requires.can.once c.loop-p-test.true
+      (sym w.if-is_unposted.false ∙ c.is_unposted.ensures.answer) in
       let passed =
-          staging-old v d ps i now
-              (view c.is_unposted.new.seat) c.loop-p.n staging c.loop-p-test.true old c.is_unposted.ensures.loads in
+      staging-old v d ps i now
+      (view c.is_unposted.new.seat) c.loop-p.n staging c.loop-p-test.true old c.is_unposted.ensures.loads in
       subst (λ s. Next c s c.if-is_unposted.n) (sym w.seat-is)
       (subst (λ n. Next c c.is_unposted.new.seat n) (sym w.n-is) (c.is_unposted.ensures.own, passed))
 ]

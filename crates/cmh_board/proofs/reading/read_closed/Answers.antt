@@ -13,6 +13,9 @@ loop-n-preserved c = (
       let row = row_back list c.loop-n.n c.word_of-code.result below code ∙ ap (λ r. Some r) (sym c.row_from.ensures) in
       c.push_reserved.ensures.items ∙ ap (λ l. l ++ c.row_from.result ∷ []) (c.loop-n.invariant.0 list shows)
       ∙ sym (take_got list c.loop-n.n c.row_from.result row),
-  (c.loop-n.invariant.1.0, c.loop-n.invariant.1.1,
-      (let room = c.loop-n.invariant.1.2 in let kept = c.push_reserved.ensures.capacity in omega arith)),
+  (
+    c.loop-n.invariant.1.0,
+    c.loop-n.invariant.1.1,
+    (let room = c.loop-n.invariant.1.2 in let kept = c.push_reserved.ensures.capacity in omega arith),
+  ),
 )

@@ -7,7 +7,8 @@ use Rattle.cmh_dump.proofs.parts.part_of.Goals as goal
 pub returns : goal.returns
 returns c =
     let found = c.in_ok-dependents.ensures in
-    let places = found.1 ∙ map-map (place_of (texts c.args.names.now.keys)) value_text c.args.entry.now.dependents.now in (
+    let places =
+    found.1 ∙ map-map (place_of (texts c.args.names.now.keys)) value_text c.args.entry.now.dependents.now in (
       found.0,
       λ i. record {
         name = c.in_ok-name.ensures.ok i;

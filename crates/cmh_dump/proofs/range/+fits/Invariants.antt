@@ -4,7 +4,8 @@ use Rattle.cmh_dump.specs.View.{items_fit, members_fit}
 use Rattle.cmh_dump.proofs.range.+fits.Given as goal
 
 abbrev pub invariant-items_fit-loop-item : goal.invariant-items_fit-loop-item
-invariant-items_fit-loop-item l = items_fit (items_view (drop l.item-index l.item-items)) ≡ items_fit (items_view l.item-items)
+invariant-items_fit-loop-item l =
+    items_fit (items_view (drop l.item-index l.item-items)) ≡ items_fit (items_view l.item-items)
 
 abbrev pub invariant-members_fit-loop-member : goal.invariant-members_fit-loop-member
 invariant-members_fit-loop-member l =

@@ -9,7 +9,8 @@ pub loop-q-preserved : goal.loop-q-preserved
 loop-q-preserved c =
     elim c.if-is_below.branch [
       | then-is_below+then-eq w ↦
-          least_more _ _ _ _ c.loop-q.least _ c.loop-q-test.true c.loop-q.invariant w.if-is_below.ensures w.if-eq.ensures w.least-is
+          least_more _ _ _ _ c.loop-q.least _ c.loop-q-test.true c.loop-q.invariant w.if-is_below.ensures
+          w.if-eq.ensures w.least-is
       | else-is_below w ↦ elim w.else-is_below.branch [
         | else-is_below-via-then-is_below+else-eq v ↦
             least_other _ _ _ _ c.loop-q.least _ c.loop-q-test.true c.loop-q.invariant v.if-eq.ensures w.least-is

@@ -10,12 +10,14 @@ pub returns-then-stamps-entry-clause-some : goal.returns-then-stamps-entry-claus
 returns-then-stamps-entry-clause-some c =
     let within = c.requires.within c.loop-j.j 0 c.loop-j-test.true in
     first_place _ _ c.loop-j.invariant.0.none
-    (stamp_repeat _ _ _ _ c.loop-j-test.true (omega (arith, within, c.loop-j.auto.stamps)) c.loop-j.invariant.0 c.if-stamps-entry.true)
+    (stamp_repeat _ _ _ _ c.loop-j-test.true
+    (omega (arith, within, c.loop-j.auto.stamps)) c.loop-j.invariant.0 c.if-stamps-entry.true)
 
 pub loop-j-preserved : goal.loop-j-preserved
 loop-j-preserved c =
     let within = c.requires.within c.loop-j.j 0 c.loop-j-test.true in (
-      stamp_more _ _ _ _ c.loop-j-test.true (omega (arith, within, c.loop-j.auto.stamps)) c.loop-j.invariant.0 c.if-stamps-entry.false,
+      stamp_more _ _ _ _ c.loop-j-test.true
+          (omega (arith, within, c.loop-j.auto.stamps)) c.loop-j.invariant.0 c.if-stamps-entry.false,
       All-set (λ s. s ≤ c.args.stamp) _ _ _ (omega arith) c.loop-j.invariant.1,
     )
 

@@ -11,7 +11,8 @@ pub loop-preserved : goal.loop-preserved
 loop-preserved c =
     let more = c.in_ok-push.ensures.items in (
       ap length more ∙ omega (arith, length_push c.loop.lists.items c.new.result, c.loop.invariant.0),
-      λ r. ap (λ xs. list_at xs r) more ∙ empty_more c.loop.lists.items c.new.result c.loop.invariant.1 c.new.ensures.items r,
+      λ r. ap (λ xs. list_at xs r) more
+          ∙ empty_more c.loop.lists.items c.new.result c.loop.invariant.1 c.new.ensures.items r,
     )
 
 pub returns-clause-size : goal.returns-clause-size

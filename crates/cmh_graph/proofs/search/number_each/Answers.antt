@@ -8,7 +8,10 @@ loop-p-preserved c =
     let within = c.requires c.loop-p.p-index 0 c.loop-p-test.true in
     elim c.if-is_none.branch [
       | then-is_none+in_ok-push w ↦
-          numbers_more _ _ _ _ _ _ _ _ _ c.loop-p-test.true c.loop-p.invariant (omega (arith, within, c.loop-p.invariant.size)) (unnumbered _ w.if-is_none.ensures) w.distances-is (ap (λ v. v.items) w.next-is ∙ w.in_ok-push.ensures.items)
+          numbers_more _ _ _ _ _ _ _ _ _ c.loop-p-test.true c.loop-p.invariant
+          (omega (arith, within, c.loop-p.invariant.size)) (unnumbered _ w.if-is_none.ensures) w.distances-is
+          (ap (λ v. v.items) w.next-is ∙ w.in_ok-push.ensures.items)
       | else-is_none w ↦
-          numbers_kept_more _ _ _ _ _ _ _ _ _ c.loop-p-test.true c.loop-p.invariant w.if-is_none.ensures w.distances-is (ap (λ v. v.items) w.next-is)
+          numbers_kept_more _ _ _ _ _ _ _ _ _ c.loop-p-test.true c.loop-p.invariant w.if-is_none.ensures w.distances-is
+          (ap (λ v. v.items) w.next-is)
     ]

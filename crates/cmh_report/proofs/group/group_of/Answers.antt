@@ -11,13 +11,15 @@ use Rattle.cmh_report.proofs.group.group_of.Goals as goal
 pub core_and_rest-requires : goal.core_and_rest-requires
 core_and_rest-requires c =
     let g = c.args.graph.now in
-    reach_within g c.args.leader _ _ (c.deref-2.ensures.value ∙ c.in_ok-reach.ensures) (ap length (c.deref.ensures.value ∙ c.requires.groups.leaders) ∙ length-by_index g (group_leader g))
+    reach_within g c.args.leader _ _ (c.deref-2.ensures.value ∙ c.in_ok-reach.ensures)
+    (ap length (c.deref.ensures.value ∙ c.requires.groups.leaders) ∙ length-by_index g (group_leader g))
 
 pub count_sites-requires : goal.count_sites-requires
 count_sites-requires c =
     let g = c.args.graph.now in
     record {
-      within = reach_within g c.args.leader _ _ (c.deref-3.ensures.value ∙ c.in_ok-reach.ensures) (λ i. length g.processes);
+      within =
+          reach_within g c.args.leader _ _ (c.deref-3.ensures.value ∙ c.in_ok-reach.ensures) (λ i. length g.processes);
       below = c.requires.knot.sites;
     }
 
@@ -29,7 +31,8 @@ returns c =
     let list = c.args.groups.now.leaders.items in
     let all = c.deref-2.ensures.value ∙ c.in_ok-reach.ensures in
     record {
-      number = c.index.ensures ∙ by_index g (leaders_up_to g) _ leader _ groups.numbers c.requires.within ∙ own_number g list leader groups.leaders c.requires.within c.requires.leads;
+      number = c.index.ensures ∙ by_index g (leaders_up_to g) _ leader _ groups.numbers c.requires.within
+          ∙ own_number g list leader groups.leaders c.requires.within c.requires.leads;
       core =
           c.in_ok-core.ensures.core
           ∙ ap (λ xs. filter (is_led_by xs leader) c.deref-2.result.now) c.deref.ensures.value

@@ -8,7 +8,14 @@ use Rattle.cmh_report.proofs.group.reach_of.Goals as goal
 pub marked-requires : goal.marked-requires
 marked-requires c =
     let g = c.args.graph.now in
-    omega (arith, ap length (c.deref.ensures.value ∙ c.in_ok-marks.ensures), length-by_index g (reaches g c.args.leader), c.requires.groups.well_formed.processes)
+    omega (
+      arith,
+      ap length (c.deref.ensures.value ∙ c.in_ok-marks.ensures),
+      length-by_index g (reaches g c.args.leader),
+      c.requires.groups.well_formed.processes,
+    )
 
 pub returns : goal.returns
-returns c = IfOk-then c.marked.result _ _ c.marked.ensures (λ list is. is ∙ reach_listed c.args.graph.now c.args.leader _ (c.deref.ensures.value ∙ c.in_ok-marks.ensures))
+returns c =
+    IfOk-then c.marked.result _ _ c.marked.ensures
+    (λ list is. is ∙ reach_listed c.args.graph.now c.args.leader _ (c.deref.ensures.value ∙ c.in_ok-marks.ensures))

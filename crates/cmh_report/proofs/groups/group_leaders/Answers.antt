@@ -7,11 +7,14 @@ use Rattle.cmh_report.proofs.groups.group_leaders.Goals as goal
 
 pub loop-record-init : goal.loop-record-init
 loop-record-init _ c =
-    leaders_none c.args.graph.now c.len.result c.in_ok-leaders.leaders.items c.len.ensures.count (search rules) (ap length c.in_ok-leaders.ensures ∙ length-replicate c.len.result None)
+    leaders_none c.args.graph.now c.len.result c.in_ok-leaders.leaders.items c.len.ensures.count (search rules)
+    (ap length c.in_ok-leaders.ensures ∙ length-replicate c.len.result None)
 
 pub index_mut-requires : goal.index_mut-requires
 index_mut-requires _ c =
-    let tells = tells_at c.args.graph.now c.args.records.now c.loop-record.record-index c.record-item.result c.requires c.loop-record-test.true (sym c.record-item.is) in
+    let tells =
+    tells_at c.args.graph.now c.args.records.now c.loop-record.record-index c.record-item.result c.requires
+    c.loop-record-test.true (sym c.record-item.is) in
     omega (arith, c.loop-record.invariant.size, idle_within c.args.graph.now c.record-item.result.initiator tells.idle)
 
 pub loop-record-preserved : goal.loop-record-preserved

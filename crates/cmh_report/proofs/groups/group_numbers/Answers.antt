@@ -10,11 +10,23 @@ use Rattle.cmh_report.proofs.groups.group_numbers.Goals.{then-is_led_by, else-is
 
 pub is_led_by-requires : goal.is_led_by-requires
 is_led_by-requires c =
-    omega (arith, ap length c.requires, length-by_index c.args.graph.now (group_leader c.args.graph.now), c.loop-p-test.true, c.len-p-end.ensures.count)
+    omega (
+      arith,
+      ap length c.requires,
+      length-by_index c.args.graph.now (group_leader c.args.graph.now),
+      c.loop-p-test.true,
+      c.len-p-end.ensures.count,
+    )
 
 pub overflow_add-count : goal.overflow_add-count
 overflow_add-count c =
-    omega (arith, c.loop-p.invariant.count, leaders_few c.args.graph.now c.loop-p.p, c.loop-p-test.true, c.len-p-end.type_inv)
+    omega (
+      arith,
+      c.loop-p.invariant.count,
+      leaders_few c.args.graph.now c.loop-p.p,
+      c.loop-p-test.true,
+      c.len-p-end.type_inv,
+    )
 
 pub loop-p-preserved : goal.loop-p-preserved
 loop-p-preserved c =
@@ -22,8 +34,12 @@ loop-p-preserved c =
     let i : c.loop-p.p < process_count g = omega (arith, c.loop-p-test.true, c.len-p-end.ensures.count) in
     let count : c.if-is_led_by.count ≡ length (leaders_below g (c.loop-p.p + 1)) =
     elim c.if-is_led_by.branch [
-      | then-is_led_by w ↦ w.count-is ∙ leaders_one_more g _ c.loop-p.p _ c.requires i c.loop-p.invariant.count (sym c.is_led_by.ensures ∙ w.if-is_led_by.true)
-      | else-is_led_by w ↦ w.count-is ∙ leaders_no_more g _ c.loop-p.p _ c.requires i c.loop-p.invariant.count (sym c.is_led_by.ensures ∙ w.if-is_led_by.false)
+      | then-is_led_by w ↦ w.count-is
+          ∙ leaders_one_more g _ c.loop-p.p _ c.requires i c.loop-p.invariant.count
+          (sym c.is_led_by.ensures ∙ w.if-is_led_by.true)
+      | else-is_led_by w ↦ w.count-is
+          ∙ leaders_no_more g _ c.loop-p.p _ c.requires i c.loop-p.invariant.count
+          (sym c.is_led_by.ensures ∙ w.if-is_led_by.false)
     ] in record {
       numbers =
           c.in_ok-push.ensures.items

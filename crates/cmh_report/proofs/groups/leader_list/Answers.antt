@@ -8,7 +8,13 @@ use Rattle.cmh_report.proofs.groups.leader_list.Goals.{then-is_led_by+in_ok-push
 
 pub is_led_by-requires : goal.is_led_by-requires
 is_led_by-requires c =
-    omega (arith, ap length c.requires, length-by_index c.args.graph.now (group_leader c.args.graph.now), c.loop-p-test.true, c.len-p-end.ensures.count)
+    omega (
+      arith,
+      ap length c.requires,
+      length-by_index c.args.graph.now (group_leader c.args.graph.now),
+      c.loop-p-test.true,
+      c.len-p-end.ensures.count,
+    )
 
 pub loop-p-preserved : goal.loop-p-preserved
 loop-p-preserved c =
@@ -31,5 +37,6 @@ loop-p-preserved c =
 pub returns : goal.returns
 returns c =
     let g = c.args.graph.now in
-    let end : c.loop-p.p ≡ process_count g = omega (arith, c.loop-p-test.false, c.len-p-end.ensures.count, c.loop-p.auto.p-end) in
+    let end : c.loop-p.p ≡ process_count g =
+    omega (arith, c.loop-p-test.false, c.len-p-end.ensures.count, c.loop-p.auto.p-end) in
     c.loop-p.invariant ∙ ap (leaders_below g) end

@@ -16,6 +16,8 @@ has_led-requires c =
 pub returns : goal.returns
 returns c = λ e.
     let g = c.args.graph.now in
-    let there = subst (λ xs. HasLed xs c.args.leader c.dependents.result.now) c.deref.ensures.value (c.has_led.ensures e) in
-    leads_to g c.args.groups.now.leaders.items c.args.p there.0 c.args.leader c.requires.groups.well_formed c.requires.groups.leaders c.requires.within
+    let there =
+    subst (λ xs. HasLed xs c.args.leader c.dependents.result.now) c.deref.ensures.value (c.has_led.ensures e) in
+    leads_to g c.args.groups.now.leaders.items c.args.p there.0 c.args.leader c.requires.groups.well_formed
+    c.requires.groups.leaders c.requires.within
     (subst (λ xs. Contains xs there.0) c.dependents.ensures there.1) there.2

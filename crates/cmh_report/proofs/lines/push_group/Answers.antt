@@ -7,10 +7,16 @@ use Rattle.cmh_report.proofs.lines.push_group.Goals as goal
 pub returns : goal.returns
 returns c =
     let g = c.args.graph.now in
-    let core = c.in_ok-push_names.ensures ∙ ap (λ ps. string_bytes c.write.new.self ++ spaced (names g ps)) c.deref-3.ensures.value in
-    let rest = c.in_ok-push_names_or_dash.ensures ∙ ap (λ ps. string_bytes c.push_str.new.self ++ spaced (names_or_dash g ps)) c.deref-4.ensures.value in
+    let core = c.in_ok-push_names.ensures
+    ∙ ap (λ ps. string_bytes c.write.new.self ++ spaced (names g ps)) c.deref-3.ensures.value in
+    let rest = c.in_ok-push_names_or_dash.ensures
+    ∙ ap (λ ps. string_bytes c.push_str.new.self ++ spaced (names_or_dash g ps)) c.deref-4.ensures.value in
     let front = codes "group " ++ (decimal c.args.group.now.number ++ codes " |") in
-    let first : string_bytes c.write.new.self ≡ string_bytes c.args.text.now ++ front = c.in_ok-write.ensures.bytes ∙ ap (λ xs. xs ++ front) c.reserve.ensures.bytes in
-    let bar : string_bytes c.push_str.new.self ≡ string_bytes c.push_names.new.text ++ codes " |" = c.in_ok-push_str.ensures.bytes in
-    let last : string_bytes c.write-2.new.self ≡ string_bytes c.push_names_or_dash.new.text ++ (codes " | sites " ++ (decimal c.args.group.now.site_count ++ 10 ∷ [])) = c.in_ok-write-2.ensures.bytes in
+    let first : string_bytes c.write.new.self ≡ string_bytes c.args.text.now ++ front =
+    c.in_ok-write.ensures.bytes ∙ ap (λ xs. xs ++ front) c.reserve.ensures.bytes in
+    let bar : string_bytes c.push_str.new.self ≡ string_bytes c.push_names.new.text ++ codes " |" =
+    c.in_ok-push_str.ensures.bytes in
+    let last : string_bytes c.write-2.new.self
+    ≡ string_bytes c.push_names_or_dash.new.text
+    ++ (codes " | sites " ++ (decimal c.args.group.now.site_count ++ 10 ∷ [])) = c.in_ok-write-2.ensures.bytes in
     group_pieces _ _ _ _ _ _ _ _ _ _ first core bar rest last

@@ -14,10 +14,12 @@ loop-record-preserved _ c =
     elim c.match-record.branch [
       | in-Deadlocked w ↦
           w.count-is ∙ ap (λ n. n + 1) c.loop-record.invariant
-          ∙ sym (count_by_more_yes tells_deadlocked rs i r c.loop-record-test.true (ap tells_deadlocked (sym c.record-item.is) ∙ ap says_deadlocked w.in-Deadlocked.is))
+          ∙ sym (count_by_more_yes tells_deadlocked rs i r c.loop-record-test.true
+          (ap tells_deadlocked (sym c.record-item.is) ∙ ap says_deadlocked w.in-Deadlocked.is))
       | in-Free w ↦
           w.count-is ∙ c.loop-record.invariant
-          ∙ sym (count_by_more_no tells_deadlocked rs i r c.loop-record-test.true (ap tells_deadlocked (sym c.record-item.is) ∙ ap says_deadlocked w.in-Free.is))
+          ∙ sym (count_by_more_no tells_deadlocked rs i r c.loop-record-test.true
+          (ap tells_deadlocked (sym c.record-item.is) ∙ ap says_deadlocked w.in-Free.is))
     ]
 
 pub returns : goal.returns

@@ -15,23 +15,41 @@ use Rattle.cmh_report.proofs.parallel.line_of_process.Goals.{in-Some+in_ok-push_
 
 -- there is a place for each process
 pub index-requires : goal.index-requires
-index-requires c = omega (arith, ap length c.requires.groups.leaders, length-by_index c.args.graph.now (group_leader c.args.graph.now), c.requires.within)
+index-requires c =
+    omega (
+      arith,
+      ap length c.requires.groups.leaders,
+      length-by_index c.args.graph.now (group_leader c.args.graph.now),
+      c.requires.within,
+    )
 
 -- the leader is a process too
 pub index-requires-in-Some : goal.index-requires-in-Some
 index-requires-in-Some c =
     let g = c.args.graph.now in
     let p = c.args.p in
-    let leads : group_leader g p ≡ Some c.in-Some.leader = sym (c.index.ensures ∙ by_index g (group_leader g) _ p _ c.requires.groups.leaders c.requires.within) ∙ c.in-Some.is in
+    let leads : group_leader g p ≡ Some c.in-Some.leader =
+    sym (c.index.ensures ∙ by_index g (group_leader g) _ p _ c.requires.groups.leaders c.requires.within)
+    ∙ c.in-Some.is in
     let least = leader_least g p p (in_own_core g p c.requires.groups.well_formed.within c.requires.within) in
-    omega (arith, (leader_known g p c.in-Some.leader leads).1, least, c.requires.within, ap length c.requires.groups.numbers, length-by_index g (leaders_up_to g), c.args.groups.now.numbers.ok.0)
+    omega (
+      arith,
+      (leader_known g p c.in-Some.leader leads).1,
+      least,
+      c.requires.within,
+      ap length c.requires.groups.numbers,
+      length-by_index g (leaders_up_to g),
+      c.args.groups.now.numbers.ok.0,
+    )
 
 -- nobody leads a process that is free
 pub path_of-requires-clause-free : goal.path_of-requires-clause-free
 path_of-requires-clause-free c =
     let g = c.args.graph.now in
     let p = c.args.p in
-    no_leader g p (sym (c.index.ensures ∙ by_index g (group_leader g) _ p _ c.requires.groups.leaders c.requires.within) ∙ c.in-None.is)
+    no_leader g p
+    (sym (c.index.ensures ∙ by_index g (group_leader g) _ p _ c.requires.groups.leaders c.requires.within)
+    ∙ c.in-None.is)
 
 -- the path goes along processes of the graph
 pub push_free-requires : goal.push_free-requires
@@ -43,23 +61,28 @@ pub returns : goal.returns
 returns c =
     let g = c.args.graph.now in
     let p = c.args.p in
-    let leader = sym (c.index.ensures ∙ by_index g (group_leader g) _ p _ c.requires.groups.leaders c.requires.within) in
+    let leader =
+    sym (c.index.ensures ∙ by_index g (group_leader g) _ p _ c.requires.groups.leaders c.requires.within) in
     let empty = ap (λ xs. xs ++ line (process_line g p)) c.new-text.ensures.bytes in
     elim c.match-index.branch [
       | in-Some+in_ok-push_deadlocked-in-Some w ↦
           let known = leader_known g p w.in-Some.leader (leader ∙ w.in-Some.is) in
           let least = leader_least g p p (in_own_core g p c.requires.groups.well_formed.within c.requires.within) in
           let within : w.in-Some.leader < process_count g = omega (arith, known.1, least, c.requires.within) in
-          let number = w.index-in-Some.ensures ∙ by_index g (leaders_up_to g) _ w.in-Some.leader _ c.requires.groups.numbers within ∙ ap (leaders_up_to g) (sym known.1) ∙ number_is g p in
+          let number = w.index-in-Some.ensures
+          ∙ by_index g (leaders_up_to g) _ w.in-Some.leader _ c.requires.groups.numbers within
+          ∙ ap (leaders_up_to g) (sym known.1) ∙ number_is g p in
           ap string_bytes w.text-is
           ∙ w.in_ok-push_deadlocked-in-Some.ensures
-          ∙ ap (λ words. string_bytes c.new-text.result ++ line words) (deadlocked_words g p w.index-in-Some.result.now w.name.result.now known.0 w.name.ensures number)
+          ∙ ap (λ words. string_bytes c.new-text.result ++ line words)
+          (deadlocked_words g p w.index-in-Some.result.now w.name.result.now known.0 w.name.ensures number)
           ∙ empty
       | in-None+in_ok-path-in-None+in_ok-push_free-in-None w ↦
           let free : is_deadlocked g p ≡ false = no_leader g p (leader ∙ w.in-None.is) in
           let chosen = w.deref.ensures.value ∙ ap (λ o. unwrap_or o []) (sym w.in_ok-path-in-None.ensures) in
           ap string_bytes w.text-is
           ∙ w.in_ok-push_free-in-None.ensures
-          ∙ ap (λ words. string_bytes c.new-text.result ++ line words) (free_words g p w.name-in-None.result.now w.deref.result.now free w.name-in-None.ensures chosen)
+          ∙ ap (λ words. string_bytes c.new-text.result ++ line words)
+          (free_words g p w.name-in-None.result.now w.deref.result.now free w.name-in-None.ensures chosen)
           ∙ empty
     ]

@@ -26,7 +26,15 @@ collect-requires g c κs =
               search (sendable, crosses) depth 60 fits 100000,
               (
                 frees,
-                rw (c.map.ensures.base, c.map.ensures.f, c.with_min_len.ensures.base, c.rev.ensures.base, c.rev.ensures.low, c.rev.ensures.high, c.par_iter.ensures) (
+                rw (
+                  c.map.ensures.base,
+                  c.map.ensures.f,
+                  c.with_min_len.ensures.base,
+                  c.rev.ensures.base,
+                  c.rev.ensures.low,
+                  c.rev.ensures.high,
+                  c.par_iter.ensures,
+                ) (
                   omega arith,
                   omega arith,
                   λ k d lt x same.
@@ -44,8 +52,18 @@ pub returns : goal.returns
 returns g c =
     let graph = c.args.graph.now in
     let h = c.in_ok-collect.ensures in
-    let chain = rw (c.map.ensures.base, c.map.ensures.f, c.with_min_len.ensures.base, c.rev.ensures.base, c.rev.ensures.low, c.rev.ensures.high, c.par_iter.ensures) at h.1 in
+    let chain =
+    rw (
+      c.map.ensures.base,
+      c.map.ensures.f,
+      c.with_min_len.ensures.base,
+      c.rev.ensures.base,
+      c.rev.ensures.low,
+      c.rev.ensures.high,
+      c.par_iter.ensures,
+    ) at h.1 in
     let turned = chain.1 in
     let shown = reversed c.args.paths.now.idle.items chain.0 turned.0 turned.1 (omega (arith, turned.2)) turned.3 in
     rw (← of_processes graph c.args.paths.now.idle.items c.requires.paths.idle)
-    (collected AllocError (λ p. line (process_line graph p)) (reverse c.args.paths.now.idle.items) chain.0 h.0 c.in_ok-collect.field-0 shown chain.2 h.2)
+    (collected AllocError (λ p. line (process_line graph p))
+    (reverse c.args.paths.now.idle.items) chain.0 h.0 c.in_ok-collect.field-0 shown chain.2 h.2)

@@ -7,4 +7,5 @@ use Rattle.cmh_report.proofs.sites.count_hashed.Goals as goal
 pub returns : goal.returns
 returns c =
     c.len.ensures.len
-    ∙ hash_set_len-from_list nat_eq_equiv (map (site_of c.args.graph.now) c.args.list.now) c.in_ok-sites_of.field-0 c.in_ok-sites_of.ensures
+    ∙ hash_set_len-from_list nat_eq_equiv
+    (map (site_of c.args.graph.now) c.args.list.now) c.in_ok-sites_of.field-0 c.in_ok-sites_of.ensures

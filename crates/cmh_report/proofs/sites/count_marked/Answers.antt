@@ -22,7 +22,8 @@ loop-p-preserved c =
     let p = get_or list c.loop-p.p-index 0 in
     let site = c.site-site.result in
     let is : site ≡ site_of g p = c.site-site.ensures in
-    let below : site < c.args.bound = omega (arith, is, c.requires.below p (c.requires.within c.loop-p.p-index 0 c.loop-p-test.true)) in
+    let below : site < c.args.bound =
+    omega (arith, is, c.requires.below p (c.requires.within c.loop-p.p-index 0 c.loop-p-test.true)) in
     let within : site < length c.loop-p.seen.items = omega (arith, below, c.loop-p.invariant.size) in
     let all = map (site_of g) (take c.loop-p.p-index list) in
     let more : map (site_of g) (take (c.loop-p.p-index + 1) list) ≡ all ++ site ∷ [] =
@@ -30,14 +31,22 @@ loop-p-preserved c =
     subst (AreSeen c.args.bound c.if-not-index.seen.items c.if-not-index.sites.items) (sym more)
     (elim c.if-not-index.branch [
       | then-not-index+in_ok-push w ↦
-          let unmarked : is_marked c.loop-p.seen.items site ≡ false = get_or_default c.loop-p.seen.items site false c.index.result.now within ∙ sym c.index.ensures ∙ w.if-not-index.true in
-          subst (λ ms. AreSeen c.args.bound ms c.if-not-index.sites.items (all ++ site ∷ [])) (sym (ap (λ v. v.items) w.seen-is))
-          (subst (λ xs. AreSeen c.args.bound (set c.loop-p.seen.items site true) xs (all ++ site ∷ [])) (sym (ap (λ v. v.items) w.sites-is ∙ w.in_ok-push.ensures.items))
+          let unmarked : is_marked c.loop-p.seen.items site ≡ false =
+          get_or_default c.loop-p.seen.items site false c.index.result.now within ∙ sym c.index.ensures
+          ∙ w.if-not-index.true in
+          subst (λ ms. AreSeen c.args.bound ms c.if-not-index.sites.items (all ++ site ∷ []))
+          (sym (ap (λ v. v.items) w.seen-is))
+          (subst (λ xs. AreSeen c.args.bound (set c.loop-p.seen.items site true) xs (all ++ site ∷ []))
+          (sym (ap (λ v. v.items) w.sites-is ∙ w.in_ok-push.ensures.items))
           (seen_more c.args.bound c.loop-p.seen.items c.loop-p.sites.items all site c.loop-p.invariant below unmarked))
       | else-not-index w ↦
-          let marked : is_marked c.loop-p.seen.items site ≡ true = get_or_default c.loop-p.seen.items site false c.index.result.now within ∙ sym c.index.ensures ∙ w.if-not-index.false in
-          subst (λ ms. AreSeen c.args.bound ms c.if-not-index.sites.items (all ++ site ∷ [])) (sym (ap (λ v. v.items) w.seen-is))
-          (subst (λ xs. AreSeen c.args.bound c.loop-p.seen.items xs (all ++ site ∷ [])) (sym (ap (λ v. v.items) w.sites-is))
+          let marked : is_marked c.loop-p.seen.items site ≡ true =
+          get_or_default c.loop-p.seen.items site false c.index.result.now within ∙ sym c.index.ensures
+          ∙ w.if-not-index.false in
+          subst (λ ms. AreSeen c.args.bound ms c.if-not-index.sites.items (all ++ site ∷ []))
+          (sym (ap (λ v. v.items) w.seen-is))
+          (subst (λ xs. AreSeen c.args.bound c.loop-p.seen.items xs (all ++ site ∷ []))
+          (sym (ap (λ v. v.items) w.sites-is))
           (seen_again c.args.bound c.loop-p.seen.items c.loop-p.sites.items all site c.loop-p.invariant marked))
     ])
 
@@ -45,5 +54,6 @@ pub returns : goal.returns
 returns c =
     let all = take_all c.loop-p.p-index c.args.list.now c.loop-p-test.false in
     c.len.ensures ∙ c.loop-p.sites.ok.0
-    ∙ length-from_keys nat_eq_equiv c.loop-p.sites.items (map (site_of c.args.graph.now) c.args.list.now) c.loop-p.invariant.distinct
+    ∙ length-from_keys nat_eq_equiv c.loop-p.sites.items
+    (map (site_of c.args.graph.now) c.args.list.now) c.loop-p.invariant.distinct
     (λ s. c.loop-p.invariant.same s ∙ ap (λ xs. is_member nat_eq (map (site_of c.args.graph.now) xs) s) all)

@@ -15,7 +15,8 @@ restart_if_due-requires-clause-may g c =
 -- at a delivery there are as many processes as the graph has
 pub deliver-requires-clause-size : goal.deliver-requires-clause-size
 deliver-requires-clause-size g c =
-    taken_size c.args.graph.now c.args.initiator c.args.choices.now c.args.restarts.now c.loop-message.progress c.take.new.self c.in-Some.message
+    taken_size c.args.graph.now c.args.initiator c.args.choices.now c.args.restarts.now c.loop-message.progress
+    c.take.new.self c.in-Some.message
     c.requires.graph.within c.requires.idle c.loop-message.invariant.follows (c.in-Some.ensures.taken c.args.choices.now
     (next_is c.args.choices.now c.loop-message.left c.loop-message.progress.going.done c.next.result
     c.loop-message.invariant.left c.next.ensures.first))
@@ -23,7 +24,8 @@ deliver-requires-clause-size g c =
 -- a message is delivered to a process of the graph
 pub deliver-requires-clause-within : goal.deliver-requires-clause-within
 deliver-requires-clause-within g c =
-    taken_within c.args.graph.now c.args.initiator c.args.choices.now c.args.restarts.now c.loop-message.progress c.take.new.self c.in-Some.message
+    taken_within c.args.graph.now c.args.initiator c.args.choices.now c.args.restarts.now c.loop-message.progress
+    c.take.new.self c.in-Some.message
     c.requires.graph.within c.requires.idle c.loop-message.invariant.follows (c.in-Some.ensures.taken c.args.choices.now
     (next_is c.args.choices.now c.loop-message.left c.loop-message.progress.going.done c.next.result
     c.loop-message.invariant.left c.next.ensures.first))
@@ -31,14 +33,16 @@ deliver-requires-clause-within g c =
 -- what it sends has room in words
 pub deliver-requires-clause-sender : goal.deliver-requires-clause-sender
 deliver-requires-clause-sender g c =
-    taken_sender c.args.graph.now c.args.initiator c.args.choices.now c.args.restarts.now c.loop-message.progress c.take.new.self c.in-Some.message
+    taken_sender c.args.graph.now c.args.initiator c.args.choices.now c.args.restarts.now c.loop-message.progress
+    c.take.new.self c.in-Some.message
     c.requires.graph.within c.requires.idle c.loop-message.invariant.follows (c.in-Some.ensures.taken c.args.choices.now
     (next_is c.args.choices.now c.loop-message.left c.loop-message.progress.going.done c.next.result
     c.loop-message.invariant.left c.next.ensures.first)) c.requires.graph c.in-Some.ensures.number
 
 pub deliver-requires-clause-engagers : goal.deliver-requires-clause-engagers
 deliver-requires-clause-engagers g c =
-    taken_engagers c.args.graph.now c.args.initiator c.args.choices.now c.args.restarts.now c.loop-message.progress c.take.new.self c.in-Some.message
+    taken_engagers c.args.graph.now c.args.initiator c.args.choices.now c.args.restarts.now c.loop-message.progress
+    c.take.new.self c.in-Some.message
     c.requires.graph.within c.requires.idle c.loop-message.invariant.follows (c.in-Some.ensures.taken c.args.choices.now
     (next_is c.args.choices.now c.loop-message.left c.loop-message.progress.going.done c.next.result
     c.loop-message.invariant.left c.next.ensures.first)) c.requires.graph
@@ -46,7 +50,8 @@ deliver-requires-clause-engagers g c =
 -- the deliveries can be counted
 pub deliver-requires-clause-few : goal.deliver-requires-clause-few
 deliver-requires-clause-few g c =
-    taken_room c.args.graph.now c.args.initiator c.args.choices.now c.args.restarts.now c.loop-message.progress c.take.new.self c.in-Some.message
+    taken_room c.args.graph.now c.args.initiator c.args.choices.now c.args.restarts.now c.loop-message.progress
+    c.take.new.self c.in-Some.message
     c.requires.graph.within c.requires.idle c.loop-message.invariant.follows (c.in-Some.ensures.taken c.args.choices.now
     (next_is c.args.choices.now c.loop-message.left c.loop-message.progress.going.done c.next.result
     c.loop-message.invariant.left c.next.ensures.first)) c.requires.graph c.requires.few
@@ -60,11 +65,13 @@ returns-in_err-deliver-clause-kept g c =
 -- after a delivery the initiator may start again, if the run isn't over
 pub restart_if_due-requires-in-Some-clause-may : goal.restart_if_due-requires-in-Some-clause-may
 restart_if_due-requires-in-Some-clause-may g c =
-    taken_may_start c.args.graph.now c.args.initiator c.args.choices.now c.args.restarts.now c.loop-message.progress c.take.new.self c.in-Some.message
+    taken_may_start c.args.graph.now c.args.initiator c.args.choices.now c.args.restarts.now c.loop-message.progress
+    c.take.new.self c.in-Some.message
     c.requires.graph.within c.requires.idle c.loop-message.invariant.follows (c.in-Some.ensures.taken c.args.choices.now
     (next_is c.args.choices.now c.loop-message.left c.loop-message.progress.going.done c.next.result
     c.loop-message.invariant.left c.next.ensures.first))
-    c.in_ok-deliver.ensures.ok.hint c.in_ok-deliver.ensures.ok.fit c.deliver.new.self c.in_ok-deliver.ensures.ok.is c.requires.few
+    c.in_ok-deliver.ensures.ok.hint c.in_ok-deliver.ensures.ok.fit c.deliver.new.self c.in_ok-deliver.ensures.ok.is
+    c.requires.few
 
 -- the hints are kept where a restart runs out of memory
 pub returns-in_err-restart_if_due-2-clause-kept : goal.returns-in_err-restart_if_due-2-clause-kept
@@ -75,7 +82,8 @@ returns-in_err-restart_if_due-2-clause-kept g c =
 -- each delivery makes the measure of the run smaller
 pub loop-message-smaller : goal.loop-message-smaller
 loop-message-smaller g c =
-    taken_falls c.args.graph.now c.args.initiator c.args.choices.now c.args.restarts.now c.loop-message.progress c.take.new.self c.in-Some.message
+    taken_falls c.args.graph.now c.args.initiator c.args.choices.now c.args.restarts.now c.loop-message.progress
+    c.take.new.self c.in-Some.message
     c.requires.graph.within c.requires.idle c.loop-message.invariant.follows (c.in-Some.ensures.taken c.args.choices.now
     (next_is c.args.choices.now c.loop-message.left c.loop-message.progress.going.done c.next.result
     c.loop-message.invariant.left c.next.ensures.first))
@@ -85,16 +93,22 @@ loop-message-smaller g c =
 -- each delivery leads on by the choices, keeps the hints, and stays silent where they are
 pub loop-message-preserved : goal.loop-message-preserved
 loop-message-preserved g c = record {
-  follows = taken_follows c.args.graph.now c.args.initiator c.args.choices.now c.args.restarts.now c.loop-message.progress c.take.new.self c.in-Some.message
-      c.requires.graph.within c.requires.idle c.loop-message.invariant.follows (c.in-Some.ensures.taken c.args.choices.now
+  follows =
+      taken_follows c.args.graph.now c.args.initiator c.args.choices.now c.args.restarts.now c.loop-message.progress
+      c.take.new.self c.in-Some.message
+      c.requires.graph.within c.requires.idle c.loop-message.invariant.follows
+      (c.in-Some.ensures.taken c.args.choices.now
       (next_is c.args.choices.now c.loop-message.left c.loop-message.progress.going.done c.next.result
       c.loop-message.invariant.left c.next.ensures.first))
       c.in_ok-deliver.ensures.ok.hint c.in_ok-deliver.ensures.ok.fit c.deliver.new.self c.in_ok-deliver.ensures.ok.is
       c.restart_if_due-in-Some.new.self c.in_ok-restart_if_due-2.ensures.ok;
-  left = next_left c.args.choices.now c.loop-message.left c.next.new.self c.loop-message.progress.going.done c.restart_if_due-in-Some.new.self.going.done
+  left = next_left c.args.choices.now c.loop-message.left c.next.new.self c.loop-message.progress.going.done
+      c.restart_if_due-in-Some.new.self.going.done
       c.loop-message.invariant.left c.next.ensures.rest
-      (taken_done c.args.graph.now c.args.initiator c.args.choices.now c.args.restarts.now c.loop-message.progress c.take.new.self c.in-Some.message
-      c.requires.graph.within c.requires.idle c.loop-message.invariant.follows (c.in-Some.ensures.taken c.args.choices.now
+      (taken_done c.args.graph.now c.args.initiator c.args.choices.now c.args.restarts.now c.loop-message.progress
+      c.take.new.self c.in-Some.message
+      c.requires.graph.within c.requires.idle c.loop-message.invariant.follows
+      (c.in-Some.ensures.taken c.args.choices.now
       (next_is c.args.choices.now c.loop-message.left c.loop-message.progress.going.done c.next.result
       c.loop-message.invariant.left c.next.ensures.first))
       c.in_ok-deliver.ensures.ok.hint c.in_ok-deliver.ensures.ok.fit c.deliver.new.self c.in_ok-deliver.ensures.ok.is
@@ -103,13 +117,16 @@ loop-message-preserved g c = record {
       c.loop-message.invariant.kept c.deliver.ensures.kept;
   silent = λ q.
       subst (λ (xs : List Delivery). HasNoHints xs)
-      (sym (taken_log c.args.graph.now c.args.initiator c.args.choices.now c.args.restarts.now c.loop-message.progress c.take.new.self c.in-Some.message
-      c.requires.graph.within c.requires.idle c.loop-message.invariant.follows (c.in-Some.ensures.taken c.args.choices.now
+      (sym (taken_log c.args.graph.now c.args.initiator c.args.choices.now c.args.restarts.now c.loop-message.progress
+      c.take.new.self c.in-Some.message
+      c.requires.graph.within c.requires.idle c.loop-message.invariant.follows
+      (c.in-Some.ensures.taken c.args.choices.now
       (next_is c.args.choices.now c.loop-message.left c.loop-message.progress.going.done c.next.result
       c.loop-message.invariant.left c.next.ensures.first))
       c.in_ok-deliver.ensures.ok.hint c.in_ok-deliver.ensures.ok.fit c.deliver.new.self c.in_ok-deliver.ensures.ok.is
       c.restart_if_due-in-Some.new.self c.in_ok-restart_if_due-2.ensures.ok))
-      (no_hints_on c.loop-message.progress.log (record { message = c.in-Some.message; hint = c.in_ok-deliver.ensures.ok.hint })
+      (no_hints_on c.loop-message.progress.log
+      (record { message = c.in-Some.message; hint = c.in_ok-deliver.ensures.ok.hint })
       (c.loop-message.invariant.silent q)
       (c.in_ok-deliver.ensures.ok.silent
       (g.met.H.Hints.keeps_silent c.args.hints.now c.loop-message.hints c.loop-message.invariant.kept q)));
@@ -118,8 +135,10 @@ loop-message-preserved g c = record {
 -- what is kept at the end is a legal run that followed the choices
 pub returns-clause-legal : goal.returns-clause-legal
 returns-clause-legal g c =
-    finished c.args.graph.now c.args.initiator c.args.choices.now c.args.restarts.now c.loop-message.progress c.take.new.self c.finish.result.0
-    c.requires.graph.within c.requires.idle c.loop-message.invariant.follows (c.in_default.ensures.taken c.args.choices.now
+    finished c.args.graph.now c.args.initiator c.args.choices.now c.args.restarts.now c.loop-message.progress
+    c.take.new.self c.finish.result.0
+    c.requires.graph.within c.requires.idle c.loop-message.invariant.follows
+    (c.in_default.ensures.taken c.args.choices.now
     (next_is c.args.choices.now c.loop-message.left c.loop-message.progress.going.done c.next.result
     c.loop-message.invariant.left c.next.ensures.first)) c.finish.ensures.log
 
@@ -128,8 +147,10 @@ pub returns-clause-true_verdict : goal.returns-clause-true_verdict
 returns-clause-true_verdict g c =
     run_is_true c.args.graph.now c.args.initiator c.args.choices.now c.args.restarts.now c.finish.result.0
     c.requires.graph.within c.requires.idle (ap (λ (r : Run). r.initiator) c.finish.ensures.log)
-    (finished c.args.graph.now c.args.initiator c.args.choices.now c.args.restarts.now c.loop-message.progress c.take.new.self c.finish.result.0
-    c.requires.graph.within c.requires.idle c.loop-message.invariant.follows (c.in_default.ensures.taken c.args.choices.now
+    (finished c.args.graph.now c.args.initiator c.args.choices.now c.args.restarts.now c.loop-message.progress
+    c.take.new.self c.finish.result.0
+    c.requires.graph.within c.requires.idle c.loop-message.invariant.follows
+    (c.in_default.ensures.taken c.args.choices.now
     (next_is c.args.choices.now c.loop-message.left c.loop-message.progress.going.done c.next.result
     c.loop-message.invariant.left c.next.ensures.first)) c.finish.ensures.log)
 
@@ -137,8 +158,10 @@ returns-clause-true_verdict g c =
 pub returns-clause-restarted : goal.returns-clause-restarted
 returns-clause-restarted g c =
     restarted_few c.args.graph.now c.args.choices.now c.args.restarts.now c.finish.result.0
-    (finished c.args.graph.now c.args.initiator c.args.choices.now c.args.restarts.now c.loop-message.progress c.take.new.self c.finish.result.0
-    c.requires.graph.within c.requires.idle c.loop-message.invariant.follows (c.in_default.ensures.taken c.args.choices.now
+    (finished c.args.graph.now c.args.initiator c.args.choices.now c.args.restarts.now c.loop-message.progress
+    c.take.new.self c.finish.result.0
+    c.requires.graph.within c.requires.idle c.loop-message.invariant.follows
+    (c.in_default.ensures.taken c.args.choices.now
     (next_is c.args.choices.now c.loop-message.left c.loop-message.progress.going.done c.next.result
     c.loop-message.invariant.left c.next.ensures.first)) c.finish.ensures.log)
 
@@ -147,8 +170,10 @@ pub returns-clause-engaged : goal.returns-clause-engaged
 returns-clause-engaged g c =
     run_engages c.args.graph.now c.args.initiator c.args.choices.now c.args.restarts.now c.finish.result.0
     c.requires.graph.within c.requires.idle (ap (λ (r : Run). r.initiator) c.finish.ensures.log)
-    (finished c.args.graph.now c.args.initiator c.args.choices.now c.args.restarts.now c.loop-message.progress c.take.new.self c.finish.result.0
-    c.requires.graph.within c.requires.idle c.loop-message.invariant.follows (c.in_default.ensures.taken c.args.choices.now
+    (finished c.args.graph.now c.args.initiator c.args.choices.now c.args.restarts.now c.loop-message.progress
+    c.take.new.self c.finish.result.0
+    c.requires.graph.within c.requires.idle c.loop-message.invariant.follows
+    (c.in_default.ensures.taken c.args.choices.now
     (next_is c.args.choices.now c.loop-message.left c.loop-message.progress.going.done c.next.result
     c.loop-message.invariant.left c.next.ensures.first)) c.finish.ensures.log)
 
@@ -165,8 +190,10 @@ returns-clause-silent g c q =
 -- the network is as at first
 pub returns-clause-blank : goal.returns-clause-blank
 returns-clause-blank g c =
-    cleared c.args.graph.now c.args.initiator c.args.choices.now c.args.restarts.now c.loop-message.progress c.take.new.self c.finish.result.1
-    c.requires.graph.within c.requires.idle c.loop-message.invariant.follows (c.in_default.ensures.taken c.args.choices.now
+    cleared c.args.graph.now c.args.initiator c.args.choices.now c.args.restarts.now c.loop-message.progress
+    c.take.new.self c.finish.result.1
+    c.requires.graph.within c.requires.idle c.loop-message.invariant.follows
+    (c.in_default.ensures.taken c.args.choices.now
     (next_is c.args.choices.now c.loop-message.left c.loop-message.progress.going.done c.next.result
     c.loop-message.invariant.left c.next.ensures.first)) c.finish.ensures.network
 
@@ -175,7 +202,9 @@ pub returns-clause-awake : goal.returns-clause-awake
 returns-clause-awake g c =
     awake_runs_nothing c.args.graph.now c.args.initiator c.args.choices.now c.args.restarts.now c.finish.result.0
     (ap (λ (r : Run). r.initiator) c.finish.ensures.log)
-    (finished c.args.graph.now c.args.initiator c.args.choices.now c.args.restarts.now c.loop-message.progress c.take.new.self c.finish.result.0
-    c.requires.graph.within c.requires.idle c.loop-message.invariant.follows (c.in_default.ensures.taken c.args.choices.now
+    (finished c.args.graph.now c.args.initiator c.args.choices.now c.args.restarts.now c.loop-message.progress
+    c.take.new.self c.finish.result.0
+    c.requires.graph.within c.requires.idle c.loop-message.invariant.follows
+    (c.in_default.ensures.taken c.args.choices.now
     (next_is c.args.choices.now c.loop-message.left c.loop-message.progress.going.done c.next.result
     c.loop-message.invariant.left c.next.ensures.first)) c.finish.ensures.log)

@@ -20,15 +20,24 @@ number_all-requires-clause-stand g c =
     let rows = c.in_ok-history.history.items in
     let sorted = c.sort_unstable_by_key.new.self.items in
     let w : IsWorked g.E.ProcessList.processes gr plan c.args.shared seats c.in_ok-found.found.items =
-    subst (λ r. IfOk r (λ f. IsWorked g.E.ProcessList.processes gr plan c.args.shared seats f.items)) c.in_ok-found.was c.workers-seats.ensures.worked in
-    let sound = all_stand g.E.ProcessList.processes gr plan.choices rows (known seats.board).seen c.in_ok-found.found.items sorted c.sort_unstable_by_key.ensures.permutation (given c.close.result c.map_err.result c.in_ok-history.history _ _ c.map_err.ensures.cases c.in_ok-history.was c.close.ensures.begins) w.of.accounts.sound in
+    subst (λ r. IfOk r (λ f. IsWorked g.E.ProcessList.processes gr plan c.args.shared seats f.items)) c.in_ok-found.was
+    c.workers-seats.ensures.worked in
+    let sound =
+    all_stand g.E.ProcessList.processes gr plan.choices rows
+    (known seats.board).seen c.in_ok-found.found.items sorted c.sort_unstable_by_key.ensures.permutation
+    (given c.close.result c.map_err.result c.in_ok-history.history _ _ c.map_err.ensures.cases
+    c.in_ok-history.was c.close.ensures.begins) w.of.accounts.sound in
     subst (λ l. All (Stands l) sorted) (sym c.deref.ensures.value) (λ k d low. (sound k d low).stands)
 
 pub number_all-requires-clause-few : goal.number_all-requires-clause-few
 number_all-requires-clause-few g c =
     let gr = c.args.graph.now in
-    let true_of : IsTrueOf gr c.in_ok-history.history.items = subst (λ x. IsTrueOf x c.in_ok-history.history.items) c.requires.made.board (given c.close.result c.map_err.result c.in_ok-history.history _ _ c.map_err.ensures.cases c.in_ok-history.was c.close.ensures.true_of) in
-    let few : length c.in_ok-history.history.items ≤ process_count gr = true-few gr c.in_ok-history.history.items true_of in
+    let true_of : IsTrueOf gr c.in_ok-history.history.items =
+    subst (λ x. IsTrueOf x c.in_ok-history.history.items) c.requires.made.board
+    (given c.close.result c.map_err.result c.in_ok-history.history _ _ c.map_err.ensures.cases
+    c.in_ok-history.was c.close.ensures.true_of) in
+    let few : length c.in_ok-history.history.items ≤ process_count gr =
+    true-few gr c.in_ok-history.history.items true_of in
     let small = c.law_built_graph.ensures.processes in
     omega (arith, ap length c.deref.ensures.value)
 
@@ -41,13 +50,23 @@ returns-clause-ok g c =
     let sorted = c.sort_unstable_by_key.new.self.items in
     let back = c.workers-seats.ensures.back in
     let w : IsWorked g.E.ProcessList.processes gr plan c.args.shared seats c.in_ok-found.found.items =
-    subst (λ r. IfOk r (λ f. IsWorked g.E.ProcessList.processes gr plan c.args.shared seats f.items)) c.in_ok-found.was c.workers-seats.ensures.worked in
+    subst (λ r. IfOk r (λ f. IsWorked g.E.ProcessList.processes gr plan c.args.shared seats f.items)) c.in_ok-found.was
+    c.workers-seats.ensures.worked in
     let up : IsNonDecreasingBy finder_of sorted =
-    IsNonDecreasingBy-from_sort finder_of _ (c.sort_unstable_by_key.ensures.sorted finder_of (answers_always _ _ _ (λ f a r x h. search rules))) in
-    let true_of : IsTrueOf gr rows = subst (λ x. IsTrueOf x rows) c.requires.made.board (given c.close.result c.map_err.result c.in_ok-history.history _ _ c.map_err.ensures.cases c.in_ok-history.was c.close.ensures.true_of) in
-    let made : IsMadeOf (known seats.board).mine rows = given c.close.result c.map_err.result c.in_ok-history.history _ _ c.map_err.ensures.cases c.in_ok-history.was c.close.ensures.own (back.board ∙ c.requires.board) in
+    IsNonDecreasingBy-from_sort finder_of _
+    (c.sort_unstable_by_key.ensures.sorted finder_of (answers_always _ _ _ (λ f a r x h. search rules))) in
+    let true_of : IsTrueOf gr rows =
+    subst (λ x. IsTrueOf x rows) c.requires.made.board
+    (given c.close.result c.map_err.result c.in_ok-history.history _ _ c.map_err.ensures.cases
+    c.in_ok-history.was c.close.ensures.true_of) in
+    let made : IsMadeOf (known seats.board).mine rows =
+    given c.close.result c.map_err.result c.in_ok-history.history _ _ c.map_err.ensures.cases c.in_ok-history.was
+    c.close.ensures.own (back.board ∙ c.requires.board) in
     let numbered : AreNumbered rows sorted c.in_ok-records.records.items =
     subst (λ l. AreNumbered l sorted c.in_ok-records.records.items) c.deref.ensures.value c.in_ok-records.ensures.ok in
-    analysed g.E.ProcessList.processes gr plan c.args.shared seats c.in_ok-found.found.items sorted record { records = c.in_ok-records.records; history = c.in_ok-history.history }
-    c.law_built_graph.ensures c.requires.made c.sort_unstable_by_key.ensures.permutation up back.sit (back.tickets ∙ c.requires.tickets) w
-    (given c.close.result c.map_err.result c.in_ok-history.history _ _ c.map_err.ensures.cases c.in_ok-history.was c.close.ensures.begins) true_of made numbered
+    analysed g.E.ProcessList.processes gr plan c.args.shared seats c.in_ok-found.found.items sorted record
+    { records = c.in_ok-records.records; history = c.in_ok-history.history }
+    c.law_built_graph.ensures c.requires.made c.sort_unstable_by_key.ensures.permutation up back.sit
+    (back.tickets ∙ c.requires.tickets) w
+    (given c.close.result c.map_err.result c.in_ok-history.history _ _ c.map_err.ensures.cases c.in_ok-history.was
+    c.close.ensures.begins) true_of made numbered

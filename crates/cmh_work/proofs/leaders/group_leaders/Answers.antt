@@ -13,7 +13,9 @@ use Rattle.cmh_work.proofs.leaders.group_leaders.Goals.{then-is_new_leader+in_ok
 pub loop-p-init : goal.loop-p-init
 loop-p-init c =
     let none = c.in_ok-leaders.ensures.items_if_clones_equal (λ y h. search rules) in
-    leaders_start c.args.graph.now _ (ap length none ∙ length-replicate (length c.args.known.now) None ∙ ap length c.requires ∙ verdict_count c.args.graph.now)
+    leaders_start c.args.graph.now _
+    (ap length none ∙ length-replicate (length c.args.known.now) None ∙ ap length c.requires
+    ∙ verdict_count c.args.graph.now)
     (λ p. ap (λ list. leader_at list p) none ∙ none_at (length c.args.known.now) p)
 
 pub is_new_leader-requires-clause-known : goal.is_new_leader-requires-clause-known
@@ -22,14 +24,24 @@ is_new_leader-requires-clause-known c =
 
 pub is_new_leader-requires-clause-leaders : goal.is_new_leader-requires-clause-leaders
 is_new_leader-requires-clause-leaders c =
-    omega (arith, c.deref.ensures.len, ap length c.deref.ensures.value, leaders_size c.args.graph.now c.loop-p.p _ c.loop-p.invariant, c.loop-p-test.true, c.len-p-end.ensures.count)
+    omega (
+      arith,
+      c.deref.ensures.len,
+      ap length c.deref.ensures.value,
+      leaders_size c.args.graph.now c.loop-p.p _ c.loop-p.invariant,
+      c.loop-p-test.true,
+      c.len-p-end.ensures.count,
+    )
 
 pub core_by-requires-clause-known : goal.core_by-requires-clause-known
-core_by-requires-clause-known c = given c.of_graph.result c.map_err.result c.in_ok-predecessors.predecessors _ _ c.map_err.ensures.cases c.in_ok-predecessors.was c.of_graph.ensures.ok
+core_by-requires-clause-known c =
+    given c.of_graph.result c.map_err.result c.in_ok-predecessors.predecessors _ _ c.map_err.ensures.cases
+    c.in_ok-predecessors.was c.of_graph.ensures.ok
 
 pub lead_each-requires : goal.lead_each-requires
 lead_each-requires c =
-    members_within c.args.graph.now c.loop-p.p _ _ (c.deref-then-is_new_leader-2.ensures.value ∙ c.in_ok-core.ensures.ok)
+    members_within c.args.graph.now c.loop-p.p _ _
+    (c.deref-then-is_new_leader-2.ensures.value ∙ c.in_ok-core.ensures.ok)
     (ap length c.deref_mut.ensures.value ∙ leaders_size c.args.graph.now c.loop-p.p _ c.loop-p.invariant)
 
 pub loop-p-preserved : goal.loop-p-preserved
@@ -37,16 +49,27 @@ loop-p-preserved c =
     let g = c.args.graph.now in
     let i : c.loop-p.p < process_count g = omega (arith, c.loop-p-test.true, c.len-p-end.ensures.count) in
     let well = c.len-p-end.ensures.well_formed.within in
-    let test = subst (λ list. c.is_new_leader.result ≡ (is_deadlocked_at c.args.known.now c.loop-p.p && is_none (leader_at list c.loop-p.p))) c.deref.ensures.value c.is_new_leader.ensures in
+    let test =
+    subst (λ list. c.is_new_leader.result
+    ≡ (is_deadlocked_at c.args.known.now c.loop-p.p && is_none (leader_at list c.loop-p.p)))
+    c.deref.ensures.value c.is_new_leader.ensures in
     elim c.if-is_new_leader.branch [
       | then-is_new_leader+in_ok-core w ↦
-          let each = subst (λ old. LeadsEach c.loop-p.p w.deref-then-is_new_leader-2.result.now old w.lead_each.new.leaders) w.deref_mut.ensures.value w.lead_each.ensures in
-          subst (λ xs. AreLeadersBelow g (c.loop-p.p + 1) xs) (sym (ap (λ v. v.items) w.leaders-is ∙ with_items_is c.loop-p.leaders w.lead_each.new.leaders (w.lead_each.ensures.size ∙ w.deref_mut.ensures.len)))
-          (leaders_led_more g _ c.loop-p.p _ _ _ _ well i c.requires c.loop-p.invariant test w.if-is_new_leader.true (w.deref-then-is_new_leader-2.ensures.value ∙ w.in_ok-core.ensures.ok) each)
+          let each =
+          subst (λ old. LeadsEach c.loop-p.p w.deref-then-is_new_leader-2.result.now old w.lead_each.new.leaders)
+          w.deref_mut.ensures.value w.lead_each.ensures in
+          subst (λ xs. AreLeadersBelow g (c.loop-p.p + 1) xs)
+          (sym (ap (λ v. v.items) w.leaders-is
+          ∙ with_items_is c.loop-p.leaders w.lead_each.new.leaders
+          (w.lead_each.ensures.size ∙ w.deref_mut.ensures.len)))
+          (leaders_led_more g _ c.loop-p.p _ _ _ _ well i c.requires c.loop-p.invariant test w.if-is_new_leader.true
+          (w.deref-then-is_new_leader-2.ensures.value ∙ w.in_ok-core.ensures.ok) each)
       | else-is_new_leader w ↦
           subst (λ xs. AreLeadersBelow g (c.loop-p.p + 1) xs) (sym (ap (λ v. v.items) w.leaders-is))
           (leaders_passed g _ c.loop-p.p _ _ well i c.requires c.loop-p.invariant test w.if-is_new_leader.false)
     ]
 
 pub returns-clause-leaders : goal.returns-clause-leaders
-returns-clause-leaders c = leaders_all c.args.graph.now c.loop-p.p _ c.len-p-end.ensures.well_formed.within (omega (arith, c.len-p-end.ensures.count)) c.loop-p.invariant
+returns-clause-leaders c =
+    leaders_all c.args.graph.now c.loop-p.p _ c.len-p-end.ensures.well_formed.within
+    (omega (arith, c.len-p-end.ensures.count)) c.loop-p.invariant

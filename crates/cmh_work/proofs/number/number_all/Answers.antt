@@ -7,4 +7,5 @@ pub loop-finding-preserved : goal.loop-finding-preserved
 loop-finding-preserved g c =
     let pushed : c.push.new.self.items ≡ c.loop-finding.records.items ++ c.number_one.result ∷ [] = search rules in
     subst (AreNumbered c.args.history.now (c.loop-finding.yielded ++ c.in-Some.finding ∷ [])) (sym pushed)
-    (numbered_more c.args.history.now c.loop-finding.yielded c.loop-finding.records.items c.in-Some.finding c.number_one.result c.loop-finding.invariant c.number_one.ensures)
+    (numbered_more c.args.history.now c.loop-finding.yielded c.loop-finding.records.items c.in-Some.finding
+    c.number_one.result c.loop-finding.invariant c.number_one.ensures)

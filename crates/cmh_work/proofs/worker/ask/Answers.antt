@@ -13,11 +13,17 @@ returns g c =
     let run = c.in_ok-run.run' in
     let w = known c.post.new.seat in
     let posts = subst (λ t. Posts t (known c.run_of.new.seat) w) c.of_run.ensures.whole c.post.ensures.posts in
-    let answered = subst (λ v. IsAnswered gr choices p (known c.args.seat.now) w record { verdict = v; run = Some run }) (sym c.verdict.ensures)
-    (ran gr choices p (known c.args.seat.now) (known c.look.new.seat) (known c.run_of.new.seat) w run c.look.ensures.sees c.run_of.ensures.sees (search rules) (search rules) posts) in record {
+    let answered =
+    subst (λ v. IsAnswered gr choices p (known c.args.seat.now) w record { verdict = v; run = Some run })
+    (sym c.verdict.ensures)
+    (ran gr choices p (known c.args.seat.now) (known c.look.new.seat)
+    (known c.run_of.new.seat) w run c.look.ensures.sees c.run_of.ensures.sees (search rules)
+    (search rules) posts) in record {
       runner = search rules;
       sits = search rules;
       share = search rules;
-      answered = subst (λ kept. IsAnswered gr choices p (known c.args.seat.now) w record { verdict = c.verdict.result; run = Some kept }) (sym c.keeping.ensures) answered;
+      answered =
+          subst (λ kept. IsAnswered gr choices p (known c.args.seat.now) w record
+          { verdict = c.verdict.result; run = Some kept }) (sym c.keeping.ensures) answered;
       memory = tt;
     }

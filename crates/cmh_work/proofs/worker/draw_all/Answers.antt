@@ -10,15 +10,21 @@ pub find_each-requires-clause-idle : goal.find_each-requires-clause-idle
 find_each-requires-clause-idle g c =
     let j = c.args.job.now in
     let P = λ (p : ℕ). IsTrue (is_idle j.graph.now p) in
-    let all : All P c.deref.result.now = subst (All P) {x = idle_list c.args.job.now.graph.now} (sym (c.deref.ensures.value ∙ j.initiators)) (all_idle j.graph.now) in
-    λ κs m. subst (All P) (sym c.chunk_at-chunk.ensures) (all_chunk P c.cuts.result.now c.deref.result.now c.in-Some.number all)
+    let all : All P c.deref.result.now =
+    subst (All P) {x = idle_list c.args.job.now.graph.now} (sym (c.deref.ensures.value ∙ j.initiators))
+    (all_idle j.graph.now) in
+    λ κs m. subst (All P) (sym c.chunk_at-chunk.ensures)
+    (all_chunk P c.cuts.result.now c.deref.result.now c.in-Some.number all)
 
 pub loop-number-init : goal.loop-number-init
 loop-number-init g c = record {
   runner = search rules;
   back = search rules;
-  of = subst (AreOf g.E.ProcessList.processes c.args.job.now.graph.now c.args.job.now.plan.now c.args.job.now.shared.now c.args.seats.now) (sym c.new-found.ensures.items)
-      (nothing_found g.E.ProcessList.processes c.args.job.now.graph.now c.args.job.now.plan.now c.args.job.now.shared.now c.args.seats.now c.requires.new);
+  of = subst
+      (AreOf g.E.ProcessList.processes c.args.job.now.graph.now c.args.job.now.plan.now c.args.job.now.shared.now
+      c.args.seats.now) (sym c.new-found.ensures.items)
+      (nothing_found g.E.ProcessList.processes c.args.job.now.graph.now c.args.job.now.plan.now
+      c.args.job.now.shared.now c.args.seats.now c.requires.new);
 }
 
 pub loop-number-preserved : goal.loop-number-preserved
@@ -27,6 +33,8 @@ loop-number-preserved g c = record {
   back = search rules;
   of = record {
     accounts = search rules;
-    order = drawn_more c.args.job.now.plan.now c.args.job.now.shared.now c.loop-number.seats.tickets c.draw.new.seat c.in-Some.number c.loop-number.found.items c.find_each.new.found.items (search rules) (search rules) (search rules);
+    order = drawn_more c.args.job.now.plan.now c.args.job.now.shared.now c.loop-number.seats.tickets c.draw.new.seat
+        c.in-Some.number c.loop-number.found.items c.find_each.new.found.items (search rules) (search rules)
+        (search rules);
   };
 }

@@ -11,11 +11,13 @@ loop-initiator-preserved g c =
     let choices = c.args.job.now.plan.now.choices in
     let v = known c.loop-initiator.seat in
     let w = known c.find_one.new.seat in
-    let pushed : c.push.new.self.items ≡ c.loop-initiator.found.items ++ c.in_ok-finding.finding ∷ [] = search rules in record {
+    let pushed : c.push.new.self.items ≡ c.loop-initiator.found.items ++ c.in_ok-finding.finding ∷ [] =
+    search rules in record {
       runner = search rules;
       sits = search rules;
       share = search rules;
       accounts = subst (Accounts g.E.ProcessList.processes gr choices w) (sym pushed)
-          (accounts_more g.E.ProcessList.processes gr choices v w c.loop-initiator.found.items c.in_ok-finding.finding c.loop-initiator.invariant.accounts c.in_ok-finding.ensures.recorded);
+          (accounts_more g.E.ProcessList.processes gr choices v w c.loop-initiator.found.items c.in_ok-finding.finding
+          c.loop-initiator.invariant.accounts c.in_ok-finding.ensures.recorded);
       order = grind (arith, common_steps);
     }

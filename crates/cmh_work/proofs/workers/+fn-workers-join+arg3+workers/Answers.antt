@@ -8,15 +8,21 @@ use Rattle.cmh_work.proofs.workers.+fn-workers-join+arg3+workers.Goals as goal
 pub take_back-requires : goal.take_back-requires
 take_back-requires g t c =
     let first : AreBack c.args.shared.now c.in-Some.one c.join-one.result.0.0 = (c.join-one.ensures.first).0 in
-    let second : AreBack c.args.shared.now c.split_off.new.seats c.join-one.result.1.0 = (c.join-one.ensures.second).0 in
+    let second : AreBack c.args.shared.now c.split_off.new.seats c.join-one.result.1.0 =
+    (c.join-one.ensures.second).0 in
     record { sit = (second.sit, first.sit) }
 
 pub returns-clause-back : goal.returns-clause-back
 returns-clause-back g t c =
     let first : AreBack c.args.shared.now c.in-Some.one c.join-one.result.0.0 = (c.join-one.ensures.first).0 in
-    let second : AreBack c.args.shared.now c.split_off.new.seats c.join-one.result.1.0 = (c.join-one.ensures.second).0 in
-    let tickets : (view c.take_back.new.seats.tickets).share ≡ (view c.join-one.result.1.0.tickets).share + (view c.join-one.result.0.0.tickets).share = ap (λ v. v.share) c.take_back.ensures.tickets in
-    let board : (known c.take_back.new.seats.board).lock.share ≡ (known c.join-one.result.1.0.board).lock.share + (known c.join-one.result.0.0.board).lock.share = ap (λ v. v.lock.share) c.take_back.ensures.board in
+    let second : AreBack c.args.shared.now c.split_off.new.seats c.join-one.result.1.0 =
+    (c.join-one.ensures.second).0 in
+    let tickets : (view c.take_back.new.seats.tickets).share
+    ≡ (view c.join-one.result.1.0.tickets).share + (view c.join-one.result.0.0.tickets).share =
+    ap (λ v. v.share) c.take_back.ensures.tickets in
+    let board : (known c.take_back.new.seats.board).lock.share
+    ≡ (known c.join-one.result.1.0.board).lock.share + (known c.join-one.result.0.0.board).lock.share =
+    ap (λ v. v.lock.share) c.take_back.ensures.board in
     let t1 = first.tickets in
     let t2 = second.tickets in
     let b1 = first.board in
@@ -33,6 +39,12 @@ returns-clause-back g t c =
 pub returns-clause-worked : goal.returns-clause-worked
 returns-clause-worked g t c =
     let r = c.join-one.result in
-    collected c.both.result r.1.1 r.0.1 (λ v. IsWorked g.E.ProcessList.processes c.args.graph.now c.args.plan.now c.args.shared.now r.1.0 v.items) (λ v. IsWorked g.E.ProcessList.processes c.args.graph.now c.args.plan.now c.args.shared.now r.0.0 v.items) (λ l. IsWorked g.E.ProcessList.processes c.args.graph.now c.args.plan.now c.args.shared.now c.take_back.new.seats l)
+    collected c.both.result r.1.1 r.0.1
+    (λ v. IsWorked g.E.ProcessList.processes c.args.graph.now c.args.plan.now c.args.shared.now r.1.0 v.items)
+    (λ v. IsWorked g.E.ProcessList.processes c.args.graph.now c.args.plan.now c.args.shared.now r.0.0 v.items)
+    (λ l. IsWorked g.E.ProcessList.processes c.args.graph.now c.args.plan.now c.args.shared.now
+    c.take_back.new.seats l)
     (c.join-one.ensures.second).1 (c.join-one.ensures.first).1 c.both.ensures.all
-    (λ a b p q. joined_worked g.E.ProcessList.processes c.args.graph.now c.args.plan.now c.args.shared.now r.1.0 r.0.0 c.take_back.new.seats a.items b.items c.take_back.ensures.tickets c.take_back.ensures.board c.take_back.ensures.begins.0 c.take_back.ensures.begins.1 p q)
+    (λ a b p q. joined_worked g.E.ProcessList.processes c.args.graph.now c.args.plan.now c.args.shared.now r.1.0 r.0.0
+    c.take_back.new.seats a.items b.items c.take_back.ensures.tickets c.take_back.ensures.board
+    c.take_back.ensures.begins.0 c.take_back.ensures.begins.1 p q)

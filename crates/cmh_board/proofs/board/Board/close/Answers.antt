@@ -25,7 +25,7 @@ returns-clause-begins c =
     let shown = shows_history key (known c.args.seat) (words_of c.close_with-closed.result) h small in
     let read = c.read_closed.ensures (laid h.postings) shown in
     subst (λ l. StartsWith l (known c.args.seat).seen) (sym read)
-        (seen-prefix (known c.args.seat).seen h.postings h.seen)
+    (seen-prefix (known c.args.seat).seen h.postings h.seen)
 
 pub returns-clause-whole : goal.returns-clause-whole
 returns-clause-whole c =

@@ -7,5 +7,5 @@ use Rattle.cmh_board.proofs.board.Board.read_rows.Given as goal
 abbrev pub invariant-loop-n : goal.invariant-loop-n
 invariant-loop-n l =
     Held l.self l.fn.seat l.seat × (l.count ≡ length (known l.seat).seen)
-        × (l.rows.items ≡ take l.n (known l.seat).seen)
+    × (l.rows.items ≡ take l.n (known l.seat).seen)
     × (process_count (graph_of l.self) ≤ vec_capacity l.rows)

@@ -12,7 +12,7 @@ pub push_reserved-requires : goal.push_reserved-requires
 push_reserved-requires c =
     let seen = (known c.loop-p.seat).seen in
     let read = ap length c.loop-p.invariant.1 ∙ length-map (range_with_len 0 c.loop-p.p) (fold_at seen)
-        ∙ length-range_with_len 0 c.loop-p.p in
+    ∙ length-range_with_len 0 c.loop-p.p in
     let room = c.loop-p.invariant.2 in
     let counted = c.args.self.now.counted in
     omega (arith, c.loop-p-test.true)
@@ -27,7 +27,7 @@ loop-p-preserved c =
       held_on c.args.self.now c.args.seat.now c.loop-p.seat c.held_verdict.new.seat held look.sits look.sees look.reads,
       c.push_reserved.ensures.items ∙ ap (λ v. c.loop-p.verdicts.items ++ v ∷ []) look.answer
           ∙ verdicts_more new c.loop-p.verdicts.items c.loop-p.p
-              (c.loop-p.invariant.1 ∙ ap (λ l. map (fold_at l) (range_with_len 0 c.loop-p.p)) (sym same)),
+          (c.loop-p.invariant.1 ∙ ap (λ l. map (fold_at l) (range_with_len 0 c.loop-p.p)) (sym same)),
       (let room = c.loop-p.invariant.2 in let kept = c.push_reserved.ensures.capacity in omega arith),
     )
 
@@ -37,6 +37,6 @@ returns-clause-shows c =
     let seen = (known c.loop-p.seat).seen in
     shows_all (graph_of c.args.self.now) seen c.loop-p.verdicts.items held.sits.true_of
     (c.loop-p.invariant.1
-        ∙ ap (λ n. map (fold_at seen) (range_with_len 0 n))
-            (let last = c.loop-p-test.false in let end = c.loop-p.auto.p-end in let counted = c.args.self.now.counted in
-                omega arith))
+    ∙ ap (λ n. map (fold_at seen) (range_with_len 0 n))
+    (let last = c.loop-p-test.false in let end = c.loop-p.auto.p-end in let counted = c.args.self.now.counted in
+    omega arith))

@@ -16,5 +16,5 @@ add-requires-clause-can c =
 pub returns-in-Held-clause-answer : goal.returns-in-Held-clause-answer
 returns-in-Held-clause-answer c =
     posts_from c.args.posting.now (known c.args.seat.now) (view c.try_write.new.seat) (view c.add.new.seat)
-        (view c.end_write.new.seat)
+    (view c.end_write.new.seat)
     c.in-Held.ensures.tried.0 c.add.ensures.adds c.end_write.ensures.ended

@@ -14,7 +14,8 @@ at-requires c =
 
 pub mark_each_within-requires-clause-listed : goal.mark_each_within-requires-clause-listed
 mark_each_within-requires-clause-listed c =
-    listed_within c.args.self.now c.args.predecessors.now c.in-Some.q _ _ c.requires.known c.at.ensures (c.deref_mut.ensures.len ∙ c.loop-q.marks.ok.0 ∙ c.loop-q.invariant.size)
+    listed_within c.args.self.now c.args.predecessors.now c.in-Some.q _ _ c.requires.known c.at.ensures
+    (c.deref_mut.ensures.len ∙ c.loop-q.marks.ok.0 ∙ c.loop-q.invariant.size)
 
 pub mark_each_within-requires-clause-alike : goal.mark_each_within-requires-clause-alike
 mark_each_within-requires-clause-alike c =
@@ -28,16 +29,26 @@ loop-q-preserved c =
     let new = c.mark_each_within.new.marks in
     let after = c.mark_each_within.new.pending.items in
     let reached = c.deref.result.now in
-    let written = take_at new (drop (length new) old.items) old.len (c.mark_each_within.auto.marks ∙ c.deref_mut.ensures.len) in
-    let marked = subst (λ list. MarksEach (filter (is_marked reached) list) old.items new c.pop.new.self.items after) c.at.ensures
-    (subst (λ marks. MarksEach (filter (is_marked reached) c.at.result.now) marks new c.pop.new.self.items after) c.deref_mut.ensures.value c.in_ok-mark_each_within.ensures) in
+    let written =
+    take_at new (drop (length new) old.items) old.len (c.mark_each_within.auto.marks ∙ c.deref_mut.ensures.len) in
+    let marked =
+    subst (λ list. MarksEach (filter (is_marked reached) list) old.items new c.pop.new.self.items after)
+    c.at.ensures
+    (subst (λ marks. MarksEach (filter (is_marked reached) c.at.result.now) marks new c.pop.new.self.items after)
+    c.deref_mut.ensures.value c.in_ok-mark_each_within.ensures) in
     subst (λ marks. ReturnsTo c.args.self.now c.args.p marks after c.push-in-Some.new.self.items) (sym written)
-    (returns_more _ _ _ _ _ _ _ _ _ _ _ _ c.len.ensures.well_formed.within c.requires.within c.requires.known (c.deref.ensures.value ∙ c.in_ok-reached.ensures.marks) c.loop-q.invariant c.in-Some.ensures.items c.in_ok-push-2.ensures.items marked)
+    (returns_more _ _ _ _ _ _ _ _ _ _ _ _ c.len.ensures.well_formed.within c.requires.within c.requires.known
+    (c.deref.ensures.value ∙ c.in_ok-reached.ensures.marks) c.loop-q.invariant c.in-Some.ensures.items
+    c.in_ok-push-2.ensures.items marked)
 
 pub loop-q-init : goal.loop-q-init
 loop-q-init c =
-    returns_start _ _ _ _ _ (c.in_ok-marks.ensures.size ∙ c.len.ensures.count) c.requires.within c.in_ok-marks.ensures.alone
+    returns_start _ _ _ _ _
+    (c.in_ok-marks.ensures.size ∙ c.len.ensures.count) c.requires.within c.in_ok-marks.ensures.alone
     (c.in_ok-push.ensures.items ∙ ap (λ xs. xs ++ c.args.p ∷ []) c.new-pending.ensures.items) c.new-core.ensures.items
 
 pub returns : goal.returns
-returns c = returns_end _ _ _ _ _ _ c.len.ensures.well_formed.within c.requires.within (nil_from_length _ (omega (arith, c.loop-q.pending.ok.0, c.in_default.ensures.cases.0))) c.loop-q.invariant c.sort_unstable.ensures.permutation c.sort_unstable.ensures.sorted
+returns c =
+    returns_end _ _ _ _ _ _ c.len.ensures.well_formed.within c.requires.within
+    (nil_from_length _ (omega (arith, c.loop-q.pending.ok.0, c.in_default.ensures.cases.0))) c.loop-q.invariant
+    c.sort_unstable.ensures.permutation c.sort_unstable.ensures.sorted

@@ -9,4 +9,5 @@ steps_to-requires c = ap length c.awake.ensures.marks ∙ length-by_index c.args
 
 pub returns-clause-ok : goal.returns-clause-ok
 returns-clause-ok c =
-    distances_found c.args.self.now c.awake.result.now _ c.awake.ensures.well_formed.within c.awake.ensures.marks c.steps_to.ensures.ok
+    distances_found c.args.self.now c.awake.result.now _ c.awake.ensures.well_formed.within c.awake.ensures.marks
+    c.steps_to.ensures.ok

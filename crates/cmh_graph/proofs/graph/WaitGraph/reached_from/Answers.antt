@@ -3,4 +3,5 @@ use Rattle.cmh_graph.proofs.Spreading.{spreads_alone}
 use Rattle.cmh_graph.proofs.graph.WaitGraph.reached_from.Goals as goal
 
 pub spread-requires-clause-spreads : goal.spread-requires-clause-spreads
-spread-requires-clause-spreads c = spreads_alone _ _ _ (c.in_ok-marks.ensures.size ∙ c.len.ensures.count) c.requires c.in_ok-marks.ensures.alone
+spread-requires-clause-spreads c =
+    spreads_alone _ _ _ (c.in_ok-marks.ensures.size ∙ c.len.ensures.count) c.requires c.in_ok-marks.ensures.alone

@@ -24,7 +24,8 @@ next_level-requires-clause-listed c =
 
 pub next_level-requires-clause-within : goal.next_level-requires-clause-within
 next_level-requires-clause-within c =
-    λ q. listed_within c.args.self.now _ q _ _ c.in_ok-predecessors.ensures.ok refl (c.deref_mut.ensures.len ∙ c.loop-alloc.distances.ok.0 ∙ c.loop-alloc.invariant.size)
+    λ q. listed_within c.args.self.now _ q _ _ c.in_ok-predecessors.ensures.ok refl
+    (c.deref_mut.ensures.len ∙ c.loop-alloc.distances.ok.0 ∙ c.loop-alloc.invariant.size)
 
 pub loop-alloc-smaller : goal.loop-alloc-smaller
 loop-alloc-smaller c =
@@ -40,11 +41,16 @@ loop-alloc-preserved c =
     let distance = c.loop-alloc.distance in
     let predecessors = c.in_ok-predecessors.predecessors in
     let new = c.next_level.new.distances in
-    let written = take_at new (drop (length new) old.items) old.len (c.next_level.auto.distances ∙ c.deref_mut.ensures.len) in
-    let numbers = subst (λ ds. Numbers (IsNamedBy predecessors c.loop-alloc.level.items) (distance + 1) ds new [] level) c.deref_mut.ensures.value
-    (subst (λ ls. Numbers (IsNamedBy predecessors ls) (distance + 1) c.deref_mut.result.now new [] level) c.deref.ensures.value c.in_ok-level-2.ensures) in
+    let written =
+    take_at new (drop (length new) old.items) old.len (c.next_level.auto.distances ∙ c.deref_mut.ensures.len) in
+    let numbers =
+    subst (λ ds. Numbers (IsNamedBy predecessors c.loop-alloc.level.items) (distance + 1) ds new [] level)
+    c.deref_mut.ensures.value
+    (subst (λ ls. Numbers (IsNamedBy predecessors ls) (distance + 1) c.deref_mut.result.now new [] level)
+    c.deref.ensures.value c.in_ok-level-2.ensures) in
     subst (λ xs. StepsUpTo g test (distance + 1) xs level) (sym written)
-    (steps_more _ _ _ _ _ _ _ _ _ c.has_no_fault.ensures.within c.in_ok-predecessors.ensures.ok (omega arith) c.loop-alloc.invariant numbers)
+    (steps_more _ _ _ _ _ _ _ _ _ c.has_no_fault.ensures.within c.in_ok-predecessors.ensures.ok
+    (omega arith) c.loop-alloc.invariant numbers)
 
 pub returns-clause-ok : goal.returns-clause-ok
 returns-clause-ok c =

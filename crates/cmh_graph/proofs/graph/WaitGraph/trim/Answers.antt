@@ -13,12 +13,19 @@ returns c =
     let passed = c.args.passed.now in
     let count = c.marked_from-count.result in
     let now = passed_more g marks passed p count c.requires.trimming.1 c.requires.within
-    (λ k a b. subst (λ row. is_marked marks (get_or row k 0) ≡ true) c.dependents-row.ensures (c.marked_from-count.ensures k a b)) in
+    (λ k a b. subst (λ row. is_marked marks (get_or row k 0) ≡ true) c.dependents-row.ensures
+    (c.marked_from-count.ensures k a b)) in
     let all : length (dependents_of g p) ≤ get_or (set passed p count) p 0 =
-    omega (arith, c.if-count-row.false, ap length c.dependents-row.ensures, get_or-set_same passed p count 0 (omega (arith, c.requires.within, c.requires.trimming.1.size))) in
+    omega (
+      arith,
+      c.if-count-row.false,
+      ap length c.dependents-row.ensures,
+      get_or-set_same passed p count 0 (omega (arith, c.requires.within, c.requires.trimming.1.size)),
+    ) in
     record {
       trimming = (
-        alone_marked g marks (set passed p count) p c.has_no_fault.ensures.within c.requires.within c.requires.trimming.0 now all,
+        alone_marked g marks
+            (set passed p count) p c.has_no_fault.ensures.within c.requires.within c.requires.trimming.0 now all,
         passed_stays g marks (set passed p count) p (omega (arith, c.requires.within, c.requires.trimming.0.size)) now,
       );
     }

@@ -10,11 +10,14 @@ use Rattle.cmh_graph.proofs.graph.WaitGraph.trimmed.Goals as goal
 pub waiting_for_nobody-requires : goal.waiting_for_nobody-requires
 waiting_for_nobody-requires c =
     let g = c.args.self.now in
-    let zeros : c.deref_mut-2.result.now ≡ replicate c.len.result 0 = c.deref_mut-2.ensures.value ∙ c.in_ok-passed.ensures.items_if_clones_equal (λ y h. search rules) in
+    let zeros : c.deref_mut-2.result.now ≡ replicate c.len.result 0 =
+    c.deref_mut-2.ensures.value ∙ c.in_ok-passed.ensures.items_if_clones_equal (λ y h. search rules) in
     record {
       trimming = (
-        subst (AreAlone g) (sym c.deref_mut.ensures.value) (alone_start g _ _ c.has_no_fault.ensures.within c.requires.known c.in_ok-marks.ensures),
-        passed_start g _ _ (ap length zeros ∙ length-replicate c.len.result 0 ∙ c.len.ensures.count) (λ p. ap (λ xs. get_or xs p 0) zeros ∙ zeros_at c.len.result p),
+        subst (AreAlone g) (sym c.deref_mut.ensures.value)
+            (alone_start g _ _ c.has_no_fault.ensures.within c.requires.known c.in_ok-marks.ensures),
+        passed_start g _ _ (ap length zeros ∙ length-replicate c.len.result 0 ∙ c.len.ensures.count)
+            (λ p. ap (λ xs. get_or xs p 0) zeros ∙ zeros_at c.len.result p),
       );
     }
 
@@ -22,4 +25,5 @@ pub trim_each-requires-clause-listed : goal.trim_each-requires-clause-listed
 trim_each-requires-clause-listed c = listed_within c.args.self.now _ c.in-Some.q _ _ c.requires.known c.at.ensures refl
 
 pub trim_each-requires-clause-pending : goal.trim_each-requires-clause-pending
-trim_each-requires-clause-pending c = (All-pop (λ p. p < process_count c.args.self.now) _ _ _ c.pop.ensures.items c.loop.invariant.pending).0
+trim_each-requires-clause-pending c =
+    (All-pop (λ p. p < process_count c.args.self.now) _ _ _ c.pop.ensures.items c.loop.invariant.pending).0

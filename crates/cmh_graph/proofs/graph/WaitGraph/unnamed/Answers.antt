@@ -7,4 +7,5 @@ pub loop-p-preserved : goal.loop-p-preserved
 loop-p-preserved c =
     c.in_ok-push.ensures.items
     ∙ (λ i. c.loop-p.invariant i ++ (c.is_empty.ensures ∙ ap (λ xs. eqb (length xs) 0) c.at.ensures) i ∷ [])
-    ∙ sym (map-range_with_len_more (λ p. eqb (length (predecessors_at c.args.predecessors.now p)) 0) 0 c.loop-p.p c.loop-p.p (omega arith))
+    ∙ sym (map-range_with_len_more
+    (λ p. eqb (length (predecessors_at c.args.predecessors.now p)) 0) 0 c.loop-p.p c.loop-p.p (omega arith))

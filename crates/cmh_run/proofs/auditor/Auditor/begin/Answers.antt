@@ -9,7 +9,8 @@ returns c = record {
   ok = (
     begun c.args.graph.now c.args.initiator [],
     c.in_ok-settle.ensures.ok c.args.graph.now c.args.initiator [] (begun c.args.graph.now c.args.initiator [])
-        (agrees_first c.args.graph.now c.args.initiator (record { network = c.in_ok-begun.field-0; undelivered = c.new.result })
+        (agrees_first c.args.graph.now c.args.initiator
+        (record { network = c.in_ok-begun.field-0; undelivered = c.new.result })
         c.requires.graph c.requires.idle c.in_ok-begun.ensures.ok c.new.ensures),
     c.in_ok-settle.ensures.settled,
   );

@@ -12,21 +12,27 @@ use Rattle.cmh_run.proofs.auditor.Auditor.deliver.Goals as goal
 pub returns-then-not-take-clause-fault : goal.returns-then-not-take-clause-fault
 returns-then-not-take-clause-fault c = inr (λ log s h settled. (
   refl,
-  where_none c.ending.result _ c.if-is_some.ensures c.ending.ensures.none c.args.graph.now c.args.initiator log s h settled,
-  λ u. true≢false (sym (c.if-not-take.ensures.found.1 (awaited c.args.graph.now c.args.initiator log s c.args.self.now h settled c.args.delivery.message u))),
+  where_none c.ending.result _ c.if-is_some.ensures c.ending.ensures.none c.args.graph.now c.args.initiator log s h
+      settled,
+  λ u. true≢false
+      (sym (c.if-not-take.ensures.found.1
+      (awaited c.args.graph.now c.args.initiator log s c.args.self.now h settled c.args.delivery.message u))),
 ))
 
 -- there are as many processes as the graph has
 pub is_fit-requires-clause-size : goal.is_fit-requires-clause-size
 is_fit-requires-clause-size c =
     ap (λ (n : Config). length n.procs) c.if-not-take.ensures.network
-    ∙ audit_size c.args.graph.now c.args.initiator c.requires.audited.0 c.requires.audited.1.0 c.args.self.now c.requires.audited.1.1
+    ∙ audit_size c.args.graph.now c.args.initiator c.requires.audited.0 c.requires.audited.1.0 c.args.self.now
+    c.requires.audited.1.1
 
 -- the receiver is one of them
 pub is_fit-requires-clause-within : goal.is_fit-requires-clause-within
 is_fit-requires-clause-within c =
-    delivery_within c.args.graph.now c.args.initiator c.requires.audited.0 c.requires.audited.1.0 c.args.self.now c.args.delivery c.requires.audited.1.1 c.requires.audited.1.2
-    (where_none c.ending.result _ c.if-is_some.ensures c.ending.ensures.none c.args.graph.now c.args.initiator c.requires.audited.0 c.requires.audited.1.0 c.requires.audited.1.1 c.requires.audited.1.2)
+    delivery_within c.args.graph.now c.args.initiator c.requires.audited.0 c.requires.audited.1.0 c.args.self.now
+    c.args.delivery c.requires.audited.1.1 c.requires.audited.1.2
+    (where_none c.ending.result _ c.if-is_some.ensures c.ending.ensures.none c.args.graph.now c.args.initiator
+    c.requires.audited.0 c.requires.audited.1.0 c.requires.audited.1.1 c.requires.audited.1.2)
     (c.if-not-take.ensures.found.0 refl)
 
 -- the same of the network in its place
@@ -34,33 +40,42 @@ pub deliver-requires-clause-size : goal.deliver-requires-clause-size
 deliver-requires-clause-size c =
     ap (λ (a : Audit). length a.network.procs) c.self.view_is
     ∙ ap (λ (n : Config). length n.procs) c.if-not-take.ensures.network
-    ∙ audit_size c.args.graph.now c.args.initiator c.requires.audited.0 c.requires.audited.1.0 c.args.self.now c.requires.audited.1.1
+    ∙ audit_size c.args.graph.now c.args.initiator c.requires.audited.0 c.requires.audited.1.0 c.args.self.now
+    c.requires.audited.1.1
 
 pub deliver-requires-clause-within : goal.deliver-requires-clause-within
 deliver-requires-clause-within c =
-    delivery_within c.args.graph.now c.args.initiator c.requires.audited.0 c.requires.audited.1.0 c.args.self.now c.args.delivery c.requires.audited.1.1 c.requires.audited.1.2
-    (where_none c.ending.result _ c.if-is_some.ensures c.ending.ensures.none c.args.graph.now c.args.initiator c.requires.audited.0 c.requires.audited.1.0 c.requires.audited.1.1 c.requires.audited.1.2)
+    delivery_within c.args.graph.now c.args.initiator c.requires.audited.0 c.requires.audited.1.0 c.args.self.now
+    c.args.delivery c.requires.audited.1.1 c.requires.audited.1.2
+    (where_none c.ending.result _ c.if-is_some.ensures c.ending.ensures.none c.args.graph.now c.args.initiator
+    c.requires.audited.0 c.requires.audited.1.0 c.requires.audited.1.1 c.requires.audited.1.2)
     (c.if-not-take.ensures.found.0 refl)
 
 -- what it sends has room in words
 pub deliver-requires-clause-sender : goal.deliver-requires-clause-sender
 deliver-requires-clause-sender c =
-    delivery_sender c.args.graph.now c.args.initiator c.requires.audited.0 c.requires.audited.1.0 c.args.self.now c.args.delivery c.requires.audited.1.1 c.requires.audited.1.2
-    (where_none c.ending.result _ c.if-is_some.ensures c.ending.ensures.none c.args.graph.now c.args.initiator c.requires.audited.0 c.requires.audited.1.0 c.requires.audited.1.1 c.requires.audited.1.2)
+    delivery_sender c.args.graph.now c.args.initiator c.requires.audited.0 c.requires.audited.1.0 c.args.self.now
+    c.args.delivery c.requires.audited.1.1 c.requires.audited.1.2
+    (where_none c.ending.result _ c.if-is_some.ensures c.ending.ensures.none c.args.graph.now c.args.initiator
+    c.requires.audited.0 c.requires.audited.1.0 c.requires.audited.1.1 c.requires.audited.1.2)
     (c.if-not-take.ensures.found.0 refl)
 
 pub deliver-requires-clause-from : goal.deliver-requires-clause-from
 deliver-requires-clause-from c =
-    delivery_from c.args.graph.now c.args.initiator c.requires.audited.0 c.requires.audited.1.0 c.args.self.now c.args.delivery c.requires.audited.1.1 c.requires.audited.1.2
-    (where_none c.ending.result _ c.if-is_some.ensures c.ending.ensures.none c.args.graph.now c.args.initiator c.requires.audited.0 c.requires.audited.1.0 c.requires.audited.1.1 c.requires.audited.1.2)
+    delivery_from c.args.graph.now c.args.initiator c.requires.audited.0 c.requires.audited.1.0 c.args.self.now
+    c.args.delivery c.requires.audited.1.1 c.requires.audited.1.2
+    (where_none c.ending.result _ c.if-is_some.ensures c.ending.ensures.none c.args.graph.now c.args.initiator
+    c.requires.audited.0 c.requires.audited.1.0 c.requires.audited.1.1 c.requires.audited.1.2)
     (c.if-not-take.ensures.found.0 refl)
 
 pub deliver-requires-clause-engagers : goal.deliver-requires-clause-engagers
 deliver-requires-clause-engagers c =
     subst (λ (n : Config). EngagersHaveRoom n.procs)
     (sym (ap (λ (a : Audit). a.network) c.self.view_is ∙ c.if-not-take.ensures.network))
-    (delivery_engagers c.args.graph.now c.args.initiator c.requires.audited.0 c.requires.audited.1.0 c.args.self.now c.args.delivery c.requires.audited.1.1 c.requires.audited.1.2
-    (where_none c.ending.result _ c.if-is_some.ensures c.ending.ensures.none c.args.graph.now c.args.initiator c.requires.audited.0 c.requires.audited.1.0 c.requires.audited.1.1 c.requires.audited.1.2)
+    (delivery_engagers c.args.graph.now c.args.initiator c.requires.audited.0 c.requires.audited.1.0 c.args.self.now
+    c.args.delivery c.requires.audited.1.1 c.requires.audited.1.2
+    (where_none c.ending.result _ c.if-is_some.ensures c.ending.ensures.none c.args.graph.now c.args.initiator
+    c.requires.audited.0 c.requires.audited.1.0 c.requires.audited.1.1 c.requires.audited.1.2)
     (c.if-not-take.ensures.found.0 refl))
 
 -- the run hasn't ended
@@ -68,22 +83,34 @@ pub deliver-requires-clause-going : goal.deliver-requires-clause-going
 deliver-requires-clause-going c =
     ap (λ (a : Audit). a.network.ended) c.self.view_is
     ∙ ap (λ (n : Config). n.ended) c.if-not-take.ensures.network
-    ∙ network_going c.args.graph.now c.args.initiator c.requires.audited.0 c.requires.audited.1.0 c.args.self.now c.args.delivery c.requires.audited.1.1 c.requires.audited.1.2
-    (where_none c.ending.result _ c.if-is_some.ensures c.ending.ensures.none c.args.graph.now c.args.initiator c.requires.audited.0 c.requires.audited.1.0 c.requires.audited.1.1 c.requires.audited.1.2)
+    ∙ network_going c.args.graph.now c.args.initiator c.requires.audited.0 c.requires.audited.1.0 c.args.self.now
+    c.args.delivery c.requires.audited.1.1 c.requires.audited.1.2
+    (where_none c.ending.result _ c.if-is_some.ensures c.ending.ensures.none c.args.graph.now c.args.initiator
+    c.requires.audited.0 c.requires.audited.1.0 c.requires.audited.1.1 c.requires.audited.1.2)
     (c.if-not-take.ensures.found.0 refl)
 
 -- what is kept agrees with the run that is one delivery longer
 pub returns-clause-ok : goal.returns-clause-ok
 returns-clause-ok c = λ log audited.
-    let no_end = where_none c.ending.result _ c.if-is_some.ensures c.ending.ensures.none c.args.graph.now c.args.initiator log audited.0 audited.1 audited.2 in
+    let no_end =
+    where_none c.ending.result _ c.if-is_some.ensures c.ending.ensures.none c.args.graph.now c.args.initiator log
+    audited.0 audited.1 audited.2 in
     let aw = c.if-not-take.ensures.found.0 refl in (
-      after c.args.graph.now c.args.initiator audited.0 (is_there c.args.graph.now c.args.initiator log audited.0 c.args.self.now c.args.delivery audited.1 audited.2 no_end aw).0 c.args.delivery,
+      after c.args.graph.now c.args.initiator audited.0
+          (is_there c.args.graph.now c.args.initiator log audited.0 c.args.self.now c.args.delivery audited.1 audited.2
+          no_end aw).0 c.args.delivery,
       c.in_ok-settle.ensures.ok c.args.graph.now c.args.initiator (log ++ c.args.delivery ∷ [])
-          (after c.args.graph.now c.args.initiator audited.0 (is_there c.args.graph.now c.args.initiator log audited.0 c.args.self.now c.args.delivery audited.1 audited.2 no_end aw).0 c.args.delivery)
-          (after_delivery c.args.graph.now c.args.initiator log audited.0 c.args.self.now c.args.delivery audited.1 audited.2 no_end aw
+          (after c.args.graph.now c.args.initiator audited.0
+          (is_there c.args.graph.now c.args.initiator log audited.0 c.args.self.now c.args.delivery audited.1
+          audited.2 no_end aw).0 c.args.delivery)
+          (after_delivery c.args.graph.now c.args.initiator log audited.0 c.args.self.now c.args.delivery audited.1
+          audited.2 no_end aw
           c.take.new.self (record { network = c.deliver.new.self; undelivered = c.self.inside.undelivered })
           c.if-not-take.ensures.network (c.if-not-take.ensures.rest refl) (c.if-not-is_fit.ensures.0 refl)
-          (subst (λ (a : Audit). c.deliver.new.self ≡ cond (is_awake c.args.graph.now c.args.delivery.message.to) a.network (received c.args.graph.now c.args.initiator a.network c.args.delivery.message c.args.delivery.message.kind c.args.delivery.hint))
+          (subst (λ (a : Audit). c.deliver.new.self
+          ≡ cond (is_awake c.args.graph.now c.args.delivery.message.to) a.network
+          (received c.args.graph.now c.args.initiator a.network c.args.delivery.message
+          c.args.delivery.message.kind c.args.delivery.hint))
           c.self.view_is c.in_ok-deliver.ensures.ok)
           (ap (λ (a : Audit). a.undelivered) c.self.view_is)),
       c.in_ok-settle.ensures.settled,

@@ -6,12 +6,16 @@ use Rattle.cmh_run.proofs.auditor.Auditor.is_fit.Goals as goal
 
 -- there is a verdict of the receiver
 pub bounds-truth-delivery : goal.bounds-truth-delivery
-bounds-truth-delivery c = truth_at c.args.graph.now c.args.truth.now c.args.delivery.message.to c.requires.truth c.requires.within
+bounds-truth-delivery c =
+    truth_at c.args.graph.now c.args.truth.now c.args.delivery.message.to c.requires.truth c.requires.within
 
 -- the hint is asked for, so it must be true
 pub returns-then-asks : goal.returns-then-asks
 returns-then-asks c =
-    subst (λ (a : Audit). (c.eq.result ≡ true → HintIsFit c.args.graph.now a.network c.args.delivery.message c.args.delivery.hint)
-    × (HintIsFit c.args.graph.now a.network c.args.delivery.message c.args.delivery.hint → c.eq.result ≡ true)) c.self.view_is
-    (fit_where_true c.args.graph.now c.self.inside.network c.args.delivery.message c.args.delivery.hint c.in-Some.verdict _ c.args.truth.now c.eq.result
+    subst (λ (a : Audit).
+    (c.eq.result ≡ true → HintIsFit c.args.graph.now a.network c.args.delivery.message c.args.delivery.hint)
+    × (HintIsFit c.args.graph.now a.network c.args.delivery.message c.args.delivery.hint → c.eq.result ≡ true))
+    c.self.view_is
+    (fit_where_true c.args.graph.now c.self.inside.network c.args.delivery.message c.args.delivery.hint
+    c.in-Some.verdict _ c.args.truth.now c.eq.result
     c.requires.graph c.in-Some.is (sym c.asks.ensures ∙ c.if-asks.true) c.requires.truth c.requires.within c.eq.ensures)

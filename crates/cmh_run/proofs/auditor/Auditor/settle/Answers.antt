@@ -5,7 +5,9 @@ use Rattle.cmh_run.proofs.auditor.Auditor.settle.Goals as goal
 -- what was just sent is awaited then
 pub loop-message-preserved : goal.loop-message-preserved
 loop-message-preserved c g i log s h =
-    agrees_on g i log s (record { network = c.loop-message.self-inside.network; undelivered = c.loop-message.self-inside.undelivered })
+    agrees_on g i log s
+    (record { network = c.loop-message.self-inside.network; undelivered = c.loop-message.self-inside.undelivered })
     (record { network = c.take.new.self; undelivered = c.add.new.self }) (c.loop-message.invariant g i log s h)
-    (0 % length c.loop-message.self-inside.network.bag) c.in-Some.message c.in-Some.ensures.taken.0 c.in-Some.ensures.taken.1
+    (0 % length c.loop-message.self-inside.network.bag) c.in-Some.message c.in-Some.ensures.taken.0
+    c.in-Some.ensures.taken.1
     c.in_ok-add.ensures.ok

@@ -6,5 +6,6 @@ use Rattle.cmh_run.proofs.network.Network.start.Goals as goal
 pub overflow_cast-dependents : goal.overflow_cast-dependents
 overflow_cast-dependents c =
     let few : length c.dependents-dependents.result.now < 2 ^ 32 =
-    rw c.dependents-dependents.ensures (few_dependents c.args.graph.now c.args.initiator c.requires.graph c.requires.within) in
+    rw c.dependents-dependents.ensures
+    (few_dependents c.args.graph.now c.args.initiator c.requires.graph c.requires.within) in
     omega arith

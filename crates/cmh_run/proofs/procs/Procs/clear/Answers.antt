@@ -10,7 +10,8 @@ pub loop-k-preserved : goal.loop-k-preserved
 loop-k-preserved c =
     let all = c.loop-k.self-inside.all.items in
     let left = c.pop.new.self.items in
-    let popped : c.loop-k.self-inside.touched.items ≡ left ++ c.in-Some.k ∷ [] = c.pop.ensures.items ∙ ap (λ o. left ++ option_to_list o) c.in-Some.is in
+    let popped : c.loop-k.self-inside.touched.items ≡ left ++ c.in-Some.k ∷ [] =
+    c.pop.ensures.items ∙ ap (λ o. left ++ option_to_list o) c.in-Some.is in
     record {
       touched = subst (λ p. AreTouched left (slice_set all c.in-Some.k p)) (sym c.new.ensures)
           (last_cleared left all c.in-Some.k (subst (λ ts. AreTouched ts all) popped c.loop-k.invariant.touched));

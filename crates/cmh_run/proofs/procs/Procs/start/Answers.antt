@@ -7,5 +7,7 @@ use Rattle.cmh_run.proofs.procs.Procs.start.Goals as goal
 -- it is one of those that have taken part
 pub invariant_of-self-2 : goal.invariant_of-self-2
 invariant_of-self-2 c =
-    subst (λ ts. AreTouched ts (slice_set c.self.inside.all.items c.args.k c.start.new.self)) (sym c.in_ok-push.ensures.items)
-    (one_touched c.self.inside.touched.items c.self.inside.all.items c.args.k c.start.new.self c.self.invariant (omega (arith, ap length c.self.view_is, c.requires.within)))
+    subst (λ ts. AreTouched ts (slice_set c.self.inside.all.items c.args.k c.start.new.self))
+    (sym c.in_ok-push.ensures.items)
+    (one_touched c.self.inside.touched.items c.self.inside.all.items c.args.k c.start.new.self c.self.invariant
+    (omega (arith, ap length c.self.view_is, c.requires.within)))

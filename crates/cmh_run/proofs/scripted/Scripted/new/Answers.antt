@@ -13,7 +13,8 @@ first_difference-requires c =
 -- the first entry that differs from the verdicts is the first fault
 pub returns-in-Some-first_difference-clause-fault : goal.returns-in-Some-first_difference-clause-fault
 returns-in-Some-first_difference-clause-fault c =
-    let never = subst (λ (n : ℕ). IsNever (IsOutOfRange n c.args.entries.now)) c.len.ensures.count c.in_default.ensures.none in
+    let never =
+    subst (λ (n : ℕ). IsNever (IsOutOfRange n c.args.entries.now)) c.len.ensures.count c.in_default.ensures.none in
     inr (
       never,
       first_untrue c.args.graph.now c.deref.result.now c.args.entries.now c.len.ensures.well_formed.within
@@ -29,7 +30,8 @@ returns-clause-within c =
 -- each entry of the script tells the truth
 pub returns-clause-speaks : goal.returns-clause-speaks
 returns-clause-speaks c =
-    let never = subst (λ (n : ℕ). IsNever (IsOutOfRange n c.args.entries.now)) c.len.ensures.count c.in_default.ensures.none in
+    let never =
+    subst (λ (n : ℕ). IsNever (IsOutOfRange n c.args.entries.now)) c.len.ensures.count c.in_default.ensures.none in
     subst (λ (xs : List Entry). AreTrueOf c.args.graph.now xs) (sym c.in_ok-entries.ensures.items)
     (true_of c.args.graph.now c.deref.result.now c.args.entries.now c.len.ensures.well_formed.within
     (c.deref.ensures.value ∙ c.in_ok-truth.ensures) never c.in_default-first_difference.ensures.none)

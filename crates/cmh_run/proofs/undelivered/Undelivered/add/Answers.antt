@@ -5,7 +5,9 @@ use Rattle.cmh_run.proofs.undelivered.Undelivered.add.Goals as goal
 pub returns-in_ok-insert-in-Query : goal.returns-in_ok-insert-in-Query
 returns-in_ok-insert-in-Query c =
     record {
-      ok = rw (← c.self.view_is) (query_added c.self.inside.queries.keys c.insert.new.self.keys c.self.inside.replies.keys c.args.message c.in-Query.is
+      ok = rw (← c.self.view_is)
+          (query_added c.self.inside.queries.keys c.insert.new.self.keys c.self.inside.replies.keys c.args.message
+          c.in-Query.is
           c.in_ok-insert-in-Query.ensures.updates.0);
     }
 
@@ -13,6 +15,8 @@ returns-in_ok-insert-in-Query c =
 pub returns-in_ok-insert-in-Reply : goal.returns-in_ok-insert-in-Reply
 returns-in_ok-insert-in-Reply c =
     record {
-      ok = rw (← c.self.view_is) (reply_added c.self.inside.replies.keys c.insert-in-Reply.new.self.keys c.self.inside.queries.keys c.args.message c.in-Reply.is
+      ok = rw (← c.self.view_is)
+          (reply_added c.self.inside.replies.keys c.insert-in-Reply.new.self.keys c.self.inside.queries.keys
+          c.args.message c.in-Reply.is
           c.in_ok-insert-in-Reply.ensures.updates.0);
     }

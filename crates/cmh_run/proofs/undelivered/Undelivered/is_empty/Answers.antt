@@ -11,7 +11,8 @@ returns-then-is_empty c = (
   λ h. subst (λ (w : Waiting). (m : Message) → is_waiting w m ≡ false) c.self.view_is
       (none_waiting (record { queries = c.self.inside.queries.keys; replies = c.self.inside.replies.keys })
       (c.is_empty.ensures.0 c.if-is_empty.true) (c.is_empty-then-is_empty.ensures.0 h)),
-  λ none. c.is_empty-then-is_empty.ensures.1 (no_replies (record { queries = c.self.inside.queries.keys; replies = c.self.inside.replies.keys })
+  λ none. c.is_empty-then-is_empty.ensures.1
+      (no_replies (record { queries = c.self.inside.queries.keys; replies = c.self.inside.replies.keys })
       (subst (λ (w : Waiting). (m : Message) → is_waiting w m ≡ false) (sym c.self.view_is) none)),
 )
 
@@ -19,6 +20,7 @@ returns-then-is_empty c = (
 pub returns-else-is_empty : goal.returns-else-is_empty
 returns-else-is_empty c = (
   λ h. absurd (true≢false (sym h ∙ c.if-is_empty.false)),
-  λ none. c.is_empty.ensures.1 (no_queries (record { queries = c.self.inside.queries.keys; replies = c.self.inside.replies.keys })
+  λ none. c.is_empty.ensures.1
+      (no_queries (record { queries = c.self.inside.queries.keys; replies = c.self.inside.replies.keys })
       (subst (λ (w : Waiting). (m : Message) → is_waiting w m ≡ false) (sym c.self.view_is) none)),
 )

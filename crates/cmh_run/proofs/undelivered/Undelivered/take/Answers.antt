@@ -4,11 +4,15 @@ use Rattle.cmh_run.proofs.undelivered.Undelivered.take.Goals as goal
 -- a query isn't among the queries then
 pub returns-in-Query-clause-rest : goal.returns-in-Query-clause-rest
 returns-in-Query-clause-rest c =
-    rw (← c.self.view_is) (query_taken c.self.inside.queries.keys c.remove.new.self.keys c.self.inside.replies.keys c.args.message c.in-Query.is
+    rw (← c.self.view_is)
+    (query_taken c.self.inside.queries.keys c.remove.new.self.keys c.self.inside.replies.keys c.args.message
+    c.in-Query.is
     c.remove.ensures.updates.0)
 
 -- a reply isn't among the replies then
 pub returns-in-Reply-clause-rest : goal.returns-in-Reply-clause-rest
 returns-in-Reply-clause-rest c =
-    rw (← c.self.view_is) (reply_taken c.self.inside.replies.keys c.remove-in-Reply.new.self.keys c.self.inside.queries.keys c.args.message c.in-Reply.is
+    rw (← c.self.view_is)
+    (reply_taken c.self.inside.replies.keys c.remove-in-Reply.new.self.keys c.self.inside.queries.keys
+    c.args.message c.in-Reply.is
     c.remove-in-Reply.ensures.updates.0)

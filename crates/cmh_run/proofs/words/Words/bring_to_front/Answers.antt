@@ -17,4 +17,5 @@ returns c m there =
     let all : length (take t xs ++ (turned ++ drop k (drop t xs))) ≡ c.self.inside.all.len =
     turned_length xs turned t k within part long ∙ known ∙ sym c.self.inside.all.ok.0 in
     ap (drop t) (with_items_is c.self.inside.all (take t xs ++ (turned ++ drop k (drop t xs))) all)
-    ∙ brought_in xs turned c.args.self.now t c.args.place k m within behind c.requires (omega arith) there c.rotate_right.ensures.after
+    ∙ brought_in xs turned c.args.self.now t c.args.place k m within behind c.requires
+    (omega arith) there c.rotate_right.ensures.after

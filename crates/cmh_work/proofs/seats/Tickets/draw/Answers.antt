@@ -3,4 +3,5 @@ use Rattle.cmh_work.proofs.Dealing.{draws}
 use Rattle.cmh_work.proofs.seats.Tickets.draw.Goals as goal
 
 pub fetch_add-found-requires : goal.fetch_add-found-requires
-fetch_add-found-requires c = let wide = c.args.self.now.wide in (search rules, omega arith, draws _ _ _ _ (search rules) (search rules) (search rules))
+fetch_add-found-requires c = let wide =
+    c.args.self.now.wide in (search rules, omega arith, draws _ _ _ _ (search rules) (search rules) (search rules))

@@ -3,7 +3,8 @@ use Rattle.cmh_work.proofs.Dealing.{joins, measures}
 use Rattle.cmh_work.proofs.seats.Tickets.join.Goals as goal
 
 pub join_seat-requires : goal.join_seat-requires
-join_seat-requires c = let wide = c.args.self.now.wide in (search rules, search rules, search rules, omega arith, joins _ _ _ _ _ (search rules))
+join_seat-requires c = let wide =
+    c.args.self.now.wide in (search rules, search rules, search rules, omega arith, joins _ _ _ _ _ (search rules))
 
 pub load-requires : goal.load-requires
 load-requires c = let wide = c.args.self.now.wide in (search rules, omega arith, measures _ _ _ _)

@@ -3,4 +3,5 @@ use Rattle.cmh_work.proofs.Dealing.{splits}
 use Rattle.cmh_work.proofs.seats.Tickets.split.Goals as goal
 
 pub split_seat-other-requires : goal.split_seat-other-requires
-split_seat-other-requires c = let wide = c.args.self.now.wide in (search rules, omega arith, splits _ _ _ (search rules))
+split_seat-other-requires c = let wide =
+    c.args.self.now.wide in (search rules, omega arith, splits _ _ _ (search rules))

@@ -12,23 +12,37 @@ use Rattle.cmh_work.proofs.shapes.Shapes.shape_of.Goals as goal
 
 -- there is a place for each process
 pub index-requires : goal.index-requires
-index-requires g c = omega (arith, ap length c.requires.shapes.leaders, length-by_index c.args.graph.now (group_leader c.args.graph.now), c.requires.within)
+index-requires g c =
+    omega (
+      arith,
+      ap length c.requires.shapes.leaders,
+      length-by_index c.args.graph.now (group_leader c.args.graph.now),
+      c.requires.within,
+    )
 
 pub unwrap-requires : goal.unwrap-requires
 unwrap-requires g c =
-    let dead : IsDeadlocked c.args.graph.now c.args.p = subst (IsVerdict c.args.graph.now c.args.p) c.in-Deadlocked.is c.requires.known in
-    ap is_some (c.index.ensures ∙ leader_stands c.args.graph.now c.args.p _ _ c.requires.shapes.leaders c.requires.within dead)
+    let dead : IsDeadlocked c.args.graph.now c.args.p =
+    subst (IsVerdict c.args.graph.now c.args.p) c.in-Deadlocked.is c.requires.known in
+    ap is_some
+    (c.index.ensures ∙ leader_stands c.args.graph.now c.args.p _ _ c.requires.shapes.leaders c.requires.within dead)
 
 pub unwrap-requires-in-Free : goal.unwrap-requires-in-Free
 unwrap-requires-in-Free g c =
-    let free : ¬ (IsDeadlocked c.args.graph.now c.args.p) = subst (IsVerdict c.args.graph.now c.args.p) c.in-Free.is c.requires.known in
-    some_before (λ v. v.items) c.in_ok-path-in-Free.path _ (given c.path_by.result c.map_err.result c.in_ok-path-in-Free.path _ _ c.map_err.ensures.cases c.in_ok-path-in-Free.was c.path_by.ensures.ok)
+    let free : ¬ (IsDeadlocked c.args.graph.now c.args.p) =
+    subst (IsVerdict c.args.graph.now c.args.p) c.in-Free.is c.requires.known in
+    some_before (λ v. v.items) c.in_ok-path-in-Free.path _
+    (given c.path_by.result c.map_err.result c.in_ok-path-in-Free.path _ _ c.map_err.ensures.cases
+    c.in_ok-path-in-Free.was c.path_by.ensures.ok)
     (way_out c.args.graph.now c.args.p _ c.law_built_graph.ensures.within c.requires.within free refl)
 
 pub returns-in-Deadlocked-clause-ok : goal.returns-in-Deadlocked-clause-ok
 returns-in-Deadlocked-clause-ok g c =
-    let dead : IsDeadlocked c.args.graph.now c.args.p = subst (IsVerdict c.args.graph.now c.args.p) c.in-Deadlocked.is c.requires.known in
+    let dead : IsDeadlocked c.args.graph.now c.args.p =
+    subst (IsVerdict c.args.graph.now c.args.p) c.in-Deadlocked.is c.requires.known in
     let same : Some c.unwrap.result ≡ Some (leader_of c.args.graph.now c.args.p) =
-    sym c.unwrap.ensures ∙ c.index.ensures ∙ leader_stands c.args.graph.now c.args.p _ _ c.requires.shapes.leaders c.requires.within dead in
+    sym c.unwrap.ensures ∙ c.index.ensures
+    ∙ leader_stands c.args.graph.now c.args.p _ _ c.requires.shapes.leaders c.requires.within dead in
     let is : c.unwrap.result ≡ leader_of c.args.graph.now c.args.p = cc in
-    subst (λ v. IsShape g.P.ProcessList.processes c.args.graph.now c.args.p v (Leader c.unwrap.result)) (sym c.in-Deadlocked.is) is
+    subst (λ v. IsShape g.P.ProcessList.processes c.args.graph.now c.args.p v (Leader c.unwrap.result))
+    (sym c.in-Deadlocked.is) is
