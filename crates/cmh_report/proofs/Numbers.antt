@@ -16,7 +16,8 @@ use Rattle.cmh_graph.proofs.Reaching.{index_within, reaches_then, then_reaches}
 use Rattle.cmh_graph.proofs.Verdicts.{and_true, filter_contains}
 use Rattle.cmh_report.specs.Group.{is_led_by, leaders_up_to}
 use Rattle.cmh_work.specs.Leaders.{group_leader}
-use Rattle.cmh_work.proofs.Cores.{leader_in_core, reached_deadlocked, same_leader, same_test}
+use Rattle.cmh_graph.proofs.Groups.{leader_in_core, same_leader, same_test}
+use Rattle.cmh_work.proofs.Cores.{reached_deadlocked}
 
 -- a leader leads itself
 abbrev pub leads_itself : Graph → ℕ → Bool
