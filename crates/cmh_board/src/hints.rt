@@ -10,18 +10,12 @@ ghost use Rattle.cmh_board.specs.HintProofs.{keeps_itself, keeps_on};
 use crate::{Board, BoardSeat, Look};
 use cmh_graph::Verdict;
 use cmh_run::Hints;
-use std::thread::yield_now;
 
-/// After so many asks another thread gets a turn, where one waits for this processor.
-const TURN: u32 = 256;
-
-/// Hints from the board: each ask is one look. A long run lets other threads run now and then, where
-/// there are more of them than processors: what they post may cut it short.
+/// Hints from the board: each ask is one look.
 #[derive(Drop)]
 pub struct BoardHints<'a> {
     board: &'a Board,
     seat: &'a mut BoardSeat,
-    asks: u32,
 }
 
 impl<'a> BoardHints<'a> {
@@ -35,11 +29,7 @@ impl<'a> BoardHints<'a> {
         ensures seat { result.seat.now ≡ seat.old }
         ensures speaks { SpeaksOf result (graph_of board.now) }
     {
-        BoardHints {
-            board,
-            seat,
-            asks: 0,
-        }
+        BoardHints { board, seat }
     }
 }
 
@@ -61,10 +51,6 @@ impl<'a> Hints for BoardHints<'a> {
         ensures silent { ⊥ → result ≡ None }
         ensures kept { Keeps self.old self.new }
     {
-        self.asks = self.asks.wrapping_add(1);
-        if self.asks % TURN == 0 {
-            yield_now();
-        }
         match self.board.look(self.seat, p) {
             Look::Known(verdict) => Some(verdict),
             Look::Unknown | Look::Busy(_) => None,
