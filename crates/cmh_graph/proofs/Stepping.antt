@@ -1,13 +1,11 @@
 -- The least number of dependencies to a process that passes a test, and its search by levels.
 use Rattle.std.proofs.Common.{◌≡◌, ℕ, zero, suc, ◌<◌, ◌≤◌, ◌+◌, ◌-◌, Bool, true, false, cond, ◌⊎◌, inl, inr, List, [], ◌∷◌, ◌++◌, map, length, get_or, refl, sym, ◌∙◌, ap, subst, arith}
-use Rattle.std.specs.Prelude.{Contains, filter, flat_map, find, Some, None, Option, Result, Ok, Err, IfOk, is_some, unwrap_or}
-use Rattle.std.specs.Global.{Vec}
+use Rattle.std.specs.Prelude.{Contains, filter, flat_map, find, Some, None, Option, is_some, unwrap_or}
 use Rattle.std.specs.List.{range_with_len}
 use Rattle.std.proofs.lemmas.List.{length-map}
 use Rattle.std.proofs.lemmas.List.Elements.{Contains-get_or}
 use Rattle.std.proofs.lemmas.List.FromFn.{fill_by_all}
 use native.Mathlib.Decide.{dec_lt}
-use Rattle.cmh_graph.specs.declared.fault.GraphFault.{GraphFault}
 use Rattle.cmh_graph.specs.Graph.{IsWithinGraph, Graph, Depends, process_count, dependencies_of, indices, is_awake}
 use Rattle.cmh_graph.specs.ChosenPath.{distance_of}
 use Rattle.cmh_graph.specs.Path.{Leads, paths_to, is_nonempty, steps_to}
@@ -347,11 +345,3 @@ unfolding distance_of
 steps_to_awake g marks w e =
     by_index_agree g (steps_to g (is_marked marks)) (steps_to g (is_awake g)) None
     (steps_agree g (is_marked marks) (is_awake g) w (λ r l. by_index g (is_awake g) marks r false e l))
-
--- a search that gives the ones gives the others
-pub distances_found : (g : Graph) (marks : List Bool) (found : Result (Vec (Option ℕ)) GraphFault) → IsWithinGraph g
-    → marks ≡ map (is_awake g) (indices g)
-    → IfOk found (λ steps. steps.items ≡ map (steps_to g (is_marked marks)) (indices g))
-    → IfOk found (λ steps. steps.items ≡ map (distance_of g) (indices g))
-distances_found g marks (Ok steps) w e h = h ∙ steps_to_awake g marks w e
-distances_found g marks (Err fault) w e h = tt

@@ -3,9 +3,9 @@
 ghost use Rattle.std.specs.Prelude.{◌≡◌, ◌<◌, map, length, option_map, All, IfOk, IfErr, IsTrue, MatchOption, ◌↔◌};
 ghost use Rattle.cmh_graph.specs.Graph.{indices, process_count};
 ghost use Rattle.cmh_graph.specs.ChosenPath.{distance_of, chosen_path};
-ghost use Rattle.cmh_graph.specs.Search.{IsLeastAt};
+ghost use Rattle.cmh_graph.specs.Search.{ArePredecessors, IsLeastAt};
 
-use crate::{GraphFault, WaitGraph};
+use crate::{GraphFault, Predecessors, WaitGraph};
 use std::alloc::Global;
 
 impl WaitGraph {
@@ -16,7 +16,23 @@ impl WaitGraph {
             list.items ≡ map (distance_of self.now) (indices self.now)) }
         ensures memory { IfErr result (λ e. e ≡ GraphFault.Memory) }
     {
-        self.steps_to(alloc, self.awake())
+        let predecessors = Predecessors::of_graph(alloc, self)?;
+        self.distances_by(alloc, &predecessors)
+    }
+
+    /// The distances, as `distances` gives them, by the predecessors of all processes. It takes time
+    /// linear in processes and dependencies, and memory linear in the processes.
+    pub fn distances_by(
+        &self,
+        alloc: Global,
+        predecessors: &Predecessors,
+    ) -> Result<Vec<Option<u32>>, GraphFault>
+        requires { ArePredecessors self.now predecessors.now }
+        ensures ok { IfOk result (λ list.
+            list.items ≡ map (distance_of self.now) (indices self.now)) }
+        ensures memory { IfErr result (λ e. e ≡ GraphFault.Memory) }
+    {
+        Ok(self.steps_to(alloc, predecessors, self.awake())?)
     }
 
     /// Of the shortest paths from `p` to an awake process the one whose indices are least, from

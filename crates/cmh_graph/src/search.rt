@@ -1,13 +1,13 @@
 //! Searches along dependencies.
 
-ghost use Rattle.std.specs.Prelude.{◌≡◌, ◌==◌, ◌<◌, ◌≤◌, ◌^◌, ℕ, [], ◌∷◌, map, length, filter, if◌then◌else◌, All, Contains, IfOk, IfErr, OnOk, Some, None};
+ghost use Rattle.std.specs.Prelude.{◌≡◌, ◌==◌, ◌<◌, ◌≤◌, ◌^◌, ℕ, [], ◌∷◌, map, length, filter, if◌then◌else◌, All, Contains, IfOk, OnOk, Some, None};
 ghost use Rattle.std.specs.List.{range_with_len};
 ghost use Rattle.cmh_graph.specs.Graph.{indices, process_count};
 ghost use Rattle.cmh_graph.specs.Path.{reaches, steps_to};
 ghost use Rattle.cmh_graph.specs.Core.{core_of};
 ghost use Rattle.cmh_graph.specs.Search.{is_marked, predecessors_at, ArePredecessors, IsNamedBy, MarksEach, Numbers, SpreadsFrom};
 
-use crate::{GraphFault, MAX_PROCESSES, Predecessors, WaitGraph};
+use crate::{MAX_PROCESSES, Predecessors, WaitGraph};
 use std::alloc::{AllocError, Global};
 
 impl WaitGraph {
@@ -75,21 +75,21 @@ impl WaitGraph {
     pub(crate) fn steps_to(
         &self,
         alloc: Global,
+        predecessors: &Predecessors,
         marks: &[bool],
-    ) -> Result<Vec<Option<u32>>, GraphFault>
-        requires { length marks.now ≡ process_count self.now }
-        ensures ok { IfOk result (λ distances.
+    ) -> Result<Vec<Option<u32>>, AllocError>
+        requires known { ArePredecessors self.now predecessors.now }
+        requires size { length marks.now ≡ process_count self.now }
+        ensures { IfOk result (λ distances.
             distances.items ≡ map (steps_to self.now (is_marked marks.now)) (indices self.now)) }
-        ensures memory { IfErr result (λ e. e ≡ GraphFault.Memory) }
     {
         self.has_no_fault();
-        let predecessors = Predecessors::of_graph(alloc, self)?;
         let mut distances = first_distances(alloc, marks)?;
         let mut level = marked(alloc, marks)?;
         let mut distance = 0;
         while !level.is_empty() {
             distance += 1;
-            level = next_level(alloc, &predecessors, &level, distance, &mut distances)?;
+            level = next_level(alloc, predecessors, &level, distance, &mut distances)?;
         }
         Ok(distances)
     }

@@ -25,9 +25,23 @@ impl WaitGraph {
         ensures memory { IfErr result (λ e. e ≡ GraphFault.Memory) }
     {
         let distances = self.distances(alloc)?;
+        self.verdicts_by(alloc, &distances)
+    }
+
+    /// The verdict of each process, as `verdicts_plain` gives it, by the distances of all processes.
+    /// It takes time and memory linear in the processes.
+    pub fn verdicts_by(
+        &self,
+        alloc: Global,
+        distances: &[Option<u32>],
+    ) -> Result<Vec<Verdict>, GraphFault>
+        requires { distances.now ≡ map (distance_of self.now) (indices self.now) }
+        ensures ok { IfOk result (λ list. list.items ≡ verdicts self.now) }
+        ensures memory { IfErr result (λ e. e ≡ GraphFault.Memory) }
+    {
         let mut verdicts = Vec::new(alloc);
         for p in 0..self.len() {
-            verdicts.push(self.verdict_by(&distances, p))?;
+            verdicts.push(self.verdict_by(distances, p))?;
         }
         Ok(verdicts)
     }

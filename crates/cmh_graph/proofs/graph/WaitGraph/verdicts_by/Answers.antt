@@ -1,7 +1,7 @@
 use Rattle.std.proofs.Common.{◌∙◌, ◌++◌, ◌∷◌, [], arith, sym}
 use Rattle.std.proofs.lemmas.List.FromFn.{map-range_with_len_more}
 use Rattle.cmh_graph.specs.Verdict.{verdict}
-use Rattle.cmh_graph.proofs.graph.WaitGraph.verdicts_plain.Goals as goal
+use Rattle.cmh_graph.proofs.graph.WaitGraph.verdicts_by.Goals as goal
 
 pub loop-p-preserved : goal.loop-p-preserved
 loop-p-preserved c =
