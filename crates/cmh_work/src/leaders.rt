@@ -16,25 +16,26 @@ use cmh_graph::{Predecessors, Verdict, WaitGraph};
 use std::alloc::Global;
 
 /// For each process the leader of its group, if it is deadlocked. One core is computed for each
-/// group that isn't seen to be one process alone, all by predecessors that are made once: it takes
-/// the time of a reach for each of these, and of one search of the graph for all groups together.
+/// group that isn't seen to be one process alone: it takes the time of a reach for each of these, and
+/// of one search of the graph for all groups together.
 pub(crate) fn group_leaders(
     alloc: Global,
     graph: &WaitGraph,
+    predecessors: &Predecessors,
     known: &[Verdict],
 ) -> Result<Vec<Option<u32>>, WorkFault>
-    requires { known.now ≡ verdicts graph.now }
+    requires predecessors { ArePredecessors graph.now predecessors.now }
+    requires verdicts { known.now ≡ verdicts graph.now }
     ensures leaders { IfOk result (λ list.
         list.items ≡ map (group_leader graph.now) (indices graph.now)) }
     ensures well_formed { IfOk result (λ _. IsWellFormed graph.now) }
     ensures memory { IfErr result (λ e. e ≡ WorkFault.Memory) }
 {
-    let predecessors = Predecessors::of_graph(alloc, graph).map_err(want_in_graph)?;
-    let alone = graph.alone(alloc, &predecessors).map_err(want_in_graph)?;
+    let alone = graph.alone(alloc, predecessors).map_err(want_in_graph)?;
     let mut leaders = vec![in alloc; None; known.len()]?;
     for p in 0..graph.len() {
         if is_new_leader(known, &leaders, p) {
-            let core = core_by(alloc, graph, &predecessors, &alone, p)?;
+            let core = core_by(alloc, graph, predecessors, &alone, p)?;
             lead_each(p, &core, &mut leaders);
         }
     }

@@ -8,7 +8,7 @@ use crate::fault::want_in_graph;
 use crate::leaders::group_leaders;
 use crate::record::Shape;
 use cmh_graph::laws::law_built_graph;
-use cmh_graph::{Verdict, WaitGraph};
+use cmh_graph::{Predecessors, Verdict, WaitGraph};
 use cmh_run::ProcessList;
 use std::alloc::Global;
 
@@ -31,9 +31,12 @@ impl Shapes {
         ensures ok { IfOk result (AreShapesOf graph.now) }
         ensures memory { IfErr result (λ e. e ≡ WorkFault.Memory) }
     {
-        let known = graph.verdicts_plain(alloc).map_err(want_in_graph)?;
-        let leaders = group_leaders(alloc, graph, &known)?;
-        let distances = graph.distances(alloc).map_err(want_in_graph)?;
+        let predecessors = Predecessors::of_graph(alloc, graph).map_err(want_in_graph)?;
+        let distances = graph
+            .distances_by(alloc, &predecessors)
+            .map_err(want_in_graph)?;
+        let known = graph.verdicts_by(alloc, &distances).map_err(want_in_graph)?;
+        let leaders = group_leaders(alloc, graph, &predecessors, &known)?;
         Ok(Shapes { distances, leaders })
     }
 

@@ -5,7 +5,6 @@ use Rattle.cmh_graph.specs.Graph.{process_count}
 use Rattle.cmh_work.specs.Leaders.{is_deadlocked_at, leader_at, LeadsEach}
 use Rattle.cmh_run.proofs.Scripts.{verdict_count}
 use Rattle.cmh_work.proofs.Cores.{members_within}
-use Rattle.cmh_work.proofs.Faults.{given}
 use Rattle.cmh_work.proofs.Leading.{AreLeadersBelow, leaders_all, leaders_led_more, leaders_passed, leaders_size, leaders_start, none_at}
 use Rattle.cmh_work.proofs.leaders.group_leaders.Goals as goal
 use Rattle.cmh_work.proofs.leaders.group_leaders.Goals.{then-is_new_leader+in_ok-core, else-is_new_leader}
@@ -14,13 +13,19 @@ pub loop-p-init : goal.loop-p-init
 loop-p-init c =
     let none = c.in_ok-leaders.ensures.items_if_clones_equal (λ y h. search rules) in
     leaders_start c.args.graph.now _
-    (ap length none ∙ length-replicate (length c.args.known.now) None ∙ ap length c.requires
+    (ap length none ∙ length-replicate (length c.args.known.now) None ∙ ap length c.requires.verdicts
     ∙ verdict_count c.args.graph.now)
     (λ p. ap (λ list. leader_at list p) none ∙ none_at (length c.args.known.now) p)
 
 pub is_new_leader-requires-clause-known : goal.is_new_leader-requires-clause-known
 is_new_leader-requires-clause-known c =
-    omega (arith, ap length c.requires, verdict_count c.args.graph.now, c.loop-p-test.true, c.len-p-end.ensures.count)
+    omega (
+      arith,
+      ap length c.requires.verdicts,
+      verdict_count c.args.graph.now,
+      c.loop-p-test.true,
+      c.len-p-end.ensures.count,
+    )
 
 pub is_new_leader-requires-clause-leaders : goal.is_new_leader-requires-clause-leaders
 is_new_leader-requires-clause-leaders c =
@@ -32,11 +37,6 @@ is_new_leader-requires-clause-leaders c =
       c.loop-p-test.true,
       c.len-p-end.ensures.count,
     )
-
-pub core_by-requires-clause-known : goal.core_by-requires-clause-known
-core_by-requires-clause-known c =
-    given c.of_graph.result c.map_err.result c.in_ok-predecessors.predecessors _ _ c.map_err.ensures.cases
-    c.in_ok-predecessors.was c.of_graph.ensures.ok
 
 pub lead_each-requires : goal.lead_each-requires
 lead_each-requires c =
@@ -62,11 +62,12 @@ loop-p-preserved c =
           (sym (ap (λ v. v.items) w.leaders-is
           ∙ with_items_is c.loop-p.leaders w.lead_each.new.leaders
           (w.lead_each.ensures.size ∙ w.deref_mut.ensures.len)))
-          (leaders_led_more g _ c.loop-p.p _ _ _ _ well i c.requires c.loop-p.invariant test w.if-is_new_leader.true
-          (w.deref-then-is_new_leader-2.ensures.value ∙ w.in_ok-core.ensures.ok) each)
+          (leaders_led_more g _ c.loop-p.p _ _ _ _ well i c.requires.verdicts c.loop-p.invariant test
+          w.if-is_new_leader.true (w.deref-then-is_new_leader-2.ensures.value ∙ w.in_ok-core.ensures.ok) each)
       | else-is_new_leader w ↦
           subst (λ xs. AreLeadersBelow g (c.loop-p.p + 1) xs) (sym (ap (λ v. v.items) w.leaders-is))
-          (leaders_passed g _ c.loop-p.p _ _ well i c.requires c.loop-p.invariant test w.if-is_new_leader.false)
+          (leaders_passed g _ c.loop-p.p _ _ well i c.requires.verdicts c.loop-p.invariant test
+          w.if-is_new_leader.false)
     ]
 
 pub returns-clause-leaders : goal.returns-clause-leaders
