@@ -1,16 +1,19 @@
--- Findings become records: rows are found, and lists grow together.
-use Rattle.std.proofs.Common.{◌≡◌, ℕ, suc, ◌+◌, ◌<◌, true, false, cond, eqb, List, [], ◌∷◌, ◌++◌, drop, length, get_or, Some, sym, refl, ap, ◌∙◌}
-use Rattle.std.proofs.lemmas.Bool.{eqb-true, eq-eqb}
-use Rattle.std.proofs.lemmas.List.{get_or_default}
+-- Findings become records: rows are numbered, and lists grow together.
+use Rattle.std.proofs.Common.{◌≡◌, ◌≢◌, ℕ, ◌+◌, ◌<◌, ◌≤◌, inl, inr, true, false, cond, eqb, List, [], ◌∷◌, ◌++◌, drop, length, get_or, set, Some, None, sym, refl, ap, ◌∙◌, subst, arith}
+use Rattle.std.specs.Prelude.{All}
+use Rattle.std.proofs.lemmas.Bool.{cases_Bool, eqb-true, eqb-false}
+use Rattle.std.proofs.lemmas.List.{drop_all, drop_more, get_or_default, get_or-set_other, get_or-set_same, length-set}
+use Rattle.std.proofs.lemmas.List.Elements.{All-cons, All-nil, All-tail}
 use Rattle.std.proofs.lemmas.Option.{slice_get_read}
-use Rattle.std.proofs.Math.Seq.{drop-cons}
 use Rattle.cmh_graph.specs.declared.verdict.Verdict.{Verdict}
+use Rattle.cmh_graph.specs.Graph.{Graph, process_count}
+use Rattle.cmh_graph.proofs.Verdicts.{idle_within}
 use Rattle.cmh_rw.specs.declared.row.Row.{Row}
-use Rattle.cmh_rw.specs.History.{fold_at}
+use Rattle.cmh_rw.specs.History.{fold_at, IsTrueOf}
 use Rattle.cmh_work.specs.declared.finding.Finding.{Finding}
 use Rattle.cmh_work.specs.declared.record.Record.{Record}
 use Rattle.cmh_work.specs.Record.{IsRowFor}
-use Rattle.cmh_work.specs.Numbering.{IsNumbered, AreNumbered}
+use Rattle.cmh_work.specs.Numbering.{IsNumbered, AreNumbered, AreRowNumbers}
 
 -- a finding and its record more
 pub numbered_more : {L : Type 0} {R : Type 0} (rows : List Row) (fs : List (Finding R L)) (rs : List (Record R L))
@@ -21,11 +24,6 @@ numbered_more rows [] (x ∷ xs) f r h k = absurd h
 numbered_more rows (y ∷ ys) [] f r h k = absurd h
 numbered_more rows (y ∷ ys) (x ∷ xs) f r h k = (h.0, numbered_more rows ys xs f r h.1 k)
 
--- the rows from a place on begin with the row there
-row_here : (rows : List Row) (n : ℕ) (r : Row) → n < length rows → r ≡ get_or rows n r
-    → drop n rows ≡ r ∷ drop (suc n) rows
-row_here rows n r low at = drop-cons rows n r low ∙ ap (λ x. x ∷ drop (suc n) rows) (sym at)
-
 -- what a row that is p's says, the rows say that begin with it
 said_here : (r : Row) (rest : List Row) (p : ℕ) → eqb r.process p ≡ true → fold_at (r ∷ rest) p ≡ Some r.verdict
 said_here r rest p e = ap (λ b. cond b (Some r.verdict) (fold_at rest p)) e
@@ -34,21 +32,85 @@ said_here r rest p e = ap (λ b. cond b (Some r.verdict) (fold_at rest p)) e
 said_later : (r : Row) (rest : List Row) (p : ℕ) → eqb r.process p ≡ false → fold_at (r ∷ rest) p ≡ fold_at rest p
 said_later r rest p e = ap (λ b. cond b (Some r.verdict) (fold_at rest p)) e
 
--- the first row of p is p's, with p's verdict
-pub row_for : (rows : List Row) (n p : ℕ) (r : Row) (v : Verdict) → n < length rows → r ≡ get_or rows n r
-    → eqb r.process p ≡ true → fold_at (drop n rows) p ≡ fold_at rows p → fold_at rows p ≡ Some v → IsRowFor rows n p v
-row_for rows n p r v low at is same says =
-    let here : Some r.verdict ≡ Some v =
-    sym (said_here r (drop (suc n) rows) p is) ∙ ap (λ l. fold_at l p) (sym (row_here rows n r low at)) ∙ same ∙ says in
-    let verdict : r.verdict ≡ v = cc in
-    let process = eqb-true r.process p is in
+-- the rows of a history that is true of a graph are of its processes
+pub rows_within : (g : Graph) (rows : List Row) → IsTrueOf g rows → All (λ (r : Row). r.process < process_count g) rows
+rows_within g [] h = All-nil (λ (r : Row). r.process < process_count g)
+rows_within g (r ∷ rs) h =
+    All-cons (λ (x : Row). x.process < process_count g) r rs (idle_within g r.process h.0) (rows_within g rs h.3)
+
+-- who stands in rows of so many processes is one of these
+pub stands_within : (rows : List Row) (count p : ℕ) (v : Verdict) → All (λ (r : Row). r.process < count) rows
+    → fold_at rows p ≡ Some v → p < count
+stands_within [] count p v w e = absurd cc
+stands_within (r ∷ rs) count p v w e = elim (cases_Bool (eqb r.process p)) [
+  | inl same ↦ let process = eqb-true r.process p same in omega (arith, process, w 0 r (omega arith))
+  | inr other ↦
+      stands_within rs count p v (All-tail (λ (x : Row). x.process < count) r rs w) (sym (said_later r rs p other) ∙ e)
+]
+
+-- From row n on each row's process has the number of a row that tells what the rows from there on say of it.
+pub record NumbersFrom (rows : List Row) (count n : ℕ) (numbers : List ℕ) : Type 0 where
+  pub size : length numbers ≡ count
+  pub few : n ≤ length rows
+  pub each : (p : ℕ) (v : Verdict) → fold_at (drop n rows) p ≡ Some v → IsRowFor rows (get_or numbers p 0) p v
+
+-- past the last row there is none
+pub numbers_start : (rows : List Row) (count n : ℕ) (numbers : List ℕ) → n ≡ length rows → length numbers ≡ count
+    → NumbersFrom rows count n numbers
+numbers_start rows count n numbers end size = record {
+  size = size;
+  few = omega arith;
+  each = λ p v e.
+      let none = ap (λ l. fold_at l p) (drop_all n rows (omega arith)) in
+      let bad : None ≡ Some v = sym none ∙ e in
+      absurd cc;
+}
+
+-- the row of this number is p's, with what it says
+row_for : (rows : List Row) (n p : ℕ) (r : Row) (v : Verdict) → n < length rows → r ≡ get_or rows n r
+    → r.process ≡ p → r.verdict ≡ v → IsRowFor rows n p v
+row_for rows n p r v low at process verdict =
     let row : r ≡ record { process = p; verdict = v; last = r.last } =
     λ i. record { process = process i; verdict = verdict i; last = r.last } in
     (r.last, slice_get_read rows (length rows) n r refl low at ∙ ap Some row)
 
--- the same of the row that is read at that place
-pub row_read : (rows : List Row) (n p : ℕ) (d : Row) (v : Verdict) → n < length rows → (get_or rows n d).process ≡ p
-    → fold_at (drop n rows) p ≡ fold_at rows p → fold_at rows p ≡ Some v → IsRowFor rows n p v
-row_read rows n p d v low is same says =
-    row_for rows n p (get_or rows n d) v low (get_or_default rows n d (get_or rows n d) low)
-    (eq-eqb (get_or rows n d).process p is) same says
+-- the row before these gets its number
+pub numbers_more : (rows : List Row) (count k n : ℕ) (d : Row) (numbers : List ℕ) → k ≡ n + 1
+    → All (λ (r : Row). r.process < count) rows → NumbersFrom rows count k numbers
+    → NumbersFrom rows count n (set numbers (get_or rows n d).process n)
+numbers_more rows count k n d numbers next w s =
+    let r = get_or rows n d in
+    let rest = drop (n + 1) rows in
+    let low : n < length rows = omega (arith, s.few, next) in
+    let here : drop n rows ≡ r ∷ rest = drop_more rows n d low in
+    record {
+      size = length-set numbers r.process n ∙ s.size;
+      few = omega (arith, low);
+      each = λ p v e.
+          let says : fold_at (r ∷ rest) p ≡ Some v = ap (λ l. fold_at l p) (sym here) ∙ e in
+          elim (cases_Bool (eqb r.process p)) [
+            | inl same ↦
+                let process = eqb-true r.process p same in
+                let told : Some r.verdict ≡ Some v = sym (said_here r rest p same) ∙ says in
+                let verdict : r.verdict ≡ v = cc in
+                let number : get_or (set numbers r.process n) p 0 ≡ n =
+                ap (λ q. get_or (set numbers q n) p 0) process
+                ∙ get_or-set_same numbers p n 0 (omega (arith, w n d low, process, s.size)) in
+                subst (λ m. IsRowFor rows m p v) (sym number)
+                (row_for rows n p r v low (get_or_default rows n d r low) process verdict)
+            | inr other ↦
+                let apart : p ≢ r.process = λ same. eqb-false r.process p other (sym same) in
+                let later : fold_at (drop k rows) p ≡ Some v =
+                ap (λ m. fold_at (drop m rows) p) next ∙ sym (said_later r rest p other) ∙ says in
+                subst (λ m. IsRowFor rows m p v) (sym (get_or-set_other numbers r.process p n 0 apart))
+                (s.each p v later)
+          ];
+    }
+
+-- from the first row on, these are the numbers of all rows
+pub numbers_all : (rows : List Row) (count n : ℕ) (numbers : List ℕ) → n ≡ 0
+    → All (λ (r : Row). r.process < count) rows → NumbersFrom rows count n numbers → AreRowNumbers rows numbers
+numbers_all rows count n numbers first w s = record {
+  within = λ p v e. omega (arith, stands_within rows count p v w e, s.size);
+  rows = λ p v e. s.each p v (ap (λ m. fold_at (drop m rows) p) first ∙ e);
+}

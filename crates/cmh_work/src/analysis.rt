@@ -109,6 +109,6 @@ fn finish<L: Log + Send, E: ProcessList + Send, R: Threads + Wait + Sync, P: Gat
         .board
         .close(alloc, seats.board)
         .map_err(want_at_board)?;
-    let records = number_all(alloc, &history, found)?;
+    let records = number_all(alloc, &history, graph.len(), found)?;
     Ok(Analysis { records, history })
 }

@@ -1,35 +1,34 @@
 //! Records as they are given out: each names its run, or its row of the closed history.
 
-ghost use Rattle.std.specs.Prelude.{◌≡◌, ◌<◌, ◌^◌, Some, IsSome, length, All, IfOk, IfErr};
-ghost use Rattle.cmh_graph.specs.declared.verdict.Verdict.{Verdict};
-ghost use Rattle.cmh_rw.specs.History.{fold_at};
+ghost use Rattle.std.specs.Prelude.{◌<◌, ◌≡◌, ◌^◌, List, length, All, IfOk, IfErr};
+ghost use Rattle.cmh_rw.specs.declared.row.Row.{Row};
 ghost use Rattle.cmh_work.specs.Record.{IsRowFor};
-ghost use Rattle.cmh_work.specs.Numbering.{Stands, IsNumbered, AreNumbered};
+ghost use Rattle.cmh_work.specs.Numbering.{Stands, IsNumbered, AreNumbered, AreRowNumbers};
 
 use crate::WorkFault;
 use crate::finding::Finding;
 use crate::record::{Origin, Record};
 use cmh_board::Row;
-use std::alloc::Global;
+use std::alloc::{AllocError, Global};
 
-/// The number of the row of a process that stands in the history.
-fn row_number(history: &[Row], p: u32) -> usize
-    requires { IsSome (fold_at history.now p) }
-    ensures within { result < length history.now }
-    ensures row { (v : Verdict) → fold_at history.now p ≡ Some v → IsRowFor history.now result p v }
+/// For each of so many processes the number of its row, if it stands in the history. From the last
+/// row to the first, so that a process's first row stays.
+fn row_numbers(alloc: Global, history: &[Row], count: u32) -> Result<Vec<u32>, AllocError>
+    requires within { All (λ row. row.process < count) history.now }
+    requires few { length history.now < 2 ^ 32 }
+    ensures { IfOk result (λ numbers. AreRowNumbers history.now numbers.items) }
 {
-    for (n, row) in history.iter().enumerate() {
-        if row.process == p {
-            return n;
-        }
+    let mut numbers = vec![in alloc; 0; count as usize]?;
+    for n in (0..history.len()).rev() {
+        numbers[history[n].process as usize] = n as u32;
     }
-    unreachable!()
+    Ok(numbers)
 }
 
-fn number_one<R: Drop, P: Drop>(history: &[Row], finding: Finding<R, P>) -> Record<R, P>
-    requires stands { Stands history.now finding }
-    requires few { length history.now < 2 ^ 32 }
-    ensures { IsNumbered history.now finding result }
+/// The record of a finding, by the number of its process's row.
+fn number_one<R: Drop, P: Drop>(row: u32, finding: Finding<R, P>) -> Record<R, P>
+    ensures { (history : List Row) → IsRowFor history row finding.initiator finding.verdict
+        → IsNumbered history finding result }
 {
     let Finding {
         initiator,
@@ -39,7 +38,7 @@ fn number_one<R: Drop, P: Drop>(history: &[Row], finding: Finding<R, P>) -> Reco
     } = finding;
     let source = match run {
         Some(run) => Origin::FromRun(run),
-        None => Origin::FromBoard(row_number(history, initiator) as u32),
+        None => Origin::FromBoard(row),
     };
     Record {
         initiator,
@@ -49,20 +48,24 @@ fn number_one<R: Drop, P: Drop>(history: &[Row], finding: Finding<R, P>) -> Reco
     }
 }
 
-/// Each finding as a record.
+/// Each finding as a record. The history is of so many processes.
 pub(crate) fn number_all<R: Drop, P: Drop>(
     alloc: Global,
     history: &[Row],
+    count: u32,
     found: Vec<Finding<R, P>>,
 ) -> Result<Vec<Record<R, P>>, WorkFault>
-    requires stand { All (Stands history.now) found.items }
+    requires within { All (λ row. row.process < count) history.now }
     requires few { length history.now < 2 ^ 32 }
+    requires stand { All (Stands history.now) found.items }
     ensures ok { IfOk result (λ records. AreNumbered history.now found.items records.items) }
     ensures memory { IfErr result (λ e. e ≡ WorkFault.Memory) }
 {
+    let numbers = row_numbers(alloc, history, count)?;
     let mut records = Vec::new(alloc);
     for finding in found {
-        records.push(number_one(history, finding))?;
+        let row = numbers[finding.initiator as usize];
+        records.push(number_one(row, finding))?;
     }
     Ok(records)
 }

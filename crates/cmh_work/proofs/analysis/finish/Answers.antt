@@ -1,7 +1,8 @@
-use Rattle.std.proofs.Common.{◌≤◌, ◌∙◌, All, IfOk, ap, arith, length, rules, subst, sym}
+use Rattle.std.proofs.Common.{◌<◌, ◌≤◌, ◌∙◌, All, IfOk, ap, arith, length, rules, subst, sym}
 use Rattle.std.specs.List.Sorted.{IsNonDecreasingBy}
 use Rattle.std.proofs.lemmas.List.Sorted.{IsNonDecreasingBy-from_sort, answers_always}
 use Rattle.cmh_graph.specs.Graph.{process_count}
+use Rattle.cmh_rw.specs.declared.row.Row.{Row}
 use Rattle.cmh_rw.specs.History.{IsTrueOf}
 use Rattle.cmh_rw.proofs.Folds.{true-few}
 use Rattle.cmh_board.specs.Board.{known, IsMadeOf}
@@ -10,6 +11,7 @@ use Rattle.cmh_work.specs.Numbering.{Stands, AreNumbered}
 use Rattle.cmh_work.specs.Working.{IsWorked}
 use Rattle.cmh_work.proofs.Analysing.{all_stand, analysed}
 use Rattle.cmh_work.proofs.Faults.{given}
+use Rattle.cmh_work.proofs.Naming.{rows_within}
 use Rattle.cmh_work.proofs.analysis.finish.Goals as goal
 
 pub number_all-requires-clause-stand : goal.number_all-requires-clause-stand
@@ -28,6 +30,17 @@ number_all-requires-clause-stand g c =
     (given c.close.result c.map_err.result c.in_ok-history.history _ _ c.map_err.ensures.cases
     c.in_ok-history.was c.close.ensures.begins) w.of.accounts.sound in
     subst (λ l. All (Stands l) sorted) (sym c.deref.ensures.value) (λ k d low. (sound k d low).stands)
+
+pub number_all-requires-clause-within : goal.number_all-requires-clause-within
+number_all-requires-clause-within g c =
+    let gr = c.args.graph.now in
+    let rows = c.in_ok-history.history.items in
+    let true_of : IsTrueOf gr rows =
+    subst (λ x. IsTrueOf x rows) c.requires.made.board
+    (given c.close.result c.map_err.result c.in_ok-history.history _ _ c.map_err.ensures.cases
+    c.in_ok-history.was c.close.ensures.true_of) in
+    subst (λ n. All (λ (r : Row). r.process < n) c.deref.result.now) (sym c.len.ensures.count)
+    (subst (All (λ (r : Row). r.process < process_count gr)) (sym c.deref.ensures.value) (rows_within gr rows true_of))
 
 pub number_all-requires-clause-few : goal.number_all-requires-clause-few
 number_all-requires-clause-few g c =

@@ -1,0 +1,17 @@
+use Rattle.std.proofs.Common.{◌-◌, ◌∙◌, ap, arith, length, rules}
+use Rattle.std.proofs.lemmas.List.{length-replicate}
+use Rattle.cmh_work.proofs.Naming.{numbers_all, numbers_more, numbers_start}
+use Rattle.cmh_work.proofs.number.row_numbers.Goals as goal
+
+pub loop-n-init : goal.loop-n-init
+loop-n-init c =
+    let zeros = c.in_ok-numbers.ensures.items_if_clones_equal (λ y h. search rules) in
+    numbers_start c.args.history.now c.args.count _ _ (omega arith) (ap length zeros ∙ length-replicate c.args.count 0)
+
+pub loop-n-preserved : goal.loop-n-preserved
+loop-n-preserved c =
+    numbers_more c.args.history.now c.args.count c.loop-n.n (c.loop-n.n - 1) _ _ (omega arith) c.requires.within
+    c.loop-n.invariant
+
+pub returns : goal.returns
+returns c = numbers_all c.args.history.now c.args.count c.loop-n.n _ (omega arith) c.requires.within c.loop-n.invariant
