@@ -3,6 +3,7 @@
 mod cores;
 mod limits;
 mod memory;
+mod reaches;
 mod surface;
 
 use crate::{GraphFault, MAX_IN_TRANSIT, MAX_PROCESSES, Part, State, Verdict, WaitGraph};

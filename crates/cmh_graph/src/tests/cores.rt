@@ -43,7 +43,7 @@ const KNOT_WITH_FOLLOWERS: [Row; 6] = [
 const CORES_WITH_FOLLOWERS: [&[u32]; 6] = [&[0], &[1, 2, 4], &[1, 2, 4], &[3], &[1, 2, 4], &[5]];
 
 /// Two rings of two, of which the first waits for the second, and one who waits for itself.
-const RINGS: [Row; 5] = [
+pub(super) const RINGS: [Row; 5] = [
     ("first", 0, State::Idle, &[3]),
     ("second", 0, State::Idle, &[4]),
     ("alone", 0, State::Idle, &[2]),
@@ -52,6 +52,15 @@ const RINGS: [Row; 5] = [
 ];
 
 const CORES_OF_RINGS: [&[u32]; 5] = [&[0, 3], &[1, 4], &[2], &[0, 3], &[1, 4]];
+
+/// Each waits for the next, and the last for nobody.
+const CHAIN: [Row; 5] = [
+    ("first", 0, State::Idle, &[1]),
+    ("second", 0, State::Idle, &[2]),
+    ("third", 0, State::Idle, &[3]),
+    ("fourth", 0, State::Idle, &[4]),
+    ("last", 0, State::Idle, &[]),
+];
 
 /// Whether each process has its core, by predecessors that are made once for all, and by those
 /// that are made anew.
@@ -82,6 +91,32 @@ fn followers_are_cores_of_their_own(rt: HostRuntime) -> Result<(), Fail> {
 #[test]
 fn a_ring_that_waits_for_another(rt: HostRuntime) -> Result<(), Fail> {
     assert!(rt; has_cores(rt.alloc(), &RINGS, &CORES_OF_RINGS)?);
+    Ok(())
+}
+
+#[test]
+fn who_is_seen_to_be_alone(rt: HostRuntime) -> Result<(), Fail> {
+    let alloc = rt.alloc();
+    let table: [(&[Row], &[bool]); 4] = [
+        // the last waits for nobody, and each of the others for one who is marked
+        (&CHAIN, &[true; 5]),
+        (
+            &KNOT_WITH_SINKS,
+            &[false, false, false, false, true, true, true, true],
+        ),
+        (
+            &KNOT_WITH_FOLLOWERS,
+            &[true, false, false, true, false, true],
+        ),
+        // 2 is a core by itself, but waits for itself, who isn't marked
+        (&RINGS, &[false; 5]),
+    ];
+    for (rows, wanted) in table {
+        let graph = graph_of(alloc, rows)?;
+        let predecessors = Predecessors::of_graph(alloc, &graph)?;
+        let marks = graph.alone(alloc, &predecessors)?;
+        assert!(rt; marks.as_slice() == wanted, "{marks:?}");
+    }
     Ok(())
 }
 

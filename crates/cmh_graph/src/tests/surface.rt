@@ -91,6 +91,20 @@ fn a_message_in_transit(rt: HostRuntime) -> Result<(), GraphFault> {
 }
 
 #[test]
+fn verdicts_by_predecessors(rt: HostRuntime) -> Result<(), GraphFault> {
+    let alloc = rt.alloc();
+    let parts = parts_of(alloc, &CYCLE_AND_FOLLOWER)?;
+    let graph = WaitGraph::build_with(alloc, parts, &[(0, 2)])?;
+    let predecessors: Predecessors = Predecessors::of_graph(alloc, &graph)?;
+    let distances: Vec<Option<u32>> = graph.distances_by(alloc, &predecessors)?;
+    assert_eq!(rt; distances.as_slice(), [None, None, Some(0)].as_slice());
+    let verdicts: Vec<Verdict> = graph.verdicts_by(alloc, &distances)?;
+    let wanted = [Verdict::Deadlocked, Verdict::Deadlocked, Verdict::Free];
+    assert_eq!(rt; verdicts.as_slice(), wanted.as_slice());
+    Ok(())
+}
+
+#[test]
 fn refusals(rt: HostRuntime) {
     let alloc = rt.alloc();
     let table: [(Row, GraphFault); 3] = [
