@@ -13,5 +13,6 @@ pub mod Spreading
 pub mod Stepping
 pub mod Trimming
 pub mod Verdicts
+pub mod Visiting
 pub mod Waking
 pub mod Ways

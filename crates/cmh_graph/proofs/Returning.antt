@@ -48,7 +48,7 @@ places t (x ∷ xs) =
     ∙ places_by (t x) x (length xs) (unmarked_count (map t xs)) (filter t xs) (places t xs)
 
 -- so the unmarked places and the list of the marked ones are all
-marked_and_not : (marks : List Bool)
+pub marked_and_not : (marks : List Bool)
     → unmarked_count marks + length (filter (is_marked marks) (range_with_len 0 (length marks))) ≡ length marks
 marked_and_not marks =
     let all = range_with_len 0 (length marks) in
@@ -240,7 +240,7 @@ first_lowest x xs sorted y c = omega (arith, sorted 0 c.0 y (omega arith) c.1, c
 
 -- Numbers that don't fall, among which are all of a rising list, and which are no more than those,
 -- are the rising list.
-sorted_is : (xs ys : List ℕ) → IsNonDecreasing xs → AllPairs (λ a b. a < b) ys
+pub sorted_is : (xs ys : List ℕ) → IsNonDecreasing xs → AllPairs (λ a b. a < b) ys
     → ((y : ℕ) → Contains ys y → Contains xs y) → length xs ≤ length ys → xs ≡ ys
 sorted_is [] [] sorted rises has l = refl
 sorted_is [] (y ∷ ys) sorted rises has l = absurd (omega (arith, (has y (0, omega arith, refl)).1))

@@ -6,20 +6,19 @@ ghost use Rattle.cmh_graph.specs.Path.{reach_of, reaches, Reaches};
 ghost use Rattle.cmh_graph.specs.Core.{core_of};
 ghost use Rattle.cmh_graph.specs.Search.{ArePredecessors};
 
-use crate::search::marked;
 use crate::{GraphFault, Predecessors, WaitGraph};
 use std::alloc::Global;
 
 impl WaitGraph {
     /// The processes that `p` reaches, itself among them, by rising index. It takes time and
-    /// memory linear in processes and dependencies.
+    /// memory linear in processes and dependencies; where `p` reaches few, time linear in these and
+    /// their dependencies, beside clearing a mark for each process.
     pub fn reach_of(&self, alloc: Global, p: u32) -> Result<Vec<u32>, GraphFault>
         requires { p < process_count self.now }
         ensures ok { IfOk result (λ list. list.items ≡ reach_of self.now p) }
         ensures memory { IfErr result (λ e. e ≡ GraphFault.Memory) }
     {
-        let reached = self.reached_from(alloc, p)?;
-        Ok(marked(alloc, &reached)?)
+        Ok(self.reach_from(alloc, p)?)
     }
 
     /// For each process whether `p` reaches it. It takes the time and memory of `reach_of`.

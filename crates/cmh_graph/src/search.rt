@@ -3,7 +3,7 @@
 ghost use Rattle.std.specs.Prelude.{◌≡◌, ◌==◌, ◌<◌, ◌≤◌, ◌^◌, ℕ, [], ◌∷◌, map, length, filter, if◌then◌else◌, All, Contains, IfOk, OnOk, Some, None};
 ghost use Rattle.std.specs.List.{range_with_len};
 ghost use Rattle.cmh_graph.specs.Graph.{indices, process_count};
-ghost use Rattle.cmh_graph.specs.Path.{reaches, steps_to};
+ghost use Rattle.cmh_graph.specs.Path.{reach_of, reaches, steps_to};
 ghost use Rattle.cmh_graph.specs.Core.{core_of};
 ghost use Rattle.cmh_graph.specs.Search.{is_marked, predecessors_at, ArePredecessors, IsNamedBy, MarksEach, Numbers, SpreadsFrom};
 
@@ -20,6 +20,28 @@ impl WaitGraph {
     {
         let marks = mark_alone(alloc, self.len(), p)?;
         self.spread(alloc, p, marks)
+    }
+
+    /// The processes that `p` reaches, by rising index. Few are sorted: read off the marks of all
+    /// processes, a reach of one would take most of its time for that.
+    pub(crate) fn reach_from(&self, alloc: Global, p: u32) -> Result<Vec<u32>, AllocError>
+        requires { p < process_count self.now }
+        ensures { IfOk result (λ list. list.items ≡ reach_of self.now p) }
+    {
+        self.has_no_fault();
+        let mut marks = mark_alone(alloc, self.len(), p)?;
+        let mut pending = Vec::new(alloc);
+        pending.push(p)?;
+        let mut list = Vec::new(alloc);
+        while let Some(q) = pending.pop() {
+            list.push(q)?;
+            mark_each(self.dependents(q), &mut marks, &mut pending)?;
+        }
+        if list.len() > marks.len() / 32 {
+            return marked(alloc, &marks);
+        }
+        list.sort_unstable();
+        Ok(list)
     }
 
     /// Marks what `p` reaches beside those that are marked, whose dependencies are marked too.
