@@ -65,10 +65,9 @@ impl Words {
         if self.all.capacity() - self.all.len() < places.len() {
             self.forget_taken();
         }
-        self.all.reserve(places.len())?;
-        for place in places {
-            self.all.push_reserved(head + *place as u64);
-        }
+        let start = self.all.len();
+        self.all.resize(start + places.len(), 0)?;
+        write_each(&mut self.all[start..], head, places);
         Ok(())
     }
 
@@ -118,6 +117,7 @@ impl Words {
         self.taken += 1;
         Some(word)
     }
+
     /// Puts the word that the choice names before the others, if there is any.
     #[inline(always)]
     fn arrange(&mut self, choice: u64)
@@ -140,5 +140,18 @@ impl Words {
     {
         let end = self.taken + place as usize + 1;
         self.all[self.taken..end].rotate_right(1);
+    }
+}
+
+/// Puts a word for each of these over what was there. The row is a slice, whose place in memory is
+/// known before the first of them is written: a `Vec` would be asked for it at each.
+#[inline(always)]
+fn write_each(row: &mut [u64], head: u64, places: &[u32])
+    requires length { length row.old ≡ length places.now }
+    requires fits { (k : ℕ) → k < length places.now → head + slice_index places.now k < 2 ^ 64 }
+    ensures { row.new ≡ map (λ (p : ℕ). head + p) places.now }
+{
+    for k in 0..places.len() {
+        row[k] = head + places[k] as u64;
     }
 }
