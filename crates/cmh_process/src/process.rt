@@ -1,7 +1,7 @@
 //! One process of one initiator's computations, and its three steps.
 
 ghost use Rattle.std.specs.Prelude.{◌≡◌, ◌+◌, ◌<◌, ◌^◌};
-ghost use Rattle.cmh_process.specs.Process.{fresh, proc_started, start_action, engages, proc_engaged, engage_action, proc_queried, query_action, proc_replied, reply_action};
+ghost use Rattle.cmh_process.specs.Process.{fresh, proc_started, start_action, engages, proc_engaged, engage_action, proc_queried, query_action, repeat_action, proc_replied, reply_action};
 
 /// What a process keeps for one initiator, under the paper's names.
 #[derive(Clone, Copy, PartialEq, Eq, Hash, Debug)]
@@ -82,7 +82,17 @@ impl Proc {
     {
         if self.is_engaged_by(number) {
             self.engage(number, from, size)
-        } else if self.wait && self.latest == number {
+        } else {
+            self.answer(number, from)
+        }
+    }
+
+    /// What it sends at a query of computation `number` that doesn't engage it, which leaves it as it
+    /// is.
+    pub fn answer(&self, number: u32, from: u32) -> Action
+        ensures { result ≡ repeat_action self.now number from }
+    {
+        if self.latest == number && self.wait {
             Action::ReplyTo(from)
         } else {
             Action::Nothing

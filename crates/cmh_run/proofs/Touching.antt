@@ -1,11 +1,11 @@
 -- Which processes may have heard of anything.
-use Rattle.std.proofs.Common.{inl, inr, ⊎_elim, ◌≡◌, ◌≢◌, ◌∙◌, ℕ, zero, suc, ◌+◌, ◌<◌, false, List, [], ◌∷◌, ◌++◌, length, length-append, arith, ap, sym, refl, subst, replicate}
+use Rattle.std.proofs.Common.{inl, inr, ⊎_elim, ◌≡◌, ◌≢◌, ◌∙◌, ℕ, zero, suc, ◌+◌, ◌<◌, List, [], ◌∷◌, ◌++◌, length, length-append, arith, ap, sym, refl, subst, replicate}
 use Rattle.std.specs.Prelude.{All, Contains, slice_set}
 use Rattle.std.proofs.lemmas.Bool.{cases_eq}
-use Rattle.std.proofs.lemmas.List.{get_or-set_same, get_or-set_other, get_or_append_left, get_or-append-add, length-set, set-get_or}
+use Rattle.std.proofs.lemmas.List.{get_or-set_same, get_or-set_other, get_or_append_left, get_or-append-add, length-set}
 use Rattle.std.proofs.lemmas.List.Elements.{All-append, Contains-append_left, Contains-append_right, Contains-append_cases}
 use Rattle.cmh_process.specs.declared.process.Proc.{Proc}
-use Rattle.cmh_process.specs.Process.{fresh, engages, proc_queried, proc_replied}
+use Rattle.cmh_process.specs.Process.{fresh, proc_replied}
 use Rattle.cmh_run.specs.Config.{proc_at}
 use Rattle.cmh_run.specs.Procs.{AreTouched}
 use Rattle.cmh_run.proofs.Theorem.{fresh_at}
@@ -40,14 +40,7 @@ one_touched touched procs k p h l = record {
       get_or-set_other procs k j p fresh other ∙ h.others j (λ c. out (Contains-append_left touched (k ∷ []) j c));
 }
 
--- a query that doesn't engage its receiver changes nothing
-pub asked_in_vain : (touched : List ℕ) (procs : List Proc) (k number from size : ℕ) → AreTouched touched procs
-    → engages (proc_at procs k) number ≡ false
-    → AreTouched touched (slice_set procs k (proc_queried (proc_at procs k) number from size))
-asked_in_vain touched procs k number from size h stale =
-    subst (AreTouched touched) (sym (rw stale (set-get_or procs k fresh))) h
-
--- nor does a reply to a process that has heard of nothing
+-- a reply to a process that has heard of nothing changes nothing
 pub replied_in_vain : (touched : List ℕ) (procs : List Proc) (k number : ℕ) → AreTouched touched procs
     → k < length procs
     → AreTouched touched (slice_set procs k (proc_replied (proc_at procs k) number))

@@ -166,7 +166,7 @@ impl Network {
 
     /// `deliver`, with what hints say of the receiver, who are asked just before it engages.
     #[inline(always)]
-    #[tactic(auto, using(crate::proofs::Asking::fit_where_asked, crate::proofs::Asking::asked_receives))]
+    #[tactic(auto, using(crate::proofs::Asking::fit_where_asked, crate::proofs::Asking::asked_of_query, crate::proofs::Asking::engaged_receives))]
     pub(crate) fn deliver_asking<H: Hints>(
         &mut self,
         graph: &WaitGraph,
@@ -189,16 +189,20 @@ impl Network {
         ensures silent { H.is_silent hints.old → IfOk result (λ hint. hint ≡ None) }
         ensures kept { H.keeps hints.old hints.new }
     {
-        if self.asks(graph, message) {
-            let Message {
-                number,
-                from,
-                to,
-                ..
-            } = message;
-            return self.engage_asking(graph, initiator, number, from, to, hints);
+        let to = message.to;
+        if graph.is_awake(to) {
+            return Ok(None);
         }
-        self.deliver(graph, initiator, message, None)?;
+        match message.kind {
+            Kind::Query => {
+                let Message { number, from, .. } = message;
+                if self.procs.is_engaged_by(to, number) {
+                    return self.engage_asking(graph, initiator, number, from, to, hints);
+                }
+                self.answer(initiator, message)?;
+            }
+            Kind::Reply => self.reply(initiator, message)?,
+        }
         Ok(None)
     }
 
@@ -251,10 +255,8 @@ impl Network {
         self.engage_hinted(graph, initiator, number, from, to, hint)
     }
 
-    /// A query of `from` is about to engage `to`, of which hints are asked. It stands apart, since few
-    /// deliveries engage, and takes the query's parts, so that no message is copied for it at the
-    /// others.
-    #[inline(never)]
+    /// A query of `from` is about to engage `to`, of which hints are asked.
+    #[inline(always)]
     fn engage_asking<H: Hints>(
         &mut self,
         graph: &WaitGraph,
@@ -282,7 +284,10 @@ impl Network {
         Ok(hint)
     }
 
-    /// What a query of `from` does that engages `to`, of which this is known.
+    /// What a query of `from` does that engages `to`, of which this is known. It stands apart, since
+    /// few deliveries engage, and takes the query's parts, so that no message is copied for it at the
+    /// others.
+    #[inline(never)]
     fn engage_hinted(
         &mut self,
         graph: &WaitGraph,
@@ -342,8 +347,10 @@ impl Network {
         self.act(sender, dependents, action)
     }
 
-    /// A query engages nobody. So it isn't read how many dependents the receiver has.
+    /// A query engages nobody. So it isn't read how many dependents the receiver has, nor asked again
+    /// whether it engages.
     #[inline(always)]
+    #[tactic(auto, using(crate::proofs::Asking::answers))]
     fn answer(&mut self, initiator: u32, message: Message) -> Result<(), AllocError>
         requires within { message.to < length self.old.procs }
         requires stale { IsFalse (engages (proc_at self.old.procs message.to) message.number) }

@@ -1,7 +1,7 @@
 //! The processes of a network, which are made once and used for one run after another.
 
-ghost use Rattle.std.specs.Prelude.{◌≡◌, ◌+◌, ◌<◌, ◌^◌, length, replicate, slice_set, IfOk, OnOk, IsFalse};
-ghost use Rattle.cmh_process.specs.Process.{fresh, proc_started, start_action, engages, proc_queried, query_action, proc_replied, reply_action};
+ghost use Rattle.std.specs.Prelude.{◌≡◌, ◌+◌, ◌<◌, ◌^◌, length, replicate, slice_set, IfOk, OnOk};
+ghost use Rattle.cmh_process.specs.Process.{fresh, proc_started, start_action, engages, proc_queried, query_action, repeat_action, proc_replied, reply_action};
 ghost use Rattle.cmh_run.specs.Config.{proc_at};
 
 use cmh_process::{Action, Proc};
@@ -87,17 +87,12 @@ impl Procs {
         Ok(self.all[k as usize].on_query(number, from, size))
     }
 
-    /// A query that doesn't engage the process has come to it. So it isn't asked how many dependents
-    /// there are.
-    #[tactic(auto, using(crate::proofs::Touching::asked_in_vain))]
-    pub(crate) fn answer(&mut self, k: u32, number: u32, from: u32) -> Action
-        requires within { k < length self.old }
-        requires stale { IsFalse (engages (proc_at self.old k) number) }
-        ensures procs { self.new
-            ≡ slice_set self.old k (proc_queried (proc_at self.old k) number from 0) }
-        ensures action { result ≡ query_action (proc_at self.old k) number from 0 }
+    /// What the process sends at a query with this number that doesn't engage it.
+    pub(crate) fn answer(&self, k: u32, number: u32, from: u32) -> Action
+        requires { k < length self.now }
+        ensures { result ≡ repeat_action (proc_at self.now k) number from }
     {
-        self.all[k as usize].on_query(number, from, 0)
+        self.all[k as usize].answer(number, from)
     }
 
     /// A reply with this number has come to the process.

@@ -37,6 +37,7 @@ fn surface(rt: HostRuntime) {
     assert!(rt; !proc.is_engaged_by(0));
     assert_eq!(rt; proc.on_query(query.number, query.from, 1), Action::Engage);
     assert!(rt; !proc.is_engaged_by(query.number));
+    assert_eq!(rt; proc.answer(query.number, 7), Action::ReplyTo(7));
     assert_eq!(rt; proc.on_query(1, 5, 1), Action::ReplyTo(5));
     assert_eq!(rt; proc.on_reply(1), Action::ReplyTo(0));
     assert_eq!(rt; proc.on_reply(1), Action::Nothing);
