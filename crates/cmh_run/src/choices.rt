@@ -19,12 +19,14 @@ impl<'a> Model for Choices<'a> {
 }
 
 impl<'a> Choices<'a> {
+    /// All of these are to come. They are borrowed, and no memory is taken.
     pub(crate) fn new(all: &'a [u64]) -> Choices<'a>
         ensures { result ≡ all.now }
     {
         Choices { left: all }
     }
 
+    /// The next choice, in constant time.
     #[inline(always)]
     pub(crate) fn next(&mut self) -> u64
         ensures first { result ≡ slice_index self.old 0 }

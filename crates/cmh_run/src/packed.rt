@@ -18,6 +18,7 @@ pub(crate) fn head(kind: Kind, initiator: u32, number: u32, from: u32) -> u64
     (((number as u64 * 2 + bit) * 4_096 + initiator as u64) * 4_096 + from as u64) * 4_096
 }
 
+/// The word of a message, in constant time.
 #[inline(always)]
 #[tactic(auto, using(crate::proofs::Packing::packed_is))]
 pub(crate) fn packed(message: Message) -> u64
@@ -35,6 +36,7 @@ pub(crate) fn packed(message: Message) -> u64
     head(kind, initiator, number, from) + to as u64
 }
 
+/// The message of a word, in constant time: that of which `packed` has made it.
 #[inline(always)]
 pub(crate) fn unpacked(word: u64) -> Message
     ensures message { result ≡ message_of word }
