@@ -1,11 +1,15 @@
 -- Lines that several threads made, and the text that they are joined to.
-use Rattle.std.proofs.Common.{◌≡◌, ℕ, ◌<◌, List, [], ◌∷◌, ◌++◌, map, get_or, length, reverse, take, take_all, append_assoc, refl, sym, ◌∙◌, ap, subst, arith}
+use Rattle.std.proofs.Common.{◌≡◌, ℕ, zero, suc, ◌<◌, List, [], ◌∷◌, ◌++◌, map, drop, get_or, reverse, take, append-nil, append_assoc, length, refl, sym, ◌∙◌, ap, subst}
 use Rattle.std.specs.Prelude.{All, Contains, Result, Ok, Err, IfOk, IsTrue, MatchResult, Option, String, flat_map, string_bytes}
 use Rattle.std.specs.Borrow.{Bor}
 use Rattle.std.specs.Global.{Global, Vec}
 use Rattle.std.specs.List.{AllZip}
+use Rattle.std.proofs.lemmas.List.Concat.{flat_map-append}
+use Rattle.std.proofs.lemmas.List.Elements.{All-cons, All-drop, All-head, All-nil, All-push, All-same, All-tail, All-take}
 use Rattle.std.proofs.lemmas.List.Folds.{flat_map-map}
 use Rattle.std.proofs.lemmas.List.{get_or_default, map-append, reverse-append, reverse-reverse}
+use Rattle.rayon.specs.Lists.{chunks_from, chunks_of}
+use Rattle.rayon.proofs.ToStd.{chunks_of-concat}
 use Rattle.cmh_graph.specs.Graph.{is_idle, Graph, indices, process_count, idle_list}
 use Rattle.cmh_graph.specs.Core.{leaders}
 use Rattle.cmh_graph.proofs.Reaching.{index_within}
@@ -42,11 +46,6 @@ collected {X} E f xs items made (Ok v) shown each all =
     ∙ ap (map f) shown
 collected E f xs items made (Err e) shown each all = tt
 
--- two maps in turn are one
-map_map : {X Y Z : Type 0} (h : Y → Z) (f : X → Y) (xs : List X) → map h (map f xs) ≡ map (λ x. h (f x)) xs
-map_map h f [] = refl
-map_map h f (x ∷ xs) = λ i. h (f x) ∷ map_map h f xs i
-
 -- a map of what is turned around
 map_reverse : {X Y : Type 0} (f : X → Y) (xs : List X) → map f (reverse xs) ≡ reverse (map f xs)
 map_reverse f [] = refl
@@ -56,30 +55,57 @@ map_reverse f (x ∷ xs) =
     ∙ ap (λ ys. ys ++ f x ∷ []) (map_reverse f xs)
     ∙ sym (reverse-append (f x ∷ []) (map f xs))
 
--- what a slice gives that is gone through from its end
-pub reversed : {X : Type 0} (slice : List X) (items shown : List (Bor X))
-    → map (λ (z : Bor X). z.now) shown ≡ take (length shown) slice → length shown ≡ length slice → items ≡ reverse shown
-    → map (λ (z : Bor X). z.now) items ≡ reverse slice
-reversed {X} slice items shown same long turned =
-    ap (map (λ (z : Bor X). z.now)) turned
-    ∙ map_reverse (λ (z : Bor X). z.now) shown
-    ∙ ap reverse (same ∙ take_all (length shown) slice (omega arith))
+-- texts from the last on are those of the items from the last on
+pub texts_turned : {X : Type 0} (f : X → List ℕ) (xs : List X) (texts : List (String Global))
+    → map (λ s. string_bytes s) texts ≡ map f xs → flat_map (λ s. string_bytes s) (reverse texts) ≡ flat_map f (reverse xs)
+texts_turned f xs texts same =
+    sym (flat_map-map (λ ys. ys) (λ s. string_bytes s) (reverse texts))
+    ∙ ap (flat_map (λ ys. ys))
+    (map_reverse (λ s. string_bytes s) texts ∙ ap reverse same ∙ sym (map_reverse f xs))
+    ∙ flat_map-map (λ ys. ys) f (reverse xs)
 
--- the lines of a list of the idle processes, from the last on
-pub of_processes : (g : Graph) (list : List ℕ) → list ≡ idle_list g
-    → map (λ p. line (process_line g p)) (reverse list) ≡ map line (reverse (map (process_line g) (idle_list g)))
-of_processes g list is =
-    map_reverse (λ p. line (process_line g p)) list
-    ∙ ap reverse (ap (map (λ p. line (process_line g p))) is ∙ sym (map_map line (process_line g) (idle_list g)))
-    ∙ sym (map_reverse line (map (process_line g) (idle_list g)))
+-- pieces from the last on, each from its end on, are the whole list from its end on
+pieces_turned : {X : Type 0} (f : X → List ℕ) (pieces : List (List X))
+    → flat_map (λ piece. flat_map f (reverse piece)) (reverse pieces) ≡ flat_map f (reverse (flat_map (λ xs. xs) pieces))
+pieces_turned f [] = refl
+pieces_turned f (piece ∷ pieces) =
+    ap (flat_map (λ xs. flat_map f (reverse xs))) (reverse-append (piece ∷ []) pieces)
+    ∙ flat_map-append (λ xs. flat_map f (reverse xs)) (reverse pieces) (piece ∷ [])
+    ∙ (λ i. pieces_turned f pieces i ++ append-nil (flat_map f (reverse piece)) i)
+    ∙ sym (flat_map-append f (reverse (flat_map (λ xs. xs) pieces)) (reverse piece))
+    ∙ ap (flat_map f) (sym (reverse-append piece (flat_map (λ xs. xs) pieces)))
 
--- the lines of leaders, from the last on, are those of their groups
-pub of_groups : (g : Graph) (list : List ℕ) → list ≡ leaders g
-    → map (λ p. line (group_line g p)) (reverse list) ≡ map line (reverse (map (group_line g) (leaders g)))
-of_groups g list is =
-    map_reverse (λ p. line (group_line g p)) list
-    ∙ ap reverse (ap (map (λ p. line (group_line g p))) is ∙ sym (map_map line (group_line g) (leaders g)))
-    ∙ sym (map_reverse line (map (group_line g) (leaders g)))
+-- the texts of the pieces of a list that is gone through from its end are the text of the list
+pub pieces_joined : {X : Type 0} (f : X → List ℕ) (list falling : List X) (size : ℕ) (texts : List (String Global))
+    → 0 < size → falling ≡ reverse list
+    → map (λ s. string_bytes s) texts ≡ map (λ piece. flat_map f (reverse piece)) (chunks_of size falling)
+    → flat_map (λ s. string_bytes s) (reverse texts) ≡ flat_map f list
+pieces_joined f list falling size texts some turned same =
+    texts_turned (λ piece. flat_map f (reverse piece)) (chunks_of size falling) texts same
+    ∙ pieces_turned f (chunks_of size falling)
+    ∙ ap (λ xs. flat_map f (reverse xs)) (chunks_of-concat size falling some ∙ turned)
+    ∙ ap (flat_map f) (reverse-reverse list)
+
+-- what all items of a list pass, those of its pieces pass
+pub all_pieces : {X : Type 0} (P : X → Type 0) (size : ℕ) (xs : List X) → All P xs → All (All P) (chunks_of size xs)
+all_pieces P size xs h = by_fuel P size (length xs) xs h
+  where
+    by_fuel : {X : Type 0} (P : X → Type 0) (size fuel : ℕ) (xs : List X) → All P xs → All (All P) (chunks_from fuel size xs)
+    by_fuel P size zero xs h = All-nil (All P)
+    by_fuel P size (suc fuel) [] h = All-nil (All P)
+    by_fuel P size (suc fuel) (x ∷ xs) h =
+        All-cons (All P) (take size (x ∷ xs)) (chunks_from fuel size (drop size (x ∷ xs)))
+        (All-take P size (x ∷ xs) h) (by_fuel P size fuel (drop size (x ∷ xs)) (All-drop P size (x ∷ xs) h))
+
+-- and of the list from its end on
+pub all_turned : {X : Type 0} (P : X → Type 0) (xs ys : List X) → ys ≡ reverse xs → All P xs → All P ys
+all_turned P xs ys turned h = subst (All P) (sym turned) (in_turn P xs h)
+  where
+    in_turn : {X : Type 0} (P : X → Type 0) (xs : List X) → All P xs → All P (reverse xs)
+    in_turn P [] h = All-nil P
+    in_turn P (x ∷ xs) h =
+        All-same P (reverse (x ∷ xs)) (reverse xs ++ x ∷ []) (reverse-append (x ∷ []) xs)
+        (All-push P (reverse xs) x (in_turn P xs (All-tail P x xs h)) (All-head P x xs h))
 
 -- each process of the list of the idle ones is one of the graph's
 pub idle_within_list : (g : Graph) (list : List ℕ) → list ≡ idle_list g → All (λ p. p < process_count g) list
@@ -104,37 +130,14 @@ leaders_lead g table list are is =
     let i = index_within (process_count g) (get_or (leaders g) k d) kept.0 in
     (i, led_test g table (get_or (leaders g) k d) (get_or (leaders g) k d) are i ∙ kept.1))
 
--- lines from the last on are those of the words from the last on
-turned : (words : List (List (List ℕ))) (lines : List (String Global)) → AreLines (reverse words) lines
-    → AreLines words (reverse lines)
-turned words lines are =
-    map_reverse (λ s. string_bytes s) lines
-    ∙ ap reverse (are ∙ map_reverse line words)
-    ∙ reverse-reverse (map line words)
-
--- lines one after the other
-one_text : (words : List (List (List ℕ))) (lines : List (String Global)) → AreLines words lines
-    → flat_map (λ s. string_bytes s) lines ≡ flat_map line words
-one_text words lines are =
-    sym (flat_map-map (λ xs. xs) (λ s. string_bytes s) lines)
-    ∙ ap (flat_map (λ xs. xs)) are
-    ∙ flat_map-map (λ xs. xs) line words
-
 -- the totals and all lines are the report
 pub whole_report : (g : Graph) (first text : List ℕ) (processes groups : List (String Global))
-    → first ≡ line (totals_line g) → AreLines (reverse (map (process_line g) (idle_list g))) processes
-    → AreLines (reverse (map (group_line g) (leaders g))) groups
+    → first ≡ line (totals_line g) → AreLines (map (process_line g) (idle_list g)) processes
+    → AreLines (map (group_line g) (leaders g)) groups
     → text ≡ (first ++ flat_map (λ s. string_bytes s) (reverse processes))
     ++ flat_map (λ s. string_bytes s) (reverse groups)
     → text ≡ report_text g
-whole_report g first text processes groups e p q is =
-    let of_idle = map (process_line g) (idle_list g) in
-    let of_leaders = map (group_line g) (leaders g) in
-    is
-    ∙ (λ i.
-    (e i ++ one_text of_idle (reverse processes) (turned of_idle processes p) i)
-    ++ one_text of_leaders (reverse groups) (turned of_leaders groups q) i)
-    ∙ whole_text g
+whole_report g first text processes groups e p q is = is ∙ (λ i. (e i ++ p i) ++ q i) ∙ whole_text g
 
 -- the last line of those that are left goes first
 pub last_appended : (text : List ℕ) (line : String Global) (old new : List (String Global)) → old ≡ new ++ line ∷ []

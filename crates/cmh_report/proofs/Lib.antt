@@ -7,6 +7,7 @@ pub mod Knots
 pub mod Members
 pub mod Numbers
 pub mod Records
+pub mod Spaced
 pub mod TraceExamples
 pub mod Traces
 pub mod Words

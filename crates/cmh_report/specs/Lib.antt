@@ -3,6 +3,7 @@ pub mod Fault
 pub mod Group
 pub mod Knot
 pub mod Lines
+pub mod Names
 pub mod Outline
 pub mod Paths
 pub mod Records

@@ -10,6 +10,7 @@ mod input;
 mod knot;
 pub mod laws;
 mod lines;
+mod names;
 mod outline;
 mod parallel;
 mod paths;
@@ -19,6 +20,7 @@ mod sites;
 mod tests;
 mod text;
 mod trace;
+mod turned;
 
 pub use analyse::analyse_bytes;
 pub use cmh_stream::{ReadOf, Sink, Source, Stopped, WriteOf};

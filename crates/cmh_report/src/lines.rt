@@ -3,39 +3,37 @@
 
 ghost use Rattle.std.specs.Prelude.{◌≡◌, ◌++◌, ◌∷◌, [], ◌<◌, All, OnOk, codes, decimal, string_bytes};
 ghost use Rattle.cmh_graph.specs.Graph.{process_count};
+ghost use Rattle.cmh_report.specs.Names.{AreNamesOf};
 ghost use Rattle.cmh_report.specs.Report.{line, names, names_or_dash, spaced};
 
 use crate::group::Group;
-use crate::pieces::names_room;
+use crate::names::{LastNames, names_room, push_names};
 use cmh_graph::WaitGraph;
-use std::alloc::AllocError;
+use std::alloc::{AllocError, Global};
 
 /// The room for the words and the numbers of a line, names apart.
 const WORDS_ROOM: usize = 32;
 
-/// Appends the name of each process after a space.
-fn push_names(text: &mut String, graph: &WaitGraph, list: &[u32]) -> Result<(), AllocError>
-    requires { All (λ p. p < process_count graph.now) list.now }
-    ensures { OnOk result (string_bytes text.new
-        ≡ string_bytes text.old ++ spaced (names graph.now list.now)) }
-{
-    for p in list {
-        text.push(' ')?;
-        text.push_str(graph.name(*p))?;
-    }
-    Ok(())
-}
-
 /// Appends the names, or a dash where there are none.
-fn push_names_or_dash(text: &mut String, graph: &WaitGraph, list: &[u32]) -> Result<(), AllocError>
-    requires { All (λ p. p < process_count graph.now) list.now }
-    ensures { OnOk result (string_bytes text.new
+fn push_names_or_dash(
+    alloc: Global,
+    text: &mut String,
+    graph: &WaitGraph,
+    list: &[u32],
+    last: &mut LastNames,
+) -> Result<(), AllocError>
+    requires within { All (λ p. p < process_count graph.now) list.now }
+    requires last { AreNamesOf graph.now last.old }
+    ensures text { OnOk result (string_bytes text.new
         ≡ string_bytes text.old ++ spaced (names_or_dash graph.now list.now)) }
+    ensures last { OnOk result (AreNamesOf graph.now last.new) }
 {
     if list.is_empty() {
         return text.push_str(" -");
     }
-    push_names(text, graph, list)
+    last.renew(alloc, graph, list)?;
+    text.reserve(last.text.len().saturating_add(WORDS_ROOM))?;
+    text.push_str(&last.text)
 }
 
 /// Appends the line of a deadlocked process.
@@ -50,43 +48,51 @@ pub(crate) fn push_deadlocked(text: &mut String, name: &str, number: u32) -> Res
 /// Appends the line of a free process with this path.
 #[tactic(auto, using(crate::proofs::Words::free_pieces))]
 pub(crate) fn push_free(
+    alloc: Global,
     text: &mut String,
     graph: &WaitGraph,
     name: &str,
     path: &[u32],
+    last: &mut LastNames,
 ) -> Result<(), AllocError>
-    requires { All (λ p. p < process_count graph.now) path.now }
-    ensures { OnOk result (string_bytes text.new ≡ string_bytes text.old
+    requires within { All (λ p. p < process_count graph.now) path.now }
+    requires last { AreNamesOf graph.now last.old }
+    ensures text { OnOk result (string_bytes text.new ≡ string_bytes text.old
         ++ line (codes "free" ∷ name.now ∷ codes "path" ∷ names graph.now path.now)) }
+    ensures last { OnOk result (AreNamesOf graph.now last.new) }
 {
-    let names = names_room(graph, path).saturating_add(name.len());
+    last.renew(alloc, graph, path)?;
+    let names = last.text.len().saturating_add(name.len());
     text.reserve(names.saturating_add(WORDS_ROOM))?;
     write!(text, "free {name} path")?;
-    push_names(text, graph, path)?;
+    text.push_str(&last.text)?;
     text.push_str("\n")?;
     Ok(())
 }
 
 /// Appends the line of a group.
 pub(crate) fn push_group(
+    alloc: Global,
     text: &mut String,
     graph: &WaitGraph,
     group: &Group,
+    last: &mut LastNames,
 ) -> Result<(), AllocError>
     requires core { All (λ p. p < process_count graph.now) group.now.core.items }
     requires rest { All (λ p. p < process_count graph.now) group.now.rest.items }
-    ensures { OnOk result (string_bytes text.new ≡ string_bytes text.old
+    requires last { AreNamesOf graph.now last.old }
+    ensures text { OnOk result (string_bytes text.new ≡ string_bytes text.old
         ++ line (codes "group" ∷ decimal group.now.number
         ∷ codes "|" ∷ names graph.now group.now.core.items
         ++ codes "|" ∷ names_or_dash graph.now group.now.rest.items
         ++ codes "|" ∷ codes "sites" ∷ decimal group.now.site_count ∷ [])) }
+    ensures last { OnOk result (AreNamesOf graph.now last.new) }
 {
-    let names = names_room(graph, &group.core).saturating_add(names_room(graph, &group.rest));
-    text.reserve(names.saturating_add(WORDS_ROOM))?;
+    text.reserve(names_room(graph, &group.core).saturating_add(WORDS_ROOM))?;
     write!(text, "group {} |", group.number)?;
     push_names(text, graph, &group.core)?;
     text.push_str(" |")?;
-    push_names_or_dash(text, graph, &group.rest)?;
+    push_names_or_dash(alloc, text, graph, &group.rest, last)?;
     write!(text, " | sites {}\n", group.site_count)?;
     Ok(())
 }

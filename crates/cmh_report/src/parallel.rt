@@ -1,13 +1,14 @@
-//! The lines of the report, made by several threads. Whichever thread makes a line, it stands in its
-//! place. Lines are made from the last to the first, and joined from the first on: what was taken
-//! last is given back first, so that the heap can shrink while the text grows.
+//! The lines of the report, made by several threads in pieces of text. Whichever thread makes a piece,
+//! it stands in its place. Lines are made from the last to the first, and joined from the first on: what
+//! was taken last is given back first, so that the heap can shrink while the text grows.
 
-ghost use Rattle.std.specs.Prelude.{◌≡◌, ◌<◌, IfOk, IsTrue, map, reverse, string_bytes};
+ghost use Rattle.std.specs.Prelude.{◌≡◌, ◌<◌, All, IfOk, IsTrue, flat_map, map, reverse, string_bytes};
 ghost use Rattle.cmh_graph.specs.Core.{leaders};
 ghost use Rattle.cmh_graph.specs.Graph.{idle_list, process_count};
 ghost use Rattle.cmh_report.specs.Group.{AreGroupsOf, is_led_by};
 ghost use Rattle.cmh_report.specs.Knot.{IsKnotOf};
 ghost use Rattle.cmh_report.specs.Lines.{AreLines};
+ghost use Rattle.cmh_report.specs.Names.{AreNamesOf};
 ghost use Rattle.cmh_report.specs.Paths.{ArePathsOf};
 ghost use Rattle.cmh_report.specs.Report.{line, process_line, group_line};
 
@@ -15,14 +16,16 @@ use crate::group::group_of;
 use crate::groups::Groups;
 use crate::knot::Knot;
 use crate::lines::{push_deadlocked, push_free, push_group};
+use crate::names::LastNames;
 use crate::paths::Paths;
 use crate::pieces::{group_piece, process_piece};
+use crate::turned::text_from_last;
 use cmh_graph::WaitGraph;
 use rayon::prelude::*;
 use std::alloc::{AllocError, Global};
 use std::thread::Threads;
 
-/// The lines of the idle processes, by falling index.
+/// The lines of the idle processes, in pieces from the last to the first.
 pub(crate) fn process_lines<R: Threads + Sync>(
     rt: &R,
     alloc: Global,
@@ -32,26 +35,25 @@ pub(crate) fn process_lines<R: Threads + Sync>(
 ) -> Result<Vec<String>, AllocError>
     requires groups { AreGroupsOf graph.now groups.now }
     requires paths { ArePathsOf graph.now paths.now }
-    ensures { IfOk result (λ lines.
-        AreLines (reverse (map (process_line graph.now) (idle_list graph.now))) lines.items) }
+    ensures { IfOk result (λ texts.
+        AreLines (map (process_line graph.now) (idle_list graph.now)) texts.items) }
 {
-    paths
-        .idle
-        .par_iter()
-        .rev()
-        .with_min_len(process_piece(paths))
+    let idle = from_last(alloc, &paths.idle)?;
+    idle.as_slice()
+        .par_chunks(process_piece(paths))
+        .with_min_len(1)
         .map(
-            |p: &u32| -> Result<String, AllocError>
+            |piece: &[u32]| -> Result<String, AllocError>
                 requires { AreGroupsOf graph.now groups.now × ArePathsOf graph.now paths.now
-                    × (p.now < process_count graph.now) }
+                    × All (λ p. p < process_count graph.now) piece.now }
                 ensures { IfOk result (λ text. string_bytes text
-                    ≡ line (process_line graph.entry.now p.now)) }
-            { line_of_process(alloc, graph, groups, paths, *p) },
+                    ≡ flat_map (λ p. line (process_line graph.entry.now p)) (reverse piece.now)) }
+            { process_text(alloc, graph, groups, paths, piece) },
         )
         .collect::<Result<Vec<String>, AllocError>>(rt, alloc)?
 }
 
-/// The lines of the groups, by falling number.
+/// The lines of the groups, in pieces from the last to the first.
 pub(crate) fn group_lines<R: Threads + Sync>(
     rt: &R,
     alloc: Global,
@@ -61,23 +63,79 @@ pub(crate) fn group_lines<R: Threads + Sync>(
 ) -> Result<Vec<String>, AllocError>
     requires groups { AreGroupsOf graph.now groups.now }
     requires knot { IsKnotOf graph.now knot.now }
-    ensures { IfOk result (λ lines.
-        AreLines (reverse (map (group_line graph.now) (leaders graph.now))) lines.items) }
+    ensures { IfOk result (λ texts.
+        AreLines (map (group_line graph.now) (leaders graph.now)) texts.items) }
 {
-    groups
-        .list
-        .par_iter()
-        .rev()
-        .with_min_len(group_piece(graph))
+    let leaders = from_last(alloc, &groups.list)?;
+    leaders
+        .as_slice()
+        .par_chunks(group_piece(graph, leaders.len()))
+        .with_min_len(1)
         .map(
-            |leader: &u32| -> Result<String, AllocError>
+            |piece: &[u32]| -> Result<String, AllocError>
                 requires { AreGroupsOf graph.now groups.now × IsKnotOf graph.now knot.now
-                    × (leader.now < process_count graph.now) × IsTrue (is_led_by groups.now.leaders.items leader.now leader.now) }
+                    × All (λ p. (p < process_count graph.now) × IsTrue (is_led_by groups.now.leaders.items p p)) piece.now }
                 ensures { IfOk result (λ text. string_bytes text
-                    ≡ line (group_line graph.entry.now leader.now)) }
-            { line_of_group(alloc, graph, groups, knot, *leader) },
+                    ≡ flat_map (λ p. line (group_line graph.entry.now p)) (reverse piece.now)) }
+            { group_text(alloc, graph, groups, knot, piece) },
         )
         .collect::<Result<Vec<String>, AllocError>>(rt, alloc)?
+}
+
+/// The list from its end on.
+fn from_last(alloc: Global, list: &[u32]) -> Result<Vec<u32>, AllocError>
+    ensures { IfOk result (λ turned. turned.items ≡ reverse list.now) }
+{
+    let mut turned = Vec::from_slice(alloc, list)?;
+    turned.reverse();
+    Ok(turned)
+}
+
+/// The lines of these processes, which come from the last to the first.
+fn process_text(
+    alloc: Global,
+    graph: &WaitGraph,
+    groups: &Groups,
+    paths: &Paths,
+    piece: &[u32],
+) -> Result<String, AllocError>
+    requires groups { AreGroupsOf graph.now groups.now }
+    requires paths { ArePathsOf graph.now paths.now }
+    requires within { All (λ p. p < process_count graph.now) piece.now }
+    ensures { IfOk result (λ text. string_bytes text
+        ≡ flat_map (λ p. line (process_line graph.now p)) (reverse piece.now)) }
+{
+    let mut lines = Vec::new(alloc);
+    let mut last = LastNames::new(alloc);
+    for p in piece {
+        let line = line_of_process(alloc, graph, groups, paths, *p, &mut last)?;
+        lines.push(line)?;
+    }
+    text_from_last(alloc, lines)
+}
+
+/// The lines of the groups of these leaders, who come from the last to the first.
+fn group_text(
+    alloc: Global,
+    graph: &WaitGraph,
+    groups: &Groups,
+    knot: &Knot,
+    piece: &[u32],
+) -> Result<String, AllocError>
+    requires groups { AreGroupsOf graph.now groups.now }
+    requires knot { IsKnotOf graph.now knot.now }
+    requires lead { All (λ p. (p < process_count graph.now)
+        × IsTrue (is_led_by groups.now.leaders.items p p)) piece.now }
+    ensures { IfOk result (λ text. string_bytes text
+        ≡ flat_map (λ p. line (group_line graph.now p)) (reverse piece.now)) }
+{
+    let mut lines = Vec::new(alloc);
+    let mut last = LastNames::new(alloc);
+    for leader in piece {
+        let line = line_of_group(alloc, graph, groups, knot, *leader, &mut last)?;
+        lines.push(line)?;
+    }
+    text_from_last(alloc, lines)
 }
 
 /// The line of an idle process, which is free where nobody leads it.
@@ -87,11 +145,14 @@ fn line_of_process(
     groups: &Groups,
     paths: &Paths,
     p: u32,
+    last: &mut LastNames,
 ) -> Result<String, AllocError>
     requires groups { AreGroupsOf graph.now groups.now }
     requires paths { ArePathsOf graph.now paths.now }
     requires within { p < process_count graph.now }
-    ensures { IfOk result (λ text. string_bytes text ≡ line (process_line graph.now p)) }
+    requires last { AreNamesOf graph.now last.old }
+    ensures text { IfOk result (λ text. string_bytes text ≡ line (process_line graph.now p)) }
+    ensures last { IfOk result (λ _. AreNamesOf graph.now last.new) }
 {
     let mut text = String::new(alloc);
     match groups.leaders[p as usize] {
@@ -100,7 +161,7 @@ fn line_of_process(
         }
         None => {
             let path = paths.path_of(alloc, graph, p)?;
-            push_free(&mut text, graph, graph.name(p), &path)?;
+            push_free(alloc, &mut text, graph, graph.name(p), &path, last)?;
         }
     }
     Ok(text)
@@ -113,15 +174,18 @@ fn line_of_group(
     groups: &Groups,
     knot: &Knot,
     leader: u32,
+    last: &mut LastNames,
 ) -> Result<String, AllocError>
     requires within { leader < process_count graph.now }
     requires groups { AreGroupsOf graph.now groups.now }
     requires knot { IsKnotOf graph.now knot.now }
     requires leads { IsTrue (is_led_by groups.now.leaders.items leader leader) }
-    ensures { IfOk result (λ text. string_bytes text ≡ line (group_line graph.now leader)) }
+    requires last { AreNamesOf graph.now last.old }
+    ensures text { IfOk result (λ text. string_bytes text ≡ line (group_line graph.now leader)) }
+    ensures last { IfOk result (λ _. AreNamesOf graph.now last.new) }
 {
     let group = group_of(alloc, graph, groups, knot, leader)?;
     let mut text = String::new(alloc);
-    push_group(&mut text, graph, &group)?;
+    push_group(alloc, &mut text, graph, &group, last)?;
     Ok(text)
 }

@@ -1,8 +1,7 @@
 //! How much memory lines are given at once, and how many lines are worth a thread. Nothing here
 //! changes a byte of the report.
 
-ghost use Rattle.std.specs.Prelude.{◌<◌, All};
-ghost use Rattle.cmh_graph.specs.Graph.{process_count};
+ghost use Rattle.std.specs.Prelude.{◌<◌};
 
 use crate::paths::Paths;
 use cmh_graph::WaitGraph;
@@ -10,8 +9,14 @@ use cmh_graph::WaitGraph;
 /// About how many steps, each a few instructions, take as long as a thread takes to start.
 const THREAD_STEPS: usize = 65_536;
 
-/// How few lines of processes are worth a thread: the fewer, the longer their paths are.
-pub(crate) fn process_piece(paths: &Paths) -> usize {
+/// How many pieces there are at most. In each the names of the first line are all written anew.
+const PIECES: usize = 64;
+
+/// How many lines of processes make a piece that is worth a thread: the fewer, the longer their paths
+/// are.
+pub(crate) fn process_piece(paths: &Paths) -> usize
+    ensures { 0 < result }
+{
     let mut names = 0usize;
     for distance in &paths.distances {
         if let Some(distance) = distance {
@@ -21,31 +26,25 @@ pub(crate) fn process_piece(paths: &Paths) -> usize {
     piece(paths.idle.len(), names)
 }
 
-/// How few lines of groups are worth a thread, where each takes a search of the whole graph.
-pub(crate) fn group_piece(graph: &WaitGraph) -> usize {
+/// The same of so many lines of groups, where each takes a search of the whole graph.
+pub(crate) fn group_piece(graph: &WaitGraph, lines: usize) -> usize
+    ensures { 0 < result }
+{
     let mut steps = 0usize;
     for p in 0..graph.len() {
         steps = steps
             .saturating_add(1)
             .saturating_add(graph.dependents(p).len());
     }
-    piece(1, steps)
+    piece(lines, steps.saturating_mul(lines))
 }
 
-/// How few of so many lines, which take so many steps, are worth a thread.
-fn piece(lines: usize, steps: usize) -> usize {
-    (lines.saturating_mul(THREAD_STEPS) / steps.max(1)).max(1)
-}
-
-/// The room for each name after a space.
-pub(crate) fn names_room(graph: &WaitGraph, list: &[u32]) -> usize
-    requires { All (λ p. p < process_count graph.now) list.now }
+/// How many of so many lines, which take so many steps, make a piece.
+fn piece(lines: usize, steps: usize) -> usize
+    ensures { 0 < result }
 {
-    let mut room = 0usize;
-    for p in list {
-        room = room.saturating_add(1).saturating_add(graph.name(*p).len());
-    }
-    room
+    let worth = lines.saturating_mul(THREAD_STEPS) / steps.max(1);
+    worth.max(lines.div_ceil(PIECES)).max(1)
 }
 
 /// The room for lines one after the other.

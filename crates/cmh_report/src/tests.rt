@@ -7,6 +7,7 @@ mod large;
 mod memory;
 mod more_cases;
 mod plans;
+mod shared;
 mod surface;
 mod traces;
 mod tracing;

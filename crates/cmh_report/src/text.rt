@@ -1,6 +1,6 @@
 //! The report as text.
 
-ghost use Rattle.std.specs.Prelude.{◌≡◌, ◌++◌, IfOk, OnOk, flat_map, reverse, string_bytes};
+ghost use Rattle.std.specs.Prelude.{◌≡◌, ◌++◌, IfOk, flat_map, reverse, string_bytes};
 ghost use Rattle.cmh_report.specs.Outline.{IsOutlineOf};
 ghost use Rattle.cmh_report.specs.Records.{AreRecordsOf, IsSomeAnalysisOf};
 ghost use Rattle.cmh_report.specs.Report.{report_text};
@@ -11,6 +11,7 @@ use crate::outline::Outline;
 use crate::parallel::{group_lines, process_lines};
 use crate::paths::Paths;
 use crate::pieces::lines_room;
+use crate::turned::append;
 use cmh_graph::WaitGraph;
 use cmh_run::{Log, ProcessList, RunLog};
 use cmh_work::{Analysis, Record};
@@ -71,7 +72,8 @@ pub(crate) fn text_of<R: Threads + Sync>(
     joined(alloc, &outline.totals, of_processes, of_groups)
 }
 
-/// The lines one after the other, where those of processes and those of groups come in falling order.
+/// The lines one after the other, where those of processes and those of groups come in pieces from the
+/// last to the first.
 fn joined(
     alloc: Global,
     first: &str,
@@ -88,15 +90,4 @@ fn joined(
     append(&mut text, of_processes)?;
     append(&mut text, of_groups)?;
     Ok(text)
-}
-
-/// Appends the lines, the last first. Each is given back once it stands in the text.
-fn append(text: &mut String, mut lines: Vec<String>) -> Result<(), AllocError>
-    ensures { OnOk result (string_bytes text.new
-        ≡ string_bytes text.old ++ flat_map (λ s. string_bytes s) (reverse lines.items)) }
-{
-    while let Some(line) = lines.pop() {
-        text.push_str(&line)?;
-    }
-    Ok(())
 }

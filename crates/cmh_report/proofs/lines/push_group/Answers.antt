@@ -4,13 +4,13 @@ use Rattle.cmh_report.specs.Report.{names, names_or_dash, spaced}
 use Rattle.cmh_report.proofs.Words.{group_pieces}
 use Rattle.cmh_report.proofs.lines.push_group.Goals as goal
 
-pub returns : goal.returns
-returns c =
+pub returns-clause-text : goal.returns-clause-text
+returns-clause-text c =
     let g = c.args.graph.now in
     let core = c.in_ok-push_names.ensures
-    ∙ ap (λ ps. string_bytes c.write.new.self ++ spaced (names g ps)) c.deref-3.ensures.value in
-    let rest = c.in_ok-push_names_or_dash.ensures
-    ∙ ap (λ ps. string_bytes c.push_str.new.self ++ spaced (names_or_dash g ps)) c.deref-4.ensures.value in
+    ∙ ap (λ ps. string_bytes c.write.new.self ++ spaced (names g ps)) c.deref-2.ensures.value in
+    let rest = c.in_ok-push_names_or_dash.ensures.text
+    ∙ ap (λ ps. string_bytes c.push_str.new.self ++ spaced (names_or_dash g ps)) c.deref-3.ensures.value in
     let front = codes "group " ++ (decimal c.args.group.now.number ++ codes " |") in
     let first : string_bytes c.write.new.self ≡ string_bytes c.args.text.now ++ front =
     c.in_ok-write.ensures.bytes ∙ ap (λ xs. xs ++ front) c.reserve.ensures.bytes in

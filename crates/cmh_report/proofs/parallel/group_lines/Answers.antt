@@ -1,72 +1,56 @@
-use Rattle.std.proofs.Common.{ℕ, ◌<◌, arith, reverse, subst, sym}
-use Rattle.std.specs.Prelude.{IsTrue}
-use Rattle.std.proofs.Crossing.{crosses, frees}
-use denote.Param.Send.{sendable}
+use Rattle.std.proofs.Common.{ℕ, List, ◌<◌, ◌∙◌, ap, arith, max, reverse, subst, sym}
+use Rattle.std.specs.Prelude.{All, IsTrue, flat_map}
 use Rattle.std.specs.declared.alloc.AllocError.{AllocError}
+use Rattle.std.proofs.lemmas.List.Folds.{flat_map-map}
+use Rattle.rayon.specs.Lists.{chunks_of}
+use Rattle.rayon.proofs.ListFacts.{IfOk-then}
+use Rattle.cmh_graph.specs.Core.{leaders}
 use Rattle.cmh_graph.specs.Graph.{process_count}
 use Rattle.cmh_report.specs.Group.{is_led_by}
 use Rattle.cmh_report.specs.Report.{line, group_line}
-use Rattle.cmh_report.proofs.Joining.{collected, reversed, leaders_lead, of_groups}
+use Rattle.cmh_report.proofs.Joining.{all_pieces, all_turned, collected, leaders_lead, pieces_joined}
 use Rattle.cmh_report.proofs.parallel.group_lines.Goals as goal
 
--- one line for each `Send` and `Sync`, the allocator, and then the closure's `requires` at each leader
-pub collect-requires : goal.collect-requires
-collect-requires g c κs =
-    let groups = c.requires.groups in
-    let knot = c.requires.knot in
+-- each piece has leaders alone
+pub collect-requires-clause-ready : goal.collect-requires-clause-ready
+collect-requires-clause-ready g c κs within =
     let graph = c.args.graph.now in
-    let list = c.args.groups.now.leaders.items in
-    let lead = leaders_lead graph list c.args.groups.now.list.items groups.leaders groups.list in
-    let at : ℕ → Type 0 = λ p. (p < process_count graph) × IsTrue (is_led_by list p p) in (
-      search (sendable, crosses) depth 60 fits 100000,
-      (
-        search (sendable, crosses) depth 60 fits 100000,
-        (
-          search (sendable, crosses) depth 60 fits 100000,
-          (
-            search (sendable, crosses) depth 60 fits 100000,
-            (
-              search (sendable, crosses) depth 60 fits 100000,
-              (
-                frees,
-                rw (
-                  c.map.ensures.base,
-                  c.map.ensures.f,
-                  c.with_min_len.ensures.base,
-                  c.rev.ensures.base,
-                  c.rev.ensures.low,
-                  c.rev.ensures.high,
-                  c.par_iter.ensures,
-                ) (
-                  omega arith,
-                  omega arith,
-                  λ k d lt x same.
-                      let here = subst at (sym same) (lead k d lt) in
-                      ((groups, knot, here.0, here.1), λ y p. tt),
-                ),
-              ),
-            ),
-          ),
-        ),
-      ),
-    )
+    let table = c.args.groups.now.leaders.items in
+    let list = c.args.groups.now.list.items in
+    let at : ℕ → Type 0 = λ p. (p < process_count graph) × IsTrue (is_led_by table p p) in
+    let turned = c.as_slice.ensures.value ∙ c.in_ok-leaders.ensures ∙ ap reverse c.deref.ensures.value in
+    let pieces = all_pieces at (max c.group_piece.result 1) c.as_slice.result.now
+    (all_turned at list c.as_slice.result.now turned
+    (leaders_lead graph table list c.requires.groups.leaders c.requires.groups.list)) in
+    rw (
+      c.map.ensures.base,
+      c.map.ensures.f,
+      c.with_min_len.ensures.base,
+      c.par_chunks.ensures.slice,
+      c.par_chunks.ensures.size,
+    ) (λ k d lt x same.
+    ((c.requires.groups, c.requires.knot, subst (All at) (sym same) (pieces k d lt)), λ y p. tt))
 
 pub returns : goal.returns
 returns g c =
     let graph = c.args.graph.now in
+    let text = λ (p : ℕ). line (group_line graph p) in
+    let size = max c.group_piece.result 1 in
+    let falling = c.as_slice.result.now in
+    let turned = c.as_slice.ensures.value ∙ c.in_ok-leaders.ensures
+    ∙ ap reverse (c.deref.ensures.value ∙ c.requires.groups.list) in
     let h = c.in_ok-collect.ensures in
     let chain =
     rw (
       c.map.ensures.base,
       c.map.ensures.f,
       c.with_min_len.ensures.base,
-      c.rev.ensures.base,
-      c.rev.ensures.low,
-      c.rev.ensures.high,
-      c.par_iter.ensures,
+      c.par_chunks.ensures.slice,
+      c.par_chunks.ensures.size,
     ) at h.1 in
-    let turned = chain.1 in
-    let shown = reversed c.args.groups.now.list.items chain.0 turned.0 turned.1 (omega (arith, turned.2)) turned.3 in
-    rw (← of_groups graph c.args.groups.now.list.items c.requires.groups.list)
-    (collected AllocError (λ p. line (group_line graph p))
-    (reverse c.args.groups.now.list.items) chain.0 h.0 c.in_ok-collect.field-0 shown chain.2 h.2)
+    IfOk-then c.in_ok-collect.field-0 _ _
+    (collected AllocError (λ (piece : List ℕ). flat_map text (reverse piece)) (chunks_of size falling)
+    chain.0 h.0 c.in_ok-collect.field-0 chain.1 chain.2 h.2)
+    (λ texts same.
+    pieces_joined text (leaders graph) falling size texts.items (omega arith) turned same
+    ∙ sym (flat_map-map line (group_line graph) (leaders graph)))

@@ -14,12 +14,12 @@ push_group-requires-clause-core c =
 pub push_group-requires-clause-rest : goal.push_group-requires-clause-rest
 push_group-requires-clause-rest c = rest_within c.args.graph.now c.args.leader _ c.in_ok-group.ensures.rest
 
-pub returns : goal.returns
-returns c =
+pub returns-clause-text : goal.returns-clause-text
+returns-clause-text c =
     let g = c.args.graph.now in
     let p = c.args.leader in
     let same = c.in_ok-group.ensures in
-    c.in_ok-push_group.ensures
+    c.in_ok-push_group.ensures.text
     ∙ ap (λ words. string_bytes c.new-text.result ++ line words)
     (group_words g p _ _ _ _ same.number same.core same.rest same.sites)
     ∙ ap (λ xs. xs ++ line (group_line g p)) c.new-text.ensures.bytes

@@ -52,13 +52,13 @@ path_of-requires-clause-free c =
     ∙ c.in-None.is)
 
 -- the path goes along processes of the graph
-pub push_free-requires : goal.push_free-requires
-push_free-requires c =
+pub push_free-requires-clause-within : goal.push_free-requires-clause-within
+push_free-requires-clause-within c =
     path_within c.args.graph.now c.args.p c.deref.result.now c.requires.paths.well_formed.within c.requires.within
     (c.in_ok-path-in-None.ensures ∙ ap Some (sym c.deref.ensures.value))
 
-pub returns : goal.returns
-returns c =
+pub returns-clause-text : goal.returns-clause-text
+returns-clause-text c =
     let g = c.args.graph.now in
     let p = c.args.p in
     let leader =
@@ -81,7 +81,7 @@ returns c =
           let free : is_deadlocked g p ≡ false = no_leader g p (leader ∙ w.in-None.is) in
           let chosen = w.deref.ensures.value ∙ ap (λ o. unwrap_or o []) (sym w.in_ok-path-in-None.ensures) in
           ap string_bytes w.text-is
-          ∙ w.in_ok-push_free-in-None.ensures
+          ∙ w.in_ok-push_free-in-None.ensures.text
           ∙ ap (λ words. string_bytes c.new-text.result ++ line words)
           (free_words g p w.name-in-None.result.now w.deref.result.now free w.name-in-None.ensures chosen)
           ∙ empty

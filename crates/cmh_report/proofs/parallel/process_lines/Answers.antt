@@ -1,69 +1,52 @@
-use Rattle.std.proofs.Common.{ℕ, ◌<◌, arith, reverse, subst, sym}
-use Rattle.std.proofs.Crossing.{crosses, frees}
-use denote.Param.Send.{sendable}
+use Rattle.std.proofs.Common.{ℕ, List, ◌<◌, ◌∙◌, ap, arith, max, reverse, subst, sym}
+use Rattle.std.specs.Prelude.{All, flat_map}
 use Rattle.std.specs.declared.alloc.AllocError.{AllocError}
-use Rattle.cmh_graph.specs.Graph.{process_count}
+use Rattle.std.proofs.lemmas.List.Folds.{flat_map-map}
+use Rattle.rayon.specs.Lists.{chunks_of}
+use Rattle.rayon.proofs.ListFacts.{IfOk-then}
+use Rattle.cmh_graph.specs.Graph.{idle_list, process_count}
 use Rattle.cmh_report.specs.Report.{line, process_line}
-use Rattle.cmh_report.proofs.Joining.{collected, reversed, idle_within_list, of_processes}
+use Rattle.cmh_report.proofs.Joining.{all_pieces, all_turned, collected, idle_within_list, pieces_joined}
 use Rattle.cmh_report.proofs.parallel.process_lines.Goals as goal
 
--- one line for each `Send` and `Sync`, the allocator, and then the closure's `requires` at each process
-pub collect-requires : goal.collect-requires
-collect-requires g c κs =
-    let groups = c.requires.groups in
-    let paths = c.requires.paths in
+-- each piece has idle processes alone
+pub collect-requires-clause-ready : goal.collect-requires-clause-ready
+collect-requires-clause-ready g c κs within =
     let graph = c.args.graph.now in
-    let within = idle_within_list graph c.args.paths.now.idle.items paths.idle in
-    let at : ℕ → Type 0 = λ p. p < process_count graph in (
-      search (sendable, crosses) depth 60 fits 100000,
-      (
-        search (sendable, crosses) depth 60 fits 100000,
-        (
-          search (sendable, crosses) depth 60 fits 100000,
-          (
-            search (sendable, crosses) depth 60 fits 100000,
-            (
-              search (sendable, crosses) depth 60 fits 100000,
-              (
-                frees,
-                rw (
-                  c.map.ensures.base,
-                  c.map.ensures.f,
-                  c.with_min_len.ensures.base,
-                  c.rev.ensures.base,
-                  c.rev.ensures.low,
-                  c.rev.ensures.high,
-                  c.par_iter.ensures,
-                ) (
-                  omega arith,
-                  omega arith,
-                  λ k d lt x same.
-                      let here = subst at (sym same) (within k d lt) in
-                      ((groups, paths, here), λ y p. tt),
-                ),
-              ),
-            ),
-          ),
-        ),
-      ),
-    )
+    let at : ℕ → Type 0 = λ p. p < process_count graph in
+    let idle = c.args.paths.now.idle.items in
+    let turned = c.as_slice.ensures.value ∙ c.in_ok-idle.ensures ∙ ap reverse c.deref.ensures.value in
+    let pieces = all_pieces at (max c.process_piece.result 1) c.as_slice.result.now
+    (all_turned at idle c.as_slice.result.now turned (idle_within_list graph idle c.requires.paths.idle)) in
+    rw (
+      c.map.ensures.base,
+      c.map.ensures.f,
+      c.with_min_len.ensures.base,
+      c.par_chunks.ensures.slice,
+      c.par_chunks.ensures.size,
+    ) (λ k d lt x same.
+    ((c.requires.groups, c.requires.paths, subst (All at) (sym same) (pieces k d lt)), λ y p. tt))
 
 pub returns : goal.returns
 returns g c =
     let graph = c.args.graph.now in
+    let text = λ (p : ℕ). line (process_line graph p) in
+    let size = max c.process_piece.result 1 in
+    let falling = c.as_slice.result.now in
+    let turned = c.as_slice.ensures.value ∙ c.in_ok-idle.ensures
+    ∙ ap reverse (c.deref.ensures.value ∙ c.requires.paths.idle) in
     let h = c.in_ok-collect.ensures in
     let chain =
     rw (
       c.map.ensures.base,
       c.map.ensures.f,
       c.with_min_len.ensures.base,
-      c.rev.ensures.base,
-      c.rev.ensures.low,
-      c.rev.ensures.high,
-      c.par_iter.ensures,
+      c.par_chunks.ensures.slice,
+      c.par_chunks.ensures.size,
     ) at h.1 in
-    let turned = chain.1 in
-    let shown = reversed c.args.paths.now.idle.items chain.0 turned.0 turned.1 (omega (arith, turned.2)) turned.3 in
-    rw (← of_processes graph c.args.paths.now.idle.items c.requires.paths.idle)
-    (collected AllocError (λ p. line (process_line graph p))
-    (reverse c.args.paths.now.idle.items) chain.0 h.0 c.in_ok-collect.field-0 shown chain.2 h.2)
+    IfOk-then c.in_ok-collect.field-0 _ _
+    (collected AllocError (λ (piece : List ℕ). flat_map text (reverse piece)) (chunks_of size falling)
+    chain.0 h.0 c.in_ok-collect.field-0 chain.1 chain.2 h.2)
+    (λ texts same.
+    pieces_joined text (idle_list graph) falling size texts.items (omega arith) turned same
+    ∙ sym (flat_map-map line (process_line graph) (idle_list graph)))

@@ -6,5 +6,8 @@ use Rattle.rayon.proofs.ListFacts.{IfOk-then}
 pub returns : goal.returns
 returns g c =
     let first = c.deref.ensures ∙ c.requires.totals in
+    let processes = c.in_ok-of_processes in
+    let groups = c.in_ok-of_groups in
     IfOk-then c.joined.result _ _ c.joined.ensures (λ text is.
-    whole_report c.args.graph.now _ _ _ _ first c.in_ok-of_processes.ensures c.in_ok-of_groups.ensures is)
+    whole_report c.args.graph.now _ _ processes.of_processes.items groups.of_groups.items
+    first processes.ensures groups.ensures is)

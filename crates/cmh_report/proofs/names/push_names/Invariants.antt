@@ -1,7 +1,7 @@
 use Rattle.std.proofs.Common.{◌≡◌, ◌++◌, take}
 use Rattle.std.specs.Prelude.{string_bytes}
 use Rattle.cmh_report.specs.Report.{names, spaced}
-use Rattle.cmh_report.proofs.lines.push_names.Given as goal
+use Rattle.cmh_report.proofs.names.push_names.Given as goal
 
 abbrev pub invariant-loop-p : goal.invariant-loop-p
 invariant-loop-p l =
