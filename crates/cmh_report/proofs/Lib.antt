@@ -1,3 +1,4 @@
+pub mod Beyond
 pub mod ChosenPaths
 pub mod Counting
 pub mod Counts

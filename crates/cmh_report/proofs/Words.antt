@@ -1,5 +1,5 @@
 -- Lines of words, and the lines of the report, one after the other.
-use Rattle.std.proofs.Common.{◌≡◌, ℕ, ◌+◌, List, [], ◌∷◌, ◌++◌, map, true, false, refl, sym, ◌∙◌, ap, append-nil, append_assoc}
+use Rattle.std.proofs.Common.{◌≡◌, ℕ, List, [], ◌∷◌, ◌++◌, map, true, false, refl, sym, ◌∙◌, ap, append-nil, append_assoc}
 use Rattle.std.specs.Prelude.{flat_map, codes, decimal, unwrap_or}
 use Rattle.std.specs.List.{join_with_byte}
 use Rattle.std.proofs.lemmas.List.Concat.{flat_map-append}

@@ -2,6 +2,7 @@ pub mod Ends
 pub mod Fault
 pub mod Group
 pub mod Knot
+pub mod Known
 pub mod Lines
 pub mod Names
 pub mod Outline

@@ -1,15 +1,15 @@
 //! One group: its number, its members and how many sites they are on.
 
-ghost use Rattle.std.specs.Prelude.{◌≡◌, ◌<◌, ◌^◌, length, filter, not, All, IfOk, IsTrue};
-ghost use Rattle.std.specs.List.{range_with_len};
+ghost use Rattle.std.specs.Prelude.{◌≡◌, ◌<◌, length, filter, not, All, IfOk, IfSome, IsTrue};
 ghost use Rattle.cmh_graph.specs.Graph.{process_count};
-ghost use Rattle.cmh_graph.specs.Path.{reach_of};
+ghost use Rattle.cmh_graph.specs.Path.{Reaches};
 ghost use Rattle.cmh_report.specs.Group.{is_led_by, AreGroupsOf, IsGroupOf};
-ghost use Rattle.cmh_graph.specs.Search.{is_marked};
 ghost use Rattle.cmh_report.specs.Knot.{IsKnotOf};
+ghost use Rattle.cmh_report.specs.Known.{ArePartsOf, IsKnownOf};
 
 use crate::groups::{Groups, is_led_by};
-use crate::knot::Knot;
+use crate::knot::{Knot, base};
+use crate::known::{Known, Parts, parts_from, parts_of};
 use crate::sites::count_sites;
 use cmh_graph::{GraphFault, WaitGraph};
 use std::alloc::{AllocError, Global};
@@ -23,62 +23,63 @@ pub(crate) struct Group {
     pub(crate) site_count: usize,
 }
 
-/// The group of a leader. The graph is searched once, but for what the knot reaches.
+/// The group of a leader, and whom the leader reaches. Of the line before it is told what is known.
 pub(crate) fn group_of(
     alloc: Global,
     graph: &WaitGraph,
     groups: &Groups,
     knot: &Knot,
+    last: &Option<Known>,
     leader: u32,
-) -> Result<Group, AllocError>
+) -> Result<(Group, Known), AllocError>
     requires within { leader < process_count graph.now }
     requires groups { AreGroupsOf graph.now groups.now }
     requires knot { IsKnotOf graph.now knot.now }
+    requires last { IfSome last.now (IsKnownOf graph.now) }
     requires leads { IsTrue (is_led_by groups.now.leaders.items leader leader) }
-    ensures { IfOk result (IsGroupOf graph.now leader) }
+    ensures group { IfOk result (λ made. IsGroupOf graph.now leader made.0) }
+    ensures known { IfOk result (λ made. IsKnownOf graph.now made.1) }
 {
-    let reach = reach_of(alloc, graph, groups, knot, leader)?;
-    let (core, rest) = core_and_rest(alloc, &groups.leaders, leader, &reach)?;
-    let site_count = count_sites(alloc, graph, knot.site_bound, &reach)?;
-    Ok(Group {
+    let parts = parts_by(
+        alloc,
+        graph,
+        groups,
+        leader,
+        base(graph, groups, knot, last, leader),
+    )?;
+    let site_count = count_sites(alloc, graph, knot.site_bound, &parts.known.reach)?;
+    let Parts { known, core, rest } = parts;
+    let group = Group {
         number: groups.numbers[leader as usize],
         core,
         rest,
         site_count,
-    })
+    };
+    Ok((group, known))
 }
 
-/// The processes that a leader reaches, by rising index.
-fn reach_of(
+/// The parts of a leader. The graph is searched once, but for what the base reaches.
+fn parts_by(
     alloc: Global,
     graph: &WaitGraph,
     groups: &Groups,
-    knot: &Knot,
     leader: u32,
-) -> Result<Vec<u32>, AllocError>
+    base: Option<&Known>,
+) -> Result<Parts, AllocError>
     requires within { leader < process_count graph.now }
     requires groups { AreGroupsOf graph.now groups.now }
-    requires knot { IsKnotOf graph.now knot.now }
-    ensures { IfOk result (λ list. list.items ≡ reach_of graph.now leader) }
+    requires leads { IsTrue (is_led_by groups.now.leaders.items leader leader) }
+    requires base { IfSome base (λ known.
+        IsKnownOf graph.now known.now × Reaches graph.now leader known.now.leader) }
+    ensures { IfOk result (ArePartsOf graph.now leader) }
 {
-    let marks = knot.reached(alloc, graph, groups, leader)?;
-    marked(alloc, &marks)
-}
-
-/// The marked places, by rising index.
-#[tactic(auto, using(cmh_graph::proofs::Listing::filter_indices_kept, cmh_graph::proofs::Listing::filter_indices_passed))]
-fn marked(alloc: Global, marks: &[bool]) -> Result<Vec<u32>, AllocError>
-    requires { length marks.now < 2 ^ 32 }
-    ensures { IfOk result (λ list.
-        list.items ≡ filter (is_marked marks.now) (range_with_len 0 (length marks.now))) }
-{
-    let mut list = Vec::new(alloc);
-    for p in 0..marks.len() {
-        if marks[p] {
-            list.push(p as u32)?;
+    match base {
+        Some(known) => parts_from(alloc, graph, groups, leader, known),
+        None => {
+            let marks = graph.reached(alloc, leader).map_err(out_of_memory)?;
+            parts_of(alloc, graph, groups, leader, marks)
         }
     }
-    Ok(list)
 }
 
 /// A question to a graph fails for want of memory alone.
@@ -89,7 +90,7 @@ pub(crate) fn out_of_memory(_fault: GraphFault) -> AllocError
 }
 
 /// The core and the rest of a group, by the processes that its leader reaches.
-fn core_and_rest(
+pub(crate) fn core_and_rest(
     alloc: Global,
     leaders: &[Option<u32>],
     leader: u32,

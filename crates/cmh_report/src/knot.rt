@@ -1,13 +1,14 @@
 //! The group whose reach is searched once for all lines: many groups may wait for it.
 
-ghost use Rattle.std.specs.Prelude.{◌≡◌, ◌<◌, map, length, All, Contains, IfOk, IfSome, IsTrue};
-ghost use Rattle.cmh_graph.specs.Graph.{indices, process_count};
-ghost use Rattle.cmh_graph.specs.Path.{reaches, Reaches};
+ghost use Rattle.std.specs.Prelude.{◌<◌, length, All, Contains, IfOk, IfSome, IsTrue};
+ghost use Rattle.cmh_graph.specs.Graph.{process_count};
+ghost use Rattle.cmh_graph.specs.Path.{Reaches};
 ghost use Rattle.cmh_report.specs.Group.{AreGroupsOf};
-ghost use Rattle.cmh_report.specs.Knot.{HasLed};
+ghost use Rattle.cmh_report.specs.Knot.{HasLed, IsKnotOf};
+ghost use Rattle.cmh_report.specs.Known.{IsKnownOf};
 
-use crate::group::out_of_memory;
 use crate::groups::{Groups, is_led_by};
+use crate::known::{Known, known_of};
 use crate::sites::site_bound;
 use cmh_graph::WaitGraph;
 use std::alloc::{AllocError, Global};
@@ -15,10 +16,8 @@ use std::alloc::{AllocError, Global};
 /// What the lines of groups share.
 #[derive(Drop)]
 pub(crate) struct Knot {
-    /// Who leads the greatest group, if there is one.
-    pub(crate) leader: Option<u32>,
-    /// For each process whether that leader reaches it.
-    pub(crate) marks: Vec<bool>,
+    /// Whom the leader of the greatest group reaches, if there is one.
+    pub(crate) most: Option<Known>,
     /// One more than the greatest site.
     pub(crate) site_bound: usize,
 }
@@ -36,53 +35,54 @@ impl Knot {
         ensures { IfOk result (IsKnotOf graph.now) }
     {
         let leader = leader_of_most(alloc, groups)?;
-        let marks = reached_by(alloc, graph, leader)?;
+        let most = known_if_any(alloc, graph, leader)?;
         Ok(Knot {
-            leader,
-            marks,
+            most,
             site_bound: site_bound(graph),
         })
     }
-
-    /// For each process whether that leader reaches it. Where its group waits for the knot, the search
-    /// goes on from what the knot reaches.
-    pub(crate) fn reached(
-        &self,
-        alloc: Global,
-        graph: &WaitGraph,
-        groups: &Groups,
-        leader: u32,
-    ) -> Result<Vec<bool>, AllocError>
-        requires knot { IsKnotOf graph.now self.now }
-        requires groups { AreGroupsOf graph.now groups.now }
-        requires within { leader < process_count graph.now }
-        ensures { IfOk result (λ marks.
-            marks.items ≡ map (reaches graph.now leader) (indices graph.now)) }
-    {
-        if let Some(known) = self.leader {
-            if waits_for(graph, groups, leader, known) {
-                return graph
-                    .reached_by(alloc, leader, known, &self.marks)
-                    .map_err(out_of_memory);
-            }
-        }
-        graph.reached(alloc, leader).map_err(out_of_memory)
-    }
 }
 
-/// For each process whether that leader reaches it, if there is one.
-fn reached_by(
+/// What is known from which the search for whom a leader reaches can go on, if there is any: of the
+/// line before, or of the greatest group.
+pub(crate) fn base<'a>(
+    graph: &WaitGraph,
+    groups: &Groups,
+    knot: &'a Knot,
+    last: &'a Option<Known>,
+    leader: u32,
+) -> Option<&'a Known>
+    requires groups { AreGroupsOf graph.now groups.now }
+    requires knot { IsKnotOf graph.now knot.now }
+    requires last { IfSome last.now (IsKnownOf graph.now) }
+    requires within { leader < process_count graph.now }
+    ensures { IfSome result (λ base. IsKnownOf graph.now base.now × Reaches graph.now leader base.now.leader) }
+{
+    if let Some(known) = last {
+        if waits_for(graph, groups, leader, known.leader) {
+            return Some(known);
+        }
+    }
+    if let Some(known) = &knot.most {
+        if waits_for(graph, groups, leader, known.leader) {
+            return Some(known);
+        }
+    }
+    None
+}
+
+/// Whom that leader reaches, if there is one.
+fn known_if_any(
     alloc: Global,
     graph: &WaitGraph,
     leader: Option<u32>,
-) -> Result<Vec<bool>, AllocError>
+) -> Result<Option<Known>, AllocError>
     requires { IfSome leader (λ l. l < process_count graph.now) }
-    ensures { IfOk result (λ marks. IfSome leader (λ l.
-        marks.items ≡ map (reaches graph.now l) (indices graph.now))) }
+    ensures { IfOk result (λ known. IfSome known (IsKnownOf graph.now)) }
 {
     match leader {
-        Some(leader) => graph.reached(alloc, leader).map_err(out_of_memory),
-        None => Ok(Vec::new(alloc)),
+        Some(leader) => Ok(Some(known_of(alloc, graph, leader)?)),
+        None => Ok(None),
     }
 }
 

@@ -8,6 +8,7 @@ mod group;
 mod groups;
 mod input;
 mod knot;
+mod known;
 pub mod laws;
 mod lines;
 mod names;

@@ -2,11 +2,12 @@
 //! it stands in its place. Lines are made from the last to the first, and joined from the first on: what
 //! was taken last is given back first, so that the heap can shrink while the text grows.
 
-ghost use Rattle.std.specs.Prelude.{◌≡◌, ◌<◌, All, IfOk, IsTrue, flat_map, map, reverse, string_bytes};
+ghost use Rattle.std.specs.Prelude.{◌≡◌, ◌<◌, All, IfOk, IfSome, IsTrue, flat_map, map, reverse, string_bytes};
 ghost use Rattle.cmh_graph.specs.Core.{leaders};
 ghost use Rattle.cmh_graph.specs.Graph.{idle_list, process_count};
 ghost use Rattle.cmh_report.specs.Group.{AreGroupsOf, is_led_by};
 ghost use Rattle.cmh_report.specs.Knot.{IsKnotOf};
+ghost use Rattle.cmh_report.specs.Known.{IsKnownOf};
 ghost use Rattle.cmh_report.specs.Lines.{AreLines};
 ghost use Rattle.cmh_report.specs.Names.{AreNamesOf};
 ghost use Rattle.cmh_report.specs.Paths.{ArePathsOf};
@@ -15,6 +16,7 @@ ghost use Rattle.cmh_report.specs.Report.{line, process_line, group_line};
 use crate::group::group_of;
 use crate::groups::Groups;
 use crate::knot::Knot;
+use crate::known::Known;
 use crate::lines::{push_deadlocked, push_free, push_group};
 use crate::names::LastNames;
 use crate::paths::Paths;
@@ -131,8 +133,9 @@ fn group_text(
 {
     let mut lines = Vec::new(alloc);
     let mut last = LastNames::new(alloc);
+    let mut known = None;
     for leader in piece {
-        let line = line_of_group(alloc, graph, groups, knot, *leader, &mut last)?;
+        let line = line_of_group(alloc, graph, groups, knot, *leader, &mut known, &mut last)?;
         lines.push(line)?;
     }
     text_from_last(alloc, lines)
@@ -174,17 +177,21 @@ fn line_of_group(
     groups: &Groups,
     knot: &Knot,
     leader: u32,
+    known: &mut Option<Known>,
     last: &mut LastNames,
 ) -> Result<String, AllocError>
     requires within { leader < process_count graph.now }
     requires groups { AreGroupsOf graph.now groups.now }
     requires knot { IsKnotOf graph.now knot.now }
     requires leads { IsTrue (is_led_by groups.now.leaders.items leader leader) }
+    requires known { IfSome known.old (IsKnownOf graph.now) }
     requires last { AreNamesOf graph.now last.old }
     ensures text { IfOk result (λ text. string_bytes text ≡ line (group_line graph.now leader)) }
+    ensures known { IfOk result (λ _. IfSome known.new (IsKnownOf graph.now)) }
     ensures last { IfOk result (λ _. AreNamesOf graph.now last.new) }
 {
-    let group = group_of(alloc, graph, groups, knot, leader)?;
+    let (group, reached) = group_of(alloc, graph, groups, knot, known, leader)?;
+    *known = Some(reached);
     let mut text = String::new(alloc);
     push_group(alloc, &mut text, graph, &group, last)?;
     Ok(text)

@@ -21,10 +21,10 @@ use std::thread::Threads;
 /// The report on a graph that was analysed: a line of counts, a line for each idle process, and a
 /// line for each group of deadlocked processes. The analysis is of this graph. The graph is searched
 /// once for each group and once for all distances, by which each path is walked; a group that waits
-/// for the greatest one goes on from the reach of that. The rest takes time close to linear in the
-/// processes and in the text. Where there is much to do, the lines are made by
-/// as many threads as there are processors. Memory is taken for the lines and for the whole text; a
-/// line is given back once it stands in the text.
+/// for the greatest one, or for the group after it, goes on from the reach of that. The rest takes time
+/// close to linear in the processes and in the text. Where there is much to do, the lines are made by
+/// as many threads as there are processors. Memory is taken for the lines and for the whole text; lines
+/// are given back once they stand in the text.
 ///
 /// # Errors
 ///

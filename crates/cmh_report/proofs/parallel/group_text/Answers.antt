@@ -8,6 +8,7 @@ use Rattle.cmh_report.proofs.parallel.group_text.Goals as goal
 pub loop-leader-init : goal.loop-leader-init
 loop-leader-init c = record {
   lines = ap (map (λ s. string_bytes s)) c.new-lines.ensures.items;
+  known = tt;
   last = c.new-last.ensures c.args.graph.now;
 }
 

@@ -9,16 +9,16 @@ use Rattle.cmh_report.proofs.parallel.line_of_group.Goals as goal
 
 pub push_group-requires-clause-core : goal.push_group-requires-clause-core
 push_group-requires-clause-core c =
-    members_within c.args.graph.now c.args.leader (process_count c.args.graph.now) _ c.in_ok-group.ensures.core refl
+    members_within c.args.graph.now c.args.leader (process_count c.args.graph.now) _ c.in_ok-group.ensures.group.core refl
 
 pub push_group-requires-clause-rest : goal.push_group-requires-clause-rest
-push_group-requires-clause-rest c = rest_within c.args.graph.now c.args.leader _ c.in_ok-group.ensures.rest
+push_group-requires-clause-rest c = rest_within c.args.graph.now c.args.leader _ c.in_ok-group.ensures.group.rest
 
 pub returns-clause-text : goal.returns-clause-text
 returns-clause-text c =
     let g = c.args.graph.now in
     let p = c.args.leader in
-    let same = c.in_ok-group.ensures in
+    let same = c.in_ok-group.ensures.group in
     c.in_ok-push_group.ensures.text
     ∙ ap (λ words. string_bytes c.new-text.result ++ line words)
     (group_words g p _ _ _ _ same.number same.core same.rest same.sites)

@@ -3,19 +3,19 @@ use Rattle.cmh_graph.specs.Path.{reaches}
 use Rattle.cmh_graph.proofs.Listing.{length-by_index}
 use Rattle.cmh_graph.proofs.Spreading.{reach_listed}
 use Rattle.rayon.proofs.ListFacts.{IfOk-then}
-use Rattle.cmh_report.proofs.group.reach_of.Goals as goal
+use Rattle.cmh_report.proofs.known.reach_of.Goals as goal
 
 pub marked-requires : goal.marked-requires
 marked-requires c =
     let g = c.args.graph.now in
     omega (
       arith,
-      ap length (c.deref.ensures.value ∙ c.in_ok-marks.ensures),
+      ap length c.requires,
       length-by_index g (reaches g c.args.leader),
-      c.requires.groups.well_formed.processes,
+      c.law_built_graph.ensures.processes,
     )
 
 pub returns : goal.returns
 returns c =
     IfOk-then c.marked.result _ _ c.marked.ensures
-    (λ list is. is ∙ reach_listed c.args.graph.now c.args.leader _ (c.deref.ensures.value ∙ c.in_ok-marks.ensures))
+    (λ list is. is ∙ reach_listed c.args.graph.now c.args.leader _ c.requires)
