@@ -1,5 +1,6 @@
 //! What a reader and a writer are asked, call by call.
 
+use super::{expect, expect_eq};
 use crate::{ReadOf, Sink, Source, Stopped, WriteFault, WriteOf, put_all};
 use std::alloc::AllocError;
 use std::io;
@@ -44,12 +45,12 @@ fn a_read_that_is_interrupted_once(rt: HostRuntime) {
     };
     let mut source = ReadOf::new(&mut reader);
     let mut buf = [0u8; 4];
-    assert_eq!(rt; source.fill(&mut buf), Ok(4));
+    expect_eq(&rt, source.fill(&mut buf), Ok(4));
     for _ in 0..3 {
-        assert_eq!(rt; source.fill(&mut buf), Err(Stopped));
-        assert!(rt; source.failed());
+        expect_eq(&rt, source.fill(&mut buf), Err(Stopped));
+        expect(&rt, source.failed());
     }
-    assert_eq!(rt; reader.reads, 2);
+    expect_eq(&rt, reader.reads, 2);
 }
 
 #[test]
@@ -61,12 +62,12 @@ fn a_reader_that_goes_on_after_its_end(rt: HostRuntime) {
     };
     let mut source = ReadOf::new(&mut reader);
     let mut buf = [0u8; 4];
-    assert_eq!(rt; source.fill(&mut buf), Ok(4));
+    expect_eq(&rt, source.fill(&mut buf), Ok(4));
     for _ in 0..3 {
-        assert_eq!(rt; source.fill(&mut buf), Ok(0));
-        assert!(rt; !source.failed());
+        expect_eq(&rt, source.fill(&mut buf), Ok(0));
+        expect(&rt, !source.failed());
     }
-    assert_eq!(rt; reader.reads, 2);
+    expect_eq(&rt, reader.reads, 2);
 }
 
 #[test]
@@ -78,8 +79,8 @@ fn one_large_fill(rt: HostRuntime) -> Result<(), AllocError> {
     };
     let mut source = ReadOf::new(&mut reader);
     let mut buf = vec![in rt.alloc(); 0u8; SIXTY_FOUR_KILOBYTES]?;
-    assert_eq!(rt; source.fill(&mut buf), Ok(SIXTY_FOUR_KILOBYTES));
-    assert_eq!(rt; reader.reads, 1);
+    expect_eq(&rt, source.fill(&mut buf), Ok(SIXTY_FOUR_KILOBYTES));
+    expect_eq(&rt, reader.reads, 1);
     Ok(())
 }
 
@@ -125,30 +126,38 @@ fn ledger_of(good_writes: usize, good_flushes: usize) -> Ledger {
 fn a_write_that_is_interrupted_once(rt: HostRuntime) {
     let mut writer = ledger_of(1, NEVER);
     let mut sink = WriteOf::new(&mut writer);
-    assert_eq!(rt; sink.put(b"abc"), Ok(3));
+    expect_eq(&rt, sink.put(b"abc"), Ok(3));
     for _ in 0..3 {
-        assert_eq!(rt; sink.put(b"abc"), Err(Stopped));
-        assert!(rt; sink.failed());
-        assert_eq!(rt; sink.finish(), Err(Stopped));
+        expect_eq(&rt, sink.put(b"abc"), Err(Stopped));
+        expect(&rt, sink.failed());
+        expect_eq(&rt, sink.finish(), Err(Stopped));
     }
-    assert_eq!(rt; put_all(&mut sink, b"abc"), Err(WriteFault { written: 0 }));
-    assert_eq!(rt; writer.writes, 2);
-    assert_eq!(rt; writer.flushes, 0);
+    expect_eq(
+        &rt,
+        put_all(&mut sink, b"abc"),
+        Err(WriteFault { written: 0 }),
+    );
+    expect_eq(&rt, writer.writes, 2);
+    expect_eq(&rt, writer.flushes, 0);
 }
 
 #[test]
 fn a_flush_that_fails_once(rt: HostRuntime) {
     let mut writer = ledger_of(NEVER, 1);
     let mut sink = WriteOf::new(&mut writer);
-    assert_eq!(rt; put_all(&mut sink, b"abc"), Ok(()));
-    assert_eq!(rt; put_all(&mut sink, b"de"), Err(WriteFault { written: 2 }));
+    expect_eq(&rt, put_all(&mut sink, b"abc"), Ok(()));
+    expect_eq(
+        &rt,
+        put_all(&mut sink, b"de"),
+        Err(WriteFault { written: 2 }),
+    );
     for _ in 0..3 {
-        assert!(rt; sink.failed());
-        assert_eq!(rt; sink.finish(), Err(Stopped));
-        assert_eq!(rt; sink.put(b"f"), Err(Stopped));
+        expect(&rt, sink.failed());
+        expect_eq(&rt, sink.finish(), Err(Stopped));
+        expect_eq(&rt, sink.put(b"f"), Err(Stopped));
     }
-    assert_eq!(rt; writer.writes, 2);
-    assert_eq!(rt; writer.flushes, 2);
+    expect_eq(&rt, writer.writes, 2);
+    expect_eq(&rt, writer.flushes, 2);
 }
 
 #[test]
@@ -156,10 +165,10 @@ fn one_large_put(rt: HostRuntime) -> Result<(), AllocError> {
     let bytes = vec![in rt.alloc(); b'x'; TWO_MEGABYTES]?;
     let mut writer = ledger_of(NEVER, NEVER);
     let mut sink = WriteOf::new(&mut writer);
-    assert_eq!(rt; sink.put(&bytes), Ok(TWO_MEGABYTES));
-    assert_eq!(rt; sink.finish(), Ok(()));
-    assert_eq!(rt; put_all(&mut sink, &bytes), Ok(()));
-    assert_eq!(rt; writer.writes, 2);
-    assert_eq!(rt; writer.flushes, 2);
+    expect_eq(&rt, sink.put(&bytes), Ok(TWO_MEGABYTES));
+    expect_eq(&rt, sink.finish(), Ok(()));
+    expect_eq(&rt, put_all(&mut sink, &bytes), Ok(()));
+    expect_eq(&rt, writer.writes, 2);
+    expect_eq(&rt, writer.flushes, 2);
     Ok(())
 }

@@ -1,6 +1,7 @@
 //! What comes out of sources.
 
 use super::memory::Bytes;
+use super::{expect, expect_eq};
 use crate::{ReadOf, Source, Stopped};
 use std::io;
 use std::io::{ErrorKind, Read};
@@ -30,16 +31,16 @@ impl Read for Interrupted<'_> {
 fn reads_in_pieces(rt: HostRuntime) {
     let mut source = ReadOf::new(b"seven b".as_slice());
     let mut buf = [0u8; 3];
-    assert_eq!(rt; source.fill(&mut []), Ok(0));
-    assert_eq!(rt; source.fill(&mut buf), Ok(3));
-    assert_eq!(rt; buf, *b"sev");
-    assert_eq!(rt; source.fill(&mut buf), Ok(3));
-    assert_eq!(rt; buf, *b"en ");
-    assert_eq!(rt; source.fill(&mut buf), Ok(1));
-    assert_eq!(rt; buf[0], b'b');
-    assert_eq!(rt; source.fill(&mut buf), Ok(0));
-    assert_eq!(rt; source.fill(&mut buf), Ok(0));
-    assert!(rt; !source.failed());
+    expect_eq(&rt, source.fill(&mut []), Ok(0));
+    expect_eq(&rt, source.fill(&mut buf), Ok(3));
+    expect_eq(&rt, buf, *b"sev");
+    expect_eq(&rt, source.fill(&mut buf), Ok(3));
+    expect_eq(&rt, buf, *b"en ");
+    expect_eq(&rt, source.fill(&mut buf), Ok(1));
+    expect_eq(&rt, buf[0], b'b');
+    expect_eq(&rt, source.fill(&mut buf), Ok(0));
+    expect_eq(&rt, source.fill(&mut buf), Ok(0));
+    expect(&rt, !source.failed());
 }
 
 #[test]
@@ -51,28 +52,28 @@ fn an_interrupted_reader_stops(rt: HostRuntime) {
     };
     let mut source = ReadOf::new(reader);
     let mut buf = [0u8; 4];
-    assert_eq!(rt; source.fill(&mut buf), Ok(4));
-    assert_eq!(rt; source.fill(&mut buf), Ok(1));
-    assert!(rt; !source.failed());
-    assert_eq!(rt; source.fill(&mut buf), Err(Stopped));
-    assert!(rt; source.failed());
-    assert_eq!(rt; source.fill(&mut buf), Err(Stopped));
-    assert!(rt; source.failed());
+    expect_eq(&rt, source.fill(&mut buf), Ok(4));
+    expect_eq(&rt, source.fill(&mut buf), Ok(1));
+    expect(&rt, !source.failed());
+    expect_eq(&rt, source.fill(&mut buf), Err(Stopped));
+    expect(&rt, source.failed());
+    expect_eq(&rt, source.fill(&mut buf), Err(Stopped));
+    expect(&rt, source.failed());
 }
 
 #[test]
 fn a_source_of_ones_own(rt: HostRuntime) {
     let mut source = Bytes::new(b"seven b", 7);
     let mut buf = [0u8; 5];
-    assert_eq!(rt; source.fill(&mut buf), Ok(5));
-    assert_eq!(rt; buf, *b"seven");
-    assert_eq!(rt; source.fill(&mut buf), Ok(2));
-    assert_eq!(rt; source.fill(&mut buf), Ok(0));
-    assert!(rt; !source.failed());
+    expect_eq(&rt, source.fill(&mut buf), Ok(5));
+    expect_eq(&rt, buf, *b"seven");
+    expect_eq(&rt, source.fill(&mut buf), Ok(2));
+    expect_eq(&rt, source.fill(&mut buf), Ok(0));
+    expect(&rt, !source.failed());
 
     let mut broken = Bytes::new(b"seven b", 6);
-    assert_eq!(rt; broken.fill(&mut buf), Ok(5));
-    assert_eq!(rt; broken.fill(&mut buf), Err(Stopped));
-    assert!(rt; broken.failed());
-    assert_eq!(rt; broken.fill(&mut buf), Err(Stopped));
+    expect_eq(&rt, broken.fill(&mut buf), Ok(5));
+    expect_eq(&rt, broken.fill(&mut buf), Err(Stopped));
+    expect(&rt, broken.failed());
+    expect_eq(&rt, broken.fill(&mut buf), Err(Stopped));
 }

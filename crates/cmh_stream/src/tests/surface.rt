@@ -1,5 +1,6 @@
 //! Each public item as a client writes it.
 
+use super::expect_eq;
 use crate::{ReadOf, Sink, Source, Stopped, WriteFault, WriteOf, put_all};
 
 /// Hands the bytes of a source to a sink, in pieces.
@@ -20,10 +21,10 @@ fn every_item(rt: HostRuntime) {
     let mut bytes = Vec::new(rt.alloc());
     let mut source = ReadOf::new(b"seven b".as_slice());
     let mut sink = WriteOf::new(&mut bytes);
-    assert_eq!(rt; copy(&mut source, &mut sink), Ok(()));
-    assert_eq!(rt; source.failed(), false);
-    assert_eq!(rt; sink.failed(), false);
+    expect_eq(&rt, copy(&mut source, &mut sink), Ok(()));
+    expect_eq(&rt, source.failed(), false);
+    expect_eq(&rt, sink.failed(), false);
     let answer: Result<(), WriteFault> = put_all(&mut sink, b".");
-    assert_eq!(rt; answer, Ok(()));
-    assert_eq!(rt; bytes.as_slice(), b"seven b.".as_slice());
+    expect_eq(&rt, answer, Ok(()));
+    expect_eq(&rt, bytes.as_slice(), b"seven b.".as_slice());
 }

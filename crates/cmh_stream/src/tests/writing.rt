@@ -1,6 +1,7 @@
 //! What goes into sinks.
 
 use super::memory::Page;
+use super::{expect, expect_eq};
 use crate::{Sink, Stopped, WriteFault, WriteOf, put_all};
 use std::io;
 use std::io::{ErrorKind, Write};
@@ -48,19 +49,19 @@ fn narrow_writer(rt: HostRuntime, room: usize) -> Narrow {
 fn a_narrow_writer_gets_it_all(rt: HostRuntime) {
     let mut writer = narrow_writer(rt, 100);
     let mut sink = WriteOf::new(&mut writer);
-    assert_eq!(rt; put_all(&mut sink, TEXT), Ok(()));
-    assert_eq!(rt; put_all(&mut sink, b""), Ok(()));
-    assert!(rt; !sink.failed());
-    assert_eq!(rt; writer.bytes.as_slice(), TEXT);
+    expect_eq(&rt, put_all(&mut sink, TEXT), Ok(()));
+    expect_eq(&rt, put_all(&mut sink, b""), Ok(()));
+    expect(&rt, !sink.failed());
+    expect_eq(&rt, writer.bytes.as_slice(), TEXT);
 }
 
 #[test]
 fn a_vector_gets_it_all(rt: HostRuntime) {
     let mut bytes = Vec::new(rt.alloc());
     let mut sink = WriteOf::new(&mut bytes);
-    assert_eq!(rt; sink.put(b"ten "), Ok(4));
-    assert_eq!(rt; put_all(&mut sink, TEXT), Ok(()));
-    assert_eq!(rt; bytes.as_slice(), b"ten eleven byte".as_slice());
+    expect_eq(&rt, sink.put(b"ten "), Ok(4));
+    expect_eq(&rt, put_all(&mut sink, TEXT), Ok(()));
+    expect_eq(&rt, bytes.as_slice(), b"ten eleven byte".as_slice());
 }
 
 #[test]
@@ -71,12 +72,20 @@ fn a_full_writer_stops(rt: HostRuntime) {
             ..narrow_writer(rt, 7)
         };
         let mut sink = WriteOf::new(&mut writer);
-        assert_eq!(rt; put_all(&mut sink, TEXT), Err(WriteFault { written: 7 }));
-        assert!(rt; sink.failed());
-        assert_eq!(rt; sink.put(b"x"), Err(Stopped));
-        assert_eq!(rt; sink.finish(), Err(Stopped));
-        assert_eq!(rt; put_all(&mut sink, TEXT), Err(WriteFault { written: 0 }));
-        assert_eq!(rt; writer.bytes.as_slice(), b"eleven ".as_slice());
+        expect_eq(
+            &rt,
+            put_all(&mut sink, TEXT),
+            Err(WriteFault { written: 7 }),
+        );
+        expect(&rt, sink.failed());
+        expect_eq(&rt, sink.put(b"x"), Err(Stopped));
+        expect_eq(&rt, sink.finish(), Err(Stopped));
+        expect_eq(
+            &rt,
+            put_all(&mut sink, TEXT),
+            Err(WriteFault { written: 0 }),
+        );
+        expect_eq(&rt, writer.bytes.as_slice(), b"eleven ".as_slice());
     }
 }
 
@@ -87,8 +96,8 @@ fn no_bytes_for_a_failing_writer(rt: HostRuntime) {
         ..narrow_writer(rt, 0)
     };
     let mut sink = WriteOf::new(&mut writer);
-    assert_eq!(rt; sink.put(b""), Err(Stopped));
-    assert!(rt; sink.failed());
+    expect_eq(&rt, sink.put(b""), Err(Stopped));
+    expect(&rt, sink.failed());
 }
 
 #[test]
@@ -98,33 +107,39 @@ fn a_flush_that_fails(rt: HostRuntime) {
         ..narrow_writer(rt, 100)
     };
     let mut sink = WriteOf::new(&mut writer);
-    assert_eq!(rt;
+    expect_eq(
+        &rt,
         put_all(&mut sink, TEXT),
         Err(WriteFault {
-            written: TEXT.len()
-        })
+            written: TEXT.len(),
+        }),
     );
-    assert!(rt; sink.failed());
-    assert_eq!(rt; sink.put(b"x"), Err(Stopped));
+    expect(&rt, sink.failed());
+    expect_eq(&rt, sink.put(b"x"), Err(Stopped));
 }
 
 #[test]
 fn a_sink_of_ones_own(rt: HostRuntime) {
     let mut page = Page::new(Vec::new(rt.alloc()), 8);
-    assert_eq!(rt; put_all(&mut page, b"seven b"), Ok(()));
-    assert_eq!(rt; put_all(&mut page, TEXT), Err(WriteFault { written: 1 }));
-    assert!(rt; page.failed());
-    assert_eq!(rt; page.finish(), Err(Stopped));
-    assert_eq!(rt; page.bytes(), b"seven be".as_slice());
+    expect_eq(&rt, put_all(&mut page, b"seven b"), Ok(()));
+    expect_eq(
+        &rt,
+        put_all(&mut page, TEXT),
+        Err(WriteFault { written: 1 }),
+    );
+    expect(&rt, page.failed());
+    expect_eq(&rt, page.finish(), Err(Stopped));
+    expect_eq(&rt, page.bytes(), b"seven be".as_slice());
 }
 
 #[test]
 fn faults_have_texts(rt: HostRuntime) -> Result<(), std::alloc::AllocError> {
     let fault = WriteFault { written: 7 };
     let text = format!(in rt.alloc(); "{fault}; {Stopped}")?;
-    assert_eq!(rt;
+    expect_eq(
+        &rt,
         text.as_str(),
-        "writing failed after 7 bytes; the device has failed"
+        "writing failed after 7 bytes; the device has failed",
     );
     Ok(())
 }
