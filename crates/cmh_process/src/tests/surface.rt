@@ -1,5 +1,6 @@
 //! Every public call and type, as a caller writes them.
 
+use super::{expect, expect_eq};
 use crate::laws::law_stale;
 use crate::{Action, Kind, Message, Proc};
 use std::hash::{DefaultHasher, Hash};
@@ -18,11 +19,12 @@ fn surface(rt: HostRuntime) {
         ..query
     };
     let same = query;
-    assert_eq!(rt; same, query);
-    assert!(rt; query != reply);
-    assert_eq!(rt;
+    expect_eq(&rt, same, query);
+    expect(&rt, query != reply);
+    expect_eq(
+        &rt,
         (reply.kind, reply.initiator, reply.number),
-        (Kind::Reply, 0, 1)
+        (Kind::Reply, 0, 1),
     );
 
     let mut proc = Proc::new();
@@ -32,17 +34,21 @@ fn surface(rt: HostRuntime) {
         num: 0,
         wait: false,
     };
-    assert_eq!(rt; proc, fresh);
-    assert!(rt; proc.is_engaged_by(query.number));
-    assert!(rt; !proc.is_engaged_by(0));
-    assert_eq!(rt; proc.on_query(query.number, query.from, 1), Action::Engage);
-    assert!(rt; !proc.is_engaged_by(query.number));
-    assert_eq!(rt; proc.answer(query.number, 7), Action::ReplyTo(7));
-    assert_eq!(rt; proc.on_query(1, 5, 1), Action::ReplyTo(5));
-    assert_eq!(rt; proc.on_reply(1), Action::ReplyTo(0));
-    assert_eq!(rt; proc.on_reply(1), Action::Nothing);
-    assert_eq!(rt; proc.start(1), Action::Engage);
-    assert_eq!(rt; proc.on_reply(2), Action::Declare);
+    expect_eq(&rt, proc, fresh);
+    expect(&rt, proc.is_engaged_by(query.number));
+    expect(&rt, !proc.is_engaged_by(0));
+    expect_eq(
+        &rt,
+        proc.on_query(query.number, query.from, 1),
+        Action::Engage,
+    );
+    expect(&rt, !proc.is_engaged_by(query.number));
+    expect_eq(&rt, proc.answer(query.number, 7), Action::ReplyTo(7));
+    expect_eq(&rt, proc.on_query(1, 5, 1), Action::ReplyTo(5));
+    expect_eq(&rt, proc.on_reply(1), Action::ReplyTo(0));
+    expect_eq(&rt, proc.on_reply(1), Action::Nothing);
+    expect_eq(&rt, proc.start(1), Action::Engage);
+    expect_eq(&rt, proc.on_reply(2), Action::Declare);
     law_stale();
 
     let mut state = DefaultHasher::new();
@@ -58,7 +64,7 @@ fn last_number(rt: HostRuntime) {
         num: 0,
         wait: true,
     };
-    assert_eq!(rt; proc.start(u32::MAX), Action::Engage);
-    assert_eq!(rt; (proc.latest, proc.num), (u32::MAX, u32::MAX));
-    assert!(rt; !proc.is_engaged_by(u32::MAX));
+    expect_eq(&rt, proc.start(u32::MAX), Action::Engage);
+    expect_eq(&rt, (proc.latest, proc.num), (u32::MAX, u32::MAX));
+    expect(&rt, !proc.is_engaged_by(u32::MAX));
 }

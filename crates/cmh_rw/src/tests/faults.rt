@@ -1,5 +1,6 @@
 //! The texts of faults.
 
+use super::expect_eq;
 use crate::RwFault;
 use std::test::Fail;
 
@@ -10,7 +11,7 @@ fn fault_texts(rt: HostRuntime) -> Result<(), Fail> {
         (RwFault::Memory, "out of memory"),
     ];
     for (fault, text) in texts {
-        assert_eq!(rt; format!(in rt.alloc(); "{fault}")?.as_str(), text);
+        expect_eq(&rt, format!(in rt.alloc(); "{fault}")?.as_str(), text);
     }
     Ok(())
 }

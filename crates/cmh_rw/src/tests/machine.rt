@@ -1,5 +1,6 @@
 //! Events on a lock with two seats.
 
+use super::{expect, expect_eq};
 use crate::{Event, LockWorld, RwFault, SeatState, run_events};
 use std::test::Fail;
 
@@ -23,7 +24,7 @@ fn is_after_lock_events(world: &LockWorld) -> bool {
 #[test]
 fn lock_events(rt: HostRuntime) -> Result<(), RwFault> {
     let world = run_events(rt.alloc(), 2, &LOCK_EVENTS)?;
-    assert!(rt; is_after_lock_events(&world));
+    expect(&rt, is_after_lock_events(&world));
     Ok(())
 }
 
@@ -35,20 +36,32 @@ fn lock_events_one_by_one(rt: HostRuntime) -> Result<(), RwFault> {
         world.step(*event);
         words[i] = world.word();
     }
-    assert_eq!(rt; words, [1, 1, 0, 4_294_967_296, 4_294_967_297]);
-    assert!(rt; is_after_lock_events(&world));
+    expect_eq(&rt, words, [1, 1, 0, 4_294_967_296, 4_294_967_297]);
+    expect(&rt, is_after_lock_events(&world));
     Ok(())
 }
 
 #[test]
 fn seats_are_1_to_64(rt: HostRuntime) {
     let alloc = rt.alloc();
-    assert!(rt; LockWorld::new(alloc, 0).err() == Some(RwFault::BadSeats));
-    assert!(rt; LockWorld::new(alloc, 65).err() == Some(RwFault::BadSeats));
-    assert!(rt; run_events(alloc, 0, &LOCK_EVENTS).err() == Some(RwFault::BadSeats));
-    assert!(rt; run_events(alloc, 65, &[]).err() == Some(RwFault::BadSeats));
-    assert!(rt; LockWorld::new(alloc, 1).is_ok());
-    assert!(rt; LockWorld::new(alloc, 64).is_ok());
+    expect(
+        &rt,
+        LockWorld::new(alloc, 0).err() == Some(RwFault::BadSeats),
+    );
+    expect(
+        &rt,
+        LockWorld::new(alloc, 65).err() == Some(RwFault::BadSeats),
+    );
+    expect(
+        &rt,
+        run_events(alloc, 0, &LOCK_EVENTS).err() == Some(RwFault::BadSeats),
+    );
+    expect(
+        &rt,
+        run_events(alloc, 65, &[]).err() == Some(RwFault::BadSeats),
+    );
+    expect(&rt, LockWorld::new(alloc, 1).is_ok());
+    expect(&rt, LockWorld::new(alloc, 64).is_ok());
 }
 
 /// Each seat in turn comes and goes, but for the last, which stays while the first comes.
@@ -60,13 +73,13 @@ fn as_many_events_as_choices(rt: HostRuntime) -> Result<(), Fail> {
         events.push(Event::Admit(turn % 64))?;
         events.push(Event::Leave(turn % 64))?;
     }
-    assert_eq!(rt; events.len(), 65_536);
+    expect_eq(&rt, events.len(), 65_536);
     let world = run_events(alloc, 64, &events)?;
-    assert_eq!(rt; (world.word(), world.seats()), (0, 64));
+    expect_eq(&rt, (world.word(), world.seats()), (0, 64));
     events.pop();
     events.push(Event::Admit(0))?;
     let world = run_events(alloc, 64, &events)?;
-    assert_eq!(rt; (world.word(), world.seats()), (2, 64));
+    expect_eq(&rt, (world.word(), world.seats()), (2, 64));
     for seat in 0..64 {
         let state = if seat == 0 || seat == 63 {
             SeatState::Reading

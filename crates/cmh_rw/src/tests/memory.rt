@@ -1,5 +1,6 @@
 //! The machine while memory is short.
 
+use super::expect;
 use crate::{Event, LockWorld, RwFault, run_events};
 use std::alloc::Global;
 use std::test::Fail;
@@ -66,12 +67,12 @@ fn sweep(alloc: Global, events: &[Event], word: u64) -> Result<bool, Fail> {
 
 #[test]
 fn want_of_memory_for_a_world(rt: HostRuntime) -> Result<(), Fail> {
-    assert!(rt; sweep(rt.alloc(), &[], 0)?);
+    expect(&rt, sweep(rt.alloc(), &[], 0)?);
     Ok(())
 }
 
 #[test]
 fn want_of_memory_for_events(rt: HostRuntime) -> Result<(), Fail> {
-    assert!(rt; sweep(rt.alloc(), &[Event::Admit(63)], 1)?);
+    expect(&rt, sweep(rt.alloc(), &[Event::Admit(63)], 1)?);
     Ok(())
 }

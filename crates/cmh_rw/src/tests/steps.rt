@@ -4,6 +4,7 @@ ghost use Rattle.std.specs.Prelude.{◌≡◌, ◌<◌};
 ghost use Rattle.cmh_graph.specs.Verdict.{verdicts};
 ghost use Rattle.cmh_rw.specs.Seats.{view, IsSeatOf, IsAway};
 
+use super::expect;
 use super::graphs::two_in_a_cycle;
 use super::posting::{is_new, store_two, verdict_of};
 use crate::{Closed, Entry, FIRST_ROW, FIRST_VERDICT, RwFault, RwSeat, RwWords, WRITER};
@@ -82,7 +83,7 @@ fn words_at_each_step_of_a_posting(rt: HostRuntime) -> Result<(), Fail> {
     ];
     for (steps, words) in expected.iter().enumerate() {
         let closed = closed_after(alloc, &graph, &all, steps as u32)?;
-        assert!(rt; shown(&closed) == words.map(Some));
+        expect(&rt, shown(&closed) == words.map(Some));
     }
     Ok(())
 }

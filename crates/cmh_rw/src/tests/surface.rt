@@ -5,6 +5,7 @@ ghost use Rattle.cmh_rw.specs.Seats.{IsSeatOf, IsAway};
 
 use super::graphs::two_in_a_cycle;
 use super::posting::post_two;
+use super::{expect, expect_eq};
 use crate::laws::{law_one_row_a_word, law_step};
 use crate::{
     BOARD_WORDS, Entry, Event, FIRST_ROW, FIRST_VERDICT, LockWorld, MAX_SEATS, RwFault, RwSeat,
@@ -17,9 +18,13 @@ use std::test::Fail;
 fn constants(rt: HostRuntime) {
     law_step();
     law_one_row_a_word();
-    assert_eq!(rt; WRITER, 4_294_967_296);
-    assert_eq!(rt; MAX_SEATS, 64);
-    assert_eq!(rt; (FIRST_ROW, FIRST_VERDICT, BOARD_WORDS), (2, 4_098, 8_194));
+    expect_eq(&rt, WRITER, 4_294_967_296);
+    expect_eq(&rt, MAX_SEATS, 64);
+    expect_eq(
+        &rt,
+        (FIRST_ROW, FIRST_VERDICT, BOARD_WORDS),
+        (2, 4_098, 8_194),
+    );
 }
 
 #[test]
@@ -28,21 +33,22 @@ fn calls_of_the_machine(rt: HostRuntime) -> Result<(), Fail> {
     let mut world = LockWorld::new(alloc, 2)?;
     world.step(Event::TryWrite(1));
     world.step(Event::Admit(0));
-    assert_eq!(rt; world.word(), 4_294_967_297);
-    assert_eq!(rt; world.seats(), 2);
-    assert_eq!(rt; world.state(0), Some(SeatState::Retreating));
-    assert_eq!(rt; world.state(1), Some(SeatState::Writing));
-    assert_eq!(rt; world.state(2), None);
+    expect_eq(&rt, world.word(), 4_294_967_297);
+    expect_eq(&rt, world.seats(), 2);
+    expect_eq(&rt, world.state(0), Some(SeatState::Retreating));
+    expect_eq(&rt, world.state(1), Some(SeatState::Writing));
+    expect_eq(&rt, world.state(2), None);
     let events = [Event::TryWrite(1), Event::Admit(0)];
-    assert_eq!(rt; run_events(alloc, 2, &events)?, world);
+    expect_eq(&rt, &run_events(alloc, 2, &events)?, &world);
     world.step(Event::EndWrite(1));
-    assert!(rt; run_events(alloc, 2, &events)? != world);
+    expect(&rt, run_events(alloc, 2, &events)? != world);
     world.step(Event::Leave(0));
-    assert_eq!(rt; LockWorld::new(alloc, 2)?, world);
-    assert_eq!(rt; LockWorld::new(alloc, 0).err(), Some(RwFault::BadSeats));
-    assert_eq!(rt;
+    expect_eq(&rt, &LockWorld::new(alloc, 2)?, &world);
+    expect_eq(&rt, LockWorld::new(alloc, 0).err(), Some(RwFault::BadSeats));
+    expect_eq(
+        &rt,
         run_events(alloc, 65, &events).err(),
-        Some(RwFault::BadSeats)
+        Some(RwFault::BadSeats),
     );
     Ok(())
 }
@@ -56,26 +62,26 @@ fn calls_of_the_words(rt: HostRuntime) -> Result<(), Fail> {
     let Some(mut y) = words.split(&mut x) else {
         panic!(rt; "a seat with the whole share is split")
     };
-    assert_eq!(rt; (words.share(&x), words.share(&y)), (63, 1));
-    assert_eq!(rt; (x.share(), y.share()), (63, 1));
+    expect_eq(&rt, (words.share(&x), words.share(&y)), (63, 1));
+    expect_eq(&rt, (x.share(), y.share()), (63, 1));
     post_two(&words, &mut y, &graph, &all, 0, 1);
     let entry = words.try_read(&mut x);
-    assert_eq!(rt; entry, Entry::Held);
+    expect_eq(&rt, entry, Entry::Held);
     if entry == Entry::Held {
-        assert_eq!(rt; words.load(&mut x, 1), 2);
-        assert_eq!(rt; words.load(&mut x, FIRST_ROW + 1), 6);
+        expect_eq(&rt, words.load(&mut x, 1), 2);
+        expect_eq(&rt, words.load(&mut x, FIRST_ROW + 1), 6);
         words.end_read(&mut x);
     }
     let entry = words.try_write(&mut y);
-    assert_eq!(rt; entry, Entry::Held);
+    expect_eq(&rt, entry, Entry::Held);
     if entry == Entry::Held {
         words.end_write(&mut y);
     }
     words.join(&mut x, y);
-    assert_eq!(rt; words.share(&x), 64);
+    expect_eq(&rt, words.share(&x), 64);
     let closed = words.close_with(x);
-    assert_eq!(rt; closed.word(FIRST_VERDICT), Some(1));
-    assert_eq!(rt; closed.word(BOARD_WORDS), None);
+    expect_eq(&rt, closed.word(FIRST_VERDICT), Some(1));
+    expect_eq(&rt, closed.word(BOARD_WORDS), None);
     Ok(())
 }
 
@@ -110,7 +116,7 @@ fn sixty_four_seats(rt: HostRuntime) -> Result<(), Fail> {
     let graph = two_in_a_cycle(rt.alloc())?;
     let (words, x) = RwWords::open(rt.alloc(), &graph)?;
     let x = read_together(&rt, &words, x, 63);
-    assert_eq!(rt; words.share(&x), 64);
-    assert_eq!(rt; words.close_with(x).word(0), Some(0));
+    expect_eq(&rt, words.share(&x), 64);
+    expect_eq(&rt, words.close_with(x).word(0), Some(0));
     Ok(())
 }

@@ -5,6 +5,7 @@ ghost use denote.Param.Send.{IsSync};
 ghost use Rattle.cmh_graph.specs.Verdict.{verdicts};
 ghost use Rattle.cmh_rw.specs.Seats.{view, IsSeatOf, IsAway};
 
+use super::expect;
 use super::graphs::{ring_and_chain, two_in_a_cycle};
 use super::posting::{finds_one_of_two, post_two};
 use crate::{Closed, Entry, FIRST_ROW, FIRST_VERDICT, RwSeat, RwWords};
@@ -80,9 +81,9 @@ fn two_threads_take_turns(rt: HostRuntime) -> Result<(), Fail> {
     };
     let (mut x, y) = both(&rt, &words, x, y, 10_000);
     words.join(&mut x, y);
-    assert!(rt; x.share() == 64);
+    expect(&rt, x.share() == 64);
     let closed = words.close_with(x);
-    assert!(rt; closed.word(0) == Some(0));
+    expect(&rt, closed.word(0) == Some(0));
     Ok(())
 }
 
@@ -256,12 +257,12 @@ fn four_threads_post(rt: HostRuntime) -> Result<(), Fail> {
     words.join(&mut a, b);
     words.join(&mut a, c);
     words.join(&mut a, d);
-    assert!(rt; a.share() == 64);
+    expect(&rt, a.share() == 64);
     let a = post_and_look(&words, a, &graph, &all, 0, &torn);
-    assert!(rt; torn.load(Ordering::SeqCst) == 0);
+    expect(&rt, torn.load(Ordering::SeqCst) == 0);
     let closed = words.close_with(a);
-    assert!(rt; closed.word(0) == Some(0));
-    assert!(rt; are_whole_postings(&closed));
-    assert!(rt; are_verdicts(&closed));
+    expect(&rt, closed.word(0) == Some(0));
+    expect(&rt, are_whole_postings(&closed));
+    expect(&rt, are_verdicts(&closed));
     Ok(())
 }

@@ -1,5 +1,6 @@
 //! The lock on the words, by one thread with two seats.
 
+use super::expect;
 use super::graphs::two_in_a_cycle;
 use crate::{Entry, RwWords};
 use std::test::Fail;
@@ -18,7 +19,7 @@ fn lock_words_by_two_seats(rt: HostRuntime) -> Result<(), Fail> {
     let Entry::Busy(found) = words.try_read(&mut y) else {
         panic!(rt; "a writer holds the lock")
     };
-    assert!(rt; found == 4_294_967_296);
+    expect(&rt, found == 4_294_967_296);
     words.end_write(&mut x);
     let Entry::Held = words.try_read(&mut y) else {
         panic!(rt; "no writer holds the lock")
@@ -26,7 +27,7 @@ fn lock_words_by_two_seats(rt: HostRuntime) -> Result<(), Fail> {
     let Entry::Busy(found) = words.try_write(&mut x) else {
         panic!(rt; "a reader holds the lock")
     };
-    assert!(rt; found == 1);
+    expect(&rt, found == 1);
     words.end_read(&mut y);
     Ok(())
 }
@@ -35,14 +36,14 @@ fn lock_words_by_two_seats(rt: HostRuntime) -> Result<(), Fail> {
 fn shares_add_up(rt: HostRuntime) -> Result<(), Fail> {
     let graph = two_in_a_cycle(rt.alloc())?;
     let (words, mut x) = RwWords::open(rt.alloc(), &graph)?;
-    assert!(rt; x.share() == 64);
+    expect(&rt, x.share() == 64);
     let Some(mut y) = words.split(&mut x) else {
         panic!(rt; "a seat with the whole share is split")
     };
-    assert!(rt; x.share() == 63 && y.share() == 1);
-    assert!(rt; words.split(&mut y).is_none());
+    expect(&rt, x.share() == 63 && y.share() == 1);
+    expect(&rt, words.split(&mut y).is_none());
     words.join(&mut x, y);
-    assert!(rt; x.share() == 64);
+    expect(&rt, x.share() == 64);
     Ok(())
 }
 
@@ -53,8 +54,8 @@ fn words_at_first(rt: HostRuntime) -> Result<(), Fail> {
     let (words, x) = RwWords::open(rt.alloc(), &graph)?;
     let closed = words.close_with(x);
     for n in 0..8_194 {
-        assert!(rt; closed.word(n) == Some(0));
+        expect(&rt, closed.word(n) == Some(0));
     }
-    assert!(rt; closed.word(8_194).is_none());
+    expect(&rt, closed.word(8_194).is_none());
     Ok(())
 }
