@@ -1,6 +1,6 @@
 -- How many deliveries a run has at most.
-use Rattle.std.proofs.Common.{◌≡◌, ℕ, zero, suc, ◌+◌, ◌-◌, ◌<◌, ◌≤◌, Bool, true, false, ◌&&◌, cond, eqb, ltb, List, [], ◌∷◌, ◌++◌, map, remove, replicate, length, get_or, slice_get, slice_set, Option, Some, None, is_none, sum_by, refl, sym, ap, subst, arith, ⊎_elim}
-use Rattle.std.proofs.lemmas.Bool.{eqb-true, eqb-false, eq-eqb, ne_eqb, cases_eq, true≢false, and_parts, lt-ltb, ltb-true}
+use Rattle.std.proofs.Common.{◌≡◌, ℕ, zero, suc, ◌+◌, ◌-◌, ◌<◌, ◌≤◌, Bool, true, false, ◌&&◌, cond, eqb, ltb, List, [], ◌∷◌, ◌++◌, map, remove, replicate, length, get_or, slice_get, slice_set, Option, Some, None, is_none, sum_by, refl, ap, subst, arith, ⊎_elim}
+use Rattle.std.proofs.lemmas.Bool.{eqb-true, eqb-false, eq-eqb, ne_eqb, cases_eq, and_parts, lt-ltb, ltb-true}
 use Rattle.std.proofs.lemmas.List.{length-replicate}
 use Rattle.std.specs.List.{range_with_len}
 use Rattle.std.proofs.lemmas.List.{map-id}
@@ -9,11 +9,10 @@ use Rattle.cmh_process.specs.declared.message.Kind.{Kind}
 use Rattle.cmh_process.specs.declared.message.Kind.TheVariants.{Query, Reply}
 use Rattle.cmh_process.specs.declared.message.Message.{Message}
 use Rattle.cmh_process.specs.declared.process.Proc.{Proc}
-use Rattle.cmh_process.specs.declared.process.Action.TheVariants.{Nothing, Engage, ReplyTo}
+use Rattle.cmh_process.specs.declared.process.Action.TheVariants.{Nothing, ReplyTo}
 use Rattle.cmh_graph.specs.declared.verdict.Verdict.{Verdict}
 use Rattle.cmh_graph.specs.declared.verdict.Verdict.TheVariants.{Deadlocked, Free}
 use Rattle.cmh_run.specs.declared.delivery.Delivery.{Delivery}
-use Rattle.cmh_run.specs.declared.delivery.Ending.{Ending}
 use Rattle.cmh_process.specs.Process.{fresh, proc_started, start_action, proc_engaged, engage_action, last_action, engages, proc_queried, query_action, repeat_action, counts, proc_replied, reply_action}
 use Rattle.cmh_graph.specs.Graph.{Graph, process_count, dependents_of, dependencies_of, is_idle, is_awake, IsWithinGraph, dependency_count}
 use Rattle.cmh_graph.specs.Graph.{Process, nobody}
@@ -24,16 +23,12 @@ use Rattle.cmh_run.specs.Config.{Config, query, proc_at, sent, acted, engaged_by
 use Rattle.cmh_run.specs.Legal.{begun, Going, restarted_at, ready, after, Leads, RunsAreShort}
 use Rattle.cmh_run.proofs.Steps.{upd}
 use Rattle.cmh_run.proofs.Tokens.{each_at, set_is}
-use Rattle.cmh_run.proofs.Live.{Live, Fine}
+use Rattle.cmh_run.proofs.Live.{Live, Fine, some_engage}
 use Rattle.cmh_run.proofs.Right.{number_kept}
-use Rattle.cmh_run.proofs.Theorem.{by_test, Stands, first_start, status_none, fresh_at, stepped, ready_stands}
+use Rattle.cmh_run.proofs.Theorem.{by_test, is_none_true, Stands, first_start, status_none, fresh_at, stepped, ready_stands}
 use Rattle.std.proofs.lemmas.List.Sums.{get_or-le-sum_by, sum_by-remove, sum_by-append, sum_by-cons}
 use Rattle.std.proofs.Common.{mul-le-mul_left, mul-suc, ◌*◌, add-one}
-use Rattle.std.proofs.lemmas.Option.{slice_get_within, get_or_from_slice_get}
-
--- nothing is never a message
-nothing_there : {m : Message} → None ≡ Some m → ⊥
-nothing_there h = cc
+use Rattle.std.proofs.lemmas.Option.{none-some, slice_get_within, get_or_from_slice_get}
 
 abbrev kind_weight : Kind → ℕ
 kind_weight Query = 2
@@ -115,10 +110,6 @@ falls g n procs bag x k m p new size there within h =
       sum_by-append (λ (y : Message). kind_weight y.kind) (remove bag x) new,
       total_upd g n (proc_at procs) k p (process_count g) within,
     ))
-
--- a process that has somebody to ask doesn't reply at once
-some_engage : (from n : ℕ) → engage_action from (suc n) ≡ Engage
-some_engage from n = rw (ne_eqb (suc n) 0 (λ e. omega arith)) refl
 
 -- engaging pays for its queries
 engaging_pays : (g : Graph) (i n k number from : ℕ) (old : ℕ) (owed : ℕ) (ds : List ℕ) → length ds ≤ width g k
@@ -367,10 +358,6 @@ ready_raises g i s ok within idle h (n ∷ ns) =
     one_more : (k r a b : ℕ) → a ≤ b + k → a + k * r ≤ b + k * (r + 1)
     one_more k r a b h = rw (add-one, mul-suc k r) (omega arith)
 
-    is_none_true : (o : Option Ending) → is_none o ≡ true → o ≡ None
-    is_none_true None h = refl
-    is_none_true (Some e) h = absurd (true≢false (sym h))
-
 -- the deliveries are at most the measure, and two for each dependency and later restart
 leads_short : (rule : ℕ → Config → ℕ → Bool) (g : Graph) (i : ℕ) → IsWithinGraph g → i < process_count g
     → is_idle g i ≡ true → is_awake g i ≡ false → (log : List Delivery) (s end : Going) → Stands g i s.config
@@ -405,7 +392,7 @@ empty_log : (rule : ℕ → Config → ℕ → Bool) (g : Graph) (i : ℕ) (log 
     → Leads rule g i (record { config = nothing_yet g; done = 0; restarts = []; restarted = 0 }) log end
     → length log ≡ 0
 empty_log rule g i [] end l = refl
-empty_log rule g i (d ∷ log) end l = absurd (nothing_there l.1.there)
+empty_log rule g i (d ∷ log) end l = absurd (none-some _ l.1.there)
 
 -- the first start raises the measure by at most two for each dependency
 first_raised : (g : Graph) (i : ℕ) → i < process_count g → is_idle g i ≡ true

@@ -1,5 +1,6 @@
 -- Who is engaged when a run has ended, and that an awake initiator starts nothing.
-use Rattle.std.proofs.Common.{◌≡◌, ℕ, ◌<◌, Bool, true, false, List, [], ◌∷◌, Contains, Option, Some, None, refl, sym, ◌∙◌, ap, subst, arith}
+use Rattle.std.proofs.Common.{◌≡◌, ℕ, ◌<◌, Bool, true, false, List, [], ◌∷◌, Contains, Option, Some, refl, sym, ◌∙◌, ap, subst, arith}
+use Rattle.std.proofs.lemmas.Option.{none-some}
 use Rattle.cmh_graph.specs.Graph.{Graph, is_awake}
 use Rattle.cmh_graph.specs.Verdict.{IsDeadlocked}
 use Rattle.cmh_graph.proofs.Verdicts.{idle_within}
@@ -59,19 +60,12 @@ engaged_at g i (CutFree p) c s e dead =
     (λ k q. let same : p ≡ k = cc in
     subst (λ (x : ℕ). IsCutAt g i x c.engaged) same (cut_at g i c.number (proc_at c.procs) c.engaged h.party p h))
 
--- nothing is never an ending
-no_ending : {e : Ending} → None ≡ Some e → ⊥
-no_ending h = cc
-
 -- where nothing was started, nothing comes
 nothing_started : (rule : Rule) (g : Graph) (i : ℕ) (log : List Delivery) (ending : Ending) (end : Going)
     → Leads rule g i (going_from (nothing_yet g) []) log end → EndsAs end.config ending → IsEmptyRun log ending end
-nothing_started rule g i (d ∷ log) ending end l e = absurd (nothing_there l.1.there)
-  where
-    nothing_there : {A : Type 0} {x : A} → None ≡ Some x → ⊥
-    nothing_there h = cc
-nothing_started rule g i [] Declared end l e = absurd (no_ending (ap (λ (t : Going). t.config.ended) l ∙ e))
-nothing_started rule g i [] (CutFree k) end l e = absurd (no_ending (ap (λ (t : Going). t.config.ended) l ∙ e))
+nothing_started rule g i (d ∷ log) ending end l e = absurd (none-some _ l.1.there)
+nothing_started rule g i [] Declared end l e = absurd (none-some _ (ap (λ (t : Going). t.config.ended) l ∙ e))
+nothing_started rule g i [] (CutFree k) end l e = absurd (none-some _ (ap (λ (t : Going). t.config.ended) l ∙ e))
 nothing_started rule g i [] AtRest end l e = record {
   silent = refl;
   at_rest = refl;

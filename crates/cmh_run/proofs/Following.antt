@@ -1,6 +1,7 @@
 -- A run that goes on by one delivery, and what its steps may count on.
 use Rattle.std.proofs.Common.{◌≡◌, ℕ, ◌+◌, ◌-◌, ◌*◌, ◌^◌, ◌<◌, ◌≤◌, ◌≢◌, Bool, true, false, ◌&&◌, cond, eqb, List, [], ◌∷◌, ◌++◌, length, drop, slice_get, Contains, Option, Some, None, is_none, refl, sym, ◌∙◌, ap, subst, arith, ◌⊎◌, ⊎_elim, length-append, mul-le-mul_left}
-use Rattle.std.proofs.lemmas.Bool.{eq-eqb, true≢false, and_parts}
+use Rattle.std.proofs.lemmas.Bool.{eq-eqb, and_parts}
+use Rattle.std.proofs.lemmas.Option.{none-some}
 use Rattle.std.specs.Prelude.{slice_index}
 use Rattle.std.proofs.lemmas.List.{length-replicate, get_or-drop, drop-drop}
 use Rattle.cmh_process.specs.declared.message.Message.{Message}
@@ -23,7 +24,7 @@ use Rattle.cmh_graph.specs.Verdict.{IsVerdict}
 use Rattle.cmh_run.proofs.Live.{Fine}
 use Rattle.cmh_run.proofs.Tokens.{each_at}
 use Rattle.cmh_run.proofs.Right.{number_kept, runs_are_right}
-use Rattle.cmh_run.proofs.Theorem.{by_test, Status, Stands, first_start, leads_stands, status_none, fresh_at, stepped, ready_stands}
+use Rattle.cmh_run.proofs.Theorem.{by_test, is_none_true, Status, Stands, first_start, leads_stands, status_none, fresh_at, stepped, ready_stands}
 use Rattle.cmh_run.proofs.Last.{last_computation_is_a_run}
 use Rattle.cmh_run.proofs.Decide.{same_run}
 use Rattle.cmh_run.proofs.Engaging.{who_engages, awake_ones_start_nothing}
@@ -72,11 +73,6 @@ leads_restarts rule g i (d ∷ log) s end l =
     let rest = leads_restarts rule g i log (after g i (ready g i s) l.0 d) end l.3 in
     omega (arith, now, rest)
 
--- an ending that is tested to be none is none
-none_true : (o : Option Ending) → is_none o ≡ true → o ≡ None
-none_true None h = refl
-none_true (Some e) h = absurd (true≢false (sym h))
-
 module _ (g : Graph) (i : ℕ) (ok : IsWithinGraph g) (within : i < process_count g) (rests : is_awake g i ≡ false) where
   -- a restart keeps it so
   ready_numbered : (s : Going) (ns : List ℕ) → Stands g i s.config → s.config.number ≡ s.restarted + 1
@@ -86,7 +82,7 @@ module _ (g : Graph) (i : ℕ) (ok : IsWithinGraph g) (within : i < process_coun
       by_test (is_none s.config.ended && eqb n s.done)
       (λ b. (cond b (restart g i s ns) s).config.number ≡ (cond b (restart g i s ns) s).restarted + 1)
       (λ t. let live = status_none g i s.config h
-      (none_true s.config.ended (and_parts (is_none s.config.ended) (eqb n s.done) t).0) in
+      (is_none_true s.config.ended (and_parts (is_none s.config.ended) (eqb n s.done) t).0) in
       omega (arith, live.0.sound.root_in, e))
       (λ t. e)
 
@@ -134,10 +130,7 @@ module _ (g : Graph) (i : ℕ) (ok : IsWithinGraph g) (within : i < process_coun
 pub nothing_comes : (rule : Rule) (g : Graph) (i : ℕ) (log : List Delivery) (s : Going)
     → Leads rule g i (going_from (nothing_yet g) []) log s → s ≡ going_from (nothing_yet g) []
 nothing_comes rule g i [] s l = sym l
-nothing_comes rule g i (d ∷ log) s l = absurd (nothing_there l.1.there)
-  where
-    nothing_there : {m : Message} → None ≡ Some m → ⊥
-    nothing_there h = cc
+nothing_comes rule g i (d ∷ log) s l = absurd (none-some _ l.1.there)
 
 -- what a step may count on
 pub record Steady (g : Graph) (i : ℕ) (s : Going) : Type 0 where
@@ -164,12 +157,9 @@ module _ (g : Graph) (i : ℕ) (choices restarts : List ℕ) (s : Stage) (ok : I
   pub steady : (x : ℕ) (m : Message) → slice_get s.going.config.bag x ≡ Some m → Steady g i s.going
   steady x m there = by_awake (is_awake g i) refl
     where
-      none_some : None ≡ Some m → ⊥
-      none_some h = cc
-
       by_awake : (b : Bool) → is_awake g i ≡ b → Steady g i s.going
       by_awake true e =
-          absurd (none_some
+          absurd (none-some _
           (subst (λ (t : Going). slice_get t.config.bag x ≡ Some m)
           (nothing_comes (chosen_place choices) g i s.log s.going (awake_leads e)) there))
       by_awake false e = record {
@@ -394,12 +384,9 @@ ends_as : (g : Graph) (i : ℕ) (choices restarts : List ℕ) (s : Stage) → Is
     → (s.going.config.ended ≢ None) ⊎ (s.going.config.bag ≡ []) → EndsAs s.going.config (ending_of s.going.config.ended)
 ends_as g i choices restarts s ok idle f over = by_ended s.going.config.ended refl
   where
-    none_some : {e : Ending} → None ≡ Some e → ⊥
-    none_some h = cc
-
     not_at_rest : (b : Bool) → is_awake g i ≡ b → s.going.config.ended ≡ Some AtRest → ⊥
     not_at_rest true a e =
-        none_some
+        none-some _
         (ap (λ (t : Going). t.config.ended)
         (sym (nothing_comes (chosen_place choices) g i s.log s.going
         (awake_leads g i choices restarts s ok idle f a))) ∙ e)

@@ -30,13 +30,7 @@ use Rattle.cmh_run.proofs.Live.{Fine}
 use Rattle.cmh_run.proofs.Places.{IsIn, in_nothing, none_in}
 use Rattle.cmh_run.proofs.Auditing.{Own, Firm, firm, agrees_after}
 
--- a hint is fit whatever is in the bag
-fit_bag : (g : Graph) (c : Config) (bag : List Message) (m : Message) (hint : Option Verdict) → HintIsFit g c m hint
-    → HintIsFit g (with_bag c bag) m hint
-fit_bag g c bag m None h = h
-fit_bag g c bag m (Some v) h = h
-
--- and with another bag, whatever is in this one
+-- a hint that is fit with one bag is fit with any
 bag_fit : (g : Graph) (c : Config) (bag : List Message) (m : Message) (hint : Option Verdict)
     → HintIsFit g (with_bag c bag) m hint → HintIsFit g c m hint
 bag_fit g c bag m None h = h

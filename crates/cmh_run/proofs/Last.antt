@@ -1,7 +1,7 @@
 -- The last computation of a run, taken alone, begins a run.
 use Rattle.std.proofs.Common.{◌≡◌, ℕ, zero, suc, ◌+◌, ◌<◌, ◌≤◌, Bool, true, false, ◌&&◌, cond, eqb, ltb, List, [], ◌∷◌, ◌++◌, length, slice_get, Option, Some, None, is_none, refl, sym, ◌∙◌, ap, subst, arith, ◌⊎◌, inl, inr}
 use Rattle.std.proofs.lemmas.Option.{none-some}
-use Rattle.std.proofs.lemmas.Bool.{eqb-true, eq-eqb, ne_eqb, cases_eq, true≢false, and_parts}
+use Rattle.std.proofs.lemmas.Bool.{eqb-true, eq-eqb, ne_eqb, cases_eq, and_parts}
 use Rattle.std.proofs.lemmas.List.{length-replicate}
 use Rattle.cmh_process.specs.declared.message.Message.{Message}
 use Rattle.cmh_process.specs.Process.{fresh, start_action, counts}
@@ -16,7 +16,7 @@ use Rattle.cmh_run.specs.Last.{renumbered, alone, IsUncut, LastIsRun, LastComput
 use Rattle.cmh_run.proofs.Tokens.{each_at, each_more}
 use Rattle.cmh_run.proofs.Live.{Live, Fine}
 use Rattle.cmh_run.proofs.Right.{number_kept}
-use Rattle.cmh_run.proofs.Theorem.{by_test, Status, Stands, first_start, leads_stands, status_none, fresh_at, stepped, ready_stands}
+use Rattle.cmh_run.proofs.Theorem.{by_test, is_none_true, Status, Stands, first_start, leads_stands, status_none, fresh_at, stepped, ready_stands}
 use Rattle.cmh_run.proofs.Bound.{phi_of, delivered_falls}
 use Rattle.cmh_run.proofs.Recast.{kept, place_among, kept_at}
 use Rattle.cmh_run.proofs.Alike.{SameEnd, same_end, still_going, shadow, delivered_alike, fit_alike, unseen_delivered, start_alone}
@@ -29,11 +29,6 @@ plain c k = record { config = c; done = k; restarts = []; restarted = 0 }
 record Shadows (g : Graph) (i n : ℕ) (c a : Config) : Type 0 where
   newest : c.number ≡ n → (e : Option Ending) × SameEnd c.ended e × (a ≡ shadow n c e)
   before : c.number < n → a ≡ start g i (nothing_yet g)
-
--- an ending that is tested to be none is none
-none_true : (o : Option Ending) → is_none o ≡ true → o ≡ None
-none_true None h = refl
-none_true (Some e) h = absurd (true≢false (sym h))
 
 -- deliveries that lead on from where others led
 joined : (g : Graph) (i : ℕ) (log rest : List Delivery) (a b : Config) (k j : ℕ) (end : Going)
@@ -53,7 +48,7 @@ module _ (rule : Rule) (g : Graph) (i : ℕ) (ok : IsWithinGraph g) (within : i 
       by_test (is_none s.config.ended && eqb n s.done)
       (λ b. s.config.number ≤ (cond b (restart g i s ns) s).config.number)
       (λ t. let live = status_none g i s.config h
-      (none_true s.config.ended (and_parts (is_none s.config.ended) (eqb n s.done) t).0) in
+      (is_none_true s.config.ended (and_parts (is_none s.config.ended) (eqb n s.done) t).0) in
       omega (arith, live.0.sound.root_in))
       (λ t. omega arith)
 
@@ -92,7 +87,7 @@ module _ (rule : Rule) (g : Graph) (i : ℕ) (ok : IsWithinGraph g) (within : i 
         by_test (is_none s.config.ended && eqb k s.done)
         (λ b. (cond b (restart g i s ns) s).config.number ≤ n → Shadows g i n (cond b (restart g i s ns) s).config a)
         (λ t low. let going : s.config.ended
-        ≡ None = none_true s.config.ended (and_parts (is_none s.config.ended) (eqb k s.done) t).0 in
+        ≡ None = is_none_true s.config.ended (and_parts (is_none s.config.ended) (eqb k s.done) t).0 in
         let live = status_none g i s.config h going in
         let now : a ≡ start g i (nothing_yet g) = sh.before (omega (arith, live.0.sound.root_in)) in
         record {

@@ -1,6 +1,7 @@
 -- What stays true of a configuration, by its processes as a function, its bag and who is engaged.
 use Rattle.std.proofs.Common.{◌≡◌, ℕ, suc, ◌+◌, ◌-◌, ◌<◌, ◌≤◌, Bool, true, false, ◌&&◌, cond, eqb, ltb, List, [], ◌∷◌, ◌++◌, remove, length, slice_get, Contains, Option, Some, None, refl, sym, ◌∙◌, ap, subst, arith, ◌⊎◌, ⊎_elim, if◌then◌else◌, ◌==◌}
 use Rattle.std.proofs.lemmas.Bool.{eqb-true, eqb-false, eq-eqb, ne_eqb, cases_eq, cases_Bool, true≢false, lt-ltb}
+use Rattle.std.proofs.lemmas.Option.{none-some}
 use Rattle.cmh_process.specs.declared.message.Kind.{Kind}
 use Rattle.cmh_process.specs.declared.message.Kind.TheVariants.{Query, Reply}
 use Rattle.cmh_process.specs.declared.message.Message.{Message}
@@ -69,7 +70,7 @@ each_from Q [] f = tt
 each_from Q (e ∷ es) f = (f e (rw (eq-eqb e e refl) (omega arith)), each_from Q es (λ r h. f r (omega arith)))
 
 -- a process that has somebody to ask doesn't reply at once
-some_engage : (from n : ℕ) → engage_action from (suc n) ≡ Engage
+pub some_engage : (from n : ℕ) → engage_action from (suc n) ≡ Engage
 some_engage from n = rw (ne_eqb (suc n) 0 (λ e. omega arith)) refl
 
 -- the last reply on its way stands for what was owed until then
@@ -560,7 +561,7 @@ started g i n n' F bag p ds ok within rests calm later fine range is_deps is_p =
       }) fine) (new_fine ds (λ r h. on_it r h));
   in_range =
       λ k e. place i k (λ b. (cond b p (F k)).engager ≡ Some e → e < process_count g)
-      (λ q h. absurd (none_some (sym (ap (λ (z : Proc). z.engager) is_p) ∙ h))) (λ w. range k e);
+      (λ q h. absurd (none-some _ (sym (ap (λ (z : Proc). z.engager) is_p) ∙ h))) (λ w. range k e);
   engaged_in =
       λ k. place i k (λ b. 0 < tally k (i ∷ []) → (cond b p (F k)).latest ≡ n')
       (λ q h. ap (λ (z : Proc). z.latest) is_p)
@@ -569,9 +570,6 @@ started g i n n' F bag p ds ok within rests calm later fine range is_deps is_p =
   begins = refl;
 }
   where
-    none_some : {e : ℕ} → None ≡ Some e → ⊥
-    none_some h = cc
-
     new : List Message
     new = sent i n' i ds (if length ds == 0 then Declare else Engage)
 

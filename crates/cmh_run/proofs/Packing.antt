@@ -1,5 +1,5 @@
 -- Messages in words, one and many.
-use Rattle.std.proofs.Common.{◌≡◌, ◌∙◌, ℕ, zero, suc, ◌+◌, ◌*◌, ◌%◌, ◌<◌, List, [], ◌∷◌, ◌++◌, length, map, remove, slice_get, Some, arith, refl, ap}
+use Rattle.std.proofs.Common.{◌≡◌, ◌∙◌, ℕ, suc, ◌+◌, ◌*◌, ◌%◌, ◌<◌, List, [], ◌∷◌, ◌++◌, length, map, remove, arith, refl, ap}
 use Rattle.std.proofs.lemmas.Nat.{div-mul-add, mod-mul-add}
 use Rattle.std.proofs.lemmas.List.{length-map, map-append, take-map, drop-map}
 use Rattle.cmh_process.specs.declared.message.Kind.{Kind}
@@ -71,25 +71,8 @@ queries_more words new rs head i number from can room is more =
 
 -- ---- a word is taken
 
--- at a word's place stands its message
-message_at : (words : List ℕ) (k word : ℕ) → slice_get words k ≡ Some word
-    → slice_get (map message_of words) k ≡ Some (message_of word)
-message_at [] k word there = absurd (cc)
-message_at (w ∷ words) zero word there = let same : w ≡ word = cc in ap (λ x. Some (message_of x)) same
-message_at (w ∷ words) (suc k) word there = message_at words k word there
-
-pub taken_message : (words : List ℕ) (choice word : ℕ) → slice_get words (choice % length words) ≡ Some word
-    → slice_get (map message_of words) (choice % length (map message_of words)) ≡ Some (message_of word)
-taken_message words choice word there =
-    rw (length-map words message_of) (message_at words (choice % length words) word there)
-
 -- the others are left
 pub taken_rest : (words left : List ℕ) (choice : ℕ) → left ≡ remove words (choice % length words)
     → map message_of left ≡ remove (map message_of words) (choice % length (map message_of words))
 taken_rest words left choice is =
     rw (is, length-map words message_of, map-append message_of, take-map message_of, drop-map message_of) refl
-
--- no message is left where no word is
-pub none_left : (words : List ℕ) → map message_of words ≡ [] → words ≡ []
-none_left [] none = refl
-none_left (w ∷ words) none = absurd (cc)

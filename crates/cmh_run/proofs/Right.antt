@@ -22,7 +22,7 @@ use Rattle.cmh_run.proofs.Tokens.{each_at, tokens, token, edge_from, edge_to}
 use Rattle.cmh_run.proofs.Live.{Live, Fine}
 use Rattle.cmh_run.proofs.Theorem.{by_test, Status, Stands, first_start, leads_stands, status_none, fresh_at}
 use Rattle.std.proofs.lemmas.List.Sums.{get_or-le-sum_by}
-use Rattle.std.proofs.lemmas.Option.{slice_get-get_or}
+use Rattle.std.proofs.lemmas.Option.{none-some, slice_get-get_or}
 
 -- a delivery and a restart keep or raise the number
 pub number_kept : (g : Graph) (i : ℕ) (c : Config) (x : ℕ) (m : Message) (hint : Option Verdict)
@@ -148,22 +148,14 @@ right_at g i restarts (CutFree k) end ok s e one =
       all_delivered = λ none q. absurd (cc);
     }
 
--- nothing is never an ending
-no_ending : {e : Ending} → None ≡ Some e → ⊥
-no_ending h = cc
-
--- nothing is never a message
-nothing_there : {m : Message} → None ≡ Some m → ⊥
-nothing_there h = cc
-
 -- an awake initiator has the empty run
 pub empty_run : (rule : ℕ → Config → ℕ → Bool) (g : Graph) (i : ℕ) (restarts : List ℕ) (log : List Delivery)
     (ending : Ending) (end : Going) → is_awake g i ≡ true
     → Leads rule g i (record { config = nothing_yet g; done = 0; restarts = []; restarted = 0 }) log end
     → EndsAs end.config ending → IsRight g i restarts ending end
-empty_run rule g i restarts (d ∷ log) ending end up l e = absurd (nothing_there l.1.there)
-empty_run rule g i restarts [] Declared end up l e = absurd (no_ending (ap (λ (t : Going). t.config.ended) l ∙ e))
-empty_run rule g i restarts [] (CutFree k) end up l e = absurd (no_ending (ap (λ (t : Going). t.config.ended) l ∙ e))
+empty_run rule g i restarts (d ∷ log) ending end up l e = absurd (none-some _ l.1.there)
+empty_run rule g i restarts [] Declared end up l e = absurd (none-some _ (ap (λ (t : Going). t.config.ended) l ∙ e))
+empty_run rule g i restarts [] (CutFree k) end up l e = absurd (none-some _ (ap (λ (t : Going). t.config.ended) l ∙ e))
 empty_run rule g i restarts [] AtRest end up l e = record {
   declared = λ q. absurd (cc);
   free = λ q dead. true≢false (sym up ∙ dead.1 i (reaches_self g i));

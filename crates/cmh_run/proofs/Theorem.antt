@@ -2,6 +2,7 @@
 use Rattle.std.proofs.Common.{◌≡◌, ℕ, zero, suc, ◌+◌, ◌-◌, ◌<◌, ◌≤◌, Bool, true, false, ◌&&◌, cond, eqb, ltb, List, [], ◌∷◌, ◌++◌, remove, replicate, length, slice_get, slice_set, Contains, Option, Some, None, is_none, refl, sym, ◌∙◌, ap, subst, arith, inl, inr, ◌⊎◌, ⊎_elim, append-nil, length-set}
 use Rattle.std.proofs.lemmas.Bool.{eqb-true, eqb-false, eq-eqb, ne_eqb, cases_eq, true≢false, and_parts, and_from, lt-ltb, ltb-true, ltb-false}
 use Rattle.std.proofs.lemmas.List.{length-replicate}
+use Rattle.std.proofs.lemmas.Option.{none-some}
 use std.Path.{fun_ext}
 use Rattle.cmh_process.specs.declared.message.Kind.{Kind}
 use Rattle.cmh_process.specs.declared.message.Kind.TheVariants.{Query, Reply}
@@ -81,10 +82,6 @@ changed g i n procs k p bag engaged e size within h = record {
   size = length-set procs k p ∙ size;
   status = subst (λ (G : ℕ → Proc). Status g i n G bag engaged e) (sym (set_is procs k p (omega arith))) h;
 }
-
--- something is never nothing
-some_none : {e : ℕ} → Some e ≡ None → ⊥
-some_none h = cc
 
 -- a function with its own value at k is the same function
 upd_self : (F : ℕ → Proc) (k : ℕ) → ◌≡◌ {A = ℕ → Proc} (upd F k (F k)) F
@@ -295,7 +292,7 @@ module _ (g : Graph) (i : ℕ) (c : Config) (ok : IsWithinGraph g) (size : lengt
       finish l h n true is (Some e) top live = (
         live,
         still_waits
-            (inr (λ q. some_none (sym top ∙ ap (λ (z : ℕ). (proc_at c.procs z).engager) q ∙ L.sound.root_top))),
+            (inr (λ q. none-some _ (sym (sym top ∙ ap (λ (z : ℕ). (proc_at c.procs z).engager) q ∙ L.sound.root_top)))),
       )
       finish l h n true is None top live = (
         live,
@@ -404,13 +401,10 @@ first_start g i ok within rests =
       reached = λ k h. absurd (let z : 0 < 0 = rw (fresh_at (process_count g) k) at h in omega arith);
     })
     (omega arith) tt
-    (λ k e h. absurd (none_some (sym (ap (λ (p : Proc). p.engager) (fresh_at (process_count g) k)) ∙ h)))
-  where
-    none_some : {e : ℕ} → None ≡ Some e → ⊥
-    none_some h = cc
+    (λ k e h. absurd (none-some _ (sym (ap (λ (p : Proc). p.engager) (fresh_at (process_count g) k)) ∙ h)))
 
 -- an ending that is tested to be none is none
-is_none_true : (o : Option Ending) → is_none o ≡ true → o ≡ None
+pub is_none_true : (o : Option Ending) → is_none o ≡ true → o ≡ None
 is_none_true None h = refl
 is_none_true (Some e) h = absurd (true≢false (sym h))
 
