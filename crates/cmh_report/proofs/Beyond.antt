@@ -117,7 +117,8 @@ beside g p known marks w i is there of_p more = record {
 listed_reached : (g : Graph) (p q : ℕ) → Contains (reach_of g p) q → Reaches g p q
 listed_reached g p q c = reaches_then g p q (filter_contains (reaches g p) (indices g) q c).1
 
-reached_listed : (g : Graph) (p q : ℕ) → IsWithinGraph g → p < process_count g → Reaches g p q → Contains (reach_of g p) q
+reached_listed : (g : Graph) (p q : ℕ) → IsWithinGraph g → p < process_count g → Reaches g p q
+    → Contains (reach_of g p) q
 reached_listed g p q w i r =
     contains_filter (reaches g p) (indices g) q (contains_index (process_count g) q (reached_within g w p q i r))
     (then_reaches g p q w i r)

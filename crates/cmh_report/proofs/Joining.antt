@@ -57,7 +57,8 @@ map_reverse f (x ∷ xs) =
 
 -- texts from the last on are those of the items from the last on
 pub texts_turned : {X : Type 0} (f : X → List ℕ) (xs : List X) (texts : List (String Global))
-    → map (λ s. string_bytes s) texts ≡ map f xs → flat_map (λ s. string_bytes s) (reverse texts) ≡ flat_map f (reverse xs)
+    → map (λ s. string_bytes s) texts ≡ map f xs
+    → flat_map (λ s. string_bytes s) (reverse texts) ≡ flat_map f (reverse xs)
 texts_turned f xs texts same =
     sym (flat_map-map (λ ys. ys) (λ s. string_bytes s) (reverse texts))
     ∙ ap (flat_map (λ ys. ys))
@@ -66,7 +67,8 @@ texts_turned f xs texts same =
 
 -- pieces from the last on, each from its end on, are the whole list from its end on
 pieces_turned : {X : Type 0} (f : X → List ℕ) (pieces : List (List X))
-    → flat_map (λ piece. flat_map f (reverse piece)) (reverse pieces) ≡ flat_map f (reverse (flat_map (λ xs. xs) pieces))
+    → flat_map (λ piece. flat_map f (reverse piece)) (reverse pieces)
+    ≡ flat_map f (reverse (flat_map (λ xs. xs) pieces))
 pieces_turned f [] = refl
 pieces_turned f (piece ∷ pieces) =
     ap (flat_map (λ xs. flat_map f (reverse xs))) (reverse-append (piece ∷ []) pieces)
@@ -90,7 +92,8 @@ pieces_joined f list falling size texts some turned same =
 pub all_pieces : {X : Type 0} (P : X → Type 0) (size : ℕ) (xs : List X) → All P xs → All (All P) (chunks_of size xs)
 all_pieces P size xs h = by_fuel P size (length xs) xs h
   where
-    by_fuel : {X : Type 0} (P : X → Type 0) (size fuel : ℕ) (xs : List X) → All P xs → All (All P) (chunks_from fuel size xs)
+    by_fuel : {X : Type 0} (P : X → Type 0) (size fuel : ℕ) (xs : List X) → All P xs
+        → All (All P) (chunks_from fuel size xs)
     by_fuel P size zero xs h = All-nil (All P)
     by_fuel P size (suc fuel) [] h = All-nil (All P)
     by_fuel P size (suc fuel) (x ∷ xs) h =

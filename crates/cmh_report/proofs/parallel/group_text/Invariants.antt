@@ -7,7 +7,8 @@ use Rattle.cmh_report.proofs.parallel.group_text.Given as goal
 
 abbrev pub invariant-loop-leader : goal.invariant-loop-leader
 invariant-loop-leader l = record {
-  lines : map (λ s. string_bytes s) l.lines.items ≡ map (λ p. line (group_line l.graph p)) (take l.leader-index l.piece);
+  lines : map (λ s. string_bytes s) l.lines.items
+      ≡ map (λ p. line (group_line l.graph p)) (take l.leader-index l.piece);
   known : IfSome l.known (IsKnownOf l.graph);
   last : AreNamesOf l.graph l.last;
 }

@@ -9,7 +9,8 @@ use Rattle.cmh_report.proofs.parallel.line_of_group.Goals as goal
 
 pub push_group-requires-clause-core : goal.push_group-requires-clause-core
 push_group-requires-clause-core c =
-    members_within c.args.graph.now c.args.leader (process_count c.args.graph.now) _ c.in_ok-group.ensures.group.core refl
+    let g = c.args.graph.now in
+    members_within g c.args.leader (process_count g) _ c.in_ok-group.ensures.group.core refl
 
 pub push_group-requires-clause-rest : goal.push_group-requires-clause-rest
 push_group-requires-clause-rest c = rest_within c.args.graph.now c.args.leader _ c.in_ok-group.ensures.group.rest

@@ -40,10 +40,11 @@ returns-clause-text c =
     let before = names_but g old.items c.deref-2.result.now c.len.result c.kept_count-kept.result
     c.names_room-cut.result text.items c.deref-2.ensures.value size c.requires.known.text
     (omega (arith, text.ok.0, text.ok.1, text.small)) c.names_room-cut.ensures in
+    let kept = c.kept_count-kept in
     whatever c.extend_from_slice.result _
-    (names_renewed g old.items c.args.list.now c.kept_count-kept.result c.names_room-cut.result text.items
+    (names_renewed g old.items c.args.list.now kept.result c.names_room-cut.result text.items
     c.deref-3.result.now _
-    (subst (λ xs. SharesEnd c.kept_count-kept.result xs c.args.list.now) c.deref.ensures.value c.kept_count-kept.ensures)
+    (subst (λ xs. SharesEnd kept.result xs c.args.list.now) c.deref.ensures.value kept.ensures)
     c.requires.known.text (c.deref-3.ensures ∙ c.in_ok-front.ensures) before.0 c.in_ok-replace_range.ensures.bytes)
   where
     whatever : {T E : Type 0} (r : Result T E) (P : Type 0) → P → OnOk r P
