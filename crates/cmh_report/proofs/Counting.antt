@@ -1,14 +1,18 @@
 -- Sites that are counted by marks.
-use Rattle.std.proofs.Common.{◌≡◌, ℕ, zero, suc, ◌+◌, ◌<◌, Bool, true, false, ◌||◌, inl, inr, List, [], ◌∷◌, ◌++◌, map, length, get_or, take, set, replicate, refl, sym, ◌∙◌, ap, arith, eqb, eqb-true, eq-eqb}
-use Rattle.std.specs.Prelude.{nat_eq}
-use Rattle.std.specs.Set.{is_member}
+use Rattle.std.proofs.Common.{◌≡◌, ℕ, zero, suc, ◌+◌, ◌<◌, Bool, true, false, ◌||◌, not, cond, inl, inr, List, [], ◌∷◌, ◌++◌, map, length, get_or, drop, take, set, replicate, refl, sym, ◌∙◌, ap, arith, eqb, eqb-true, eq-eqb, length-append}
+use Rattle.std.specs.Prelude.{All, nat_eq}
+use Rattle.std.specs.Set.{is_member, distinct_count}
 use Rattle.std.specs.List.{IsDistinct, list_any}
 use Rattle.std.specs.Cmp.{nat_eq_equiv}
 use Rattle.std.proofs.lemmas.Bool.{cases_eq}
-use Rattle.std.proofs.lemmas.List.{get_or-set_other, get_or-set_same, length-replicate, length-set, map-append, take_more}
+use Rattle.std.proofs.lemmas.List.{get_or-set_other, get_or-set_same, length-replicate, length-set, map-append, take-append-drop, take_more}
+use Rattle.std.proofs.lemmas.List.Elements.{All-head, All-tail}
 use Rattle.std.proofs.lemmas.List.Folds.{list_any-append}
+use Rattle.std.proofs.lemmas.List.Sums.{sum_by-cons, sum_by-set}
 use Rattle.std.proofs.lemmas.Map.Keys.{IsDistinct-push}
-use Rattle.cmh_graph.specs.Search.{is_marked}
+use Rattle.std.proofs.lemmas.Map.Made.{length-from_keys}
+use Rattle.cmh_graph.specs.Search.{is_marked, unmarked_count}
+use Rattle.cmh_graph.proofs.Groups.{same_test}
 
 -- The sites are those of so many processes, each once, and are marked alone.
 pub record AreSeen (bound : ℕ) (seen : List Bool) (sites all : List ℕ) : Type 0 where
@@ -16,12 +20,37 @@ pub record AreSeen (bound : ℕ) (seen : List Bool) (sites all : List ℕ) : Typ
   pub distinct : IsDistinct nat_eq sites
   pub same : (s : ℕ) → is_member nat_eq sites s ≡ is_member nat_eq all s
   pub marked : (s : ℕ) → is_marked seen s ≡ is_member nat_eq sites s
+  pub count : unmarked_count seen + length sites ≡ bound
 
 -- nothing is marked in a list of nothing
 none_marked : (n s : ℕ) → is_marked (replicate n false) s ≡ false
 none_marked zero s = refl
 none_marked (suc n) zero = refl
 none_marked (suc n) (suc s) = none_marked n s
+
+-- and all are unmarked
+none_counted : (n : ℕ) → unmarked_count (replicate n false) ≡ n
+none_counted zero = refl
+none_counted (suc n) =
+    sum_by-cons (λ mark. cond {A = ℕ} (not mark) 1 0) false (replicate n false) ∙ omega (arith, none_counted n)
+
+-- a mark more is an unmarked place fewer
+mark_counted : (marks : List Bool) (p : ℕ) → p < length marks → is_marked marks p ≡ false
+    → unmarked_count (set marks p true) + 1 ≡ unmarked_count marks
+mark_counted marks p l e =
+    let change = sum_by-set (λ mark. cond {A = ℕ} (not mark) 1 0) marks p true false l in
+    let was = ap (λ b. cond {A = ℕ} (not b) 1 0) e in
+    omega (arith, change, was)
+
+-- where no place is unmarked each is marked
+all_marked : (marks : List Bool) (s : ℕ) → unmarked_count marks ≡ 0 → s < length marks → is_marked marks s ≡ true
+all_marked [] s e l = absurd (omega (arith, l))
+all_marked (false ∷ marks) s e l =
+    absurd (omega (arith, e, sum_by-cons (λ mark. cond {A = ℕ} (not mark) 1 0) false marks))
+all_marked (true ∷ marks) zero e l = refl
+all_marked (true ∷ marks) (suc s) e l =
+    all_marked marks s (omega (arith, e, sum_by-cons (λ mark. cond {A = ℕ} (not mark) 1 0) true marks))
+    (omega (arith, l))
 
 -- at first there is none
 pub seen_none : (bound : ℕ) (seen : List Bool) → seen ≡ replicate bound false → AreSeen bound seen [] []
@@ -31,6 +60,7 @@ seen_none bound seen is = record {
   distinct = tt;
   same = λ s. refl;
   marked = λ s. ap (λ ms. is_marked ms s) is ∙ none_marked bound s;
+  count = omega (arith, ap unmarked_count is, none_counted bound);
 }
 
 -- a disjunction with false is its first part
@@ -70,6 +100,7 @@ seen_again bound seen sites all x h m = record {
       (λ e. ap (is_member nat_eq sites) (eqb-true s x e) ∙ sym (h.marked x) ∙ m)
       ∙ ap (λ b. b || nat_eq s x) (h.same s) ∙ sym (member_push all x s);
   marked = h.marked;
+  count = h.count;
 }
 
 -- a site more that is marked now
@@ -91,9 +122,51 @@ seen_more bound seen sites all x h l m = record {
         ∙ ap (λ b. is_member nat_eq sites s || b) (other_false (eqb s x) (λ e. other (eqb-true s x e)))
         ∙ or_false (is_member nat_eq sites s))
   ];
+  count = omega (
+    arith,
+    mark_counted seen x (omega (arith, l, h.size)) m,
+    length-append sites (x ∷ []),
+    h.count,
+  );
 }
 
 -- the sites of one process more
 pub sites_more : (site : ℕ → ℕ) (list : List ℕ) (i : ℕ) → i < length list
     → map site (take (i + 1) list) ≡ map site (take i list) ++ site (get_or list i 0) ∷ []
 sites_more site list i l = ap (map site) (take_more list i 0 l) ∙ map-append site (take i list) (get_or list i 0 ∷ [])
+
+-- a site of the first processes is one of all
+member_front : (site : ℕ → ℕ) (list : List ℕ) (i s : ℕ) → is_member nat_eq (map site (take i list)) s ≡ true
+    → is_member nat_eq (map site list) s ≡ true
+member_front site list i s e =
+    ap (λ ps. is_member nat_eq (map site ps) s) (sym (take-append-drop i list))
+    ∙ ap (λ xs. is_member nat_eq xs s) (map-append site (take i list) (drop i list))
+    ∙ list_any-append (nat_eq s) (map site (take i list)) (map site (drop i list))
+    ∙ ap (λ b. b || list_any (nat_eq s) (map site (drop i list))) e
+
+-- the site of each process is below the bound
+member_below : (site : ℕ → ℕ) (bound : ℕ) (list : List ℕ) → All (λ p. site p < bound) list → (s : ℕ)
+    → is_member nat_eq (map site list) s ≡ true → s < bound
+member_below site bound [] h s e = absurd cc
+member_below site bound (p ∷ ps) h s e =
+    first (eqb s (site p)) refl e (All-head (λ q. site q < bound) p ps h)
+    (member_below site bound ps (All-tail (λ q. site q < bound) p ps h) s)
+  where
+    first : (b : Bool) → eqb s (site p) ≡ b → (b || is_member nat_eq (map site ps) s) ≡ true → site p < bound
+        → (is_member nat_eq (map site ps) s ≡ true → s < bound) → s < bound
+    first true same e low rest = omega (arith, eqb-true s (site p) same, low)
+    first false same e low rest = rest e
+
+-- where as many sites are seen as there may be, they are those of all
+pub seen_all : (site : ℕ → ℕ) (bound : ℕ) (seen : List Bool) (sites list : List ℕ) (i : ℕ)
+    → AreSeen bound seen sites (map site (take i list)) → length sites ≡ bound → All (λ p. site p < bound) list
+    → length sites ≡ distinct_count nat_eq (map site list)
+seen_all site bound seen sites list i h full below =
+    length-from_keys nat_eq_equiv sites (map site list) h.distinct
+    (λ s.
+    same_test (is_member nat_eq sites s) (is_member nat_eq (map site list) s)
+    (λ e. member_front site list i s (sym (h.same s) ∙ e))
+    (λ e.
+    sym (h.marked s)
+    ∙ all_marked seen s (omega (arith, h.count, full))
+    (omega (arith, member_below site bound list below s e, h.size))))

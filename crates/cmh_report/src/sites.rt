@@ -39,7 +39,8 @@ pub(crate) fn count_sites(
     }
 }
 
-/// The same by a mark for each site below the bound, which costs least.
+/// The same by a mark for each site below the bound, which costs least. Where all of them are marked
+/// it stops.
 fn count_marked(
     alloc: Global,
     graph: &WaitGraph,
@@ -53,6 +54,9 @@ fn count_marked(
     let mut seen = vec![in alloc; false; bound]?;
     let mut sites = Vec::new(alloc);
     for p in list {
+        if sites.len() == bound {
+            return Ok(bound);
+        }
         let site = graph.site(*p);
         if !seen[site as usize] {
             seen[site as usize] = true;

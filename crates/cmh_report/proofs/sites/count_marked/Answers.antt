@@ -6,7 +6,7 @@ use Rattle.std.proofs.lemmas.List.{get_or_default}
 use Rattle.std.proofs.lemmas.Map.Made.{length-from_keys}
 use Rattle.cmh_graph.specs.Graph.{site_of}
 use Rattle.cmh_graph.specs.Search.{is_marked}
-use Rattle.cmh_report.proofs.Counting.{AreSeen, seen_again, seen_more, seen_none, sites_more}
+use Rattle.cmh_report.proofs.Counting.{AreSeen, seen_again, seen_all, seen_more, seen_none, sites_more}
 use Rattle.cmh_report.proofs.sites.count_marked.Goals as goal
 use Rattle.cmh_report.proofs.sites.count_marked.Goals.{then-not-index+in_ok-push, else-not-index}
 
@@ -50,10 +50,21 @@ loop-p-preserved c =
           (seen_again c.args.bound c.loop-p.seen.items c.loop-p.sites.items all site c.loop-p.invariant marked))
     ])
 
+-- where all sites below the bound are seen they are those of the list
+pub returns-then-len-bound : goal.returns-then-len-bound
+returns-then-len-bound c =
+    let sites = c.loop-p.sites in
+    let full : length sites.items ≡ c.args.bound =
+    omega (arith, c.len.ensures, sites.ok.0, c.if-len-bound.true) in
+    sym full
+    ∙ seen_all (site_of c.args.graph.now) c.args.bound c.loop-p.seen.items sites.items c.args.list.now c.loop-p.p-index
+    c.loop-p.invariant full
+    (λ k d l. c.requires.below (get_or c.args.list.now k d) (c.requires.within k d l))
+
 pub returns : goal.returns
 returns c =
     let all = take_all c.loop-p.p-index c.args.list.now c.loop-p-test.false in
-    c.len.ensures ∙ c.loop-p.sites.ok.0
+    c.len-2.ensures ∙ c.loop-p.sites.ok.0
     ∙ length-from_keys nat_eq_equiv c.loop-p.sites.items
     (map (site_of c.args.graph.now) c.args.list.now) c.loop-p.invariant.distinct
     (λ s. c.loop-p.invariant.same s ∙ ap (λ xs. is_member nat_eq (map (site_of c.args.graph.now) xs) s) all)
