@@ -184,16 +184,21 @@ fn are_same(old: &[bool], new: &[bool]) -> bool
     old == new
 }
 
-/// The marked processes, which a leader reaches, by rising index.
+/// The marked processes, which a leader reaches, by rising index. Who waits for nobody reaches itself
+/// alone, so that a look at all marks is spared where many such are.
 fn reach_of(
     alloc: Global,
     graph: &WaitGraph,
     leader: u32,
     marks: &[bool],
 ) -> Result<Vec<u32>, AllocError>
-    requires { marks.now ≡ map (reaches graph.now leader) (indices graph.now) }
+    requires within { leader < process_count graph.now }
+    requires marks { marks.now ≡ map (reaches graph.now leader) (indices graph.now) }
     ensures { IfOk result (λ reach. reach.items ≡ reach_of graph.now leader) }
 {
+    if graph.dependents(leader).is_empty() {
+        return graph.reach_of(alloc, leader).map_err(out_of_memory);
+    }
     law_built_graph(graph);
     marked(alloc, marks)
 }

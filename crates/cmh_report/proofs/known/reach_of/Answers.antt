@@ -10,7 +10,7 @@ marked-requires c =
     let g = c.args.graph.now in
     omega (
       arith,
-      ap length c.requires,
+      ap length c.requires.marks,
       length-by_index g (reaches g c.args.leader),
       c.law_built_graph.ensures.processes,
     )
@@ -18,4 +18,4 @@ marked-requires c =
 pub returns : goal.returns
 returns c =
     IfOk-then c.marked.result _ _ c.marked.ensures
-    (λ list is. is ∙ reach_listed c.args.graph.now c.args.leader _ c.requires)
+    (λ list is. is ∙ reach_listed c.args.graph.now c.args.leader _ c.requires.marks)
