@@ -15,7 +15,7 @@ mod scripted;
 mod surface;
 mod verdicts;
 
-use crate::{Delivery, NoHints, RunFault, RunLog};
+use crate::{Delivery, Ending, RunFault, RunLog};
 use cmh_graph::{Part, State, Verdict, WaitGraph};
 use cmh_process::{Kind, Message};
 use std::alloc::{AllocError, Global};
@@ -42,6 +42,49 @@ const CYCLE_AND_FOLLOWER: [Option<&[u32]>; 3] = [Some(&[1]), Some(&[0]), Some(&[
 
 const KNOT_OF_THREE: [Option<&[u32]>; 3] = [Some(&[1, 2]), Some(&[2]), Some(&[1])];
 
+/// The run of process 0 of `TWO_IN_A_CYCLE`, by the first message each time.
+const STEPS_OF_TWO: [Step; 4] = [
+    Step::Query(1, 0, 1),
+    Step::Query(1, 1, 0),
+    Step::Reply(1, 0, 1),
+    Step::Reply(1, 1, 0),
+];
+
+/// The same of `ONE_FREE_ONE_STUCK`.
+const STEPS_OF_STUCK: [Step; 5] = [
+    Step::Query(1, 0, 1),
+    Step::Query(1, 0, 2),
+    Step::Query(1, 1, 1),
+    Step::Reply(1, 1, 1),
+    Step::Reply(1, 1, 0),
+];
+
+/// The same of `KNOT_OF_THREE`.
+const STEPS_OF_KNOT: [Step; 8] = [
+    Step::Query(1, 0, 1),
+    Step::Query(1, 0, 2),
+    Step::Query(1, 1, 2),
+    Step::Query(1, 2, 1),
+    Step::Reply(1, 2, 1),
+    Step::Reply(1, 1, 2),
+    Step::Reply(1, 1, 0),
+    Step::Reply(1, 2, 0),
+];
+
+/// A run without hints, and what comes of it.
+#[derive(Clone, Copy)]
+struct Worked<'a> {
+    waits: Waits<'a>,
+    in_transit: &'a [(u32, u32)],
+    initiator: u32,
+    choices: &'a [u64],
+    restarts: &'a [u32],
+    steps: &'a [Step],
+    ending: Ending,
+    engaged: &'a [u32],
+    restarted: u32,
+}
+
 /// `one_free_one_stuck`, a process that waits for the active one, and one that waits for that.
 const FREE_BY_TWO: [Option<&[u32]>; 5] = [Some(&[1, 2]), Some(&[1]), None, Some(&[2]), Some(&[3])];
 
@@ -64,17 +107,6 @@ fn graph_of(alloc: Global, waits: Waits, in_transit: &[(u32, u32)]) -> Result<Wa
         parts.push(part_of(alloc, *dependents)?)?;
     }
     WaitGraph::build_with(alloc, parts, in_transit).map_err(|_| RunFault::Memory)
-}
-
-/// The run of one computation without hints.
-fn run_of(
-    alloc: Global,
-    waits: Waits,
-    initiator: u32,
-    choices: &[u64],
-) -> Result<RunLog, RunFault> {
-    let graph = graph_of(alloc, waits, &[])?;
-    crate::run(alloc, &graph, initiator, choices, &mut NoHints)
 }
 
 /// The delivery of a step of the computations of this initiator.
@@ -107,4 +139,14 @@ fn has_steps(run: &RunLog, steps: &[Step]) -> bool {
     run.log().len() == steps.len()
         && run.log().iter().zip(steps.iter()).all(|(made, step)| *made
             == delivery(run.initiator(), *step, None))
+}
+
+/// Whether the run is as it was worked out.
+fn is_as_worked(run: &RunLog, worked: &Worked) -> bool {
+    has_steps(run, worked.steps)
+        && run.ending() == worked.ending
+        && (run.verdict() == Verdict::Deadlocked) == (worked.ending == Ending::Declared)
+        && run.engaged() == worked.engaged
+        && run.initiator() == worked.initiator
+        && run.restarted() == worked.restarted
 }

@@ -2,262 +2,251 @@
 
 use super::Step::{self, Query, Reply};
 use super::{
-    FREE_BY_TWO, KNOT_OF_THREE, ONE_FREE_ONE_STUCK, TWO_IN_A_CYCLE, WAITS_FOR_NOBODY, Waits,
-    delivery, graph_of, log_of,
+    FREE_BY_TWO, KNOT_OF_THREE, ONE_FREE_ONE_STUCK, STEPS_OF_KNOT, STEPS_OF_STUCK, STEPS_OF_TWO,
+    TWO_IN_A_CYCLE, WAITS_FOR_NOBODY, Waits, delivery, graph_of,
 };
 use crate::CheckFault::{AfterEnd, FalseHint, NotEnded, NotIdle, NotUndelivered};
-use crate::{CheckFault, Ending, RunFault, check_run};
-use cmh_graph::Verdict;
+use crate::{CheckFault, Delivery, Ending, RunFault, check_run};
+use cmh_graph::Verdict::{self, Deadlocked, Free};
 use std::alloc::Global;
 
-type Answer = Result<Ending, CheckFault>;
+/// Which of the steps are in the log, by their places, the hint at a place of the log, and what is
+/// said of it.
+type Forged<'a> = (
+    &'a [usize],
+    Option<(usize, Verdict)>,
+    Result<Ending, CheckFault>,
+);
 
-const CYCLE: [Step; 4] = [
-    Query(1, 0, 1),
-    Query(1, 1, 0),
-    Reply(1, 0, 1),
-    Reply(1, 1, 0),
+const OF_TWO: [Forged; 7] = [
+    (&[0, 1, 2, 3], None, Ok(Ending::Declared)),
+    (&[0, 1, 2], None, Err(NotEnded)),
+    (&[0, 1, 2, 3, 3], None, Err(AfterEnd(4))),
+    (&[3, 1, 2, 3], None, Err(NotUndelivered(0))),
+    (&[0, 1, 2, 3], Some((0, Free)), Err(FalseHint(0))),
+    (&[0, 1, 2, 3], Some((1, Deadlocked)), Err(FalseHint(1))),
+    (&[], None, Err(NotEnded)),
 ];
 
-const KNOT: [Step; 8] = [
-    Query(1, 0, 1),
-    Query(1, 0, 2),
-    Query(1, 1, 2),
-    Query(1, 2, 1),
-    Reply(1, 2, 1),
-    Reply(1, 1, 2),
-    Reply(1, 1, 0),
-    Reply(1, 2, 0),
+const WHOLE: &[usize] = &[0, 1, 2, 3, 4, 5, 6, 7];
+
+const OF_KNOT: [Forged; 22] = [
+    (WHOLE, None, Ok(Ending::Declared)),
+    (&[1, 3, 2, 0, 4, 6, 5, 7], None, Ok(Ending::Declared)),
+    (&[1, 0, 3, 2, 5, 4, 7, 6], None, Ok(Ending::Declared)),
+    // Without the query from 1 to 2 there is no reply to it.
+    (&[0, 1, 3, 4, 5, 6, 7], None, Err(NotUndelivered(3))),
+    (&[0, 1, 2, 3, 4, 5, 6], None, Err(NotEnded)),
+    (&[0, 0, 1, 2, 3, 4, 5, 6, 7], None, Err(NotUndelivered(1))),
+    (&[0, 1, 2, 3, 4, 5, 6, 7, 7], None, Err(AfterEnd(8))),
+    // Neighbours are swapped.
+    (&[1, 0, 2, 3, 4, 5, 6, 7], None, Ok(Ending::Declared)),
+    (&[0, 1, 3, 2, 4, 5, 6, 7], None, Ok(Ending::Declared)),
+    (&[0, 1, 2, 4, 3, 5, 6, 7], None, Ok(Ending::Declared)),
+    (&[0, 1, 2, 3, 5, 4, 6, 7], None, Ok(Ending::Declared)),
+    (&[0, 1, 2, 3, 4, 6, 5, 7], None, Ok(Ending::Declared)),
+    (&[0, 1, 2, 3, 4, 5, 7, 6], None, Ok(Ending::Declared)),
+    // Process 2 engages for 1 then, and replies to it only when it has its own reply.
+    (&[0, 2, 1, 3, 4, 5, 6, 7], None, Err(NotUndelivered(4))),
+    // Process 1 is told to be deadlocked: it replies at once, and asks nobody.
+    (WHOLE, Some((0, Deadlocked)), Err(NotUndelivered(2))),
+    (WHOLE, Some((1, Free)), Err(FalseHint(1))),
+    (WHOLE, Some((2, Deadlocked)), Err(FalseHint(2))),
+    (WHOLE, Some((3, Deadlocked)), Err(FalseHint(3))),
+    (WHOLE, Some((4, Deadlocked)), Err(FalseHint(4))),
+    (WHOLE, Some((5, Deadlocked)), Err(FalseHint(5))),
+    (WHOLE, Some((6, Deadlocked)), Err(FalseHint(6))),
+    (WHOLE, Some((7, Deadlocked)), Err(FalseHint(7))),
 ];
 
-const STUCK: [Step; 5] = [
-    Query(1, 0, 1),
-    Query(1, 0, 2),
-    Query(1, 1, 1),
-    Reply(1, 1, 1),
-    Reply(1, 1, 0),
+const OF_STUCK: [Forged; 5] = [
+    (&[0, 1, 2, 3, 4], None, Ok(Ending::AtRest)),
+    // The query to the active process stays undelivered.
+    (&[0, 2, 3, 4], None, Err(NotEnded)),
+    (&[0, 1, 2, 3, 4, 4], None, Err(AfterEnd(5))),
+    (
+        &[0, 1, 2, 3, 4],
+        Some((0, Deadlocked)),
+        Err(NotUndelivered(2)),
+    ),
+    // Nothing is asked about an active process.
+    (&[0, 1, 2, 3, 4], Some((1, Free)), Err(FalseHint(1))),
 ];
 
-/// What is said of these steps of process 0, without hints.
-fn judged(alloc: Global, waits: Waits, steps: &[Step]) -> Result<Answer, RunFault> {
-    let graph = graph_of(alloc, waits, &[])?;
-    let log = log_of(alloc, 0, steps)?;
-    Ok(check_run(alloc, &graph, 0, &log))
-}
-
-/// What is said of the steps with the one at this place and the next swapped.
-fn swapped(alloc: Global, waits: Waits, steps: &[Step], place: usize) -> Result<Answer, RunFault> {
-    let graph = graph_of(alloc, waits, &[])?;
-    let mut log = log_of(alloc, 0, steps)?;
-    if place < log.len() && log.len() - place > 1 {
-        log.swap(place, place + 1);
-    }
-    Ok(check_run(alloc, &graph, 0, &log))
-}
-
-/// What is said of the steps at these places.
-fn placed(
-    alloc: Global,
-    waits: Waits,
-    steps: &[Step],
-    places: &[usize],
-) -> Result<Answer, RunFault> {
-    let mut chosen = Vec::new(alloc);
-    for place in places {
+/// The log of process 0 with these of the steps.
+fn forged_log(alloc: Global, steps: &[Step], forged: &Forged) -> Result<Vec<Delivery>, RunFault> {
+    let mut log = Vec::new(alloc);
+    for (at, place) in forged.0.iter().enumerate() {
+        let hint = match forged.1 {
+            Some((hinted, verdict)) if hinted == at => Some(verdict),
+            _ => None,
+        };
         if let Some(step) = steps.get(*place) {
-            chosen.push(*step)?;
+            log.push(delivery(0, *step, hint))?;
         }
     }
-    judged(alloc, waits, &chosen)
+    Ok(log)
 }
 
-/// What is said of the steps with a hint at one place.
-fn hinted(
+/// The first of the logs of which something else is said.
+fn first_other(
     alloc: Global,
     waits: Waits,
     steps: &[Step],
-    place: usize,
-    hint: Verdict,
-) -> Result<Answer, RunFault> {
+    rows: &[Forged],
+) -> Result<Option<usize>, RunFault> {
     let graph = graph_of(alloc, waits, &[])?;
-    let mut log = log_of(alloc, 0, steps)?;
-    if let Some(made) = log.get_mut(place) {
-        made.hint = Some(hint);
+    for (row, forged) in rows.iter().enumerate() {
+        let log = forged_log(alloc, steps, forged)?;
+        if check_run(alloc, &graph, 0, &log) != forged.2 {
+            return Ok(Some(row));
+        }
     }
-    Ok(check_run(alloc, &graph, 0, &log))
+    Ok(None)
 }
 
 #[test]
 fn forged_logs(rt: HostRuntime) -> Result<(), RunFault> {
-    let alloc = rt.alloc();
-    let waits = &TWO_IN_A_CYCLE;
-    assert_eq!(rt; judged(alloc, waits, &CYCLE)?, Ok(Ending::Declared));
-    assert_eq!(rt; placed(alloc, waits, &CYCLE, &[0, 1, 2])?, Err(NotEnded));
-    assert_eq!(rt;
-        placed(alloc, waits, &CYCLE, &[0, 1, 2, 3, 3])?,
-        Err(AfterEnd(4))
-    );
-    assert_eq!(rt;
-        placed(alloc, waits, &CYCLE, &[3, 1, 2, 3])?,
-        Err(NotUndelivered(0))
-    );
-    assert_eq!(rt;
-        hinted(alloc, waits, &CYCLE, 0, Verdict::Free)?,
-        Err(FalseHint(0))
-    );
-    assert_eq!(rt;
-        hinted(alloc, waits, &CYCLE, 1, Verdict::Deadlocked)?,
-        Err(FalseHint(1))
-    );
-    let graph = graph_of(alloc, waits, &[])?;
-    assert_eq!(rt; check_run(alloc, &graph, 2, &[]), Err(NotIdle));
-    assert_eq!(rt; judged(alloc, waits, &[])?, Err(NotEnded));
-    Ok(())
-}
-
-#[test]
-fn logs_with_hints(rt: HostRuntime) -> Result<(), RunFault> {
-    let alloc = rt.alloc();
-    let cycle = graph_of(alloc, &TWO_IN_A_CYCLE, &[])?;
-    let known = [
-        delivery(0, Query(1, 0, 1), Some(Verdict::Deadlocked)),
-        delivery(0, Reply(1, 1, 0), None),
+    let rows: [(Waits, &[Step], &[Forged]); 3] = [
+        (&TWO_IN_A_CYCLE, &STEPS_OF_TWO, &OF_TWO),
+        (&KNOT_OF_THREE, &STEPS_OF_KNOT, &OF_KNOT),
+        (&ONE_FREE_ONE_STUCK, &STEPS_OF_STUCK, &OF_STUCK),
     ];
-    assert_eq!(rt; check_run(alloc, &cycle, 0, &known), Ok(Ending::Declared));
-    let graph = graph_of(alloc, &FREE_BY_TWO, &[])?;
-    let free = [delivery(4, Query(1, 4, 3), Some(Verdict::Free))];
-    assert_eq!(rt; check_run(alloc, &graph, 4, &free), Ok(Ending::CutFree(3)));
+    for (waits, steps, forged) in rows {
+        assert_eq!(rt; first_other(rt.alloc(), waits, steps, forged)?, None);
+    }
     Ok(())
 }
 
-#[test]
-fn short_logs(rt: HostRuntime) -> Result<(), RunFault> {
-    let alloc = rt.alloc();
-    let waits = &WAITS_FOR_NOBODY;
-    assert_eq!(rt; judged(alloc, waits, &[])?, Ok(Ending::Declared));
-    assert_eq!(rt; judged(alloc, waits, &[Query(1, 0, 0)])?, Err(AfterEnd(0)));
+/// A log of whoever made it, judged as one of an initiator of a graph, and what is said of it.
+struct Judged<'a> {
+    waits: Waits<'a>,
+    in_transit: &'a [(u32, u32)],
+    initiator: u32,
+    maker: u32,
+    steps: &'a [(Step, Option<Verdict>)],
+    said: Result<Ending, CheckFault>,
+}
 
+const JUDGED: [Judged; 10] = [
+    Judged {
+        waits: &TWO_IN_A_CYCLE,
+        in_transit: &[],
+        initiator: 2,
+        maker: 2,
+        steps: &[],
+        said: Err(NotIdle),
+    },
+    Judged {
+        waits: &TWO_IN_A_CYCLE,
+        in_transit: &[],
+        initiator: 0,
+        maker: 0,
+        steps: &[(Query(1, 0, 1), Some(Deadlocked)), (Reply(1, 1, 0), None)],
+        said: Ok(Ending::Declared),
+    },
+    Judged {
+        waits: &FREE_BY_TWO,
+        in_transit: &[],
+        initiator: 4,
+        maker: 4,
+        steps: &[(Query(1, 4, 3), Some(Free))],
+        said: Ok(Ending::CutFree(3)),
+    },
+    Judged {
+        waits: &WAITS_FOR_NOBODY,
+        in_transit: &[],
+        initiator: 0,
+        maker: 0,
+        steps: &[],
+        said: Ok(Ending::Declared),
+    },
+    Judged {
+        waits: &WAITS_FOR_NOBODY,
+        in_transit: &[],
+        initiator: 0,
+        maker: 0,
+        steps: &[(Query(1, 0, 0), None)],
+        said: Err(AfterEnd(0)),
+    },
     // An awake initiator asks nobody.
-    let graph = graph_of(alloc, &TWO_IN_A_CYCLE, &[(1, 0)])?;
-    assert_eq!(rt; check_run(alloc, &graph, 0, &[]), Ok(Ending::AtRest));
-    let log = log_of(alloc, 0, &CYCLE)?;
-    assert_eq!(rt; check_run(alloc, &graph, 0, &log), Err(AfterEnd(0)));
-    Ok(())
-}
+    Judged {
+        waits: &TWO_IN_A_CYCLE,
+        in_transit: &[(1, 0)],
+        initiator: 0,
+        maker: 0,
+        steps: &[],
+        said: Ok(Ending::AtRest),
+    },
+    Judged {
+        waits: &TWO_IN_A_CYCLE,
+        in_transit: &[(1, 0)],
+        initiator: 0,
+        maker: 0,
+        steps: &[
+            (Query(1, 0, 1), None),
+            (Query(1, 1, 0), None),
+            (Reply(1, 0, 1), None),
+            (Reply(1, 1, 0), None),
+        ],
+        said: Err(AfterEnd(0)),
+    },
+    // A run with a restart.
+    Judged {
+        waits: &TWO_IN_A_CYCLE,
+        in_transit: &[],
+        initiator: 0,
+        maker: 0,
+        steps: &[
+            (Query(1, 0, 1), None),
+            (Query(1, 1, 0), None),
+            (Reply(1, 0, 1), None),
+            (Query(2, 0, 1), None),
+            (Reply(1, 1, 0), None),
+            (Query(2, 1, 0), None),
+            (Reply(2, 0, 1), None),
+            (Reply(2, 1, 0), None),
+        ],
+        said: Err(NotUndelivered(3)),
+    },
+    // The steps of process 0, made by process 1.
+    Judged {
+        waits: &TWO_IN_A_CYCLE,
+        in_transit: &[],
+        initiator: 0,
+        maker: 1,
+        steps: &[
+            (Query(1, 0, 1), None),
+            (Query(1, 1, 0), None),
+            (Reply(1, 0, 1), None),
+            (Reply(1, 1, 0), None),
+        ],
+        said: Err(NotUndelivered(0)),
+    },
+    Judged {
+        waits: &TWO_IN_A_CYCLE,
+        in_transit: &[],
+        initiator: 0,
+        maker: 0,
+        steps: &[(Query(1, 0, u32::MAX), None)],
+        said: Err(NotUndelivered(0)),
+    },
+];
 
-#[test]
-fn the_log_of_a_run_with_a_restart(rt: HostRuntime) -> Result<(), RunFault> {
-    let steps = [
-        Query(1, 0, 1),
-        Query(1, 1, 0),
-        Reply(1, 0, 1),
-        Query(2, 0, 1),
-        Reply(1, 1, 0),
-        Query(2, 1, 0),
-        Reply(2, 0, 1),
-        Reply(2, 1, 0),
-    ];
-    assert_eq!(rt;
-        judged(rt.alloc(), &TWO_IN_A_CYCLE, &steps)?,
-        Err(NotUndelivered(3))
-    );
-    Ok(())
-}
-
-#[test]
-fn messages_of_others(rt: HostRuntime) -> Result<(), RunFault> {
-    let alloc = rt.alloc();
-    let graph = graph_of(alloc, &TWO_IN_A_CYCLE, &[])?;
-    let log = log_of(alloc, 1, &CYCLE)?;
-    assert_eq!(rt; check_run(alloc, &graph, 0, &log), Err(NotUndelivered(0)));
-    let far = log_of(alloc, 0, &[Query(1, 0, u32::MAX)])?;
-    assert_eq!(rt; check_run(alloc, &graph, 0, &far), Err(NotUndelivered(0)));
-    Ok(())
-}
-
-#[test]
-fn knot_of_three_in_three_orders(rt: HostRuntime) -> Result<(), RunFault> {
-    let alloc = rt.alloc();
-    let waits = &KNOT_OF_THREE;
-    assert_eq!(rt; judged(alloc, waits, &KNOT)?, Ok(Ending::Declared));
-    let ones = [1, 3, 2, 0, 4, 6, 5, 7];
-    assert_eq!(rt; placed(alloc, waits, &KNOT, &ones)?, Ok(Ending::Declared));
-    let great = [1, 0, 3, 2, 5, 4, 7, 6];
-    assert_eq!(rt; placed(alloc, waits, &KNOT, &great)?, Ok(Ending::Declared));
-    Ok(())
-}
-
-#[test]
-fn one_delivery_removed_or_doubled(rt: HostRuntime) -> Result<(), RunFault> {
-    let alloc = rt.alloc();
-    let knot = &KNOT_OF_THREE;
-    // Without the query from 1 to 2 there is no reply to it.
-    let without = [0, 1, 3, 4, 5, 6, 7];
-    assert_eq!(rt;
-        placed(alloc, knot, &KNOT, &without)?,
-        Err(NotUndelivered(3))
-    );
-    let short = [0, 1, 2, 3, 4, 5, 6];
-    assert_eq!(rt; placed(alloc, knot, &KNOT, &short)?, Err(NotEnded));
-    let doubled = [0, 0, 1, 2, 3, 4, 5, 6, 7];
-    assert_eq!(rt;
-        placed(alloc, knot, &KNOT, &doubled)?,
-        Err(NotUndelivered(1))
-    );
-    let longer = [0, 1, 2, 3, 4, 5, 6, 7, 7];
-    assert_eq!(rt; placed(alloc, knot, &KNOT, &longer)?, Err(AfterEnd(8)));
-
-    let stuck = &ONE_FREE_ONE_STUCK;
-    assert_eq!(rt; judged(alloc, stuck, &STUCK)?, Ok(Ending::AtRest));
-    // The query to the active process stays undelivered.
-    assert_eq!(rt; placed(alloc, stuck, &STUCK, &[0, 2, 3, 4])?, Err(NotEnded));
-    assert_eq!(rt;
-        placed(alloc, stuck, &STUCK, &[0, 1, 2, 3, 4, 4])?,
-        Err(AfterEnd(5))
-    );
-    Ok(())
-}
-
-#[test]
-fn neighbours_swapped(rt: HostRuntime) -> Result<(), RunFault> {
-    let alloc = rt.alloc();
-    let waits = &KNOT_OF_THREE;
-    for place in [0, 2, 3, 4, 5, 6] {
-        assert_eq!(rt; swapped(alloc, waits, &KNOT, place)?, Ok(Ending::Declared));
+/// What is said of the log.
+fn said_of(alloc: Global, judged: &Judged) -> Result<Result<Ending, CheckFault>, RunFault> {
+    let graph = graph_of(alloc, judged.waits, judged.in_transit)?;
+    let mut log = Vec::new(alloc);
+    for step in judged.steps {
+        log.push(delivery(judged.maker, step.0, step.1))?;
     }
-    // Process 2 engages for 1 then, and replies to it only when it has its own reply.
-    assert_eq!(rt; swapped(alloc, waits, &KNOT, 1)?, Err(NotUndelivered(4)));
-    Ok(())
+    Ok(check_run(alloc, &graph, judged.initiator, &log))
 }
 
 #[test]
-fn hints_at_each_place(rt: HostRuntime) -> Result<(), RunFault> {
-    let alloc = rt.alloc();
-    let knot = &KNOT_OF_THREE;
-    // Process 1 is told to be deadlocked: it replies at once, and asks nobody.
-    assert_eq!(rt;
-        hinted(alloc, knot, &KNOT, 0, Verdict::Deadlocked)?,
-        Err(NotUndelivered(2))
-    );
-    assert_eq!(rt;
-        hinted(alloc, knot, &KNOT, 1, Verdict::Free)?,
-        Err(FalseHint(1))
-    );
-    for place in 2..8usize {
-        assert_eq!(rt;
-            hinted(alloc, knot, &KNOT, place, Verdict::Deadlocked)?,
-            Err(FalseHint(place))
-        );
+fn judged_logs(rt: HostRuntime) -> Result<(), RunFault> {
+    for (row, judged) in JUDGED.iter().enumerate() {
+        assert_eq!(rt; said_of(rt.alloc(), judged)?, judged.said, "at {row}");
     }
-    let stuck = &ONE_FREE_ONE_STUCK;
-    assert_eq!(rt;
-        hinted(alloc, stuck, &STUCK, 0, Verdict::Deadlocked)?,
-        Err(NotUndelivered(2))
-    );
-    // Nothing is asked about an active process.
-    assert_eq!(rt;
-        hinted(alloc, stuck, &STUCK, 1, Verdict::Free)?,
-        Err(FalseHint(1))
-    );
     Ok(())
 }

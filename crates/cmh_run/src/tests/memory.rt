@@ -1,7 +1,6 @@
 //! Runs and judgements while memory is short.
 
-use super::Step::{Query, Reply};
-use super::{CYCLE_AND_FOLLOWER, TWO_IN_A_CYCLE, Waits, graph_of, log_of};
+use super::{CYCLE_AND_FOLLOWER, STEPS_OF_TWO, TWO_IN_A_CYCLE, Waits, graph_of, log_of};
 use crate::{
     Bag, CheckFault, Delivery, Ending, Hints, NoHints, RunFault, ScriptFault, Scripted, check_run,
     run, run_again,
@@ -110,13 +109,7 @@ const AS_THEY_SHOULD_BE: Answers = Answers {
 /// Makes the call with each multiple of 16 bytes below `ROOM`, and then with all memory.
 fn sweep(alloc: Global, waits: Waits, call: Call) -> Result<Answers, Fail> {
     let graph = graph_of(alloc, waits, &[])?;
-    let steps = [
-        Query(1, 0, 1),
-        Query(1, 1, 0),
-        Reply(1, 0, 1),
-        Reply(1, 1, 0),
-    ];
-    let log = log_of(alloc, 0, &steps)?;
+    let log = log_of(alloc, 0, &STEPS_OF_TWO)?;
     let mut blocks = Vec::with_capacity(alloc, 100_000)?;
     let room: Vec<u8> = Vec::with_capacity(alloc, ROOM)?;
     let _pin: Vec<u8> = Vec::with_capacity(alloc, 64)?;

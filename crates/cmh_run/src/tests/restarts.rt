@@ -1,92 +1,157 @@
 //! Runs with restarts, while messages of older numbers are undelivered.
 
-use super::Step::{self, Query, Reply};
+use super::Step::{Query, Reply};
 use super::{
-    ONE_FREE_ONE_STUCK, TWO_IN_A_CYCLE, WAITS_FOR_ITSELF, WAITS_FOR_NOBODY, Waits, graph_of,
-    has_steps,
+    ONE_FREE_ONE_STUCK, STEPS_OF_STUCK, STEPS_OF_TWO, TWO_IN_A_CYCLE, WAITS_FOR_ITSELF,
+    WAITS_FOR_NOBODY, Worked, graph_of, is_as_worked,
 };
-use crate::{Ending, NoHints, RunFault, RunLog, run_again};
-use std::alloc::Global;
+use crate::{Ending, NoHints, RunFault, run_again};
 
-/// The run of process 0 without choices and hints.
-fn again(alloc: Global, waits: Waits, restarts: &[u32]) -> Result<RunLog, RunFault> {
-    let graph = graph_of(alloc, waits, &[])?;
-    run_again(alloc, &graph, 0, &[], &mut NoHints, restarts)
-}
-
-const CYCLE: [Step; 4] = [
-    Query(1, 0, 1),
-    Query(1, 1, 0),
-    Reply(1, 0, 1),
-    Reply(1, 1, 0),
+const WORKED: [Worked; 8] = [
+    Worked {
+        waits: &TWO_IN_A_CYCLE,
+        in_transit: &[],
+        initiator: 0,
+        choices: &[],
+        restarts: &[2],
+        steps: &[
+            Query(1, 0, 1),
+            Query(1, 1, 0),
+            Reply(1, 0, 1),
+            Query(2, 0, 1),
+            Reply(1, 1, 0),
+            Query(2, 1, 0),
+            Reply(2, 0, 1),
+            Reply(2, 1, 0),
+        ],
+        ending: Ending::Declared,
+        engaged: &[0, 1],
+        restarted: 1,
+    },
+    Worked {
+        waits: &TWO_IN_A_CYCLE,
+        in_transit: &[],
+        initiator: 0,
+        choices: &[],
+        restarts: &[0],
+        steps: &[
+            Query(1, 0, 1),
+            Query(2, 0, 1),
+            Query(1, 1, 0),
+            Query(2, 1, 0),
+            Reply(2, 0, 1),
+            Reply(2, 1, 0),
+        ],
+        ending: Ending::Declared,
+        engaged: &[0, 1],
+        restarted: 1,
+    },
+    Worked {
+        waits: &TWO_IN_A_CYCLE,
+        in_transit: &[],
+        initiator: 0,
+        choices: &[],
+        restarts: &[0, 1],
+        steps: &[
+            Query(1, 0, 1),
+            Query(2, 0, 1),
+            Query(1, 1, 0),
+            Query(3, 0, 1),
+            Query(2, 1, 0),
+            Query(3, 1, 0),
+            Reply(3, 0, 1),
+            Reply(3, 1, 0),
+        ],
+        ending: Ending::Declared,
+        engaged: &[0, 1],
+        restarted: 2,
+    },
+    // A restart that isn't reached.
+    Worked {
+        waits: &TWO_IN_A_CYCLE,
+        in_transit: &[],
+        initiator: 0,
+        choices: &[],
+        restarts: &[9],
+        steps: &STEPS_OF_TWO,
+        ending: Ending::Declared,
+        engaged: &[0, 1],
+        restarted: 0,
+    },
+    // There is none after the end.
+    Worked {
+        waits: &WAITS_FOR_NOBODY,
+        in_transit: &[],
+        initiator: 0,
+        choices: &[],
+        restarts: &[0],
+        steps: &[],
+        ending: Ending::Declared,
+        engaged: &[0],
+        restarted: 0,
+    },
+    Worked {
+        waits: &ONE_FREE_ONE_STUCK,
+        in_transit: &[],
+        initiator: 0,
+        choices: &[],
+        restarts: &[6],
+        steps: &STEPS_OF_STUCK,
+        ending: Ending::AtRest,
+        engaged: &[0, 1],
+        restarted: 0,
+    },
+    // Where nothing is undelivered and a restart is due, it comes.
+    Worked {
+        waits: &ONE_FREE_ONE_STUCK,
+        in_transit: &[],
+        initiator: 0,
+        choices: &[],
+        restarts: &[5],
+        steps: &[
+            Query(1, 0, 1),
+            Query(1, 0, 2),
+            Query(1, 1, 1),
+            Reply(1, 1, 1),
+            Reply(1, 1, 0),
+            Query(2, 0, 1),
+            Query(2, 0, 2),
+            Query(2, 1, 1),
+            Reply(2, 1, 1),
+            Reply(2, 1, 0),
+        ],
+        ending: Ending::AtRest,
+        engaged: &[0, 1],
+        restarted: 1,
+    },
+    // An awake initiator never starts.
+    Worked {
+        waits: &TWO_IN_A_CYCLE,
+        in_transit: &[(1, 0)],
+        initiator: 0,
+        choices: &[],
+        restarts: &[0],
+        steps: &[],
+        ending: Ending::AtRest,
+        engaged: &[],
+        restarted: 0,
+    },
 ];
 
 #[test]
-fn restarted(rt: HostRuntime) -> Result<(), RunFault> {
-    let run = again(rt.alloc(), &TWO_IN_A_CYCLE, &[2])?;
-    assert!(rt;
-        has_steps(
-            &run,
-            &[
-                Query(1, 0, 1),
-                Query(1, 1, 0),
-                Reply(1, 0, 1),
-                Query(2, 0, 1),
-                Reply(1, 1, 0),
-                Query(2, 1, 0),
-                Reply(2, 0, 1),
-                Reply(2, 1, 0),
-            ]
-        )
-    );
-    assert_eq!(rt; run.ending(), Ending::Declared);
-    assert_eq!(rt; run.restarted(), 1);
-    assert_eq!(rt; run.engaged(), [0, 1].as_slice());
-    Ok(())
-}
-
-#[test]
-fn restarted_at_once(rt: HostRuntime) -> Result<(), RunFault> {
-    let run = again(rt.alloc(), &TWO_IN_A_CYCLE, &[0])?;
-    assert!(rt;
-        has_steps(
-            &run,
-            &[
-                Query(1, 0, 1),
-                Query(2, 0, 1),
-                Query(1, 1, 0),
-                Query(2, 1, 0),
-                Reply(2, 0, 1),
-                Reply(2, 1, 0),
-            ]
-        )
-    );
-    assert_eq!(rt; run.ending(), Ending::Declared);
-    assert_eq!(rt; run.restarted(), 1);
-    Ok(())
-}
-
-#[test]
-fn restarted_twice(rt: HostRuntime) -> Result<(), RunFault> {
-    let run = again(rt.alloc(), &TWO_IN_A_CYCLE, &[0, 1])?;
-    assert!(rt;
-        has_steps(
-            &run,
-            &[
-                Query(1, 0, 1),
-                Query(2, 0, 1),
-                Query(1, 1, 0),
-                Query(3, 0, 1),
-                Query(2, 1, 0),
-                Query(3, 1, 0),
-                Reply(3, 0, 1),
-                Reply(3, 1, 0),
-            ]
-        )
-    );
-    assert_eq!(rt; run.ending(), Ending::Declared);
-    assert_eq!(rt; run.restarted(), 2);
-    assert_eq!(rt; run.engaged(), [0, 1].as_slice());
+fn as_worked(rt: HostRuntime) -> Result<(), RunFault> {
+    for (row, worked) in WORKED.iter().enumerate() {
+        let graph = graph_of(rt.alloc(), worked.waits, worked.in_transit)?;
+        let run = run_again(
+            rt.alloc(),
+            &graph,
+            worked.initiator,
+            worked.choices,
+            &mut NoHints,
+            worked.restarts,
+        )?;
+        assert!(rt; is_as_worked(&run, worked), "at {row}");
+    }
     Ok(())
 }
 
@@ -102,73 +167,20 @@ fn restarted_sixteen_times(rt: HostRuntime) -> Result<(), RunFault> {
     }
     steps.push(Query(17, 0, 0))?;
     steps.push(Reply(17, 0, 0))?;
-    let run = again(alloc, &WAITS_FOR_ITSELF, &restarts)?;
-    assert!(rt; has_steps(&run, &steps));
-    assert_eq!(rt; run.ending(), Ending::Declared);
-    assert_eq!(rt; run.restarted(), 16);
-    assert_eq!(rt; run.engaged(), [0].as_slice());
-    Ok(())
-}
-
-#[test]
-fn a_restart_that_is_not_reached(rt: HostRuntime) -> Result<(), RunFault> {
-    let run = again(rt.alloc(), &TWO_IN_A_CYCLE, &[9])?;
-    assert!(rt; has_steps(&run, &CYCLE));
-    assert_eq!(rt; run.ending(), Ending::Declared);
-    assert_eq!(rt; run.restarted(), 0);
-    Ok(())
-}
-
-#[test]
-fn no_restart_after_the_end(rt: HostRuntime) -> Result<(), RunFault> {
-    let alloc = rt.alloc();
-    let nobody = again(alloc, &WAITS_FOR_NOBODY, &[0])?;
-    assert!(rt; has_steps(&nobody, &[]));
-    assert_eq!(rt; nobody.ending(), Ending::Declared);
-    assert_eq!(rt; nobody.restarted(), 0);
-
-    let rest = again(alloc, &ONE_FREE_ONE_STUCK, &[6])?;
-    assert_eq!(rt; rest.log().len(), 5);
-    assert_eq!(rt; rest.ending(), Ending::AtRest);
-    assert_eq!(rt; rest.restarted(), 0);
-    Ok(())
-}
-
-/// Where nothing is undelivered and a restart is due, it comes.
-#[test]
-fn restarted_at_rest(rt: HostRuntime) -> Result<(), RunFault> {
-    let run = again(rt.alloc(), &ONE_FREE_ONE_STUCK, &[5])?;
-    assert!(rt;
-        has_steps(
-            &run,
-            &[
-                Query(1, 0, 1),
-                Query(1, 0, 2),
-                Query(1, 1, 1),
-                Reply(1, 1, 1),
-                Reply(1, 1, 0),
-                Query(2, 0, 1),
-                Query(2, 0, 2),
-                Query(2, 1, 1),
-                Reply(2, 1, 1),
-                Reply(2, 1, 0),
-            ]
-        )
-    );
-    assert_eq!(rt; run.ending(), Ending::AtRest);
-    assert_eq!(rt; run.restarted(), 1);
-    Ok(())
-}
-
-#[test]
-fn an_awake_initiator_never_starts(rt: HostRuntime) -> Result<(), RunFault> {
-    let alloc = rt.alloc();
-    let graph = graph_of(alloc, &TWO_IN_A_CYCLE, &[(1, 0)])?;
-    let run = run_again(alloc, &graph, 0, &[], &mut NoHints, &[0])?;
-    assert!(rt; has_steps(&run, &[]));
-    assert_eq!(rt; run.ending(), Ending::AtRest);
-    assert_eq!(rt; run.restarted(), 0);
-    assert!(rt; run.engaged().is_empty());
+    let graph = graph_of(alloc, &WAITS_FOR_ITSELF, &[])?;
+    let run = run_again(alloc, &graph, 0, &[], &mut NoHints, &restarts)?;
+    let worked = Worked {
+        waits: &WAITS_FOR_ITSELF,
+        in_transit: &[],
+        initiator: 0,
+        choices: &[],
+        restarts: &restarts,
+        steps: &steps,
+        ending: Ending::Declared,
+        engaged: &[0],
+        restarted: 16,
+    };
+    assert!(rt; is_as_worked(&run, &worked));
     Ok(())
 }
 

@@ -2,158 +2,145 @@
 
 use super::Step::{Query, Reply};
 use super::{
-    KNOT_OF_THREE, ONE_FREE_ONE_STUCK, TWO_IN_A_CYCLE, WAITS_FOR_ITSELF, WAITS_FOR_NOBODY,
-    graph_of, has_steps, run_of,
+    KNOT_OF_THREE, ONE_FREE_ONE_STUCK, STEPS_OF_KNOT, STEPS_OF_STUCK, STEPS_OF_TWO, TWO_IN_A_CYCLE,
+    WAITS_FOR_ITSELF, WAITS_FOR_NOBODY, Worked, graph_of, is_as_worked,
 };
 use crate::{Ending, NoHints, RunFault, run};
-use cmh_graph::Verdict;
+
+const WORKED: [Worked; 9] = [
+    Worked {
+        waits: &WAITS_FOR_NOBODY,
+        in_transit: &[],
+        initiator: 0,
+        choices: &[],
+        restarts: &[],
+        steps: &[],
+        ending: Ending::Declared,
+        engaged: &[0],
+        restarted: 0,
+    },
+    Worked {
+        waits: &WAITS_FOR_ITSELF,
+        in_transit: &[],
+        initiator: 0,
+        choices: &[],
+        restarts: &[],
+        steps: &[Query(1, 0, 0), Reply(1, 0, 0)],
+        ending: Ending::Declared,
+        engaged: &[0],
+        restarted: 0,
+    },
+    Worked {
+        waits: &TWO_IN_A_CYCLE,
+        in_transit: &[],
+        initiator: 0,
+        choices: &[],
+        restarts: &[],
+        steps: &STEPS_OF_TWO,
+        ending: Ending::Declared,
+        engaged: &[0, 1],
+        restarted: 0,
+    },
+    Worked {
+        waits: &ONE_FREE_ONE_STUCK,
+        in_transit: &[],
+        initiator: 0,
+        choices: &[],
+        restarts: &[],
+        steps: &STEPS_OF_STUCK,
+        ending: Ending::AtRest,
+        engaged: &[0, 1],
+        restarted: 0,
+    },
+    Worked {
+        waits: &KNOT_OF_THREE,
+        in_transit: &[],
+        initiator: 0,
+        choices: &[],
+        restarts: &[],
+        steps: &STEPS_OF_KNOT,
+        ending: Ending::Declared,
+        engaged: &[0, 1, 2],
+        restarted: 0,
+    },
+    Worked {
+        waits: &KNOT_OF_THREE,
+        in_transit: &[],
+        initiator: 0,
+        choices: &[1, 1, 1],
+        restarts: &[],
+        steps: &[
+            Query(1, 0, 2),
+            Query(1, 2, 1),
+            Query(1, 1, 2),
+            Query(1, 0, 1),
+            Reply(1, 2, 1),
+            Reply(1, 1, 0),
+            Reply(1, 1, 2),
+            Reply(1, 2, 0),
+        ],
+        ending: Ending::Declared,
+        engaged: &[0, 2, 1],
+        restarted: 0,
+    },
+    Worked {
+        waits: &KNOT_OF_THREE,
+        in_transit: &[],
+        initiator: 0,
+        choices: &[18_446_744_073_709_551_615],
+        restarts: &[],
+        steps: &[
+            Query(1, 0, 2),
+            Query(1, 0, 1),
+            Query(1, 2, 1),
+            Query(1, 1, 2),
+            Reply(1, 1, 2),
+            Reply(1, 2, 1),
+            Reply(1, 2, 0),
+            Reply(1, 1, 0),
+        ],
+        ending: Ending::Declared,
+        engaged: &[0, 2, 1],
+        restarted: 0,
+    },
+    // The first process of the cycle has a message in transit from the other: it is awake.
+    Worked {
+        waits: &TWO_IN_A_CYCLE,
+        in_transit: &[(1, 0)],
+        initiator: 0,
+        choices: &[],
+        restarts: &[],
+        steps: &[],
+        ending: Ending::AtRest,
+        engaged: &[],
+        restarted: 0,
+    },
+    Worked {
+        waits: &TWO_IN_A_CYCLE,
+        in_transit: &[(1, 0)],
+        initiator: 1,
+        choices: &[],
+        restarts: &[],
+        steps: &[Query(1, 1, 0)],
+        ending: Ending::AtRest,
+        engaged: &[1],
+        restarted: 0,
+    },
+];
 
 #[test]
-fn waits_for_nobody(rt: HostRuntime) -> Result<(), RunFault> {
-    let run = run_of(rt.alloc(), &WAITS_FOR_NOBODY, 0, &[])?;
-    assert!(rt; has_steps(&run, &[]));
-    assert_eq!(rt; run.ending(), Ending::Declared);
-    assert_eq!(rt; run.verdict(), Verdict::Deadlocked);
-    assert_eq!(rt; run.engaged(), [0].as_slice());
-    Ok(())
-}
-
-#[test]
-fn waits_for_itself(rt: HostRuntime) -> Result<(), RunFault> {
-    let run = run_of(rt.alloc(), &WAITS_FOR_ITSELF, 0, &[])?;
-    assert!(rt; has_steps(&run, &[Query(1, 0, 0), Reply(1, 0, 0)]));
-    assert_eq!(rt; run.ending(), Ending::Declared);
-    assert_eq!(rt; run.engaged(), [0].as_slice());
-    Ok(())
-}
-
-#[test]
-fn two_in_a_cycle(rt: HostRuntime) -> Result<(), RunFault> {
-    let run = run_of(rt.alloc(), &TWO_IN_A_CYCLE, 0, &[])?;
-    assert!(rt;
-        has_steps(
-            &run,
-            &[
-                Query(1, 0, 1),
-                Query(1, 1, 0),
-                Reply(1, 0, 1),
-                Reply(1, 1, 0),
-            ]
-        )
-    );
-    assert_eq!(rt; run.ending(), Ending::Declared);
-    assert_eq!(rt; run.verdict(), Verdict::Deadlocked);
-    assert_eq!(rt; run.engaged(), [0, 1].as_slice());
-    assert_eq!(rt; run.initiator(), 0);
-    assert_eq!(rt; run.restarted(), 0);
-    Ok(())
-}
-
-#[test]
-fn one_free_one_stuck(rt: HostRuntime) -> Result<(), RunFault> {
-    let run = run_of(rt.alloc(), &ONE_FREE_ONE_STUCK, 0, &[])?;
-    assert!(rt;
-        has_steps(
-            &run,
-            &[
-                Query(1, 0, 1),
-                Query(1, 0, 2),
-                Query(1, 1, 1),
-                Reply(1, 1, 1),
-                Reply(1, 1, 0),
-            ]
-        )
-    );
-    assert_eq!(rt; run.ending(), Ending::AtRest);
-    assert_eq!(rt; run.verdict(), Verdict::Free);
-    assert_eq!(rt; run.engaged(), [0, 1].as_slice());
-    Ok(())
-}
-
-#[test]
-fn knot_of_three(rt: HostRuntime) -> Result<(), RunFault> {
-    let run = run_of(rt.alloc(), &KNOT_OF_THREE, 0, &[])?;
-    assert!(rt;
-        has_steps(
-            &run,
-            &[
-                Query(1, 0, 1),
-                Query(1, 0, 2),
-                Query(1, 1, 2),
-                Query(1, 2, 1),
-                Reply(1, 2, 1),
-                Reply(1, 1, 2),
-                Reply(1, 1, 0),
-                Reply(1, 2, 0),
-            ]
-        )
-    );
-    assert_eq!(rt; run.ending(), Ending::Declared);
-    assert_eq!(rt; run.engaged(), [0, 1, 2].as_slice());
-    Ok(())
-}
-
-#[test]
-fn knot_of_three_by_ones(rt: HostRuntime) -> Result<(), RunFault> {
-    let run = run_of(rt.alloc(), &KNOT_OF_THREE, 0, &[1, 1, 1])?;
-    assert!(rt;
-        has_steps(
-            &run,
-            &[
-                Query(1, 0, 2),
-                Query(1, 2, 1),
-                Query(1, 1, 2),
-                Query(1, 0, 1),
-                Reply(1, 2, 1),
-                Reply(1, 1, 0),
-                Reply(1, 1, 2),
-                Reply(1, 2, 0),
-            ]
-        )
-    );
-    assert_eq!(rt; run.ending(), Ending::Declared);
-    assert_eq!(rt; run.engaged(), [0, 2, 1].as_slice());
-    Ok(())
-}
-
-#[test]
-fn knot_of_three_by_a_great_choice(rt: HostRuntime) -> Result<(), RunFault> {
-    let run = run_of(rt.alloc(), &KNOT_OF_THREE, 0, &[18_446_744_073_709_551_615])?;
-    assert!(rt;
-        has_steps(
-            &run,
-            &[
-                Query(1, 0, 2),
-                Query(1, 0, 1),
-                Query(1, 2, 1),
-                Query(1, 1, 2),
-                Reply(1, 1, 2),
-                Reply(1, 2, 1),
-                Reply(1, 2, 0),
-                Reply(1, 1, 0),
-            ]
-        )
-    );
-    assert_eq!(rt; run.ending(), Ending::Declared);
-    assert_eq!(rt; run.engaged(), [0, 2, 1].as_slice());
-    Ok(())
-}
-
-/// The first process of the cycle has a message in transit from the other.
-#[test]
-fn an_awake_initiator_has_the_empty_run(rt: HostRuntime) -> Result<(), RunFault> {
-    let alloc = rt.alloc();
-    let graph = graph_of(alloc, &TWO_IN_A_CYCLE, &[(1, 0)])?;
-    let awake = run(alloc, &graph, 0, &[], &mut NoHints)?;
-    assert!(rt; has_steps(&awake, &[]));
-    assert_eq!(rt; awake.ending(), Ending::AtRest);
-    assert_eq!(rt; awake.verdict(), Verdict::Free);
-    assert!(rt; awake.engaged().is_empty());
-
-    let other = run(alloc, &graph, 1, &[], &mut NoHints)?;
-    assert!(rt; has_steps(&other, &[Query(1, 1, 0)]));
-    assert_eq!(rt; other.ending(), Ending::AtRest);
-    assert_eq!(rt; other.engaged(), [1].as_slice());
+fn as_worked(rt: HostRuntime) -> Result<(), RunFault> {
+    for (row, worked) in WORKED.iter().enumerate() {
+        let graph = graph_of(rt.alloc(), worked.waits, worked.in_transit)?;
+        let run = run(
+            rt.alloc(),
+            &graph,
+            worked.initiator,
+            worked.choices,
+            &mut NoHints,
+        )?;
+        assert!(rt; is_as_worked(&run, worked), "at {row}");
+    }
     Ok(())
 }
 

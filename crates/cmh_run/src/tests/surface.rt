@@ -27,16 +27,24 @@ fn runs(rt: HostRuntime) -> Result<(), RunFault> {
         message: FIRST,
         hint: None,
     };
-    assert_eq!(rt; log.initiator(), 0);
+    assert_eq!(rt; (log.initiator(), log.restarted()), (0, 0));
     assert_eq!(rt; log.log().first(), Some(&first));
-    assert_eq!(rt; log.ending(), Ending::Declared);
+    assert_eq!(rt;
+        (log.ending(), log.verdict()),
+        (Ending::Declared, Verdict::Deadlocked)
+    );
     assert_eq!(rt; log.engaged(), [0, 1].as_slice());
-    assert_eq!(rt; log.restarted(), 0);
-    assert_eq!(rt; log.verdict(), Verdict::Deadlocked);
     assert_eq!(rt;
         run_again(alloc, &graph, 0, &choices, &mut NoHints, &[]),
         Ok(log)
     );
+    Ok(())
+}
+
+#[test]
+fn refused_runs(rt: HostRuntime) -> Result<(), RunFault> {
+    let alloc = rt.alloc();
+    let graph = graph_of(alloc, &TWO_IN_A_CYCLE, &[])?;
     assert_eq!(rt;
         run(alloc, &graph, 2, &[], &mut NoHints),
         Err(RunFault::NotIdle)
