@@ -62,6 +62,9 @@ impl Words {
         requires { (k : ℕ) → k < length places.now → head + slice_index places.now k < 2 ^ 64 }
         ensures ok { OnOk result (self.new ≡ self.old ++ map (λ (p : ℕ). head + p) places.now) }
     {
+        if let [place] = places {
+            return self.add(head + *place as u64);
+        }
         if self.all.capacity() - self.all.len() < places.len() {
             self.forget_taken();
         }
