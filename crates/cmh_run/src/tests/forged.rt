@@ -3,7 +3,7 @@
 use super::Step::{self, Query, Reply};
 use super::{
     FREE_BY_TWO, KNOT_OF_THREE, ONE_FREE_ONE_STUCK, STEPS_OF_KNOT, STEPS_OF_STUCK, STEPS_OF_TWO,
-    TWO_IN_A_CYCLE, WAITS_FOR_NOBODY, Waits, delivery, graph_of,
+    TWO_IN_A_CYCLE, WAITS_FOR_NOBODY, Waits, delivery, expect_eq, graph_of,
 };
 use crate::CheckFault::{AfterEnd, FalseHint, NotEnded, NotIdle, NotUndelivered};
 use crate::{CheckFault, Delivery, Ending, RunFault, check_run};
@@ -113,7 +113,7 @@ fn forged_logs(rt: HostRuntime) -> Result<(), RunFault> {
         (&ONE_FREE_ONE_STUCK, &STEPS_OF_STUCK, &OF_STUCK),
     ];
     for (waits, steps, forged) in rows {
-        assert_eq!(rt; first_other(rt.alloc(), waits, steps, forged)?, None);
+        expect_eq(&rt, first_other(rt.alloc(), waits, steps, forged)?, None);
     }
     Ok(())
 }

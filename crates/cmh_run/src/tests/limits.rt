@@ -1,7 +1,7 @@
 //! Calls at their limits: as many processes, dependencies, restarts, entries and messages as there
 //! may be.
 
-use super::{Step, delivery, part_of};
+use super::{Step, delivery, expect, expect_eq, part_of};
 use crate::{Bag, Ending, NoHints, RunFault, Scripted, check_run, run, run_again};
 use cmh_graph::{MAX_PROCESSES, Verdict, WaitGraph};
 use std::alloc::{AllocError, Global};
@@ -60,10 +60,10 @@ fn a_chain_of_all_processes(rt: HostRuntime) -> Result<(), RunFault> {
     for (last, ending, deliveries, engaged) in rows {
         let graph = chain(alloc, last)?;
         let run = run(alloc, &graph, 0, &[], &mut NoHints)?;
-        assert_eq!(rt; run.ending(), ending);
-        assert_eq!(rt; run.log().len(), deliveries);
-        assert_eq!(rt; run.engaged().len(), engaged);
-        assert_eq!(rt; check_run(alloc, &graph, 0, run.log()), Ok(ending));
+        expect_eq(&rt, run.ending(), ending);
+        expect_eq(&rt, run.log().len(), deliveries);
+        expect_eq(&rt, run.engaged().len(), engaged);
+        expect_eq(&rt, check_run(alloc, &graph, 0, run.log()), Ok(ending));
     }
     Ok(())
 }
@@ -75,12 +75,13 @@ fn a_knot_of_all_dependencies(rt: HostRuntime) -> Result<(), RunFault> {
     let graph = knot(alloc)?;
     for choices in [[0u64; 3], [5, 1_000, u64::MAX]] {
         let run = run(alloc, &graph, 255, &choices, &mut NoHints)?;
-        assert_eq!(rt; run.ending(), Ending::Declared);
-        assert_eq!(rt; run.log().len(), 131_072);
-        assert_eq!(rt; run.engaged().len(), 256);
-        assert_eq!(rt;
+        expect_eq(&rt, run.ending(), Ending::Declared);
+        expect_eq(&rt, run.log().len(), 131_072);
+        expect_eq(&rt, run.engaged().len(), 256);
+        expect_eq(
+            &rt,
             check_run(alloc, &graph, 255, run.log()),
-            Ok(Ending::Declared)
+            Ok(Ending::Declared),
         );
     }
     Ok(())
@@ -92,15 +93,15 @@ fn sixteen_restarts_of_a_wheel(rt: HostRuntime) -> Result<(), RunFault> {
     let alloc = rt.alloc();
     let graph = wheel(alloc)?;
     let plain = run(alloc, &graph, 0, &[], &mut NoHints)?;
-    assert_eq!(rt; plain.log().len(), 16_380);
+    expect_eq(&rt, plain.log().len(), 16_380);
     let restarts = [
         0, 1, 2, 1_000, 2_000, 3_000, 4_000, 5_000, 6_000, 7_000, 8_000, 9_000, 10_000, 11_000,
         12_000, 13_000,
     ];
     let again = run_again(alloc, &graph, 0, &[], &mut NoHints, &restarts)?;
-    assert_eq!(rt; again.restarted(), 16);
-    assert_eq!(rt; again.ending(), Ending::Declared);
-    assert!(rt; again.engaged() == plain.engaged());
+    expect_eq(&rt, again.restarted(), 16);
+    expect_eq(&rt, again.ending(), Ending::Declared);
+    expect(&rt, again.engaged() == plain.engaged());
     Ok(())
 }
 
@@ -115,14 +116,15 @@ fn a_script_of_many_entries(rt: HostRuntime) -> Result<(), RunFault> {
         entries.push((ask, 0u32, Verdict::Deadlocked))?;
     }
     entries.push((4_000, 4_001, Verdict::Deadlocked))?;
-    assert_eq!(rt; entries.len(), 4_096);
+    expect_eq(&rt, entries.len(), 4_096);
     let mut hints = Scripted::new(alloc, &graph, &entries).map_err(|_| RunFault::Memory)?;
     let run = run(alloc, &graph, 0, &[], &mut hints)?;
-    assert_eq!(rt; run.ending(), Ending::Declared);
-    assert_eq!(rt; run.log().len(), 8_002);
-    assert_eq!(rt;
+    expect_eq(&rt, run.ending(), Ending::Declared);
+    expect_eq(&rt, run.log().len(), 8_002);
+    expect_eq(
+        &rt,
         run.log().get(4_000),
-        Some(&delivery(0, Step::Query(1, 4_000, 4_001), Some(Verdict::Deadlocked)))
+        Some(&delivery(0, Step::Query(1, 4_000, 4_001), Some(Verdict::Deadlocked))),
     );
     Ok(())
 }
@@ -134,7 +136,7 @@ fn a_bag_of_many_messages(rt: HostRuntime) -> Result<(), RunFault> {
     for to in 0..65_536u32 {
         bag.push(delivery(0, Step::Query(1, 0, to), None).message)?;
     }
-    assert_eq!(rt; bag.len(), 65_536);
+    expect_eq(&rt, bag.len(), 65_536);
     let rows = [
         (131_071u64, 65_535u32),
         (30_000, 30_000),
@@ -149,10 +151,11 @@ fn a_bag_of_many_messages(rt: HostRuntime) -> Result<(), RunFault> {
             "at {choice}"
         );
     }
-    assert_eq!(rt; bag.len(), 65_531);
-    assert_eq!(rt;
+    expect_eq(&rt, bag.len(), 65_531);
+    expect_eq(
+        &rt,
         bag.get(65_530),
-        Some(&delivery(0, Step::Query(1, 0, 65_534), None).message)
+        Some(&delivery(0, Step::Query(1, 0, 65_534), None).message),
     );
     Ok(())
 }

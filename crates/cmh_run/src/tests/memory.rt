@@ -1,6 +1,6 @@
 //! Runs and judgements while memory is short.
 
-use super::{CYCLE_AND_FOLLOWER, STEPS_OF_TWO, TWO_IN_A_CYCLE, Waits, graph_of, log_of};
+use super::{CYCLE_AND_FOLLOWER, STEPS_OF_TWO, TWO_IN_A_CYCLE, Waits, expect_eq, graph_of, log_of};
 use crate::{
     Bag, CheckFault, Delivery, Ending, Hints, NoHints, RunFault, ScriptFault, Scripted, check_run,
     run, run_again,
@@ -140,34 +140,34 @@ fn sweep(alloc: Global, waits: Waits, call: Call) -> Result<Answers, Fail> {
 #[test]
 fn want_of_memory_in_a_run(rt: HostRuntime) -> Result<(), Fail> {
     let answers = sweep(rt.alloc(), &CYCLE_AND_FOLLOWER, Call::Run)?;
-    assert_eq!(rt; answers, AS_THEY_SHOULD_BE);
+    expect_eq(&rt, answers, AS_THEY_SHOULD_BE);
     Ok(())
 }
 
 #[test]
 fn want_of_memory_with_a_restart(rt: HostRuntime) -> Result<(), Fail> {
     let answers = sweep(rt.alloc(), &TWO_IN_A_CYCLE, Call::RunAgain)?;
-    assert_eq!(rt; answers, AS_THEY_SHOULD_BE);
+    expect_eq(&rt, answers, AS_THEY_SHOULD_BE);
     Ok(())
 }
 
 #[test]
 fn want_of_memory_in_a_judgement(rt: HostRuntime) -> Result<(), Fail> {
     let answers = sweep(rt.alloc(), &TWO_IN_A_CYCLE, Call::CheckRun)?;
-    assert_eq!(rt; answers, AS_THEY_SHOULD_BE);
+    expect_eq(&rt, answers, AS_THEY_SHOULD_BE);
     Ok(())
 }
 
 #[test]
 fn want_of_memory_in_a_script(rt: HostRuntime) -> Result<(), Fail> {
     let answers = sweep(rt.alloc(), &TWO_IN_A_CYCLE, Call::Script)?;
-    assert_eq!(rt; answers, AS_THEY_SHOULD_BE);
+    expect_eq(&rt, answers, AS_THEY_SHOULD_BE);
     Ok(())
 }
 
 #[test]
 fn want_of_memory_in_a_bag(rt: HostRuntime) -> Result<(), Fail> {
     let answers = sweep(rt.alloc(), &TWO_IN_A_CYCLE, Call::Push)?;
-    assert_eq!(rt; answers, AS_THEY_SHOULD_BE);
+    expect_eq(&rt, answers, AS_THEY_SHOULD_BE);
     Ok(())
 }

@@ -3,7 +3,7 @@
 use super::Step::{Query, Reply};
 use super::{
     ONE_FREE_ONE_STUCK, STEPS_OF_STUCK, STEPS_OF_TWO, TWO_IN_A_CYCLE, WAITS_FOR_ITSELF,
-    WAITS_FOR_NOBODY, Worked, graph_of, is_as_worked,
+    WAITS_FOR_NOBODY, Worked, expect, expect_eq, graph_of, is_as_worked,
 };
 use crate::{Ending, NoHints, RunFault, run_again};
 
@@ -180,7 +180,7 @@ fn restarted_sixteen_times(rt: HostRuntime) -> Result<(), RunFault> {
         engaged: &[0],
         restarted: 16,
     };
-    assert!(rt; is_as_worked(&run, &worked));
+    expect(&rt, is_as_worked(&run, &worked));
     Ok(())
 }
 
@@ -193,14 +193,16 @@ fn refuses_bad_restarts(rt: HostRuntime) -> Result<(), RunFault> {
         rising.push(n)?;
     }
     for restarts in [rising.as_slice(), &[2, 2], &[3, 1]] {
-        assert_eq!(rt;
+        expect_eq(
+            &rt,
             run_again(alloc, &graph, 0, &[], &mut NoHints, restarts).err(),
-            Some(RunFault::BadRestarts)
+            Some(RunFault::BadRestarts),
         );
     }
-    assert_eq!(rt;
+    expect_eq(
+        &rt,
         run_again(alloc, &graph, 2, &[], &mut NoHints, &[2, 2]).err(),
-        Some(RunFault::NotIdle)
+        Some(RunFault::NotIdle),
     );
     Ok(())
 }

@@ -2,7 +2,7 @@
 
 use super::{
     KNOT_OF_THREE, ONE_FREE_ONE_STUCK, TWO_IN_A_CYCLE, WAITS_FOR_ITSELF, WAITS_FOR_NOBODY, Waits,
-    graph_of,
+    expect, graph_of,
 };
 use crate::{Delivery, Ending, NoHints, NoLog, RunFault, Runner, Scripted};
 use cmh_graph::Verdict;
@@ -96,7 +96,7 @@ fn each_run_is_as_the_first(rt: HostRuntime) -> Result<(), RunFault> {
                 &mut NoHints,
             )?;
             let is_same = is_as_made(run.initiator(), run.ending(), run.engaged(), made);
-            assert!(rt; is_same && run.log().len() == made.deliveries);
+            expect(&rt, is_same && run.log().len() == made.deliveries);
         }
     }
     Ok(())
@@ -111,7 +111,7 @@ fn one_network_serves_all_initiators(rt: HostRuntime) -> Result<(), RunFault> {
             if made.waits == first.waits {
                 let run = runner.run::<NoLog, _>(rt.alloc(), made.initiator, &[], &mut NoHints)?;
                 let is_same = is_as_made(run.initiator(), run.ending(), run.engaged(), made);
-                assert!(rt; is_same);
+                expect(&rt, is_same);
             }
         }
     }
@@ -125,9 +125,15 @@ fn a_run_that_was_cut_leaves_nothing(rt: HostRuntime) -> Result<(), RunFault> {
     let mut hints = Scripted::new(rt.alloc(), &graph, &script).map_err(|_| RunFault::Memory)?;
     let mut runner = Runner::new(&graph);
     let cut = runner.run::<NoLog, _>(rt.alloc(), 0, &[], &mut hints)?;
-    assert!(rt; cut.ending() == Ending::CutFree(1) && cut.engaged() == [0].as_slice());
+    expect(
+        &rt,
+        cut.ending() == Ending::CutFree(1) && cut.engaged() == [0].as_slice(),
+    );
     let whole = runner.run::<NoLog, _>(rt.alloc(), 2, &[], &mut NoHints)?;
-    assert!(rt; whole.ending() == Ending::AtRest && whole.engaged() == [2, 0, 1].as_slice());
+    expect(
+        &rt,
+        whole.ending() == Ending::AtRest && whole.engaged() == [2, 0, 1].as_slice(),
+    );
     Ok(())
 }
 
@@ -137,9 +143,12 @@ fn a_refused_run_leaves_nothing(rt: HostRuntime) -> Result<(), RunFault> {
     let mut runner = Runner::new(&graph);
     for _ in 0..2u32 {
         let refused = runner.run::<NoLog, _>(rt.alloc(), 2, &[], &mut NoHints);
-        assert!(rt; matches!(refused, Err(RunFault::NotIdle)));
+        expect(&rt, matches!(refused, Err(RunFault::NotIdle)));
         let made = runner.run::<NoLog, _>(rt.alloc(), 1, &[], &mut NoHints)?;
-        assert!(rt; made.ending() == Ending::Declared && made.engaged() == [1].as_slice());
+        expect(
+            &rt,
+            made.ending() == Ending::Declared && made.engaged() == [1].as_slice(),
+        );
     }
     Ok(())
 }

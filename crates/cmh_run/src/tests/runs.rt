@@ -3,7 +3,7 @@
 use super::Step::{Query, Reply};
 use super::{
     KNOT_OF_THREE, ONE_FREE_ONE_STUCK, STEPS_OF_KNOT, STEPS_OF_STUCK, STEPS_OF_TWO, TWO_IN_A_CYCLE,
-    WAITS_FOR_ITSELF, WAITS_FOR_NOBODY, Worked, graph_of, is_as_worked,
+    WAITS_FOR_ITSELF, WAITS_FOR_NOBODY, Worked, expect_eq, graph_of, is_as_worked,
 };
 use crate::{Ending, NoHints, RunFault, run};
 
@@ -149,24 +149,28 @@ fn refuses(rt: HostRuntime) -> Result<(), RunFault> {
     let alloc = rt.alloc();
     let graph = graph_of(alloc, &ONE_FREE_ONE_STUCK, &[])?;
     for initiator in [2, 3, u32::MAX] {
-        assert_eq!(rt;
+        expect_eq(
+            &rt,
             run(alloc, &graph, initiator, &[], &mut NoHints).err(),
-            Some(RunFault::NotIdle)
+            Some(RunFault::NotIdle),
         );
     }
     let choices = vec![in alloc; 0u64; 65_537]?;
-    assert_eq!(rt;
+    expect_eq(
+        &rt,
         run(alloc, &graph, 0, &choices, &mut NoHints).err(),
-        Some(RunFault::TooManyChoices)
+        Some(RunFault::TooManyChoices),
     );
-    assert_eq!(rt;
+    expect_eq(
+        &rt,
         run(alloc, &graph, 2, &choices, &mut NoHints).err(),
-        Some(RunFault::NotIdle)
+        Some(RunFault::NotIdle),
     );
     let most = vec![in alloc; 0u64; 65_536]?;
-    assert_eq!(rt;
+    expect_eq(
+        &rt,
         run(alloc, &graph, 0, &most, &mut NoHints)?.ending(),
-        Ending::AtRest
+        Ending::AtRest,
     );
     Ok(())
 }

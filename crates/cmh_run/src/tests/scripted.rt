@@ -1,6 +1,6 @@
 //! Scripts over two processes that wait for each other, and an active one.
 
-use super::graph_of;
+use super::{expect_eq, graph_of};
 use crate::{Hints, NoHints, RunFault, ScriptFault, Scripted};
 use cmh_graph::Verdict::{self, Deadlocked, Free};
 
@@ -48,12 +48,12 @@ fn answers_by_the_number_of_the_ask(rt: HostRuntime) -> Result<(), RunFault> {
     let graph = graph_of(alloc, &WAITS, &[])?;
     let entries = [(1, 0, Deadlocked), (0, 2, Free)];
     let mut hints = Scripted::new(alloc, &graph, &entries).map_err(|_| RunFault::Memory)?;
-    assert_eq!(rt; hints.hint(2), Some(Free));
-    assert_eq!(rt; hints.hint(0), Some(Deadlocked));
-    assert_eq!(rt; hints.hint(0), None);
+    expect_eq(&rt, hints.hint(2), Some(Free));
+    expect_eq(&rt, hints.hint(0), Some(Deadlocked));
+    expect_eq(&rt, hints.hint(0), None);
     let mut late = Scripted::new(alloc, &graph, &entries).map_err(|_| RunFault::Memory)?;
-    assert_eq!(rt; late.hint(0), None);
-    assert_eq!(rt; late.hint(2), None);
-    assert_eq!(rt; NoHints.hint(0), None);
+    expect_eq(&rt, late.hint(0), None);
+    expect_eq(&rt, late.hint(2), None);
+    expect_eq(&rt, NoHints.hint(0), None);
     Ok(())
 }

@@ -1,6 +1,6 @@
 //! Every public call and type, as a caller writes them.
 
-use super::{TWO_IN_A_CYCLE, graph_of};
+use super::{TWO_IN_A_CYCLE, expect, expect_eq, graph_of};
 use crate::{
     Bag, CheckFault, Delivery, Ending, Hints, MAX_CHOICES, MAX_RESTARTS, NoHints, RunFault,
     ScriptFault, Scripted, check_run, laws, run, run_again,
@@ -27,16 +27,18 @@ fn runs(rt: HostRuntime) -> Result<(), RunFault> {
         message: FIRST,
         hint: None,
     };
-    assert_eq!(rt; (log.initiator(), log.restarted()), (0, 0));
-    assert_eq!(rt; log.log().first(), Some(&first));
-    assert_eq!(rt;
+    expect_eq(&rt, (log.initiator(), log.restarted()), (0, 0));
+    expect_eq(&rt, log.log().first(), Some(&first));
+    expect_eq(
+        &rt,
         (log.ending(), log.verdict()),
-        (Ending::Declared, Verdict::Deadlocked)
+        (Ending::Declared, Verdict::Deadlocked),
     );
-    assert_eq!(rt; log.engaged(), [0, 1].as_slice());
-    assert_eq!(rt;
+    expect_eq(&rt, log.engaged(), [0, 1].as_slice());
+    expect_eq(
+        &rt,
         run_again(alloc, &graph, 0, &choices, &mut NoHints, &[]),
-        Ok(log)
+        Ok(log),
     );
     Ok(())
 }
@@ -45,20 +47,23 @@ fn runs(rt: HostRuntime) -> Result<(), RunFault> {
 fn refused_runs(rt: HostRuntime) -> Result<(), RunFault> {
     let alloc = rt.alloc();
     let graph = graph_of(alloc, &TWO_IN_A_CYCLE, &[])?;
-    assert_eq!(rt;
+    expect_eq(
+        &rt,
         run(alloc, &graph, 2, &[], &mut NoHints),
-        Err(RunFault::NotIdle)
+        Err(RunFault::NotIdle),
     );
-    assert_eq!(rt;
+    expect_eq(
+        &rt,
         run_again(alloc, &graph, 0, &[], &mut NoHints, &[2, 2]),
-        Err(RunFault::BadRestarts)
+        Err(RunFault::BadRestarts),
     );
     let many = vec![in alloc; 0u64; MAX_CHOICES + 1]?;
-    assert_eq!(rt;
+    expect_eq(
+        &rt,
         run(alloc, &graph, 0, &many, &mut NoHints),
-        Err(RunFault::TooManyChoices)
+        Err(RunFault::TooManyChoices),
     );
-    assert_eq!(rt; MAX_RESTARTS, 16);
+    expect_eq(&rt, MAX_RESTARTS, 16);
     Ok(())
 }
 
@@ -81,31 +86,40 @@ fn judgements(rt: HostRuntime) -> Result<(), RunFault> {
             hint: None,
         },
     ];
-    assert_eq!(rt; check_run(alloc, &graph, 0, &known), Ok(Ending::Declared));
-    assert_eq!(rt;
+    expect_eq(
+        &rt,
+        check_run(alloc, &graph, 0, &known),
+        Ok(Ending::Declared),
+    );
+    expect_eq(
+        &rt,
         check_run(alloc, &graph, 2, &known),
-        Err(CheckFault::NotIdle)
+        Err(CheckFault::NotIdle),
     );
-    assert_eq!(rt;
+    expect_eq(
+        &rt,
         check_run(alloc, &graph, 0, &known[..1]),
-        Err(CheckFault::NotEnded)
+        Err(CheckFault::NotEnded),
     );
-    assert_eq!(rt;
+    expect_eq(
+        &rt,
         check_run(alloc, &graph, 0, &known[1..]),
-        Err(CheckFault::NotUndelivered(0))
+        Err(CheckFault::NotUndelivered(0)),
     );
     let free = [Delivery {
         hint: Some(Verdict::Free),
         ..known[0]
     }];
-    assert_eq!(rt;
+    expect_eq(
+        &rt,
         check_run(alloc, &graph, 0, &free),
-        Err(CheckFault::FalseHint(0))
+        Err(CheckFault::FalseHint(0)),
     );
     let longer = [known[0], known[1], known[1]];
-    assert_eq!(rt;
+    expect_eq(
+        &rt,
         check_run(alloc, &graph, 0, &longer),
-        Err(CheckFault::AfterEnd(2))
+        Err(CheckFault::AfterEnd(2)),
     );
     Ok(())
 }
@@ -116,16 +130,18 @@ fn hints(rt: HostRuntime) -> Result<(), RunFault> {
     let graph = graph_of(alloc, &TWO_IN_A_CYCLE, &[])?;
     let entries: [(u32, u32, Verdict); 1] = [(0, 1, Verdict::Deadlocked)];
     let mut hints = Scripted::new(alloc, &graph, &entries).map_err(|_| RunFault::Memory)?;
-    assert_eq!(rt; hints.hint(1), Some(Verdict::Deadlocked));
-    assert_eq!(rt; hints.hint(1), None);
-    assert_eq!(rt; NoHints.hint(1), None);
-    assert_eq!(rt;
+    expect_eq(&rt, hints.hint(1), Some(Verdict::Deadlocked));
+    expect_eq(&rt, hints.hint(1), None);
+    expect_eq(&rt, NoHints.hint(1), None);
+    expect_eq(
+        &rt,
         Scripted::new(alloc, &graph, &[(0, 9, Verdict::Free)]),
-        Err(ScriptFault::ProcessOutOfRange(0))
+        Err(ScriptFault::ProcessOutOfRange(0)),
     );
-    assert_eq!(rt;
+    expect_eq(
+        &rt,
         Scripted::new(alloc, &graph, &[(0, 1, Verdict::Free)]),
-        Err(ScriptFault::FalseVerdict(0))
+        Err(ScriptFault::FalseVerdict(0)),
     );
     Ok(())
 }
@@ -133,20 +149,20 @@ fn hints(rt: HostRuntime) -> Result<(), RunFault> {
 #[test]
 fn bags(rt: HostRuntime) {
     let mut bag = Bag::new(rt.alloc());
-    assert_eq!(rt; bag.push(FIRST), Ok(()));
-    assert_eq!(rt; bag.len(), 1);
-    assert!(rt; !bag.is_empty());
-    assert_eq!(rt; bag.get(0), Some(&FIRST));
-    assert_eq!(rt; bag.take(18_446_744_073_709_551_615), Some(FIRST));
-    assert_eq!(rt; bag, Bag::new(rt.alloc()));
+    expect_eq(&rt, bag.push(FIRST), Ok(()));
+    expect_eq(&rt, bag.len(), 1);
+    expect(&rt, !bag.is_empty());
+    expect_eq(&rt, bag.get(0), Some(&FIRST));
+    expect_eq(&rt, bag.take(18_446_744_073_709_551_615), Some(FIRST));
+    expect_eq(&rt, bag, Bag::new(rt.alloc()));
 }
 
 #[test]
 fn values(rt: HostRuntime) {
     let faults = (RunFault::Memory, ScriptFault::Memory, CheckFault::Memory);
     let copy = faults;
-    assert_eq!(rt; copy, faults);
-    assert!(rt; Ending::CutFree(1) != Ending::CutFree(2));
+    expect_eq(&rt, copy, faults);
+    expect(&rt, Ending::CutFree(1) != Ending::CutFree(2));
     let mut state = DefaultHasher::new();
     (faults, Ending::AtRest, NoHints).hash(&mut state);
     Delivery {

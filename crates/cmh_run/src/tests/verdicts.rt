@@ -1,7 +1,7 @@
 //! The verdict of each run of twenty graphs.
 
 use super::cases::{CASES, Case};
-use super::graph_of;
+use super::{expect, graph_of};
 use crate::{NoHints, RunFault, check_run, run};
 use cmh_graph::Verdict;
 use std::alloc::Global;
@@ -27,7 +27,7 @@ fn agrees(alloc: Global, case: &Case, choices: &[u64]) -> Result<bool, RunFault>
 #[test]
 fn by_first_come(rt: HostRuntime) -> Result<(), RunFault> {
     for case in &CASES {
-        assert!(rt; agrees(rt.alloc(), case, &[])?);
+        expect(&rt, agrees(rt.alloc(), case, &[])?);
     }
     Ok(())
 }
@@ -35,7 +35,7 @@ fn by_first_come(rt: HostRuntime) -> Result<(), RunFault> {
 #[test]
 fn by_second_of_all(rt: HostRuntime) -> Result<(), RunFault> {
     for case in &CASES {
-        assert!(rt; agrees(rt.alloc(), case, &[1; 200])?);
+        expect(&rt, agrees(rt.alloc(), case, &[1; 200])?);
     }
     Ok(())
 }
@@ -43,12 +43,13 @@ fn by_second_of_all(rt: HostRuntime) -> Result<(), RunFault> {
 #[test]
 fn by_mixed(rt: HostRuntime) -> Result<(), RunFault> {
     for case in &CASES {
-        assert!(rt;
+        expect(
+            &rt,
             agrees(
                 rt.alloc(),
                 case,
-                &[18_446_744_073_709_551_615, 7, 3, 1_000_003, 5, 2, 11, 13]
-            )?
+                &[18_446_744_073_709_551_615, 7, 3, 1_000_003, 5, 2, 11, 13],
+            )?,
         );
     }
     Ok(())
