@@ -5,6 +5,7 @@ ghost use Rattle.cmh_graph.specs.Graph.{process_count};
 ghost use Rattle.cmh_run.specs.Run.{TellsTruth};
 ghost use Rattle.cmh_board.specs.Board.{graph_of, SitsAt, IsAway};
 
+use super::expect;
 use super::graphs::{cycle_and_follower, ring};
 use super::runs::try_post_run;
 use crate::{Board, BoardSeat, Entry, Look, Post, Row, Snap};
@@ -25,8 +26,8 @@ fn posted_ring<R: Abort>(
 {
     let (board, mut seat) = Board::open(alloc, graph)?;
     let run = run(alloc, graph, 0, &[], &mut NoHints)?;
-    assert!(rt; run.log().len() == 8_192 && run.engaged().len() == 4_096);
-    assert!(rt; try_post_run(&board, &mut seat, &run) == Post::Done);
+    expect(rt, run.log().len() == 8_192 && run.engaged().len() == 4_096);
+    expect(rt, try_post_run(&board, &mut seat, &run) == Post::Done);
     Ok((board, seat))
 }
 
@@ -53,9 +54,9 @@ fn a_posting_of_4096_processes(rt: HostRuntime) -> Result<(), Fail> {
     let graph = ring(alloc, 4_096)?;
     assert!(rt; graph.len() == 4_096);
     let (board, mut seat) = posted_ring(&rt, alloc, &graph)?;
-    assert!(rt; says_all_deadlocked(&board.snapshot(alloc, &mut seat)?));
-    assert!(rt; is_one_posting(&board.history(alloc, &mut seat)?));
-    assert!(rt; is_one_posting(&board.close(alloc, seat)?));
+    expect(&rt, says_all_deadlocked(&board.snapshot(alloc, &mut seat)?));
+    expect(&rt, is_one_posting(&board.history(alloc, &mut seat)?));
+    expect(&rt, is_one_posting(&board.close(alloc, seat)?));
     Ok(())
 }
 
@@ -69,11 +70,14 @@ fn words_of_4096_rows(rt: HostRuntime) -> Result<(), Fail> {
     } = board;
     let BoardSeat { seat } = seat;
     let closed = words.close_with(seat);
-    assert!(rt; closed.word(0) == Some(0) && closed.word(1) == Some(4_096));
-    assert!(rt; closed.word(FIRST_ROW) == Some(0));
-    assert!(rt; closed.word(FIRST_ROW + 4_095) == Some(16_382));
-    assert!(rt; closed.word(FIRST_VERDICT) == Some(1));
-    assert!(rt; closed.word(8_193) == Some(1));
+    expect(
+        &rt,
+        closed.word(0) == Some(0) && closed.word(1) == Some(4_096),
+    );
+    expect(&rt, closed.word(FIRST_ROW) == Some(0));
+    expect(&rt, closed.word(FIRST_ROW + 4_095) == Some(16_382));
+    expect(&rt, closed.word(FIRST_VERDICT) == Some(1));
+    expect(&rt, closed.word(8_193) == Some(1));
     Ok(())
 }
 
@@ -118,8 +122,14 @@ fn sixty_four_seats(rt: HostRuntime) -> Result<(), Fail> {
     let (board, seat) = Board::open(rt.alloc(), &graph)?;
     let run_of_p = run(rt.alloc(), &graph, 0, &[], &mut NoHints)?;
     let mut seat = hold_together(&rt, &board, seat, &run_of_p, 63);
-    assert!(rt; try_post_run(&board, &mut seat, &run_of_p) == Post::Done);
-    assert!(rt; board.look(&mut seat, 1) == Look::Known(Verdict::Deadlocked));
-    assert!(rt; board.close(rt.alloc(), seat)?.len() == 2);
+    expect(
+        &rt,
+        try_post_run(&board, &mut seat, &run_of_p) == Post::Done,
+    );
+    expect(
+        &rt,
+        board.look(&mut seat, 1) == Look::Known(Verdict::Deadlocked),
+    );
+    expect(&rt, board.close(rt.alloc(), seat)?.len() == 2);
     Ok(())
 }

@@ -5,6 +5,7 @@ ghost use Rattle.std.specs.Thread.{IsSync};
 ghost use Rattle.cmh_graph.specs.Graph.{process_count};
 ghost use Rattle.cmh_board.specs.Board.{graph_of, SitsAt, IsAway};
 
+use super::expect;
 use super::graphs::rings;
 use super::threads::post_run;
 use crate::{Board, BoardSeat, Entry, Row};
@@ -184,9 +185,9 @@ fn four_threads_take_a_hundred_million_turns(rt: HostRuntime) -> Result<(), Fail
     for _ in 0..BOARDS {
         let (board, seat) = Board::open(alloc, &graph)?;
         let (seat, is_right) = take_turns_by(&rt, alloc, &graph, &board, seat, 3);
-        assert!(rt; is_right);
+        expect(&rt, is_right);
         let rows = board.close(alloc, seat)?;
-        assert!(rt; rows.len() == 4_096 && has_each_ring_once(&rows));
+        expect(&rt, rows.len() == 4_096 && has_each_ring_once(&rows));
     }
     Ok(())
 }

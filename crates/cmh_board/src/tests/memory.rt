@@ -3,6 +3,7 @@
 ghost use Rattle.std.specs.Prelude.{IfOk};
 ghost use Rattle.cmh_board.specs.Board.{SitsAt, IsAway};
 
+use super::expect;
 use super::graphs::cycle_and_follower;
 use super::runs::try_post_run;
 use crate::{Board, BoardFault, BoardSeat, Post, Row, Snap};
@@ -91,8 +92,8 @@ fn want_of_memory_at_the_opening(rt: HostRuntime) -> Result<(), Fail> {
         drop(taken);
     }
     drop(blocks);
-    assert!(rt; was_opened);
-    assert!(rt; was_refused);
+    expect(&rt, was_opened);
+    expect(&rt, was_refused);
     Ok(())
 }
 
@@ -123,8 +124,8 @@ fn want_of_memory_at_a_snapshot_and_a_history(rt: HostRuntime) -> Result<(), Fai
         drop(taken);
     }
     drop(blocks);
-    assert!(rt; were_read);
-    assert!(rt; were_refused);
+    expect(&rt, were_read);
+    expect(&rt, were_refused);
     Ok(())
 }
 
@@ -160,7 +161,7 @@ fn want_of_memory_at_the_close(rt: HostRuntime) -> Result<(), Fail> {
         was_closed = was_closed || answer.is_ok();
         was_refused = was_refused || answer.is_err();
     }
-    assert!(rt; was_closed);
-    assert!(rt; was_refused);
+    expect(&rt, was_closed);
+    expect(&rt, was_refused);
     Ok(())
 }

@@ -3,6 +3,7 @@
 ghost use Rattle.std.specs.Prelude.{IfOk};
 ghost use Rattle.cmh_board.specs.Board.{SitsAt, IsAway};
 
+use super::expect;
 use super::graphs::{cycle_and_follower, one_free_one_stuck};
 use super::runs::{run_with_hints, try_post_run};
 use crate::{Board, BoardSeat, Entry, Look, Post, Posting, Row};
@@ -58,22 +59,26 @@ fn posted_by_two<R: Abort>(
     let Entry::Held = board.hold(&mut y) else {
         panic!(rt; "nobody posts")
     };
-    assert!(rt; try_post_run(&board, &mut x, &run_of_p) == Post::Busy(1));
-    assert!(rt; board.history(alloc, &mut x)?.is_empty());
+    expect(rt, try_post_run(&board, &mut x, &run_of_p) == Post::Busy(1));
+    expect(rt, board.history(alloc, &mut x)?.is_empty());
     board.release(&mut y);
-    assert!(rt; try_post_run(&board, &mut x, &run_of_p) == Post::Done);
-    assert!(rt; board.look(&mut y, 1) == Look::Known(Verdict::Deadlocked));
-    assert!(rt; board.look(&mut y, 2) == Look::Unknown);
-    assert!(rt; try_post_run(&board, &mut x, &run_of_p) == Post::Done);
-    assert!(rt; board.history(alloc, &mut x)?.len() == 2);
-    let run_of_r = run_with_hints(alloc, graph, &board, &mut x, 2)?;
-    assert!(rt; is_hinted_run(&run_of_r));
-    assert!(rt; try_post_run(&board, &mut x, &run_of_r) == Post::Done);
-    let snap = board.snapshot(alloc, &mut y)?;
-    assert!(rt;
-        snap.get(0) == DEADLOCKED && snap.get(1) == DEADLOCKED && snap.get(2) == DEADLOCKED
+    expect(rt, try_post_run(&board, &mut x, &run_of_p) == Post::Done);
+    expect(
+        rt,
+        board.look(&mut y, 1) == Look::Known(Verdict::Deadlocked),
     );
-    assert!(rt; snap.get(3).is_none());
+    expect(rt, board.look(&mut y, 2) == Look::Unknown);
+    expect(rt, try_post_run(&board, &mut x, &run_of_p) == Post::Done);
+    expect(rt, board.history(alloc, &mut x)?.len() == 2);
+    let run_of_r = run_with_hints(alloc, graph, &board, &mut x, 2)?;
+    expect(rt, is_hinted_run(&run_of_r));
+    expect(rt, try_post_run(&board, &mut x, &run_of_r) == Post::Done);
+    let snap = board.snapshot(alloc, &mut y)?;
+    expect(
+        rt,
+        snap.get(0) == DEADLOCKED && snap.get(1) == DEADLOCKED && snap.get(2) == DEADLOCKED,
+    );
+    expect(rt, snap.get(3).is_none());
     board.join(&mut x, y);
     Ok((board, x))
 }
@@ -83,7 +88,10 @@ fn board_by_two_seats(rt: HostRuntime) -> Result<(), Fail> {
     let graph = cycle_and_follower(rt.alloc())?;
     let (board, seat) = posted_by_two(&rt, rt.alloc(), &graph)?;
     let rows = board.close(rt.alloc(), seat)?;
-    assert!(rt; rows.as_slice() == [row(0, false), row(1, true), row(2, true)].as_slice());
+    expect(
+        &rt,
+        rows.as_slice() == [row(0, false), row(1, true), row(2, true)].as_slice(),
+    );
     Ok(())
 }
 
@@ -97,11 +105,11 @@ fn rows_are_stored_as_numbers(rt: HostRuntime) -> Result<(), Fail> {
     } = board;
     let BoardSeat { seat } = seat;
     let closed = words.close_with(seat);
-    assert!(rt; closed.word(0) == Some(0) && closed.word(1) == Some(3));
-    assert!(rt; closed.word(FIRST_ROW) == Some(0));
-    assert!(rt; closed.word(FIRST_ROW + 1) == Some(6));
-    assert!(rt; closed.word(FIRST_ROW + 2) == Some(10));
-    assert!(rt; closed.word(FIRST_ROW + 3) == Some(0));
+    expect(&rt, closed.word(0) == Some(0) && closed.word(1) == Some(3));
+    expect(&rt, closed.word(FIRST_ROW) == Some(0));
+    expect(&rt, closed.word(FIRST_ROW + 1) == Some(6));
+    expect(&rt, closed.word(FIRST_ROW + 2) == Some(10));
+    expect(&rt, closed.word(FIRST_ROW + 3) == Some(0));
     Ok(())
 }
 
@@ -113,10 +121,13 @@ fn one_free_one_stuck_posts(rt: HostRuntime) -> Result<(), Fail> {
     let (board, mut seat) = Board::open(rt.alloc(), &graph)?;
     assert!(rt; graph.len() == 3);
     let run_of_p = run(rt.alloc(), &graph, 0, &[], &mut NoHints)?;
-    assert!(rt; run_of_p.engaged() == [0, 1].as_slice());
-    assert!(rt; try_post_run(&board, &mut seat, &run_of_p) == Post::Done);
-    assert!(rt; board.look(&mut seat, 0) == Look::Known(Verdict::Free));
-    assert!(rt; board.look(&mut seat, 1) == Look::Unknown);
+    expect(&rt, run_of_p.engaged() == [0, 1].as_slice());
+    expect(
+        &rt,
+        try_post_run(&board, &mut seat, &run_of_p) == Post::Done,
+    );
+    expect(&rt, board.look(&mut seat, 0) == Look::Known(Verdict::Free));
+    expect(&rt, board.look(&mut seat, 1) == Look::Unknown);
     let run_of_q = run(rt.alloc(), &graph, 1, &[], &mut NoHints)?;
     board.post(&rt, &mut seat, &Posting::of_run(&run_of_q));
     let rows = board.close(rt.alloc(), seat)?;
@@ -125,7 +136,7 @@ fn one_free_one_stuck_posts(rt: HostRuntime) -> Result<(), Fail> {
         verdict: Verdict::Free,
         last: true,
     };
-    assert!(rt; rows.as_slice() == [free, row(1, true)].as_slice());
+    expect(&rt, rows.as_slice() == [free, row(1, true)].as_slice());
     Ok(())
 }
 
@@ -139,8 +150,11 @@ fn closes_with_less_than_the_whole_share(rt: HostRuntime) -> Result<(), Fail> {
         panic!(rt; "a seat with the whole share is split")
     };
     let run_of_p = run(rt.alloc(), &graph, 0, &[], &mut NoHints)?;
-    assert!(rt; try_post_run(&board, &mut y, &run_of_p) == Post::Done);
+    expect(&rt, try_post_run(&board, &mut y, &run_of_p) == Post::Done);
     let rows = board.close(rt.alloc(), x)?;
-    assert!(rt; rows.as_slice() == [row(0, false), row(1, true)].as_slice());
+    expect(
+        &rt,
+        rows.as_slice() == [row(0, false), row(1, true)].as_slice(),
+    );
     Ok(())
 }

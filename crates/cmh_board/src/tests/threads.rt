@@ -6,6 +6,7 @@ ghost use Rattle.cmh_graph.specs.Graph.{process_count};
 ghost use Rattle.cmh_run.specs.Run.{TellsTruth};
 ghost use Rattle.cmh_board.specs.Board.{graph_of, SitsAt, IsAway};
 
+use super::expect;
 use super::graphs::{cycle_and_follower, ring_and_chain};
 use super::runs::run_with_hints;
 use crate::{Board, BoardFault, BoardSeat, Entry, Posting, Row};
@@ -85,7 +86,7 @@ fn two_threads_hold_at_once(rt: HostRuntime) -> Result<(), Fail> {
         panic!(rt; "a seat with the whole share is split")
     };
     let ((_x, x_met), (_y, y_met)) = both_hold(&rt, &board, x, y);
-    assert!(rt; x_met && y_met);
+    expect(&rt, x_met && y_met);
     Ok(())
 }
 
@@ -160,7 +161,7 @@ fn snapshots_have_whole_postings(rt: HostRuntime) -> Result<(), Fail> {
             panic!(rt; "a seat with the whole share is split")
         };
         let (_x, (_y, is_whole)) = post_beside_snapshots(&rt, &board, alloc, x, y, &run);
-        assert!(rt; is_whole);
+        expect(&rt, is_whole);
     }
     Ok(())
 }
@@ -255,8 +256,8 @@ fn eight_threads_post(rt: HostRuntime) -> Result<(), Fail> {
     let graph = ring_and_chain(alloc)?;
     let (board, seat) = Board::open(alloc, &graph)?;
     let (seat, is_done) = serve_by(&rt, alloc, &graph, &board, seat, 7);
-    assert!(rt; is_done);
+    expect(&rt, is_done);
     let rows = board.close(alloc, seat)?;
-    assert!(rt; rows.len() == 199 && has_each_once(&rows));
+    expect(&rt, rows.len() == 199 && has_each_once(&rows));
     Ok(())
 }
