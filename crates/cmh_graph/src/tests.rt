@@ -8,6 +8,19 @@ mod surface;
 
 use crate::{GraphFault, MAX_IN_TRANSIT, MAX_PROCESSES, Part, State, Verdict, WaitGraph};
 use std::alloc::{AllocError, Global};
+use std::fmt::Debug;
+use std::process::Abort;
+
+/// Fails the test where what was found is not what was wanted. As a call it is one step of a test's proof; written
+/// out, a comparison is several, and proofs of tests grow faster than their steps.
+fn expect_eq<R: Abort, T: PartialEq + Debug + Drop>(rt: &R, found: T, wanted: T) {
+    assert_eq!(*rt; found, wanted);
+}
+
+/// Fails the test where it doesn't hold.
+fn expect<R: Abort>(rt: &R, holds: bool) {
+    assert!(*rt; holds);
+}
 
 /// A process by its name, its site, its state and its dependents.
 type Row<'a> = (&'a str, u32, State, &'a [u32]);
@@ -52,21 +65,34 @@ fn cycle_and_follower(rt: HostRuntime) -> Result<(), GraphFault> {
     let alloc = rt.alloc();
     let graph = graph_of(alloc, &CYCLE_AND_FOLLOWER)?;
     assert_eq!(rt; graph.len(), 3);
-    assert!(rt; !graph.is_empty());
-    assert_eq!(rt; graph.name(2), "r");
-    assert_eq!(rt; graph.site(2), 1);
-    assert_eq!(rt; graph.dependents(2), [0].as_slice());
-    assert!(rt; graph.is_idle(2));
-    assert!(rt; !graph.is_awake(2));
-    assert_eq!(rt; graph.idle_list(alloc)?.as_slice(), [0, 1, 2].as_slice());
-    assert_eq!(rt;
-        graph.verdicts_plain(alloc)?.as_slice(),
-        [Verdict::Deadlocked; 3].as_slice()
+    expect(&rt, !graph.is_empty());
+    expect_eq(&rt, graph.name(2), "r");
+    expect_eq(&rt, graph.site(2), 1);
+    expect_eq(&rt, graph.dependents(2), [0].as_slice());
+    expect(&rt, graph.is_idle(2));
+    expect(&rt, !graph.is_awake(2));
+    expect_eq(
+        &rt,
+        graph.idle_list(alloc)?.as_slice(),
+        [0, 1, 2].as_slice(),
     );
-    assert_eq!(rt; graph.reach_of(alloc, 2)?.as_slice(), [0, 1, 2].as_slice());
-    assert_eq!(rt; graph.core_of(alloc, 2)?.as_slice(), [2].as_slice());
-    assert!(rt; graph.chosen_path(alloc, 2)?.is_none());
-    assert_eq!(rt; graph.distances(alloc)?.as_slice(), [None; 3].as_slice());
+    expect_eq(
+        &rt,
+        graph.verdicts_plain(alloc)?.as_slice(),
+        [Verdict::Deadlocked; 3].as_slice(),
+    );
+    expect_eq(
+        &rt,
+        graph.reach_of(alloc, 2)?.as_slice(),
+        [0, 1, 2].as_slice(),
+    );
+    expect_eq(&rt, graph.core_of(alloc, 2)?.as_slice(), [2].as_slice());
+    expect(&rt, graph.chosen_path(alloc, 2)?.is_none());
+    expect_eq(
+        &rt,
+        graph.distances(alloc)?.as_slice(),
+        [None; 3].as_slice(),
+    );
     Ok(())
 }
 
@@ -76,14 +102,19 @@ fn two_shortest_paths(rt: HostRuntime) -> Result<(), GraphFault> {
     let graph = graph_of(alloc, &TWO_SHORTEST_PATHS)?;
     assert_eq!(rt; graph.len(), 4);
     let distances = [Some(2), Some(1), Some(1), Some(0)];
-    assert_eq!(rt; graph.distances(alloc)?.as_slice(), distances.as_slice());
+    expect_eq(
+        &rt,
+        graph.distances(alloc)?.as_slice(),
+        distances.as_slice(),
+    );
     let path = graph.chosen_path(alloc, 0)?.expect(&rt, "a path");
-    assert_eq!(rt; path.as_slice(), [0, 1, 3].as_slice());
+    expect_eq(&rt, path.as_slice(), [0, 1, 3].as_slice());
     let path = graph.chosen_path(alloc, 3)?.expect(&rt, "a path");
-    assert_eq!(rt; path.as_slice(), [3].as_slice());
-    assert_eq!(rt;
+    expect_eq(&rt, path.as_slice(), [3].as_slice());
+    expect_eq(
+        &rt,
         graph.verdicts_plain(alloc)?.as_slice(),
-        [Verdict::Free; 4].as_slice()
+        [Verdict::Free; 4].as_slice(),
     );
     Ok(())
 }
@@ -94,9 +125,9 @@ fn empty(rt: HostRuntime) -> Result<(), GraphFault> {
     let graph = graph_of(alloc, &[])?;
     assert_eq!(rt; graph.len(), 0);
     assert!(rt; graph.is_empty());
-    assert!(rt; graph.idle_list(alloc)?.is_empty());
-    assert!(rt; graph.verdicts_plain(alloc)?.is_empty());
-    assert!(rt; graph.distances(alloc)?.is_empty());
+    expect(&rt, graph.idle_list(alloc)?.is_empty());
+    expect(&rt, graph.verdicts_plain(alloc)?.is_empty());
+    expect(&rt, graph.distances(alloc)?.is_empty());
     Ok(())
 }
 
@@ -157,7 +188,7 @@ fn in_transit(rt: HostRuntime) -> Result<(), GraphFault> {
     for (rows, message, awake) in table {
         let graph = WaitGraph::build_with(alloc, parts_of(alloc, rows)?, &[message])?;
         for p in 0..graph.len() {
-            assert!(rt; awake.get(p as usize) == Some(&graph.is_awake(p)));
+            expect(&rt, awake.get(p as usize) == Some(&graph.is_awake(p)));
         }
     }
     Ok(())
@@ -170,7 +201,7 @@ fn refused_messages(rt: HostRuntime) -> Result<(), GraphFault> {
     let parts = parts_of(alloc, &TWO_IN_A_CYCLE)?;
     let graph = WaitGraph::build_with(alloc, parts, &messages)?;
     for p in 0..graph.len() {
-        assert!(rt; !graph.is_awake(p));
+        expect(&rt, !graph.is_awake(p));
     }
     messages.push((0, 0))?;
     let table: [(&[(u32, u32)], GraphFault); 3] = [
@@ -206,16 +237,17 @@ fn alike(alloc: Global, count: usize, dependents: &[u32]) -> Result<Vec<Part>, A
 fn most_processes(rt: HostRuntime) -> Result<(), GraphFault> {
     let alloc = rt.alloc();
     let graph = WaitGraph::build(alloc, alike(alloc, MAX_PROCESSES, &[])?)?;
-    assert_eq!(rt; graph.idle_list(alloc)?.len(), MAX_PROCESSES);
+    expect_eq(&rt, graph.idle_list(alloc)?.len(), MAX_PROCESSES);
     let verdicts = graph.verdicts_plain(alloc)?;
     assert_eq!(rt; verdicts.len(), MAX_PROCESSES);
-    assert!(rt;
+    expect(
+        &rt,
         verdicts
             .iter()
-            .all(|verdict| *verdict == Verdict::Deadlocked)
+            .all(|verdict| *verdict == Verdict::Deadlocked),
     );
     let refused = WaitGraph::build(alloc, alike(alloc, MAX_PROCESSES + 1, &[])?).err();
-    assert!(rt; refused == Some(GraphFault::TooManyProcesses));
+    expect(&rt, refused == Some(GraphFault::TooManyProcesses));
     Ok(())
 }
 
@@ -228,12 +260,15 @@ fn most_dependencies(rt: HostRuntime) -> Result<(), GraphFault> {
     }
     let graph = WaitGraph::build(alloc, alike(alloc, 256, &everybody)?)?;
     for p in 0..graph.len() {
-        assert!(rt; graph.core_of(alloc, p)?.as_slice() == everybody.as_slice());
+        expect(
+            &rt,
+            graph.core_of(alloc, p)?.as_slice() == everybody.as_slice(),
+        );
     }
     let mut parts = alike(alloc, 256, &everybody)?;
     parts.extend(alike(alloc, 1, &[0])?)?;
     let refused = WaitGraph::build(alloc, parts).err();
-    assert!(rt; refused == Some(GraphFault::TooManyDependencies));
+    expect(&rt, refused == Some(GraphFault::TooManyDependencies));
     Ok(())
 }
 
@@ -263,7 +298,7 @@ fn fault_texts(rt: HostRuntime) -> Result<(), GraphFault> {
         ),
     ];
     for (fault, text) in table {
-        assert_eq!(rt; format!(in alloc; "{fault}")?.as_str(), text);
+        expect_eq(&rt, format!(in alloc; "{fault}")?.as_str(), text);
     }
     Ok(())
 }

@@ -2,7 +2,7 @@
 
 ghost use Rattle.std.specs.Prelude.{◌<◌};
 
-use super::{Row, graph_of};
+use super::{Row, expect, expect_eq, graph_of};
 use crate::{GraphFault, Predecessors, State, WaitGraph};
 use std::alloc::Global;
 use std::test::Fail;
@@ -78,19 +78,25 @@ fn has_cores(alloc: Global, rows: &[Row], cores: &[&[u32]]) -> Result<bool, Grap
 
 #[test]
 fn sinks_are_cores_of_their_own(rt: HostRuntime) -> Result<(), Fail> {
-    assert!(rt; has_cores(rt.alloc(), &KNOT_WITH_SINKS, &CORES_WITH_SINKS)?);
+    expect(
+        &rt,
+        has_cores(rt.alloc(), &KNOT_WITH_SINKS, &CORES_WITH_SINKS)?,
+    );
     Ok(())
 }
 
 #[test]
 fn followers_are_cores_of_their_own(rt: HostRuntime) -> Result<(), Fail> {
-    assert!(rt; has_cores(rt.alloc(), &KNOT_WITH_FOLLOWERS, &CORES_WITH_FOLLOWERS)?);
+    expect(
+        &rt,
+        has_cores(rt.alloc(), &KNOT_WITH_FOLLOWERS, &CORES_WITH_FOLLOWERS)?,
+    );
     Ok(())
 }
 
 #[test]
 fn a_ring_that_waits_for_another(rt: HostRuntime) -> Result<(), Fail> {
-    assert!(rt; has_cores(rt.alloc(), &RINGS, &CORES_OF_RINGS)?);
+    expect(&rt, has_cores(rt.alloc(), &RINGS, &CORES_OF_RINGS)?);
     Ok(())
 }
 
@@ -129,7 +135,7 @@ fn a_knot_is_led_by_its_least(rt: HostRuntime) -> Result<(), GraphFault> {
     let predecessors = Predecessors::of_graph(alloc, &graph)?;
     for p in [1, 2, 4] {
         let core = graph.core_by(alloc, &predecessors, p)?;
-        assert_eq!(rt; core.first(), Some(&1));
+        expect_eq(&rt, core.first(), Some(&1));
     }
     Ok(())
 }

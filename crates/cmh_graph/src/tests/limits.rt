@@ -2,6 +2,7 @@
 
 ghost use Rattle.std.specs.Prelude.{◌<◌};
 
+use super::{expect, expect_eq};
 use crate::{
     GraphFault, MAX_IN_TRANSIT, MAX_PROCESSES, Part, Predecessors, State, Verdict, WaitGraph,
 };
@@ -60,16 +61,21 @@ fn a_chain_with_its_last_active(rt: HostRuntime) -> Result<(), GraphFault> {
             graph.reach_of(alloc, first)?.as_slice() == all.as_slice(),
             "from {first}"
         );
-        assert_eq!(rt; graph.core_of(alloc, first)?.as_slice(), [first].as_slice());
+        expect_eq(
+            &rt,
+            graph.core_of(alloc, first)?.as_slice(),
+            [first].as_slice(),
+        );
     }
     let verdicts = graph.verdicts_plain(alloc)?;
-    assert!(rt;
-        verdicts.len() == 4_096 && verdicts.iter().all(|verdict| *verdict == Verdict::Free)
+    expect(
+        &rt,
+        verdicts.len() == 4_096 && verdicts.iter().all(|verdict| *verdict == Verdict::Free),
     );
     let distances = graph.distances(alloc)?;
     assert_eq!(rt; distances.len(), 4_096);
     for (p, distance) in distances.iter().enumerate() {
-        assert_eq!(rt; *distance, 4_095u32.checked_sub(p as u32));
+        expect_eq(&rt, *distance, 4_095u32.checked_sub(p as u32));
     }
     Ok(())
 }
@@ -96,11 +102,11 @@ fn a_ring_with_a_sink_for_each(rt: HostRuntime) -> Result<(), GraphFault> {
     let core = graph.core_by(alloc, &predecessors, 1_000)?;
     assert_eq!(rt; core.len(), 2_048);
     for (place, p) in core.iter().enumerate() {
-        assert_eq!(rt; *p as usize, place);
+        expect_eq(&rt, *p as usize, place);
     }
     for sink in 2_048..graph.len() {
         let core = graph.core_by(alloc, &predecessors, sink)?;
-        assert_eq!(rt; core.as_slice(), [sink].as_slice());
+        expect_eq(&rt, core.as_slice(), [sink].as_slice());
     }
     Ok(())
 }
@@ -117,7 +123,7 @@ fn messages_over_many_processes(rt: HostRuntime) -> Result<(), GraphFault> {
     assert_eq!(rt; messages.len(), MAX_IN_TRANSIT);
     let graph = ring(alloc, &messages)?;
     assert_eq!(rt; graph.len(), 4_096);
-    assert!(rt; graph.in_transit() == messages.as_slice());
+    expect(&rt, graph.in_transit() == messages.as_slice());
     let distances = graph.distances(alloc)?;
     for p in 0..4_096u32 {
         assert_eq!(rt; graph.is_awake(p), p % 2 == 0, "at {p}");
@@ -136,14 +142,18 @@ fn messages_that_wake_nobody(rt: HostRuntime) -> Result<(), GraphFault> {
     }
     let graph = ring(alloc, &messages)?;
     assert_eq!(rt; graph.len(), 4_096);
-    assert!(rt; graph.in_transit() == messages.as_slice());
+    expect(&rt, graph.in_transit() == messages.as_slice());
     let verdicts = graph.verdicts_plain(alloc)?;
-    assert!(rt;
+    expect(
+        &rt,
         verdicts.len() == 4_096
             && verdicts
                 .iter()
-                .all(|verdict| *verdict == Verdict::Deadlocked)
+                .all(|verdict| *verdict == Verdict::Deadlocked),
     );
-    assert!(rt; graph.core_of(alloc, 2_000)?.as_slice() == all_from(alloc, 0)?.as_slice());
+    expect(
+        &rt,
+        graph.core_of(alloc, 2_000)?.as_slice() == all_from(alloc, 0)?.as_slice(),
+    );
     Ok(())
 }

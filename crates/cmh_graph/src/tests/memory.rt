@@ -1,6 +1,6 @@
 //! Graphs that are built and asked while memory is short.
 
-use super::{TWO_SHORTEST_PATHS, graph_of, parts_of};
+use super::{TWO_SHORTEST_PATHS, expect_eq, graph_of, parts_of};
 use crate::{GraphFault, Part, Verdict, WaitGraph};
 use std::alloc::Global;
 use std::test::Fail;
@@ -139,7 +139,7 @@ fn sweep(alloc: Global, question: Option<Question>) -> Result<Answers, Fail> {
 
 #[test]
 fn building(rt: HostRuntime) -> Result<(), Fail> {
-    assert_eq!(rt; sweep(rt.alloc(), None)?, AS_THEY_SHOULD_BE);
+    expect_eq(&rt, sweep(rt.alloc(), None)?, AS_THEY_SHOULD_BE);
     Ok(())
 }
 

@@ -4,7 +4,7 @@ ghost use Rattle.std.specs.Prelude.{◌<◌};
 ghost use Rattle.cmh_graph.specs.Graph.{process_count};
 
 use super::cores::RINGS;
-use super::{CYCLE_AND_FOLLOWER, Row, TWO_SHORTEST_PATHS, graph_of};
+use super::{CYCLE_AND_FOLLOWER, Row, TWO_SHORTEST_PATHS, expect_eq, graph_of};
 use crate::{GraphFault, WaitGraph};
 use std::alloc::Global;
 use std::test::Fail;

@@ -1,6 +1,9 @@
 //! Each public call as a client writes it, with two worked graphs.
 
-use super::{CYCLE_AND_FOLLOWER, Row, TWO_IN_A_CYCLE, TWO_SHORTEST_PATHS, graph_of, parts_of};
+use super::{
+    CYCLE_AND_FOLLOWER, Row, TWO_IN_A_CYCLE, TWO_SHORTEST_PATHS, expect, expect_eq, graph_of,
+    parts_of,
+};
 use crate::laws::{
     law_built_graph, law_chosen_path, law_closed_set, law_core, law_distance, law_group_number,
     law_leader, law_leaders, law_no_path, law_path_length, law_reach, law_rest, law_rising,
@@ -18,8 +21,8 @@ fn parts(rt: HostRuntime) -> Result<(), GraphFault> {
         dependents: Vec::from_slice(alloc, &[1])?,
     };
     let parts = parts_of(alloc, &TWO_IN_A_CYCLE)?;
-    assert_eq!(rt; parts.first(), Some(&part));
-    assert!(rt; parts.last() != Some(&part));
+    expect_eq(&rt, parts.first(), Some(&part));
+    expect(&rt, parts.last() != Some(&part));
     Ok(())
 }
 
@@ -30,10 +33,10 @@ fn values_of_a_graph(rt: HostRuntime) -> Result<(), GraphFault> {
     let graph: WaitGraph = WaitGraph::build(alloc, parts)?;
     law_built_graph(&graph);
     assert_eq!(rt; (graph.len(), graph.is_empty()), (4u32, false));
-    assert_eq!(rt; (graph.name(0), graph.site(0)), ("p", 0u32));
-    assert_eq!(rt; (graph.is_idle(0), graph.is_awake(3)), (true, true));
-    assert_eq!(rt; graph.dependents(0), [2, 1].as_slice());
-    assert_eq!(rt; graph.in_transit(), [].as_slice());
+    expect_eq(&rt, (graph.name(0), graph.site(0)), ("p", 0u32));
+    expect_eq(&rt, (graph.is_idle(0), graph.is_awake(3)), (true, true));
+    expect_eq(&rt, graph.dependents(0), [2, 1].as_slice());
+    expect_eq(&rt, graph.in_transit(), [].as_slice());
     Ok(())
 }
 
@@ -45,9 +48,10 @@ fn a_path_by_distances(rt: HostRuntime) -> Result<(), GraphFault> {
     assert_eq!(rt; graph.len(), 4);
     let distances: Vec<Option<u32>> = graph.distances(alloc)?;
     let path: Option<Vec<u32>> = graph.path_by(alloc, &distances, 0)?;
-    assert_eq!(rt;
+    expect_eq(
+        &rt,
         path.as_ref().map(|path| path.as_slice()),
-        Some([0, 1, 3].as_slice())
+        Some([0, 1, 3].as_slice()),
     );
     Ok(())
 }
@@ -59,7 +63,7 @@ fn a_core_by_predecessors(rt: HostRuntime) -> Result<(), GraphFault> {
     assert_eq!(rt; graph.len(), 3);
     let predecessors: Predecessors = Predecessors::of_graph(alloc, &graph)?;
     let core: Vec<u32> = graph.core_by(alloc, &predecessors, 1)?;
-    assert_eq!(rt; core.as_slice(), [0, 1].as_slice());
+    expect_eq(&rt, core.as_slice(), [0, 1].as_slice());
     Ok(())
 }
 
@@ -70,9 +74,9 @@ fn marks_by_process(rt: HostRuntime) -> Result<(), GraphFault> {
     assert_eq!(rt; graph.len(), 3);
     let predecessors: Predecessors = Predecessors::of_graph(alloc, &graph)?;
     let alone: Vec<bool> = graph.alone(alloc, &predecessors)?;
-    assert_eq!(rt; alone.as_slice(), [false, false, true].as_slice());
+    expect_eq(&rt, alone.as_slice(), [false, false, true].as_slice());
     let reached: Vec<bool> = graph.reached(alloc, 1)?;
-    assert_eq!(rt; reached.as_slice(), [true, true, false].as_slice());
+    expect_eq(&rt, reached.as_slice(), [true, true, false].as_slice());
     Ok(())
 }
 
@@ -81,11 +85,12 @@ fn a_message_in_transit(rt: HostRuntime) -> Result<(), GraphFault> {
     let alloc = rt.alloc();
     let parts = parts_of(alloc, &CYCLE_AND_FOLLOWER)?;
     let graph = WaitGraph::build_with(alloc, parts, &[(0, 2)])?;
-    assert_eq!(rt; graph.in_transit(), [(0, 2)].as_slice());
+    expect_eq(&rt, graph.in_transit(), [(0, 2)].as_slice());
     let verdicts = [Verdict::Deadlocked, Verdict::Deadlocked, Verdict::Free];
-    assert_eq!(rt;
+    expect_eq(
+        &rt,
         graph.verdicts_plain(alloc)?.as_slice(),
-        verdicts.as_slice()
+        verdicts.as_slice(),
     );
     Ok(())
 }
@@ -97,10 +102,10 @@ fn verdicts_by_predecessors(rt: HostRuntime) -> Result<(), GraphFault> {
     let graph = WaitGraph::build_with(alloc, parts, &[(0, 2)])?;
     let predecessors: Predecessors = Predecessors::of_graph(alloc, &graph)?;
     let distances: Vec<Option<u32>> = graph.distances_by(alloc, &predecessors)?;
-    assert_eq!(rt; distances.as_slice(), [None, None, Some(0)].as_slice());
+    expect_eq(&rt, distances.as_slice(), [None, None, Some(0)].as_slice());
     let verdicts: Vec<Verdict> = graph.verdicts_by(alloc, &distances)?;
     let wanted = [Verdict::Deadlocked, Verdict::Deadlocked, Verdict::Free];
-    assert_eq!(rt; verdicts.as_slice(), wanted.as_slice());
+    expect_eq(&rt, verdicts.as_slice(), wanted.as_slice());
     Ok(())
 }
 
@@ -122,7 +127,7 @@ fn refusals(rt: HostRuntime) {
         ),
     ];
     for (row, fault) in table {
-        assert_eq!(rt; graph_of(alloc, &[row]).err(), Some(fault));
+        expect_eq(&rt, graph_of(alloc, &[row]).err(), Some(fault));
     }
 }
 
