@@ -1,5 +1,6 @@
 //! What is accepted, and the graph that it means.
 
+use super::{expect, expect_eq};
 use super::first_wrong;
 use crate::read_dump;
 use cmh_graph::WaitGraph;
@@ -28,7 +29,7 @@ const DUMPS: [(&str, &str); 5] = [
 
 #[test]
 fn accepted_dumps(rt: HostRuntime) -> Result<(), Fail> {
-    assert_eq!(rt; first_wrong(rt.alloc(), &DUMPS)?, None);
+    expect_eq(&rt, first_wrong(rt.alloc(), &DUMPS)?, None);
     Ok(())
 }
 
@@ -61,7 +62,7 @@ fn keeps_the_order_of_the_dump(rt: HostRuntime) -> Result<(), Fail> {
         && is_process(&graph, 2, "r", 1, &[]);
     let wait = is_idle(&graph, 0) && is_active(&graph, 1) && is_idle(&graph, 2);
     drop(graph);
-    assert!(rt; are_there);
-    assert!(rt; wait);
+    expect(&rt, are_there);
+    expect(&rt, wait);
     Ok(())
 }

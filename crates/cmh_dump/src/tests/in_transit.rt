@@ -1,5 +1,6 @@
 //! Dumps of version 2.
 
+use super::{expect, expect_eq};
 use super::first_wrong;
 use crate::read_dump;
 use std::alloc::{AllocError, Global};
@@ -42,7 +43,7 @@ const DUMPS: [(&str, &str); 10] = [
 
 #[test]
 fn dumps_with_messages(rt: HostRuntime) -> Result<(), Fail> {
-    assert_eq!(rt; first_wrong(rt.alloc(), &DUMPS)?, None);
+    expect_eq(&rt, first_wrong(rt.alloc(), &DUMPS)?, None);
     Ok(())
 }
 
@@ -51,6 +52,6 @@ fn in_transit(rt: HostRuntime) -> Result<(), Fail> {
     let graph = read_dump(rt.alloc(), with!(r#"[["q","p"]]"#).as_bytes())?;
     let wakes_one = graph.len() == 2 && graph.is_awake(0) && !graph.is_awake(1);
     drop(graph);
-    assert!(rt; wakes_one);
+    expect(&rt, wakes_one);
     Ok(())
 }

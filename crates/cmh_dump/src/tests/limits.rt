@@ -1,5 +1,6 @@
 //! Dumps at the limits, and one past them.
 
+use super::expect;
 use super::{TWO_IN_A_CYCLE, is_answered};
 use std::alloc::{AllocError, Global};
 use std::fmt::Write;
@@ -88,9 +89,9 @@ fn with_one_dependent_more(alloc: Global, dump: &str) -> Result<String, AllocErr
 fn limit_of_dependencies(rt: HostRuntime) -> Result<(), Fail> {
     let alloc = rt.alloc();
     let dump = processes(alloc, 256, &names(alloc, 256)?)?;
-    assert!(rt; is_answered(alloc, dump.as_bytes(), "accepted")?);
+    expect(&rt, is_answered(alloc, dump.as_bytes(), "accepted")?);
     let dump = with_one_dependent_more(alloc, &dump)?;
-    assert!(rt; is_answered(alloc, dump.as_bytes(), "too many dependencies")?);
+    expect(&rt, is_answered(alloc, dump.as_bytes(), "too many dependencies")?);
     Ok(())
 }
 
@@ -99,8 +100,8 @@ fn limit_of_bytes(rt: HostRuntime) -> Result<(), Fail> {
     let alloc = rt.alloc();
     let mut dump = Vec::from_slice(alloc, TWO_IN_A_CYCLE.as_bytes())?;
     dump.resize(8_388_608, b' ')?;
-    assert!(rt; is_answered(alloc, &dump, "accepted")?);
+    expect(&rt, is_answered(alloc, &dump, "accepted")?);
     dump.push(b' ')?;
-    assert!(rt; is_answered(alloc, &dump, "too long")?);
+    expect(&rt, is_answered(alloc, &dump, "too long")?);
     Ok(())
 }

@@ -3,6 +3,7 @@
 mod at_the_top;
 mod in_processes;
 
+use super::{expect, expect_eq};
 use super::is_answered;
 use at_the_top::{NOT_UTF_8, REFUSED_AT_THE_TOP};
 use in_processes::REFUSED_IN_PROCESSES;
@@ -24,8 +25,8 @@ fn right_answers(alloc: Global, text: &str) -> Result<usize, AllocError> {
 
 #[test]
 fn refused_outside(rt: HostRuntime) -> Result<(), Fail> {
-    assert_eq!(rt; right_answers(rt.alloc(), REFUSED_AT_THE_TOP)?, 27);
-    assert_eq!(rt; right_answers(rt.alloc(), REFUSED_IN_PROCESSES)?, 31);
+    expect_eq(&rt, right_answers(rt.alloc(), REFUSED_AT_THE_TOP)?, 27);
+    expect_eq(&rt, right_answers(rt.alloc(), REFUSED_IN_PROCESSES)?, 31);
     Ok(())
 }
 
@@ -36,6 +37,6 @@ fn refused_outside_no_text(rt: HostRuntime) -> Result<(), Fail> {
     let mut bytes = Vec::from_slice(alloc, left.as_bytes())?;
     bytes.push(0xCD)?;
     bytes.extend_from_slice(right.as_bytes())?;
-    assert!(rt; is_answered(alloc, &bytes, "not JSON")?);
+    expect(&rt, is_answered(alloc, &bytes, "not JSON")?);
     Ok(())
 }

@@ -1,5 +1,6 @@
 //! Small dumps with something wrong in them.
 
+use super::{expect, expect_eq};
 use super::{TWO_IN_A_CYCLE, first_wrong, is_answered};
 use crate::DumpFault;
 use std::alloc::{AllocError, Global};
@@ -105,7 +106,7 @@ const DUMPS: [(&str, &str); 20] = [
 
 #[test]
 fn refused_dumps(rt: HostRuntime) -> Result<(), Fail> {
-    assert_eq!(rt; first_wrong(rt.alloc(), &DUMPS)?, None);
+    expect_eq(&rt, first_wrong(rt.alloc(), &DUMPS)?, None);
     Ok(())
 }
 
@@ -113,8 +114,8 @@ fn refused_dumps(rt: HostRuntime) -> Result<(), Fail> {
 fn hostile_bytes(rt: HostRuntime) -> Result<(), Fail> {
     let alloc = rt.alloc();
     let brackets = vec![in alloc; b'['; 100_000]?;
-    assert!(rt; is_answered(alloc, &brackets, "not JSON")?);
-    assert!(rt; is_answered(alloc, b"\xFF", "not JSON")?);
+    expect(&rt, is_answered(alloc, &brackets, "not JSON")?);
+    expect(&rt, is_answered(alloc, b"\xFF", "not JSON")?);
     Ok(())
 }
 
@@ -122,8 +123,8 @@ fn hostile_bytes(rt: HostRuntime) -> Result<(), Fail> {
 fn prefixes(rt: HostRuntime) -> Result<(), Fail> {
     let alloc = rt.alloc();
     let dump = TWO_IN_A_CYCLE.as_bytes();
-    assert_eq!(rt; dump.len(), 157);
-    assert!(rt; is_answered(alloc, dump, "accepted")?);
+    expect_eq(&rt, dump.len(), 157);
+    expect(&rt, is_answered(alloc, dump, "accepted")?);
     for len in 0..157 {
         assert!(rt; is_answered(alloc, &dump[..len], "not JSON")?, "at {len}");
     }
@@ -172,6 +173,6 @@ fn first_wrong_text(
 
 #[test]
 fn texts_of_faults(rt: HostRuntime) -> Result<(), Fail> {
-    assert_eq!(rt; first_wrong_text(rt.alloc(), &TEXTS)?, None);
+    expect_eq(&rt, first_wrong_text(rt.alloc(), &TEXTS)?, None);
     Ok(())
 }

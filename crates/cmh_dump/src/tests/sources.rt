@@ -1,5 +1,6 @@
 //! Reading of sources to their ends.
 
+use super::{expect, expect_eq};
 use super::TWO_IN_A_CYCLE;
 use crate::{MAX_BYTES, ReadOf, read_all};
 use std::alloc::{AllocError, Global};
@@ -39,14 +40,14 @@ fn is_read<R: Read + Drop>(alloc: Global, reader: R, wanted: &str) -> Result<boo
 fn failing_sources(rt: HostRuntime) -> Result<(), Fail> {
     let alloc = rt.alloc();
     let dump = TWO_IN_A_CYCLE.as_bytes();
-    assert_eq!(rt; dump.len(), 157);
+    expect_eq(&rt, dump.len(), 157);
     for len in 0..=157 {
         let broken = Broken {
             bytes: &dump[..len],
         };
         assert!(rt; is_read(alloc, broken, "read fault")?, "at {len}");
     }
-    assert!(rt; is_read(alloc, dump, "157")?);
+    expect(&rt, is_read(alloc, dump, "157")?);
     Ok(())
 }
 
@@ -54,8 +55,8 @@ fn failing_sources(rt: HostRuntime) -> Result<(), Fail> {
 fn long_sources(rt: HostRuntime) -> Result<(), Fail> {
     let alloc = rt.alloc();
     let mut bytes = vec![in alloc; b' '; MAX_BYTES]?;
-    assert!(rt; is_read(alloc, bytes.as_slice(), "8388608")?);
+    expect(&rt, is_read(alloc, bytes.as_slice(), "8388608")?);
     bytes.push(b' ')?;
-    assert!(rt; is_read(alloc, bytes.as_slice(), "too long")?);
+    expect(&rt, is_read(alloc, bytes.as_slice(), "too long")?);
     Ok(())
 }

@@ -1,5 +1,6 @@
 //! Each public item as a client writes it. Answers are compared, not their texts.
 
+use super::{expect, expect_eq};
 use super::TWO_IN_A_CYCLE;
 use crate::laws::{law_first_fault, law_no_fault, law_tree_fault, law_tree_graph, law_well_formed};
 use crate::{DumpFault, MAX_NAME, ReadOf, Source, Stopped, read_all, read_dump};
@@ -31,11 +32,11 @@ fn from_a_source(rt: HostRuntime) -> Result<(), Fail> {
     let bytes: Vec<u8> = read_all(rt.alloc(), &mut source)?;
     let is_whole = bytes.as_slice() == TWO_IN_A_CYCLE.as_bytes();
     drop(bytes);
-    assert!(rt; is_whole);
+    expect(&rt, is_whole);
     let mut buf = [0u8; 4];
     let count: Result<usize, Stopped> = source.fill(&mut buf);
-    assert_eq!(rt; count, Ok(0));
-    assert!(rt; !source.failed());
+    expect_eq(&rt, count, Ok(0));
+    expect(&rt, !source.failed());
     Ok(())
 }
 
@@ -44,7 +45,7 @@ fn from_bytes(rt: HostRuntime) -> Result<(), Fail> {
     let graph: WaitGraph = read_dump(rt.alloc(), TWO_IN_A_CYCLE.as_bytes())?;
     let count = graph.len();
     drop(graph);
-    assert_eq!(rt; count, 2);
+    expect_eq(&rt, count, 2);
     Ok(())
 }
 
@@ -52,7 +53,7 @@ fn from_bytes(rt: HostRuntime) -> Result<(), Fail> {
 fn refusals(rt: HostRuntime) {
     for (dump, fault) in REFUSED {
         let answer = read_dump(rt.alloc(), dump.as_bytes());
-        assert_eq!(rt; answer.err(), Some(fault));
+        expect_eq(&rt, answer.err(), Some(fault));
     }
     law_first_fault();
     law_no_fault();
@@ -71,10 +72,7 @@ fn fault_of_name(alloc: Global, length: usize) -> Result<Option<DumpFault>, Fail
 #[test]
 fn the_longest_name(rt: HostRuntime) -> Result<(), Fail> {
     let alloc = rt.alloc();
-    assert_eq!(rt; fault_of_name(alloc, 64)?, None);
-    assert_eq!(rt;
-        fault_of_name(alloc, MAX_NAME + 1)?,
-        Some(DumpFault::BadSites(0))
-    );
+    expect_eq(&rt, fault_of_name(alloc, 64)?, None);
+    expect_eq(&rt, fault_of_name(alloc, MAX_NAME + 1)?, Some(DumpFault::BadSites(0)));
     Ok(())
 }
