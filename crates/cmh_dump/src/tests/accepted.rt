@@ -1,7 +1,6 @@
 //! What is accepted, and the graph that it means.
 
-use super::{expect, expect_eq};
-use super::first_wrong;
+use super::{expect, expect_eq, first_wrong};
 use crate::read_dump;
 use cmh_graph::WaitGraph;
 use std::test::Fail;

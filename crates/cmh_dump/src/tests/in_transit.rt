@@ -1,7 +1,6 @@
 //! Dumps of version 2.
 
-use super::{expect, expect_eq};
-use super::first_wrong;
+use super::{expect, expect_eq, first_wrong};
 use crate::read_dump;
 use std::alloc::{AllocError, Global};
 use std::test::Fail;

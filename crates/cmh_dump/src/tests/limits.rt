@@ -1,7 +1,6 @@
 //! Dumps at the limits, and one past them.
 
-use super::expect;
-use super::{TWO_IN_A_CYCLE, is_answered};
+use super::{TWO_IN_A_CYCLE, expect, is_answered};
 use std::alloc::{AllocError, Global};
 use std::fmt::Write;
 use std::test::Fail;
@@ -91,7 +90,10 @@ fn limit_of_dependencies(rt: HostRuntime) -> Result<(), Fail> {
     let dump = processes(alloc, 256, &names(alloc, 256)?)?;
     expect(&rt, is_answered(alloc, dump.as_bytes(), "accepted")?);
     let dump = with_one_dependent_more(alloc, &dump)?;
-    expect(&rt, is_answered(alloc, dump.as_bytes(), "too many dependencies")?);
+    expect(
+        &rt,
+        is_answered(alloc, dump.as_bytes(), "too many dependencies")?,
+    );
     Ok(())
 }
 

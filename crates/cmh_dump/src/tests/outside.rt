@@ -3,8 +3,7 @@
 mod at_the_top;
 mod in_processes;
 
-use super::{expect, expect_eq};
-use super::is_answered;
+use super::{expect, expect_eq, is_answered};
 use at_the_top::{NOT_UTF_8, REFUSED_AT_THE_TOP};
 use in_processes::REFUSED_IN_PROCESSES;
 use std::alloc::{AllocError, Global};

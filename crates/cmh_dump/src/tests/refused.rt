@@ -1,7 +1,6 @@
 //! Small dumps with something wrong in them.
 
-use super::{expect, expect_eq};
-use super::{TWO_IN_A_CYCLE, first_wrong, is_answered};
+use super::{TWO_IN_A_CYCLE, expect, expect_eq, first_wrong, is_answered};
 use crate::DumpFault;
 use std::alloc::{AllocError, Global};
 use std::test::Fail;

@@ -1,7 +1,6 @@
 //! Reading of sources to their ends.
 
-use super::{expect, expect_eq};
-use super::TWO_IN_A_CYCLE;
+use super::{TWO_IN_A_CYCLE, expect, expect_eq};
 use crate::{MAX_BYTES, ReadOf, read_all};
 use std::alloc::{AllocError, Global};
 use std::io;

@@ -1,7 +1,6 @@
 //! Each public item as a client writes it. Answers are compared, not their texts.
 
-use super::{expect, expect_eq};
-use super::TWO_IN_A_CYCLE;
+use super::{TWO_IN_A_CYCLE, expect, expect_eq};
 use crate::laws::{law_first_fault, law_no_fault, law_tree_fault, law_tree_graph, law_well_formed};
 use crate::{DumpFault, MAX_NAME, ReadOf, Source, Stopped, read_all, read_dump};
 use cmh_graph::WaitGraph;
@@ -73,6 +72,10 @@ fn fault_of_name(alloc: Global, length: usize) -> Result<Option<DumpFault>, Fail
 fn the_longest_name(rt: HostRuntime) -> Result<(), Fail> {
     let alloc = rt.alloc();
     expect_eq(&rt, fault_of_name(alloc, 64)?, None);
-    expect_eq(&rt, fault_of_name(alloc, MAX_NAME + 1)?, Some(DumpFault::BadSites(0)));
+    expect_eq(
+        &rt,
+        fault_of_name(alloc, MAX_NAME + 1)?,
+        Some(DumpFault::BadSites(0)),
+    );
     Ok(())
 }
