@@ -14,6 +14,7 @@ use crate::{Board, BoardSeat, Post, Posting};
 use cmh_graph::Verdict;
 use cmh_rw::{Entry, FIRST_VERDICT, RwSeat, RwWords};
 use std::sync::Wait;
+use std::thread::yield_now;
 
 impl Board {
     /// Adds a row for each process of the posting that stands in none yet: one posting, or none
@@ -36,7 +37,9 @@ impl Board {
         }
     }
 
-    /// Tries to post until it is done. It may wait for ever, since nothing makes others let go.
+    /// Tries to post until it is done, and gives way to other threads after each try that finds the
+    /// board held: who holds it may need the same processor to let go. It may wait for ever, since
+    /// nothing makes others let go.
     pub fn post<R: Wait>(&self, rt: &R, seat: &mut BoardSeat, posting: &Posting)
         requires sits { SitsAt self.now seat.old }
         requires away { IsAway seat.old }
@@ -50,6 +53,7 @@ impl Board {
             if let Post::Done = self.try_post(seat, posting) {
                 return;
             }
+            yield_now();
         }
         unreachable!()
     }

@@ -19,6 +19,7 @@ use cmh_graph::WaitGraph;
 use cmh_run::{Log, ProcessList, RunLog, Runner};
 use std::alloc::Global;
 use std::sync::Wait;
+use std::thread::yield_now;
 
 /// A run of the initiator, which asks the board as it goes.
 fn run_of<L: Log>(
@@ -111,7 +112,8 @@ fn find_one<L: Log, E: ProcessList, R: Wait, P: Gate>(
     })
 }
 
-/// Adds what is found of each initiator of the chunk, in order.
+/// Adds what is found of each initiator of the chunk, in order. After the first of all it gives way
+/// once, so that workers who are far off can post what cuts its later runs short.
 fn find_each<L: Log, E: ProcessList, R: Wait, P: Gate>(
     rt: &R,
     alloc: Global,
@@ -139,6 +141,9 @@ fn find_each<L: Log, E: ProcessList, R: Wait, P: Gate>(
     for initiator in chunk {
         let finding = find_one(rt, alloc, job, gate, runner, seat, *initiator)?;
         found.push(finding)?;
+        if found.len() == 1 {
+            yield_now();
+        }
     }
     Ok(())
 }
