@@ -1,5 +1,6 @@
 //! Gates that count: how many workers there are, and how often the gate is told of each process.
 
+use super::expect_eq;
 use super::generated::{Family, Seed, waiting_of};
 use super::graphs::{ONE_FREE_ONE_STUCK, Waits, graph_of};
 use crate::{Gate, Plan, analyse};
@@ -124,13 +125,13 @@ fn told_of_each<R: Threads + Wait + Sync>(
 #[test]
 fn the_gate_is_told_of_each_idle_process_once(rt: HostRuntime) -> Result<(), Fail> {
     let (times, first) = told_of_each(&rt, rt.alloc(), &FOUR_IDLE, 1)?;
-    assert_eq!(rt; times, [1, 1, 1, 0, 1]);
-    assert_eq!(rt; first, [1, 2, 3, 0, 4]);
+    expect_eq(&rt, times, [1, 1, 1, 0, 1]);
+    expect_eq(&rt, first, [1, 2, 3, 0, 4]);
     for workers in [2, 4] {
         let (times, _) = told_of_each(&rt, rt.alloc(), &FOUR_IDLE, workers)?;
-        assert_eq!(rt; times, [1, 1, 1, 0, 1]);
+        expect_eq(&rt, times, [1, 1, 1, 0, 1]);
         let (times, _) = told_of_each(&rt, rt.alloc(), &ONE_FREE_ONE_STUCK, workers)?;
-        assert_eq!(rt; times, [1, 1, 0, 0, 0]);
+        expect_eq(&rt, times, [1, 1, 0, 0, 0]);
     }
     Ok(())
 }

@@ -3,6 +3,7 @@
 ghost use Rattle.std.specs.Prelude.{◌<◌};
 
 use super::graphs::{is_free, is_from_row, is_from_run, is_led};
+use super::expect;
 use crate::{Analysis, NoGate, Origin, Plan, Record, Row, analyse};
 use cmh_graph::{GraphFault, Part, State, Verdict, WaitGraph};
 use cmh_process::Kind;
@@ -202,7 +203,7 @@ fn a_knot_at_the_limits(rt: HostRuntime) -> Result<(), Fail> {
     let choices = vec![in alloc; 1u64; 65_536]?;
     let plan = Plan::new(alloc, 64, &[8; 512], &choices)?;
     let analysis = analyse(&rt, alloc, &graph, &plan, &NoGate)?;
-    assert!(rt; has_each_once(alloc, &analysis, false)?);
+    expect(&rt, has_each_once(alloc, &analysis, false)?);
     Ok(())
 }
 
@@ -213,7 +214,7 @@ fn each_alone_at_the_limits(rt: HostRuntime) -> Result<(), Fail> {
     let graph = knot(alloc, 0)?;
     let plan = Plan::new(alloc, 4, &[1; 512], &[])?;
     let analysis = analyse(&rt, alloc, &graph, &plan, &NoGate)?;
-    assert!(rt; has_each_once(alloc, &analysis, true)?);
-    assert!(rt; analysis.records().iter().all(is_from_run));
+    expect(&rt, has_each_once(alloc, &analysis, true)?);
+    expect(&rt, analysis.records().iter().all(is_from_run));
     Ok(())
 }

@@ -1,6 +1,7 @@
 //! Gates that keep workers waiting for one another. They show what no contract says: that the
 //! workers run at once, and make the runs themselves.
 
+use super::expect;
 use super::graphs::{
     CYCLE_AND_FOLLOWER, CYCLE_AND_TWO_FOLLOWERS, TWO_IN_A_CYCLE, Waits, graph_of, is_from_row,
 };
@@ -68,7 +69,7 @@ fn two_workers_run_at_once(rt: HostRuntime) -> Result<(), Fail> {
         late: AtomicU64::new(0),
     };
     analysis(&rt, &TWO_IN_A_CYCLE, &[1], &gate)?;
-    assert!(rt; is_noted(&gate.second) && !is_noted(&gate.late));
+    expect(&rt, is_noted(&gate.second) && !is_noted(&gate.late));
     Ok(())
 }
 
@@ -132,14 +133,14 @@ fn crossed<R: Threads + Wait + Sync + AllocGlobal>(rt: &R) -> Result<(bool, bool
 #[test]
 fn two_workers_make_the_runs(rt: HostRuntime) -> Result<(), Fail> {
     let (_, by_the_other) = crossed(&rt)?;
-    assert!(rt; by_the_other);
+    expect(&rt, by_the_other);
     Ok(())
 }
 
 #[test]
 fn cuts_are_kept(rt: HostRuntime) -> Result<(), Fail> {
     let (in_time, _) = crossed(&rt)?;
-    assert!(rt; in_time);
+    expect(&rt, in_time);
     Ok(())
 }
 
@@ -168,6 +169,6 @@ fn chunks_are_claimed(rt: HostRuntime) -> Result<(), Fail> {
         late: AtomicU64::new(0),
     };
     analysis(&rt, &CYCLE_AND_FOLLOWER, &[1, 1], &gate)?;
-    assert!(rt; is_noted(&gate.last_came) && !is_noted(&gate.late));
+    expect(&rt, is_noted(&gate.last_came) && !is_noted(&gate.late));
     Ok(())
 }

@@ -2,6 +2,7 @@
 
 ghost use Rattle.std.specs.Prelude.{◌<◌};
 
+use super::expect_eq;
 use super::graphs::{CYCLE_AND_FOLLOWER, graph_of, is_led};
 use crate::{Analysis, NoGate, Plan, PlanFault, Tickets, WorkFault, analyse};
 use cmh_graph::WaitGraph;
@@ -142,27 +143,27 @@ fn sweep<R: Threads + Wait + Sync>(
 #[test]
 fn want_of_memory_in_a_plan(rt: HostRuntime) -> Result<(), Fail> {
     let answers = sweep(&rt, rt.alloc(), Call::Plan, 8_192, 16)?;
-    assert_eq!(rt; answers, AS_THEY_SHOULD_BE);
+    expect_eq(&rt, answers, AS_THEY_SHOULD_BE);
     Ok(())
 }
 
 #[test]
 fn want_of_memory_for_tickets(rt: HostRuntime) -> Result<(), Fail> {
     let answers = sweep(&rt, rt.alloc(), Call::Tickets, 8_192, 16)?;
-    assert_eq!(rt; answers, AS_THEY_SHOULD_BE);
+    expect_eq(&rt, answers, AS_THEY_SHOULD_BE);
     Ok(())
 }
 
 #[test]
 fn want_of_memory_with_one_worker(rt: HostRuntime) -> Result<(), Fail> {
     let answers = sweep(&rt, rt.alloc(), Call::Analyse(1), 98_304, 16)?;
-    assert_eq!(rt; answers, AS_THEY_SHOULD_BE);
+    expect_eq(&rt, answers, AS_THEY_SHOULD_BE);
     Ok(())
 }
 
 #[test]
 fn want_of_memory_with_two_workers(rt: HostRuntime) -> Result<(), Fail> {
     let answers = sweep(&rt, rt.alloc(), Call::Analyse(2), 98_304, 16)?;
-    assert_eq!(rt; answers, AS_THEY_SHOULD_BE);
+    expect_eq(&rt, answers, AS_THEY_SHOULD_BE);
     Ok(())
 }

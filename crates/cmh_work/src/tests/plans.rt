@@ -1,5 +1,6 @@
 //! Plans, and the numbers that seats draw.
 
+use super::{expect, expect_eq};
 use crate::{Plan, PlanFault, Tickets};
 use std::alloc::Global;
 use std::test::Fail;
@@ -18,23 +19,28 @@ fn fault(
 #[test]
 fn plan_limits(rt: HostRuntime) -> Result<(), Fail> {
     let alloc = rt.alloc();
-    assert_eq!(rt; fault(alloc, 0, 0, 0)?, Some(PlanFault::BadWorkers));
-    assert_eq!(rt; fault(alloc, 65, 513, 0)?, Some(PlanFault::BadWorkers));
-    assert_eq!(rt; fault(alloc, 1, 513, 65_537)?, Some(PlanFault::TooManyCuts));
-    assert_eq!(rt;
-        fault(alloc, 1, 0, 65_537)?,
-        Some(PlanFault::TooManyChoices)
+    expect_eq(&rt, fault(alloc, 0, 0, 0)?, Some(PlanFault::BadWorkers));
+    expect_eq(&rt, fault(alloc, 65, 513, 0)?, Some(PlanFault::BadWorkers));
+    expect_eq(
+        &rt,
+        fault(alloc, 1, 513, 65_537)?,
+        Some(PlanFault::TooManyCuts),
     );
-    assert_eq!(rt; fault(alloc, 64, 512, 65_536)?, None);
+    expect_eq(
+        &rt,
+        fault(alloc, 1, 0, 65_537)?,
+        Some(PlanFault::TooManyChoices),
+    );
+    expect_eq(&rt, fault(alloc, 64, 512, 65_536)?, None);
     Ok(())
 }
 
 #[test]
 fn keeps_what_it_is_given(rt: HostRuntime) -> Result<(), Fail> {
     let plan = Plan::new(rt.alloc(), 3, &[0, 1], &[7])?;
-    assert_eq!(rt; plan.workers(), 3);
-    assert_eq!(rt; plan.cuts(), [0, 1].as_slice());
-    assert_eq!(rt; plan.choices(), [7].as_slice());
+    expect_eq(&rt, plan.workers(), 3);
+    expect_eq(&rt, plan.cuts(), [0, 1].as_slice());
+    expect_eq(&rt, plan.choices(), [7].as_slice());
     Ok(())
 }
 
@@ -48,14 +54,14 @@ fn texts_of_the_faults(rt: HostRuntime) -> Result<(), Fail> {
     ];
     for (fault, text) in texts {
         let shown = format!(in rt.alloc(); "{fault}")?;
-        assert_eq!(rt; shown.as_str(), text);
+        expect_eq(&rt, shown.as_str(), text);
     }
     let shown = format!(in rt.alloc();
         "{}, {}",
         crate::WorkFault::Memory,
         crate::WorkFault::WorkerLost
     )?;
-    assert_eq!(rt; shown.as_str(), "out of memory, worker lost");
+    expect_eq(&rt, shown.as_str(), "out of memory, worker lost");
     Ok(())
 }
 
@@ -65,13 +71,13 @@ fn each_number_is_drawn_once(rt: HostRuntime) -> Result<(), Fail> {
     let Some(mut y) = tickets.split(&mut x) else {
         panic!(rt; "a seat with the whole share is split")
     };
-    assert_eq!(rt; (x.share(), y.share()), (63, 1));
-    assert_eq!(rt; tickets.draw(&mut x), Some(0));
-    assert_eq!(rt; tickets.draw(&mut y), Some(1));
-    assert_eq!(rt; tickets.draw(&mut x), None);
+    expect_eq(&rt, (x.share(), y.share()), (63, 1));
+    expect_eq(&rt, tickets.draw(&mut x), Some(0));
+    expect_eq(&rt, tickets.draw(&mut y), Some(1));
+    expect_eq(&rt, tickets.draw(&mut x), None);
     tickets.join(&mut y, x);
-    assert_eq!(rt; y.share(), 64);
-    assert_eq!(rt; tickets.draw(&mut y), None);
+    expect_eq(&rt, y.share(), 64);
+    expect_eq(&rt, tickets.draw(&mut y), None);
     Ok(())
 }
 
@@ -81,6 +87,6 @@ fn a_seat_with_share_one_keeps_it(rt: HostRuntime) -> Result<(), Fail> {
     let Some(mut y) = tickets.split(&mut x) else {
         panic!(rt; "a seat with the whole share is split")
     };
-    assert!(rt; tickets.split(&mut y).is_none());
+    expect(&rt, tickets.split(&mut y).is_none());
     Ok(())
 }

@@ -1,6 +1,7 @@
 //! Analyses of 4,096 processes to which memory is refused in the midst.
 
 use super::counted::Each;
+use super::expect;
 use super::full::{has_each_once, has_leaders, knot};
 use super::memory::take_all;
 use crate::{Analysis, NoGate, Plan, WorkFault, analyse};
@@ -121,6 +122,6 @@ fn a_refusal_in_the_midst(rt: HostRuntime) -> Result<(), Fail> {
         "{seen:?}"
     );
     let again = analyse(&rt, alloc, &graph, &plan, &NoGate)?;
-    assert!(rt; has_each_once(alloc, &again, true)?);
+    expect(&rt, has_each_once(alloc, &again, true)?);
     Ok(())
 }

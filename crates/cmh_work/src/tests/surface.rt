@@ -1,6 +1,7 @@
 //! Each public call, as a caller writes it, with answers that are compared.
 
 use super::graphs::{CYCLE_AND_FOLLOWER, graph_of};
+use super::{expect, expect_eq};
 use crate::laws::{law_chunks, law_drawn_once, law_drew_each_once};
 use crate::{
     Gate, MAX_CUTS, MAX_WORKERS, NoGate, Origin, Plan, PlanFault, Record, Shape, Tickets,
@@ -19,13 +20,20 @@ fn calls_of_laws() {
 
 #[test]
 fn calls_of_plans(rt: HostRuntime) -> Result<(), Fail> {
-    assert_eq!(rt; (MAX_WORKERS, MAX_CUTS), (64, 512));
+    expect_eq(&rt, (MAX_WORKERS, MAX_CUTS), (64, 512));
     let alloc = rt.alloc();
     let plan = Plan::new(alloc, 1, &[1, 1], &[])?;
-    assert_eq!(rt; plan.cuts(), [1, 1].as_slice());
-    assert_eq!(rt; Plan::new(alloc, 1, &[1, 1], &[]), Ok(plan));
-    assert!(rt; Plan::new(alloc, 2, &[1, 1], &[]) != Plan::new(alloc, 1, &[1, 1], &[]));
-    assert_eq!(rt; Plan::new(alloc, 0, &[], &[]), Err(PlanFault::BadWorkers));
+    expect_eq(&rt, plan.cuts(), [1, 1].as_slice());
+    expect_eq(&rt, Plan::new(alloc, 1, &[1, 1], &[]), Ok(plan));
+    expect(
+        &rt,
+        Plan::new(alloc, 2, &[1, 1], &[]) != Plan::new(alloc, 1, &[1, 1], &[]),
+    );
+    expect_eq(
+        &rt,
+        Plan::new(alloc, 0, &[], &[]),
+        Err(PlanFault::BadWorkers),
+    );
     Ok(())
 }
 
@@ -35,8 +43,12 @@ fn calls_of_analyses(rt: HostRuntime) -> Result<(), Fail> {
     let graph = graph_of(alloc, &CYCLE_AND_FOLLOWER, &[])?;
     let plan = Plan::new(alloc, 1, &[1, 1], &[])?;
     let analysis = analyse(&rt, alloc, &graph, &plan, &NoGate)?;
-    assert_eq!(rt; analyse(&rt, alloc, &graph, &plan, &NoGate), Ok(analysis));
-    assert!(rt; WorkFault::Memory != WorkFault::WorkerLost);
+    expect_eq(
+        &rt,
+        analyse(&rt, alloc, &graph, &plan, &NoGate),
+        Ok(analysis),
+    );
+    expect(&rt, WorkFault::Memory != WorkFault::WorkerLost);
     NoGate.pass(0);
     Ok(())
 }
@@ -53,9 +65,9 @@ fn calls_of_records(rt: HostRuntime) -> Result<(), Fail> {
         source: Origin::FromRun(run(alloc, &graph, 0, &[], &mut NoHints)?),
         shape: Shape::Leader(0),
     };
-    assert_eq!(rt; analysis.records().first(), Some(&first));
+    expect_eq(&rt, analysis.records().first(), Some(&first));
     let second = analysis.records().get(1).map(|record| &record.source);
-    assert_eq!(rt; second, Some(&Origin::FromBoard(1)));
+    expect_eq(&rt, second, Some(&Origin::FromBoard(1)));
     Ok(())
 }
 
@@ -65,10 +77,10 @@ fn calls_of_tickets(rt: HostRuntime) -> Result<(), Fail> {
     let Some(mut y) = tickets.split(&mut x) else {
         panic!(rt; "a seat with the whole share is split")
     };
-    assert_eq!(rt; tickets.draw(&mut x), Some(0));
-    assert_eq!(rt; tickets.draw(&mut y), Some(1));
-    assert_eq!(rt; tickets.draw(&mut x), None);
+    expect_eq(&rt, tickets.draw(&mut x), Some(0));
+    expect_eq(&rt, tickets.draw(&mut y), Some(1));
+    expect_eq(&rt, tickets.draw(&mut x), None);
     tickets.join(&mut x, y);
-    assert_eq!(rt; x.share(), 64);
+    expect_eq(&rt, x.share(), 64);
     Ok(())
 }
