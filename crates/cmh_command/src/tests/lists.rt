@@ -1,5 +1,6 @@
 //! Lists of numbers.
 
+use super::expect;
 use crate::{ListFault, MAX_NUMBERS, read_list};
 use std::alloc::{AllocError, Global};
 
@@ -79,11 +80,11 @@ fn bad_numbers(rt: HostRuntime) {
 fn too_many_numbers(rt: HostRuntime) -> Result<(), AllocError> {
     let alloc = rt.alloc();
     let mut text = longest_list(alloc, "1")?;
-    assert!(rt; is_read_as_copies(alloc, &text, 1, MAX_NUMBERS));
+    expect(&rt, is_read_as_copies(alloc, &text, 1, MAX_NUMBERS));
     text.push_str(",x")?;
-    assert!(rt; is_refused(alloc, &text, ListFault::TooManyNumbers));
+    expect(&rt, is_refused(alloc, &text, ListFault::TooManyNumbers));
     text.push_str(",x,1")?;
-    assert!(rt; is_refused(alloc, &text, ListFault::TooManyNumbers));
+    expect(&rt, is_refused(alloc, &text, ListFault::TooManyNumbers));
     Ok(())
 }
 
@@ -92,6 +93,6 @@ fn too_many_numbers(rt: HostRuntime) -> Result<(), AllocError> {
 fn the_longest_list(rt: HostRuntime) -> Result<(), AllocError> {
     let text = longest_list(rt.alloc(), "18446744073709551615")?;
     assert_eq!(rt; text.len(), 1_376_255);
-    assert!(rt; is_read_as_copies(rt.alloc(), &text, u64::MAX, 65_536));
+    expect(&rt, is_read_as_copies(rt.alloc(), &text, u64::MAX, 65_536));
     Ok(())
 }

@@ -1,5 +1,6 @@
 //! Every public call, as a client writes it.
 
+use super::{expect, expect_eq};
 use crate::{ListFault, MAX_NUMBERS, PlanWords, Request, read_list, read_words};
 use std::alloc::Global;
 
@@ -38,8 +39,11 @@ fn an_analysis_and_a_trace(rt: HostRuntime) {
         "--choices",
         "3",
     ];
-    assert!(rt; is_analysis(rt.alloc(), &words));
-    assert!(rt; is_trace(rt.alloc(), &["cmh", "trace", "p", "--choices", "1,0"]));
+    expect(&rt, is_analysis(rt.alloc(), &words));
+    expect(
+        &rt,
+        is_trace(rt.alloc(), &["cmh", "trace", "p", "--choices", "1,0"]),
+    );
 }
 
 /// Whether the text is read as the numbers 7 and 2.
@@ -52,12 +56,12 @@ fn is_seven_and_two(alloc: Global, text: &str) -> bool {
 
 #[test]
 fn answers_are_compared_and_shown(rt: HostRuntime) {
-    assert!(rt; is_seven_and_two(rt.alloc(), "007,2"));
+    expect(&rt, is_seven_and_two(rt.alloc(), "007,2"));
     let fault = read_list(rt.alloc(), "1,,2").err();
-    assert_eq!(rt; fault, Some(ListFault::BadNumber(1)));
+    expect_eq(&rt, fault, Some(ListFault::BadNumber(1)));
     let copy = fault;
-    assert_eq!(rt; copy, fault);
-    assert!(rt; ListFault::BadNumber(1) != ListFault::BadNumber(2));
-    assert!(rt; ListFault::Memory != ListFault::TooManyNumbers);
-    assert_eq!(rt; MAX_NUMBERS, 65_536);
+    expect_eq(&rt, copy, fault);
+    expect(&rt, ListFault::BadNumber(1) != ListFault::BadNumber(2));
+    expect(&rt, ListFault::Memory != ListFault::TooManyNumbers);
+    expect_eq(&rt, MAX_NUMBERS, 65_536);
 }

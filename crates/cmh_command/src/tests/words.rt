@@ -1,5 +1,6 @@
 //! What the words of the command line ask for.
 
+use super::{expect, expect_eq};
 use crate::command::command;
 use crate::{DEFAULT_WORKERS, PlanWords, Request, read_words};
 use std::alloc::{AllocError, Global};
@@ -19,8 +20,8 @@ fn is_plain_analysis(alloc: Global, words: &[&str]) -> bool {
 
 #[test]
 fn four_workers_by_default(rt: HostRuntime) {
-    assert!(rt; is_plain_analysis(rt.alloc(), &["cmh", "analyse"]));
-    assert_eq!(rt; DEFAULT_WORKERS, 4);
+    expect(&rt, is_plain_analysis(rt.alloc(), &["cmh", "analyse"]));
+    expect_eq(&rt, DEFAULT_WORKERS, 4);
 }
 
 /// The text with which `clap` answers, or none.
