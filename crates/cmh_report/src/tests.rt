@@ -17,8 +17,21 @@ use cmh_graph::{GraphFault, Part, State, WaitGraph};
 use cmh_work::{NoGate, Plan, analyse};
 use devices::Page;
 use std::alloc::Global;
+use std::fmt::Debug;
+use std::process::Abort;
 use std::sync::Wait;
 use std::thread::Threads;
+
+/// Fails the test where what was found is not what was wanted. As a call it is one step of a test's proof; written
+/// out, a comparison is several, and proofs of tests grow faster than their steps.
+fn expect_eq<R: Abort, T: PartialEq + Debug + Drop>(rt: &R, found: T, wanted: T) {
+    assert_eq!(*rt; found, wanted);
+}
+
+/// Fails the test where it doesn't hold.
+fn expect<R: Abort>(rt: &R, holds: bool) {
+    assert!(*rt; holds);
+}
 
 /// A process: its name, its site, and its dependents if it is idle.
 type Row<'a> = (&'a str, u32, Option<&'a [u32]>);
@@ -114,14 +127,17 @@ fn page(alloc: Global, room: usize) -> Page {
 
 #[test]
 fn two_in_a_cycle(rt: HostRuntime) {
-    assert!(rt; reports(&rt, &TWO_IN_A_CYCLE, &[], TWO_IN_A_CYCLE_REPORT));
+    expect(
+        &rt,
+        reports(&rt, &TWO_IN_A_CYCLE, &[], TWO_IN_A_CYCLE_REPORT),
+    );
     assert_eq!(rt; TWO_IN_A_CYCLE_REPORT.len(), 111);
 }
 
 #[test]
 fn empty(rt: HostRuntime) {
     let text = "processes 0 active 0 idle 0 deadlocked 0\n";
-    assert!(rt; reports(&rt, &[], &[], text));
+    expect(&rt, reports(&rt, &[], &[], text));
 }
 
 #[test]
@@ -130,8 +146,8 @@ fn waits_for_nobody_and_for_itself(rt: HostRuntime) {
 deadlocked p group 1
 group 1 | p | - | sites 1
 ";
-    assert!(rt; reports(&rt, &[("p", 0, Some(&[]))], &[], text));
-    assert!(rt; reports(&rt, &WAITS_FOR_ITSELF, &[], text));
+    expect(&rt, reports(&rt, &[("p", 0, Some(&[]))], &[], text));
+    expect(&rt, reports(&rt, &WAITS_FOR_ITSELF, &[], text));
 }
 
 #[test]
@@ -146,12 +162,15 @@ free p path p r
 deadlocked q group 1
 group 1 | q | - | sites 1
 ";
-    assert!(rt; reports(&rt, &rows, &[], text));
+    expect(&rt, reports(&rt, &rows, &[], text));
 }
 
 #[test]
 fn cycle_and_follower(rt: HostRuntime) {
-    assert!(rt; reports(&rt, &CYCLE_AND_FOLLOWER, &[], CYCLE_AND_FOLLOWER_REPORT));
+    expect(
+        &rt,
+        reports(&rt, &CYCLE_AND_FOLLOWER, &[], CYCLE_AND_FOLLOWER_REPORT),
+    );
 }
 
 #[test]
@@ -167,7 +186,7 @@ free p path p a z
 free a path a z
 free b path b z
 ";
-    assert!(rt; reports(&rt, &rows, &[], text));
+    expect(&rt, reports(&rt, &rows, &[], text));
 }
 
 #[test]
@@ -181,7 +200,7 @@ fn shortest_before_least(rt: HostRuntime) {
 free p path p z
 free a path a z
 ";
-    assert!(rt; reports(&rt, &rows, &[], text));
+    expect(&rt, reports(&rt, &rows, &[], text));
 }
 
 #[test]
@@ -191,7 +210,7 @@ fn knot_of_three(rt: HostRuntime) {
         ("q", 0, Some(&[2])),
         ("r", 0, Some(&[1])),
     ];
-    assert!(rt; reports(&rt, &rows, &[], KNOT_OF_THREE_REPORT));
+    expect(&rt, reports(&rt, &rows, &[], KNOT_OF_THREE_REPORT));
 }
 
 #[test]
@@ -200,18 +219,19 @@ fn in_transit(rt: HostRuntime) {
 free p path p
 free q path q p
 ";
-    assert!(rt; reports(&rt, &TWO_IN_A_CYCLE, &[(1, 0)], woken));
+    expect(&rt, reports(&rt, &TWO_IN_A_CYCLE, &[(1, 0)], woken));
     let by_itself = "processes 1 active 0 idle 1 deadlocked 0
 free p path p
 ";
-    assert!(rt; reports(&rt, &WAITS_FOR_ITSELF, &[(0, 0)], by_itself));
-    assert!(rt;
+    expect(&rt, reports(&rt, &WAITS_FOR_ITSELF, &[(0, 0)], by_itself));
+    expect(
+        &rt,
         reports(
             &rt,
             &CYCLE_AND_FOLLOWER,
             &[(1, 2)],
-            CYCLE_AND_FOLLOWER_REPORT
-        )
+            CYCLE_AND_FOLLOWER_REPORT,
+        ),
     );
     let follower = "processes 3 active 0 idle 3 deadlocked 2
 deadlocked p group 1
@@ -219,5 +239,5 @@ deadlocked q group 1
 free r path r
 group 1 | p q | - | sites 1
 ";
-    assert!(rt; reports(&rt, &CYCLE_AND_FOLLOWER, &[(0, 2)], follower));
+    expect(&rt, reports(&rt, &CYCLE_AND_FOLLOWER, &[(0, 2)], follower));
 }

@@ -4,7 +4,7 @@ use super::cases::CASES;
 use super::devices::{Cut, Page};
 use super::more_cases::MORE_CASES;
 use super::plans::PLANS;
-use super::{CYCLE_AND_FOLLOWER_REPORT, KNOT_OF_THREE_REPORT, TWO_IN_A_CYCLE_REPORT, page};
+use super::{CYCLE_AND_FOLLOWER_REPORT, KNOT_OF_THREE_REPORT, TWO_IN_A_CYCLE_REPORT, expect, page};
 use crate::{AppFault, analyse_bytes};
 use cmh_dump::DumpFault;
 use cmh_stream::{ReadOf, WriteOf};
@@ -64,7 +64,7 @@ fn plans_agree(rt: HostRuntime) -> Result<(), PlanFault> {
         for cuts in all_cuts {
             let plan = Plan::new(rt.alloc(), workers, cuts, &[])?;
             let text = CYCLE_AND_FOLLOWER_REPORT;
-            assert!(rt; reports(&rt, CYCLE_AND_FOLLOWER_DUMP, &plan, text, 3));
+            expect(&rt, reports(&rt, CYCLE_AND_FOLLOWER_DUMP, &plan, text, 3));
         }
     }
     Ok(())
@@ -76,7 +76,10 @@ fn choices_change_nothing(rt: HostRuntime) -> Result<(), PlanFault> {
     for choices in lists {
         for workers in [1, 2] {
             let plan = Plan::new(rt.alloc(), workers, &[1, 1], choices)?;
-            assert!(rt; reports(&rt, KNOT_OF_THREE_DUMP, &plan, KNOT_OF_THREE_REPORT, 3));
+            expect(
+                &rt,
+                reports(&rt, KNOT_OF_THREE_DUMP, &plan, KNOT_OF_THREE_REPORT, 3),
+            );
         }
     }
     Ok(())
@@ -122,7 +125,7 @@ fn a_failing_source(rt: HostRuntime) -> Result<(), PlanFault> {
         };
         let answer = analyse_by(&rt, reader, &mut out, &plan);
         assert!(rt; matches!(answer, Err(AppFault::Dump(DumpFault::ReadFault))));
-        assert!(rt; out.bytes.is_empty());
+        expect(&rt, out.bytes.is_empty());
     }
     Ok(())
 }
@@ -135,7 +138,7 @@ fn failing_devices(rt: HostRuntime) -> Result<(), PlanFault> {
         let answer = analyse_by(&rt, TWO_IN_A_CYCLE_DUMP.as_bytes(), &mut out, &plan);
         assert!(rt; matches!(answer, Err(AppFault::WriteFault(n)) if n == room));
         let front = &TWO_IN_A_CYCLE_REPORT.as_bytes()[..room];
-        assert!(rt; out.bytes.as_slice() == front);
+        expect(&rt, out.bytes.as_slice() == front);
     }
     let mut unflushed = Page {
         fails_flush: true,
@@ -143,6 +146,9 @@ fn failing_devices(rt: HostRuntime) -> Result<(), PlanFault> {
     };
     let answer = analyse_by(&rt, TWO_IN_A_CYCLE_DUMP.as_bytes(), &mut unflushed, &plan);
     assert!(rt; matches!(answer, Err(AppFault::WriteFault(111))));
-    assert!(rt; unflushed.bytes.as_slice() == TWO_IN_A_CYCLE_REPORT.as_bytes());
+    expect(
+        &rt,
+        unflushed.bytes.as_slice() == TWO_IN_A_CYCLE_REPORT.as_bytes(),
+    );
     Ok(())
 }

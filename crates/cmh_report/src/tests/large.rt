@@ -1,6 +1,6 @@
 //! Reports at full size, beside the lines of the format made one by one.
 
-use super::{page, report_of};
+use super::{expect, expect_eq, page, report_of};
 use crate::{AppFault, analyse_bytes};
 use cmh_dump::DumpFault;
 use cmh_graph::{GraphFault, Part, State, WaitGraph};
@@ -184,19 +184,23 @@ fn length_of<R: AllocGlobal + Threads + Wait + Sync>(
 
 #[test]
 fn nobody_waits_for_anybody(rt: HostRuntime) -> Result<(), Fail> {
-    assert_eq!(rt; length_of(&rt, Family::Alone, 4_096)?, Some(302_816));
+    expect_eq(&rt, length_of(&rt, Family::Alone, 4_096)?, Some(302_816));
     Ok(())
 }
 
 #[test]
 fn each_waits_for_all(rt: HostRuntime) -> Result<(), Fail> {
-    assert_eq!(rt; length_of(&rt, Family::Knot, 256)?, Some(10_859));
+    expect_eq(&rt, length_of(&rt, Family::Knot, 256)?, Some(10_859));
     Ok(())
 }
 
 #[test]
 fn each_waits_for_the_next(rt: HostRuntime) -> Result<(), Fail> {
-    assert_eq!(rt; length_of(&rt, Family::Chain, 4_096)?, Some(108_815_411));
+    expect_eq(
+        &rt,
+        length_of(&rt, Family::Chain, 4_096)?,
+        Some(108_815_411),
+    );
     Ok(())
 }
 
@@ -276,7 +280,7 @@ fn a_dump_of_all_bytes(rt: HostRuntime) -> Result<(), Fail> {
     for _ in dump.len()..8_388_608 {
         dump.push(' ')?;
     }
-    assert!(rt; reports_by(&rt, &dump, Family::Knot, 256, 4)?);
+    expect(&rt, reports_by(&rt, &dump, Family::Knot, 256, 4)?);
     dump.push(' ')?;
     let mut out = page(rt.alloc(), 1_000);
     let answer = analyse_bytes(
@@ -287,7 +291,7 @@ fn a_dump_of_all_bytes(rt: HostRuntime) -> Result<(), Fail> {
         &Plan::new(rt.alloc(), 4, &[], &[])?,
         &NoGate,
     );
-    assert_eq!(rt; answer, Err(AppFault::Dump(DumpFault::TooLong)));
-    assert!(rt; out.bytes.is_empty());
+    expect_eq(&rt, answer, Err(AppFault::Dump(DumpFault::TooLong)));
+    expect(&rt, out.bytes.is_empty());
     Ok(())
 }

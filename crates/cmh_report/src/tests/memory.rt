@@ -4,7 +4,9 @@ ghost use Rattle.cmh_report.specs.Records.{IsSomeAnalysisOf};
 
 use super::devices::Page;
 use super::ends::TWO_IN_A_CYCLE_DUMP;
-use super::{CYCLE_AND_FOLLOWER, CYCLE_AND_FOLLOWER_REPORT, TWO_IN_A_CYCLE_REPORT, graph, page};
+use super::{
+    CYCLE_AND_FOLLOWER, CYCLE_AND_FOLLOWER_REPORT, TWO_IN_A_CYCLE_REPORT, expect_eq, graph, page,
+};
 use crate::{AppFault, ReportFault, analyse_bytes, report, trace_bytes};
 use cmh_dump::DumpFault;
 use cmh_graph::WaitGraph;
@@ -208,7 +210,7 @@ fn sweep_report<R: AllocGlobal + Threads + Sync>(
 fn want_of_memory_with_one_worker(rt: HostRuntime) -> Result<(), Fail> {
     let plan = Plan::new(rt.alloc(), 1, &[1], &[])?;
     let answers = sweep(&rt, Call::Analyse(&plan), TWO_IN_A_CYCLE_REPORT)?;
-    assert_eq!(rt; answers, AS_THEY_SHOULD_BE);
+    expect_eq(&rt, answers, AS_THEY_SHOULD_BE);
     Ok(())
 }
 
@@ -220,14 +222,14 @@ fn want_of_memory_with_two_workers(rt: HostRuntime) -> Result<(), Fail> {
     let before = answer(&rt, Call::Analyse(&plan), &mut out);
     assert!(rt; matches!(before, Ok(true)));
     let answers = sweep(&rt, Call::Analyse(&plan), TWO_IN_A_CYCLE_REPORT)?;
-    assert_eq!(rt; answers, AS_THEY_SHOULD_BE);
+    expect_eq(&rt, answers, AS_THEY_SHOULD_BE);
     Ok(())
 }
 
 #[test]
 fn want_of_memory_in_a_trace(rt: HostRuntime) -> Result<(), Fail> {
     let answers = sweep(&rt, Call::Trace, TRACE)?;
-    assert_eq!(rt; answers, AS_THEY_SHOULD_BE);
+    expect_eq(&rt, answers, AS_THEY_SHOULD_BE);
     Ok(())
 }
 
@@ -237,6 +239,6 @@ fn want_of_memory_in_a_report(rt: HostRuntime) -> Result<(), Fail> {
     let plan = Plan::new(rt.alloc(), 1, &[], &[])?;
     let analysis = analyse(&rt, rt.alloc(), &graph, &plan, &NoGate)?;
     let answers = sweep_report(&rt, &graph, &analysis, CYCLE_AND_FOLLOWER_REPORT)?;
-    assert_eq!(rt; answers, AS_THEY_SHOULD_BE);
+    expect_eq(&rt, answers, AS_THEY_SHOULD_BE);
     Ok(())
 }

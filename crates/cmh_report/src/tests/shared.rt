@@ -1,6 +1,6 @@
 //! Reports whose lines end with the same names.
 
-use super::{Row, reports};
+use super::{Row, expect, reports};
 
 #[test]
 fn path_of_four(rt: HostRuntime) {
@@ -15,7 +15,7 @@ free first path first b third d
 free b path b third d
 free third path third d
 ";
-    assert!(rt; reports(&rt, &rows, &[], text));
+    expect(&rt, reports(&rt, &rows, &[], text));
 }
 
 #[test]
@@ -31,7 +31,7 @@ free third path third d
 free b path b third d
 free first path first b third d
 ";
-    assert!(rt; reports(&rt, &rows, &[], text));
+    expect(&rt, reports(&rt, &rows, &[], text));
 }
 
 #[test]
@@ -51,7 +51,7 @@ group 1 | p q | - | sites 2
 group 2 | r | p q | sites 2
 group 3 | s | p q | sites 3
 ";
-    assert!(rt; reports(&rt, &rows, &[], text));
+    expect(&rt, reports(&rt, &rows, &[], text));
 }
 
 #[test]
@@ -72,7 +72,7 @@ group 2 | bb | ccc d | sites 2
 group 3 | ccc | d | sites 1
 group 4 | d | - | sites 1
 ";
-    assert!(rt; reports(&rt, &rows, &[], text));
+    expect(&rt, reports(&rt, &rows, &[], text));
 }
 
 #[test]
@@ -91,5 +91,5 @@ free x path x y
 free a path a b c z
 free b path b c z
 ";
-    assert!(rt; reports(&rt, &rows, &[], text));
+    expect(&rt, reports(&rt, &rows, &[], text));
 }

@@ -2,7 +2,7 @@
 
 use super::devices::Cut;
 use super::ends::TWO_IN_A_CYCLE_DUMP;
-use super::{TWO_IN_A_CYCLE, TWO_IN_A_CYCLE_REPORT, graph, page};
+use super::{TWO_IN_A_CYCLE, TWO_IN_A_CYCLE_REPORT, expect, expect_eq, graph, page};
 use crate::laws::law_one_trace;
 use crate::{
     AppFault, ReadOf, ReportFault, Sink, Source, Stopped, WriteOf, analyse_bytes, report,
@@ -20,7 +20,7 @@ fn a_report(rt: HostRuntime) -> Result<(), Fail> {
     let plan = Plan::new(alloc, 2, &[1], &[])?;
     let analysis = analyse(&rt, alloc, &graph, &plan, &NoGate)?;
     let text = report(&rt, alloc, &graph, &analysis)?;
-    assert_eq!(rt; text.as_str(), TWO_IN_A_CYCLE_REPORT);
+    expect_eq(&rt, text.as_str(), TWO_IN_A_CYCLE_REPORT);
     Ok(())
 }
 
@@ -33,14 +33,14 @@ fn an_analysis_and_a_trace(rt: HostRuntime) -> Result<(), Fail> {
     let mut source = ReadOf::new(dump);
     let mut sink = WriteOf::new(&mut out);
     let answer = analyse_bytes(&rt, alloc, &mut source, &mut sink, &plan, &NoGate);
-    assert_eq!(rt; answer, Ok(2));
-    assert_eq!(rt; source.failed(), false);
-    assert_eq!(rt; sink.failed(), false);
+    expect_eq(&rt, answer, Ok(2));
+    expect_eq(&rt, source.failed(), false);
+    expect_eq(&rt, sink.failed(), false);
 
     let answer = trace_bytes(alloc, &mut ReadOf::new(dump), &mut sink, "q", &[1, 1]);
-    assert_eq!(rt; answer, Ok(Ending::Declared));
+    expect_eq(&rt, answer, Ok(Ending::Declared));
     let answer = trace_bytes(alloc, &mut ReadOf::new(dump), &mut sink, "r", &[]);
-    assert_eq!(rt; answer, Err(AppFault::NoSuchProcess));
+    expect_eq(&rt, answer, Err(AppFault::NoSuchProcess));
     let answer = trace_bytes(
         alloc,
         &mut ReadOf::new(dump),
@@ -48,7 +48,7 @@ fn an_analysis_and_a_trace(rt: HostRuntime) -> Result<(), Fail> {
         "p",
         &[],
     );
-    assert_eq!(rt; answer, Err(AppFault::WriteFault(7)));
+    expect_eq(&rt, answer, Err(AppFault::WriteFault(7)));
     law_one_trace();
     Ok(())
 }
@@ -69,10 +69,10 @@ fn a_source_that_fails_after_all_bytes(rt: HostRuntime) -> Result<(), Fail> {
         &plan,
         &NoGate,
     );
-    assert_eq!(rt; answer, Err(AppFault::Dump(DumpFault::ReadFault)));
-    assert_eq!(rt; source.failed(), true);
-    assert_eq!(rt; source.fill(&mut [0; 8]), Err(Stopped));
-    assert!(rt; out.bytes.is_empty());
+    expect_eq(&rt, answer, Err(AppFault::Dump(DumpFault::ReadFault)));
+    expect_eq(&rt, source.failed(), true);
+    expect_eq(&rt, source.fill(&mut [0; 8]), Err(Stopped));
+    expect(&rt, out.bytes.is_empty());
     Ok(())
 }
 
@@ -91,7 +91,7 @@ fn texts_of_faults(rt: HostRuntime) -> Result<(), Fail> {
     ];
     for (fault, text) in texts {
         let shown = fault.to_string(rt.alloc())?;
-        assert_eq!(rt; shown.as_str(), text);
+        expect_eq(&rt, shown.as_str(), text);
     }
     Ok(())
 }

@@ -1,8 +1,8 @@
 //! Traces of worked dumps.
 
 use super::devices::{Cut, Page};
-use super::page;
 use super::traces::TRACES;
+use super::{expect, page};
 use crate::{AppFault, trace_bytes};
 use cmh_dump::DumpFault;
 use cmh_run::{Ending, MAX_CHOICES, RunFault};
@@ -80,9 +80,15 @@ fn fault_of(rt: HostRuntime, dump: &str, name: &str, choices: &[u64]) -> Option<
 #[test]
 fn waits_for_nobody_and_for_itself(rt: HostRuntime) {
     let alone = "declared p\n";
-    assert!(rt; traces(rt, WAITS_FOR_NOBODY, "p", &[], alone, Ending::Declared));
+    expect(
+        &rt,
+        traces(rt, WAITS_FOR_NOBODY, "p", &[], alone, Ending::Declared),
+    );
     let text = "query p p\nreply p p\ndeclared p\n";
-    assert!(rt; traces(rt, WAITS_FOR_ITSELF, "p", &[], text, Ending::Declared));
+    expect(
+        &rt,
+        traces(rt, WAITS_FOR_ITSELF, "p", &[], text, Ending::Declared),
+    );
 }
 
 #[test]
@@ -94,7 +100,10 @@ reply q q
 reply q p
 at rest p
 ";
-    assert!(rt; traces(rt, ONE_FREE_ONE_STUCK, "p", &[], text, Ending::AtRest));
+    expect(
+        &rt,
+        traces(rt, ONE_FREE_ONE_STUCK, "p", &[], text, Ending::AtRest),
+    );
 }
 
 #[test]
@@ -105,7 +114,10 @@ reply p q
 reply q p
 declared p
 ";
-    assert!(rt; traces(rt, TWO_IN_A_CYCLE, "p", &[], text, Ending::Declared));
+    expect(
+        &rt,
+        traces(rt, TWO_IN_A_CYCLE, "p", &[], text, Ending::Declared),
+    );
 }
 
 #[test]
@@ -162,8 +174,14 @@ declared p
 #[test]
 fn in_transit(rt: HostRuntime) {
     let discarded = "query q p\nat rest q\n";
-    assert!(rt; traces(rt, IN_TRANSIT, "q", &[], discarded, Ending::AtRest));
-    assert!(rt; traces(rt, IN_TRANSIT, "p", &[], "at rest p\n", Ending::AtRest));
+    expect(
+        &rt,
+        traces(rt, IN_TRANSIT, "q", &[], discarded, Ending::AtRest),
+    );
+    expect(
+        &rt,
+        traces(rt, IN_TRANSIT, "p", &[], "at rest p\n", Ending::AtRest),
+    );
 }
 
 #[test]
@@ -187,7 +205,10 @@ fn refused_traces(rt: HostRuntime) {
 fn many_choices(rt: HostRuntime) -> Result<(), AllocError> {
     let mut choices = vec![in rt.alloc(); 0; MAX_CHOICES]?;
     let text = "declared p\n";
-    assert!(rt; traces(rt, WAITS_FOR_NOBODY, "p", &choices, text, Ending::Declared));
+    expect(
+        &rt,
+        traces(rt, WAITS_FOR_NOBODY, "p", &choices, text, Ending::Declared),
+    );
     choices.push(0)?;
     let fault = fault_of(rt, WAITS_FOR_NOBODY, "p", &choices);
     assert!(rt; matches!(fault, Some(AppFault::Run(RunFault::TooManyChoices))));
@@ -203,7 +224,7 @@ fn failing_devices(rt: HostRuntime) {
         let mut out = page(rt.alloc(), room);
         let answer = trace_from(rt, WAITS_FOR_ITSELF.as_bytes(), "p", &[], &mut out);
         assert!(rt; matches!(answer, Err(AppFault::WriteFault(n)) if n == room));
-        assert!(rt; out.bytes.as_slice() == &text[..room]);
+        expect(&rt, out.bytes.as_slice() == &text[..room]);
     }
     let mut out = page(rt.alloc(), 100);
     let reader = Cut {
@@ -211,5 +232,5 @@ fn failing_devices(rt: HostRuntime) {
     };
     let answer = trace_from(rt, reader, "p", &[], &mut out);
     assert!(rt; matches!(answer, Err(AppFault::Dump(DumpFault::ReadFault))));
-    assert!(rt; out.bytes.is_empty());
+    expect(&rt, out.bytes.is_empty());
 }
