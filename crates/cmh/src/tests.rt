@@ -18,9 +18,34 @@ use cases::CASES;
 use cmh_stream::{ReadOf, WriteOf};
 use devices::{Cut, Page};
 use std::alloc::Global;
+use std::fmt::Debug;
 use std::io::Read;
+use std::process::Abort;
 use std::sync::Wait;
 use std::thread::Threads;
+
+/// Fails the test where what was found is not what was wanted. As a call it is one step of a test's proof; written
+/// out, a comparison is several, and proofs of tests grow faster than their steps.
+fn expect_eq<R: Abort, T: PartialEq + Debug + Drop>(rt: &R, found: T, wanted: T) {
+    assert_eq!(*rt; found, wanted);
+}
+
+/// Fails the test where it doesn't hold.
+fn expect<R: Abort>(rt: &R, holds: bool) {
+    assert!(*rt; holds);
+}
+
+/// Fails the test, and tells what was wanted, where a run of the program ended otherwise.
+fn expect_ended<R: Abort>(rt: &R, ran: &Outcome, status: u8, out: &str, err: &str) {
+    assert!(*rt; is(&ran.out, out), "{out}{err}");
+    assert!(*rt; is(&ran.err, err), "{out}{err}");
+    assert_eq!(*rt; ran.status, status, "{out}{err}");
+}
+
+/// Fails the test, and tells the text, where the page doesn't hold it.
+fn expect_has<R: Abort>(rt: &R, page: &Page, text: &str) {
+    assert!(*rt; has(page, text), "{text}");
+}
 
 const TWO_IN_A_CYCLE: &str = r#"{"version":1,"sites":["a"],"processes":[
     {"name":"p","site":"a","state":"idle","dependents":["q"]},
@@ -135,9 +160,7 @@ free b path b z
     for (dump, text, status) in rows {
         for workers in ["1", "2", "4", "64"] {
             let ran = run(&rt, &["cmh", "analyse", "--workers", workers], dump);
-            assert!(rt; is(&ran.out, text), "{text}");
-            assert!(rt; is(&ran.err, ""), "{text}");
-            assert_eq!(rt; ran.status, status, "{text}");
+            expect_ended(&rt, &ran, status, text, "");
         }
     }
 }
@@ -146,9 +169,7 @@ free b path b z
 fn reports_of_another_program(rt: HostRuntime) {
     for (dump, text, status) in CASES {
         let ran = run(&rt, &ANALYSE, dump);
-        assert!(rt; is(&ran.out, text), "{text}");
-        assert!(rt; is(&ran.err, ""), "{text}");
-        assert_eq!(rt; ran.status, status, "{text}");
+        expect_ended(&rt, &ran, status, text, "");
     }
 }
 
@@ -165,9 +186,7 @@ fn refused_dumps(rt: HostRuntime) {
     ];
     for (dump, line) in rows {
         let ran = run(&rt, &ANALYSE, dump);
-        assert!(rt; is(&ran.out, ""), "{line}");
-        assert!(rt; is(&ran.err, line), "{line}");
-        assert_eq!(rt; ran.status, 1, "{line}");
+        expect_ended(&rt, &ran, 1, "", line);
     }
 }
 
@@ -183,9 +202,9 @@ fn refused_words(rt: HostRuntime) {
     ];
     for words in rows {
         let ran = run(&rt, words, TWO_IN_A_CYCLE);
-        assert!(rt; is(&ran.out, ""));
-        assert!(rt; has(&ran.err, "Usage: cmh"));
-        assert_eq!(rt; ran.status, 2);
+        expect(&rt, is(&ran.out, ""));
+        expect(&rt, has(&ran.err, "Usage: cmh"));
+        expect_eq(&rt, ran.status, 2);
     }
 }
 
@@ -200,9 +219,9 @@ fn help_and_version(rt: HostRuntime) {
     ];
     for (words, text) in rows {
         let ran = run(&rt, words, TWO_IN_A_CYCLE);
-        assert!(rt; has(&ran.out, text), "{text}");
-        assert!(rt; is(&ran.err, ""), "{text}");
-        assert_eq!(rt; ran.status, 0, "{text}");
+        expect_has(&rt, &ran.out, text);
+        expect(&rt, is(&ran.err, ""));
+        expect_eq(&rt, ran.status, 0);
     }
 }
 
@@ -217,9 +236,7 @@ fn a_failing_source(rt: HostRuntime) {
         reader,
         (page(rt.alloc(), 100), page(rt.alloc(), 100)),
     );
-    assert!(rt; is(&ran.out, ""));
-    assert!(rt; is(&ran.err, "cmh: dump: read fault\n"));
-    assert_eq!(rt; ran.status, 4);
+    expect_ended(&rt, &ran, 4, "", "cmh: dump: read fault\n");
 }
 
 #[test]
@@ -243,9 +260,7 @@ fn a_failing_output(rt: HostRuntime) {
     for (out, text, line) in rows {
         let dump = TWO_IN_A_CYCLE.as_bytes();
         let ran = run_on(&rt, &ANALYSE, dump, (out, page(rt.alloc(), 100)));
-        assert!(rt; is(&ran.out, text), "{line}");
-        assert!(rt; is(&ran.err, line), "{line}");
-        assert_eq!(rt; ran.status, 4, "{line}");
+        expect_ended(&rt, &ran, 4, text, line);
     }
 }
 
@@ -258,8 +273,8 @@ fn help_that_is_refused(rt: HostRuntime) {
         dump,
         (page(rt.alloc(), 0), page(rt.alloc(), 100)),
     );
-    assert!(rt; is(&ran.err, "cmh: write fault after 0 bytes\n"));
-    assert_eq!(rt; ran.status, 4);
+    expect(&rt, is(&ran.err, "cmh: write fault after 0 bytes\n"));
+    expect_eq(&rt, ran.status, 4);
 }
 
 #[test]
@@ -272,7 +287,7 @@ fn faults_that_cannot_be_told(rt: HostRuntime) {
     for (words, dump, room, status) in rows {
         let pages = (page(rt.alloc(), room), page(rt.alloc(), 0));
         let ran = run_on(&rt, words, dump.as_bytes(), pages);
-        assert!(rt; is(&ran.err, ""));
-        assert_eq!(rt; ran.status, status);
+        expect(&rt, is(&ran.err, ""));
+        expect_eq(&rt, ran.status, status);
     }
 }

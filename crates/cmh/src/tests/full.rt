@@ -1,7 +1,9 @@
 //! Dumps with as many parts as there may be.
 
 use super::devices::Page;
-use super::{TWO_IN_A_CYCLE, TWO_IN_A_CYCLE_REPORT, is, page, run, run_on};
+use super::{
+    TWO_IN_A_CYCLE, TWO_IN_A_CYCLE_REPORT, expect, expect_ended, expect_eq, is, page, run, run_on,
+};
 use crate::MAX_NUMBERS;
 use std::alloc::{AllocError, Global};
 use std::sync::Wait;
@@ -185,18 +187,17 @@ fn lists_of_the_greatest_numbers(rt: HostRuntime) -> Result<(), AllocError> {
     let choices = greatest(rt.alloc(), MAX_NUMBERS)?;
     let words = ["cmh", "analyse", "--cuts", &cuts, "--choices", &choices];
     let ran = run(&rt, &words, TWO_IN_A_CYCLE);
-    assert!(rt; is(&ran.out, TWO_IN_A_CYCLE_REPORT));
-    assert!(rt; is(&ran.err, ""));
-    assert_eq!(rt; ran.status, 3);
+    expect_ended(&rt, &ran, 3, TWO_IN_A_CYCLE_REPORT, "");
 
     let words = ["cmh", "trace", "p", "--choices", &choices];
     let ran = run(&rt, &words, TWO_IN_A_CYCLE);
-    assert!(rt;
+    expect(
+        &rt,
         is(
             &ran.out,
-            "query p q\nquery q p\nreply p q\nreply q p\ndeclared p\n"
-        )
+            "query p q\nquery q p\nreply p q\nreply q p\ndeclared p\n",
+        ),
     );
-    assert_eq!(rt; ran.status, 0);
+    expect_eq(&rt, ran.status, 0);
     Ok(())
 }

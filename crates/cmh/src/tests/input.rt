@@ -1,7 +1,7 @@
 //! Standard input from a terminal, and from elsewhere.
 
 use super::devices::Page;
-use super::{is, page};
+use super::{expect_eq, is, page};
 use crate::input::Input;
 use std::io;
 use std::io::{IsTerminal, Read};
@@ -40,10 +40,10 @@ fn a_terminal_is_told(rt: HostRuntime) -> Result<(), Fail> {
         };
         let mut input = Input::new(typed, &mut err);
         let mut buf = [0u8; 1];
-        assert_eq!(rt; input.read(&mut buf)?, 1);
-        assert_eq!(rt; buf[0], b'a');
-        assert_eq!(rt; input.read(&mut buf)?, 1);
-        assert_eq!(rt; buf[0], b'b');
+        expect_eq(&rt, input.read(&mut buf)?, 1);
+        expect_eq(&rt, buf[0], b'a');
+        expect_eq(&rt, input.read(&mut buf)?, 1);
+        expect_eq(&rt, buf[0], b'b');
         drop(input);
         assert!(rt; is(&err, line), "{line}");
     }

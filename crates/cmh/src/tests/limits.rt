@@ -1,6 +1,6 @@
 //! Dumps with one part more than there may be.
 
-use super::{ANALYSE, is, run};
+use super::{ANALYSE, expect, is, run};
 use cmh_dump::MAX_SITES;
 use cmh_graph::{MAX_IN_TRANSIT, MAX_PROCESSES};
 use std::alloc::{AllocError, Global};
@@ -27,7 +27,7 @@ fn is_refused<R: AllocGlobal + Threads + Wait + Sync>(rt: &R, dump: &str, line: 
 fn too_many_sites(rt: HostRuntime) -> Result<(), AllocError> {
     let sites = numbered(rt.alloc(), MAX_SITES + 1, "\"s", "\"")?;
     let dump = format!(in rt.alloc(); "{{\"version\":1,\"sites\":[{sites}],\"processes\":[]}}")?;
-    assert!(rt; is_refused(&rt, &dump, "cmh: dump: too many sites\n"));
+    expect(&rt, is_refused(&rt, &dump, "cmh: dump: too many sites\n"));
     Ok(())
 }
 
@@ -39,7 +39,10 @@ fn too_many_processes(rt: HostRuntime) -> Result<(), AllocError> {
     let dump = format!(in rt.alloc();
         "{{\"version\":1,\"sites\":[\"a\"],\"processes\":[{processes}]}}"
     )?;
-    assert!(rt; is_refused(&rt, &dump, "cmh: dump: too many processes\n"));
+    expect(
+        &rt,
+        is_refused(&rt, &dump, "cmh: dump: too many processes\n"),
+    );
     Ok(())
 }
 
@@ -55,7 +58,10 @@ fn too_many_dependencies(rt: HostRuntime) -> Result<(), AllocError> {
     let dump = format!(in rt.alloc();
         "{{\"version\":1,\"sites\":[\"a\"],\"processes\":[{processes},{more}]}}"
     )?;
-    assert!(rt; is_refused(&rt, &dump, "cmh: dump: too many dependencies\n"));
+    expect(
+        &rt,
+        is_refused(&rt, &dump, "cmh: dump: too many dependencies\n"),
+    );
     Ok(())
 }
 
@@ -65,6 +71,9 @@ fn too_many_in_transit(rt: HostRuntime) -> Result<(), AllocError> {
     let dump = format!(in rt.alloc();
         "{{\"version\":2,\"sites\":[],\"processes\":[],\"in_transit\":[{pairs}]}}"
     )?;
-    assert!(rt; is_refused(&rt, &dump, "cmh: dump: too many in transit\n"));
+    expect(
+        &rt,
+        is_refused(&rt, &dump, "cmh: dump: too many in transit\n"),
+    );
     Ok(())
 }

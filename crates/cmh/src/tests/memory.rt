@@ -1,7 +1,7 @@
 //! Calls that are made while memory is short.
 
 use super::devices::Page;
-use super::{TWO_IN_A_CYCLE, TWO_IN_A_CYCLE_REPORT, is, page};
+use super::{TWO_IN_A_CYCLE, TWO_IN_A_CYCLE_REPORT, expect, expect_eq, is, page};
 use crate::tell::fail;
 use crate::{ListFault, read_list, serve};
 use cmh_report::AppFault;
@@ -220,7 +220,7 @@ fn a_line_without_memory(rt: HostRuntime) -> Result<(), Fail> {
         &mut WriteOf::new(&mut err),
     );
     drop(blocks);
-    assert!(rt; is(&err, "cmh: write fault after 1234567 bytes\n"));
-    assert_eq!(rt; status, 4);
+    expect(&rt, is(&err, "cmh: write fault after 1234567 bytes\n"));
+    expect_eq(&rt, status, 4);
     Ok(())
 }

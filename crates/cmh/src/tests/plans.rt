@@ -2,8 +2,8 @@
 
 use super::devices::Cut;
 use super::{
-    KNOT_OF_THREE, KNOT_OF_THREE_REPORT, TWO_IN_A_CYCLE, TWO_IN_A_CYCLE_REPORT, has, is, page, run,
-    run_on,
+    KNOT_OF_THREE, KNOT_OF_THREE_REPORT, TWO_IN_A_CYCLE, TWO_IN_A_CYCLE_REPORT, expect,
+    expect_ended, expect_eq, has, is, page, run, run_on,
 };
 use crate::MAX_NUMBERS;
 use cmh_work::MAX_CUTS;
@@ -50,9 +50,7 @@ fn plans_agree(rt: HostRuntime) {
     ];
     for words in rows {
         let ran = run(&rt, words, CYCLE_AND_FOLLOWER);
-        assert!(rt; is(&ran.out, CYCLE_AND_FOLLOWER_REPORT));
-        assert!(rt; is(&ran.err, ""));
-        assert_eq!(rt; ran.status, 3);
+        expect_ended(&rt, &ran, 3, CYCLE_AND_FOLLOWER_REPORT, "");
     }
 }
 
@@ -95,21 +93,19 @@ fn plan_limits(rt: HostRuntime) -> Result<(), AllocError> {
         &choices,
     ];
     let ran = run(&rt, &words, TWO_IN_A_CYCLE);
-    assert!(rt; is(&ran.out, TWO_IN_A_CYCLE_REPORT));
-    assert_eq!(rt; ran.status, 3);
+    expect(&rt, is(&ran.out, TWO_IN_A_CYCLE_REPORT));
+    expect_eq(&rt, ran.status, 3);
 
     let cuts = ones(rt.alloc(), MAX_CUTS + 1)?;
     let words = ["cmh", "analyse", "--workers", "1", "--cuts", &cuts];
     let ran = run(&rt, &words, TWO_IN_A_CYCLE);
-    assert!(rt; is(&ran.out, ""));
-    assert!(rt; is(&ran.err, "cmh: plan: too many cuts\n"));
-    assert_eq!(rt; ran.status, 2);
+    expect_ended(&rt, &ran, 2, "", "cmh: plan: too many cuts\n");
 
     let choices = ones(rt.alloc(), MAX_NUMBERS + 1)?;
     let words = ["cmh", "analyse", "--cuts", &cuts, "--choices", &choices];
     let ran = run(&rt, &words, TWO_IN_A_CYCLE);
-    assert!(rt; is(&ran.err, "cmh: choices: too many numbers\n"));
-    assert_eq!(rt; ran.status, 2);
+    expect(&rt, is(&ran.err, "cmh: choices: too many numbers\n"));
+    expect_eq(&rt, ran.status, 2);
     Ok(())
 }
 
@@ -128,20 +124,35 @@ fn is_refused_unread<R: AllocGlobal + Threads + Wait + Sync>(
 #[test]
 fn plans_before_the_dump(rt: HostRuntime) -> Result<(), AllocError> {
     let words = ["cmh", "analyse", "--cuts", "1,,2"];
-    assert!(rt; is_refused_unread(&rt, &words, "cmh: cuts: bad number 1\n"));
+    expect(
+        &rt,
+        is_refused_unread(&rt, &words, "cmh: cuts: bad number 1\n"),
+    );
 
     let words = ["cmh", "analyse", "--choices", "x", "--cuts", "1,y"];
-    assert!(rt; is_refused_unread(&rt, &words, "cmh: cuts: bad number 1\n"));
+    expect(
+        &rt,
+        is_refused_unread(&rt, &words, "cmh: cuts: bad number 1\n"),
+    );
 
     let numbers = ones(rt.alloc(), MAX_NUMBERS + 1)?;
     let words = ["cmh", "analyse", "--choices", "x", "--cuts", &numbers];
-    assert!(rt; is_refused_unread(&rt, &words, "cmh: cuts: too many numbers\n"));
+    expect(
+        &rt,
+        is_refused_unread(&rt, &words, "cmh: cuts: too many numbers\n"),
+    );
 
     let cuts = ones(rt.alloc(), MAX_CUTS + 1)?;
     let words = ["cmh", "analyse", "--cuts", &cuts, "--choices", "1,2,x"];
-    assert!(rt; is_refused_unread(&rt, &words, "cmh: choices: bad number 2\n"));
+    expect(
+        &rt,
+        is_refused_unread(&rt, &words, "cmh: choices: bad number 2\n"),
+    );
 
     let words = ["cmh", "analyse", "--cuts", &cuts];
-    assert!(rt; is_refused_unread(&rt, &words, "cmh: plan: too many cuts\n"));
+    expect(
+        &rt,
+        is_refused_unread(&rt, &words, "cmh: plan: too many cuts\n"),
+    );
     Ok(())
 }

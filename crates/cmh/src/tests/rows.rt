@@ -1,6 +1,8 @@
 //! Dumps worked by hand: what the program prints, tells and answers on each.
 
-use super::{ANALYSE, TWO_IN_A_CYCLE, TWO_IN_A_CYCLE_REPORT, is, run};
+use super::{
+    ANALYSE, TWO_IN_A_CYCLE, TWO_IN_A_CYCLE_REPORT, expect, expect_ended, expect_eq, is, run,
+};
 use cmh_dump::MAX_BYTES;
 use std::alloc::AllocError;
 
@@ -46,9 +48,7 @@ fn reports_and_traces(rt: HostRuntime) {
     ];
     for (words, dump, text, status) in rows {
         let ran = run(&rt, words, dump);
-        assert!(rt; is(&ran.out, text), "{text}");
-        assert!(rt; is(&ran.err, ""), "{text}");
-        assert_eq!(rt; ran.status, status, "{text}");
+        expect_ended(&rt, &ran, status, text, "");
     }
 }
 
@@ -106,9 +106,7 @@ group 1 | p q | - | sites 1
     ];
     for (words, dump, text, status) in rows {
         let ran = run(&rt, words, dump);
-        assert!(rt; is(&ran.out, text), "{text}");
-        assert!(rt; is(&ran.err, ""), "{text}");
-        assert_eq!(rt; ran.status, status, "{text}");
+        expect_ended(&rt, &ran, status, text, "");
     }
 }
 
@@ -200,9 +198,7 @@ fn refusals(rt: HostRuntime) {
     ];
     for (dump, line) in rows {
         let ran = run(&rt, &ANALYSE, dump);
-        assert!(rt; is(&ran.err, line), "{line}");
-        assert!(rt; is(&ran.out, ""), "{line}");
-        assert_eq!(rt; ran.status, 1, "{line}");
+        expect_ended(&rt, &ran, 1, "", line);
     }
 }
 
@@ -213,13 +209,11 @@ fn the_longest_dump(rt: HostRuntime) -> Result<(), AllocError> {
         dump.push(' ')?;
     }
     let ran = run(&rt, &ANALYSE, &dump);
-    assert!(rt; is(&ran.out, TWO_IN_A_CYCLE_REPORT));
-    assert_eq!(rt; ran.status, 3);
+    expect(&rt, is(&ran.out, TWO_IN_A_CYCLE_REPORT));
+    expect_eq(&rt, ran.status, 3);
 
     dump.push(' ')?;
     let ran = run(&rt, &ANALYSE, &dump);
-    assert!(rt; is(&ran.out, ""));
-    assert!(rt; is(&ran.err, "cmh: dump: too long\n"));
-    assert_eq!(rt; ran.status, 1);
+    expect_ended(&rt, &ran, 1, "", "cmh: dump: too long\n");
     Ok(())
 }

@@ -1,7 +1,10 @@
 //! The command `trace`, and lists of choices.
 
 use super::devices::Cut;
-use super::{EMPTY, KNOT_OF_THREE, ONE_FREE_ONE_STUCK, TWO_IN_A_CYCLE, is, page, run, run_on};
+use super::{
+    EMPTY, KNOT_OF_THREE, ONE_FREE_ONE_STUCK, TWO_IN_A_CYCLE, expect, expect_ended, expect_eq, is,
+    page, run, run_on,
+};
 use crate::MAX_NUMBERS;
 use std::alloc::AllocError;
 
@@ -60,9 +63,7 @@ declared p
     ];
     for (words, dump, text) in rows {
         let ran = run(&rt, words, dump);
-        assert!(rt; is(&ran.out, text), "{text}");
-        assert!(rt; is(&ran.err, ""), "{text}");
-        assert_eq!(rt; ran.status, 0, "{text}");
+        expect_ended(&rt, &ran, 0, text, "");
     }
 }
 
@@ -76,9 +77,7 @@ fn refused_traces(rt: HostRuntime) {
     ];
     for (name, dump, line, status) in rows {
         let ran = run(&rt, &["cmh", "trace", name], dump);
-        assert!(rt; is(&ran.out, ""), "{line}");
-        assert!(rt; is(&ran.err, line), "{line}");
-        assert_eq!(rt; ran.status, status, "{line}");
+        expect_ended(&rt, &ran, status, "", line);
     }
 }
 
@@ -87,9 +86,13 @@ fn a_failing_output(rt: HostRuntime) {
     let pages = (page(rt.alloc(), 12), page(rt.alloc(), 100));
     let dump = ONE_FREE_ONE_STUCK.as_bytes();
     let ran = run_on(&rt, &["cmh", "trace", "p"], dump, pages);
-    assert!(rt; is(&ran.out, "query p q\nqu"));
-    assert!(rt; is(&ran.err, "cmh: write fault after 12 bytes\n"));
-    assert_eq!(rt; ran.status, 4);
+    expect_ended(
+        &rt,
+        &ran,
+        4,
+        "query p q\nqu",
+        "cmh: write fault after 12 bytes\n",
+    );
 }
 
 // The source fails at its first byte, so that its fault would be told if it were read.
@@ -116,9 +119,7 @@ fn choices_before_the_dump(rt: HostRuntime) {
             Cut { bytes: &[] },
             (page(rt.alloc(), 100), page(rt.alloc(), 100)),
         );
-        assert!(rt; is(&ran.out, ""), "{line}");
-        assert!(rt; is(&ran.err, line), "{line}");
-        assert_eq!(rt; ran.status, 2, "{line}");
+        expect_ended(&rt, &ran, 2, "", line);
     }
 }
 
@@ -133,14 +134,14 @@ fn too_many_choices(rt: HostRuntime) -> Result<(), AllocError> {
         &["cmh", "trace", "q", "--choices", &list],
         TWO_IN_A_CYCLE,
     );
-    assert_eq!(rt; ran.status, 0);
+    expect_eq(&rt, ran.status, 0);
     list.push_str(",0")?;
     let ran = run(
         &rt,
         &["cmh", "trace", "q", "--choices", &list],
         TWO_IN_A_CYCLE,
     );
-    assert!(rt; is(&ran.err, "cmh: choices: too many numbers\n"));
-    assert_eq!(rt; ran.status, 2);
+    expect(&rt, is(&ran.err, "cmh: choices: too many numbers\n"));
+    expect_eq(&rt, ran.status, 2);
     Ok(())
 }

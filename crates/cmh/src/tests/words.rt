@@ -1,6 +1,6 @@
 //! The words of the command line, and the texts that answer them.
 
-use super::{EMPTY, has, is, run};
+use super::{EMPTY, expect, expect_eq, expect_has, is, run};
 use cmh_command::{Request, read_words};
 use std::test::Fail;
 
@@ -48,8 +48,8 @@ fn what_help_says(rt: HostRuntime) {
     ];
     for (words, text) in rows {
         let ran = run(&rt, words, EMPTY);
-        assert!(rt; has(&ran.out, text), "{text}");
-        assert_eq!(rt; ran.status, 0, "{text}");
+        expect_has(&rt, &ran.out, text);
+        expect_eq(&rt, ran.status, 0);
     }
 }
 
@@ -74,10 +74,10 @@ fn refused_words_lead_on(rt: HostRuntime) {
     ];
     for (words, text) in rows {
         let ran = run(&rt, words, EMPTY);
-        assert!(rt; has(&ran.err, text), "{text}");
+        expect_has(&rt, &ran.err, text);
         let raw = ran.err.bytes.iter().any(|b| *b < 32 && *b != 10);
         assert!(rt; !raw, "{text}");
-        assert!(rt; is(&ran.out, ""), "{text}");
-        assert_eq!(rt; ran.status, 2, "{text}");
+        expect(&rt, is(&ran.out, ""));
+        expect_eq(&rt, ran.status, 2);
     }
 }
