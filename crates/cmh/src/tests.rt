@@ -239,29 +239,30 @@ fn a_failing_source(rt: HostRuntime) {
     expect_ended(&rt, &ran, 4, "", "cmh: dump: read fault\n");
 }
 
+/// Fails the test where a report to this page ends otherwise.
+fn expect_write_fault<R: Abort + AllocGlobal + Threads + Wait + Sync>(
+    rt: &R,
+    out: Page,
+    text: &str,
+    line: &str,
+) {
+    let pages = (out, page(rt.alloc(), 100));
+    let ran = run_on(rt, &ANALYSE, TWO_IN_A_CYCLE.as_bytes(), pages);
+    expect_ended(rt, &ran, 4, text, line);
+}
+
 #[test]
-fn a_failing_output(rt: HostRuntime) {
-    let unflushed = Page {
-        fails_flush: true,
-        ..page(rt.alloc(), 200)
-    };
-    let rows = [
-        (
-            page(rt.alloc(), 10),
-            "processes ",
-            "cmh: write fault after 10 bytes\n",
-        ),
-        (
-            unflushed,
-            TWO_IN_A_CYCLE_REPORT,
-            "cmh: write fault after 111 bytes\n",
-        ),
-    ];
-    for (out, text, line) in rows {
-        let dump = TWO_IN_A_CYCLE.as_bytes();
-        let ran = run_on(&rt, &ANALYSE, dump, (out, page(rt.alloc(), 100)));
-        expect_ended(&rt, &ran, 4, text, line);
-    }
+fn a_full_output(rt: HostRuntime) {
+    let line = "cmh: write fault after 10 bytes\n";
+    expect_write_fault(&rt, page(rt.alloc(), 10), "processes ", line);
+}
+
+#[test]
+fn an_output_that_fails_at_its_end(rt: HostRuntime) {
+    let mut unflushed = page(rt.alloc(), 200);
+    unflushed.fails_flush = true;
+    let line = "cmh: write fault after 111 bytes\n";
+    expect_write_fault(&rt, unflushed, TWO_IN_A_CYCLE_REPORT, line);
 }
 
 #[test]

@@ -79,7 +79,7 @@ fn refused_workers(rt: HostRuntime) {
 }
 
 #[test]
-fn plan_limits(rt: HostRuntime) -> Result<(), AllocError> {
+fn the_greatest_plan(rt: HostRuntime) -> Result<(), AllocError> {
     let cuts = ones(rt.alloc(), MAX_CUTS)?;
     let choices = ones(rt.alloc(), MAX_NUMBERS)?;
     let words = [
@@ -95,12 +95,22 @@ fn plan_limits(rt: HostRuntime) -> Result<(), AllocError> {
     let ran = run(&rt, &words, TWO_IN_A_CYCLE);
     expect(&rt, is(&ran.out, TWO_IN_A_CYCLE_REPORT));
     expect_eq(&rt, ran.status, 3);
+    Ok(())
+}
 
+#[test]
+fn a_cut_too_many(rt: HostRuntime) -> Result<(), AllocError> {
     let cuts = ones(rt.alloc(), MAX_CUTS + 1)?;
     let words = ["cmh", "analyse", "--workers", "1", "--cuts", &cuts];
     let ran = run(&rt, &words, TWO_IN_A_CYCLE);
     expect_ended(&rt, &ran, 2, "", "cmh: plan: too many cuts\n");
+    Ok(())
+}
 
+/// A choice too many is told before a cut too many.
+#[test]
+fn a_choice_too_many(rt: HostRuntime) -> Result<(), AllocError> {
+    let cuts = ones(rt.alloc(), MAX_CUTS + 1)?;
     let choices = ones(rt.alloc(), MAX_NUMBERS + 1)?;
     let words = ["cmh", "analyse", "--cuts", &cuts, "--choices", &choices];
     let ran = run(&rt, &words, TWO_IN_A_CYCLE);
