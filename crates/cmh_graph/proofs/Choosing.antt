@@ -1,5 +1,5 @@
 -- The chosen path.
-use Rattle.std.proofs.Common.{◌≡◌, ℕ, zero, suc, ◌<◌, ◌≤◌, Bool, true, false, cond, inl, inr, List, [], ◌∷◌, ◌++◌, append_assoc, map, length, get_or, refl, sym, ◌∙◌, ap, subst, arith}
+use Rattle.std.proofs.Common.{◌≡◌, ℕ, zero, suc, ◌+◌, ◌<◌, ◌≤◌, Bool, true, false, cond, inl, inr, List, [], ◌∷◌, ◌++◌, append_assoc, map, length, get_or, refl, sym, ◌∙◌, ap, subst, arith}
 use Rattle.std.specs.Prelude.{Contains, flat_map, fold, Some, None, Option, is_some, IsSome, unwrap_or, option_and_then}
 use Rattle.std.specs.List.{reduce}
 use Rattle.std.specs.Ordering.{nat_cmp, is_lt}
@@ -399,17 +399,50 @@ leads_start g p n path distances o i e f s is = record {
   completes = λ rest c. c;
 }
 
--- a dependency of the last process is nearer, so some member of its dependent set is
-pub nearest_some : (g : Graph) (p n m last : ℕ) (path row : List ℕ) (distances : List (Option ℕ)) (o : Option ℕ)
-    → IsWellFormed g → LeadsOn g p n path last → n ≡ suc m → row ≡ dependents_of g last
-    → distances ≡ map (distance_of g) (indices g) → IsLeastAt m row distances o → IsSome o
+-- a process that isn't awake has a dependent that is nearer
+pub nearer_dependent : (g : Graph) (p m : ℕ) (row : List ℕ) (distances : List (Option ℕ)) → IsWellFormed g
+    → p < process_count g → distance_of g p ≡ Some (m + 1) → row ≡ dependents_of g p
+    → distances ≡ map (distance_of g) (indices g)
+    → (q : ℕ) × Contains row q × (number_at distances q ≡ Some m)
 unfolding distance_of
-nearest_some g p n m last path row distances (Some r) w h e f a least = refl
-nearest_some g p n m last path row distances None w h e f a least =
-    let back = steps_back g (is_awake g) w.within last m h.within (h.distance ∙ ap (λ k. Some k) e) in
-    let here = depends_within g w.within last back.0 h.within back.1 in
-    absurd (least back.0 (subst (λ xs. Contains xs back.0) (sym f) back.1.1)
-    ((unfold distance_of in distance_read g distances back.0 a here) ∙ back.2))
+nearer_dependent g p m row distances w i e f a =
+    let one_more : m + 1 ≡ suc m = omega arith in
+    let back = steps_back g (is_awake g) w.within p m i (e ∙ ap (λ k. Some k) one_more) in
+    let here = depends_within g w.within p back.0 i back.1 in (
+      back.0,
+      subst (λ xs. Contains xs back.0) (sym f) back.1.1,
+      (unfold distance_of in distance_read g distances back.0 a here) ∙ back.2,
+    )
+
+-- so there is a least one
+pub nearest_some : (g : Graph) (p m : ℕ) (row : List ℕ) (distances : List (Option ℕ)) (o : Option ℕ)
+    → IsWellFormed g → p < process_count g → distance_of g p ≡ Some (m + 1) → row ≡ dependents_of g p
+    → distances ≡ map (distance_of g) (indices g) → IsLeastAt m row distances o → IsSome o
+nearest_some g p m row distances (Some r) w i e f a least = refl
+nearest_some g p m row distances None w i e f a least =
+    let q = nearer_dependent g p m row distances w i e f a in
+    absurd (least q.0 q.1 q.2)
+
+-- the only member of a list
+only_member : (row : List ℕ) (q d : ℕ) → length row ≡ 1 → Contains row q → get_or row 0 d ≡ q
+only_member [] q d e c = absurd (omega (arith, e))
+only_member (x ∷ []) q d e c = elim (cons_contains x [] q c) [
+  | inl is ↦ is
+  | inr none ↦ absurd (omega (arith, none.1))
+]
+only_member (x ∷ y ∷ xs) q d e c = absurd (omega (arith, e))
+
+-- and where it is the only one, it is the least
+pub nearest_alone : (g : Graph) (p m d : ℕ) (row : List ℕ) (distances : List (Option ℕ)) → IsWellFormed g
+    → p < process_count g → distance_of g p ≡ Some (m + 1) → row ≡ dependents_of g p
+    → distances ≡ map (distance_of g) (indices g) → length row ≡ 1 → IsLeastAt m row distances (Some (get_or row 0 d))
+nearest_alone g p m d row distances w i e f a one =
+    let q = nearer_dependent g p m row distances w i e f a in
+    let is = only_member row q.0 d one q.1 in (
+      subst (λ r. Contains row r) (sym is) q.1,
+      ap (number_at distances) is ∙ q.2,
+      λ s c near. omega (arith, only_member row s d one c),
+    )
 
 -- the least of these is next
 pub leads_on : (g : Graph) (p n m last r : ℕ) (path row : List ℕ) (distances : List (Option ℕ)) → IsWellFormed g

@@ -1,7 +1,7 @@
 //! How far processes are from an awake one, and by which path.
 
-ghost use Rattle.std.specs.Prelude.{◌≡◌, ◌<◌, map, length, option_map, All, IfOk, IfErr, IsTrue, MatchOption, ◌↔◌};
-ghost use Rattle.cmh_graph.specs.Graph.{indices, process_count};
+ghost use Rattle.std.specs.Prelude.{◌≡◌, ◌<◌, ◌+◌, map, length, Some, option_map, All, IfOk, IfErr, IsTrue, MatchOption, ◌↔◌};
+ghost use Rattle.cmh_graph.specs.Graph.{indices, process_count, dependents_of};
 ghost use Rattle.cmh_graph.specs.ChosenPath.{distance_of, chosen_path};
 ghost use Rattle.cmh_graph.specs.Search.{ArePredecessors, IsLeastAt};
 
@@ -66,14 +66,30 @@ impl WaitGraph {
         let Some(distance) = distances[p as usize] else {
             return Ok(None);
         };
-        let mut path = Vec::new(alloc);
-        path.push(p)?;
+        let mut path = Vec::with_capacity(alloc, distance as usize + 1)?;
+        path.push_reserved(p);
         let mut last = p;
         for nearer in (0..distance).rev() {
-            last = least_at(nearer, self.dependents(last), distances).unwrap();
-            path.push(last)?;
+            last = self.next_at(nearer, last, distances);
+            path.push_reserved(last);
         }
         Ok(Some(path))
+    }
+
+    /// The dependent of `p` by which its chosen path goes on: the least at this distance. Where there
+    /// is only one, its distance isn't looked up: `p` is one further away, so some dependent has it.
+    fn next_at(&self, distance: u32, p: u32, distances: &[Option<u32>]) -> u32
+        requires within { p < process_count self.now }
+        requires known { distances.now ≡ map (distance_of self.now) (indices self.now) }
+        requires further { distance_of self.now p ≡ Some (distance + 1) }
+        ensures { IsLeastAt distance (dependents_of self.now p) distances.now (Some result) }
+    {
+        self.has_no_fault();
+        let dependents = self.dependents(p);
+        if dependents.len() == 1 {
+            return dependents[0];
+        }
+        least_at(distance, dependents, distances).unwrap()
     }
 }
 

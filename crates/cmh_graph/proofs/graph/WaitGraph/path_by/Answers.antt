@@ -1,10 +1,8 @@
-use Rattle.std.proofs.Common.{◌∙◌, ◌++◌, ◌-◌, ◌<◌, ◌∷◌, [], ap, arith, length, subst, sym}
+use Rattle.std.proofs.Common.{◌∙◌, ◌++◌, ◌-◌, ◌<◌, ◌∷◌, [], Some, ap, arith, length, rules, refl, subst, sym}
 use Rattle.std.proofs.lemmas.List.{get_or_default}
 use Rattle.cmh_graph.specs.ChosenPath.{distance_of}
-use Rattle.cmh_graph.specs.Search.{IsLeastAt}
-use Rattle.cmh_graph.proofs.Choosing.{LeadsOn, chosen_none, leads_end, leads_on, leads_start, nearest_some}
+use Rattle.cmh_graph.proofs.Choosing.{LeadsOn, chosen_none, leads_end, leads_on, leads_start}
 use Rattle.cmh_graph.proofs.Listing.{length-by_index}
-use Rattle.cmh_graph.proofs.Spreading.{dependents_within}
 use Rattle.cmh_graph.proofs.graph.WaitGraph.path_by.Goals as goal
 
 pub bounds : goal.bounds
@@ -25,37 +23,27 @@ loop-nearer-init c =
     let g = c.args.self.now in
     let within : c.args.p < length c.args.distances.now =
     omega (arith, ap length c.requires.known, length-by_index g (distance_of g), c.requires.within) in
-    leads_start g c.args.p _ _ _ _ c.requires.within c.requires.known
-    (get_or_default c.args.distances.now c.args.p _ _ within) c.in-Some.is
-    (c.in_ok-push.ensures.items ∙ ap (λ xs. xs ++ c.args.p ∷ []) c.new-path.ensures.items)
+    record {
+      leads = leads_start g c.args.p _ _ _ _ c.requires.within c.requires.known
+          (get_or_default c.args.distances.now c.args.p _ _ within) c.in-Some.is
+          (c.push_reserved.ensures.items ∙ ap (λ xs. xs ++ c.args.p ∷ []) c.in_ok-path.ensures.items);
+      room = search rules;
+    }
 
-pub dependents-requires : goal.dependents-requires
-dependents-requires c = c.loop-nearer.invariant.within
-
-pub least_at-requires : goal.least_at-requires
-least_at-requires c =
-    let g = c.args.self.now in
-    dependents_within g c.loop-nearer.last _ _ c.has_no_fault.ensures c.dependents.ensures
-    (ap length c.requires.known ∙ length-by_index g (distance_of g))
-
-pub unwrap-last-requires : goal.unwrap-last-requires
-unwrap-last-requires c =
-    let g = c.args.self.now in
-    nearest_some g c.args.p _ _ c.loop-nearer.last _ _ _ _ c.has_no_fault.ensures c.loop-nearer.invariant
-    (omega arith) c.dependents.ensures c.requires.known c.least_at.ensures
+pub next_at-last-requires-clause-further : goal.next_at-last-requires-clause-further
+next_at-last-requires-clause-further c =
+    c.loop-nearer.invariant.leads.distance ∙ ap (λ n. Some n) (omega arith)
 
 pub loop-nearer-preserved : goal.loop-nearer-preserved
-loop-nearer-preserved c =
-    let g = c.args.self.now in
-    let least =
-    subst (λ o. IsLeastAt (c.loop-nearer.nearer - 1) c.dependents.result.now c.args.distances.now o)
-    c.unwrap-last.ensures c.least_at.ensures in
-    subst (λ xs. LeadsOn g c.args.p (c.loop-nearer.nearer - 1) xs c.unwrap-last.result)
-    (sym c.in_ok-push-2.ensures.items)
-    (leads_on g c.args.p _ _ _ _ _ _ _ c.has_no_fault.ensures c.loop-nearer.invariant
-    (omega arith) c.dependents.ensures c.requires.known least)
+loop-nearer-preserved c = record {
+  leads = subst (λ xs. LeadsOn c.args.self.now c.args.p (c.loop-nearer.nearer - 1) xs c.next_at-last.result)
+      (sym c.push_reserved-in-loop-nearer.ensures.items)
+      (leads_on c.args.self.now c.args.p _ _ _ _ _ _ _ c.has_no_fault.ensures c.loop-nearer.invariant.leads
+      (omega arith) refl c.requires.known c.next_at-last.ensures);
+  room = search rules;
+}
 
 pub returns-clause-ok : goal.returns-clause-ok
 returns-clause-ok c =
-    leads_end c.args.self.now c.args.p _ _ _ c.has_no_fault.ensures.within c.requires.within c.loop-nearer.invariant
-    (omega arith)
+    leads_end c.args.self.now c.args.p _ _ _ c.has_no_fault.ensures.within c.requires.within
+    c.loop-nearer.invariant.leads (omega arith)
