@@ -27,7 +27,7 @@ use Rattle.cmh_work.specs.declared.record.Origin.TheVariants.{FromRun, FromBoard
 use Rattle.cmh_work.specs.declared.record.Shape.TheVariants.{Leader}
 use Rattle.cmh_work.specs.declared.record.Analysis.{Analysis}
 use Rattle.cmh_work.specs.declared.ticket_rule.TicketView.{TicketView}
-use Rattle.cmh_work.specs.Cutting.{chunks_of, gathered}
+use Rattle.cmh_work.specs.Cutting.{chunks_of, bounds_of, gathered}
 use Rattle.cmh_work.specs.Record.{IsRunFor, IsTrueRecord}
 use Rattle.cmh_work.specs.Analysis.{records_of, history_of, initiator_of, IsPostedBy, IsPostedByRecords, IsAnalysisOf}
 use Rattle.cmh_work.specs.Tickets.{Has, Dealt, opening_view, less_one, newcomer, with_drawn}
@@ -37,6 +37,10 @@ use Rattle.cmh_work.proofs.Counting.{drawn_once}
 pub chunks_of_three : chunks_of (0 ∷ 1 ∷ 0 ∷ 9 ∷ []) (0 ∷ 1 ∷ 2 ∷ [])
     ≡ [] ∷ (0 ∷ []) ∷ [] ∷ (1 ∷ 2 ∷ []) ∷ [] ∷ []
 chunks_of_three = refl
+
+-- where they begin, by cuts whose sum is no u64: none is left to the last cut and the rest
+pub bounds_of_three : bounds_of (1 ∷ 18446744073709551615 ∷ 5 ∷ []) 3 ≡ 0 ∷ 1 ∷ 3 ∷ 3 ∷ 3 ∷ []
+bounds_of_three = refl
 
 -- without cuts there is one chunk
 pub one_chunk : chunks_of [] (0 ∷ 1 ∷ []) ≡ (0 ∷ 1 ∷ []) ∷ []

@@ -1,13 +1,13 @@
 -- What is gathered from each chunk once is the list.
-use Rattle.std.proofs.Common.{◌≡◌, ℕ, zero, suc, ◌+◌, List, [], ◌∷◌, ◌++◌, length, take, drop, get_or, append_assoc, append-nil, sym, refl, ap, ◌∙◌, arith}
-use Rattle.std.specs.Prelude.{All, IsTrue}
-use Rattle.std.proofs.lemmas.List.{take-append-drop, get_or_default}
+use Rattle.std.proofs.Common.{◌≡◌, ℕ, zero, suc, ◌+◌, ◌-◌, ◌<◌, ◌≤◌, min, List, [], ◌∷◌, ◌++◌, length, take, drop, get_or, append_assoc, append-nil, sym, refl, ap, subst, ◌∙◌, arith}
+use Rattle.std.specs.Prelude.{All, IsTrue, slice_index, slice_range}
+use Rattle.std.proofs.lemmas.List.{take-append-drop, get_or_default, take_rest, take_min, drop_min, drop-drop, length-drop}
 use Rattle.std.proofs.lemmas.List.Elements.{All-nil, All-take, All-drop}
 use Rattle.cmh_graph.specs.Graph.{Graph, is_idle, indices, idle_list}
 use Rattle.cmh_graph.proofs.Verdicts.{filter_contains}
 use Rattle.cmh_rw.specs.Machine.{total}
 use Rattle.cmh_work.specs.Tickets.{sum_below}
-use Rattle.cmh_work.specs.Cutting.{chunks_of, joined, gathered, ChunksLaw}
+use Rattle.cmh_work.specs.Cutting.{bounds_of, chunks_of, ends_from, joined, gathered, ChunksLaw}
 use Rattle.cmh_work.proofs.Dealing.{total-append}
 
 -- what is gathered by two lists of numbers
@@ -70,6 +70,57 @@ joined_chunks (c ∷ cs) xs = ap (λ l. take c xs ++ l) (joined_chunks cs (drop 
 -- the chunks are the list, cut
 pub chunks_law : ChunksLaw
 chunks_law cuts xs = (joined_chunks cuts xs, length_chunks cuts xs)
+
+-- a chunk is what lies between its bounds
+chunk_between : (cuts xs : List ℕ) (begin n : ℕ) → n ≤ length cuts
+    → slice_range xs (get_or (begin ∷ ends_from (length xs) begin cuts) n 0)
+    (get_or (ends_from (length xs) begin cuts) n 0)
+    ≡ get_or (chunks_of cuts (drop begin xs)) n []
+chunk_between [] xs begin zero low = take_rest xs begin
+chunk_between [] xs begin (suc n) low = absurd (omega (arith, low))
+chunk_between (c ∷ cs) xs begin zero low =
+    let size : min (begin + c) (length xs) - begin ≡ min c (length (drop begin xs)) =
+    omega (arith, length-drop begin xs) in
+    ap (λ k. take k (drop begin xs)) size ∙ take_min c (drop begin xs)
+chunk_between (c ∷ cs) xs begin (suc n) low =
+    chunk_between cs xs (min (begin + c) (length xs)) n (omega (arith, low))
+    ∙ ap (λ ys. get_or (chunks_of cs ys) n []) (drop_min (begin + c) xs ∙ sym (drop-drop c begin xs))
+
+-- there are two bounds more than cuts
+length_ends : (size begin : ℕ) (cuts : List ℕ) → length (ends_from size begin cuts) ≡ length cuts + 1
+length_ends size begin [] = refl
+length_ends size begin (c ∷ cs) = omega (arith, length_ends size (min (begin + c) size) cs)
+
+-- no chunk ends before it begins, nor past the end of the list
+bounds_rise : (size begin : ℕ) (cuts : List ℕ) (n : ℕ) → begin ≤ size → n ≤ length cuts
+    → (get_or (begin ∷ ends_from size begin cuts) n 0 ≤ get_or (ends_from size begin cuts) n 0)
+    × (get_or (ends_from size begin cuts) n 0 ≤ size)
+bounds_rise size begin [] zero b low = (b, omega arith)
+bounds_rise size begin [] (suc n) b low = absurd (omega (arith, low))
+bounds_rise size begin (c ∷ cs) zero b low = (omega (arith, b), omega arith)
+bounds_rise size begin (c ∷ cs) (suc n) b low =
+    bounds_rise size (min (begin + c) size) cs n (omega arith) (omega (arith, low))
+
+-- a chunk is what lies between its bound and the next
+pub chunk_is : (cuts xs bounds : List ℕ) (n : ℕ) → bounds ≡ bounds_of cuts (length xs) → n ≤ length cuts
+    → slice_range xs (slice_index bounds n) (slice_index bounds (n + 1)) ≡ get_or (chunks_of cuts xs) n []
+chunk_is cuts xs bounds n e low =
+    let all = bounds_of cuts (length xs) in
+    let Is = λ (b : List ℕ) (k : ℕ).
+    slice_range xs (slice_index b n) (slice_index b k) ≡ get_or (chunks_of cuts xs) n [] in
+    subst (λ b. Is b (n + 1)) (sym e) (subst (Is all) {x = suc n} (omega arith) (chunk_between cuts xs 0 n low))
+
+-- both are there, the next is no less, and it lies within the list
+pub bounds_lie : (cuts bounds : List ℕ) (size n : ℕ) → bounds ≡ bounds_of cuts size → n ≤ length cuts
+    → (n + 1 < length bounds) × (slice_index bounds n ≤ slice_index bounds (n + 1))
+    × (slice_index bounds (n + 1) ≤ size)
+bounds_lie cuts bounds size n e low =
+    let all = bounds_of cuts size in
+    let Lies = λ (b : List ℕ) (k : ℕ).
+    (k < length b) × (slice_index b n ≤ slice_index b k) × (slice_index b k ≤ size) in
+    let rise = bounds_rise size 0 cuts n (omega arith) low in
+    subst (λ b. Lies b (n + 1)) (sym e)
+    (subst (Lies all) {x = suc n} (omega arith) (omega (arith, length_ends size 0 cuts, low), rise.0, rise.1))
 
 -- what holds of a list holds of its chunks
 pub all_chunk : (P : ℕ → Type 0) (cuts xs : List ℕ) (n : ℕ) → All P xs → All P (get_or (chunks_of cuts xs) n [])

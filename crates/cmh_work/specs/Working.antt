@@ -8,7 +8,7 @@ use Rattle.cmh_work.specs.declared.finding.Finding.{Finding}
 use Rattle.cmh_work.specs.declared.job.Shared.{Shared}
 use Rattle.cmh_work.specs.declared.job.Seats.{Seats}
 use Rattle.cmh_work.specs.Plan.{Setup}
-use Rattle.cmh_work.specs.Cutting.{chunks_of, gathered}
+use Rattle.cmh_work.specs.Cutting.{chunks_of, bounds_of, gathered}
 use Rattle.cmh_work.specs.Seats.{view, IsSeatOf}
 use Rattle.cmh_work.specs.Shape.{AreShapesOf}
 use Rattle.cmh_work.specs.Finding.{finder_of, Accounts}
@@ -16,6 +16,7 @@ use Rattle.cmh_work.specs.Finding.{finder_of, Accounts}
 -- it was made for this graph and this plan
 pub record IsMadeFor (g : Graph) (plan : Setup) (s : Shared) : Type 0 where
   pub idle : s.idle.items ≡ idle_list g
+  pub bounds : s.bounds.items ≡ bounds_of plan.cuts (length s.idle.items)
   pub shapes : AreShapesOf g s.shapes
   pub board : graph_of s.board ≡ g
   pub tickets : s.tickets.chunks ≡ length plan.cuts + 1

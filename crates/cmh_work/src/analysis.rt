@@ -6,6 +6,7 @@ ghost use Rattle.cmh_work.specs.Seats.{view};
 ghost use Rattle.cmh_work.specs.Working.{IsMadeFor, Sit, AreNew};
 ghost use Rattle.cmh_board.specs.Board.{known};
 
+use crate::chunks::chunk_bounds;
 use crate::fault::{want_at_board, want_in_graph, want_of_tickets};
 use crate::job::{Seats, Shared};
 use crate::number::number_all;
@@ -65,12 +66,14 @@ pub fn analyse_keeping<L: Log + Send, E: ProcessList + Send, R: Threads + Wait +
     ensures memory { IfErr result (λ e. e ≡ WorkFault.Memory) }
 {
     let idle = graph.idle_list(alloc).map_err(want_in_graph)?;
+    let bounds = chunk_bounds(alloc, plan.cuts(), idle.len())?;
     let shapes = Shapes::of_graph(alloc, graph)?;
     let (board, board_seat) = Board::open(alloc, graph).map_err(want_at_board)?;
     let chunks = plan.cuts().len() as u32 + 1;
     let (tickets, ticket_seat) = Tickets::open(alloc, chunks).map_err(want_of_tickets)?;
     let shared = Shared {
         idle,
+        bounds,
         shapes,
         board,
         tickets,

@@ -4,6 +4,7 @@ ghost use Rattle.std.specs.Prelude.{◌≡◌, ◌+◌, length, map};
 ghost use Rattle.cmh_graph.specs.Graph.{indices, idle_list};
 ghost use Rattle.cmh_graph.specs.ChosenPath.{distance_of};
 ghost use Rattle.cmh_board.specs.Board.{graph_of};
+ghost use Rattle.cmh_work.specs.Cutting.{bounds_of};
 ghost use Rattle.cmh_work.specs.Leaders.{group_leader};
 
 use crate::Plan;
@@ -16,6 +17,8 @@ use cmh_graph::WaitGraph;
 #[derive(Drop)]
 pub(crate) struct Shared {
     pub(crate) idle: Vec<u32>,
+    /// Where each chunk of the idle processes begins, and where the last one ends.
+    pub(crate) bounds: Vec<usize>,
     pub(crate) shapes: Shapes,
     pub(crate) board: Board,
     pub(crate) tickets: Tickets,
@@ -28,6 +31,7 @@ pub(crate) struct Job<'a> {
     pub(crate) plan: &'a Plan,
     pub(crate) shared: &'a Shared,
     ghost initiators: { shared.now.idle.items ≡ idle_list graph.now },
+    ghost bounds: { shared.now.bounds.items ≡ bounds_of plan.now.cuts (length shared.now.idle.items) },
     ghost distances: { shared.now.shapes.distances.items ≡ map (distance_of graph.now) (indices graph.now) },
     ghost leaders: { shared.now.shapes.leaders.items ≡ map (group_leader graph.now) (indices graph.now) },
     ghost named: { graph_of shared.now.board ≡ graph.now },

@@ -1,6 +1,7 @@
 //! Plans, tickets, analyses, and who makes the runs.
 
 mod analyses;
+mod chunks;
 mod counted;
 mod determined;
 mod full;

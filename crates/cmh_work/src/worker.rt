@@ -166,7 +166,7 @@ fn draw_all<L: Log, E: ProcessList, R: Wait, P: Gate>(
     let mut runner = Runner::new(job.graph);
     let mut found = Vec::new(alloc);
     while let Some(number) = job.shared.tickets.draw(&mut seats.tickets) {
-        let chunk = chunk_at(job.plan.cuts(), &job.shared.idle, number as usize);
+        let chunk = chunk_at(job, number as usize);
         find_each(
             rt,
             alloc,

@@ -1,4 +1,4 @@
-use Rattle.std.proofs.Common.{◌∙◌, ℕ, rules, sym, subst, All}
+use Rattle.std.proofs.Common.{ℕ, rules, sym, subst, All}
 use Rattle.std.specs.Prelude.{IsTrue}
 use Rattle.cmh_graph.specs.Graph.{is_idle, idle_list}
 use Rattle.cmh_work.specs.Working.{AreOf}
@@ -10,11 +10,10 @@ pub find_each-requires-clause-idle : goal.find_each-requires-clause-idle
 find_each-requires-clause-idle g c =
     let j = c.args.job.now in
     let P = λ (p : ℕ). IsTrue (is_idle j.graph.now p) in
-    let all : All P c.deref.result.now =
-    subst (All P) {x = idle_list c.args.job.now.graph.now} (sym (c.deref.ensures.value ∙ j.initiators))
-    (all_idle j.graph.now) in
+    let all : All P j.shared.now.idle.items =
+    subst (All P) {x = idle_list j.graph.now} (sym j.initiators) (all_idle j.graph.now) in
     λ κs m. subst (All P) (sym c.chunk_at-chunk.ensures)
-    (all_chunk P c.cuts.result.now c.deref.result.now c.in-Some.number all)
+    (all_chunk P j.plan.now.cuts j.shared.now.idle.items c.in-Some.number all)
 
 pub loop-number-init : goal.loop-number-init
 loop-number-init g c = record {
