@@ -48,6 +48,7 @@ impl Queue {
     }
 
     /// Adds the sender's query to each of these, in their order. Memory is taken for all at once.
+    #[inline(always)]
     pub(crate) fn add_queries(
         &mut self,
         initiator: u32,

@@ -57,7 +57,8 @@ impl Words {
     }
 
     /// Adds a word for each of these, in their order: the head and it together. Memory is taken for
-    /// all at once.
+    /// all at once. One word goes the way of `add`, since in a chain each process sends one.
+    #[inline(always)]
     pub(crate) fn add_each(&mut self, head: u64, places: &[u32]) -> Result<(), AllocError>
         requires { (k : ℕ) → k < length places.now → head + slice_index places.now k < 2 ^ 64 }
         ensures ok { OnOk result (self.new ≡ self.old ++ map (λ (p : ℕ). head + p) places.now) }
@@ -65,6 +66,15 @@ impl Words {
         if let [place] = places {
             return self.add(head + *place as u64);
         }
+        self.add_row(head, places)
+    }
+
+    /// `add_each` of however many, out of line.
+    #[inline(never)]
+    fn add_row(&mut self, head: u64, places: &[u32]) -> Result<(), AllocError>
+        requires { (k : ℕ) → k < length places.now → head + slice_index places.now k < 2 ^ 64 }
+        ensures ok { OnOk result (self.new ≡ self.old ++ map (λ (p : ℕ). head + p) places.now) }
+    {
         if self.all.capacity() - self.all.len() < places.len() {
             self.forget_taken();
         }
