@@ -1,7 +1,7 @@
 //! One configuration of an initiator's computations, and its steps.
 
-ghost use Rattle.std.specs.Prelude.{◌≡◌, ◌+◌, ◌<◌, ◌^◌, ◌%◌, ◌↔◌, [], None, Some, length, slice_get, IfOk, IfSome, IfNone, IsNone, IsFalse, OnOk, if◌then◌else◌};
-ghost use Rattle.cmh_graph.specs.Graph.{process_count, is_awake};
+ghost use Rattle.std.specs.Prelude.{◌≡◌, ℕ, ◌+◌, ◌<◌, ◌^◌, ◌%◌, ◌↔◌, ◌++◌, [], ◌∷◌, None, Some, length, map, slice_get, IfOk, IfSome, IfNone, IsNone, IsTrue, IsFalse, OnOk, if◌then◌else◌};
+ghost use Rattle.cmh_graph.specs.Graph.{process_count, is_awake, dependents_of};
 ghost use Rattle.cmh_graph.specs.Build.{IsWellFormed};
 ghost use Rattle.cmh_process.specs.Process.{engages};
 ghost use Rattle.cmh_graph.specs.Verdict.{IsVerdict};
@@ -272,6 +272,7 @@ impl Network {
         requires going { self.old.ended ≡ None }
         requires sender { CanSend initiator number to }
         requires from { from < 4096 }
+        requires engaging { IsTrue (engages (proc_at self.old.procs to) number) }
         requires speaks { H.speaks_of hints.old graph.now }
         ensures verdict { IfOk result (λ hint. IfSome hint (IsVerdict graph.now to)) }
         ensures ok { IfOk result (λ hint. self.new ≡
@@ -284,10 +285,10 @@ impl Network {
         Ok(hint)
     }
 
-    /// What a query of `from` does that engages `to`, of which this is known. It stands apart, since
-    /// few deliveries engage, and takes the query's parts, so that no message is copied for it at the
-    /// others.
-    #[inline(never)]
+    /// What a query of `from` does that engages `to`, of which this is known. Each case stands apart,
+    /// since few deliveries engage, and takes the query's parts, so that no message is copied for it at
+    /// the others.
+    #[inline(always)]
     fn engage_hinted(
         &mut self,
         graph: &WaitGraph,
@@ -303,11 +304,12 @@ impl Network {
         requires going { self.old.ended ≡ None }
         requires sender { CanSend initiator number to }
         requires from { from < 4096 }
+        requires engaging { IsTrue (engages (proc_at self.old.procs to) number) }
         ensures ok { OnOk result (self.new ≡
             hinted graph.now initiator self.old (query initiator number from to) hint) }
     {
         match hint {
-            None => self.engage(initiator, number, from, to, graph.dependents(to)),
+            None => self.engage_unknown(graph, initiator, number, from, to),
             Some(Verdict::Deadlocked) => self.engage(initiator, number, from, to, &[]),
             Some(Verdict::Free) => {
                 self.ended = Some(Ending::CutFree(to));
@@ -316,7 +318,65 @@ impl Network {
         }
     }
 
+    /// A query of `from` engages `to`, of which nothing is known. Where it asks one process, as in a
+    /// chain, and there is room to note that it takes part, it calls nobody and keeps no register.
+    #[inline(never)]
+    fn engage_unknown(
+        &mut self,
+        graph: &WaitGraph,
+        initiator: u32,
+        number: u32,
+        from: u32,
+        to: u32,
+    ) -> Result<(), AllocError>
+        requires graph { IsWellFormed graph.now }
+        requires size { length self.old.procs ≡ process_count graph.now }
+        requires within { to < process_count graph.now }
+        requires going { self.old.ended ≡ None }
+        requires sender { CanSend initiator number to }
+        requires from { from < 4096 }
+        requires engaging { IsTrue (engages (proc_at self.old.procs to) number) }
+        ensures ok { OnOk result (self.new ≡
+            engaged_by initiator self.old (query initiator number from to) (dependents_of graph.now to)) }
+    {
+        let dependents = graph.dependents(to);
+        if dependents.len() != 1
+            || number != self.number
+            || !self.procs.engage_in_room(to, number, from, 1)
+        {
+            return self.engage(initiator, number, from, to, dependents);
+        }
+        if !push_in_room(&mut self.engaged, to) {
+            return self.note_and_ask(initiator, number, to, dependents);
+        }
+        self.bag.add_queries(initiator, number, to, dependents)
+    }
+
+    /// A process is engaged that asks these, and memory is taken to note it.
+    #[inline(never)]
+    fn note_and_ask(
+        &mut self,
+        initiator: u32,
+        number: u32,
+        to: u32,
+        dependents: &[u32],
+    ) -> Result<(), AllocError>
+        requires sender { CanSend initiator number to }
+        requires dependents { HaveRoom dependents.now }
+        ensures ok { OnOk result (self.new ≡ record {
+          bag = self.old.bag ++ map (λ (r : ℕ). query initiator number to r) dependents.now;
+          procs = self.old.procs;
+          number = self.old.number;
+          engaged = self.old.engaged ++ to ∷ [];
+          ended = self.old.ended;
+        }) }
+    {
+        self.engaged.push(to)?;
+        self.bag.add_queries(initiator, number, to, dependents)
+    }
+
     /// A query of `from` engages `to`, which asks these.
+    #[inline(never)]
     fn engage(
         &mut self,
         initiator: u32,
@@ -390,4 +450,17 @@ impl Network {
         }
         sender.send(&mut self.bag, dependents, action)
     }
+}
+
+/// Adds a process as the last, where that takes no memory.
+#[inline(always)]
+fn push_in_room(list: &mut Vec<u32>, k: u32) -> bool
+    ensures pushed { IsTrue result → list.new.items ≡ list.old.items ++ k ∷ [] }
+    ensures full { IsFalse result → list.new.items ≡ list.old.items }
+{
+    if list.len() == list.capacity() {
+        return false;
+    }
+    list.push_reserved(k);
+    true
 }

@@ -51,7 +51,19 @@ impl Words {
             self.all.push_reserved(word);
             return Ok(());
         }
+        self.add_where_full(word)
+    }
+
+    /// `add` where there is no room behind the last word. The first memory has room for so many that
+    /// a row of few words is seldom moved.
+    #[inline(never)]
+    fn add_where_full(&mut self, word: u64) -> Result<(), AllocError>
+        ensures ok { OnOk result (self.new ≡ self.old ++ word ∷ []) }
+    {
         self.forget_taken();
+        if self.all.len() == self.all.capacity() {
+            self.all.reserve(64)?;
+        }
         self.all.push(word)?;
         Ok(())
     }
