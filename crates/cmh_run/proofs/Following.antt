@@ -1,6 +1,6 @@
 -- A run that goes on by one delivery, and what its steps may count on.
 use Rattle.std.proofs.Common.{◌≡◌, ℕ, ◌+◌, ◌-◌, ◌*◌, ◌^◌, ◌<◌, ◌≤◌, ◌≢◌, Bool, true, false, ◌&&◌, cond, eqb, List, [], ◌∷◌, ◌++◌, length, drop, slice_get, Contains, Option, Some, None, is_none, refl, sym, ◌∙◌, ap, subst, arith, ◌⊎◌, ⊎_elim, length-append, mul-le-mul_left}
-use Rattle.std.proofs.lemmas.Bool.{eq-eqb, and_parts}
+use Rattle.std.proofs.lemmas.Bool.{eqb-true, eq-eqb, and_parts}
 use Rattle.std.proofs.lemmas.Option.{none-some}
 use Rattle.std.specs.Prelude.{slice_index}
 use Rattle.std.proofs.lemmas.List.{length-replicate, get_or-drop, drop-drop}
@@ -217,6 +217,30 @@ module _ (g : Graph) (i : ℕ) (choices restarts : List ℕ) (s : Stage) (ok : I
       (stepped g i s.going.config ok firm.stands.size may.going live.0 live.1 x d.message may.there d.hint may.hint)
       (number_kept g i s.going.config x d.message d.hint ∙ firm.numbered) (few_restarts few) going
 
+  -- where none were given, none are to come
+  pub none_to_come : restarts ≡ [] → s.going.restarts ≡ []
+  none_to_come none = by_awake (is_awake g i) refl
+    where
+      nobody : (xs : List ℕ) → length xs ≤ 0 → xs ≡ []
+      nobody [] l = refl
+      nobody (x ∷ xs) l = absurd (omega (arith, l))
+
+      by_awake : (b : Bool) → is_awake g i ≡ b → s.going.restarts ≡ []
+      by_awake true e =
+          nobody s.going.restarts
+          (omega (
+            arith,
+            leads_restarts (chosen_place choices) g i s.log (going_from (nothing_yet g) []) s.going (awake_leads e),
+          ))
+      by_awake false e =
+          nobody s.going.restarts
+          (omega (
+            arith,
+            ap length none,
+            leads_restarts (chosen_place choices) g i s.log (going_from (start g i (nothing_yet g)) restarts) s.going
+                (asleep_leads e),
+          ))
+
   -- the deliveries are few
   pub log_bound : length restarts ≤ MAX_RESTARTS → length s.log ≤ 2 * dependency_count g * (MAX_RESTARTS + 1)
   log_bound few =
@@ -276,6 +300,15 @@ pub next_left : (choices left rest : List ℕ) (n m : ℕ) → left ≡ drop n c
 next_left choices left rest n m are is more =
     is ∙ ap (drop 1) are ∙ drop-drop 1 n choices ∙ ap (λ k. drop k choices) (sym more)
 
+-- where there are none, each that comes is 0
+pub no_choice : (choices : List ℕ) (n : ℕ) → choices ≡ [] → 0 ≡ slice_index choices n
+no_choice choices n none = rw none refl
+
+-- a list is empty where it is told to be
+pub told_empty : (b : Bool) (xs : List ℕ) → b ≡ eqb (length xs) 0 → b ≡ true → xs ≡ []
+told_empty b [] is empty = refl
+told_empty b (x ∷ xs) is empty = absurd (omega (arith, eqb-true (length (x ∷ xs)) 0 (sym is ∙ empty)))
+
 -- ---- a message was taken
 
 module _ (g : Graph) (i : ℕ) (choices restarts : List ℕ) (s t : Stage) (m : Message) (ok : IsWithinGraph g)
@@ -283,6 +316,10 @@ module _ (g : Graph) (i : ℕ) (choices restarts : List ℕ) (s t : Stage) (m : 
   -- there are as many processes as the graph has
   pub taken_size : length t.going.config.procs ≡ process_count g
   taken_size = rw taken.2 (steady g i choices restarts s ok idle f (place_in choices s) m taken.1).stands.size
+
+  -- the run isn't over
+  pub taken_going : t.going.config.ended ≡ None
+  taken_going = rw taken.2 taken.0
 
   -- its receiver is one of them
   pub taken_within : m.to < process_count g
@@ -364,6 +401,14 @@ module _ (g : Graph) (i : ℕ) (choices restarts : List ℕ) (s t : Stage) (m : 
     pub taken_log : (v : Stage) → v ≡ record { going = ready g i u.going; log = u.log }
         → v.log ≡ s.log ++ (record { message = m; hint = hint }) ∷ []
     taken_log v e = ap (λ (w : Stage). w.log) e ∙ ap (λ (w : Stage). w.log) is_after
+
+    -- the restarts to come are the same
+    pub taken_restarts : s.going.restarts ≡ [] → u.going.restarts ≡ []
+    taken_restarts none = ap (λ (w : Stage). w.going.restarts) is_after ∙ none
+
+    -- where there are none, the initiator doesn't start again
+    pub taken_rests : s.going.restarts ≡ [] → u ≡ record { going = ready g i u.going; log = u.log }
+    taken_rests none = rw (taken_restarts none) refl
 
     -- the measure of the run falls
     pub taken_falls : (v : Stage) → v ≡ record { going = ready g i u.going; log = u.log }

@@ -1,11 +1,12 @@
 //! Runs one after another, in memory that is taken once.
 
-ghost use Rattle.std.specs.Prelude.{◌≡◌, ◌⊎◌, [], Some, ◌*◌, ◌<◌, ◌≤◌, ◌↔◌, length, IfOk, IfErr, IsTrue};
+ghost use Rattle.std.specs.Prelude.{◌≡◌, ◌⊎◌, [], Some, ◌*◌, ◌<◌, ◌≤◌, ◌↔◌, drop, length, IfOk, IfErr, IsTrue, OnOk};
 ghost use Rattle.cmh_graph.specs.Graph.{is_idle, is_awake, dependency_count};
 ghost use Rattle.cmh_graph.specs.Build.{IsWellFormed};
 ghost use Rattle.cmh_run.specs.Choices.{HasNoHints};
 ghost use Rattle.cmh_run.specs.Config.{nothing_yet};
 ghost use Rattle.cmh_run.specs.Engaged.{AreEngaged};
+ghost use Rattle.cmh_run.specs.Follow.{Follows};
 ghost use Rattle.cmh_run.specs.Run.{IsRising, IsAccepted, IsFirstFault, IsRunOf, TellsTruth, empty_run_of};
 
 use crate::choices::Choices;
@@ -182,10 +183,43 @@ fn follow<L: Log, H: Hints>(
 {
     let mut progress = Progress::begin(alloc, graph, network, initiator, restarts)?;
     progress.restart_if_due(graph, initiator)?;
+    follow_freely(graph, &mut progress, initiator, choices, hints, restarts)?;
     let mut left = Choices::new(choices);
     while let Some(message) = progress.take(left.next()) {
         progress.deliver(graph, initiator, message, hints)?;
         progress.restart_if_due(graph, initiator)?;
     }
     Ok(progress.finish(alloc, initiator))
+}
+
+/// The run up to its end, where there are no choices and no restarts. Nearly every run is such a one,
+/// and so none of its deliveries asks for either.
+#[inline(always)]
+fn follow_freely<L: Log, H: Hints>(
+    graph: &WaitGraph,
+    progress: &mut Progress<L>,
+    initiator: u32,
+    choices: &[u64],
+    hints: &mut H,
+    restarts: &[u32],
+) -> Result<(), AllocError>
+    requires follows { Follows graph.now initiator choices.now restarts.now progress.old }
+    requires left { choices.now ≡ drop progress.old.going.done choices.now }
+    requires graph { IsWellFormed graph.now }
+    requires speaks { H.speaks_of hints.old graph.now }
+    requires idle { IsTrue (is_idle graph.now initiator) }
+    requires few { length restarts.now ≤ MAX_RESTARTS }
+    requires silent { H.is_silent hints.old → HasNoHints progress.old.log }
+    ensures follows { OnOk result (Follows graph.now initiator choices.now restarts.now progress.new) }
+    ensures left { OnOk result (choices.now ≡ drop progress.new.going.done choices.now) }
+    ensures silent { OnOk result (H.is_silent hints.old → HasNoHints progress.new.log) }
+    ensures kept { H.keeps hints.old hints.new }
+{
+    if !choices.is_empty() || !restarts.is_empty() {
+        return Ok(());
+    }
+    while let Some(message) = progress.take(0) {
+        progress.deliver(graph, initiator, message, hints)?;
+    }
+    Ok(())
 }

@@ -2,7 +2,7 @@ use Rattle.std.proofs.Common.{◌≡◌, ◌∙◌, ap, subst, sym, List, None}
 use Rattle.cmh_run.specs.declared.delivery.Delivery.{Delivery}
 use Rattle.cmh_run.specs.Run.{Run, Stage, MayStart}
 use Rattle.cmh_run.specs.Choices.{HasNoHints}
-use Rattle.cmh_run.proofs.Following.{may_start_first, next_is, next_left, taken_size, taken_within, taken_sender, taken_engagers, taken_room, taken_may_start, taken_follows, taken_done, taken_log, taken_falls, no_hints_on, over_log, cleared, finished, run_is_true, restarted_few, run_engages, awake_runs_nothing}
+use Rattle.cmh_run.proofs.Following.{may_start_first, next_is, next_left, taken_going, taken_size, taken_within, taken_sender, taken_engagers, taken_room, taken_may_start, taken_follows, taken_done, taken_log, taken_falls, no_hints_on, over_log, cleared, finished, run_is_true, restarted_few, run_engages, awake_runs_nothing}
 use Rattle.cmh_run.proofs.runner.follow.Goals as goal
 
 -- at first the initiator may start again, if the run isn't over
@@ -208,3 +208,18 @@ returns-clause-awake g c =
     (c.in_default.ensures.taken c.args.choices.now
     (next_is c.args.choices.now c.loop-message.left c.loop-message.progress.going.done c.next.result
     c.loop-message.invariant.left c.next.ensures.first)) c.finish.ensures.log)
+
+-- at a delivery the run isn't over
+pub deliver-requires-clause-going : goal.deliver-requires-clause-going
+deliver-requires-clause-going g c =
+    taken_going c.args.graph.now c.args.initiator c.args.choices.now c.args.restarts.now c.loop-message.progress
+    c.take.new.self c.in-Some.message
+    c.requires.graph.within c.requires.idle c.loop-message.invariant.follows (c.in-Some.ensures.taken c.args.choices.now
+    (next_is c.args.choices.now c.loop-message.left c.loop-message.progress.going.done c.next.result
+    c.loop-message.invariant.left c.next.ensures.first))
+
+-- the hints speak of the graph
+pub deliver-requires-clause-speaks : goal.deliver-requires-clause-speaks
+deliver-requires-clause-speaks g c =
+    (g.met.H.Hints.keeps_graphs c.args.hints.now c.loop-message.hints c.args.graph.now
+    c.loop-message.invariant.kept).0 c.requires.speaks
