@@ -1,8 +1,12 @@
 //! Lists of processes that are kept, or not.
 
-ghost use Rattle.std.specs.Prelude.{◌≡◌, ℕ, List};
+ghost use Rattle.std.specs.Prelude.{◌≡◌, ◌<◌, ℕ, List, Some, map, IsSome, IfOk, IfErr};
+ghost use Rattle.cmh_graph.specs.ChosenPath.{chosen_path, distance_of};
+ghost use Rattle.cmh_graph.specs.Graph.{indices, process_count};
 
 use crate::tape::ListTape;
+use cmh_graph::{GraphFault, WaitGraph};
+use std::alloc::Global;
 
 /// A list of processes: whole in a `Vec`, or not kept at all in a `NoList`.
 pub trait ProcessList: Drop + Sized {
@@ -12,6 +16,20 @@ pub trait ProcessList: Drop + Sized {
     /// The same list, kept in this way.
     fn of(list: Vec<u32>) -> Self
         ensures { processes result ≡ list.items };
+
+    /// The chosen path of a process that has one, by the distances of all processes. Where it isn't
+    /// kept, nobody looks for it.
+    fn path_by(
+        alloc: Global,
+        graph: &WaitGraph,
+        distances: &[Option<u32>],
+        p: u32,
+    ) -> Result<Self, GraphFault>
+        requires within { p < process_count graph.now }
+        requires known { distances.now ≡ map (distance_of graph.now) (indices graph.now) }
+        requires some { IsSome (chosen_path graph.now p) }
+        ensures ok { IfOk result (λ path. chosen_path graph.now p ≡ Some (processes path)) }
+        ensures memory { IfErr result (λ e. e ≡ GraphFault.Memory) };
 }
 
 impl ProcessList for Vec<u32> {
@@ -19,6 +37,15 @@ impl ProcessList for Vec<u32> {
 
     fn of(list: Vec<u32>) -> Vec<u32> {
         list
+    }
+
+    fn path_by(
+        alloc: Global,
+        graph: &WaitGraph,
+        distances: &[Option<u32>],
+        p: u32,
+    ) -> Result<Vec<u32>, GraphFault> {
+        Ok(graph.path_by(alloc, distances, p)?.unwrap())
     }
 }
 
@@ -35,5 +62,16 @@ impl ProcessList for NoList {
         NoList {
             tape: ListTape::of(&list),
         }
+    }
+
+    fn path_by(
+        _alloc: Global,
+        graph: &WaitGraph,
+        _distances: &[Option<u32>],
+        p: u32,
+    ) -> Result<NoList, GraphFault> {
+        Ok(NoList {
+            tape: ListTape::chosen_path(graph, &p),
+        })
     }
 }

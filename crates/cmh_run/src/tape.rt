@@ -1,12 +1,14 @@
 //! The deliveries that were made, and processes that were named. They exist only in proofs.
 
-ghost use Rattle.std.specs.Prelude.{◌≡◌, ℕ, List, [], ◌∷◌, ◌++◌};
+ghost use Rattle.std.specs.Prelude.{◌≡◌, ℕ, List, [], ◌∷◌, ◌++◌, unwrap_or};
 ghost use Rattle.std.specs.Coded.{coded_list, coded_ℕ};
 ghost use Rattle.std.specs.Borrow.{ftrue};
+ghost use Rattle.cmh_graph.specs.ChosenPath.{chosen_path};
 ghost use Rattle.cmh_run.specs.declared.delivery.Delivery.{Delivery};
 ghost use Rattle.cmh_run.specs.Tape.{delivery_code};
 
 use crate::Delivery;
+use cmh_graph::WaitGraph;
 use std::marker::Model;
 
 // Neither has bytes of its own, and their methods do nothing when they run.
@@ -45,6 +47,13 @@ impl Model for ListTape {
 impl ListTape {
     pub(crate) fn of(_processes: &[u32]) -> ListTape
         ensures { result.processes ≡ _processes.now }
+    {
+        ListTape {}
+    }
+
+    /// Of a process without a chosen path it is empty.
+    pub(crate) fn chosen_path(_graph: &WaitGraph, _p: &u32) -> ListTape
+        ensures { result.processes ≡ unwrap_or (chosen_path _graph.now _p.now) [] }
     {
         ListTape {}
     }

@@ -40,8 +40,8 @@ impl Shapes {
         Ok(Shapes { distances, leaders })
     }
 
-    /// The shape of a process with this verdict. A path takes time linear in the dependencies of
-    /// the processes on it, a leader constant time.
+    /// The shape of a process with this verdict. A path that is kept takes time linear in the
+    /// dependencies of the processes on it, one that isn't and a leader constant time.
     pub(crate) fn shape_of<P: ProcessList>(
         &self,
         alloc: Global,
@@ -59,10 +59,8 @@ impl Shapes {
         match known {
             Verdict::Deadlocked => Ok(Shape::Leader(self.leaders[p as usize].unwrap())),
             Verdict::Free => {
-                let path = graph
-                    .path_by(alloc, &self.distances, p)
-                    .map_err(want_in_graph)?;
-                Ok(Shape::Path(P::of(path.unwrap())))
+                let path = P::path_by(alloc, graph, &self.distances, p).map_err(want_in_graph)?;
+                Ok(Shape::Path(path))
             }
         }
     }

@@ -6,8 +6,7 @@ use Rattle.cmh_graph.proofs.Listing.{length-by_index}
 use Rattle.cmh_work.specs.declared.record.Shape.TheVariants.{Leader}
 use Rattle.cmh_work.specs.Leaders.{group_leader}
 use Rattle.cmh_work.specs.Shape.{IsShape}
-use Rattle.cmh_work.proofs.Faults.{given}
-use Rattle.cmh_work.proofs.Shaping.{leader_stands, some_before, way_out}
+use Rattle.cmh_work.proofs.Shaping.{leader_stands, way_out}
 use Rattle.cmh_work.proofs.shapes.Shapes.shape_of.Goals as goal
 
 -- there is a place for each process
@@ -27,14 +26,11 @@ unwrap-requires g c =
     ap is_some
     (c.index.ensures ∙ leader_stands c.args.graph.now c.args.p _ _ c.requires.shapes.leaders c.requires.within dead)
 
-pub unwrap-requires-in-Free : goal.unwrap-requires-in-Free
-unwrap-requires-in-Free g c =
+pub path_by-requires-clause-some : goal.path_by-requires-clause-some
+path_by-requires-clause-some g c =
     let free : ¬ (IsDeadlocked c.args.graph.now c.args.p) =
     subst (IsVerdict c.args.graph.now c.args.p) c.in-Free.is c.requires.known in
-    some_before (λ v. v.items) c.in_ok-path-in-Free.path _
-    (given c.path_by.result c.map_err.result c.in_ok-path-in-Free.path _ _ c.map_err.ensures.cases
-    c.in_ok-path-in-Free.was c.path_by.ensures.ok)
-    (way_out c.args.graph.now c.args.p _ c.law_built_graph.ensures.within c.requires.within free refl)
+    way_out c.args.graph.now c.args.p _ c.law_built_graph.ensures.within c.requires.within free refl
 
 pub returns-in-Deadlocked-clause-ok : goal.returns-in-Deadlocked-clause-ok
 returns-in-Deadlocked-clause-ok g c =
