@@ -1,6 +1,7 @@
 -- A tree that is judged stage by stage: its first fault, or the graph that it means.
 use Rattle.std.proofs.Common.{◌≡◌, ◌≢◌, ℕ, List, ◌++◌, ◌⊎◌, Some, None, Result, Ok, Err, map, sym, ap, subst, ◌∙◌}
 use Rattle.std.specs.Global.{Vec}
+use Rattle.std.specs.Option.{option_map_or}
 use Rattle.serde_json.specs.Data.{Data}
 use Rattle.cmh_graph.specs.Build as graph
 use Rattle.cmh_graph.specs.Graph.{Graph}
@@ -10,9 +11,9 @@ use Rattle.cmh_graph.specs.declared.fault.GraphFault.TheVariants.{Memory as Grap
 use Rattle.cmh_dump.specs.declared.entry.Entry as declared
 use Rattle.cmh_dump.specs.declared.fault.DumpFault.{DumpFault}
 use Rattle.cmh_dump.specs.declared.fault.DumpFault.TheVariants.{Memory}
-use Rattle.cmh_dump.specs.Dump.{holds, in_order, first_of, found, graph_of, transit_of, process_of, dump_of_tree}
-use Rattle.cmh_dump.specs.Entry.{entries, names, transits}
-use Rattle.cmh_dump.specs.Read.{entry_view, process_by, top_faults, site_faults, process_faults, faults_from_names, AreRead, Builds}
+use Rattle.cmh_dump.specs.Dump.{holds, in_order, first_of, graph_of, places_in_pair, process_by, dump_of_tree}
+use Rattle.cmh_dump.specs.Entry.{entries, names, sites, transits}
+use Rattle.cmh_dump.specs.Read.{entry_view, top_faults, site_faults, process_faults, faults_from_names, AreRead, Builds}
 use Rattle.cmh_dump.proofs.Searches.{first_after, first_among}
 use Rattle.cmh_dump.proofs.Trees.{map-map}
 use Rattle.cmh_dump.proofs.WellFormed.{well_formed, refused_for_memory}
@@ -47,24 +48,24 @@ module _ (d : Data) where
   pub refused : (e : DumpFault) → (e ≢ Memory → first_of (holds d) (in_order d) ≡ Some e) → e ≢ Memory
       → dump_of_tree d ≡ Err e
   unfolding dump_of_tree
-  refused e h m = ap (λ o. found o (graph_of d)) (h m)
+  refused e h m = ap (λ o. option_map_or Err o (Ok (graph_of d))) (h m)
 
   -- a tree without a fault means its graph
   pub accepted : (g : Graph) → first_of (holds d) (in_order d) ≡ None → g ≡ graph_of d → dump_of_tree d ≡ Ok g
   unfolding dump_of_tree
-  accepted g none is = ap (λ o. found o (graph_of d)) none ∙ ap Ok (sym is)
+  accepted g none is = ap (λ o. option_map_or Err o (Ok (graph_of d))) none ∙ ap Ok (sym is)
 
   -- the parts and messages that are read make the graph of the tree
   pub graph_is : (parts : List Part) (messages : List (ℕ × ℕ)) (es : List declared.Entry)
       (site_names process_names : List (List ℕ)) → AreRead d es site_names → process_names ≡ names d
       → map graph.process_of parts ≡ map (λ e. process_by site_names process_names (entry_view e)) es
-      → messages ≡ map (transit_of d) (transits d) → graph.graph_of parts messages ≡ graph_of d
+      → messages ≡ map (places_in_pair (names d)) (transits d) → graph.graph_of parts messages ≡ graph_of d
   graph_is parts messages es site_names process_names read are_names made sent =
-      let processes : map graph.process_of parts ≡ map (process_of d) (entries d) =
+      let processes : map graph.process_of parts ≡ map (process_by (sites d) (names d)) (entries d) =
       made
       ∙ (λ i. map (λ e. process_by (read.are_sites i) (are_names i) (entry_view e)) es)
-      ∙ map-map (process_of d) entry_view es
-      ∙ ap (map (process_of d)) read.written in
+      ∙ map-map (process_by (sites d) (names d)) entry_view es
+      ∙ ap (map (process_by (sites d) (names d))) read.written in
       λ i. record { processes = processes i; in_transit = sent i }
 
   -- the graph of a tree without a fault is refused for want of memory alone

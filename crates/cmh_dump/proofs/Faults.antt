@@ -2,7 +2,24 @@
 use Rattle.std.proofs.Common.{◌≡◌, ℕ, zero, suc, ◌+◌, ◌-◌, ◌<◌, List, [], ◌∷◌, ◌++◌, Bool, true, false, cond, Some, None, refl, sym, ap, ◌∙◌, arith}
 use Rattle.std.specs.Prelude.{find, map}
 use Rattle.std.specs.Option.{option_or}
-use Rattle.cmh_dump.specs.Dump.{below}
+use Rattle.std.specs.List.{range_with_len}
+
+-- 0 to n - 1
+abbrev pub below : ℕ → List ℕ
+below n = range_with_len 0 n
+
+-- a range with one number more ends with it
+range-last : (a n : ℕ) → range_with_len a (suc n) ≡ range_with_len a n ++ (a + n) ∷ []
+range-last a zero = ap (λ b. b ∷ []) (omega arith)
+range-last a (suc n) =
+    let next : a + 1 + n ≡ a + suc n = omega arith in
+    ap (λ ns. a ∷ ns) (range-last (a + 1) n) ∙ ap (λ b. a ∷ range_with_len (a + 1) n ++ b ∷ []) next
+
+-- the last of those below n + 1 is n
+pub below-last : (n : ℕ) → below (suc n) ≡ below n ++ n ∷ []
+below-last n =
+    let start : 0 + n ≡ n = omega arith in
+    range-last 0 n ∙ ap (λ b. below n ++ b ∷ []) start
 
 module _ {X : Type 0} (test : X → Bool) where
   -- a search of two lists joined: what the first has, or what the second has
@@ -24,7 +41,9 @@ module _ {X : Type 0} (test : X → Bool) where
   last_of : (f : ℕ → X) (n : ℕ)
       → find test (map f (below (suc n)))
       ≡ option_or (find test (map f (below n))) (cond (test (f n)) (Some (f n)) None)
-  last_of f n = ap (find test) (map-append f (below n) (n ∷ [])) ∙ find-append (map f (below n)) (f n ∷ [])
+  last_of f n =
+      ap (λ ns. find test (map f ns)) (below-last n)
+      ∙ ap (find test) (map-append f (below n) (n ∷ [])) ∙ find-append (map f (below n)) (f n ∷ [])
 
   -- where none of those below n passes, none is found
   pub none_below : (f : ℕ → X) (n : ℕ) → ((k : ℕ) → k < n → test (f k) ≡ false) → find test (map f (below n)) ≡ None
@@ -78,7 +97,7 @@ pub find_alike : (test other : ℕ → Bool) (n : ℕ) → ((k : ℕ) → k < n 
     → find test (below n) ≡ find other (below n)
 find_alike test other zero h = refl
 find_alike test other (suc n) h =
-    find-append test (below n) (n ∷ [])
+    ap (find test) (below-last n) ∙ find-append test (below n) (n ∷ [])
     ∙ (λ i. option_or (find_alike test other n (λ k l. h k (omega arith)) i)
     (cond (h n (omega arith) i) (Some n) None))
-    ∙ sym (find-append other (below n) (n ∷ []))
+    ∙ sym (ap (find other) (below-last n) ∙ find-append other (below n) (n ∷ []))

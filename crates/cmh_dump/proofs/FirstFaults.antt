@@ -1,17 +1,19 @@
 -- A tree is refused for its first fault, and so are bytes.
 use Rattle.std.proofs.Common.{◌≡◌, ℕ, ◌<◌, ◌≤◌, List, length, Bool, true, false, cond, Option, Some, None, Ok, Err, ◌⊎◌, inl, inr, refl, sym, ap, ◌∙◌, subst, arith}
 use Rattle.std.specs.Prelude.{nat_lt}
+use Rattle.std.specs.Option.{option_map_or}
 use Rattle.std.proofs.lemmas.Bool.{false≢true, ltb-true, ltb-false}
 use Rattle.serde_json.specs.Data.{Data}
 use Rattle.cmh_graph.specs.Graph.{Graph}
 use Rattle.cmh_dump.specs.declared.TheConstants.{MAX_BYTES}
 use Rattle.cmh_dump.specs.declared.fault.DumpFault.{DumpFault}
 use Rattle.cmh_dump.specs.declared.fault.DumpFault.TheVariants.{Memory, ReadFault, TooLong, NotJson}
-use Rattle.cmh_dump.specs.Dump.{holds, in_order, first_of, found, graph_of, dump_of_tree, tree_of, of_tree, dump}
+use Rattle.cmh_dump.specs.Dump.{holds, in_order, first_of, graph_of, dump_of_tree, tree_of, dump}
 use Rattle.cmh_dump.specs.FirstFault.{IsOfTree, Has, BytesHave, comes_before, IsFirstFault, AreNone, IsGraphOf, TreeFaultLaw, TreeGraphLaw, FirstFaultLaw, NoFaultLaw}
 use Rattle.cmh_dump.proofs.Order.{not_before_itself, not_before_both}
 use Rattle.cmh_dump.proofs.Stages.{allowed_in, IsLeastOfLists, least_of_lists}
 use Rattle.cmh_dump.proofs.Table.{stands, none_holds, in_stages}
+use Rattle.cmh_dump.proofs.Whole.{of_tree}
 
 -- ---- a tree
 
@@ -62,12 +64,13 @@ none_is_found d h = by (first_of (holds d) (in_order d)) refl
     by (Some f) e = absurd (h f (found_is_first d f e).had)
 
 -- what is refused was found
-refused : (o : Option DumpFault) (g : Graph) (fault : DumpFault) → found o g ≡ Err fault → o ≡ Some fault
+refused : (o : Option DumpFault) (g : Graph) (fault : DumpFault) → option_map_or Err o (Ok g) ≡ Err fault
+    → o ≡ Some fault
 refused None g fault e = absurd cc
 refused (Some f) g fault e = cc
 
 -- where a graph is answered none was found
-accepted : (o : Option DumpFault) (h g : Graph) → found o h ≡ Ok g → (o ≡ None) × (g ≡ h)
+accepted : (o : Option DumpFault) (h g : Graph) → option_map_or Err o (Ok h) ≡ Ok g → (o ≡ None) × (g ≡ h)
 accepted None h g e = (refl, cc)
 accepted (Some f) h g e = absurd cc
 
@@ -76,7 +79,7 @@ pub tree_fault_law : TreeFaultLaw
 unfolding dump_of_tree
 tree_fault_law = λ d fault. (
   λ e. found_is_first d fault (refused (first_of (holds d) (in_order d)) (graph_of d) fault e),
-  λ h. ap (λ o. found o (graph_of d)) (first_is_found d fault h),
+  λ h. ap (λ o. option_map_or Err o (Ok (graph_of d))) (first_is_found d fault h),
 )
 
 -- a tree without a fault, and no other, means its graph
@@ -84,7 +87,7 @@ pub tree_graph_law : TreeGraphLaw
 unfolding dump_of_tree
 tree_graph_law = λ d g. (
   λ e. let a = accepted (first_of (holds d) (in_order d)) (graph_of d) g e in (none_is_had d a.0, a.1),
-  λ h. (λ t. found (none_is_found d h.0 t) (sym h.1 t)),
+  λ h. (λ t. option_map_or Err (none_is_found d h.0 t) (Ok (sym h.1 t))),
 )
 
 -- ---- bytes

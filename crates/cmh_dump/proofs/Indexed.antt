@@ -1,7 +1,8 @@
 -- Names put into an index one after the other.
-use Rattle.std.proofs.Common.{◌≡◌, ℕ, zero, suc, ◌+◌, ◌<◌, List, [], ◌∷◌, ◌++◌, Bool, true, false, not, ◌||◌, cond, Option, Some, None, take, length, get_or, nat_lt, refl, sym, ap, ◌∙◌, arith, Bor, below_more, subst}
-use Rattle.std.specs.Prelude.{bytes_eq, slice_get, unwrap_or}
+use Rattle.std.proofs.Common.{◌≡◌, ℕ, zero, suc, ◌+◌, ◌<◌, List, [], ◌∷◌, ◌++◌, Bool, true, false, not, ◌||◌, cond, Some, None, take, length, get_or, nat_lt, refl, sym, ap, ◌∙◌, arith, Bor, below_more, subst}
+use Rattle.std.specs.Prelude.{bytes_eq, slice_get}
 use Rattle.std.specs.List.{list_any, position_or_len}
+use Rattle.std.proofs.lemmas.List.{get_or-map}
 use Rattle.cmh_dump.specs.Name.{is_among, place_of, repeats}
 use Rattle.cmh_dump.specs.Texts.{texts}
 use Rattle.cmh_dump.specs.Index.{IsFirstRepeat, TellsRepeat}
@@ -32,7 +33,7 @@ repeat_is : (names keys : List (Bor (List ℕ))) (i : ℕ) (d : Bor (List ℕ)) 
 repeat_is names keys i d lt h =
     let name = (get_or names i d).now in
     any_of_texts (bytes_eq name) keys ∙ ap (list_any (bytes_eq name)) h
-    ∙ ap (λ (o : Option (List ℕ)). is_among (take i (texts names)) (unwrap_or o [])) (sym (at_texts names i d lt))
+    ∙ ap (is_among (take i (texts names))) (sym (get_or-map (λ t. t.now) names i d [] lt))
 
 -- what is denied twice holds
 double_not : (b : Bool) → not (not b) ≡ b

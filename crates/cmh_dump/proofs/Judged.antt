@@ -10,8 +10,9 @@ use Rattle.cmh_dump.specs.declared.TheConstants.{MAX_SITES}
 use Rattle.cmh_dump.specs.declared.entry.Entry as declared
 use Rattle.cmh_dump.specs.declared.fault.DumpFault.{DumpFault}
 use Rattle.cmh_dump.specs.declared.fault.DumpFault.TheVariants.{Memory, BadSites, RepeatedSite, TooManySites, TooManyProcesses, BadProcess, RepeatedProcess, UnknownSite, UnknownDependent, RepeatedDependent, ActiveWithDependents, TooManyDependencies, TooManyInTransit, BadInTransit, UnknownInTransit}
-use Rattle.cmh_dump.specs.Dump.{holds, first_of, each_site, each_process, each_dependent, each_transit}
-use Rattle.cmh_dump.specs.Entry.{sites, processes, transits, entries, names, is_process, is_active_state, is_pair}
+use Rattle.cmh_graph.specs.Graph.{is_idle_state}
+use Rattle.cmh_dump.specs.Dump.{holds, first_of, each, each_dependent}
+use Rattle.cmh_dump.specs.Entry.{sites, processes, transits, entries, names, is_process, is_pair}
 use Rattle.cmh_dump.specs.Index.{IsFirstRepeat, AreApart, first_repeat}
 use Rattle.cmh_dump.specs.Name.{is_name, is_among}
 use Rattle.cmh_dump.specs.Read.{entry_view, first_pair, site_faults, process_faults, name_faults, entry_faults, transit_faults}
@@ -43,15 +44,16 @@ module _ (d : Data) (ys : List (Bor (List ℕ))) (seen : texts ys ≡ sites d) w
   -- a bad name is the first fault of the sites
   pub site_bad : (i : ℕ) → bad_name ≡ Some i → first_of (holds d) (site_faults d) ≡ Some (BadSites i)
   site_bad i h =
-      first_here (holds d) (each_site d BadSites) (each_site d RepeatedSite ∷ (TooManySites ∷ []) ∷ []) _ (BadSites i)
+      first_here (holds d) (each (sites d) BadSites) (each (sites d) RepeatedSite ∷ (TooManySites ∷ []) ∷ []) _
+      (BadSites i)
       (bad_sites d ys seen) (ap (option_map BadSites) h)
 
   -- where no name is bad, the other kinds decide
   names_only : (r : Option DumpFault) → bad_name ≡ None
-      → first_of (holds d) (each_site d RepeatedSite ∷ (TooManySites ∷ []) ∷ []) ≡ r
+      → first_of (holds d) (each (sites d) RepeatedSite ∷ (TooManySites ∷ []) ∷ []) ≡ r
       → first_of (holds d) (site_faults d) ≡ r
   names_only r h later =
-      first_later (holds d) (each_site d BadSites) (each_site d RepeatedSite ∷ (TooManySites ∷ []) ∷ []) _ r
+      first_later (holds d) (each (sites d) BadSites) (each (sites d) RepeatedSite ∷ (TooManySites ∷ []) ∷ []) _ r
       (bad_sites d ys seen) (ap (option_map BadSites) h) later
 
   -- a repeat is the first, where no name is bad
@@ -59,7 +61,7 @@ module _ (d : Data) (ys : List (Bor (List ℕ))) (seen : texts ys ≡ sites d) w
       → first_of (holds d) (site_faults d) ≡ Some (RepeatedSite i)
   site_repeated i h r =
       names_only (Some (RepeatedSite i)) h
-      (first_here (holds d) (each_site d RepeatedSite) ((TooManySites ∷ []) ∷ []) _ (RepeatedSite i)
+      (first_here (holds d) (each (sites d) RepeatedSite) ((TooManySites ∷ []) ∷ []) _ (RepeatedSite i)
       (repeated_site d i (subst (λ (ns : List (List ℕ)). IsFirstRepeat ns i) seen r)) refl)
 
   -- where no name is bad and none repeats, the count decides
@@ -67,7 +69,7 @@ module _ (d : Data) (ys : List (Bor (List ℕ))) (seen : texts ys ≡ sites d) w
       → first_of (holds d) ((TooManySites ∷ []) ∷ []) ≡ r → first_of (holds d) (site_faults d) ≡ r
   apart_only r h apart later =
       names_only r h
-      (first_later (holds d) (each_site d RepeatedSite) ((TooManySites ∷ []) ∷ []) _ r
+      (first_later (holds d) (each (sites d) RepeatedSite) ((TooManySites ∷ []) ∷ []) _ r
       (sites_apart d (subst AreApart seen apart)) refl later)
 
   -- then too many sites are the first fault
@@ -95,9 +97,9 @@ module _ {V : Type 0} (view : V → Data) (d : Data) (vs : List V) (seen : map v
 
   -- where they are few enough, the other kind decides
   few_only : (r : Option DumpFault) → length vs ≤ MAX_PROCESSES
-      → first_of (holds d) (each_process d BadProcess ∷ []) ≡ r → first_of (holds d) (process_faults d) ≡ r
+      → first_of (holds d) (each (processes d) BadProcess ∷ []) ≡ r → first_of (holds d) (process_faults d) ≡ r
   few_only r few later =
-      first_later (holds d) (TooManyProcesses ∷ []) (each_process d BadProcess ∷ []) _ r
+      first_later (holds d) (TooManyProcesses ∷ []) (each (processes d) BadProcess ∷ []) _ r
       (alone (holds d) TooManyProcesses false (within view vs (processes d) MAX_PROCESSES seen few)) refl later
 
   -- then a bad process is the first fault
@@ -105,14 +107,14 @@ module _ {V : Type 0} (view : V → Data) (d : Data) (vs : List V) (seen : map v
       → first_of (holds d) (process_faults d) ≡ Some (BadProcess i)
   process_bad i few h =
       few_only (Some (BadProcess i)) few
-      (first_here (holds d) (each_process d BadProcess) [] _ (BadProcess i) (bad_processes view d vs seen)
+      (first_here (holds d) (each (processes d) BadProcess) [] _ (BadProcess i) (bad_processes view d vs seen)
       (ap (option_map BadProcess) h))
 
   -- and without one there is none
   pub processes_judged : length vs ≤ MAX_PROCESSES → bad_process ≡ None → first_of (holds d) (process_faults d) ≡ None
   processes_judged few h =
       few_only None few
-      (first_later (holds d) (each_process d BadProcess) [] _ None (bad_processes view d vs seen)
+      (first_later (holds d) (each (processes d) BadProcess) [] _ None (bad_processes view d vs seen)
       (ap (option_map BadProcess) h) refl)
 
 -- ---- names of processes
@@ -126,14 +128,15 @@ names_seen d es seen = map-map (λ e. e.name) entry_view es ∙ ap (map (λ e. e
 pub name_repeated : (d : Data) (ns : List (List ℕ)) (i : ℕ) → ns ≡ names d → IsFirstRepeat ns i
     → first_of (holds d) (name_faults d) ≡ Some (RepeatedProcess i)
 name_repeated d ns i seen r =
-    first_here (holds d) (each_process d RepeatedProcess) [] _ (RepeatedProcess i)
+    first_here (holds d) (each (processes d) RepeatedProcess) [] _ (RepeatedProcess i)
     (repeated_process d i (subst (λ (ms : List (List ℕ)). IsFirstRepeat ms i) seen r)) refl
 
 -- names that are apart have none
 pub names_judged : (d : Data) (ns : List (List ℕ)) → ns ≡ names d → AreApart ns
     → first_of (holds d) (name_faults d) ≡ None
 names_judged d ns seen apart =
-    first_later (holds d) (each_process d RepeatedProcess) [] _ None (names_apart d (subst AreApart seen apart)) refl
+    first_later (holds d) (each (processes d) RepeatedProcess) [] _ None
+    (names_apart d (subst AreApart seen apart)) refl
     refl
 
 -- ---- processes beside the sites and one another
@@ -152,7 +155,7 @@ module _ (d : Data) (es : List declared.Entry) (seen : map entry_view es ≡ ent
   repeated_dependent = first_pair (λ e. first_repeat (value_texts e.dependents.now)) 0 es
 
   abbrev active : Option ℕ
-  active = position (λ e. is_active_state e.state && nat_lt 0 (length e.dependents.now)) es
+  active = position (λ e. not (is_idle_state e.state) && nat_lt 0 (length e.dependents.now)) es
 
   abbrev total : ℕ
   total = sum_by (λ e. length e.dependents.now) es
@@ -162,7 +165,7 @@ module _ (d : Data) (es : List declared.Entry) (seen : map entry_view es ≡ ent
   from_total = (TooManyDependencies ∷ []) ∷ []
 
   abbrev from_active : List (List DumpFault)
-  from_active = each_process d ActiveWithDependents ∷ from_total
+  from_active = each (processes d) ActiveWithDependents ∷ from_total
 
   abbrev from_repeats : List (List DumpFault)
   from_repeats = each_dependent d RepeatedDependent ∷ from_active
@@ -173,14 +176,14 @@ module _ (d : Data) (es : List declared.Entry) (seen : map entry_view es ≡ ent
   -- an unknown site is the first fault
   pub site_unknown : (i : ℕ) → unknown_site ≡ Some i → first_of (holds d) (entry_faults d) ≡ Some (UnknownSite i)
   site_unknown i h =
-      first_here (holds d) (each_process d UnknownSite) from_dependents _ (UnknownSite i)
+      first_here (holds d) (each (processes d) UnknownSite) from_dependents _ (UnknownSite i)
       (unknown_sites d es seen site_names are_sites) (ap (option_map UnknownSite) h)
 
   -- where all sites are known, the other kinds decide
   sites_known : (r : Option DumpFault) → unknown_site ≡ None → first_of (holds d) from_dependents ≡ r
       → first_of (holds d) (entry_faults d) ≡ r
   sites_known r h later =
-      first_later (holds d) (each_process d UnknownSite) from_dependents _ r
+      first_later (holds d) (each (processes d) UnknownSite) from_dependents _ r
       (unknown_sites d es seen site_names are_sites) (ap (option_map UnknownSite) h) later
 
   -- then an unknown dependent is the first
@@ -229,7 +232,7 @@ module _ (d : Data) (es : List declared.Entry) (seen : map entry_view es ≡ ent
       → active ≡ Some i → first_of (holds d) (entry_faults d) ≡ Some (ActiveWithDependents i)
   active_waits i h k l m =
       dependents_apart (Some (ActiveWithDependents i)) h k l
-      (first_here (holds d) (each_process d ActiveWithDependents) from_total _ (ActiveWithDependents i)
+      (first_here (holds d) (each (processes d) ActiveWithDependents) from_total _ (ActiveWithDependents i)
       (active_with_dependents d es seen) (ap (option_map ActiveWithDependents) m))
 
   -- where there is none, the total decides
@@ -238,7 +241,8 @@ module _ (d : Data) (es : List declared.Entry) (seen : map entry_view es ≡ ent
       → first_of (holds d) (entry_faults d) ≡ cond b (Some TooManyDependencies) None
   entries_but_total b h k l m t =
       dependents_apart (cond b (Some TooManyDependencies) None) h k l
-      (first_later (holds d) (each_process d ActiveWithDependents) from_total _ (cond b (Some TooManyDependencies) None)
+      (first_later (holds d) (each (processes d) ActiveWithDependents) from_total _
+      (cond b (Some TooManyDependencies) None)
       (active_with_dependents d es seen) (ap (option_map ActiveWithDependents) m)
       (by b
       (alone (holds d) TooManyDependencies b
@@ -272,10 +276,11 @@ module _ {V : Type 0} (view : V → Data) (d : Data) (vs : List V) (seen : map v
 
   -- where they are few enough, the other kinds decide
   few_transits : (r : Option DumpFault) → length vs ≤ MAX_IN_TRANSIT
-      → first_of (holds d) (each_transit d BadInTransit ∷ each_transit d UnknownInTransit ∷ []) ≡ r
+      → first_of (holds d) (each (transits d) BadInTransit ∷ each (transits d) UnknownInTransit ∷ []) ≡ r
       → first_of (holds d) (transit_faults d) ≡ r
   few_transits r few later =
-      first_later (holds d) (TooManyInTransit ∷ []) (each_transit d BadInTransit ∷ each_transit d UnknownInTransit ∷ [])
+      first_later (holds d) (TooManyInTransit ∷ [])
+      (each (transits d) BadInTransit ∷ each (transits d) UnknownInTransit ∷ [])
       _ r (alone (holds d) TooManyInTransit false (within view vs (transits d) MAX_IN_TRANSIT seen few)) refl later
 
   -- then one that is no pair is the first
@@ -283,15 +288,16 @@ module _ {V : Type 0} (view : V → Data) (d : Data) (vs : List V) (seen : map v
       → first_of (holds d) (transit_faults d) ≡ Some (BadInTransit i)
   transit_bad i few h =
       few_transits (Some (BadInTransit i)) few
-      (first_here (holds d) (each_transit d BadInTransit) (each_transit d UnknownInTransit ∷ []) _ (BadInTransit i)
+      (first_here (holds d) (each (transits d) BadInTransit) (each (transits d) UnknownInTransit ∷ []) _
+      (BadInTransit i)
       (bad_transits view d vs seen) (ap (option_map BadInTransit) h))
 
   -- where all are pairs, the last kind decides
   pairs_only : (r : Option DumpFault) → length vs ≤ MAX_IN_TRANSIT → bad_pair ≡ None
-      → first_of (holds d) (each_transit d UnknownInTransit ∷ []) ≡ r → first_of (holds d) (transit_faults d) ≡ r
+      → first_of (holds d) (each (transits d) UnknownInTransit ∷ []) ≡ r → first_of (holds d) (transit_faults d) ≡ r
   pairs_only r few h later =
       few_transits r few
-      (first_later (holds d) (each_transit d BadInTransit) (each_transit d UnknownInTransit ∷ []) _ r
+      (first_later (holds d) (each (transits d) BadInTransit) (each (transits d) UnknownInTransit ∷ []) _ r
       (bad_transits view d vs seen) (ap (option_map BadInTransit) h) later)
 
   -- then one with an unknown name is the first
@@ -299,7 +305,7 @@ module _ {V : Type 0} (view : V → Data) (d : Data) (vs : List V) (seen : map v
       → first_of (holds d) (transit_faults d) ≡ Some (UnknownInTransit i)
   transit_unknown i few h k =
       pairs_only (Some (UnknownInTransit i)) few h
-      (first_here (holds d) (each_transit d UnknownInTransit) [] _ (UnknownInTransit i)
+      (first_here (holds d) (each (transits d) UnknownInTransit) [] _ (UnknownInTransit i)
       (unknown_transits view d vs process_names seen are_names) (ap (option_map UnknownInTransit) k))
 
   -- and without one there is none
@@ -307,5 +313,5 @@ module _ {V : Type 0} (view : V → Data) (d : Data) (vs : List V) (seen : map v
       → first_of (holds d) (transit_faults d) ≡ None
   transits_judged few h k =
       pairs_only None few h
-      (first_later (holds d) (each_transit d UnknownInTransit) [] _ None
+      (first_later (holds d) (each (transits d) UnknownInTransit) [] _ None
       (unknown_transits view d vs process_names seen are_names) (ap (option_map UnknownInTransit) k) refl)

@@ -1,28 +1,11 @@
 -- The first fault of a kind, from what a search of a list answers.
-use Rattle.std.proofs.Common.{◌≡◌, ℕ, zero, suc, ◌+◌, List, [], ◌∷◌, ◌++◌, Bool, true, false, cond, Option, Some, None, map, length, refl, sym, ap, ◌∙◌, arith}
+use Rattle.std.proofs.Common.{◌≡◌, ℕ, zero, suc, ◌+◌, List, [], ◌∷◌, Bool, true, false, cond, Option, Some, None, map, length, refl, sym, ap, ◌∙◌, arith}
 use Rattle.std.specs.Prelude.{find, position, flat_map, slice_get, option_map}
 use Rattle.std.specs.List.{range_with_len, position_from}
 use Rattle.std.specs.Option.{option_or}
 use Rattle.std.proofs.lemmas.Iterator.Adapters.{position_from-zero}
-use Rattle.cmh_dump.specs.Dump.{below}
 use Rattle.cmh_dump.specs.Read.{first_pair}
-use Rattle.cmh_dump.proofs.Faults.{find-append}
-
--- ---- numbers below n
-
--- a range with one number more ends with it
-range-last : (a n : ℕ) → range_with_len a (suc n) ≡ range_with_len a n ++ (a + n) ∷ []
-range-last a zero = ap (λ b. b ∷ []) (omega arith)
-range-last a (suc n) =
-    let next : a + 1 + n ≡ a + suc n = omega arith in
-    ap (λ ns. a ∷ ns) (range-last (a + 1) n) ∙ ap (λ b. a ∷ range_with_len (a + 1) n ++ b ∷ []) next
-
--- the numbers below n are a range
-below-range : (n : ℕ) → below n ≡ range_with_len 0 n
-below-range zero = refl
-below-range (suc n) =
-    let start : n ≡ 0 + n = omega arith in
-    ap (λ ns. ns ++ n ∷ []) (below-range n) ∙ ap (λ b. range_with_len 0 n ++ b ∷ []) start ∙ sym (range-last 0 n)
+use Rattle.cmh_dump.proofs.Faults.{below, find-append}
 
 -- the element at a place, in the list that another one is seen as
 pub get-map : {Y Z : Type 0} (f : Y → Z) (ys : List Y) (k : ℕ) (y : Y) → slice_get ys k ≡ Some y
@@ -60,8 +43,7 @@ module _ {X : Type 0} (test : X → Bool) where
       → ((k : ℕ) (y : Y) → slice_get ys k ≡ Some y → test (F k) ≡ bad y)
       → find test (map F (below (length ys))) ≡ option_map F (position bad ys)
   each_position F bad ys h =
-      ap (λ ns. find test (map F ns)) (below-range (length ys))
-      ∙ each_from F bad ys 0 (λ k y e. let start : 0 + k ≡ k = omega arith in ap (λ b. test (F b)) start ∙ h k y e)
+      each_from F bad ys 0 (λ k y e. let start : 0 + k ≡ k = omega arith in ap (λ b. test (F b)) start ∙ h k y e)
       ∙ ap (option_map F) (sym (position_from-zero bad ys))
 
   -- the same, where the list that is searched is seen as another one
@@ -103,7 +85,6 @@ module _ {X : Type 0} (test : X → Bool) where
       → find test (flat_map row (below n)) ≡ option_map (λ p. F p.0 p.1) (first_pair search 0 ys)
   pairs_seen F row search ys n size h =
       ap (λ m. find test (flat_map row (below m))) size
-      ∙ ap (λ ns. find test (flat_map row ns)) (below-range (length ys))
       ∙ pairs_from F row search ys 0
       (λ k y e. let start : 0 + k ≡ k = omega arith in
       ap (λ b. find test (row b)) start ∙ h k y e ∙ ap (λ b. option_map (F b) (search y)) (sym start))

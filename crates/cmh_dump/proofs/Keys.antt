@@ -1,13 +1,14 @@
 -- The keys of an object, from those of the members that lie in memory.
 use Rattle.std.proofs.Common.{◌≡◌, ℕ, List, [], ◌∷◌, Bool, true, false, ◌&&◌, ◌||◌, Option, Some, refl, sym, ap, ◌∙◌, Bor}
-use Rattle.std.specs.Prelude.{is_some, bytes_eq, unwrap_or, option_map}
+use Rattle.std.specs.Prelude.{is_some, bytes_eq, option_map}
 use Rattle.std.specs.List.{list_all, list_any}
+use Rattle.std.specs.Option.{option_map_or}
 use Rattle.json.specs.Find as json_find
 use Rattle.json.specs.Json as json
 use Rattle.json.specs.Value.{members_view}
 use Rattle.serde_json.specs.Data.{Members, no_members}
-use Rattle.serde_json.specs.Find.{as_object}
-use Rattle.cmh_dump.specs.Tree.{has_keys, has_key, keys_of}
+use Rattle.serde_json.specs.Find.{get, as_object}
+use Rattle.cmh_dump.specs.Tree.{has_keys, keys_of}
 use Rattle.cmh_dump.specs.Texts.{texts}
 use Rattle.cmh_dump.specs.View.{Tree, data_of, members_data}
 use Rattle.cmh_dump.proofs.Views.{written_keys, all_keys_are, object_at}
@@ -47,20 +48,21 @@ members_are es j h = ap (option_map (λ ms. members_data ms no_members)) h ∙ o
 -- both tests together are the test of the keys
 object_keys : (needed allowed : List (Bor (List ℕ))) (es : List (Bor (List ℕ) × Tree)) (j : json.Json)
     → Some (members_view es) ≡ json_find.as_object j
-    → (list_all (λ k. has_key k.now (data_of j)) needed && list_all (λ m. is_allowed needed allowed m.0.now) es)
+    → (list_all (λ k. is_some (get k.now (data_of j))) needed && list_all (λ m. is_allowed needed allowed m.0.now) es)
     ≡ has_keys (texts needed) (texts allowed) (data_of j)
 object_keys needed allowed es j e =
     let test = λ (k : List ℕ). list_any (bytes_eq k) (texts needed) || list_any (bytes_eq k) (texts allowed) in
-    (λ i. all_of_texts (λ k. has_key k (data_of j)) needed i && only needed allowed es i)
-    ∙ ap (λ b. list_all (λ k. has_key k (data_of j)) (texts needed) && b) (sym (all_keys_are test (members_view es)))
+    (λ i. all_of_texts (λ k. is_some (get k (data_of j))) needed i && only needed allowed es i)
+    ∙ ap (λ b. list_all (λ k. is_some (get k (data_of j))) (texts needed) && b)
+    (sym (all_keys_are test (members_view es)))
     ∙ ap
-    (λ (o : Option Members). is_some o && list_all (λ k. has_key k (data_of j)) (texts needed)
-    && list_all test (unwrap_or (option_map keys_of o) []))
+    (λ (o : Option Members). is_some o && list_all (λ k. is_some (get k (data_of j))) (texts needed)
+    && list_all test (option_map_or keys_of o []))
     (members_are es j e)
 
 -- what the two tests answer, as the code goes from the one to the other
 pub keys_then : (needed allowed : List (Bor (List ℕ))) (es : List (Bor (List ℕ) × Tree)) (j : json.Json)
-    (each others : Bool) → each ≡ list_all (λ k. has_key k.now (data_of j)) needed → each ≡ true
+    (each others : Bool) → each ≡ list_all (λ k. is_some (get k.now (data_of j))) needed → each ≡ true
     → others ≡ list_all (λ m. is_allowed needed allowed m.0.now) es
     → Some (members_view es) ≡ json_find.as_object j
     → others ≡ has_keys (texts needed) (texts allowed) (data_of j)
@@ -70,7 +72,7 @@ keys_then needed allowed es j each others e t o h =
 
 -- where the first test fails, so does the whole
 pub keys_else : (needed allowed : List (Bor (List ℕ))) (es : List (Bor (List ℕ) × Tree)) (j : json.Json)
-    (each : Bool) → each ≡ list_all (λ k. has_key k.now (data_of j)) needed → each ≡ false
+    (each : Bool) → each ≡ list_all (λ k. is_some (get k.now (data_of j))) needed → each ≡ false
     → Some (members_view es) ≡ json_find.as_object j → each ≡ has_keys (texts needed) (texts allowed) (data_of j)
 keys_else needed allowed es j each e f h =
     f ∙ ap (λ b. b && list_all (λ m. is_allowed needed allowed m.0.now) es) (sym f ∙ e)

@@ -5,11 +5,11 @@ use Rattle.std.proofs.lemmas.List.{length-replicate}
 use Rattle.serde_json.specs.Data.{Data, null, number, unsigned, string, array, object, Items, no_items, item, no_members, member}
 use Rattle.cmh_dump.specs.declared.fault.DumpFault.{DumpFault}
 use Rattle.cmh_dump.specs.declared.fault.DumpFault.TheVariants.{TooLong, TooManySites, TooManyProcesses, TooManyDependencies, TooManyInTransit, BadProcess, BadInTransit, UnknownInTransit}
-use Rattle.cmh_dump.specs.Dump.{dump, dump_of_tree, holds, first_of, below, each_process, each_transit}
+use Rattle.cmh_dump.specs.Dump.{dump, dump_of_tree, holds, first_of, each}
 use Rattle.cmh_dump.specs.Entry.{processes, transits}
 use Rattle.cmh_dump.specs.Read.{top_faults, site_faults, process_faults, name_faults, entry_faults, transit_faults, faults_from_entries, faults_from_names}
 use Rattle.cmh_dump.proofs.Composed.{refused, refused_here, refused_later, refused_past_sites}
-use Rattle.cmh_dump.proofs.Faults.{found_at}
+use Rattle.cmh_dump.proofs.Faults.{below, found_at}
 use Rattle.cmh_dump.proofs.Searches.{first_here, first_later, alone}
 use Rattle.cmh_dump.proofs.Whole.{too_long}
 
@@ -58,9 +58,9 @@ module _ (d : Data) (top : first_of (holds d) (top_faults d) ≡ None)
       → dump_of_tree d ≡ Err (BadProcess 0)
   first_process_bad few l h =
       let bad =
-      first_later (holds d) (TooManyProcesses ∷ []) (each_process d BadProcess ∷ []) _ _
+      first_later (holds d) (TooManyProcesses ∷ []) (each (processes d) BadProcess ∷ []) _ _
       (alone (holds d) TooManyProcesses false few) refl
-      (first_here (holds d) (each_process d BadProcess) [] _ (BadProcess 0)
+      (first_here (holds d) (each (processes d) BadProcess) [] _ (BadProcess 0)
       (first_of_kind BadProcess (length (processes d)) l h) refl) in
       refused d (BadProcess 0)
       (refused_past_sites d (BadProcess 0) top apart
@@ -72,9 +72,10 @@ module _ (d : Data) (top : first_of (holds d) (top_faults d) ≡ None)
       → first_of (holds d) (entry_faults d) ≡ None → holds d TooManyInTransit ≡ false → 0 < length (transits d)
       → holds d (BadInTransit 0) ≡ true → dump_of_tree d ≡ Err (BadInTransit 0)
   first_message_bad p n e few l h =
-      let rest = each_transit d BadInTransit ∷ each_transit d UnknownInTransit ∷ [] in
+      let rest = each (transits d) BadInTransit ∷ each (transits d) UnknownInTransit ∷ [] in
       let bad = first_later (holds d) (TooManyInTransit ∷ []) rest _ _ (alone (holds d) TooManyInTransit false few) refl
-      (first_here (holds d) (each_transit d BadInTransit) (each_transit d UnknownInTransit ∷ []) _ (BadInTransit 0)
+      (first_here (holds d) (each (transits d) BadInTransit) (each (transits d) UnknownInTransit ∷ []) _
+      (BadInTransit 0)
       (first_of_kind BadInTransit (length (transits d)) l h) refl) in
       refused d (BadInTransit 0)
       (refused_past_sites d (BadInTransit 0) top apart

@@ -1,10 +1,10 @@
 -- What stands in a list, in a list of lists, and in a list made by numbers.
-use Rattle.std.proofs.Common.{◌≡◌, ℕ, zero, suc, ◌<◌, ◌≤◌, List, [], ◌∷◌, ◌++◌, map, get_or, ◌⊎◌, inl, inr, sym, ap, subst, arith}
+use Rattle.std.proofs.Common.{◌≡◌, ℕ, zero, suc, ◌<◌, ◌≤◌, List, [], ◌∷◌, ◌++◌, map, get_or, ◌⊎◌, inl, inr, sym, ap, ◌∙◌, subst, arith}
 use Rattle.std.specs.Prelude.{flat_map}
 use Rattle.std.proofs.lemmas.Bool.{cases_lt}
 use Rattle.std.proofs.lemmas.List.{map-append}
 use Rattle.std.proofs.lemmas.List.Concat.{flat_map-append}
-use Rattle.cmh_dump.specs.Dump.{below}
+use Rattle.cmh_dump.proofs.Faults.{below, below-last}
 
 -- x is an element of the list
 abbrev pub Among : {X : Type 0} → X → List X → Type 0
@@ -46,11 +46,15 @@ among_at x (xs ∷ rest) (suc k) m = inr (among_at x rest k m)
 
 -- ---- by one number
 
+-- f at n comes last of those below n + 1
+pub map-below : {X : Type 0} (f : ℕ → X) (n : ℕ) → map f (below (suc n)) ≡ map f (below n) ++ f n ∷ []
+map-below f n = ap (map f) (below-last n) ∙ map-append f (below n) (n ∷ [])
+
 -- f at a number below n is an element of the list of these
 pub among_below : {X : Type 0} (f : ℕ → X) (n i : ℕ) → i < n → Among (f i) (map f (below n))
 among_below f zero i l = absurd (omega arith)
 among_below f (suc n) i l =
-    subst (Among (f i)) (sym (map-append f (below n) (n ∷ []))) (by (cases_lt i n) (among_below f n i))
+    subst (Among (f i)) (sym (map-below f n)) (by (cases_lt i n) (among_below f n i))
   where
     by : (i < n) ⊎ (n ≤ i) → (i < n → Among (f i) (map f (below n))) → Among (f i) (map f (below n) ++ f n ∷ [])
     by (inl m) h = among_left (f i) (map f (below n)) (f n ∷ []) (h m)
@@ -61,7 +65,7 @@ pub among_below_is : {X : Type 0} (f : ℕ → X) (n : ℕ) (x : X) → Among x 
     → (i : ℕ) × (i < n) × (x ≡ f i)
 among_below_is f zero x m = absurd m
 among_below_is f (suc n) x m =
-    by (among_cases x (map f (below n)) (f n ∷ []) (subst (Among x) (map-append f (below n) (n ∷ [])) m))
+    by (among_cases x (map f (below n)) (f n ∷ []) (subst (Among x) (map-below f n) m))
     (among_below_is f n x)
   where
     by : Among x (map f (below n)) ⊎ Among x (f n ∷ []) → (Among x (map f (below n)) → (i : ℕ) × (i < n) × (x ≡ f i))
@@ -75,12 +79,17 @@ among_below_is f (suc n) x m =
 abbrev pub row : {X : Type 0} → (ℕ → ℕ → X) → (ℕ → ℕ) → ℕ → List X
 row f m i = map (f i) (below (m i))
 
+-- the row of n comes last of those below n + 1
+pub rows-below : {X : Type 0} (f : ℕ → ℕ → X) (m : ℕ → ℕ) (n : ℕ)
+    → flat_map (row f m) (below (suc n)) ≡ flat_map (row f m) (below n) ++ (row f m n ++ [])
+rows-below f m n = ap (flat_map (row f m)) (below-last n) ∙ flat_map-append (row f m) (below n) (n ∷ [])
+
 -- f at two such numbers is an element of the list of these
 pub among_rows : {X : Type 0} (f : ℕ → ℕ → X) (m : ℕ → ℕ) (n i j : ℕ) → i < n → j < m i
     → Among (f i j) (flat_map (row f m) (below n))
 among_rows f m zero i j l h = absurd (omega arith)
 among_rows f m (suc n) i j l h =
-    subst (Among (f i j)) (sym (flat_map-append (row f m) (below n) (n ∷ [])))
+    subst (Among (f i j)) (sym (rows-below f m n))
     (by (cases_lt i n) (λ k. among_rows f m n i j k h))
   where
     by : (i < n) ⊎ (n ≤ i) → (i < n → Among (f i j) (flat_map (row f m) (below n)))
@@ -98,7 +107,7 @@ among_rows_is f m zero x a = absurd a
 among_rows_is f m (suc n) x a =
     by
     (among_cases x (flat_map (row f m) (below n)) (row f m n ++ [])
-    (subst (Among x) (flat_map-append (row f m) (below n) (n ∷ [])) a))
+    (subst (Among x) (rows-below f m n) a))
     (among_rows_is f m n x)
   where
     in_row : Among x (row f m n) ⊎ Among x [] → (i j : ℕ) × (i < suc n) × (j < m i) × (x ≡ f i j)

@@ -7,21 +7,20 @@ use Rattle.std.proofs.lemmas.Bool.{false_from_ne_true, false≢true, and_parts, 
 use Rattle.std.proofs.lemmas.List.{length-map, get_or-take, length-take-le, take-map}
 use Rattle.std.proofs.lemmas.List.Folds.{list_any_at}
 use Rattle.std.proofs.lemmas.List.Sums.{passes_at_first}
-use Rattle.std.proofs.lemmas.Option.{unwrap_or-slice_get}
 use Rattle.std.proofs.lemmas.Slice.Eq.{bytes_eq-Decides}
 use Rattle.cmh_graph.specs.Build as graph
 use Rattle.cmh_graph.specs.Graph.{Process}
 use Rattle.cmh_graph.specs.Judge.{IsFirst, IsRepeat}
 use Rattle.cmh_graph.specs.declared.part.Part.{Part}
 use Rattle.cmh_dump.specs.declared.entry.Entry as declared
-use Rattle.cmh_dump.specs.Dump.{below}
+use Rattle.cmh_dump.specs.Dump.{process_by}
 use Rattle.cmh_dump.specs.Index.{first_repeat}
-use Rattle.cmh_dump.specs.Name.{is_among, place_of, nth, repeats}
+use Rattle.cmh_dump.specs.Name.{is_among, place_of, repeats}
 use Rattle.cmh_dump.specs.Places.{first_unknown, unknown_dependent, place_repeats, first_repeated_place}
-use Rattle.cmh_dump.specs.Read.{entry_view, first_pair, process_by}
+use Rattle.cmh_dump.specs.Read.{entry_view, first_pair}
 use Rattle.cmh_dump.specs.Texts.{value_text, value_texts}
 use Rattle.cmh_dump.specs.View.{Tree}
-use Rattle.cmh_dump.proofs.Faults.{least_found, none_found, find_alike}
+use Rattle.cmh_dump.proofs.Faults.{below, least_found, none_found, find_alike}
 use Rattle.cmh_dump.proofs.Indexed.{among}
 use Rattle.cmh_dump.proofs.Places.{first_within, same_from_places}
 use Rattle.cmh_dump.proofs.Pairs.{all_pass, neither_row}
@@ -34,21 +33,21 @@ repeat_passes : (places : List ℕ) (j : ℕ) → IsRepeat places j → place_re
 repeat_passes places j h =
     let size = length-take-le j places (omega (arith, h.0)) in
     let same =
-    get_or-take j places h.1 0 h.2 ∙ h.3 ∙ sym (unwrap_or-slice_get places j 0) in
-    list_any_at (λ p. p == nth places j 0) (take j places) h.1 0 (omega (arith, size, h.2))
-    (eq-eqb (get_or (take j places) h.1 0) (nth places j 0) same)
+    get_or-take j places h.1 0 h.2 ∙ h.3 in
+    list_any_at (λ p. p == get_or places j 0) (take j places) h.1 0 (omega (arith, size, h.2))
+    (eq-eqb (get_or (take j places) h.1 0) (get_or places j 0) same)
 
 -- what passes the test is a repeat
 passes_repeat : (places : List ℕ) (j : ℕ) → j < length places → place_repeats places j ≡ true → IsRepeat places j
 passes_repeat places j l e =
-    let test = λ (p : ℕ). p == nth places j 0 in
+    let test = λ (p : ℕ). p == get_or places j 0 in
     let k = position_or_len test (take j places) in
     let within = first_within test (take j places) e in
     let size = length-take-le j places (omega arith) in
     let before : k < j = omega (arith, size, within) in
     let same =
-    eqb-true (get_or (take j places) k 0) (nth places j 0) (passes_at_first test (take j places) 0 within) in
-    (l, k, before, sym (get_or-take j places k 0 before) ∙ same ∙ unwrap_or-slice_get places j 0)
+    eqb-true (get_or (take j places) k 0) (get_or places j 0) (passes_at_first test (take j places) 0 within) in
+    (l, k, before, sym (get_or-take j places k 0 before) ∙ same)
 
 -- the first repeat is the one that the search of places finds
 pub first_is : (places : List ℕ) (j : ℕ) → IsFirst (IsRepeat places) j → first_repeated_place places ≡ Some j
@@ -106,7 +105,7 @@ module _ (names : List (List ℕ)) where
       λ i. both.0 i && among_taken j xs both.1 i
 
   -- and so is each
-  among_at : (j : ℕ) (xs : List (List ℕ)) → j < length xs → AreAmong xs → is_among names (nth xs j []) ≡ true
+  among_at : (j : ℕ) (xs : List (List ℕ)) → j < length xs → AreAmong xs → is_among names (get_or xs j []) ≡ true
   among_at j [] l h = absurd (omega arith)
   among_at zero (x ∷ xs) l h = (and_parts (is_among names x) (list_all (is_among names) xs) h).0
   among_at (suc j) (x ∷ xs) l h =
@@ -114,7 +113,7 @@ module _ (names : List (List ℕ)) where
 
   -- the place at a place is that of the name there
   place_at : (j : ℕ) (xs : List (List ℕ)) → j < length xs
-      → nth (map (place_of names) xs) j 0 ≡ place_of names (nth xs j [])
+      → get_or (map (place_of names) xs) j 0 ≡ place_of names (get_or xs j [])
   place_at j [] l = absurd (omega arith)
   place_at zero (x ∷ xs) l = refl
   place_at (suc j) (x ∷ xs) l = place_at j xs (omega arith)
@@ -124,7 +123,7 @@ module _ (names : List (List ℕ)) where
       → place_repeats (map (place_of names) xs) j ≡ repeats xs j
   repeats_alike xs h j l =
       (λ i. list_any (λ p. p == place_at j xs l i) (take-map (place_of names) j xs i))
-      ∙ any_same (nth xs j []) (among_at j xs l h) (take j xs) (among_taken j xs h)
+      ∙ any_same (get_or xs j []) (among_at j xs l h) (take j xs) (among_taken j xs h)
 
   -- the first place that repeats is the first name that does
   first_alike : (xs : List (List ℕ)) → AreAmong xs → first_repeated_place (map (place_of names) xs) ≡ first_repeat xs

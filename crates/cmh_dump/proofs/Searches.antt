@@ -1,23 +1,25 @@
 -- The first fault of each kind, from what the reader's searches answer, and of kinds together.
-use Rattle.std.proofs.Common.{◌≡◌, ℕ, List, [], ◌∷◌, ◌++◌, Bool, not, ◌&&◌, cond, Option, Some, None, map, length, nat_lt, refl, sym, ap, ◌∙◌, Bor}
+use Rattle.std.proofs.Common.{◌≡◌, ℕ, zero, suc, List, [], ◌∷◌, ◌++◌, Bool, not, ◌&&◌, cond, Option, Some, None, map, length, get_or, nat_lt, refl, sym, ap, ◌∙◌, Bor}
 use Rattle.std.specs.Prelude.{find, position, slice_get, unwrap_or, option_map, sum, sum_by}
 use Rattle.std.specs.List.{list_all}
 use Rattle.std.specs.Option.{option_or}
 use Rattle.std.proofs.lemmas.List.{length-map}
 use Rattle.std.proofs.lemmas.List.Sums.{sum-map}
+use Rattle.std.proofs.lemmas.Option.{unwrap_or-slice_get}
 use Rattle.serde_json.specs.Data.{Data, null}
+use Rattle.cmh_graph.specs.Graph.{is_idle_state}
 use Rattle.cmh_dump.specs.declared.entry.Entry as declared
 use Rattle.cmh_dump.specs.declared.fault.DumpFault.{DumpFault}
 use Rattle.cmh_dump.specs.declared.fault.DumpFault.TheVariants.{BadSites, RepeatedSite, BadProcess, RepeatedProcess, UnknownSite, UnknownDependent, RepeatedDependent, ActiveWithDependents, BadInTransit, UnknownInTransit}
-use Rattle.cmh_dump.specs.Dump.{holds, first_of, below, each_site, each_process, each_dependent, each_transit, dependent_total}
-use Rattle.cmh_dump.specs.Entry.{Entry, sites, processes, transits, entries, entry, names, nothing, is_process, is_active_state, is_pair}
+use Rattle.cmh_dump.specs.Dump.{holds, first_of, each, each_dependent}
+use Rattle.cmh_dump.specs.Entry.{Entry, sites, processes, transits, entries, entry, names, entry_of, is_process, is_pair}
 use Rattle.cmh_dump.specs.Index.{IsFirstRepeat, AreApart, first_repeat}
 use Rattle.cmh_dump.specs.Name.{is_name, is_among}
 use Rattle.cmh_dump.specs.Read.{entry_view, first_pair}
 use Rattle.cmh_dump.specs.Places.{unknown_dependent}
 use Rattle.cmh_dump.specs.Texts.{texts, value_text, value_texts}
 use Rattle.cmh_dump.specs.Tree.{texts_of}
-use Rattle.cmh_dump.proofs.Faults.{none_below, found_at}
+use Rattle.cmh_dump.proofs.Faults.{below, none_below, found_at}
 use Rattle.cmh_dump.proofs.Trees.{map-map}
 use Rattle.cmh_dump.proofs.Judging.{each_seen, pairs_seen, find-map, get-map}
 
@@ -78,30 +80,43 @@ at_seen : {Y Z : Type 0} (f : Y → Z) (ys : List Y) (all : List Z) (k : ℕ) (z
     → slice_get (map f ys) k ≡ Some z → slice_get all k ≡ Some z
 at_seen f ys all k z e h = ap (λ zs. slice_get zs k) (sym e) ∙ h
 
+-- the same, with what is read past the end
+or_seen : {Y Z : Type 0} (f : Y → Z) (ys : List Y) (all : List Z) (k : ℕ) (z x : Z) → map f ys ≡ all
+    → slice_get (map f ys) k ≡ Some z → get_or all k x ≡ z
+or_seen f ys all k z x e h = sym (unwrap_or-slice_get all k x) ∙ ap (λ o. unwrap_or o x) (at_seen f ys all k z e h)
+
+-- an element that a function makes is made of the one at its place
+made_at : {Y Z : Type 0} (f : Y → Z) (ys : List Y) (k : ℕ) (y : Y) (z : Z) → slice_get (map f ys) k ≡ Some z
+    → f (get_or ys k y) ≡ z
+made_at f [] k y z h = absurd cc
+made_at f (x ∷ xs) zero y z h = ap (λ o. unwrap_or o z) h
+made_at f (x ∷ xs) (suc k) y z h = made_at f xs k y z h
+
 -- the first bad site stands where the first bad name does
 pub bad_sites : (d : Data) (ys : List (Bor (List ℕ))) → texts ys ≡ sites d
-    → find (holds d) (each_site d BadSites) ≡ option_map BadSites (position (λ t. not (is_name t.now)) ys)
+    → find (holds d) (each (sites d) BadSites) ≡ option_map BadSites (position (λ t. not (is_name t.now)) ys)
 bad_sites d ys e =
     each_seen (holds d) BadSites (λ t. t.now) (λ t. not (is_name t)) ys (length (sites d))
     (size_of (λ t. t.now) ys (sites d) e)
-    (λ k z h. ap (λ o. not (is_name (unwrap_or o []))) (at_seen (λ t. t.now) ys (sites d) k z e h))
+    (λ k z h. ap (λ t. not (is_name t)) (or_seen (λ t. t.now) ys (sites d) k z [] e h))
 
 -- the first repeat of the sites is the first repeated site
 pub repeated_site : (d : Data) (i : ℕ) → IsFirstRepeat (sites d) i
-    → find (holds d) (each_site d RepeatedSite) ≡ Some (RepeatedSite i)
+    → find (holds d) (each (sites d) RepeatedSite) ≡ Some (RepeatedSite i)
 repeated_site d i r = found_at (holds d) RepeatedSite (length (sites d)) i r.within r.before r.repeated
 
 -- sites that are apart have no repeated one
-pub sites_apart : (d : Data) → AreApart (sites d) → find (holds d) (each_site d RepeatedSite) ≡ None
+pub sites_apart : (d : Data) → AreApart (sites d) → find (holds d) (each (sites d) RepeatedSite) ≡ None
 sites_apart d apart = none_below (holds d) RepeatedSite (length (sites d)) apart
 
 -- the first bad process stands where the search finds it
 pub bad_processes : {V : Type 0} (view : V → Data) (d : Data) (vs : List V) → map view vs ≡ processes d
-    → find (holds d) (each_process d BadProcess) ≡ option_map BadProcess (position (λ v. not (is_process (view v))) vs)
+    → find (holds d) (each (processes d) BadProcess)
+    ≡ option_map BadProcess (position (λ v. not (is_process (view v))) vs)
 bad_processes view d vs e =
     each_seen (holds d) BadProcess view (λ p. not (is_process p)) vs (length (processes d))
     (size_of view vs (processes d) e)
-    (λ k z h. ap (λ o. not (is_process (unwrap_or o null))) (at_seen view vs (processes d) k z e h))
+    (λ k z h. ap (λ p. not (is_process p)) (or_seen view vs (processes d) k z null e h))
 
 -- there are as many names as processes
 length-names : (d : Data) → length (names d) ≡ length (processes d)
@@ -109,13 +124,13 @@ length-names d = length-map (entries d) (λ e. e.name) ∙ length-map (processes
 
 -- the first repeat of the names is the first repeated process
 pub repeated_process : (d : Data) (i : ℕ) → IsFirstRepeat (names d) i
-    → find (holds d) (each_process d RepeatedProcess) ≡ Some (RepeatedProcess i)
+    → find (holds d) (each (processes d) RepeatedProcess) ≡ Some (RepeatedProcess i)
 repeated_process d i r =
     ap (λ n. find (holds d) (map RepeatedProcess (below n))) (sym (length-names d))
     ∙ found_at (holds d) RepeatedProcess (length (names d)) i r.within r.before r.repeated
 
 -- names that are apart have no repeated process
-pub names_apart : (d : Data) → AreApart (names d) → find (holds d) (each_process d RepeatedProcess) ≡ None
+pub names_apart : (d : Data) → AreApart (names d) → find (holds d) (each (processes d) RepeatedProcess) ≡ None
 names_apart d apart =
     ap (λ n. find (holds d) (map RepeatedProcess (below n))) (sym (length-names d))
     ∙ none_below (holds d) RepeatedProcess (length (names d)) apart
@@ -127,7 +142,7 @@ module _ (d : Data) (es : List declared.Entry) (seen : map entry_view es ≡ ent
 
   -- the process at a place is the entry there, as it is seen
   entry_is : (k : ℕ) (z : Entry) → slice_get (map entry_view es) k ≡ Some z → entry d k ≡ z
-  entry_is k z h = ap (λ o. unwrap_or o nothing) (at_seen entry_view es (entries d) k z seen h)
+  entry_is k z h = made_at entry_of (processes d) k null z (at_seen entry_view es (entries d) k z seen h)
 
   -- the same, for the entry itself
   entry_seen : (k : ℕ) (e : declared.Entry) → slice_get es k ≡ Some e → entry d k ≡ entry_view e
@@ -135,7 +150,7 @@ module _ (d : Data) (es : List declared.Entry) (seen : map entry_view es ≡ ent
 
   -- the first process on an unknown site stands where the search finds it
   pub unknown_sites : (keys : List (List ℕ)) → keys ≡ sites d
-      → find (holds d) (each_process d UnknownSite)
+      → find (holds d) (each (processes d) UnknownSite)
       ≡ option_map UnknownSite (position (λ e. not (is_among keys e.site.now)) es)
   unknown_sites keys same =
       each_seen (holds d) UnknownSite entry_view (λ e. not (is_among keys e.site)) es (length (processes d))
@@ -159,8 +174,8 @@ module _ (d : Data) (es : List declared.Entry) (seen : map entry_view es ≡ ent
           each_seen (holds d) (UnknownDependent k) value_text (λ name. not (is_among keys name))
           e.dependents.now (length (entry d k).dependents)
           (size_of value_text e.dependents.now (entry d k).dependents (ap (λ x. x.dependents) (sym is)))
-          (λ j z h. ap (λ o. not (is_among (names d) (unwrap_or o [])))
-          (at_seen value_text e.dependents.now (entry d k).dependents j z
+          (λ j z h. ap (λ t. not (is_among (names d) t))
+          (or_seen value_text e.dependents.now (entry d k).dependents j z []
           (ap (λ x. x.dependents) (sym is)) h) ∙ ap (λ ks. not (is_among ks z)) (sym same))
 
   -- the first repeated dependent stands where the search by rows finds it
@@ -173,19 +188,19 @@ module _ (d : Data) (es : List declared.Entry) (seen : map entry_view es ≡ ent
       ∙ ap (λ x. option_map (RepeatedDependent k) (first_repeat x.dependents)) (entry_seen k e h))
 
   -- the first active process with dependents stands where the search finds it
-  pub active_with_dependents : find (holds d) (each_process d ActiveWithDependents)
+  pub active_with_dependents : find (holds d) (each (processes d) ActiveWithDependents)
       ≡ option_map ActiveWithDependents
-      (position (λ e. is_active_state e.state && nat_lt 0 (length e.dependents.now)) es)
+      (position (λ e. not (is_idle_state e.state) && nat_lt 0 (length e.dependents.now)) es)
   active_with_dependents =
       each_seen (holds d) ActiveWithDependents entry_view
-      (λ e. is_active_state e.state && nat_lt 0 (length e.dependents)) es (length (processes d)) process_count
-      (λ k z h. ap (λ e. is_active_state e.state && nat_lt 0 (length e.dependents)) (entry_is k z h))
+      (λ e. not (is_idle_state e.state) && nat_lt 0 (length e.dependents)) es (length (processes d)) process_count
+      (λ k z h. ap (λ e. not (is_idle_state e.state) && nat_lt 0 (length e.dependents)) (entry_is k z h))
       ∙
       (λ i. option_map ActiveWithDependents
-      (position (λ e. is_active_state e.state && nat_lt 0 (length-map e.dependents.now value_text i)) es))
+      (position (λ e. not (is_idle_state e.state) && nat_lt 0 (length-map e.dependents.now value_text i)) es))
 
   -- the dependents that were read are as many as those of the tree
-  pub dependent_total_is : sum_by (λ e. length e.dependents.now) es ≡ dependent_total d
+  pub dependent_total_is : sum_by (λ e. length e.dependents.now) es ≡ sum_by (λ e. length e.dependents) (entries d)
   dependent_total_is =
       sym
       (sum_by-map (λ e. length e.dependents) entry_view es
@@ -196,19 +211,20 @@ module _ (d : Data) (es : List declared.Entry) (seen : map entry_view es ≡ ent
 
 -- the first message that is no pair stands where the search finds it
 pub bad_transits : {V : Type 0} (view : V → Data) (d : Data) (vs : List V) → map view vs ≡ transits d
-    → find (holds d) (each_transit d BadInTransit) ≡ option_map BadInTransit (position (λ v. not (is_pair (view v))) vs)
+    → find (holds d) (each (transits d) BadInTransit)
+    ≡ option_map BadInTransit (position (λ v. not (is_pair (view v))) vs)
 bad_transits view d vs e =
     each_seen (holds d) BadInTransit view (λ t. not (is_pair t)) vs (length (transits d))
     (size_of view vs (transits d) e)
-    (λ k z h. ap (λ o. not (is_pair (unwrap_or o null))) (at_seen view vs (transits d) k z e h))
+    (λ k z h. ap (λ t. not (is_pair t)) (or_seen view vs (transits d) k z null e h))
 
 -- the first message with an unknown name stands where the search finds it
 pub unknown_transits : {V : Type 0} (view : V → Data) (d : Data) (vs : List V) (keys : List (List ℕ))
     → map view vs ≡ transits d → keys ≡ names d
-    → find (holds d) (each_transit d UnknownInTransit)
+    → find (holds d) (each (transits d) UnknownInTransit)
     ≡ option_map UnknownInTransit (position (λ v. not (list_all (is_among keys) (texts_of (view v)))) vs)
 unknown_transits view d vs keys e same =
     each_seen (holds d) UnknownInTransit view (λ t. not (list_all (is_among keys) (texts_of t))) vs
     (length (transits d)) (size_of view vs (transits d) e)
-    (λ k z h. ap (λ o. not (list_all (is_among (names d)) (texts_of (unwrap_or o null))))
-    (at_seen view vs (transits d) k z e h) ∙ ap (λ ks. not (list_all (is_among ks) (texts_of z))) (sym same))
+    (λ k z h. ap (λ t. not (list_all (is_among (names d)) (texts_of t)))
+    (or_seen view vs (transits d) k z null e h) ∙ ap (λ ks. not (list_all (is_among ks) (texts_of z))) (sym same))

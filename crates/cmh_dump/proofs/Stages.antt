@@ -3,12 +3,11 @@ use Rattle.std.proofs.Common.{◌≡◌, ℕ, zero, suc, ◌<◌, ◌≤◌, Lis
 use Rattle.std.specs.Prelude.{find, flat_map, ⊤}
 use Rattle.std.specs.Option.{option_or}
 use Rattle.std.proofs.lemmas.Bool.{false≢true}
-use Rattle.std.proofs.lemmas.List.{map-append}
-use Rattle.std.proofs.lemmas.List.Concat.{flat_map-append}
 use Rattle.cmh_dump.specs.declared.fault.DumpFault.{DumpFault}
-use Rattle.cmh_dump.specs.Dump.{below, first_of}
+use Rattle.cmh_dump.specs.Dump.{first_of}
 use Rattle.cmh_dump.specs.FirstFault.{rank, comes_before}
-use Rattle.cmh_dump.proofs.Members.{Among, AmongLists, among_cases, among_one, among_below_is, row, among_rows_is}
+use Rattle.cmh_dump.proofs.Members.{Among, AmongLists, among_cases, among_one, among_below_is, map-below, row, rows-below, among_rows_is}
+use Rattle.cmh_dump.proofs.Faults.{below}
 use Rattle.cmh_dump.proofs.Firsts.{fails}
 use Rattle.cmh_dump.proofs.Order.{kind, before_by_kind, before_by_place, before_by_first_place, before_by_second_place}
 
@@ -37,7 +36,7 @@ rises_below : (f : ℕ → DumpFault) (n : ℕ) → ((i j : ℕ) → i < j → c
     → Rises (map f (below n))
 rises_below f zero h = tt
 rises_below f (suc n) h =
-    subst Rises (sym (map-append f (below n) (n ∷ [])))
+    subst Rises (sym (map-below f n))
     (rises-append (map f (below n)) (f n ∷ []) (rises_below f n h) (rises_one (f n)) last)
   where
     last : (x y : DumpFault) → Among x (map f (below n)) → Among y (f n ∷ []) → comes_before x y ≡ true
@@ -48,7 +47,7 @@ rises_rows : (f : ℕ → ℕ → DumpFault) (m : ℕ → ℕ) (n : ℕ) → ((i
     → ((i j l : ℕ) → j < l → comes_before (f i j) (f i l) ≡ true) → Rises (flat_map (row f m) (below n))
 rises_rows f m zero g h = tt
 rises_rows f m (suc n) g h =
-    subst Rises (sym (flat_map-append (row f m) (below n) (n ∷ [])))
+    subst Rises (sym (rows-below f m n))
     (rises-append (flat_map (row f m) (below n)) (row f m n ++ []) (rises_rows f m n g h) last_rises last)
   where
     last_rises : Rises (row f m n ++ [])

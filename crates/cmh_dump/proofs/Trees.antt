@@ -3,9 +3,11 @@ use Rattle.std.proofs.Common.{◌≡◌, ℕ, List, [], ◌∷◌, ◌&&◌, map
 use Rattle.std.specs.Str.{IsUtf8, is_utf8}
 use Rattle.std.proofs.lemmas.Str.{IsUtf8-from_is_utf8, is_utf8-from_IsUtf8}
 use Rattle.std.specs.Prelude.{option_map, unwrap_or, slice_get, is_some}
+use Rattle.std.specs.Option.{option_map_or}
 use Rattle.std.specs.List.{list_all}
 use Rattle.std.proofs.lemmas.Bool.{ltb-true, ltb-false}
 use Rattle.std.proofs.lemmas.List.{length-map}
+use Rattle.std.proofs.lemmas.Option.{unwrap_or-slice_get}
 use Rattle.serde_json.specs.Data.{Data, Items}
 use Rattle.serde_json.specs.Find.{as_array, as_str}
 use Rattle.serde_json.specs.View.{items_of}
@@ -13,7 +15,6 @@ use Rattle.serde_json.specs.Read.{read}
 use Rattle.cmh_dump.specs.Dump.{tree_of}
 use Rattle.cmh_dump.specs.Tree.{list_of, entries_of, text_of, texts_of}
 use Rattle.cmh_dump.specs.Entry.{is_pair}
-use Rattle.cmh_dump.specs.Name.{nth}
 use Rattle.cmh_dump.proofs.Taken.{at_place, get-past}
 
 -- UTF-8 that reads as a tree has that tree
@@ -36,14 +37,14 @@ list_of-items_of (d ∷ ds) = ap (λ es. d ∷ es) (list_of-items_of ds)
 -- the entries of an array are the items that the reader gives
 pub entries_of_items : (d : Data) (ds : List Data) → Some (items_of ds) ≡ as_array d → ds ≡ entries_of d
 entries_of_items d ds e =
-    sym (list_of-items_of ds) ∙ ap (λ (o : Option Items). unwrap_or (option_map list_of o) []) e
+    sym (list_of-items_of ds) ∙ ap (λ (o : Option Items). option_map_or list_of o []) e
 
 -- the entries of what may be an array, as the reader gives it, or none
 pub entries_or_none : {V : Type 0} (view : V → Data) (d : Data) (r : Option (Bor (List V))) (b : Bor (List V))
     → option_map (λ v. items_of (map view v.now)) r ≡ as_array d → b.now ≡ []
     → map view (unwrap_or r b).now ≡ entries_of d
 entries_or_none view d None b h none =
-    ap (map view) none ∙ ap (λ (o : Option Items). unwrap_or (option_map list_of o) []) h
+    ap (map view) none ∙ ap (λ (o : Option Items). option_map_or list_of o []) h
 entries_or_none view d (Some v) b h none = entries_of_items d (map view v.now) h
 
 -- two functions one after the other
@@ -71,17 +72,17 @@ all_of_views test view vs d e =
 
 -- the text at a place of an array
 pub text_at_place : {V : Type 0} (view : V → Data) (vs : List V) (d : Data) (i : ℕ) (v : V) → map view vs ≡ entries_of d
-    → true ≡ nat_lt i (length vs) → v ≡ get_or vs i v → text_of (view v) ≡ nth (texts_of d) i []
+    → true ≡ nat_lt i (length vs) → v ≡ get_or vs i v → text_of (view v) ≡ get_or (texts_of d) i []
 text_at_place view vs d i v e within is =
-    sym (ap (λ (o : Option (List ℕ)). unwrap_or o [])
+    sym (sym (unwrap_or-slice_get (texts_of d) i []) ∙ ap (λ (o : Option (List ℕ)). unwrap_or o [])
     (ap (λ ts. slice_get ts i) (sym (texts_of_views view vs d e))
     ∙ at_place (λ w. text_of (view w)) vs i v (ltb-true i (length vs) (sym within)) is))
 
 -- past the end of an array there is no text
 pub text_past : {V : Type 0} (view : V → Data) (vs : List V) (d : Data) (i : ℕ) → map view vs ≡ entries_of d
-    → false ≡ nat_lt i (length vs) → [] ≡ nth (texts_of d) i []
+    → false ≡ nat_lt i (length vs) → [] ≡ get_or (texts_of d) i []
 text_past view vs d i e past =
-    sym (ap (λ (o : Option (List ℕ)). unwrap_or o [])
+    sym (sym (unwrap_or-slice_get (texts_of d) i []) ∙ ap (λ (o : Option (List ℕ)). unwrap_or o [])
     (ap (λ ts. slice_get ts i) (sym (texts_of_views view vs d e))
     ∙ get-past (map (λ w. text_of (view w)) vs) i (rw length-map (ltb-false i (length vs) (sym past)))))
 

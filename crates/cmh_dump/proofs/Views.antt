@@ -1,5 +1,5 @@
 -- The data that a borrowed tree stands for, beside what the reader of JSON makes of its text.
-use Rattle.std.proofs.Common.{◌≡◌, ◌≢◌, ℕ, ◌+◌, ◌<◌, ◌≤◌, ◌^◌, length, get_or, drop, nat_lt, List, [], ◌∷◌, Bool, true, false, ◌&&◌, cond, Option, Some, None, map, refl, sym, ap, ◌∙◌, Ordering, Less, Equal, Greater, nat_cmp, bytes_eq, is_eq, Bor}
+use Rattle.std.proofs.Common.{◌≡◌, ℕ, ◌+◌, ◌<◌, ◌≤◌, ◌^◌, length, get_or, drop, nat_lt, List, [], ◌∷◌, Bool, true, false, ◌&&◌, cond, Option, Some, None, map, refl, sym, ap, ◌∙◌, Ordering, Less, Equal, Greater, nat_cmp, bytes_eq, is_eq, Bor}
 use Rattle.std.specs.Float.{binary64, float_is_finite}
 use Rattle.std.specs.Prelude.{nat_le, is_some, option_map, option_and_then, unwrap_or}
 use Rattle.std.specs.Cmp.Lexicographic.{slice_cmp}
@@ -14,12 +14,12 @@ use Rattle.json.specs.Lex.{tokens}
 use Rattle.json.specs.Json as json
 use Rattle.json.specs.Find as json_find
 use Rattle.json.specs.Value.{value_view, items_view}
-use Rattle.serde_json.specs.Data.{Num, negative, float, Data, null, boolean, number, string, array, object, Items, no_items, item, Members, no_members, member, put}
+use Rattle.serde_json.specs.Data.{Num, negative, float, Data, null, number, array, object, item, Members, no_members, member, put}
 use Rattle.serde_json.specs.Find.{get, get_member, as_str, as_array, as_object, as_number, as_u64}
 use Rattle.serde_json.specs.Read.{read, of_json, of_items, of_members, is_integer, number_from, number_of}
 use Rattle.serde_json.specs.View.{items_of}
 use Rattle.serde_json.proofs.Views.{get_member-put, get_member-put_other}
-use Rattle.cmh_dump.specs.Tree.{keys_of, natural_of}
+use Rattle.cmh_dump.specs.Tree.{keys_of}
 use Rattle.cmh_dump.proofs.Pairs.{drop_next, drop_all}
 use Rattle.cmh_dump.specs.View.{data_of, items_data, members_data, fits, items_fit, members_fit, Tree, view}
 
@@ -168,12 +168,14 @@ object_at (json.object ms) = refl
 
 -- the natural number
 pub natural_at : (j : json.Json)
-    → option_and_then (λ s. option_and_then as_u64 (number_of s)) (json_find.as_number j) ≡ natural_of (data_of j)
+    → option_and_then (λ s. option_and_then as_u64 (number_of s)) (json_find.as_number j)
+    ≡ option_and_then as_u64 (as_number (data_of j))
 natural_at json.null = refl
 natural_at (json.boolean b) = refl
 natural_at (json.number s) = by (number_of s)
   where
-    by : (o : Option Num) → option_and_then as_u64 o ≡ natural_of (unwrap_or (option_map number o) null)
+    by : (o : Option Num) → option_and_then as_u64 o
+        ≡ option_and_then as_u64 (as_number (unwrap_or (option_map number o) null))
     by None = refl
     by (Some n) = refl
 natural_at (json.string s) = refl
@@ -198,11 +200,12 @@ array_seen {X = X} items r j h = by r ∙ ap (option_map items_data) h ∙ array
 
 -- the natural number, where a number stands
 pub natural_some : (s : List ℕ) (j : json.Json) → Some s ≡ json_find.as_number j
-    → option_and_then as_u64 (number_of s) ≡ natural_of (data_of j)
+    → option_and_then as_u64 (number_of s) ≡ option_and_then as_u64 (as_number (data_of j))
 natural_some s j h = ap (option_and_then (λ t. option_and_then as_u64 (number_of t))) h ∙ natural_at j
 
 -- and where none does
-pub natural_none : (j : json.Json) → None ≡ json_find.as_number j → None ≡ natural_of (data_of j)
+pub natural_none : (j : json.Json) → None ≡ json_find.as_number j
+    → None ≡ option_and_then as_u64 (as_number (data_of j))
 natural_none j h = ap (option_and_then (λ t. option_and_then as_u64 (number_of t))) h ∙ natural_at j
 
 -- ---- members

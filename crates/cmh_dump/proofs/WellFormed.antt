@@ -1,12 +1,11 @@
 -- The graph of a tree without a fault is well formed.
 use Rattle.std.proofs.Common.{◌≡◌, ◌≢◌, ℕ, zero, suc, ◌<◌, ◌≤◌, List, [], ◌∷◌, true, false, ◌&&◌, ◌⊎◌, inl, inr, map, take, length, get_or, sum, None, refl, sym, ap, ◌∙◌, subst, arith}
-use Rattle.std.specs.Prelude.{nat_lt, ◌==◌}
+use Rattle.std.specs.Prelude.{nat_lt, ◌==◌, not, sum_by}
 use Rattle.std.specs.List.{list_all}
 use Rattle.std.proofs.lemmas.Bool.{false_from_ne_true, ltb-false, not-false, and_parts, eqb-true, cases_lt}
 use Rattle.std.proofs.lemmas.List.{length-map, get_or-map, get_or-take, length-take-le}
 use Rattle.std.proofs.lemmas.List.Sums.{sum-map}
 use Rattle.std.proofs.lemmas.List.Recursion.{and_at}
-use Rattle.std.proofs.lemmas.Option.{unwrap_or-slice_get}
 use Rattle.serde_json.specs.Data.{Data, null}
 use Rattle.cmh_graph.specs.declared.TheConstants.{MAX_PROCESSES, MAX_DEPENDENCIES, MAX_IN_TRANSIT}
 use Rattle.cmh_graph.specs.declared.part.State.{State}
@@ -18,10 +17,10 @@ use Rattle.cmh_graph.proofs.Building.{well_formed_law as graph_law}
 use Rattle.cmh_graph.specs.Build.{IsFirstFault, IsWellFormed, entry_count, message_at}
 use Rattle.cmh_dump.specs.declared.fault.DumpFault.{DumpFault}
 use Rattle.cmh_dump.specs.declared.fault.DumpFault.TheVariants.{TooManyProcesses, UnknownDependent, RepeatedDependent, ActiveWithDependents, TooManyDependencies, TooManyInTransit, BadInTransit, UnknownInTransit}
-use Rattle.cmh_dump.specs.Name.{is_among, place_of, nth}
+use Rattle.cmh_dump.specs.Name.{is_among, place_of}
 use Rattle.cmh_dump.specs.Tree.{text_of, texts_of, entries_of}
-use Rattle.cmh_dump.specs.Entry.{processes, transits, Entry, nothing, entry_of, entries, entry, names, dependent, is_active_state, is_pair}
-use Rattle.cmh_dump.specs.Dump.{holds, in_order, first_of, process_of, transit_of, place_in_pair, graph_of, dependent_total}
+use Rattle.cmh_dump.specs.Entry.{sites, processes, transits, Entry, entry_of, entries, entry, names, is_pair}
+use Rattle.cmh_dump.specs.Dump.{holds, in_order, first_of, process_by, places_in_pair, graph_of}
 use Rattle.cmh_dump.specs.FirstFault.{IsOfTree, Has, AreNone, HasDependent, HasTransit, WellFormedLaw}
 use Rattle.cmh_dump.proofs.Places.{place_within, same_from_places, differs}
 use Rattle.cmh_dump.proofs.Table.{none_holds}
@@ -33,26 +32,34 @@ IsClean d = (fault : DumpFault) → IsOfTree d fault → holds d fault ≡ false
 
 -- ---- the processes of the graph
 
+-- a process of the graph, from its entry
+abbrev process : Data → Entry → graph.Process
+process d = process_by (sites d) (names d)
+
+-- dependent j of process i
+abbrev dependent : Data → ℕ → ℕ → List ℕ
+dependent d i j = get_or (entry d i).dependents j []
+
 -- the graph has as many processes as the tree
 process_count_is : (d : Data) → graph.process_count (graph_of d) ≡ length (processes d)
-process_count_is d = length-map (entries d) (process_of d) ∙ length-map (processes d) entry_of
+process_count_is d = length-map (entries d) (process d) ∙ length-map (processes d) entry_of
 
 -- and as many names
 name_count_is : (d : Data) → length (names d) ≡ length (processes d)
 name_count_is d = length-map (entries d) (λ e. e.name) ∙ length-map (processes d) entry_of
 
 -- the dependents of a process are the places of those that its entry names, past the end too
-dependents_by : (d : Data) (es : List Entry) (i : ℕ)
-    → (get_or (map (process_of d) es) i graph.nobody).dependents
-    ≡ map (place_of (names d)) (nth es i nothing).dependents
+dependents_by : (d : Data) (ps : List Data) (i : ℕ)
+    → (get_or (map (process d) (map entry_of ps)) i graph.nobody).dependents
+    ≡ map (place_of (names d)) (entry_of (get_or ps i null)).dependents
 dependents_by d [] i = refl
-dependents_by d (e ∷ es) zero = refl
-dependents_by d (e ∷ es) (suc i) = dependents_by d es i
+dependents_by d (p ∷ ps) zero = refl
+dependents_by d (p ∷ ps) (suc i) = dependents_by d ps i
 
 -- the same of the graph of the tree
 dependents_are : (d : Data) (i : ℕ)
     → graph.dependents_of (graph_of d) i ≡ map (place_of (names d)) (entry d i).dependents
-dependents_are d i = dependents_by d (entries d) i
+dependents_are d i = dependents_by d (processes d) i
 
 -- an entry of a dependent set is the place of the dependent that the tree names
 entry_is : (d : Data) (i j : ℕ) → graph.HasEntry (graph_of d) i j
@@ -63,8 +70,7 @@ entry_is d i j h =
     ap length (dependents_are d i) ∙ length-map ds (place_of (names d)) in
     let m : j < length ds = omega (arith, h.1, l) in (
       (omega (arith, h.0, process_count_is d), m),
-      ap (λ ns. get_or ns j 0) (dependents_are d i) ∙ get_or-map (place_of (names d)) ds j [] 0 m
-          ∙ ap (place_of (names d)) (sym (unwrap_or-slice_get ds j [])),
+      ap (λ ns. get_or ns j 0) (dependents_are d i) ∙ get_or-map (place_of (names d)) ds j [] 0 m,
     )
 
 -- in a clean tree each dependent is a name of the tree
@@ -91,26 +97,26 @@ distinct d clean i j k h l s =
     (known d clean i j later.0) (sym earlier.1 ∙ s ∙ later.1) in
     let size : length (take j ds) ≡ j = length-take-le j ds (omega (arith, later.0.1)) in
     differs (take j ds) (dependent d i j) k (clean (RepeatedDependent i j) later.0) (omega (arith, size, l))
-    (get_or-take j ds k [] l ∙ sym (unwrap_or-slice_get ds k []) ∙ same)
+    (get_or-take j ds k [] l ∙ same)
 
 -- ---- active processes
 
 -- a process has the state that the tree tells
-state_by : (d : Data) (es : List Entry) (i : ℕ) → i < length es
-    → (get_or (map (process_of d) es) i graph.nobody).state ≡ (nth es i nothing).state
+state_by : (d : Data) (ps : List Data) (i : ℕ) → i < length ps
+    → (get_or (map (process d) (map entry_of ps)) i graph.nobody).state ≡ (entry_of (get_or ps i null)).state
 state_by d [] i l = absurd (omega arith)
-state_by d (e ∷ es) zero l = refl
-state_by d (e ∷ es) (suc i) l = state_by d es i (omega arith)
+state_by d (p ∷ ps) zero l = refl
+state_by d (p ∷ ps) (suc i) l = state_by d ps i (omega arith)
 
 -- past the end of the tree stands an entry without dependents
-past_the_end : (es : List Entry) (i : ℕ) → length es ≤ i → (nth es i nothing).dependents ≡ []
+past_the_end : (ps : List Data) (i : ℕ) → length ps ≤ i → (entry_of (get_or ps i null)).dependents ≡ []
 past_the_end [] i l = refl
-past_the_end (e ∷ es) zero l = absurd (omega arith)
-past_the_end (e ∷ es) (suc i) l = past_the_end es i (omega arith)
+past_the_end (p ∷ ps) zero l = absurd (omega arith)
+past_the_end (p ∷ ps) (suc i) l = past_the_end ps i (omega arith)
 
 -- an active process that has no dependents too many has none
 none_of_active : (s : State) (ds : List (List ℕ)) → graph.is_idle_state s ≡ false
-    → (is_active_state s && nat_lt 0 (length ds)) ≡ false → ds ≡ []
+    → (not (graph.is_idle_state s) && nat_lt 0 (length ds)) ≡ false → ds ≡ []
 none_of_active Idle ds e h = absurd cc
 none_of_active Active [] e h = refl
 none_of_active Active (x ∷ ds) e h = let l = ltb-false 0 (suc (length ds)) h in absurd (omega (arith, l))
@@ -118,59 +124,52 @@ none_of_active Active (x ∷ ds) e h = let l = ltb-false 0 (suc (length ds)) h i
 -- in the graph of a clean tree a process that isn't idle has no dependents
 waiting : (d : Data) → IsClean d → (i : ℕ) → graph.is_idle (graph_of d) i ≡ false
     → graph.dependents_of (graph_of d) i ≡ []
-waiting d clean i e = dependents_are d i ∙ ap (map (place_of (names d))) (by (cases_lt i (length (entries d))))
+waiting d clean i e = dependents_are d i ∙ ap (map (place_of (names d))) (by (cases_lt i (length (processes d))))
   where
-    by : (i < length (entries d)) ⊎ (length (entries d) ≤ i) → (entry d i).dependents ≡ []
+    by : (i < length (processes d)) ⊎ (length (processes d) ≤ i) → (entry d i).dependents ≡ []
     by (inl l) =
-        let here : i < length (processes d) = omega (arith, l, length-map (processes d) entry_of) in
         none_of_active (entry d i).state (entry d i).dependents
-        (ap graph.is_idle_state (sym (state_by d (entries d) i l)) ∙ e) (clean (ActiveWithDependents i) here)
-    by (inr l) = past_the_end (entries d) i l
+        (ap graph.is_idle_state (sym (state_by d (processes d) i l)) ∙ e) (clean (ActiveWithDependents i) l)
+    by (inr l) = past_the_end (processes d) i l
 
 -- ---- the sum of the dependents
 
 -- a process of the graph has as many dependents as the tree tells
 counts_by : (d : Data) (es : List Entry)
-    → map (λ p. length p.dependents) (map (process_of d) es) ≡ map (λ e. length e.dependents) es
+    → map (λ p. length p.dependents) (map (process d) es) ≡ map (λ e. length e.dependents) es
 counts_by d [] = refl
 counts_by d (e ∷ es) = λ i. length-map e.dependents (place_of (names d)) i ∷ counts_by d es i
 
 -- the entries of the graph are as many as the dependents of the tree
-entry_count_is : (d : Data) → entry_count (graph_of d) ≡ dependent_total d
+entry_count_is : (d : Data) → entry_count (graph_of d) ≡ sum_by (λ e. length e.dependents) (entries d)
 entry_count_is d =
-    sym (sum-map (λ p. length p.dependents) (map (process_of d) (entries d))) ∙ ap sum (counts_by d (entries d))
+    sym (sum-map (λ p. length p.dependents) (map (process d) (entries d))) ∙ ap sum (counts_by d (entries d))
     ∙ sum-map (λ e. length e.dependents) (entries d)
 
 -- ---- the messages in transit
 
 -- in a clean tree the sender and the receiver of a message are processes of the graph
 known_in_pair : (d : Data) → IsClean d → (i k : ℕ) → HasTransit d i → k < 2
-    → place_in_pair d (get_or (transits d) i null) k < graph.process_count (graph_of d)
+    → place_of (names d) (get_or (texts_of (get_or (transits d) i null)) k []) < graph.process_count (graph_of d)
 known_in_pair d clean i k h l =
     let t = get_or (transits d) i null in
-    let at : nth (transits d) i null ≡ t = unwrap_or-slice_get (transits d) i null in
-    let pair : is_pair t ≡ true =
-    ap is_pair (sym at) ∙ not-false (is_pair (nth (transits d) i null)) (clean (BadInTransit i) h) in
+    let pair : is_pair t ≡ true = not-false (is_pair t) (clean (BadInTransit i) h) in
     let two = eqb-true (length (entries_of t)) 2 (and_parts (length (entries_of t) == 2) _ pair).0 in
     let size : length (texts_of t) ≡ length (entries_of t) = length-map (entries_of t) text_of in
     let all : list_all (is_among (names d)) (texts_of t) ≡ true =
-    ap (λ u. list_all (is_among (names d)) (texts_of u)) (sym at)
-    ∙ not-false (list_all (is_among (names d)) (texts_of (nth (transits d) i null)))
-    (clean (UnknownInTransit i) h) in
+    not-false (list_all (is_among (names d)) (texts_of t)) (clean (UnknownInTransit i) h) in
     let one : is_among (names d) (get_or (texts_of t) k []) ≡ true =
     and_at (list_all (is_among (names d))) (is_among (names d)) refl (λ _ _. refl) (texts_of t) k []
     (omega (arith, l, two, size)) all in
-    let place =
-    place_within (names d) (nth (texts_of t) k [])
-    (ap (is_among (names d)) (unwrap_or-slice_get (texts_of t) k []) ∙ one) in
+    let place = place_within (names d) (get_or (texts_of t) k []) one in
     omega (arith, place, name_count_is d, process_count_is d)
 
 -- a message of the graph is the one that the tree tells
 transit_is : (d : Data) (i : ℕ) → i < length (graph_of d).in_transit
-    → HasTransit d i × (message_at (graph_of d) i ≡ transit_of d (get_or (transits d) i null))
+    → HasTransit d i × (message_at (graph_of d) i ≡ places_in_pair (names d) (get_or (transits d) i null))
 transit_is d i l =
-    let m : i < length (transits d) = omega (arith, l, length-map (transits d) (transit_of d)) in
-    (m, get_or-map (transit_of d) (transits d) i null (0, 0) m)
+    let m : i < length (transits d) = omega (arith, l, length-map (transits d) (places_in_pair (names d))) in
+    (m, get_or-map (places_in_pair (names d)) (transits d) i null (0, 0) m)
 
 -- ---- the whole
 
@@ -180,14 +179,18 @@ clean_is_well_formed d clean = record {
   processes =
       omega (arith, process_count_is d, ltb-false MAX_PROCESSES (length (processes d)) (clean TooManyProcesses tt));
   dependencies =
-      omega (arith, entry_count_is d, ltb-false MAX_DEPENDENCIES (dependent_total d) (clean TooManyDependencies tt));
+      omega (
+        arith,
+        entry_count_is d,
+        ltb-false MAX_DEPENDENCIES (sum_by (λ e. length e.dependents) (entries d)) (clean TooManyDependencies tt),
+      );
   within = within d clean;
   distinct = distinct d clean;
   waiting = waiting d clean;
   messages =
       omega (
         arith,
-        length-map (transits d) (transit_of d),
+        length-map (transits d) (places_in_pair (names d)),
         ltb-false MAX_IN_TRANSIT (length (transits d)) (clean TooManyInTransit tt),
       );
   sent_within =

@@ -1,13 +1,18 @@
 -- A dump, from its length, its tree and what the tree stands for.
-use Rattle.std.proofs.Common.{◌≡◌, ◌≢◌, ℕ, ◌<◌, ◌≤◌, List, length, cond, Some, None, Result, Ok, Err, ap, ◌∙◌}
+use Rattle.std.proofs.Common.{◌≡◌, ◌≢◌, ℕ, ◌<◌, ◌≤◌, List, length, cond, Option, Some, None, Result, Ok, Err, ap, ◌∙◌}
 use Rattle.std.specs.Prelude.{IfErr}
+use Rattle.std.specs.Option.{option_map_or}
 use Rattle.std.proofs.lemmas.Bool.{lt-ltb, le-ltb}
 use Rattle.serde_json.specs.Data.{Data}
 use Rattle.cmh_dump.specs.declared.fault.DumpFault.{DumpFault}
 use Rattle.cmh_dump.specs.declared.fault.DumpFault.TheVariants.{Memory, TooLong, NotJson}
 use Rattle.cmh_graph.specs.Graph.{Graph}
 use Rattle.cmh_dump.specs.declared.TheConstants.{MAX_BYTES}
-use Rattle.cmh_dump.specs.Dump.{dump, dump_of_tree, tree_of, of_tree}
+use Rattle.cmh_dump.specs.Dump.{dump, dump_of_tree, tree_of}
+
+-- what a tree means, where there is one
+abbrev pub of_tree : Option Data → Result Graph DumpFault
+of_tree tree = option_map_or dump_of_tree tree (Err NotJson)
 
 -- too many bytes are refused first
 pub too_long : (bytes : List ℕ) → MAX_BYTES < length bytes → dump bytes ≡ Err TooLong

@@ -1,16 +1,18 @@
 -- The parts of a dump's tree: sites, processes as they are written, messages in transit.
-use Rattle.std.specs.Prelude.{ℕ, ◌&&◌, ◌||◌, ◌==◌, List, [], ◌∷◌, length, map, Bool, true, false, codes, bytes_eq, if◌then◌else◌, is_some}
+use Rattle.std.specs.Prelude.{ℕ, ◌&&◌, ◌||◌, ◌==◌, List, [], ◌∷◌, length, map, slice_index_or, Bool, false, codes, bytes_eq, if◌then◌else◌, is_some, option_and_then}
 use Rattle.std.specs.List.{list_all}
-use Rattle.serde_json.specs.Data.{Data}
-use Rattle.serde_json.specs.Find.{as_str}
+use Rattle.std.specs.Option.{option_map_or}
+use Rattle.serde_json.specs.Data.{Data, null}
+use Rattle.serde_json.specs.Find.{get, as_number, as_u64, as_str}
 use Rattle.cmh_graph.specs.declared.part.State.{State}
 use Rattle.cmh_graph.specs.declared.part.State.TheVariants.{Idle, Active}
-use Rattle.cmh_dump.specs.Name.{is_name, nth}
-use Rattle.cmh_dump.specs.Tree.{text_of, texts_of, entries_of, at_key, has_key, has_keys, is_array, natural_of, is_number}
+use Rattle.cmh_dump.specs.Name.{is_name}
+use Rattle.cmh_dump.specs.Tree.{text_of, texts_of, entries_of, at_key, has_array, has_keys}
 
--- the tree has this version
+-- the tree has this version: a number, as `as_u64` answers it
 abbrev pub is_version : ℕ → Data → Bool
-is_version n d = is_number n (natural_of (at_key (codes "version") d))
+is_version n d =
+    option_map_or (λ m. m == n) (option_and_then as_u64 (as_number (at_key (codes "version") d))) false
 
 -- the names of the sites
 abbrev pub sites : Data → List (List ℕ)
@@ -26,17 +28,9 @@ transits d = entries_of (at_key (codes "in_transit") d)
 
 -- ---- a process
 
--- what stands as the state of a process
-abbrev pub state_text : Data → List ℕ
-state_text p = text_of (at_key (codes "state") p)
-
--- a process is written as active
-abbrev pub is_active : Data → Bool
-is_active p = bytes_eq (state_text p) (codes "active")
-
--- a process is written as idle
-abbrev pub is_idle : Data → Bool
-is_idle p = bytes_eq (state_text p) (codes "idle")
+-- a process is written with this state
+abbrev pub has_state : List ℕ → Data → Bool
+has_state word p = bytes_eq (text_of (at_key (codes "state") p)) word
 
 -- a process as it is written: all by names
 pub record Entry : Type 0 where
@@ -50,54 +44,35 @@ abbrev pub entry_of : Data → Entry
 entry_of p = record {
   name = text_of (at_key (codes "name") p);
   site = text_of (at_key (codes "site") p);
-  state = if is_active p then Active else Idle;
+  state = if has_state (codes "active") p then Active else Idle;
   dependents = texts_of (at_key (codes "dependents") p);
 }
-
--- what stands at a place past the end
-abbrev pub nothing : Entry
-nothing = record { name = []; site = []; state = Idle; dependents = [] }
 
 -- the processes as they are written
 abbrev pub entries : Data → List Entry
 entries d = map entry_of (processes d)
 
--- process i as it is written
+-- process i as it is written; past the end stands an idle one without a name
 abbrev pub entry : Data → ℕ → Entry
-entry d i = nth (entries d) i nothing
+entry d i = entry_of (slice_index_or (processes d) i null)
 
 -- the names of the processes
 abbrev pub names : Data → List (List ℕ)
 names d = map (λ e. e.name) (entries d)
 
--- dependent j of process i
-abbrev pub dependent : Data → ℕ → ℕ → List ℕ
-dependent d i j = nth (entry d i).dependents j []
-
--- the keys of a process that it has to have, and those that it may have
-abbrev pub needed_keys : List (List ℕ)
-needed_keys = codes "name" ∷ codes "site" ∷ codes "state" ∷ []
-
-abbrev pub allowed_keys : List (List ℕ)
-allowed_keys = codes "dependents" ∷ []
-
 -- an active process may leave its dependents out
 abbrev pub has_dependents : Data → Bool
 has_dependents p =
-    if has_key (codes "dependents") p then is_array (at_key (codes "dependents") p) else is_active p
+    if is_some (get (codes "dependents") p) then has_array (codes "dependents") p
+    else has_state (codes "active") p
 
 -- a process as it has to be written, whatever the others are
 abbrev pub is_process : Data → Bool
 is_process p =
-    has_keys needed_keys allowed_keys p
+    has_keys (codes "name" ∷ codes "site" ∷ codes "state" ∷ []) (codes "dependents" ∷ []) p
     && is_name (entry_of p).name && is_name (entry_of p).site
-    && (is_active p || is_idle p)
+    && (has_state (codes "active") p || has_state (codes "idle") p)
     && has_dependents p && list_all is_name (entry_of p).dependents
-
--- the state is that of an active process
-abbrev pub is_active_state : State → Bool
-is_active_state Idle = false
-is_active_state Active = true
 
 -- ---- a message in transit
 

@@ -1,11 +1,11 @@
 -- What is said of an index of names.
 use Rattle.std.specs.Prelude.{◌≡◌, ℕ, ◌<◌, List, length, find, true, false, Option, Result, Ok, Err}
 use Rattle.std.specs.Borrow.{Bor}
+use Rattle.std.specs.List.{range_with_len}
 use Rattle.indexmap.specs.IndexSet.{IndexSet}
 use Rattle.cmh_dump.specs.declared.index.IndexFault.{IndexFault}
 use Rattle.cmh_dump.specs.declared.index.IndexFault.TheVariants.{Memory, Repeated}
 use Rattle.cmh_dump.specs.Name.{repeats}
-use Rattle.cmh_dump.specs.Dump.{below}
 use Rattle.cmh_dump.specs.Texts.{texts}
 
 -- i is the place of the first name that equals an earlier one
@@ -20,7 +20,7 @@ AreApart names = (k : ℕ) → k < length names → repeats names k ≡ false
 
 -- the place of the first name that equals an earlier one
 abbrev pub first_repeat : List (List ℕ) → Option ℕ
-first_repeat names = find (repeats names) (below (length names))
+first_repeat names = find (repeats names) (range_with_len 0 (length names))
 
 -- the fault tells the first repeat, if it is no want of memory
 abbrev pub TellsRepeat : List (List ℕ) → IndexFault → Type 0

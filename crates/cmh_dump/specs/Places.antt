@@ -1,7 +1,7 @@
 -- What is said of names that are looked up: their places, or the first that is none of the names.
-use Rattle.std.specs.Prelude.{◌≡◌, ◌≢◌, ◌==◌, ℕ, Bool, List, not, map, take, find, position, length, Option, Some, None, Result, Ok, Err}
+use Rattle.std.specs.Prelude.{◌≡◌, ◌≢◌, ◌==◌, ℕ, Bool, List, not, map, slice_index_or, take, find, position, length, Option, Some, None, Result, Ok, Err}
 use Rattle.std.specs.Global.{Vec}
-use Rattle.std.specs.List.{list_any}
+use Rattle.std.specs.List.{list_any, range_with_len}
 use Rattle.cmh_graph.specs.Build as graph
 use Rattle.cmh_graph.specs.declared.part.Part.{Part}
 use Rattle.cmh_dump.specs.declared.entry.Entry as declared
@@ -9,9 +9,9 @@ use Rattle.cmh_dump.specs.declared.fault.DumpFault.{DumpFault}
 use Rattle.cmh_dump.specs.declared.fault.DumpFault.TheVariants.{Memory, UnknownDependent}
 use Rattle.cmh_dump.specs.declared.index.PlaceFault.{PlaceFault}
 use Rattle.cmh_dump.specs.declared.index.PlaceFault.TheVariants.{Memory as NoMemory, Unknown}
-use Rattle.cmh_dump.specs.Dump.{below}
-use Rattle.cmh_dump.specs.Name.{is_among, place_of, nth}
-use Rattle.cmh_dump.specs.Read.{entry_view, first_pair, process_by}
+use Rattle.cmh_dump.specs.Dump.{process_by}
+use Rattle.cmh_dump.specs.Name.{is_among, place_of}
+use Rattle.cmh_dump.specs.Read.{entry_view, first_pair}
 use Rattle.cmh_dump.specs.Texts.{value_text}
 use Rattle.cmh_dump.specs.View.{Tree}
 
@@ -52,8 +52,8 @@ PartsOrUnknown sites names es (Err f) =
 
 -- the i-th place equals an earlier one
 abbrev pub place_repeats : List ℕ → ℕ → Bool
-place_repeats places i = list_any (λ p. p == nth places i 0) (take i places)
+place_repeats places i = list_any (λ p. p == slice_index_or places i 0) (take i places)
 
 -- which place is the first that equals an earlier one
 abbrev pub first_repeated_place : List ℕ → Option ℕ
-first_repeated_place places = find (place_repeats places) (below (length places))
+first_repeated_place places = find (place_repeats places) (range_with_len 0 (length places))

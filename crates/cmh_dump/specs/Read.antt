@@ -4,16 +4,13 @@ use Rattle.std.specs.Global.{Vec}
 use Rattle.std.specs.Option.{option_or}
 use Rattle.serde_json.specs.Data.{Data}
 use Rattle.cmh_graph.specs.Build as graph
-use Rattle.cmh_graph.specs.Graph.{Process}
 use Rattle.cmh_graph.specs.declared.part.Part.{Part}
 use Rattle.cmh_dump.specs.declared.entry.Entry as declared
 use Rattle.cmh_dump.specs.declared.fault.DumpFault.{DumpFault}
 use Rattle.cmh_dump.specs.declared.fault.DumpFault.TheVariants.{Memory, BadTop, BadVersion, BadSites, RepeatedSite, TooManySites, TooManyProcesses, BadProcess, RepeatedProcess, UnknownSite, UnknownDependent, RepeatedDependent, ActiveWithDependents, TooManyDependencies, TooManyInTransit, BadInTransit, UnknownInTransit}
-use Rattle.cmh_dump.specs.Dump.{holds, first_of, graph_of, each_site, each_process, each_dependent, each_transit}
-use Rattle.cmh_dump.specs.Entry.{Entry, sites, entries}
-use Rattle.cmh_dump.specs.Name.{place_of, nth}
+use Rattle.cmh_dump.specs.Dump.{holds, first_of, graph_of, each, each_dependent}
+use Rattle.cmh_dump.specs.Entry.{Entry, sites, processes, transits, entries}
 use Rattle.cmh_dump.specs.Texts.{value_texts}
-use Rattle.cmh_dump.specs.Tree.{texts_of}
 
 -- a process as it is written, without where it lies in memory
 abbrev pub entry_view : declared.Entry → Entry
@@ -30,20 +27,6 @@ first_pair search i [] = None
 first_pair search i (y ∷ ys) =
     option_or (option_map (λ j. (i, j)) (search y)) (first_pair search (i + 1) ys)
 
--- the places of a message's sender and receiver among the names of the processes
-abbrev pub places_in_pair : List (List ℕ) → Data → ℕ × ℕ
-places_in_pair names t =
-    (place_of names (nth (texts_of t) 0 []), place_of names (nth (texts_of t) 1 []))
-
--- a process by indices, from the names of the sites and of the processes
-abbrev pub process_by : List (List ℕ) → List (List ℕ) → Entry → Process
-process_by sites names e = record {
-  name = e.name;
-  site = place_of sites e.site;
-  state = e.state;
-  dependents = map (place_of names) e.dependents;
-}
-
 -- ---- stages
 
 -- A stage judges some kinds of faults: at Ok none of them holds, and the fault answered is the
@@ -58,30 +41,30 @@ top_faults d = (BadTop ∷ []) ∷ (BadVersion ∷ []) ∷ []
 
 -- what is wrong with the sites
 abbrev pub site_faults : Data → List (List DumpFault)
-site_faults d = each_site d BadSites ∷ each_site d RepeatedSite ∷ (TooManySites ∷ []) ∷ []
+site_faults d = each (sites d) BadSites ∷ each (sites d) RepeatedSite ∷ (TooManySites ∷ []) ∷ []
 
 -- what is wrong with the processes, each looked at alone
 abbrev pub process_faults : Data → List (List DumpFault)
-process_faults d = (TooManyProcesses ∷ []) ∷ each_process d BadProcess ∷ []
+process_faults d = (TooManyProcesses ∷ []) ∷ each (processes d) BadProcess ∷ []
 
 -- what is wrong with the names of the processes
 abbrev pub name_faults : Data → List (List DumpFault)
-name_faults d = each_process d RepeatedProcess ∷ []
+name_faults d = each (processes d) RepeatedProcess ∷ []
 
 -- what is wrong with the processes beside the sites and one another
 abbrev pub entry_faults : Data → List (List DumpFault)
 entry_faults d =
-    each_process d UnknownSite
+    each (processes d) UnknownSite
     ∷ each_dependent d UnknownDependent
     ∷ each_dependent d RepeatedDependent
-    ∷ each_process d ActiveWithDependents
+    ∷ each (processes d) ActiveWithDependents
     ∷ (TooManyDependencies ∷ [])
     ∷ []
 
 -- what is wrong with the messages in transit
 abbrev pub transit_faults : Data → List (List DumpFault)
 transit_faults d =
-    (TooManyInTransit ∷ []) ∷ each_transit d BadInTransit ∷ each_transit d UnknownInTransit ∷ []
+    (TooManyInTransit ∷ []) ∷ each (transits d) BadInTransit ∷ each (transits d) UnknownInTransit ∷ []
 
 -- the kinds that are judged once sites, processes and their names are read
 abbrev pub faults_from_entries : Data → List (List DumpFault)

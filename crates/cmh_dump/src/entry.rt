@@ -1,9 +1,9 @@
 //! Processes as they are written: all by names.
 
-ghost use Rattle.std.specs.Prelude.{◌≡◌, not, map, position, IfOk, if◌then◌else◌};
+ghost use Rattle.std.specs.Prelude.{◌≡◌, not, codes, map, position, IfOk, if◌then◌else◌};
 ghost use Rattle.cmh_dump.specs.View.{view};
 ghost use Rattle.cmh_graph.specs.declared.part.State.TheVariants.{Idle, Active};
-ghost use Rattle.cmh_dump.specs.Entry.{is_active as is_active_lem, is_idle as is_idle_lem, is_process as is_process_lem, has_dependents as has_dependents_lem, entry_of as entry_of_lem};
+ghost use Rattle.cmh_dump.specs.Entry.{has_state as has_state_lem, is_process as is_process_lem, has_dependents as has_dependents_lem, entry_of as entry_of_lem};
 ghost use Rattle.cmh_dump.specs.Read.{entry_view};
 ghost use Rattle.cmh_dump.specs.Texts.{texts};
 
@@ -22,16 +22,10 @@ pub(crate) struct Entry<'v, 'a> {
     pub(crate) dependents: &'v [Value<'a>],
 }
 
-fn is_active(process: &Value<'_>) -> bool
-    ensures { result ≡ is_active_lem (view process.now) }
+fn has_state(process: &Value<'_>, word: &str) -> bool
+    ensures { result ≡ has_state_lem word.now (view process.now) }
 {
-    text_at(process, "state") == "active"
-}
-
-fn is_idle(process: &Value<'_>) -> bool
-    ensures { result ≡ is_idle_lem (view process.now) }
-{
-    text_at(process, "state") == "idle"
+    text_at(process, "state") == word
 }
 
 /// An active process may leave its dependents out.
@@ -41,15 +35,16 @@ fn has_dependents(process: &Value<'_>) -> bool
     if has_member(process, "dependents") {
         has_array(process, "dependents")
     } else {
-        is_active(process)
+        has_state(process, "active")
     }
 }
 
 /// A state that is not `active` reads as idle.
 fn state_of(process: &Value<'_>) -> State
-    ensures { result ≡ (if is_active_lem (view process.now) then Active else Idle) }
+    ensures { result ≡ (if has_state_lem (codes "active") (view process.now)
+        then Active else Idle) }
 {
-    if is_active(process) {
+    if has_state(process, "active") {
         State::Active
     } else {
         State::Idle
@@ -104,7 +99,7 @@ fn is_process(process: &Value<'_>) -> bool
     has_keys(process, &["name", "site", "state"], &["dependents"])
         && is_name(text_at(process, "name"))
         && is_name(text_at(process, "site"))
-        && (is_active(process) || is_idle(process))
+        && (has_state(process, "active") || has_state(process, "idle"))
         && has_dependents(process)
         && are_names_at(process, "dependents")
 }

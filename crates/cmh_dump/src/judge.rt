@@ -4,10 +4,11 @@ ghost use Rattle.std.specs.Prelude.{◌≡◌, ◌<◌, ◌≤◌, ◌^◌, ◌&
 ghost use Rattle.serde_json.specs.Data.{Data};
 ghost use Rattle.cmh_dump.specs.View.{view};
 ghost use Rattle.cmh_graph.specs.Build.{process_of};
-ghost use Rattle.cmh_dump.specs.Dump.{is_top as is_top_lem, top_keys};
-ghost use Rattle.cmh_dump.specs.Entry.{is_version as is_version_lem, sites as sites_lem, entries as entries_lem, names as names_lem, is_active_state};
+ghost use Rattle.cmh_graph.specs.Graph.{is_idle_state};
+ghost use Rattle.cmh_dump.specs.Dump.{is_top as is_top_lem, process_by, top_keys};
+ghost use Rattle.cmh_dump.specs.Entry.{is_version as is_version_lem, sites as sites_lem, entries as entries_lem, names as names_lem};
 ghost use Rattle.cmh_dump.specs.Name.{is_among};
-ghost use Rattle.cmh_dump.specs.Read.{Judges, entry_view, process_by, top_faults, site_faults, process_faults, name_faults, entry_faults};
+ghost use Rattle.cmh_dump.specs.Read.{Judges, entry_view, top_faults, site_faults, process_faults, name_faults, entry_faults};
 ghost use Rattle.cmh_dump.specs.Texts.{texts};
 ghost use Rattle.cmh_dump.specs.Tree.{has_keys as has_keys_lem};
 
@@ -136,7 +137,7 @@ fn first_unknown_site(entries: &[Entry<'_, '_>], sites: &IndexSet<&str>) -> Opti
 /// The place of the first active process with dependents.
 fn first_active_with_dependents(entries: &[Entry<'_, '_>]) -> Option<usize>
     ensures { result ≡ position
-        (λ e. is_active_state e.state && nat_lt 0 (length e.dependents.now)) entries.now }
+        (λ e. not (is_idle_state e.state) && nat_lt 0 (length e.dependents.now)) entries.now }
 {
     entries.iter().position(|entry| matches!(entry.state, State::Active)
         && !entry.dependents.is_empty())

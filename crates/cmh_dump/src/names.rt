@@ -2,7 +2,7 @@
 
 ghost use Rattle.std.specs.Prelude.{◌≡◌, not, position};
 ghost use Rattle.std.specs.List.{list_all};
-ghost use Rattle.cmh_dump.specs.Name.{is_name as is_name_lem, is_name_byte as is_name_byte_lem, is_letter_or_digit as is_letter_or_digit_lem};
+ghost use Rattle.cmh_dump.specs.Name.{is_name as is_name_lem, is_name_byte as is_name_byte_lem};
 ghost use Rattle.cmh_dump.specs.Tree.{text_of, texts_of, at_key};
 ghost use Rattle.cmh_dump.specs.View.{view};
 
@@ -10,16 +10,10 @@ use crate::MAX_NAME;
 use crate::tree::{entries_at, text_in};
 use json::Value;
 
-fn is_letter_or_digit(byte: u8) -> bool
-    ensures { result ≡ is_letter_or_digit_lem byte }
-{
-    byte.is_ascii_alphanumeric()
-}
-
 fn is_name_byte(byte: u8) -> bool
     ensures { result ≡ is_name_byte_lem byte }
 {
-    is_letter_or_digit(byte) || matches!(byte, b'_' | b'-' | b'.' | b':' | b'/')
+    byte.is_ascii_alphanumeric() || matches!(byte, b'_' | b'-' | b'.' | b':' | b'/')
 }
 
 fn all_name_bytes(bytes: &[u8]) -> bool
@@ -37,7 +31,7 @@ pub(crate) fn is_name(text: &str) -> bool
     if bytes.is_empty() || bytes.len() > MAX_NAME {
         return false;
     }
-    is_letter_or_digit(bytes[0]) && all_name_bytes(bytes)
+    bytes[0].is_ascii_alphanumeric() && all_name_bytes(bytes)
 }
 
 /// All values are names.

@@ -1,13 +1,13 @@
 //! Messages in transit.
 
-ghost use Rattle.std.specs.Prelude.{◌≡◌, ◌<◌, ◌^◌, not, [], length, map, position, is_some, IfOk};
+ghost use Rattle.std.specs.Prelude.{◌≡◌, ◌<◌, ◌^◌, not, [], length, map, position, slice_index_or, is_some, IfOk};
 ghost use Rattle.std.specs.List.{list_all};
 ghost use Rattle.serde_json.specs.Find.{as_str};
 ghost use Rattle.cmh_dump.specs.View.{view};
-ghost use Rattle.cmh_dump.specs.Dump.{transit_of as transit_of_lem};
+ghost use Rattle.cmh_dump.specs.Dump.{places_in_pair};
 ghost use Rattle.cmh_dump.specs.Entry.{is_pair as is_pair_lem, transits, names as names_lem};
-ghost use Rattle.cmh_dump.specs.Name.{is_among, nth};
-ghost use Rattle.cmh_dump.specs.Read.{Judges, places_in_pair, transit_faults};
+ghost use Rattle.cmh_dump.specs.Name.{is_among};
+ghost use Rattle.cmh_dump.specs.Read.{Judges, transit_faults};
 ghost use Rattle.cmh_dump.specs.Texts.{texts};
 ghost use Rattle.cmh_dump.specs.Tree.{text_of, texts_of};
 
@@ -65,7 +65,7 @@ fn first_unknown_pair(names: &IndexSet<&str>, messages: &[Value<'_>]) -> Option<
 
 /// The sender of a message, at 0, or its receiver, at 1; the empty text where it is none.
 fn name_in_pair<'a>(message: &Value<'a>, entry: usize) -> &'a str
-    ensures { result.now ≡ nth (texts_of (view message.now)) entry [] }
+    ensures { result.now ≡ slice_index_or (texts_of (view message.now)) entry [] }
 {
     match entries_in(message).get(entry) {
         Some(value) => text_in(value),
@@ -103,7 +103,7 @@ pub(crate) fn read_in_transit(
         → Judges (view tree.now) (transit_faults (view tree.now)) result }
     ensures read { texts names.now.keys ≡ names_lem (view tree.now)
         → IfOk result (λ v.
-        v.items ≡ map (transit_of_lem (view tree.now)) (transits (view tree.now))) }
+        v.items ≡ map (places_in_pair (names_lem (view tree.now))) (transits (view tree.now))) }
 {
     let messages = entries_at(tree, "in_transit");
     if messages.len() > MAX_IN_TRANSIT {

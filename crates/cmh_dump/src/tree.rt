@@ -1,15 +1,16 @@
 //! The tree of a dump, and what stands at its places. A place that isn't there, or has another
 //! kind, reads as empty.
 
-ghost use Rattle.std.specs.Prelude.{◌≡◌, ◌≢◌, ◌||◌, [], Some, None, IfOk, IfErr, map, option_map, bytes_eq};
+ghost use Rattle.std.specs.Prelude.{◌≡◌, ◌≢◌, ◌||◌, [], Some, None, IfOk, IfErr, false, ◌==◌, is_some, map, option_and_then, option_map, bytes_eq};
 ghost use Rattle.std.specs.List.{list_all, list_any};
+ghost use Rattle.std.specs.Option.{option_map_or};
 ghost use Rattle.json.specs.Find.{as_array as json_array, as_object as json_object};
 ghost use Rattle.json.specs.Value.{value_view, items_view, members_view};
-ghost use Rattle.serde_json.specs.Find.{get, as_array, as_str};
+ghost use Rattle.serde_json.specs.Find.{get, as_array, as_number, as_str, as_u64};
 ghost use Rattle.serde_json.specs.Read.{read};
 ghost use Rattle.serde_json.specs.View.{items_of};
 ghost use Rattle.cmh_dump.specs.Dump.{tree_of as tree_of_lem};
-ghost use Rattle.cmh_dump.specs.Tree.{text_of, texts_of, entries_of, at_key, has_key, has_keys as has_keys_lem, is_array, natural_of, is_number};
+ghost use Rattle.cmh_dump.specs.Tree.{text_of, texts_of, entries_of, at_key, has_array as has_array_lem, has_keys as has_keys_lem};
 ghost use Rattle.cmh_dump.specs.Texts.{texts};
 ghost use Rattle.cmh_dump.specs.View.{view};
 
@@ -107,7 +108,7 @@ fn members_in<'v, 'a>(value: &'v Value<'a>) -> Option<&'v [(&'a str, Value<'a>)]
 
 /// The natural number, if the value is one.
 fn natural_in(value: &Value<'_>) -> Option<u64>
-    ensures { result ≡ natural_of (view value.now) }
+    ensures { result ≡ option_and_then as_u64 (as_number (view value.now)) }
 {
     match value.as_number() {
         Some(text) => natural(text),
@@ -188,21 +189,22 @@ pub(crate) fn texts_at<'a>(
 
 /// An array stands at the key.
 pub(crate) fn has_array(value: &Value<'_>, key: &str) -> bool
-    ensures { result ≡ is_array (at_key key.now (view value.now)) }
+    ensures { result ≡ has_array_lem key.now (view value.now) }
 {
     array_at(value, key).is_some()
 }
 
 /// The object has the key.
 pub(crate) fn has_member(value: &Value<'_>, key: &str) -> bool
-    ensures { result ≡ has_key key.now (view value.now) }
+    ensures { result ≡ is_some (get key.now (view value.now)) }
 {
     member_in(value, key).is_some()
 }
 
 /// The number at a key is this one.
 pub(crate) fn is_number_at(value: &Value<'_>, key: &str, number: u64) -> bool
-    ensures { result ≡ is_number number (natural_of (at_key key.now (view value.now))) }
+    ensures { result ≡ option_map_or (λ n. n == number)
+        (option_and_then as_u64 (as_number (at_key key.now (view value.now)))) false }
 {
     let Some(member) = member_in(value, key) else {
         return false;
@@ -214,7 +216,7 @@ pub(crate) fn is_number_at(value: &Value<'_>, key: &str, number: u64) -> bool
 }
 
 fn has_each(value: &Value<'_>, words: &[&str]) -> bool
-    ensures { result ≡ list_all (λ k. has_key k.now (view value.now)) words.now }
+    ensures { result ≡ list_all (λ k. is_some (get k.now (view value.now))) words.now }
 {
     words.iter().all(|word| has_member(value, word))
 }

@@ -1,7 +1,8 @@
 use Rattle.std.proofs.Common.{◌≡◌, map, take}
 use Rattle.cmh_graph.specs.Build.{process_of}
 use Rattle.cmh_dump.specs.Places.{first_unknown}
-use Rattle.cmh_dump.specs.Read.{process_by, entry_view}
+use Rattle.cmh_dump.specs.Dump.{process_by}
+use Rattle.cmh_dump.specs.Read.{entry_view}
 use Rattle.cmh_dump.specs.Texts.{texts}
 use Rattle.cmh_dump.proofs.Pairs.{LeftDecides}
 use Rattle.cmh_dump.proofs.parts.parts_of.Given as goal

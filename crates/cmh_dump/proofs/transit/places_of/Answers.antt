@@ -1,7 +1,7 @@
 use Rattle.std.proofs.Common.{ap, ◌∙◌}
 use Rattle.cmh_dump.specs.View.{view}
 use Rattle.cmh_dump.specs.Name.{place_of}
-use Rattle.cmh_dump.specs.Read.{places_in_pair}
+use Rattle.cmh_dump.specs.Dump.{places_in_pair}
 use Rattle.cmh_dump.specs.Texts.{texts}
 use Rattle.cmh_dump.proofs.Taken.{made-next}
 use Rattle.cmh_dump.proofs.transit.places_of.Goals as goal

@@ -1,6 +1,6 @@
 use Rattle.std.proofs.Common.{◌≡◌, map, take}
 use Rattle.cmh_dump.specs.View.{view}
-use Rattle.cmh_dump.specs.Read.{places_in_pair}
+use Rattle.cmh_dump.specs.Dump.{places_in_pair}
 use Rattle.cmh_dump.specs.Texts.{texts}
 use Rattle.cmh_dump.proofs.transit.places_of.Given as goal
 
