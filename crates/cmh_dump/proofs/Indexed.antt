@@ -1,13 +1,14 @@
 -- Names put into an index one after the other.
-use Rattle.std.proofs.Common.{◌≡◌, ℕ, zero, suc, ◌+◌, ◌<◌, List, [], ◌∷◌, ◌++◌, Bool, true, false, not, ◌||◌, cond, Some, None, take, length, get_or, nat_lt, refl, sym, ap, ◌∙◌, arith, Bor, below_more, subst}
+use Rattle.std.proofs.Common.{◌≡◌, ℕ, zero, suc, ◌+◌, ◌<◌, ◌≤◌, List, [], ◌∷◌, ◌++◌, Bool, true, false, not, ◌||◌, cond, Some, None, take, length, get_or, nat_lt, refl, sym, ap, ◌∙◌, arith, Bor, below_more, subst}
 use Rattle.std.specs.Prelude.{bytes_eq, slice_get}
 use Rattle.std.specs.List.{list_any, position_or_len}
-use Rattle.std.proofs.lemmas.List.{get_or-map}
+use Rattle.std.proofs.lemmas.List.{get_or-map, take_all}
 use Rattle.cmh_dump.specs.Name.{is_among, place_of, repeats}
 use Rattle.cmh_dump.specs.Texts.{texts}
-use Rattle.cmh_dump.specs.Index.{IsFirstRepeat, TellsRepeat}
+use Rattle.cmh_dump.specs.Index.{first_repeat, TellsRepeat}
 use Rattle.cmh_dump.specs.declared.index.IndexFault.{IndexFault}
 use Rattle.cmh_dump.specs.declared.index.IndexFault.TheVariants.{Repeated}
+use Rattle.cmh_dump.proofs.Faults.{none_found}
 use Rattle.cmh_dump.proofs.Keys.{any_of_texts}
 use Rattle.cmh_dump.proofs.Taken.{take-next, texts-append}
 
@@ -64,6 +65,16 @@ not_repeated names keys i d is_new lt h added new before =
       below_more _ _ before (sym (repeat_is names keys i d lt h) ∙ absent),
     )
 
+-- once all names are in the index it has them all, and none repeats
+pub all_apart : (names keys : List (Bor (List ℕ))) (i : ℕ) → length names ≤ i → texts keys ≡ take i (texts names)
+    → ((k : ℕ) → k < i → repeats (texts names) k ≡ false)
+    → (texts keys ≡ texts names) × (first_repeat (texts names) ≡ None)
+all_apart names keys i past seen before = (
+  seen ∙ take_all i (texts names) (omega (arith, past, length-texts names)),
+  none_found (repeats (texts names)) (length (texts names))
+      (λ k l. before k (omega (arith, l, past, length-texts names))),
+)
+
 -- the place of a text among borrows is that among the texts
 position-texts : (name : List ℕ) (keys : List (Bor (List ℕ)))
     → position_or_len (λ k. bytes_eq name k.now) keys ≡ position_or_len (bytes_eq name) (texts keys)
@@ -99,5 +110,5 @@ place_is name keys =
 
 -- what the index says of the name that repeats one, where a `match` found which error it is
 pub repeat_of : (all : List (List ℕ)) (e : IndexFault) (i : ℕ) → e ≡ Repeated i → TellsRepeat all e
-    → IsFirstRepeat all i
+    → first_repeat all ≡ Some i
 repeat_of all e i is h = subst (TellsRepeat all) is h

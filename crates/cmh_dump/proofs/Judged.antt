@@ -1,5 +1,5 @@
 -- What each stage answers: from its searches to the first fault of its kinds.
-use Rattle.std.proofs.Common.{◌≡◌, ◌≢◌, ℕ, ◌<◌, ◌≤◌, List, [], ◌∷◌, Bool, true, false, not, ◌&&◌, cond, Option, Some, None, map, length, nat_lt, refl, sym, ap, ◌∙◌, subst, Bor}
+use Rattle.std.proofs.Common.{◌≡◌, ◌≢◌, ℕ, ◌<◌, ◌≤◌, List, [], ◌∷◌, Bool, true, false, not, ◌&&◌, cond, Option, Some, None, map, length, nat_lt, refl, sym, ap, ◌∙◌, Bor}
 use Rattle.std.specs.Prelude.{find, position, option_map, sum_by}
 use Rattle.std.specs.List.{list_all}
 use Rattle.std.proofs.lemmas.Bool.{lt-ltb, le-ltb}
@@ -13,14 +13,14 @@ use Rattle.cmh_dump.specs.declared.fault.DumpFault.TheVariants.{Memory, BadSites
 use Rattle.cmh_graph.specs.Graph.{is_idle_state}
 use Rattle.cmh_dump.specs.Dump.{holds, first_of, each, each_dependent}
 use Rattle.cmh_dump.specs.Entry.{sites, processes, transits, entries, names, is_process, is_pair}
-use Rattle.cmh_dump.specs.Index.{IsFirstRepeat, AreApart, first_repeat}
+use Rattle.cmh_dump.specs.Index.{first_repeat}
 use Rattle.cmh_dump.specs.Name.{is_name, is_among}
 use Rattle.cmh_dump.specs.Read.{entry_view, first_pair, site_faults, process_faults, name_faults, entry_faults, transit_faults}
 use Rattle.cmh_dump.specs.Places.{first_unknown}
 use Rattle.cmh_dump.specs.Texts.{texts, value_texts}
 use Rattle.cmh_dump.specs.Tree.{texts_of}
 use Rattle.cmh_dump.proofs.Trees.{map-map}
-use Rattle.cmh_dump.proofs.Searches.{first_here, first_later, alone, bad_sites, repeated_site, sites_apart, bad_processes, repeated_process, names_apart, unknown_sites, unknown_dependents, repeated_dependents, active_with_dependents, dependent_total_is, bad_transits, unknown_transits}
+use Rattle.cmh_dump.proofs.Searches.{first_here, first_later, alone, bad_sites, repeated_sites, bad_processes, repeated_processes, unknown_sites, unknown_dependents, repeated_dependents, active_with_dependents, dependent_total_is, bad_transits, unknown_transits}
 
 -- a limit on a length, of a list that another one is seen as
 over : {Y Z : Type 0} (f : Y → Z) (ys : List Y) (all : List Z) (most : ℕ) → map f ys ≡ all → most < length ys
@@ -57,23 +57,23 @@ module _ (d : Data) (ys : List (Bor (List ℕ))) (seen : texts ys ≡ sites d) w
       (bad_sites d ys seen) (ap (option_map BadSites) h) later
 
   -- a repeat is the first, where no name is bad
-  pub site_repeated : (i : ℕ) → bad_name ≡ None → IsFirstRepeat (texts ys) i
+  pub site_repeated : (i : ℕ) → bad_name ≡ None → first_repeat (texts ys) ≡ Some i
       → first_of (holds d) (site_faults d) ≡ Some (RepeatedSite i)
   site_repeated i h r =
       names_only (Some (RepeatedSite i)) h
       (first_here (holds d) (each (sites d) RepeatedSite) ((TooManySites ∷ []) ∷ []) _ (RepeatedSite i)
-      (repeated_site d i (subst (λ (ns : List (List ℕ)). IsFirstRepeat ns i) seen r)) refl)
+      (repeated_sites d) (ap (option_map RepeatedSite) (ap first_repeat (sym seen) ∙ r)))
 
   -- where no name is bad and none repeats, the count decides
-  apart_only : (r : Option DumpFault) → bad_name ≡ None → AreApart (texts ys)
+  apart_only : (r : Option DumpFault) → bad_name ≡ None → first_repeat (texts ys) ≡ None
       → first_of (holds d) ((TooManySites ∷ []) ∷ []) ≡ r → first_of (holds d) (site_faults d) ≡ r
   apart_only r h apart later =
       names_only r h
       (first_later (holds d) (each (sites d) RepeatedSite) ((TooManySites ∷ []) ∷ []) _ r
-      (sites_apart d (subst AreApart seen apart)) refl later)
+      (repeated_sites d) (ap (option_map RepeatedSite) (ap first_repeat (sym seen) ∙ apart)) later)
 
   -- then too many sites are the first fault
-  pub sites_many : bad_name ≡ None → AreApart (texts ys) → MAX_SITES < length ys
+  pub sites_many : bad_name ≡ None → first_repeat (texts ys) ≡ None → MAX_SITES < length ys
       → first_of (holds d) (site_faults d) ≡ Some TooManySites
   sites_many h apart many =
       apart_only (Some TooManySites) h apart
@@ -81,7 +81,7 @@ module _ (d : Data) (ys : List (Bor (List ℕ))) (seen : texts ys ≡ sites d) w
       (alone (holds d) TooManySites true (over (λ t. t.now) ys (sites d) MAX_SITES seen many)) refl)
 
   -- and few enough have none
-  pub sites_judged : bad_name ≡ None → AreApart (texts ys) → length ys ≤ MAX_SITES
+  pub sites_judged : bad_name ≡ None → first_repeat (texts ys) ≡ None → length ys ≤ MAX_SITES
       → first_of (holds d) (site_faults d) ≡ None
   sites_judged h apart few =
       apart_only None h apart
@@ -125,19 +125,18 @@ pub names_seen : (d : Data) (es : List declared.Entry) → map entry_view es ≡
 names_seen d es seen = map-map (λ e. e.name) entry_view es ∙ ap (map (λ e. e.name)) seen
 
 -- a repeated name is the first fault of the names
-pub name_repeated : (d : Data) (ns : List (List ℕ)) (i : ℕ) → ns ≡ names d → IsFirstRepeat ns i
+pub name_repeated : (d : Data) (ns : List (List ℕ)) (i : ℕ) → ns ≡ names d → first_repeat ns ≡ Some i
     → first_of (holds d) (name_faults d) ≡ Some (RepeatedProcess i)
 name_repeated d ns i seen r =
     first_here (holds d) (each (processes d) RepeatedProcess) [] _ (RepeatedProcess i)
-    (repeated_process d i (subst (λ (ms : List (List ℕ)). IsFirstRepeat ms i) seen r)) refl
+    (repeated_processes d) (ap (option_map RepeatedProcess) (ap first_repeat (sym seen) ∙ r))
 
 -- names that are apart have none
-pub names_judged : (d : Data) (ns : List (List ℕ)) → ns ≡ names d → AreApart ns
+pub names_judged : (d : Data) (ns : List (List ℕ)) → ns ≡ names d → first_repeat ns ≡ None
     → first_of (holds d) (name_faults d) ≡ None
 names_judged d ns seen apart =
     first_later (holds d) (each (processes d) RepeatedProcess) [] _ None
-    (names_apart d (subst AreApart seen apart)) refl
-    refl
+    (repeated_processes d) (ap (option_map RepeatedProcess) (ap first_repeat (sym seen) ∙ apart)) refl
 
 -- ---- processes beside the sites and one another
 

@@ -13,13 +13,13 @@ use Rattle.cmh_dump.specs.declared.fault.DumpFault.{DumpFault}
 use Rattle.cmh_dump.specs.declared.fault.DumpFault.TheVariants.{BadSites, RepeatedSite, BadProcess, RepeatedProcess, UnknownSite, UnknownDependent, RepeatedDependent, ActiveWithDependents, BadInTransit, UnknownInTransit}
 use Rattle.cmh_dump.specs.Dump.{holds, first_of, each, each_dependent}
 use Rattle.cmh_dump.specs.Entry.{Entry, sites, processes, transits, entries, entry, names, entry_of, is_process, is_pair}
-use Rattle.cmh_dump.specs.Index.{IsFirstRepeat, AreApart, first_repeat}
+use Rattle.cmh_dump.specs.Index.{first_repeat}
 use Rattle.cmh_dump.specs.Name.{is_name, is_among}
 use Rattle.cmh_dump.specs.Read.{entry_view, first_pair}
 use Rattle.cmh_dump.specs.Places.{unknown_dependent}
 use Rattle.cmh_dump.specs.Texts.{texts, value_text, value_texts}
 use Rattle.cmh_dump.specs.Tree.{texts_of}
-use Rattle.cmh_dump.proofs.Faults.{below, none_below, found_at}
+use Rattle.cmh_dump.proofs.Faults.{below}
 use Rattle.cmh_dump.proofs.Trees.{map-map}
 use Rattle.cmh_dump.proofs.Judging.{each_seen, pairs_seen, find-map, get-map}
 
@@ -100,14 +100,10 @@ bad_sites d ys e =
     (size_of (λ t. t.now) ys (sites d) e)
     (λ k z h. ap (λ t. not (is_name t)) (or_seen (λ t. t.now) ys (sites d) k z [] e h))
 
--- the first repeat of the sites is the first repeated site
-pub repeated_site : (d : Data) (i : ℕ) → IsFirstRepeat (sites d) i
-    → find (holds d) (each (sites d) RepeatedSite) ≡ Some (RepeatedSite i)
-repeated_site d i r = found_at (holds d) RepeatedSite (length (sites d)) i r.within r.before r.repeated
-
--- sites that are apart have no repeated one
-pub sites_apart : (d : Data) → AreApart (sites d) → find (holds d) (each (sites d) RepeatedSite) ≡ None
-sites_apart d apart = none_below (holds d) RepeatedSite (length (sites d)) apart
+-- the first repeated site is the first repeat of the sites
+pub repeated_sites : (d : Data)
+    → find (holds d) (each (sites d) RepeatedSite) ≡ option_map RepeatedSite (first_repeat (sites d))
+repeated_sites d = find-map (holds d) RepeatedSite (below (length (sites d)))
 
 -- the first bad process stands where the search finds it
 pub bad_processes : {V : Type 0} (view : V → Data) (d : Data) (vs : List V) → map view vs ≡ processes d
@@ -122,18 +118,12 @@ bad_processes view d vs e =
 length-names : (d : Data) → length (names d) ≡ length (processes d)
 length-names d = length-map (entries d) (λ e. e.name) ∙ length-map (processes d) _
 
--- the first repeat of the names is the first repeated process
-pub repeated_process : (d : Data) (i : ℕ) → IsFirstRepeat (names d) i
-    → find (holds d) (each (processes d) RepeatedProcess) ≡ Some (RepeatedProcess i)
-repeated_process d i r =
+-- the first repeated process is the first repeat of the names
+pub repeated_processes : (d : Data)
+    → find (holds d) (each (processes d) RepeatedProcess) ≡ option_map RepeatedProcess (first_repeat (names d))
+repeated_processes d =
     ap (λ n. find (holds d) (map RepeatedProcess (below n))) (sym (length-names d))
-    ∙ found_at (holds d) RepeatedProcess (length (names d)) i r.within r.before r.repeated
-
--- names that are apart have no repeated process
-pub names_apart : (d : Data) → AreApart (names d) → find (holds d) (each (processes d) RepeatedProcess) ≡ None
-names_apart d apart =
-    ap (λ n. find (holds d) (map RepeatedProcess (below n))) (sym (length-names d))
-    ∙ none_below (holds d) RepeatedProcess (length (names d)) apart
+    ∙ find-map (holds d) RepeatedProcess (below (length (names d)))
 
 module _ (d : Data) (es : List declared.Entry) (seen : map entry_view es ≡ entries d) where
   -- there are as many processes as entries that were read

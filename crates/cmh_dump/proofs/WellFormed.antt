@@ -21,7 +21,7 @@ use Rattle.cmh_dump.specs.Name.{is_among, place_of}
 use Rattle.cmh_dump.specs.Tree.{text_of, texts_of, entries_of}
 use Rattle.cmh_dump.specs.Entry.{sites, processes, transits, Entry, entry_of, entries, entry, names, is_pair}
 use Rattle.cmh_dump.specs.Dump.{holds, in_order, first_of, process_by, places_in_pair, graph_of}
-use Rattle.cmh_dump.specs.FirstFault.{IsOfTree, Has, AreNone, HasDependent, HasTransit, WellFormedLaw}
+use Rattle.cmh_dump.specs.FirstFault.{IsOfTree, Has, AreNone, HasDependent, WellFormedLaw}
 use Rattle.cmh_dump.proofs.Places.{place_within, same_from_places, differs}
 use Rattle.cmh_dump.proofs.Table.{none_holds}
 use Rattle.cmh_dump.proofs.FirstFaults.{bytes_have, no_fault_law}
@@ -149,7 +149,7 @@ entry_count_is d =
 -- ---- the messages in transit
 
 -- in a clean tree the sender and the receiver of a message are processes of the graph
-known_in_pair : (d : Data) → IsClean d → (i k : ℕ) → HasTransit d i → k < 2
+known_in_pair : (d : Data) → IsClean d → (i k : ℕ) → i < length (transits d) → k < 2
     → place_of (names d) (get_or (texts_of (get_or (transits d) i null)) k []) < graph.process_count (graph_of d)
 known_in_pair d clean i k h l =
     let t = get_or (transits d) i null in
@@ -166,7 +166,7 @@ known_in_pair d clean i k h l =
 
 -- a message of the graph is the one that the tree tells
 transit_is : (d : Data) (i : ℕ) → i < length (graph_of d).in_transit
-    → HasTransit d i × (message_at (graph_of d) i ≡ places_in_pair (names d) (get_or (transits d) i null))
+    → (i < length (transits d)) × (message_at (graph_of d) i ≡ places_in_pair (names d) (get_or (transits d) i null))
 transit_is d i l =
     let m : i < length (transits d) = omega (arith, l, length-map (transits d) (places_in_pair (names d))) in
     (m, get_or-map (places_in_pair (names d)) (transits d) i null (0, 0) m)

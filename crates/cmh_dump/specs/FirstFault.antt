@@ -13,21 +13,9 @@ use Rattle.cmh_dump.specs.Dump.{holds, graph_of, dump_of_tree, tree_of, dump}
 
 -- ---- the faults that a tree has, and those that bytes have
 
--- the tree has a site i
-abbrev pub HasSite : Data → ℕ → Type 0
-HasSite d i = i < length (sites d)
-
--- the tree has a process i
-abbrev pub HasProcess : Data → ℕ → Type 0
-HasProcess d i = i < length (processes d)
-
 -- the tree has a process i with a dependent j
 abbrev pub HasDependent : Data → ℕ → ℕ → Type 0
-HasDependent d i j = HasProcess d i × (j < length (entry d i).dependents)
-
--- the tree has a message in transit i
-abbrev pub HasTransit : Data → ℕ → Type 0
-HasTransit d i = i < length (transits d)
+HasDependent d i j = (i < length (processes d)) × (j < length (entry d i).dependents)
 
 -- the fault speaks of what stands in the tree; those of reading never do
 abbrev pub IsOfTree : Data → DumpFault → Type 0
@@ -37,20 +25,20 @@ IsOfTree d TooLong = ⊥
 IsOfTree d NotJson = ⊥
 IsOfTree d BadTop = ⊤
 IsOfTree d BadVersion = ⊤
-IsOfTree d (BadSites i) = HasSite d i
-IsOfTree d (RepeatedSite i) = HasSite d i
+IsOfTree d (BadSites i) = i < length (sites d)
+IsOfTree d (RepeatedSite i) = i < length (sites d)
 IsOfTree d TooManySites = ⊤
 IsOfTree d TooManyProcesses = ⊤
-IsOfTree d (BadProcess i) = HasProcess d i
-IsOfTree d (RepeatedProcess i) = HasProcess d i
-IsOfTree d (UnknownSite i) = HasProcess d i
+IsOfTree d (BadProcess i) = i < length (processes d)
+IsOfTree d (RepeatedProcess i) = i < length (processes d)
+IsOfTree d (UnknownSite i) = i < length (processes d)
 IsOfTree d (UnknownDependent i j) = HasDependent d i j
 IsOfTree d (RepeatedDependent i j) = HasDependent d i j
-IsOfTree d (ActiveWithDependents i) = HasProcess d i
+IsOfTree d (ActiveWithDependents i) = i < length (processes d)
 IsOfTree d TooManyDependencies = ⊤
 IsOfTree d TooManyInTransit = ⊤
-IsOfTree d (BadInTransit i) = HasTransit d i
-IsOfTree d (UnknownInTransit i) = HasTransit d i
+IsOfTree d (BadInTransit i) = i < length (transits d)
+IsOfTree d (UnknownInTransit i) = i < length (transits d)
 
 -- the tree has the fault
 abbrev pub Has : Data → DumpFault → Type 0

@@ -1,5 +1,5 @@
 -- The data that a tree in memory stands for, as the reader of JSON defines it.
-use Rattle.std.specs.Prelude.{ℕ, ◌&&◌, List, Bool, true, is_some, option_map, unwrap_or}
+use Rattle.std.specs.Prelude.{◌&&◌, Bool, true, is_some, option_map, unwrap_or}
 use Rattle.std.specs.Global.{Global}
 use Rattle.json.specs.Json as json
 use Rattle.json.specs.Value.{value_view}
@@ -7,16 +7,13 @@ use Rattle.json.specs.declared.value.Value.{Value}
 use Rattle.serde_json.specs.Data.{Data, null, boolean, number, string, array, object, Items, no_items, item, Members, no_members, put}
 use Rattle.serde_json.specs.Read.{number_of}
 
--- the data of a number's text; one that is out of range has none, and reads as null
-abbrev pub number_data : List ℕ → Data
-number_data s = unwrap_or (option_map number (number_of s)) null
-
--- The members of an object go in one after another, so the last value of a key stays.
+-- A number that is out of range reads as null. The members of an object go in one after another, so
+-- the last value of a key stays.
 abbrev mutual
   pub data_of : json.Json → Data
   data_of json.null = null
   data_of (json.boolean b) = boolean b
-  data_of (json.number s) = number_data s
+  data_of (json.number s) = unwrap_or (option_map number (number_of s)) null
   data_of (json.string s) = string s
   data_of (json.array js) = array (items_data js)
   data_of (json.object ms) = object (members_data ms no_members)

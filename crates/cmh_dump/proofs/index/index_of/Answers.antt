@@ -1,5 +1,8 @@
-use Rattle.std.proofs.Common.{[]}
-use Rattle.cmh_dump.proofs.Indexed.{repeated, not_repeated}
+use Rattle.std.proofs.Common.{[], length}
+use Rattle.cmh_dump.specs.Name.{repeats}
+use Rattle.cmh_dump.specs.Texts.{texts}
+use Rattle.cmh_dump.proofs.Faults.{least_found}
+use Rattle.cmh_dump.proofs.Indexed.{repeated, not_repeated, all_apart}
 use Rattle.cmh_dump.proofs.index.index_of.Goals as goal
 
 pub returns-then-not-is_new : goal.returns-then-not-is_new
@@ -8,7 +11,8 @@ returns-then-not-is_new c =
     repeated c.args.names.now c.loop-i.index.keys c.loop-i.i (record { ref_ptr = (0, 0); now = [] })
     c.in_ok-is_new.is_new c.loop-i-test.true c.loop-i.invariant.0 c.in_ok-is_new.ensures.added
     c.if-not-is_new.true in
-    record { within = p.0; repeated = p.1; before = c.loop-i.invariant.1 }
+    least_found (repeats (texts c.args.names.now)) (length (texts c.args.names.now)) c.loop-i.i p.0
+    c.loop-i.invariant.1 p.1
 
 pub loop-i-preserved : goal.loop-i-preserved
 loop-i-preserved c =
@@ -16,3 +20,8 @@ loop-i-preserved c =
     (not_repeated c.args.names.now c.loop-i.index.keys c.loop-i.i (record { ref_ptr = (0, 0); now = [] })
     c.in_ok-is_new.is_new c.loop-i-test.true c.loop-i.invariant.0 c.in_ok-is_new.ensures.added c.if-not-is_new.false
     c.loop-i.invariant.1)
+
+pub returns : goal.returns
+returns c =
+    all_apart c.args.names.now c.loop-i.index.keys c.loop-i.i c.loop-i-test.false c.loop-i.invariant.0
+    c.loop-i.invariant.1

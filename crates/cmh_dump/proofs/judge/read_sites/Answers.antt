@@ -1,8 +1,8 @@
-use Rattle.std.proofs.Common.{ℕ, ◌≤◌, ◌<◌, List, not, length, ap, sym, ◌∙◌, subst, arith}
+use Rattle.std.proofs.Common.{◌≤◌, ◌<◌, not, length, ap, sym, ◌∙◌, arith}
 use Rattle.std.specs.Prelude.{position}
 use Rattle.cmh_dump.specs.View.{view}
 use Rattle.cmh_dump.specs.declared.TheConstants.{MAX_SITES}
-use Rattle.cmh_dump.specs.Index.{IsFirstRepeat, AreApart}
+use Rattle.cmh_dump.specs.Index.{first_repeat}
 use Rattle.cmh_dump.specs.Name.{is_name}
 use Rattle.cmh_dump.specs.Texts.{texts}
 use Rattle.cmh_dump.proofs.Indexed.{repeat_of, length-texts}
@@ -26,7 +26,7 @@ returns-in-Err-Repeated-clause-judges c =
     c.in-Err-Repeated.field-0-is c.in-Err-Repeated.ensures in
     let same = ap texts c.deref-2.ensures.value in
     λ _. site_repeated (view c.args.tree.now) c.in_ok-sites.sites.items c.in_ok-sites.ensures c.in-Err-Repeated.i none
-    (subst (λ (ns : List (List ℕ)). IsFirstRepeat ns c.in-Err-Repeated.i) same repeat)
+    (ap first_repeat (sym same) ∙ repeat)
 
 pub returns-then-len-gt-MAX_SITES-clause-judges : goal.returns-then-len-gt-MAX_SITES-clause-judges
 returns-then-len-gt-MAX_SITES-clause-judges c =
@@ -35,7 +35,7 @@ returns-then-len-gt-MAX_SITES-clause-judges c =
     ∙ c.in_default.is in
     let many : MAX_SITES < length c.in_ok-sites.sites.items = omega arith in
     λ _. sites_many (view c.args.tree.now) c.in_ok-sites.sites.items c.in_ok-sites.ensures none
-    (subst AreApart (ap texts c.deref-2.ensures.value) c.in-Ok.ensures.1) many
+    (ap first_repeat (ap texts (sym c.deref-2.ensures.value)) ∙ c.in-Ok.ensures.1) many
 
 pub returns-clause-judges : goal.returns-clause-judges
 returns-clause-judges c =
@@ -44,7 +44,7 @@ returns-clause-judges c =
     ∙ c.in_default.is in
     let few : length c.in_ok-sites.sites.items ≤ MAX_SITES = omega arith in
     sites_judged (view c.args.tree.now) c.in_ok-sites.sites.items c.in_ok-sites.ensures none
-    (subst AreApart (ap texts c.deref-2.ensures.value) c.in-Ok.ensures.1) few
+    (ap first_repeat (ap texts (sym c.deref-2.ensures.value)) ∙ c.in-Ok.ensures.1) few
 
 pub returns-clause-few : goal.returns-clause-few
 returns-clause-few c =
