@@ -13,10 +13,18 @@ use Rattle.cmh_dump.specs.declared.fault.DumpFault.{DumpFault}
 use Rattle.cmh_dump.specs.declared.fault.DumpFault.TheVariants.{Memory}
 use Rattle.cmh_dump.specs.Dump.{holds, in_order, first_of, graph_of, places_in_pair, process_by, dump_of_tree}
 use Rattle.cmh_dump.specs.Entry.{entries, names, sites, transits}
-use Rattle.cmh_dump.specs.Read.{entry_view, top_faults, site_faults, process_faults, faults_from_names, AreRead, Builds}
+use Rattle.cmh_dump.specs.Read.{entry_view, top_faults, site_faults, process_faults, AreRead, Builds, name_faults, entry_faults, transit_faults}
 use Rattle.cmh_dump.proofs.Searches.{first_after, first_among}
 use Rattle.cmh_dump.proofs.Trees.{map-map}
 use Rattle.cmh_dump.proofs.WellFormed.{well_formed, refused_for_memory}
+
+-- the kinds that are judged once sites, processes and their names are read
+abbrev pub faults_from_entries : Data → List (List DumpFault)
+faults_from_entries d = entry_faults d ++ transit_faults d
+
+-- the kinds that are judged once sites and processes are read
+abbrev pub faults_from_names : Data → List (List DumpFault)
+faults_from_names d = name_faults d ++ faults_from_entries d
 
 module _ (d : Data) where
   -- the fault of a stage is that of the kinds from the stage on

@@ -1,6 +1,6 @@
 -- A tree is refused for its first fault, and so are bytes.
 use Rattle.std.proofs.Common.{◌≡◌, ℕ, ◌<◌, ◌≤◌, List, length, Bool, true, false, cond, Option, Some, None, Ok, Err, ◌⊎◌, inl, inr, refl, sym, ap, ◌∙◌, subst, arith}
-use Rattle.std.specs.Prelude.{nat_lt}
+use Rattle.std.specs.Prelude.{nat_lt, option_map, unwrap_or}
 use Rattle.std.specs.Option.{option_map_or}
 use Rattle.std.proofs.lemmas.Bool.{false≢true, ltb-true, ltb-false}
 use Rattle.serde_json.specs.Data.{Data}
@@ -9,7 +9,7 @@ use Rattle.cmh_dump.specs.declared.TheConstants.{MAX_BYTES}
 use Rattle.cmh_dump.specs.declared.fault.DumpFault.{DumpFault}
 use Rattle.cmh_dump.specs.declared.fault.DumpFault.TheVariants.{Memory, ReadFault, TooLong, NotJson}
 use Rattle.cmh_dump.specs.Dump.{holds, in_order, first_of, graph_of, dump_of_tree, tree_of, dump}
-use Rattle.cmh_dump.specs.FirstFault.{IsOfTree, Has, BytesHave, comes_before, IsFirstFault, AreNone, IsGraphOf, TreeFaultLaw, TreeGraphLaw, FirstFaultLaw, NoFaultLaw}
+use Rattle.cmh_dump.specs.FirstFault.{IsOfTree, Has, BytesHave, comes_before, IsFirstFault, AreNone, TreeFaultLaw, TreeGraphLaw, FirstFaultLaw, NoFaultLaw}
 use Rattle.cmh_dump.proofs.Order.{not_before_itself, not_before_both}
 use Rattle.cmh_dump.proofs.Stages.{allowed_in, IsLeastOfLists, least_of_lists}
 use Rattle.cmh_dump.proofs.Table.{stands, none_holds, in_stages}
@@ -190,28 +190,34 @@ first_fault_law = λ bytes fault. (
     answered bytes fault false l (Some d) t h =
         (tree_fault_law d fault).1 (first_in_tree bytes d fault (ltb-false MAX_BYTES (length bytes) l) t h)
 
--- bytes without a fault, and no others, mean the graph of their tree
-pub no_fault_law : NoFaultLaw
+-- bytes that mean a graph have no fault, and a tree of which it is the graph
+pub graph_told : (bytes : List ℕ) (g : Graph) → dump bytes ≡ Ok g
+    → AreNone (BytesHave bytes) × ((d : Data) × (tree_of bytes ≡ Some d) × (g ≡ graph_of d))
 unfolding dump
-no_fault_law = λ bytes g. (
-  λ e. clean bytes g (nat_lt MAX_BYTES (length bytes)) refl (tree_of bytes) refl e,
-  λ h. answered bytes g (nat_lt MAX_BYTES (length bytes)) refl (tree_of bytes) refl h.0 h.1,
-)
+graph_told bytes g e = clean bytes g (nat_lt MAX_BYTES (length bytes)) refl (tree_of bytes) refl e
   where
     clean : (bytes : List ℕ) (g : Graph) (long : Bool) → nat_lt MAX_BYTES (length bytes) ≡ long → (tree : Option Data)
         → tree_of bytes ≡ tree → cond long (Err TooLong) (of_tree tree) ≡ Ok g
-        → AreNone (BytesHave bytes) × IsGraphOf bytes g
+        → AreNone (BytesHave bytes) × ((d : Data) × (tree_of bytes ≡ Some d) × (g ≡ graph_of d))
     clean bytes g true l tree t e = absurd cc
     clean bytes g false l None t e = absurd cc
     clean bytes g false l (Some d) t e =
         let r = (tree_graph_law d g).0 e in
         (λ fault h. r.0 fault (tree_has bytes d fault (ltb-false MAX_BYTES (length bytes) l) t h), (d, t, r.1))
 
+-- bytes without a fault, and no others, mean the graph of their tree
+pub no_fault_law : NoFaultLaw
+unfolding dump
+no_fault_law = λ bytes g. (
+  λ e. let r = graph_told bytes g e in (r.0, ap (option_map graph_of) r.1.1 ∙ ap Some (sym r.1.2)),
+  λ h. answered bytes g (nat_lt MAX_BYTES (length bytes)) refl (tree_of bytes) refl h.0 h.1,
+)
+  where
     answered : (bytes : List ℕ) (g : Graph) (long : Bool) → nat_lt MAX_BYTES (length bytes) ≡ long
-        → (tree : Option Data) → tree_of bytes ≡ tree → AreNone (BytesHave bytes) → IsGraphOf bytes g
-        → cond long (Err TooLong) (of_tree tree) ≡ Ok g
+        → (tree : Option Data) → tree_of bytes ≡ tree → AreNone (BytesHave bytes)
+        → option_map graph_of (tree_of bytes) ≡ Some g → cond long (Err TooLong) (of_tree tree) ≡ Ok g
     answered bytes g true l tree t n h = absurd (n TooLong (ltb-true MAX_BYTES (length bytes) l))
     answered bytes g false l None t n h = absurd (n NotJson t)
     answered bytes g false l (Some d) t n h =
-        let same : h.0 ≡ d = cc in
-        (tree_graph_law d g).1 (λ fault k. n fault (bytes_have bytes d fault t k), h.2 ∙ ap graph_of same)
+        let is : g ≡ graph_of d = ap (λ o. unwrap_or o g) (sym h ∙ ap (option_map graph_of) t) in
+        (tree_graph_law d g).1 (λ fault k. n fault (bytes_have bytes d fault t k), is)

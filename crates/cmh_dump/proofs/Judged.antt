@@ -17,7 +17,7 @@ use Rattle.cmh_dump.specs.Index.{first_repeat}
 use Rattle.cmh_dump.specs.Name.{is_name, is_among}
 use Rattle.cmh_dump.specs.Read.{entry_view, first_pair, site_faults, process_faults, name_faults, entry_faults, transit_faults}
 use Rattle.cmh_dump.specs.Places.{first_unknown}
-use Rattle.cmh_dump.specs.Texts.{texts, value_texts}
+use Rattle.cmh_dump.specs.Texts.{texts, value_text}
 use Rattle.cmh_dump.specs.Tree.{texts_of}
 use Rattle.cmh_dump.proofs.Trees.{map-map}
 use Rattle.cmh_dump.proofs.Searches.{first_here, first_later, alone, bad_sites, repeated_sites, bad_processes, repeated_processes, unknown_sites, unknown_dependents, repeated_dependents, active_with_dependents, dependent_total_is, bad_transits, unknown_transits}
@@ -151,7 +151,7 @@ module _ (d : Data) (es : List declared.Entry) (seen : map entry_view es ≡ ent
   unknown_dependent = first_pair (λ e. first_unknown process_names e.dependents.now) 0 es
 
   abbrev repeated_dependent : Option (ℕ × ℕ)
-  repeated_dependent = first_pair (λ e. first_repeat (value_texts e.dependents.now)) 0 es
+  repeated_dependent = first_pair (λ e. first_repeat (map value_text e.dependents.now)) 0 es
 
   abbrev active : Option ℕ
   active = position (λ e. not (is_idle_state e.state) && nat_lt 0 (length e.dependents.now)) es

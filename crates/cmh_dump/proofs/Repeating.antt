@@ -18,7 +18,7 @@ use Rattle.cmh_dump.specs.Index.{first_repeat}
 use Rattle.cmh_dump.specs.Name.{is_among, place_of, repeats}
 use Rattle.cmh_dump.specs.Places.{first_unknown, unknown_dependent, place_repeats, first_repeated_place}
 use Rattle.cmh_dump.specs.Read.{entry_view, first_pair}
-use Rattle.cmh_dump.specs.Texts.{value_text, value_texts}
+use Rattle.cmh_dump.specs.Texts.{value_text}
 use Rattle.cmh_dump.specs.View.{Tree}
 use Rattle.cmh_dump.proofs.Faults.{below, least_found, none_found, find_alike}
 use Rattle.cmh_dump.proofs.Indexed.{among}
@@ -132,7 +132,7 @@ module _ (names : List (List ℕ)) where
       ∙ find_alike (place_repeats (map (place_of names) xs)) (repeats xs) (length xs) (repeats_alike xs h)
 
   -- where no value is unknown, all are among the names
-  none_unknown : (values : List Tree) → first_unknown names values ≡ None → AreAmong (value_texts values)
+  none_unknown : (values : List Tree) → first_unknown names values ≡ None → AreAmong (map value_text values)
   none_unknown values h =
       sym (all-map (is_among names) value_text values)
       ∙ all_pass (λ v. is_among names (value_text v)) values h
@@ -146,22 +146,23 @@ module _ (names : List (List ℕ)) where
   -- the same of the dependents of all processes
   rows_within : (i : ℕ) (es : List declared.Entry) → first_pair (λ e. first_unknown names e.dependents.now) i es ≡ None
       → list_all
-      (λ e. list_all (λ p. nat_lt p (length names)) (map (place_of names) (value_texts e.dependents.now))) es ≡ true
+      (λ e. list_all (λ p. nat_lt p (length names)) (map (place_of names) (map value_text e.dependents.now))) es ≡ true
   rows_within i [] h = refl
   rows_within i (e ∷ es) h =
       let both = neither_row i (first_unknown names e.dependents.now) _ h in
-      λ k. row_within (value_texts e.dependents.now) (none_unknown e.dependents.now both.0) k
+      λ k. row_within (map value_text e.dependents.now) (none_unknown e.dependents.now both.0) k
       && rows_within (i + 1) es both.1 k
 
   -- the first repeat among all of them, by places and by names
   rows_alike : (i : ℕ) (es : List declared.Entry) → first_pair (λ e. first_unknown names e.dependents.now) i es ≡ None
-      → first_pair (λ e. first_repeated_place (map (place_of names) (value_texts e.dependents.now))) i es
-      ≡ first_pair (λ e. first_repeat (value_texts e.dependents.now)) i es
+      → first_pair (λ e. first_repeated_place (map (place_of names) (map value_text e.dependents.now))) i es
+      ≡ first_pair (λ e. first_repeat (map value_text e.dependents.now)) i es
   rows_alike i [] h = refl
   rows_alike i (e ∷ es) h =
       let both = neither_row i (first_unknown names e.dependents.now) _ h in
       λ k. option_or
-      (option_map (λ j. (i, j)) (first_alike (value_texts e.dependents.now) (none_unknown e.dependents.now both.0) k))
+      (option_map (λ j. (i, j))
+      (first_alike (map value_text e.dependents.now) (none_unknown e.dependents.now both.0) k))
       (rows_alike (i + 1) es both.1 k)
 
   -- ---- of the parts that are made of the entries
@@ -185,7 +186,7 @@ module _ (names : List (List ℕ)) where
 
     -- the first place that repeats is the first repeated dependent
     pub pairs_alike : first_pair (λ part. first_repeated_place part.dependents.items) 0 parts
-        ≡ first_pair (λ e. first_repeat (value_texts e.dependents.now)) 0 es
+        ≡ first_pair (λ e. first_repeat (map value_text e.dependents.now)) 0 es
     pairs_alike =
         let search = λ (p : Process). first_repeated_place p.dependents in
         pairs-map search graph.process_of 0 parts ∙ ap (first_pair search 0) made

@@ -17,7 +17,7 @@ use Rattle.cmh_dump.specs.Index.{first_repeat}
 use Rattle.cmh_dump.specs.Name.{is_name, is_among}
 use Rattle.cmh_dump.specs.Read.{entry_view, first_pair}
 use Rattle.cmh_dump.specs.Places.{unknown_dependent}
-use Rattle.cmh_dump.specs.Texts.{texts, value_text, value_texts}
+use Rattle.cmh_dump.specs.Texts.{texts, value_text}
 use Rattle.cmh_dump.specs.Tree.{texts_of}
 use Rattle.cmh_dump.proofs.Faults.{below}
 use Rattle.cmh_dump.proofs.Trees.{map-map}
@@ -170,10 +170,11 @@ module _ (d : Data) (es : List declared.Entry) (seen : map entry_view es ≡ ent
 
   -- the first repeated dependent stands where the search by rows finds it
   pub repeated_dependents : find (holds d) (each_dependent d RepeatedDependent)
-      ≡ option_map (λ p. RepeatedDependent p.0 p.1) (first_pair (λ e. first_repeat (value_texts e.dependents.now)) 0 es)
+      ≡ option_map (λ p. RepeatedDependent p.0 p.1)
+      (first_pair (λ e. first_repeat (map value_text e.dependents.now)) 0 es)
   repeated_dependents =
       pairs_seen (holds d) RepeatedDependent (λ i. map (RepeatedDependent i) (below (length (entry d i).dependents)))
-      (λ e. first_repeat (value_texts e.dependents.now)) es (length (processes d)) process_count
+      (λ e. first_repeat (map value_text e.dependents.now)) es (length (processes d)) process_count
       (λ k e h. find-map (holds d) (RepeatedDependent k) (below (length (entry d k).dependents))
       ∙ ap (λ x. option_map (RepeatedDependent k) (first_repeat x.dependents)) (entry_seen k e h))
 

@@ -24,7 +24,7 @@ use Rattle.cmh_dump.specs.Dump.{holds, in_order, first_of, process_by, places_in
 use Rattle.cmh_dump.specs.FirstFault.{IsOfTree, Has, AreNone, HasDependent, WellFormedLaw}
 use Rattle.cmh_dump.proofs.Places.{place_within, same_from_places, differs}
 use Rattle.cmh_dump.proofs.Table.{none_holds}
-use Rattle.cmh_dump.proofs.FirstFaults.{bytes_have, no_fault_law}
+use Rattle.cmh_dump.proofs.FirstFaults.{bytes_have, graph_told}
 
 -- no fault of the tree holds
 abbrev pub IsClean : Data → Type 0
@@ -220,7 +220,7 @@ clean d none fault t = false_from_ne_true (holds d fault) (λ h. none fault (t, 
 -- what bytes mean is well formed
 pub well_formed_law : WellFormedLaw
 well_formed_law = λ bytes g e.
-    let r = (no_fault_law bytes g).0 e in
+    let r = graph_told bytes g e in
     let d = r.1.0 in
     subst IsWellFormed (sym r.1.2)
     (clean_is_well_formed d (clean d (λ fault h. r.0 fault (bytes_have bytes d fault r.1.1 h))))

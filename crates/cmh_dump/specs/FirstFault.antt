@@ -1,5 +1,5 @@
 -- Which fault of a dump is the first, and what the laws of dumps say.
-use Rattle.std.specs.Prelude.{◌≡◌, ◌↔◌, ℕ, ◌<◌, Bool, List, [], ◌∷◌, length, Some, None, Ok, Err, IsTrue, IsFalse, ⊤}
+use Rattle.std.specs.Prelude.{◌≡◌, ◌↔◌, ℕ, ◌<◌, Bool, List, [], ◌∷◌, length, Some, None, option_map, Ok, Err, IsTrue, IsFalse, ⊤}
 use Rattle.std.specs.Ordering.{nat_cmp, is_lt}
 use Rattle.std.specs.Cmp.Lexicographic.{slice_cmp}
 use Rattle.serde_json.specs.Data.{Data}
@@ -105,14 +105,10 @@ abbrev pub FirstFaultLaw : Type 0
 FirstFaultLaw = (bytes : List ℕ) (fault : DumpFault)
     → (dump bytes ≡ Err fault) ↔ IsFirstFault (BytesHave bytes) fault
 
--- g is the graph of the tree of the bytes
-abbrev pub IsGraphOf : List ℕ → Graph → Type 0
-IsGraphOf bytes g = (d : Data) × (tree_of bytes ≡ Some d) × (g ≡ graph_of d)
-
 -- bytes without a fault, and no others, mean a graph, and that is the one of their tree
 abbrev pub NoFaultLaw : Type 0
 NoFaultLaw = (bytes : List ℕ) (g : Graph)
-    → (dump bytes ≡ Ok g) ↔ (AreNone (BytesHave bytes) × IsGraphOf bytes g)
+    → (dump bytes ≡ Ok g) ↔ (AreNone (BytesHave bytes) × (option_map graph_of (tree_of bytes) ≡ Some g))
 
 -- what bytes mean is a graph that can be built
 abbrev pub WellFormedLaw : Type 0

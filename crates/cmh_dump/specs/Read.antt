@@ -1,5 +1,5 @@
 -- What is read of a dump before it becomes a graph, and what each stage of reading answers.
-use Rattle.std.specs.Prelude.{◌≡◌, ◌≢◌, ℕ, ◌+◌, List, [], ◌∷◌, ◌++◌, map, Option, Some, None, option_map, Result, Ok, Err}
+use Rattle.std.specs.Prelude.{◌≡◌, ◌≢◌, ℕ, ◌+◌, List, [], ◌∷◌, map, Option, Some, None, option_map, Result, Ok, Err}
 use Rattle.std.specs.Global.{Vec}
 use Rattle.std.specs.Option.{option_or}
 use Rattle.serde_json.specs.Data.{Data}
@@ -10,7 +10,7 @@ use Rattle.cmh_dump.specs.declared.fault.DumpFault.{DumpFault}
 use Rattle.cmh_dump.specs.declared.fault.DumpFault.TheVariants.{Memory, BadTop, BadVersion, BadSites, RepeatedSite, TooManySites, TooManyProcesses, BadProcess, RepeatedProcess, UnknownSite, UnknownDependent, RepeatedDependent, ActiveWithDependents, TooManyDependencies, TooManyInTransit, BadInTransit, UnknownInTransit}
 use Rattle.cmh_dump.specs.Dump.{holds, first_of, graph_of, each, each_dependent}
 use Rattle.cmh_dump.specs.Entry.{Entry, sites, processes, transits, entries}
-use Rattle.cmh_dump.specs.Texts.{value_texts}
+use Rattle.cmh_dump.specs.Texts.{value_text}
 
 -- a process as it is written, without where it lies in memory
 abbrev pub entry_view : declared.Entry → Entry
@@ -18,7 +18,7 @@ entry_view e = record {
   name = e.name.now;
   site = e.site.now;
   state = e.state;
-  dependents = value_texts e.dependents.now;
+  dependents = map value_text e.dependents.now;
 }
 
 -- the first row at which the search answers, and its answer, where the rows are counted from i
@@ -65,14 +65,6 @@ entry_faults d =
 abbrev pub transit_faults : Data → List (List DumpFault)
 transit_faults d =
     (TooManyInTransit ∷ []) ∷ each (transits d) BadInTransit ∷ each (transits d) UnknownInTransit ∷ []
-
--- the kinds that are judged once sites, processes and their names are read
-abbrev pub faults_from_entries : Data → List (List DumpFault)
-faults_from_entries d = entry_faults d ++ transit_faults d
-
--- the kinds that are judged once sites and processes are read
-abbrev pub faults_from_names : Data → List (List DumpFault)
-faults_from_names d = name_faults d ++ faults_from_entries d
 
 -- ---- what the graph is built of
 

@@ -11,7 +11,3 @@ texts xs = map (λ x. x.now) xs
 -- the text of a value, or the empty one
 abbrev pub value_text : Tree → List ℕ
 value_text value = text_of (view value)
-
--- the text of each value
-abbrev pub value_texts : List Tree → List (List ℕ)
-value_texts values = map value_text values

@@ -1,9 +1,9 @@
 //! From the bytes of a dump to its graph, or to the first fault that refuses it.
 
-ghost use Rattle.std.specs.Prelude.{◌≡◌, ◌≢◌, ◌<◌, ◌^◌, length, Ok, Err, IfOk, IfErr};
+ghost use Rattle.std.specs.Prelude.{◌≡◌, ◌≢◌, ◌<◌, ◌^◌, ◌++◌, length, Ok, Err, IfOk, IfErr};
 ghost use Rattle.cmh_dump.specs.Dump.{in_order, dump, dump_of_tree};
 ghost use Rattle.cmh_dump.specs.Entry.{names as names_lem};
-ghost use Rattle.cmh_dump.specs.Read.{AreRead, Builds, faults_from_entries, faults_from_names};
+ghost use Rattle.cmh_dump.specs.Read.{AreRead, Builds, name_faults, entry_faults, transit_faults};
 ghost use Rattle.cmh_dump.specs.Texts.{texts};
 ghost use Rattle.cmh_dump.specs.View.{view};
 
@@ -32,7 +32,8 @@ fn read_linked(
     requires few_names { length (texts names.now.keys) < 2 ^ 32 }
     ensures { AreRead (view tree.now) entries.now (texts sites.now.keys)
         → texts names.now.keys ≡ names_lem (view tree.now)
-        → Builds (view tree.now) (faults_from_entries (view tree.now)) result }
+        → Builds (view tree.now) (entry_faults (view tree.now)
+        ++ transit_faults (view tree.now)) result }
 {
     let parts = link_entries(alloc, entries, sites, names)?;
     let in_transit = read_in_transit(alloc, tree, names)?;
@@ -49,7 +50,8 @@ fn read_named(
     requires few_sites { length (texts sites.now.keys) < 2 ^ 32 }
     requires few_processes { length entries.now < 2 ^ 32 }
     ensures { AreRead (view tree.now) entries.now (texts sites.now.keys)
-        → Builds (view tree.now) (faults_from_names (view tree.now)) result }
+        → Builds (view tree.now) (name_faults (view tree.now)
+        ++ entry_faults (view tree.now) ++ transit_faults (view tree.now)) result }
 {
     let names = read_names(alloc, entries)?;
     read_linked(alloc, tree, entries, sites, &names)
