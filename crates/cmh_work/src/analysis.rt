@@ -1,8 +1,9 @@
 //! The analysis of a wait graph by workers.
 
-ghost use Rattle.std.specs.Prelude.{◌≡◌, ◌<◌, IfOk, IfErr};
+ghost use Rattle.std.specs.Prelude.{◌≡◌, ◌+◌, ◌<◌, length, IfOk, IfErr};
 ghost use Rattle.cmh_work.specs.Analysis.{IsAnalysisOf};
-ghost use Rattle.cmh_work.specs.Seats.{view};
+ghost use Rattle.cmh_work.specs.Seats.{view, IsSeatOf, chunks_in};
+ghost use Rattle.cmh_work.specs.Tickets.{opening_view};
 ghost use Rattle.cmh_work.specs.Working.{IsMadeFor, Sit, AreNew};
 ghost use Rattle.cmh_board.specs.Board.{known};
 
@@ -11,7 +12,7 @@ use crate::fault::{want_at_board, want_in_graph, want_of_tickets};
 use crate::job::{Seats, Shared};
 use crate::number::number_all;
 use crate::record::Analysis;
-use crate::seats::Tickets;
+use crate::seats::{TicketSeat, Tickets};
 use crate::shapes::Shapes;
 use crate::workers::workers;
 use crate::{Gate, Plan, WorkFault};
@@ -69,8 +70,7 @@ pub fn analyse_keeping<L: Log + Send, E: ProcessList + Send, R: Threads + Wait +
     let bounds = chunk_bounds(alloc, plan.cuts(), idle.len())?;
     let shapes = Shapes::of_graph(alloc, graph)?;
     let (board, board_seat) = Board::open(alloc, graph).map_err(want_at_board)?;
-    let chunks = plan.cuts().len() as u32 + 1;
-    let (tickets, ticket_seat) = Tickets::open(alloc, chunks).map_err(want_of_tickets)?;
+    let (tickets, ticket_seat) = open_tickets(alloc, plan)?;
     let shared = Shared {
         idle,
         bounds,
@@ -83,6 +83,16 @@ pub fn analyse_keeping<L: Log + Send, E: ProcessList + Send, R: Threads + Wait +
         tickets: ticket_seat,
     };
     finish(rt, alloc, graph, plan, shared, gate, seats)
+}
+
+/// A number for each chunk of the plan: there is one more than cuts.
+fn open_tickets(alloc: Global, plan: &Plan) -> Result<(Tickets, TicketSeat), WorkFault>
+    ensures open { IfOk result (λ r. IsSeatOf r.0 r.1 × (chunks_in r.0 ≡ length plan.now.cuts + 1)
+        × (view r.1 ≡ opening_view (length plan.now.cuts + 1))) }
+    ensures memory { IfErr result (λ e. e ≡ WorkFault.Memory) }
+{
+    let chunks = plan.cuts().len() as u32 + 1;
+    Tickets::open(alloc, chunks).map_err(want_of_tickets)
 }
 
 /// The analysis, by workers that share this.

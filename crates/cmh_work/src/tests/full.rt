@@ -2,8 +2,8 @@
 
 ghost use Rattle.std.specs.Prelude.{◌<◌};
 
-use super::graphs::{is_free, is_from_row, is_from_run, is_led};
 use super::expect;
+use super::graphs::{is_free, is_from_row, is_from_run, is_led};
 use crate::{Analysis, NoGate, Origin, Plan, Record, Row, analyse};
 use cmh_graph::{GraphFault, Part, State, Verdict, WaitGraph};
 use cmh_process::Kind;
