@@ -1,6 +1,5 @@
-use Rattle.std.proofs.Common.{◌≡◌, ◌∙◌, ap, subst, sym, List, None}
+use Rattle.std.proofs.Common.{subst, sym, List}
 use Rattle.cmh_run.specs.declared.delivery.Delivery.{Delivery}
-use Rattle.cmh_run.specs.Run.{Run, Stage, MayStart}
 use Rattle.cmh_run.specs.Choices.{HasNoHints}
 use Rattle.cmh_run.proofs.Following.{no_choice, taken_size, taken_within, taken_sender, taken_engagers, taken_room, taken_follows, taken_log, taken_falls, taken_restarts, taken_rests, taken_going, none_to_come, told_empty, no_hints_on}
 use Rattle.cmh_run.proofs.runner.follow_freely.Goals as goal
@@ -10,7 +9,8 @@ pub deliver-requires-clause-size : goal.deliver-requires-clause-size
 deliver-requires-clause-size g c =
     taken_size c.args.graph.now c.args.initiator c.args.choices.now c.args.restarts.now c.loop-message.progress
     c.take.new.self c.in-Some.message
-    c.requires.graph.within c.requires.idle c.loop-message.invariant.follows (c.in-Some.ensures.taken c.args.choices.now
+    c.requires.graph.within c.requires.idle c.loop-message.invariant.follows (c.in-Some.ensures.taken
+    c.args.choices.now
     (no_choice c.args.choices.now c.loop-message.progress.going.done c.loop-message.invariant.none))
 
 -- a message is delivered to a process of the graph
@@ -18,7 +18,8 @@ pub deliver-requires-clause-within : goal.deliver-requires-clause-within
 deliver-requires-clause-within g c =
     taken_within c.args.graph.now c.args.initiator c.args.choices.now c.args.restarts.now c.loop-message.progress
     c.take.new.self c.in-Some.message
-    c.requires.graph.within c.requires.idle c.loop-message.invariant.follows (c.in-Some.ensures.taken c.args.choices.now
+    c.requires.graph.within c.requires.idle c.loop-message.invariant.follows (c.in-Some.ensures.taken
+    c.args.choices.now
     (no_choice c.args.choices.now c.loop-message.progress.going.done c.loop-message.invariant.none))
 
 -- what it sends has room in words
@@ -26,14 +27,17 @@ pub deliver-requires-clause-sender : goal.deliver-requires-clause-sender
 deliver-requires-clause-sender g c =
     taken_sender c.args.graph.now c.args.initiator c.args.choices.now c.args.restarts.now c.loop-message.progress
     c.take.new.self c.in-Some.message
-    c.requires.graph.within c.requires.idle c.loop-message.invariant.follows (c.in-Some.ensures.taken c.args.choices.now
-    (no_choice c.args.choices.now c.loop-message.progress.going.done c.loop-message.invariant.none)) c.requires.graph c.in-Some.ensures.number
+    c.requires.graph.within c.requires.idle c.loop-message.invariant.follows (c.in-Some.ensures.taken
+    c.args.choices.now
+    (no_choice c.args.choices.now c.loop-message.progress.going.done c.loop-message.invariant.none))
+    c.requires.graph c.in-Some.ensures.number
 
 pub deliver-requires-clause-engagers : goal.deliver-requires-clause-engagers
 deliver-requires-clause-engagers g c =
     taken_engagers c.args.graph.now c.args.initiator c.args.choices.now c.args.restarts.now c.loop-message.progress
     c.take.new.self c.in-Some.message
-    c.requires.graph.within c.requires.idle c.loop-message.invariant.follows (c.in-Some.ensures.taken c.args.choices.now
+    c.requires.graph.within c.requires.idle c.loop-message.invariant.follows (c.in-Some.ensures.taken
+    c.args.choices.now
     (no_choice c.args.choices.now c.loop-message.progress.going.done c.loop-message.invariant.none)) c.requires.graph
 
 -- the deliveries can be counted
@@ -41,8 +45,10 @@ pub deliver-requires-clause-few : goal.deliver-requires-clause-few
 deliver-requires-clause-few g c =
     taken_room c.args.graph.now c.args.initiator c.args.choices.now c.args.restarts.now c.loop-message.progress
     c.take.new.self c.in-Some.message
-    c.requires.graph.within c.requires.idle c.loop-message.invariant.follows (c.in-Some.ensures.taken c.args.choices.now
-    (no_choice c.args.choices.now c.loop-message.progress.going.done c.loop-message.invariant.none)) c.requires.graph c.requires.few
+    c.requires.graph.within c.requires.idle c.loop-message.invariant.follows (c.in-Some.ensures.taken
+    c.args.choices.now
+    (no_choice c.args.choices.now c.loop-message.progress.going.done c.loop-message.invariant.none))
+    c.requires.graph c.requires.few
 
 -- the hints are kept where a delivery runs out of memory
 pub returns-in_err-deliver-clause-kept : goal.returns-in_err-deliver-clause-kept
@@ -55,15 +61,18 @@ pub loop-message-smaller : goal.loop-message-smaller
 loop-message-smaller g c =
     taken_falls c.args.graph.now c.args.initiator c.args.choices.now c.args.restarts.now c.loop-message.progress
     c.take.new.self c.in-Some.message
-    c.requires.graph.within c.requires.idle c.loop-message.invariant.follows (c.in-Some.ensures.taken c.args.choices.now
+    c.requires.graph.within c.requires.idle c.loop-message.invariant.follows (c.in-Some.ensures.taken
+    c.args.choices.now
     (no_choice c.args.choices.now c.loop-message.progress.going.done c.loop-message.invariant.none))
     c.in_ok-deliver.ensures.ok.hint c.in_ok-deliver.ensures.ok.fit c.deliver.new.self c.in_ok-deliver.ensures.ok.is
-    c.deliver.new.self (taken_rests c.args.graph.now c.args.initiator c.args.choices.now c.args.restarts.now c.loop-message.progress
+    c.deliver.new.self (taken_rests c.args.graph.now c.args.initiator c.args.choices.now c.args.restarts.now
+    c.loop-message.progress
     c.take.new.self c.in-Some.message
     c.requires.graph.within c.requires.idle c.loop-message.invariant.follows
     (c.in-Some.ensures.taken c.args.choices.now
     (no_choice c.args.choices.now c.loop-message.progress.going.done c.loop-message.invariant.none))
-    c.in_ok-deliver.ensures.ok.hint c.in_ok-deliver.ensures.ok.fit c.deliver.new.self c.in_ok-deliver.ensures.ok.is c.loop-message.invariant.rests) c.requires.few
+    c.in_ok-deliver.ensures.ok.hint c.in_ok-deliver.ensures.ok.fit c.deliver.new.self c.in_ok-deliver.ensures.ok.is
+    c.loop-message.invariant.rests) c.requires.few
 
 -- each delivery leads on by the choices, keeps the hints, and stays silent where they are
 pub loop-message-preserved : goal.loop-message-preserved
@@ -75,19 +84,23 @@ loop-message-preserved g c = record {
       (c.in-Some.ensures.taken c.args.choices.now
       (no_choice c.args.choices.now c.loop-message.progress.going.done c.loop-message.invariant.none))
       c.in_ok-deliver.ensures.ok.hint c.in_ok-deliver.ensures.ok.fit c.deliver.new.self c.in_ok-deliver.ensures.ok.is
-      c.deliver.new.self (taken_rests c.args.graph.now c.args.initiator c.args.choices.now c.args.restarts.now c.loop-message.progress
+      c.deliver.new.self (taken_rests c.args.graph.now c.args.initiator c.args.choices.now c.args.restarts.now
+      c.loop-message.progress
       c.take.new.self c.in-Some.message
       c.requires.graph.within c.requires.idle c.loop-message.invariant.follows
       (c.in-Some.ensures.taken c.args.choices.now
       (no_choice c.args.choices.now c.loop-message.progress.going.done c.loop-message.invariant.none))
-      c.in_ok-deliver.ensures.ok.hint c.in_ok-deliver.ensures.ok.fit c.deliver.new.self c.in_ok-deliver.ensures.ok.is c.loop-message.invariant.rests);
+      c.in_ok-deliver.ensures.ok.hint c.in_ok-deliver.ensures.ok.fit c.deliver.new.self
+      c.in_ok-deliver.ensures.ok.is c.loop-message.invariant.rests);
   none = c.loop-message.invariant.none;
-  rests = taken_restarts c.args.graph.now c.args.initiator c.args.choices.now c.args.restarts.now c.loop-message.progress
+  rests = taken_restarts c.args.graph.now c.args.initiator c.args.choices.now c.args.restarts.now
+      c.loop-message.progress
       c.take.new.self c.in-Some.message
       c.requires.graph.within c.requires.idle c.loop-message.invariant.follows
       (c.in-Some.ensures.taken c.args.choices.now
       (no_choice c.args.choices.now c.loop-message.progress.going.done c.loop-message.invariant.none))
-      c.in_ok-deliver.ensures.ok.hint c.in_ok-deliver.ensures.ok.fit c.deliver.new.self c.in_ok-deliver.ensures.ok.is c.loop-message.invariant.rests;
+      c.in_ok-deliver.ensures.ok.hint c.in_ok-deliver.ensures.ok.fit c.deliver.new.self
+      c.in_ok-deliver.ensures.ok.is c.loop-message.invariant.rests;
   kept = g.met.H.Hints.keeps_on c.args.hints.now c.loop-message.hints c.deliver.new.hints
       c.loop-message.invariant.kept c.deliver.ensures.kept;
   silent = λ q.
@@ -98,12 +111,14 @@ loop-message-preserved g c = record {
       (c.in-Some.ensures.taken c.args.choices.now
       (no_choice c.args.choices.now c.loop-message.progress.going.done c.loop-message.invariant.none))
       c.in_ok-deliver.ensures.ok.hint c.in_ok-deliver.ensures.ok.fit c.deliver.new.self c.in_ok-deliver.ensures.ok.is
-      c.deliver.new.self (taken_rests c.args.graph.now c.args.initiator c.args.choices.now c.args.restarts.now c.loop-message.progress
+      c.deliver.new.self (taken_rests c.args.graph.now c.args.initiator c.args.choices.now c.args.restarts.now
+      c.loop-message.progress
       c.take.new.self c.in-Some.message
       c.requires.graph.within c.requires.idle c.loop-message.invariant.follows
       (c.in-Some.ensures.taken c.args.choices.now
       (no_choice c.args.choices.now c.loop-message.progress.going.done c.loop-message.invariant.none))
-      c.in_ok-deliver.ensures.ok.hint c.in_ok-deliver.ensures.ok.fit c.deliver.new.self c.in_ok-deliver.ensures.ok.is c.loop-message.invariant.rests)))
+      c.in_ok-deliver.ensures.ok.hint c.in_ok-deliver.ensures.ok.fit c.deliver.new.self
+      c.in_ok-deliver.ensures.ok.is c.loop-message.invariant.rests)))
       (no_hints_on c.loop-message.progress.log
       (record { message = c.in-Some.message; hint = c.in_ok-deliver.ensures.ok.hint })
       (c.loop-message.invariant.silent q)
@@ -116,7 +131,8 @@ pub deliver-requires-clause-going : goal.deliver-requires-clause-going
 deliver-requires-clause-going g c =
     taken_going c.args.graph.now c.args.initiator c.args.choices.now c.args.restarts.now c.loop-message.progress
     c.take.new.self c.in-Some.message
-    c.requires.graph.within c.requires.idle c.loop-message.invariant.follows (c.in-Some.ensures.taken c.args.choices.now
+    c.requires.graph.within c.requires.idle c.loop-message.invariant.follows (c.in-Some.ensures.taken
+    c.args.choices.now
     (no_choice c.args.choices.now c.loop-message.progress.going.done c.loop-message.invariant.none))
 
 -- the hints speak of the graph
