@@ -3,6 +3,7 @@
 
 mod noted_reader;
 mod noted_writer;
+mod pieces;
 mod put;
 mod read_of;
 mod sink;
@@ -13,7 +14,8 @@ mod tape;
 mod tests;
 mod write_of;
 
-pub use put::{WriteFault, put_all};
+pub use pieces::Pieces;
+pub use put::{WriteFault, put_all, put_pieces};
 pub use read_of::ReadOf;
 pub use sink::Sink;
 pub use source::Source;

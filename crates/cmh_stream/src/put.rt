@@ -1,10 +1,10 @@
-//! A whole text for a sink.
+//! Whole texts for a sink.
 
-ghost use Rattle.std.specs.Prelude.{◌≡◌, ◌≤◌, ◌++◌, length, take, true, false, IfErr, IsErrAnd, MatchResult, OnOk, OnErr, Some, codes};
+ghost use Rattle.std.specs.Prelude.{◌≡◌, ◌≤◌, ◌++◌, length, take, true, false, IfErr, IsErr, IsErrAnd, MatchResult, OnOk, OnErr, Some, codes};
 ghost use Rattle.std.specs.Fmt.{decimal};
-ghost use Rattle.std.specs.Io.KnownBytes.{Appends};
+ghost use Rattle.std.specs.Io.KnownBytes.{Appends, Keeps};
 
-use crate::Sink;
+use crate::{Pieces, Sink};
 use std::error::Error;
 use std::fmt;
 
@@ -48,6 +48,65 @@ pub fn put_all<S: Sink>(sink: &mut S, bytes: &[u8]) -> Result<(), WriteFault>
         (λ _. Appends (S.contents sink.old) (S.contents sink.new) bytes.now)
         (λ e. Appends (S.contents sink.old) (S.contents sink.new) (take e.written bytes.now)) }
 {
+    put_text(sink, bytes)?;
+    finish(sink, bytes.len())
+}
+
+/// As `put_all`, piece by piece: so a text that was made in pieces needn't be joined.
+///
+/// # Errors
+///
+/// `WriteFault` where the sink fails. Its count is of the bytes of all pieces, as that of `put_all`.
+pub fn put_pieces<S: Sink>(sink: &mut S, text: &Pieces) -> Result<(), WriteFault>
+    ensures written { OnOk result (S.taken sink.new ≡ S.taken sink.old ++ text.now) }
+    ensures finished { OnOk result (S.is_finished sink.new ≡ true) }
+    ensures works { OnOk result (S.has_failed sink.new ≡ false) }
+
+    ensures within { IfErr result (λ e. e.written ≤ length text.now) }
+    ensures front { IfErr result (λ e.
+        S.taken sink.new ≡ S.taken sink.old ++ take e.written text.now) }
+    ensures stops { OnErr result (S.has_failed sink.new ≡ true) }
+    ensures unfinished { IfErr result (λ e. S.is_finished sink.new ≡ true
+        → (S.is_finished sink.old ≡ true) × (e.written ≡ 0)) }
+    ensures stays { S.has_failed sink.old ≡ true → IsErrAnd result (λ e. e.written ≡ 0) }
+
+    ensures known { MatchResult result
+        (λ _. Appends (S.contents sink.old) (S.contents sink.new) text.now)
+        (λ e. Appends (S.contents sink.old) (S.contents sink.new) (take e.written text.now)) }
+{
+    let pieces = text.list();
+    let mut written = 0;
+    for piece in pieces {
+        if let Err(fault) = put_text(sink, piece.as_bytes()) {
+            return Err(WriteFault {
+                written: written + fault.written,
+            });
+        }
+        written += piece.len();
+    }
+    finish(sink, written)
+}
+
+/// Puts the text into the sink, and doesn't finish it.
+fn put_text<S: Sink>(sink: &mut S, bytes: &[u8]) -> Result<(), WriteFault>
+    ensures written { OnOk result (S.taken sink.new ≡ S.taken sink.old ++ bytes.now) }
+    ensures opens { OnOk result (S.is_finished sink.new ≡ true
+        → (S.is_finished sink.old ≡ true) × (length bytes.now ≡ 0)) }
+
+    ensures within { IfErr result (λ e. e.written ≤ length bytes.now) }
+    ensures front { IfErr result (λ e.
+        S.taken sink.new ≡ S.taken sink.old ++ take e.written bytes.now) }
+    ensures stops { OnErr result (S.has_failed sink.new ≡ true) }
+    ensures unfinished { IfErr result (λ e. S.is_finished sink.new ≡ true
+        → (S.is_finished sink.old ≡ true) × (e.written ≡ 0)) }
+    ensures stays { S.has_failed sink.old ≡ true → MatchResult result
+        (λ _. (S.has_failed sink.new ≡ true) × (length bytes.now ≡ 0))
+        (λ e. e.written ≡ 0) }
+
+    ensures known { MatchResult result
+        (λ _. Appends (S.contents sink.old) (S.contents sink.new) bytes.now)
+        (λ e. Appends (S.contents sink.old) (S.contents sink.new) (take e.written bytes.now)) }
+{
     let mut written = 0;
     while written < bytes.len() {
         let Ok(count) = sink.put(&bytes[written..]) else {
@@ -55,5 +114,21 @@ pub fn put_all<S: Sink>(sink: &mut S, bytes: &[u8]) -> Result<(), WriteFault>
         };
         written += count;
     }
+    Ok(())
+}
+
+/// Finishes the sink, which was given so many bytes.
+fn finish<S: Sink>(sink: &mut S, written: usize) -> Result<(), WriteFault>
+    ensures takes_nothing { S.taken sink.new ≡ S.taken sink.old }
+    ensures known { Keeps (S.contents sink.old) (S.contents sink.new) }
+
+    ensures finishes { OnOk result (S.is_finished sink.new ≡ true) }
+    ensures keeps_finish { OnErr result (S.is_finished sink.new ≡ S.is_finished sink.old) }
+
+    ensures works { OnOk result (S.has_failed sink.new ≡ false) }
+    ensures stops { OnErr result (S.has_failed sink.new ≡ true) }
+    ensures stays { S.has_failed sink.old ≡ true → IsErr result }
+    ensures count { IfErr result (λ e. e.written ≡ written) }
+{
     sink.finish().map_err(|_| WriteFault { written })
 }

@@ -1,7 +1,7 @@
 //! What a reader and a writer are asked, call by call.
 
 use super::{expect, expect_eq};
-use crate::{ReadOf, Sink, Source, Stopped, WriteFault, WriteOf, put_all};
+use crate::{Pieces, ReadOf, Sink, Source, Stopped, WriteFault, WriteOf, put_all, put_pieces};
 use std::alloc::AllocError;
 use std::io;
 use std::io::{ErrorKind, Read, Write};
@@ -170,5 +170,19 @@ fn one_large_put(rt: HostRuntime) -> Result<(), AllocError> {
     expect_eq(&rt, put_all(&mut sink, &bytes), Ok(()));
     expect_eq(&rt, writer.writes, 2);
     expect_eq(&rt, writer.flushes, 2);
+    Ok(())
+}
+
+#[test]
+fn one_put_for_each_piece(rt: HostRuntime) -> Result<(), AllocError> {
+    let mut pieces = Pieces::new(rt.alloc());
+    for piece in ["one", "", "three"] {
+        pieces.push(String::from_str(rt.alloc(), piece)?)?;
+    }
+    let mut writer = ledger_of(NEVER, NEVER);
+    let mut sink = WriteOf::new(&mut writer);
+    expect_eq(&rt, put_pieces(&mut sink, &pieces), Ok(()));
+    expect_eq(&rt, writer.writes, 2);
+    expect_eq(&rt, writer.flushes, 1);
     Ok(())
 }

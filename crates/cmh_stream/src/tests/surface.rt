@@ -1,7 +1,7 @@
 //! Each public item as a client writes it.
 
 use super::expect_eq;
-use crate::{ReadOf, Sink, Source, Stopped, WriteFault, WriteOf, put_all};
+use crate::{Pieces, ReadOf, Sink, Source, Stopped, WriteFault, WriteOf, put_all, put_pieces};
 
 /// Hands the bytes of a source to a sink, in pieces.
 fn copy<S: Source, K: Sink>(source: &mut S, sink: &mut K) -> Result<(), Stopped> {
@@ -25,6 +25,9 @@ fn every_item(rt: HostRuntime) {
     expect_eq(&rt, source.failed(), false);
     expect_eq(&rt, sink.failed(), false);
     let answer: Result<(), WriteFault> = put_all(&mut sink, b".");
+    expect_eq(&rt, answer, Ok(()));
+    let pieces: Pieces = Pieces::new(rt.alloc());
+    let answer: Result<(), WriteFault> = put_pieces(&mut sink, &pieces);
     expect_eq(&rt, answer, Ok(()));
     expect_eq(&rt, bytes.as_slice(), b"seven b.".as_slice());
 }

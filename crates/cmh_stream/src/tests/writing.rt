@@ -2,7 +2,8 @@
 
 use super::memory::Page;
 use super::{expect, expect_eq};
-use crate::{Sink, Stopped, WriteFault, WriteOf, put_all};
+use crate::{Pieces, Sink, Stopped, WriteFault, WriteOf, put_all, put_pieces};
+use std::alloc::AllocError;
 use std::io;
 use std::io::{ErrorKind, Write};
 
@@ -87,6 +88,86 @@ fn a_full_writer_stops(rt: HostRuntime) {
         );
         expect_eq(&rt, writer.bytes.as_slice(), b"eleven ".as_slice());
     }
+}
+
+/// `TEXT` in pieces, of which one is empty.
+fn text_in_pieces(rt: HostRuntime) -> Result<Pieces, AllocError> {
+    let mut pieces = Pieces::new(rt.alloc());
+    for piece in ["ele", "", "ven b", "yte"] {
+        pieces.push(String::from_str(rt.alloc(), piece)?)?;
+    }
+    Ok(pieces)
+}
+
+#[test]
+fn pieces_are_one_text(rt: HostRuntime) -> Result<(), AllocError> {
+    let pieces = text_in_pieces(rt)?;
+    expect_eq(&rt, pieces.len(), 11);
+    expect_eq(&rt, pieces.into_string(rt.alloc())?.as_str(), "eleven byte");
+    let nothing = Pieces::new(rt.alloc());
+    expect_eq(&rt, nothing.len(), 0);
+    expect_eq(&rt, nothing.into_string(rt.alloc())?.as_str(), "");
+    Ok(())
+}
+
+#[test]
+fn pieces_behind_others(rt: HostRuntime) -> Result<(), AllocError> {
+    let mut pieces = Pieces::new(rt.alloc());
+    pieces.push(String::from_str(rt.alloc(), "one ")?)?;
+    pieces.append(text_in_pieces(rt)?)?;
+    pieces.append(Pieces::new(rt.alloc()))?;
+    expect_eq(&rt, pieces.len(), 15);
+    expect_eq(
+        &rt,
+        pieces.into_string(rt.alloc())?.as_str(),
+        "one eleven byte",
+    );
+    let mut lone = Pieces::new(rt.alloc());
+    lone.push(String::from_str(rt.alloc(), "lone")?)?;
+    expect_eq(&rt, lone.into_string(rt.alloc())?.as_str(), "lone");
+    Ok(())
+}
+
+#[test]
+fn a_narrow_writer_gets_all_pieces(rt: HostRuntime) -> Result<(), AllocError> {
+    let mut writer = narrow_writer(rt, 100);
+    let mut sink = WriteOf::new(&mut writer);
+    expect_eq(&rt, put_pieces(&mut sink, &text_in_pieces(rt)?), Ok(()));
+    expect_eq(&rt, put_pieces(&mut sink, &Pieces::new(rt.alloc())), Ok(()));
+    expect(&rt, !sink.failed());
+    expect_eq(&rt, writer.bytes.as_slice(), TEXT);
+    Ok(())
+}
+
+#[test]
+fn a_writer_that_is_full_amid_the_pieces(rt: HostRuntime) -> Result<(), AllocError> {
+    let pieces = text_in_pieces(rt)?;
+    for room in 0..11 {
+        let mut writer = narrow_writer(rt, room);
+        let mut sink = WriteOf::new(&mut writer);
+        let cut = WriteFault { written: room };
+        expect_eq(&rt, put_pieces(&mut sink, &pieces), Err(cut));
+        expect(&rt, sink.failed());
+        let nothing = WriteFault { written: 0 };
+        expect_eq(&rt, put_pieces(&mut sink, &pieces), Err(nothing));
+        expect(&rt, TEXT.starts_with(&writer.bytes));
+        expect_eq(&rt, writer.bytes.len(), room);
+    }
+    Ok(())
+}
+
+#[test]
+fn a_flush_that_fails_after_the_pieces(rt: HostRuntime) -> Result<(), AllocError> {
+    let mut writer = Narrow {
+        fails_flush: true,
+        ..narrow_writer(rt, 100)
+    };
+    let mut sink = WriteOf::new(&mut writer);
+    let whole = WriteFault { written: 11 };
+    expect_eq(&rt, put_pieces(&mut sink, &text_in_pieces(rt)?), Err(whole));
+    expect(&rt, sink.failed());
+    expect_eq(&rt, writer.bytes.as_slice(), TEXT);
+    Ok(())
 }
 
 #[test]

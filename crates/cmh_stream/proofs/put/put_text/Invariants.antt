@@ -2,7 +2,7 @@
 -- something isn't finished.
 use Rattle.std.proofs.Common.{◌≡◌, ◌-◌, ◌≤◌, ◌++◌, length, take, true}
 use Rattle.std.specs.Io.KnownBytes.{Appends}
-use Rattle.cmh_stream.proofs.put.put_all.Given as goal
+use Rattle.cmh_stream.proofs.put.put_text.Given as goal
 
 abbrev pub invariant-loop-written : goal.invariant-loop-written
 invariant-loop-written g l = record {

@@ -1,0 +1,43 @@
+-- A piece that isn't taken whole was taken up to so many bytes of it.
+use Rattle.std.proofs.Common.{rules, sym}
+use Rattle.std.specs.Prelude.{string_bytes}
+use Rattle.std.proofs.KnownBytes.{Appends-trans}
+use Rattle.std.proofs.lemmas.List.Folds.{length-flat_map-take}
+use Rattle.cmh_stream.proofs.Fronts.{grown-by_next, take_next}
+use Rattle.cmh_stream.proofs.put.put_pieces.Goals as goal
+
+pub overflow_add-result : goal.overflow_add-result
+overflow_add-result g c =
+    let all = length-flat_map-take (λ s. string_bytes s) c.list-pieces.result.now c.loop-piece.piece-index
+    c.piece-item.result c.loop-piece-test.true in
+    search (rules, all)
+
+pub returns-in-Err-clause-within : goal.returns-in-Err-clause-within
+returns-in-Err-clause-within g c =
+    let all = length-flat_map-take (λ s. string_bytes s) c.list-pieces.result.now c.loop-piece.piece-index
+    c.piece-item.result c.loop-piece-test.true in
+    search (rules, all)
+
+pub returns-in-Err-clause-front : goal.returns-in-Err-clause-front
+returns-in-Err-clause-front g c =
+    let kept = c.loop-piece.invariant in
+    rw (sym c.list-pieces.ensures.text)
+    (grown-by_next (λ s. string_bytes s) _ _ _ _ _ _ _ _ c.loop-piece-test.true c.piece-item.is kept.written
+    (search rules) kept.taken (search rules))
+
+pub returns-in-Err-clause-known : goal.returns-in-Err-clause-known
+returns-in-Err-clause-known g c =
+    let kept = c.loop-piece.invariant in
+    rw (
+      sym c.list-pieces.ensures.text,
+      take_next (λ s. string_bytes s) c.list-pieces.result.now c.loop-piece.piece-index c.piece-item.result
+          c.loop-piece.written c.in-Err.fault.written c.loop-piece-test.true c.piece-item.is kept.written
+          (search rules),
+    )
+    (rw (sym c.as_bytes.ensures.value) (Appends-trans _ _ _ _ _ kept.known c.in-Err.ensures.known))
+
+pub overflow_add-written : goal.overflow_add-written
+overflow_add-written g c =
+    let all = length-flat_map-take (λ s. string_bytes s) c.list-pieces.result.now c.loop-piece.piece-index
+    c.piece-item.result c.loop-piece-test.true in
+    search (rules, all)
