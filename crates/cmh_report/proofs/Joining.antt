@@ -1,8 +1,8 @@
 -- Lines that several threads made, and the text that they are joined to.
 use Rattle.std.proofs.Common.{◌≡◌, ℕ, zero, suc, ◌<◌, List, [], ◌∷◌, ◌++◌, map, drop, get_or, reverse, take, append-nil, append_assoc, length, refl, sym, ◌∙◌, ap, subst}
-use Rattle.std.specs.Prelude.{All, Contains, Result, Ok, Err, IfOk, IsTrue, MatchResult, Option, String, flat_map, string_bytes}
+use Rattle.std.specs.Prelude.{All, Contains, Result, Ok, Err, IfOk, IsTrue, MatchResult, Option, flat_map}
 use Rattle.std.specs.Borrow.{Bor}
-use Rattle.std.specs.Global.{Global, Vec}
+use Rattle.std.specs.Global.{Vec}
 use Rattle.std.specs.List.{AllZip}
 use Rattle.std.proofs.lemmas.List.Concat.{flat_map-append}
 use Rattle.std.proofs.lemmas.List.Elements.{All-cons, All-drop, All-head, All-nil, All-push, All-same, All-tail, All-take}
@@ -21,29 +21,27 @@ use Rattle.cmh_report.specs.Report.{line, report_text, totals_line, process_line
 use Rattle.cmh_report.proofs.Numbers.{leads_itself, led_test}
 use Rattle.cmh_report.proofs.Words.{whole_text}
 
--- the line of each item stands at its place
-each_line : {X : Type 0} (E : Type 0) (f : X → List ℕ) (items : List (Bor X)) (lines : List (String Global))
-    → AllZip (λ (z : Bor X) (t : Result (String Global) E). IfOk t (λ s. string_bytes s ≡ f z.now)) items (map Ok lines)
-    → map (λ s. string_bytes s) lines ≡ map f (map (λ (z : Bor X). z.now) items)
-each_line E f [] [] h = refl
-each_line E f [] (l ∷ ls) h = absurd h
-each_line E f (z ∷ zs) [] h = absurd h
-each_line E f (z ∷ zs) (l ∷ ls) h = λ i. h.0 i ∷ each_line E f zs ls h.1 i
+-- the text of each item stands at its place
+each_text : {X : Type 0} (E : Type 0) (f : X → List ℕ) (items : List (Bor X)) (texts : List (List ℕ))
+    → AllZip (λ (z : Bor X) (t : Result (List ℕ) E). IfOk t (λ s. s ≡ f z.now)) items (map Ok texts)
+    → texts ≡ map f (map (λ (z : Bor X). z.now) items)
+each_text E f [] [] h = refl
+each_text E f [] (t ∷ ts) h = absurd h
+each_text E f (z ∷ zs) [] h = absurd h
+each_text E f (z ∷ zs) (t ∷ ts) h = λ i. h.0 i ∷ each_text E f zs ts h.1 i
 
--- what is collected of the lines of a list's items is the line of each, in its place
+-- what is collected of the texts of a list's items is the text of each, in its place
 pub collected : {X : Type 0} (E : Type 0) (f : X → List ℕ) (xs : List X) (items : List (Bor X))
-    (made : List (Result (String Global) E)) (r : Result (Vec (String Global)) E)
+    (made : List (Result (List ℕ) E)) (r : Result (Vec (List ℕ)) E)
     → map (λ (z : Bor X). z.now) items ≡ xs
-    → AllZip (λ (z : Bor X) (t : Result (String Global) E). IfOk t (λ s. string_bytes s ≡ f z.now)) items made
-    → MatchResult r (λ v. (ls : List (String Global)) × (made ≡ map Ok ls) × (v.items ≡ ls))
+    → AllZip (λ (z : Bor X) (t : Result (List ℕ) E). IfOk t (λ s. s ≡ f z.now)) items made
+    → MatchResult r (λ v. (ts : List (List ℕ)) × (made ≡ map Ok ts) × (v.items ≡ ts))
     (λ e. Contains made (Err e))
-    → IfOk r (λ v. map (λ s. string_bytes s) v.items ≡ map f xs)
+    → IfOk r (λ v. v.items ≡ map f xs)
 collected {X} E f xs items made (Ok v) shown each all =
-    let of_each : List (Result (String Global) E) → Type 0 =
-    AllZip (λ (z : Bor X) t. IfOk t (λ s. string_bytes s ≡ f z.now)) items in
-    ap (map (λ s. string_bytes s)) all.2
-    ∙ each_line E f items all.0 (subst of_each all.1 each)
-    ∙ ap (map f) shown
+    let of_each : List (Result (List ℕ) E) → Type 0 =
+    AllZip (λ (z : Bor X) t. IfOk t (λ s. s ≡ f z.now)) items in
+    all.2 ∙ each_text E f items all.0 (subst of_each all.1 each) ∙ ap (map f) shown
 collected E f xs items made (Err e) shown each all = tt
 
 -- a map of what is turned around
@@ -56,14 +54,10 @@ map_reverse f (x ∷ xs) =
     ∙ sym (reverse-append (f x ∷ []) (map f xs))
 
 -- texts from the last on are those of the items from the last on
-pub texts_turned : {X : Type 0} (f : X → List ℕ) (xs : List X) (texts : List (String Global))
-    → map (λ s. string_bytes s) texts ≡ map f xs
-    → flat_map (λ s. string_bytes s) (reverse texts) ≡ flat_map f (reverse xs)
+texts_turned : {X : Type 0} (f : X → List ℕ) (xs : List X) (texts : List (List ℕ)) → texts ≡ map f xs
+    → flat_map (λ t. t) (reverse texts) ≡ flat_map f (reverse xs)
 texts_turned f xs texts same =
-    sym (flat_map-map (λ ys. ys) (λ s. string_bytes s) (reverse texts))
-    ∙ ap (flat_map (λ ys. ys))
-    (map_reverse (λ s. string_bytes s) texts ∙ ap reverse same ∙ sym (map_reverse f xs))
-    ∙ flat_map-map (λ ys. ys) f (reverse xs)
+    ap (flat_map (λ ys. ys)) (ap reverse same ∙ sym (map_reverse f xs)) ∙ flat_map-map (λ ys. ys) f (reverse xs)
 
 -- pieces from the last on, each from its end on, are the whole list from its end on
 pieces_turned : {X : Type 0} (f : X → List ℕ) (pieces : List (List X))
@@ -78,10 +72,10 @@ pieces_turned f (piece ∷ pieces) =
     ∙ ap (flat_map f) (sym (reverse-append piece (flat_map (λ xs. xs) pieces)))
 
 -- the texts of the pieces of a list that is gone through from its end are the text of the list
-pub pieces_joined : {X : Type 0} (f : X → List ℕ) (list falling : List X) (size : ℕ) (texts : List (String Global))
+pub pieces_joined : {X : Type 0} (f : X → List ℕ) (list falling : List X) (size : ℕ) (texts : List (List ℕ))
     → 0 < size → falling ≡ reverse list
-    → map (λ s. string_bytes s) texts ≡ map (λ piece. flat_map f (reverse piece)) (chunks_of size falling)
-    → flat_map (λ s. string_bytes s) (reverse texts) ≡ flat_map f list
+    → texts ≡ map (λ piece. flat_map f (reverse piece)) (chunks_of size falling)
+    → flat_map (λ t. t) (reverse texts) ≡ flat_map f list
 pieces_joined f list falling size texts some turned same =
     texts_turned (λ piece. flat_map f (reverse piece)) (chunks_of size falling) texts same
     ∙ pieces_turned f (chunks_of size falling)
@@ -134,18 +128,16 @@ leaders_lead g table list are is =
     (i, led_test g table (get_or (leaders g) k d) (get_or (leaders g) k d) are i ∙ kept.1))
 
 -- the totals and all lines are the report
-pub whole_report : (g : Graph) (first text : List ℕ) (processes groups : List (String Global))
+pub whole_report : (g : Graph) (first text : List ℕ) (processes groups : List (List ℕ))
     → first ≡ line (totals_line g) → AreLines (map (process_line g) (idle_list g)) processes
     → AreLines (map (group_line g) (leaders g)) groups
-    → text ≡ (first ++ flat_map (λ s. string_bytes s) (reverse processes))
-    ++ flat_map (λ s. string_bytes s) (reverse groups)
+    → text ≡ (first ++ flat_map (λ t. t) (reverse processes)) ++ flat_map (λ t. t) (reverse groups)
     → text ≡ report_text g
 whole_report g first text processes groups e p q is = is ∙ (λ i. (e i ++ p i) ++ q i) ∙ whole_text g
 
--- the last line of those that are left goes first
-pub last_appended : (text : List ℕ) (line : String Global) (old new : List (String Global)) → old ≡ new ++ line ∷ []
-    → (text ++ string_bytes line) ++ flat_map (λ s. string_bytes s) (reverse new)
-    ≡ text ++ flat_map (λ s. string_bytes s) (reverse old)
-last_appended text line old new is =
-    append_assoc text (string_bytes line) (flat_map (λ s. string_bytes s) (reverse new))
-    ∙ ap (λ ys. text ++ flat_map (λ s. string_bytes s) ys) (sym (ap reverse is ∙ reverse-append new (line ∷ [])))
+-- the last text of those that are left goes first
+pub last_appended : {X : Type 0} (f : X → List ℕ) (text : List ℕ) (last : X) (old new : List X) → old ≡ new ++ last ∷ []
+    → (text ++ f last) ++ flat_map f (reverse new) ≡ text ++ flat_map f (reverse old)
+last_appended f text last old new is =
+    append_assoc text (f last) (flat_map f (reverse new))
+    ∙ ap (λ ys. text ++ flat_map f ys) (sym (ap reverse is ∙ reverse-append new (last ∷ [])))

@@ -1,6 +1,6 @@
 //! An analysis from end to end: a dump comes in, and its report goes out.
 
-ghost use Rattle.std.specs.Prelude.{◌≡◌, ◌+◌, true, IfOk, IfErr, string_bytes};
+ghost use Rattle.std.specs.Prelude.{◌≡◌, ◌+◌, true, IfOk, IfErr};
 ghost use Rattle.cmh_dump.specs.Source.{GaveAtMost};
 ghost use Rattle.cmh_dump.specs.declared.TheConstants.{MAX_BYTES};
 ghost use Rattle.cmh_report.specs.Ends.{IsAnswer, IsCutShort, IsRefused};
@@ -16,16 +16,16 @@ use crate::text::text_of;
 use cmh_dump::Source;
 use cmh_graph::WaitGraph;
 use cmh_run::{NoList, NoLog, RunLog};
-use cmh_stream::{Sink, put_all};
+use cmh_stream::{Pieces, Sink, put_pieces};
 use cmh_work::{Analysis, Gate, Plan, WorkFault, analyse_keeping};
 use std::alloc::{AllocError, Global};
 use std::sync::Wait;
 use std::thread::Threads;
 
-/// The report on a graph, and how many of its processes are deadlocked.
+/// The report on a graph, in pieces, and how many of its processes are deadlocked.
 #[derive(Drop)]
 struct Report {
-    text: String,
+    text: Pieces,
     deadlocked: u32,
 }
 
@@ -64,7 +64,7 @@ fn text_and_count<R: Threads + Sync>(
     analysis: Analysis<RunLog<NoLog, NoList>, NoList>,
 ) -> Result<Report, AllocError>
     requires { IsSomeAnalysisOf graph.now analysis }
-    ensures text { IfOk result (λ r. string_bytes r.text ≡ report_text graph.now) }
+    ensures text { IfOk result (λ r. r.text ≡ report_text graph.now) }
     ensures deadlocked { IfOk result (λ r. r.deadlocked ≡ deadlocked_count graph.now) }
 {
     let outline = outlined(alloc, graph, analysis)?;
@@ -83,7 +83,7 @@ fn reported<R: Threads + Sync>(
     analysis: Analysis<RunLog<NoLog, NoList>, NoList>,
 ) -> Result<Report, AppFault>
     requires { IsSomeAnalysisOf graph.now analysis }
-    ensures text { IfOk result (λ r. string_bytes r.text ≡ report_text graph.now) }
+    ensures text { IfOk result (λ r. r.text ≡ report_text graph.now) }
     ensures deadlocked { IfOk result (λ r. r.deadlocked ≡ deadlocked_count graph.now) }
     ensures memory { IfErr result (λ e. e ≡ AppFault.Report ReportFault.Memory) }
 {
@@ -132,6 +132,6 @@ pub fn analyse_bytes<R: Threads + Wait + Sync, S: Source, K: Sink, G: Gate>(
     let graph = read_graph(alloc, source)?;
     let analysis = analysed(rt, alloc, &graph, plan, gate)?;
     let report = reported(rt, alloc, &graph, analysis)?;
-    put_all(sink, report.text.as_bytes())?;
+    put_pieces(sink, &report.text)?;
     Ok(report.deadlocked)
 }

@@ -3,6 +3,7 @@
 #![tactic(auto)]
 
 mod analyse;
+mod chunks;
 mod fault;
 mod group;
 mod groups;
@@ -15,7 +16,6 @@ mod names;
 mod outline;
 mod parallel;
 mod paths;
-mod pieces;
 mod sites;
 #[cfg(test)]
 mod tests;

@@ -1,6 +1,6 @@
-//! The lines of the report, made by several threads in pieces of text. Whichever thread makes a piece,
-//! it stands in its place. Lines are made from the last to the first, and joined from the first on: what
-//! was taken last is given back first, so that the heap can shrink while the text grows.
+//! The lines of the report, made by several threads in chunks. Whichever thread makes a chunk, its text
+//! stands in its place. Lines are made from the last to the first, since a line often goes on from the
+//! one after it.
 
 ghost use Rattle.std.specs.Prelude.{◌≡◌, ◌<◌, All, IfOk, IfSome, IsTrue, flat_map, map, reverse, string_bytes};
 ghost use Rattle.cmh_graph.specs.Core.{leaders};
@@ -13,6 +13,7 @@ ghost use Rattle.cmh_report.specs.Names.{AreNamesOf};
 ghost use Rattle.cmh_report.specs.Paths.{ArePathsOf};
 ghost use Rattle.cmh_report.specs.Report.{line, process_line, group_line};
 
+use crate::chunks::{group_chunk, process_chunk};
 use crate::group::group_of;
 use crate::groups::Groups;
 use crate::knot::Knot;
@@ -20,21 +21,21 @@ use crate::known::Known;
 use crate::lines::{push_deadlocked, push_free, push_group};
 use crate::names::LastNames;
 use crate::paths::Paths;
-use crate::pieces::{group_piece, process_piece};
-use crate::turned::text_from_last;
+use crate::turned::Turned;
 use cmh_graph::WaitGraph;
+use cmh_stream::Pieces;
 use rayon::prelude::*;
 use std::alloc::{AllocError, Global};
 use std::thread::Threads;
 
-/// The lines of the idle processes, in pieces from the last to the first.
+/// The lines of the idle processes, in chunks from the last to the first.
 pub(crate) fn process_lines<R: Threads + Sync>(
     rt: &R,
     alloc: Global,
     graph: &WaitGraph,
     groups: &Groups,
     paths: &Paths,
-) -> Result<Vec<String>, AllocError>
+) -> Result<Vec<Pieces>, AllocError>
     requires groups { AreGroupsOf graph.now groups.now }
     requires paths { ArePathsOf graph.now paths.now }
     ensures { IfOk result (λ texts.
@@ -42,27 +43,27 @@ pub(crate) fn process_lines<R: Threads + Sync>(
 {
     let idle = from_last(alloc, &paths.idle)?;
     idle.as_slice()
-        .par_chunks(process_piece(paths))
+        .par_chunks(process_chunk(paths))
         .with_min_len(1)
         .map(
-            |piece: &[u32]| -> Result<String, AllocError>
+            |chunk: &[u32]| -> Result<Pieces, AllocError>
                 requires { AreGroupsOf graph.now groups.now × ArePathsOf graph.now paths.now
-                    × All (λ p. p < process_count graph.now) piece.now }
-                ensures { IfOk result (λ text. string_bytes text
-                    ≡ flat_map (λ p. line (process_line graph.entry.now p)) (reverse piece.now)) }
-            { process_text(alloc, graph, groups, paths, piece) },
+                    × All (λ p. p < process_count graph.now) chunk.now }
+                ensures { IfOk result (λ text. text
+                    ≡ flat_map (λ p. line (process_line graph.entry.now p)) (reverse chunk.now)) }
+            { process_text(alloc, graph, groups, paths, chunk) },
         )
-        .collect::<Result<Vec<String>, AllocError>>(rt, alloc)?
+        .collect::<Result<Vec<Pieces>, AllocError>>(rt, alloc)?
 }
 
-/// The lines of the groups, in pieces from the last to the first.
+/// The lines of the groups, in chunks from the last to the first.
 pub(crate) fn group_lines<R: Threads + Sync>(
     rt: &R,
     alloc: Global,
     graph: &WaitGraph,
     groups: &Groups,
     knot: &Knot,
-) -> Result<Vec<String>, AllocError>
+) -> Result<Vec<Pieces>, AllocError>
     requires groups { AreGroupsOf graph.now groups.now }
     requires knot { IsKnotOf graph.now knot.now }
     ensures { IfOk result (λ texts.
@@ -71,17 +72,17 @@ pub(crate) fn group_lines<R: Threads + Sync>(
     let leaders = from_last(alloc, &groups.list)?;
     leaders
         .as_slice()
-        .par_chunks(group_piece(graph, leaders.len()))
+        .par_chunks(group_chunk(graph, leaders.len()))
         .with_min_len(1)
         .map(
-            |piece: &[u32]| -> Result<String, AllocError>
+            |chunk: &[u32]| -> Result<Pieces, AllocError>
                 requires { AreGroupsOf graph.now groups.now × IsKnotOf graph.now knot.now
-                    × All (λ p. (p < process_count graph.now) × IsTrue (is_led_by groups.now.leaders.items p p)) piece.now }
-                ensures { IfOk result (λ text. string_bytes text
-                    ≡ flat_map (λ p. line (group_line graph.entry.now p)) (reverse piece.now)) }
-            { group_text(alloc, graph, groups, knot, piece) },
+                    × All (λ p. (p < process_count graph.now) × IsTrue (is_led_by groups.now.leaders.items p p)) chunk.now }
+                ensures { IfOk result (λ text. text
+                    ≡ flat_map (λ p. line (group_line graph.entry.now p)) (reverse chunk.now)) }
+            { group_text(alloc, graph, groups, knot, chunk) },
         )
-        .collect::<Result<Vec<String>, AllocError>>(rt, alloc)?
+        .collect::<Result<Vec<Pieces>, AllocError>>(rt, alloc)?
 }
 
 /// The list from its end on.
@@ -99,21 +100,21 @@ fn process_text(
     graph: &WaitGraph,
     groups: &Groups,
     paths: &Paths,
-    piece: &[u32],
-) -> Result<String, AllocError>
+    chunk: &[u32],
+) -> Result<Pieces, AllocError>
     requires groups { AreGroupsOf graph.now groups.now }
     requires paths { ArePathsOf graph.now paths.now }
-    requires within { All (λ p. p < process_count graph.now) piece.now }
-    ensures { IfOk result (λ text. string_bytes text
-        ≡ flat_map (λ p. line (process_line graph.now p)) (reverse piece.now)) }
+    requires within { All (λ p. p < process_count graph.now) chunk.now }
+    ensures { IfOk result (λ text. text
+        ≡ flat_map (λ p. line (process_line graph.now p)) (reverse chunk.now)) }
 {
-    let mut lines = Vec::new(alloc);
+    let mut text = Turned::new(alloc);
     let mut last = LastNames::new(alloc);
-    for p in piece {
+    for p in chunk {
         let line = line_of_process(alloc, graph, groups, paths, *p, &mut last)?;
-        lines.push(line)?;
+        text.push(alloc, line)?;
     }
-    text_from_last(alloc, lines)
+    text.into_pieces(alloc)
 }
 
 /// The lines of the groups of these leaders, who come from the last to the first.
@@ -122,23 +123,23 @@ fn group_text(
     graph: &WaitGraph,
     groups: &Groups,
     knot: &Knot,
-    piece: &[u32],
-) -> Result<String, AllocError>
+    chunk: &[u32],
+) -> Result<Pieces, AllocError>
     requires groups { AreGroupsOf graph.now groups.now }
     requires knot { IsKnotOf graph.now knot.now }
     requires lead { All (λ p. (p < process_count graph.now)
-        × IsTrue (is_led_by groups.now.leaders.items p p)) piece.now }
-    ensures { IfOk result (λ text. string_bytes text
-        ≡ flat_map (λ p. line (group_line graph.now p)) (reverse piece.now)) }
+        × IsTrue (is_led_by groups.now.leaders.items p p)) chunk.now }
+    ensures { IfOk result (λ text. text
+        ≡ flat_map (λ p. line (group_line graph.now p)) (reverse chunk.now)) }
 {
-    let mut lines = Vec::new(alloc);
+    let mut text = Turned::new(alloc);
     let mut last = LastNames::new(alloc);
     let mut known = None;
-    for leader in piece {
+    for leader in chunk {
         let line = line_of_group(alloc, graph, groups, knot, *leader, &mut known, &mut last)?;
-        lines.push(line)?;
+        text.push(alloc, line)?;
     }
-    text_from_last(alloc, lines)
+    text.into_pieces(alloc)
 }
 
 /// The line of an idle process, which is free where nobody leads it.

@@ -10,10 +10,10 @@ use crate::knot::Knot;
 use crate::outline::Outline;
 use crate::parallel::{group_lines, process_lines};
 use crate::paths::Paths;
-use crate::pieces::lines_room;
 use crate::turned::append;
 use cmh_graph::WaitGraph;
 use cmh_run::{Log, ProcessList, RunLog};
+use cmh_stream::Pieces;
 use cmh_work::{Analysis, Record};
 use std::alloc::{AllocError, Global};
 use std::thread::Threads;
@@ -52,18 +52,18 @@ fn told<L: Log, E: ProcessList, R: Threads + Sync>(
     ensures { IfOk result (λ text. string_bytes text ≡ report_text graph.now) }
 {
     let outline = Outline::of_records(alloc, graph, records)?;
-    text_of(rt, alloc, graph, &outline)
+    text_of(rt, alloc, graph, &outline)?.into_string(alloc)
 }
 
-/// The report, by what was taken from the records.
+/// The report in pieces, by what was taken from the records.
 pub(crate) fn text_of<R: Threads + Sync>(
     rt: &R,
     alloc: Global,
     graph: &WaitGraph,
     outline: &Outline,
-) -> Result<String, AllocError>
+) -> Result<Pieces, AllocError>
     requires { IsOutlineOf graph.now outline.now }
-    ensures { IfOk result (λ text. string_bytes text ≡ report_text graph.now) }
+    ensures { IfOk result (λ text. text ≡ report_text graph.now) }
 {
     let paths = Paths::of_graph(alloc, graph)?;
     let of_processes = process_lines(rt, alloc, graph, &outline.groups, &paths)?;
@@ -72,21 +72,20 @@ pub(crate) fn text_of<R: Threads + Sync>(
     joined(alloc, &outline.totals, of_processes, of_groups)
 }
 
-/// The lines one after the other, where those of processes and those of groups come in pieces from the
+/// The lines one after the other, where those of processes and those of groups come in texts from the
 /// last to the first.
 fn joined(
     alloc: Global,
     first: &str,
-    of_processes: Vec<String>,
-    of_groups: Vec<String>,
-) -> Result<String, AllocError>
-    ensures { IfOk result (λ text. string_bytes text ≡ first.now
-        ++ flat_map (λ s. string_bytes s) (reverse of_processes.items)
-        ++ flat_map (λ s. string_bytes s) (reverse of_groups.items)) }
+    of_processes: Vec<Pieces>,
+    of_groups: Vec<Pieces>,
+) -> Result<Pieces, AllocError>
+    ensures { IfOk result (λ text. text ≡ first.now
+        ++ flat_map (λ t. t) (reverse of_processes.items)
+        ++ flat_map (λ t. t) (reverse of_groups.items)) }
 {
-    let room = lines_room(&of_processes).saturating_add(lines_room(&of_groups));
-    let mut text = String::with_capacity(alloc, room.saturating_add(first.len()))?;
-    text.push_str(first)?;
+    let mut text = Pieces::new(alloc);
+    text.push(String::from_str(alloc, first)?)?;
     append(&mut text, of_processes)?;
     append(&mut text, of_groups)?;
     Ok(text)

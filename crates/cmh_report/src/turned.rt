@@ -1,27 +1,99 @@
-//! Texts that come from the last to the first, and the one that they make.
+//! A text that is made from its end, and pieces of it that were.
 
-ghost use Rattle.std.specs.Prelude.{◌≡◌, ◌++◌, IfOk, OnOk, flat_map, reverse, string_bytes};
+ghost use Rattle.std.specs.Prelude.{◌≡◌, ◌++◌, [], IfOk, OnOk, flat_map, reverse, string_bytes};
 
-use crate::pieces::lines_room;
+use cmh_stream::Pieces;
 use std::alloc::{AllocError, Global};
+use std::marker::Model;
+use std::mem;
 
-/// The texts one after the other, the last first.
-pub(crate) fn text_from_last(alloc: Global, texts: Vec<String>) -> Result<String, AllocError>
-    ensures { IfOk result (λ text. string_bytes text
-        ≡ flat_map (λ s. string_bytes s) (reverse texts.items)) }
-{
-    let mut text = String::with_capacity(alloc, lines_room(&texts))?;
-    append(&mut text, texts)?;
-    Ok(text)
+/// How many bytes of lines are joined to one piece, at least: less than the heap asks the system for
+/// by itself, so that the next lines take the place of these.
+const JOINED: usize = 65_536;
+
+/// A text whose lines come from the last to the first. They are joined to pieces as they come, so that
+/// no more lines are held than make a piece.
+#[derive(Drop)]
+pub(crate) struct Turned {
+    /// The end of the text, from its last piece to its first.
+    joined: Vec<String>,
+    /// The lines before it, from the last to the first.
+    lines: Vec<String>,
+    /// How many bytes the lines have.
+    room: usize,
 }
 
-/// Appends the texts, the last first. Each is given back once it stands in the text.
-pub(crate) fn append(text: &mut String, mut texts: Vec<String>) -> Result<(), AllocError>
-    ensures { OnOk result (string_bytes text.new
-        ≡ string_bytes text.old ++ flat_map (λ s. string_bytes s) (reverse texts.items)) }
+impl Model for Turned {
+    ghost use Rattle.std.specs.Prelude.{ℕ, List, ◌++◌, flat_map, reverse, string_bytes};
+
+    ghost Value = { List ℕ };
+
+    ghost view = { λ t. flat_map (λ s. string_bytes s) (reverse t.lines.items)
+        ++ flat_map (λ s. string_bytes s) (reverse t.joined.items) };
+}
+
+impl Turned {
+    pub(crate) fn new(alloc: Global) -> Turned
+        ensures { result ≡ [] }
+    {
+        Turned {
+            joined: Vec::new(alloc),
+            lines: Vec::new(alloc),
+            room: 0,
+        }
+    }
+
+    /// Puts a line before the others.
+    pub(crate) fn push(&mut self, alloc: Global, line: String) -> Result<(), AllocError>
+        ensures { OnOk result (self.new ≡ string_bytes line ++ self.old) }
+    {
+        self.room = self.room.saturating_add(line.len());
+        self.lines.push(line)?;
+        if self.room < JOINED {
+            return Ok(());
+        }
+        self.join(alloc)
+    }
+
+    /// Joins the lines to a piece.
+    fn join(&mut self, alloc: Global) -> Result<(), AllocError>
+        ensures { OnOk result (self.new ≡ self.old) }
+    {
+        let lines = mem::replace(&mut self.lines, Vec::new(alloc));
+        self.joined
+            .push(pieces_from_last(alloc, lines)?.into_string(alloc)?)?;
+        self.room = 0;
+        Ok(())
+    }
+
+    /// The text from its beginning.
+    pub(crate) fn into_pieces(self, alloc: Global) -> Result<Pieces, AllocError>
+        ensures { IfOk result (λ text. text ≡ self) }
+    {
+        let mut pieces = Pieces::new(alloc);
+        pieces.push(pieces_from_last(alloc, self.lines)?.into_string(alloc)?)?;
+        pieces.append(pieces_from_last(alloc, self.joined)?)?;
+        Ok(pieces)
+    }
+}
+
+/// The texts one after the other, the last first.
+fn pieces_from_last(alloc: Global, mut texts: Vec<String>) -> Result<Pieces, AllocError>
+    ensures { IfOk result (λ text. text ≡ flat_map (λ s. string_bytes s) (reverse texts.items)) }
+{
+    let mut pieces = Pieces::new(alloc);
+    while let Some(next) = texts.pop() {
+        pieces.push(next)?;
+    }
+    Ok(pieces)
+}
+
+/// Puts the texts behind the pieces, the last first.
+pub(crate) fn append(pieces: &mut Pieces, mut texts: Vec<Pieces>) -> Result<(), AllocError>
+    ensures { OnOk result (pieces.new ≡ pieces.old ++ flat_map (λ t. t) (reverse texts.items)) }
 {
     while let Some(next) = texts.pop() {
-        text.push_str(&next)?;
+        pieces.append(next)?;
     }
     Ok(())
 }

@@ -19,7 +19,7 @@ collect-requires-clause-ready g c κs within =
     let list = c.args.groups.now.list.items in
     let at : ℕ → Type 0 = λ p. (p < process_count graph) × IsTrue (is_led_by table p p) in
     let turned = c.as_slice.ensures.value ∙ c.in_ok-leaders.ensures ∙ ap reverse c.deref.ensures.value in
-    let pieces = all_pieces at (max c.group_piece.result 1) c.as_slice.result.now
+    let pieces = all_pieces at (max c.group_chunk.result 1) c.as_slice.result.now
     (all_turned at list c.as_slice.result.now turned
     (leaders_lead graph table list c.requires.groups.leaders c.requires.groups.list)) in
     rw (
@@ -35,7 +35,7 @@ pub returns : goal.returns
 returns g c =
     let graph = c.args.graph.now in
     let text = λ (p : ℕ). line (group_line graph p) in
-    let size = max c.group_piece.result 1 in
+    let size = max c.group_chunk.result 1 in
     let falling = c.as_slice.result.now in
     let turned = c.as_slice.ensures.value ∙ c.in_ok-leaders.ensures
     ∙ ap reverse (c.deref.ensures.value ∙ c.requires.groups.list) in

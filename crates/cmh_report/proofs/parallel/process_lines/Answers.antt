@@ -16,7 +16,7 @@ collect-requires-clause-ready g c κs within =
     let at : ℕ → Type 0 = λ p. p < process_count graph in
     let idle = c.args.paths.now.idle.items in
     let turned = c.as_slice.ensures.value ∙ c.in_ok-idle.ensures ∙ ap reverse c.deref.ensures.value in
-    let pieces = all_pieces at (max c.process_piece.result 1) c.as_slice.result.now
+    let pieces = all_pieces at (max c.process_chunk.result 1) c.as_slice.result.now
     (all_turned at idle c.as_slice.result.now turned (idle_within_list graph idle c.requires.paths.idle)) in
     rw (
       c.map.ensures.base,
@@ -31,7 +31,7 @@ pub returns : goal.returns
 returns g c =
     let graph = c.args.graph.now in
     let text = λ (p : ℕ). line (process_line graph p) in
-    let size = max c.process_piece.result 1 in
+    let size = max c.process_chunk.result 1 in
     let falling = c.as_slice.result.now in
     let turned = c.as_slice.ensures.value ∙ c.in_ok-idle.ensures
     ∙ ap reverse (c.deref.ensures.value ∙ c.requires.paths.idle) in

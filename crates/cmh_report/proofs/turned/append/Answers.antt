@@ -1,15 +1,13 @@
 use Rattle.std.proofs.Common.{◌≡◌, ◌∙◌, ◌++◌, ◌∷◌, [], ap, reverse}
-use Rattle.std.specs.Prelude.{flat_map, option_to_list, string_bytes}
+use Rattle.std.specs.Prelude.{flat_map, option_to_list}
 use Rattle.cmh_report.proofs.Joining.{last_appended}
 use Rattle.cmh_report.proofs.turned.append.Goals as goal
 
 pub loop-next-preserved : goal.loop-next-preserved
 loop-next-preserved c =
-    let before = string_bytes c.loop-next.text in
     let left = c.pop.new.self.items in
     let popped : c.loop-next.texts.items ≡ left ++ c.in-Some.next ∷ [] =
     c.pop.ensures.items ∙ ap (λ o. left ++ option_to_list o) c.in-Some.is in
-    ap (λ xs. xs ++ flat_map (λ s. string_bytes s) (reverse left))
-    (c.in_ok-push_str.ensures.bytes ∙ ap (λ xs. before ++ xs) c.deref.ensures)
-    ∙ last_appended before c.in-Some.next c.loop-next.texts.items left popped
+    ap (λ xs. xs ++ flat_map (λ t. t) (reverse left)) c.in_ok-append.ensures.added
+    ∙ last_appended (λ t. t) c.loop-next.pieces c.in-Some.next c.loop-next.texts.items left popped
     ∙ c.loop-next.invariant

@@ -1,11 +1,11 @@
 use Rattle.std.proofs.Common.{◌≡◌, ◌++◌, reverse, vec_len}
-use Rattle.std.specs.Prelude.{flat_map, string_bytes}
+use Rattle.std.specs.Prelude.{flat_map}
 use Rattle.cmh_report.proofs.turned.append.Given as goal
 
 abbrev pub invariant-loop-next : goal.invariant-loop-next
 invariant-loop-next l =
-    string_bytes l.text ++ flat_map (λ s. string_bytes s) (reverse l.texts.items)
-    ≡ string_bytes l.fn.text ++ flat_map (λ s. string_bytes s) (reverse l.fn.texts.items)
+    l.pieces ++ flat_map (λ t. t) (reverse l.texts.items)
+    ≡ l.fn.pieces ++ flat_map (λ t. t) (reverse l.fn.texts.items)
 
 abbrev pub decreases-loop-next : goal.decreases-loop-next
 decreases-loop-next l = vec_len l.texts

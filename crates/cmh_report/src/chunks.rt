@@ -1,0 +1,47 @@
+//! How many lines are worth a thread. Nothing here changes a byte of the report.
+
+ghost use Rattle.std.specs.Prelude.{◌<◌};
+
+use crate::paths::Paths;
+use cmh_graph::WaitGraph;
+
+/// About how many steps, each a few instructions, take as long as a thread takes to start.
+const THREAD_STEPS: usize = 65_536;
+
+/// How many chunks there are at most. In each the names of the first line are all written anew.
+const CHUNKS: usize = 64;
+
+/// How many lines of processes make a chunk that is worth a thread: the fewer, the longer their paths
+/// are.
+pub(crate) fn process_chunk(paths: &Paths) -> usize
+    ensures { 0 < result }
+{
+    let mut names = 0usize;
+    for distance in &paths.distances {
+        if let Some(distance) = distance {
+            names = names.saturating_add(*distance as usize);
+        }
+    }
+    chunk(paths.idle.len(), names)
+}
+
+/// The same of so many lines of groups, where each takes a search of the whole graph.
+pub(crate) fn group_chunk(graph: &WaitGraph, lines: usize) -> usize
+    ensures { 0 < result }
+{
+    let mut steps = 0usize;
+    for p in 0..graph.len() {
+        steps = steps
+            .saturating_add(1)
+            .saturating_add(graph.dependents(p).len());
+    }
+    chunk(lines, steps.saturating_mul(lines))
+}
+
+/// How many of so many lines, which take so many steps, make a chunk.
+fn chunk(lines: usize, steps: usize) -> usize
+    ensures { 0 < result }
+{
+    let worth = lines.saturating_mul(THREAD_STEPS) / steps.max(1);
+    worth.max(lines.div_ceil(CHUNKS)).max(1)
+}
