@@ -18,6 +18,9 @@ use cmh_work::{Analysis, Record};
 use std::alloc::{AllocError, Global};
 use std::thread::Threads;
 
+/// How many bytes a text has at most that is worth a copy to be in one piece.
+const SHORT: usize = 1_048_576;
+
 /// The report on a graph that was analysed: a line of counts, a line for each idle process, and a
 /// line for each group of deadlocked processes. The analysis is of this graph. The graph is searched
 /// once for each group and once for all distances, by which each path is walked; a group that waits
@@ -88,5 +91,18 @@ fn joined(
     text.push(String::from_str(alloc, first)?)?;
     append(&mut text, of_processes)?;
     append(&mut text, of_groups)?;
-    Ok(text)
+    as_one_piece_if_short(alloc, text)
+}
+
+/// A short text in one piece, so that one write puts all of it or nothing.
+fn as_one_piece_if_short(alloc: Global, text: Pieces) -> Result<Pieces, AllocError>
+    ensures { IfOk result (λ same. same ≡ text) }
+{
+    if text.len() > SHORT {
+        return Ok(text);
+    }
+    let whole = text.into_string(alloc)?;
+    let mut one = Pieces::new(alloc);
+    one.push(whole)?;
+    Ok(one)
 }
