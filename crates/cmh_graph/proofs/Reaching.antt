@@ -1,10 +1,11 @@
 -- What the tests of paths say.
 use Rattle.std.proofs.Common.{get_or, ◌≡◌, ℕ, zero, suc, ◌<◌, ◌≤◌, Bool, true, false, cond, ◌||◌, ◌⊎◌, inl, inr, List, [], ◌∷◌, ◌++◌, map, length, refl, sym, ◌∙◌, ap, subst, arith, eqb, eqb-true, eq-eqb}
-use Rattle.std.proofs.lemmas.Bool.{eqb-false}
 use Rattle.std.specs.Prelude.{Contains, flat_map, find, is_some, Some, Option, ⊤}
-use Rattle.std.specs.List.{list_any, range_with_len}
+use Rattle.std.specs.List.{list_any, range_with_len, AllByRecursion, IsDistinct}
 use Rattle.std.proofs.lemmas.List.FromFn.{length-range_with_len, get_or-range_with_len}
 use Rattle.std.proofs.lemmas.List.{get_or_default}
+use Rattle.std.proofs.lemmas.Map.Keys.{IsDistinct-cons, IsDistinct-tail}
+use Rattle.std.proofs.lemmas.Map.Steps.{length-le_from_distinct_below}
 use Rattle.cmh_graph.specs.Graph.{IsWithinGraph, Graph, process_count, dependents_of, dependencies_of, is_idle, Depends, indices}
 use Rattle.cmh_graph.specs.Path.{Leads, Reaches, paths_to, is_nonempty, reaches, ReachLaw}
 
@@ -124,134 +125,67 @@ listed g test p (r ∷ rest) q l t =
 
 -- ---- a path without repeats
 
--- x is in the list
-has : ℕ → List ℕ → Bool
-has x xs = list_any (λ y. eqb x y) xs
+-- neither holds where an "or" doesn't
+or_false : (a b : Bool) → (a || b) ≡ false → (a ≡ false) × (b ≡ false)
+or_false true b e = absurd cc
+or_false false b e = (refl, e)
 
--- no member of the list is there twice
-abbrev pub Apart : List ℕ → Type 0
-Apart [] = ⊤
-Apart (x ∷ xs) = (list_any (λ y. eqb x y) xs ≡ false) × Apart xs
+-- where no member passes, each fails
+each_fails : (t : ℕ → Bool) (xs : List ℕ) → list_any t xs ≡ false → AllByRecursion (λ x. t x ≡ false) xs
+each_fails t [] e = tt
+each_fails t (x ∷ xs) e = let both = or_false (t x) (list_any t xs) e in (both.0, each_fails t xs both.1)
 
 -- p is led to q without passing a process twice
 unfoldable pub Simple : Graph → ℕ → ℕ → Type 0
-Simple g p q = (rest : List ℕ) × Leads g p rest q × Apart (p ∷ rest)
+Simple g p q = (rest : List ℕ) × Leads g p rest q × IsDistinct eqb (p ∷ rest)
 
 -- a path that comes back to p has a part from p that doesn't
-suffix : (g : Graph) (p r : ℕ) (rest : List ℕ) (q : ℕ) → Leads g r rest q → Apart (r ∷ rest) → (b : Bool) → eqb p r ≡ b
-    → list_any (λ y. eqb p y) (r ∷ rest) ≡ true → Simple g p q
+suffix : (g : Graph) (p r : ℕ) (rest : List ℕ) (q : ℕ) → Leads g r rest q → IsDistinct eqb (r ∷ rest)
+    → (b : Bool) → eqb p r ≡ b → list_any (λ y. eqb p y) (r ∷ rest) ≡ true → Simple g p q
 unfolding Simple
 suffix g p r rest q l a true e h =
     let same : p ≡ r = eqb-true p r e in
-    subst (λ x. (rest' : List ℕ) × Leads g x rest' q × Apart (x ∷ rest')) (sym same) (rest, l, a)
+    subst (λ x. (rest' : List ℕ) × Leads g x rest' q × IsDistinct eqb (x ∷ rest')) (sym same) (rest, l, a)
 suffix g p r [] q l a false e h = let z : false ≡ true = rw e at h in cc
 suffix g p r (s ∷ rest) q l a false e h =
     let z : list_any (λ y. eqb p y) (s ∷ rest) ≡ true = rw e at h in
-    suffix g p s rest q l.1 a.1 (eqb p s) refl z
+    suffix g p s rest q l.1 (IsDistinct-tail eqb r (s ∷ rest) a) (eqb p s) refl z
 
 -- a step before a simple path, which may come back to p
-simple_by : (g : Graph) (p r : ℕ) (rest : List ℕ) (q : ℕ) → Depends g p r → Leads g r rest q → Apart (r ∷ rest)
-    → (b : Bool) → list_any (λ y. eqb p y) (r ∷ rest) ≡ b → Simple g p q
+simple_by : (g : Graph) (p r : ℕ) (rest : List ℕ) (q : ℕ) → Depends g p r → Leads g r rest q
+    → IsDistinct eqb (r ∷ rest) → (b : Bool) → list_any (λ y. eqb p y) (r ∷ rest) ≡ b → Simple g p q
 unfolding Simple
 simple_by g p r rest q d l a true h = unfold Simple in suffix g p r rest q l a (eqb p r) refl h
-simple_by g p r rest q d l a false h = (r ∷ rest, (d, l), (h, a))
+simple_by g p r rest q d l a false h =
+    (r ∷ rest, (d, l), IsDistinct-cons eqb p (r ∷ rest) (each_fails (λ y. eqb p y) (r ∷ rest) h) a)
 
 -- where p is led to q there is a simple path
 pub simple : (g : Graph) (p : ℕ) (rest : List ℕ) (q : ℕ) → Leads g p rest q → Simple g p q
-unfolding Simple
-simple g p [] q e = ([], e, (refl, tt))
+unfolding Simple IsDistinct
+simple g p [] q e = ([], e, (tt, tt))
 simple g p (r ∷ rest) q l =
     let s = simple g r rest q l.1 in
     simple_by g p r s.0 q l.0 s.1 s.2 (list_any (λ y. eqb p y) (r ∷ s.0)) refl
 
--- ---- a list without repeats of numbers below n is no longer than n
+-- ---- a list of distinct numbers below n is no longer than n
 
 -- each member is below n
 abbrev pub AllBelow : ℕ → List ℕ → Type 0
 AllBelow n [] = ⊤
 AllBelow n (x ∷ xs) = (x < n) × AllBelow n xs
 
--- the list without the first m in it
-without : ℕ → List ℕ → List ℕ
-without m [] = []
-without m (x ∷ xs) = cond (eqb m x) xs (x ∷ without m xs)
+-- what a list of numbers below n has is below n
+any_below : (n q : ℕ) (xs : List ℕ) → AllBelow n xs → list_any (eqb q) xs ≡ true → q < n
+any_below n q [] b e = absurd cc
+any_below n q (x ∷ xs) b e = by (eqb q x) refl e (any_below n q xs b.1)
+  where
+    by : (t : Bool) → eqb q x ≡ t → (t || list_any (eqb q) xs) ≡ true → (list_any (eqb q) xs ≡ true → q < n) → q < n
+    by true s h rest = omega (arith, b.0, eqb-true q x s)
+    by false s h rest = rest h
 
--- one member is left out at most, by cases
-length_without_by : (m x : ℕ) (xs ys : List ℕ) (b : Bool) → length xs ≤ suc (length ys)
-    → length (x ∷ xs) ≤ suc (length (cond b xs (x ∷ ys)))
-length_without_by m x xs ys true h = omega arith
-length_without_by m x xs ys false h = omega arith
-
--- one member is left out at most
-length_without : (m : ℕ) (xs : List ℕ) → length xs ≤ suc (length (without m xs))
-unfolding without
-length_without m [] = omega arith
-length_without m (x ∷ xs) = length_without_by m x xs (without m xs) (eqb m x) (length_without m xs)
-
--- neither holds where an "or" doesn't
-or_false : (a b : Bool) → (a || b) ≡ false → (a ≡ false) × (b ≡ false)
-or_false true b e = absurd cc
-or_false false b e = (refl, e)
-
--- what no member passes, none of the rest does, by cases
-any_without_by : (t : ℕ → Bool) (x : ℕ) (xs ys : List ℕ) (b : Bool) → t x ≡ false → list_any t xs ≡ false
-    → list_any t ys ≡ false → list_any t (cond b xs (x ∷ ys)) ≡ false
-any_without_by t x xs ys true e f h = f
-any_without_by t x xs ys false e f h = rw (e, h) refl
-
--- what no member passes, none of the rest does
-any_without : (t : ℕ → Bool) (m : ℕ) (xs : List ℕ) → list_any t xs ≡ false → list_any t (without m xs) ≡ false
-unfolding without
-any_without t m [] e = refl
-any_without t m (x ∷ xs) e =
-    let both = or_false (t x) (list_any t xs) e in
-    any_without_by t x xs (without m xs) (eqb m x) both.0 both.1 (any_without t m xs both.1)
-
--- members that are apart stay apart, by cases
-apart_without_by : (x : ℕ) (xs ys : List ℕ) (b : Bool) → Apart xs → list_any (λ y. eqb x y) ys ≡ false → Apart ys
-    → Apart (cond b xs (x ∷ ys))
-apart_without_by x xs ys true a e h = a
-apart_without_by x xs ys false a e h = (e, h)
-
--- members that are apart stay apart
-apart_without : (m : ℕ) (xs : List ℕ) → Apart xs → Apart (without m xs)
-unfolding without
-apart_without m [] a = tt
-apart_without m (x ∷ xs) a =
-    apart_without_by x xs (without m xs) (eqb m x) a.1 (any_without (λ y. eqb x y) m xs a.0) (apart_without m xs a.1)
-
--- members below m + 1 of which none is m are below m
-below_unless : (m : ℕ) (xs : List ℕ) → AllBelow (suc m) xs → list_any (λ y. eqb m y) xs ≡ false → AllBelow m xs
-below_unless m [] b e = tt
-below_unless m (x ∷ xs) b e =
-    let both = or_false (eqb m x) (list_any (λ y. eqb m y) xs) e in
-    let other = eqb-false m x both.0 in
-    let strict : x < m = omega (arith, b.0, other) in
-    (strict, below_unless m xs b.1 both.1)
-
--- without m the members are below m, by cases
-below_without_by : (m x : ℕ) (xs ys : List ℕ) (b : Bool) → eqb m x ≡ b → x < suc m → AllBelow (suc m) xs
-    → list_any (λ y. eqb x y) xs ≡ false → AllBelow m ys → AllBelow m (cond b xs (x ∷ ys))
-below_without_by m x xs ys true e l h f t =
-    below_unless m xs h (subst (λ z. list_any (λ y. eqb z y) xs ≡ false) (sym (eqb-true m x e)) f)
-below_without_by m x xs ys false e l h f t =
-    let other = eqb-false m x e in
-    let strict : x < m = omega (arith, l, other) in
-    (strict, t)
-
--- without m the members are below m
-below_without : (m : ℕ) (xs : List ℕ) → AllBelow (suc m) xs → Apart xs → AllBelow m (without m xs)
-unfolding without
-below_without m [] b a = tt
-below_without m (x ∷ xs) b a =
-    below_without_by m x xs (without m xs) (eqb m x) refl b.0 b.1 a.0 (below_without m xs b.1 a.1)
-
--- at most n numbers below n are apart
-pub length_apart : (n : ℕ) (xs : List ℕ) → AllBelow n xs → Apart xs → length xs ≤ n
-length_apart zero [] b a = omega arith
-length_apart zero (x ∷ xs) b a = absurd (omega (arith, b.0))
-length_apart (suc m) xs b a =
-    omega (arith, length_without m xs, length_apart m (without m xs) (below_without m xs b a) (apart_without m xs a))
+-- at most n numbers below n are distinct
+pub length_distinct : (n : ℕ) (xs : List ℕ) → AllBelow n xs → IsDistinct eqb xs → length xs ≤ n
+length_distinct n xs b d = length-le_from_distinct_below xs n d (λ q. any_below n q xs b)
 
 -- ---- a path stays within the graph
 
@@ -327,7 +261,7 @@ unfolding reaches Simple
 leads_reaches g p q w i rest l =
     let s = simple g p rest q l in
     let short : length (p ∷ s.0) ≤ process_count g =
-    length_apart (process_count g) (p ∷ s.0) (within g w p s.0 q i s.1) s.2 in
+    length_distinct (process_count g) (p ∷ s.0) (within g w p s.0 q i s.1) s.2 in
     is_some_find (λ n. is_nonempty (paths_to g (λ r. eqb r q) n p)) (indices g) (length s.0)
     (contains_index (process_count g) (length s.0) (omega (arith, short)))
     (listed g (λ r. eqb r q) p s.0 q s.1 (eq-eqb q q refl))

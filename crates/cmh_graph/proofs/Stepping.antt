@@ -10,7 +10,7 @@ use Rattle.cmh_graph.specs.Graph.{IsWithinGraph, Graph, Depends, process_count, 
 use Rattle.cmh_graph.specs.ChosenPath.{distance_of}
 use Rattle.cmh_graph.specs.Path.{Leads, paths_to, is_nonempty, steps_to}
 use Rattle.cmh_graph.specs.Search.{is_marked, number_at, predecessors_at, ArePredecessors, IsNamedBy, Numbers}
-use Rattle.cmh_graph.proofs.Reaching.{Simple, simple, length_apart, within, listed, walk, Walk, contains_index, is_some_find, nonempty_flat_map, nonempty_map, flat_map_nonempty, map_nonempty, depends, dependency, depends_within, start_by, start_nonempty, contains_cons}
+use Rattle.cmh_graph.proofs.Reaching.{Simple, simple, length_distinct, within, listed, walk, Walk, contains_index, is_some_find, nonempty_flat_map, nonempty_map, flat_map_nonempty, map_nonempty, depends, dependency, depends_within, start_by, start_nonempty, contains_cons}
 use Rattle.cmh_graph.proofs.Listing.{by_index, by_index_agree}
 use Rattle.cmh_graph.proofs.Searching.{cases_number, numbered, numbered_within}
 use Rattle.cmh_graph.proofs.Verdicts.{contains_filter, filter_contains, idle_within}
@@ -63,7 +63,7 @@ unfolding Simple
 has_steps g test w p q i rest l a =
     let s = simple g p rest q l in
     let short : length (p ∷ s.0) ≤ process_count g =
-    length_apart (process_count g) (p ∷ s.0) (within g w p s.0 q i s.1) s.2 in
+    length_distinct (process_count g) (p ∷ s.0) (within g w p s.0 q i s.1) s.2 in
     is_some_find (λ n. is_nonempty (paths_to g test n p)) (indices g) (length s.0)
     (contains_index (process_count g) (length s.0) (omega (arith, short)))
     (listed g test p s.0 q s.1 a)
