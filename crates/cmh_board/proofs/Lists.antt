@@ -1,33 +1,32 @@
--- Lists of processes in which none stands twice, and what a test keeps of them.
-use Rattle.std.proofs.Common.{◌≡◌, ℕ, zero, suc, ◌≤◌, Bool, true, cond, List, [], ◌∷◌, length, refl, sym, ◌∙◌, ap, subst, arith, ⊎_elim, Some, slice_get}
+-- Distinct processes, and what a test keeps of a list.
+use Rattle.std.proofs.Common.{◌≡◌, ℕ, zero, ◌≤◌, Bool, true, false, cond, eqb, List, [], ◌∷◌, length, refl, sym, ◌∙◌, ap, subst, arith, ⊎_elim}
 use Rattle.std.specs.Prelude.{Contains, filter}
-use Rattle.std.proofs.lemmas.Option.{slice_get-get_or}
-use Rattle.std.proofs.lemmas.List.Elements.{All-contains, filter_passes}
+use Rattle.std.specs.List.{IsDistinct}
+use Rattle.std.proofs.lemmas.Bool.{eqb-false}
+use Rattle.std.proofs.lemmas.List.Elements.{All-contains, All-from_recursion, recursion_from_All, All-filter, filter_passes}
 use Rattle.std.proofs.lemmas.List.Sums.{length-filter, count_by-le-length}
+use Rattle.std.proofs.lemmas.Map.Keys.{IsDistinct-head}
 use Rattle.cmh_graph.proofs.Reaching.{cons_contains, contains_cons}
-use Rattle.cmh_run.specs.Legal.{HasNoRepeat}
 use Rattle.cmh_run.proofs.Theorem.{by_test}
-
--- no process stands twice
-abbrev pub Apart : List ℕ → Type 0
-Apart [] = Unit {0}
-Apart (p ∷ ps) = (Contains ps p → ⊥) × Apart ps
 
 -- the first of a list is in it
 pub contains_first : (p : ℕ) (ps : List ℕ) → Contains (p ∷ ps) p
 contains_first p ps = (zero, omega arith, refl)
 
--- where a process stands
-get_contained : (ps : List ℕ) (p : ℕ) (c : Contains ps p) → slice_get ps c.0 ≡ Some p
-get_contained ps p c = slice_get-get_or ps c.0 p c.1 ∙ ap (λ q. Some q) c.2
+-- q is another process than p
+abbrev Differs : ℕ → ℕ → Type 0
+Differs p q = eqb p q ≡ false
 
--- without a repeat none stands twice
-pub apart_from : (ps : List ℕ) → HasNoRepeat ps → Apart ps
-apart_from [] h = tt
-apart_from (p ∷ ps) h = (
-  λ c. let same = h zero (suc c.0) p refl (get_contained ps p c) in absurd (omega arith),
-  apart_from ps (λ x y k a b. let same = h (suc x) (suc y) k a b in omega arith),
-)
+-- one process is distinct from all others there
+pub one_is_distinct : (p : ℕ) → IsDistinct eqb (p ∷ [])
+unfolding IsDistinct
+one_is_distinct p = (tt, tt)
+
+-- the first of distinct processes isn't among the others
+pub first_once : (p : ℕ) (ps : List ℕ) → IsDistinct eqb (p ∷ ps) → Contains ps p → ⊥
+first_once p ps d c =
+    let others = All-from_recursion (Differs p) ps (IsDistinct-head eqb p ps d) in
+    eqb-false p p (All-contains (Differs p) ps p others c) refl
 
 -- what is kept was there
 pub contains_filter : (f : ℕ → Bool) (ps : List ℕ) (q : ℕ) → Contains (filter f ps) q → Contains ps q
@@ -58,13 +57,16 @@ filter_keeps f (p ∷ ps) q c t = ⊎_elim
     (λ no. filter_keeps f ps q r t))
     (cons_contains p ps q c)
 
--- of processes apart those that are kept are apart
-pub apart-filter : (f : ℕ → Bool) (ps : List ℕ) → Apart ps → Apart (filter f ps)
-apart-filter f [] a = tt
-apart-filter f (p ∷ ps) a =
-    by_test (f p) (λ b. Apart (cond b (p ∷ filter f ps) (filter f ps)))
-    (λ yes. (λ c. a.0 (contains_filter f ps p c), apart-filter f ps a.1))
-    (λ no. apart-filter f ps a.1)
+-- of distinct processes those that are kept are distinct
+pub distinct-filter : (f : ℕ → Bool) (ps : List ℕ) → IsDistinct eqb ps → IsDistinct eqb (filter f ps)
+unfolding IsDistinct
+distinct-filter f [] d = tt
+distinct-filter f (p ∷ ps) d =
+    let others = All-from_recursion (Differs p) ps (IsDistinct-head eqb p ps d) in
+    let rest = distinct-filter f ps d.1 in
+    by_test (f p) (λ b. IsDistinct eqb (cond b (p ∷ filter f ps) (filter f ps)))
+    (λ yes. (recursion_from_All (Differs p) (filter f ps) (All-filter f (Differs p) ps others), rest))
+    (λ no. rest)
 
 -- no more are kept than there were
 pub length-filter-le : (f : ℕ → Bool) (ps : List ℕ) → length (filter f ps) ≤ length ps

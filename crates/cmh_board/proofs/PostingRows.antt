@@ -1,7 +1,9 @@
 -- The rows of a posting.
 use Rattle.std.proofs.Common.{◌≡◌, ◌≢◌, ℕ, Bool, true, false, cond, eqb, List, [], ◌∷◌, ◌++◌, length, refl, sym, ◌∙◌, ap, subst, arith, append_assoc, append-nil, ⊎_elim, Some, None, Option}
 use Rattle.std.specs.Prelude.{Contains, is_none}
+use Rattle.std.specs.List.{IsDistinct}
 use Rattle.std.proofs.lemmas.Bool.{eqb-true, eq-eqb}
+use Rattle.std.proofs.lemmas.Map.Keys.{IsDistinct-tail}
 use Rattle.cmh_graph.specs.declared.verdict.Verdict.{Verdict}
 use Rattle.cmh_graph.specs.Graph.{Graph, is_idle}
 use Rattle.cmh_graph.specs.Verdict.{verdict}
@@ -15,7 +17,7 @@ use Rattle.cmh_board.specs.Adding.{marks, rows_so_far, CanPost}
 use Rattle.cmh_rw.proofs.Folds.{fold-skip, true-snoc}
 use Rattle.cmh_rw.proofs.Postings.{laid-snoc, whole-snoc}
 use Rattle.cmh_board.proofs.Histories.{present-append, verdict_in, times-present}
-use Rattle.cmh_board.proofs.Lists.{Apart, contains_first, contains_filter, filter_passed, filter_keeps, apart-filter, apart_from}
+use Rattle.cmh_board.proofs.Lists.{contains_first, first_once, contains_filter, filter_passed, filter_keeps, distinct-filter}
 
 -- ---- rows of processes
 
@@ -111,9 +113,9 @@ pub record Fresh (g : Graph) (v : Verdict) (xs : List Row) (p : ℕ) : Type 0 wh
 
 -- true rows of fresh processes behind true rows
 true-rows : (g : Graph) (v : Verdict) (ps : List ℕ) (xs : List Row) → IsTrueOf g xs
-    → ((p : ℕ) → Contains ps p → Fresh g v xs p) → Apart ps → IsTrueOf g (xs ++ rows_of v ps)
-true-rows g v [] xs t fresh apart = subst (IsTrueOf g) (sym (append-nil xs)) t
-true-rows g v (p ∷ ps) xs t fresh apart =
+    → ((p : ℕ) → Contains ps p → Fresh g v xs p) → IsDistinct eqb ps → IsTrueOf g (xs ++ rows_of v ps)
+true-rows g v [] xs t fresh distinct = subst (IsTrueOf g) (sym (append-nil xs)) t
+true-rows g v (p ∷ ps) xs t fresh distinct =
     let f = fresh p (contains_first p ps) in
     let r = row p v (is_empty ps) in
     let more = true-snoc g xs r t f.idle f.says f.none in
@@ -124,11 +126,11 @@ true-rows g v (p ∷ ps) xs t fresh apart =
       says = h.says;
       none = fold-skip xs (r ∷ []) q h.none ∙ other q c;
     })
-    apart.1)
+    (IsDistinct-tail eqb p ps distinct))
   where
     other : (q : ℕ) → Contains ps q → cond (eqb p q) (Some v) None ≡ None
     other q c = by_test (eqb p q) (λ b. cond b (Some v) None ≡ None)
-        (λ yes. absurd (apart.0 (subst (λ x. Contains ps x) (sym (eqb-true p q yes)) c)))
+        (λ yes. absurd (first_once p ps distinct (subst (λ x. Contains ps x) (sym (eqb-true p q yes)) c)))
         (λ no. refl)
 
 -- what true rows say of a process is what is true
@@ -160,7 +162,7 @@ pub true_behind : (g : Graph) (v : Verdict) (ps : List ℕ) (xs : List Row) → 
 true_behind g v ps xs t can =
     let f : ℕ → Bool = λ q. is_none (fold_at xs q) in
     true-rows g v (unposted xs ps) xs t (fresh_in g v ps xs can)
-    (apart-filter f ps (apart_from ps can.once))
+    (distinct-filter f ps can.once)
 
 -- then each process of the posting has its verdict
 pub said_behind : (g : Graph) (v : Verdict) (ps : List ℕ) (xs : List Row) → IsTrueOf g xs

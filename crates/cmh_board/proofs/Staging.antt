@@ -1,16 +1,16 @@
 -- How the rows of a posting come to be staged, one by one.
 use Rattle.std.proofs.Common.{◌≡◌, ℕ, suc, ◌+◌, ◌<◌, ◌≤◌, Bool, true, false, cond, eqb, List, [], ◌∷◌, ◌++◌, length, get_or, take, drop, refl, sym, ◌∙◌, ap, subst, arith, append-nil, length-append, Some, None, Option, ⊎_elim}
 use Rattle.std.specs.Prelude.{Contains, filter, is_none}
-use Rattle.std.proofs.lemmas.Bool.{ne_eqb, eq-eqb}
+use Rattle.std.specs.List.{IsDistinct}
+use Rattle.std.proofs.lemmas.Bool.{ne_eqb, eq-eqb, eqb-false}
 use Rattle.std.proofs.lemmas.List.{get_or_default, take-append-drop, get_or-take, length-take-le, length-map}
 use Rattle.std.proofs.lemmas.List.Elements.{filter_more, filter-append}
-use Rattle.std.proofs.lemmas.Option.{slice_get-get_or}
+use Rattle.std.proofs.lemmas.Map.Keys.{apart_from_distinct}
 use Rattle.std.proofs.Math.Seq.{drop-cons}
 use Rattle.cmh_graph.specs.declared.verdict.Verdict.{Verdict}
 use Rattle.cmh_graph.specs.declared.verdict.Verdict.TheVariants.{Deadlocked, Free}
 use Rattle.cmh_graph.specs.Graph.{is_idle}
 use Rattle.cmh_graph.specs.Verdict.{verdict}
-use Rattle.cmh_run.specs.Legal.{HasNoRepeat}
 use Rattle.cmh_rw.specs.declared.row.Row.{Row}
 use Rattle.cmh_rw.specs.declared.view.View.{View}
 use Rattle.cmh_rw.specs.History.{fold_at, verdict_code, IsOpen}
@@ -97,7 +97,7 @@ whole rows ps i =
     ap (filter (is_new rows)) (sym (take-append-drop i ps)) ∙ filter-append (is_new rows) (take i ps) (drop i ps)
 
 -- a process that stands at place i isn't among the first i
-not_before : (rows : List Row) (ps : List ℕ) (i : ℕ) → HasNoRepeat ps → i < length ps
+not_before : (rows : List Row) (ps : List ℕ) (i : ℕ) → IsDistinct eqb ps → i < length ps
     → Contains (done rows ps i) (get_or ps i 0) → ⊥
 not_before rows ps i once l c =
     let p = get_or ps i 0 in
@@ -105,10 +105,8 @@ not_before rows ps i once l c =
     let few = length-take-le i ps (omega arith) in
     let k = there.0 in
     let low : k < i = (let b = there.1 in omega arith) in
-    let at_k = slice_get-get_or ps k p (omega arith) ∙ ap (λ q. Some q) (sym (get_or-take i ps k p low) ∙ there.2) in
-    let at_i = slice_get-get_or ps i 0 l in
-    let same = once k i p at_k at_i in
-    absurd (omega arith)
+    let same = get_or_default ps k 0 p (omega arith) ∙ sym (get_or-take i ps k p low) ∙ there.2 in
+    eqb-false (get_or ps k 0) p (apart_from_distinct eqb ps k i 0 once low l) same
 
 -- ---- what is staged
 
@@ -129,8 +127,8 @@ nothing_so_far d [] = refl
 nothing_so_far d (p ∷ rest) = refl
 
 -- what is told says nothing of the process at hand
-pub untold : (v : View) (d : Verdict) (ps : List ℕ) (i : ℕ) (w : View) (n : ℕ) → Staging v d ps i w n → HasNoRepeat ps
-    → i < length ps
+pub untold : (v : View) (d : Verdict) (ps : List ℕ) (i : ℕ) (w : View) (n : ℕ) → Staging v d ps i w n
+    → IsDistinct eqb ps → i < length ps
     → fold_at (w.seen ++ w.told) (get_or ps i 0) ≡ fold_at v.seen (get_or ps i 0)
 untold v d ps i w n s once l =
     ap (λ t. fold_at (w.seen ++ t) (get_or ps i 0)) s.told
@@ -180,7 +178,7 @@ can_stage v d ps i w u n last s can l new a =
 
 -- then its verdict may be told
 pub can_tell : (v : View) (d : Verdict) (ps : List ℕ) (i : ℕ) (w u : View) (n : ℕ) (last : Bool) → Staging v d ps i w n
-    → HasNoRepeat ps → i < length ps → is_new v.seen (get_or ps i 0) ≡ true → OnlyLoads w u
+    → IsDistinct eqb ps → i < length ps → is_new v.seen (get_or ps i 0) ≡ true → OnlyLoads w u
     → (x : View) → x ≡ with_row u (row (get_or ps i 0) d last) → fold_at x.staged (get_or ps i 0) ≡ Some d
 can_tell v d ps i w u n last s once l new a x e =
     let p = get_or ps i 0 in
@@ -227,7 +225,7 @@ next_number v d ps i w u n s l new a =
 
 -- what is found of the process at hand is whether it stands in a row
 pub found_new : (v : View) (d : Verdict) (ps : List ℕ) (i : ℕ) (w : View) (n : ℕ) (b : Bool) → Staging v d ps i w n
-    → HasNoRepeat ps
+    → IsDistinct eqb ps
     → i < length ps → b ≡ is_none (fold_at (w.seen ++ w.told) (get_or ps i 0)) → is_new v.seen (get_or ps i 0) ≡ b
 found_new v d ps i w n b s once l e = sym (e ∙ ap is_none (untold v d ps i w n s once l))
 

@@ -1,10 +1,10 @@
 -- What a writer does to add a posting.
-use Rattle.std.specs.Prelude.{◌≡◌, ℕ, ◌<◌, ◌≤◌, IsTrue, true, List, [], ◌∷◌, ◌++◌, map, Contains, Some}
+use Rattle.std.specs.Prelude.{◌≡◌, ℕ, nat_eq, ◌<◌, ◌≤◌, IsTrue, true, List, [], ◌∷◌, ◌++◌, map, Contains, Some}
+use Rattle.std.specs.List.{IsDistinct}
 use Rattle.cmh_graph.specs.declared.TheConstants.{MAX_PROCESSES}
 use Rattle.cmh_graph.specs.declared.verdict.Verdict.{Verdict}
 use Rattle.cmh_graph.specs.Graph.{Graph, process_count, is_idle}
 use Rattle.cmh_graph.specs.Verdict.{verdict}
-use Rattle.cmh_run.specs.Legal.{HasNoRepeat}
 use Rattle.cmh_rw.specs.declared.machine.SeatState.TheVariants.{Writing}
 use Rattle.cmh_rw.specs.declared.row.Row.{Row}
 use Rattle.cmh_rw.specs.declared.view.View.{View}
@@ -21,7 +21,7 @@ AreIdle g processes = (p : ℕ) → Contains processes p → IsTrue (is_idle g p
 pub record CanPost (g : Graph) (v : Verdict) (processes : List ℕ) : Type 0 where
   pub idle : AreIdle g processes
   pub truth : (p : ℕ) → Contains processes p → v ≡ verdict g p
-  pub once : HasNoRepeat processes
+  pub once : IsDistinct nat_eq processes
 
 -- the seat writes and has staged nothing yet, and each process has its words
 pub record IsWriter (v : View) : Type 0 where

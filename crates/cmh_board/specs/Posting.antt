@@ -1,10 +1,10 @@
 -- What one run tells the board.
-use Rattle.std.specs.Prelude.{ℕ, IsTrue, List, [], ◌∷◌, Contains}
+use Rattle.std.specs.Prelude.{ℕ, nat_eq, IsTrue, List, [], ◌∷◌, Contains}
+use Rattle.std.specs.List.{IsDistinct}
 use Rattle.cmh_graph.specs.declared.verdict.Verdict.{Verdict}
 use Rattle.cmh_graph.specs.declared.verdict.Verdict.TheVariants.{Deadlocked, Free}
 use Rattle.cmh_graph.specs.Graph.{Graph, is_idle}
 use Rattle.cmh_graph.specs.Verdict.{IsVerdict}
-use Rattle.cmh_run.specs.Legal.{HasNoRepeat}
 use Rattle.cmh_run.specs.Run.{Run, verdict_of}
 
 -- one verdict, and the processes that have it
@@ -31,4 +31,4 @@ posting_of r = told_of (verdict_of r.ending) (r.initiator ∷ []) r.engaged
 pub record IsTruth (g : Graph) (t : Told) : Type 0 where
   pub idle : (p : ℕ) → Contains t.processes p → IsTrue (is_idle g p)
   pub verdict : (p : ℕ) → Contains t.processes p → IsVerdict g p t.verdict
-  pub once : HasNoRepeat t.processes
+  pub once : IsDistinct nat_eq t.processes

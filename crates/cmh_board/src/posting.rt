@@ -28,6 +28,7 @@ impl<'a> Model for Posting<'a> {
 impl<'a> Posting<'a> {
     /// All processes that are engaged, as deadlocked, where the run is declared. Else the initiator
     /// alone, as free.
+    #[tactic(auto, using(crate::proofs::Lists::one_is_distinct))]
     pub fn of_run<L: Log>(run: &'a RunLog<L>) -> Posting<'a>
         ensures whole { result ≡ posting_of run.now }
         ensures truth { (g : Graph) → TellsTruth g run.now → IsTruth g result }

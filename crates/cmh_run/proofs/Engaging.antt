@@ -11,7 +11,7 @@ use Rattle.cmh_run.specs.declared.delivery.Ending.TheVariants.{Declared, AtRest,
 use Rattle.cmh_run.specs.Config.{Config, proc_at, nothing_yet, start}
 use Rattle.cmh_run.specs.Legal.{Going, going_from, Rule, Leads, EndsAs}
 use Rattle.cmh_run.specs.Engaged.{IsCutAt, AreEngaged, WhoEngages, IsEmptyRun, AwakeOnesStartNothing}
-use Rattle.cmh_run.proofs.Tally.{tally_from_contains, no_repeat}
+use Rattle.cmh_run.proofs.Tally.{tally_from_contains, distinct}
 use Rattle.cmh_run.proofs.Theorem.{Status, Stands, Party, CutAt, party_of, first_start, leads_stands, status_none}
 use Rattle.cmh_run.proofs.Right.{runs_are_right}
 
@@ -34,7 +34,7 @@ module _ (g : Graph) (i n : ℕ) (F : ℕ → Proc) (engaged : List ℕ) (p : Pa
       → ((k : ℕ) → ending ≡ CutFree k → IsCutAt g i k engaged) → AreEngaged g i ending engaged
   engaged_by_ending ending deadlocked cut = record {
     begins = λ e. p.begins;
-    once = no_repeat engaged p.once;
+    once = distinct engaged p.once;
     asleep = λ k c. p.rests k (heard k c);
     reached = λ k c. p.reached k (heard k c);
     deadlocked = deadlocked;
@@ -84,7 +84,7 @@ nobody : (g : Graph) (i : ℕ) (log : List Delivery) (ending : Ending) (end : Go
     → IsEmptyRun log ending end → AreEngaged g i ending end.config.engaged
 nobody g i log ending end up h = rw (h.nobody, h.at_rest) (record {
   begins = λ e. absurd (let z : true ≡ false = sym up ∙ e in cc);
-  once = no_repeat [] (λ k. omega arith);
+  once = distinct [] (λ k. omega arith);
   asleep = λ k c. absurd (none k c);
   reached = λ k c. absurd (none k c);
   deadlocked = λ q k c. absurd (none k c);

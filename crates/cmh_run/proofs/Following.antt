@@ -3,6 +3,7 @@ use Rattle.std.proofs.Common.{◌≡◌, ℕ, ◌+◌, ◌-◌, ◌*◌, ◌^◌
 use Rattle.std.proofs.lemmas.Bool.{eqb-true, eq-eqb, and_parts}
 use Rattle.std.proofs.lemmas.Option.{none-some}
 use Rattle.std.specs.Prelude.{slice_index}
+use Rattle.std.specs.List.{IsDistinct}
 use Rattle.std.proofs.lemmas.List.{length-replicate, get_or-drop, drop-drop}
 use Rattle.cmh_process.specs.declared.message.Message.{Message}
 use Rattle.cmh_graph.specs.declared.verdict.Verdict.{Verdict}
@@ -13,7 +14,7 @@ use Rattle.cmh_graph.specs.Graph.{Graph, process_count, is_idle, is_awake, IsWit
 use Rattle.cmh_graph.proofs.Verdicts.{idle_within}
 use Rattle.cmh_process.specs.Process.{fresh}
 use Rattle.cmh_run.specs.Config.{Config, blank, proc_at, nothing_yet, start, without}
-use Rattle.cmh_run.specs.Legal.{Going, going_from, begun, restart, restarted_at, ready, after, Rule, MayCome, Leads, EndsAs, IsRun, HintIsFit, HasNoRepeat, IsRight}
+use Rattle.cmh_run.specs.Legal.{Going, going_from, begun, restart, restarted_at, ready, after, Rule, MayCome, Leads, EndsAs, IsRun, HintIsFit, IsRight}
 use Rattle.cmh_run.specs.Choices.{chosen_place, HasNoHints}
 use Rattle.cmh_run.specs.Engaged.{AreEngaged}
 use Rattle.cmh_run.specs.Run.{Stage, Run, IsRunOf, TellsTruth, empty_run_of, verdict_of, MayStart, place_in, IsTakenBy, delivered_to, ending_of}
@@ -509,7 +510,7 @@ run_is_true g i choices restarts r ok idle same k =
       verdict = verdict_right g r.initiator restarts r.ending k.end right;
       engaged = λ e p c. right.engaged e p (subst (λ (xs : List ℕ). Contains xs p) k.engaged c);
       begins = λ e. rw k.engaged (right.begins e);
-      once = λ e. subst (λ (xs : List ℕ). HasNoRepeat xs) (sym k.engaged) (right.once e);
+      once = λ e. subst (λ (xs : List ℕ). IsDistinct eqb xs) (sym k.engaged) (right.once e);
       end = λ rule others end run. runs_are_right rule g r.initiator others r.log r.ending end ok mine run;
       last = λ rule others end run. last_computation_is_a_run rule g r.initiator others r.log r.ending end ok mine run;
       short = rw k.restarted

@@ -16,7 +16,7 @@ use Rattle.cmh_graph.proofs.Verdicts.{idle_within}
 use Rattle.cmh_run.proofs.Paths.{reaches_self, reached_deadlocked}
 use Rattle.cmh_run.specs.Config.{Config, proc_at, acted, hinted, received, without, delivered, start, nothing_yet}
 use Rattle.cmh_run.specs.Legal.{Going, ready, after, Leads, EndsAs, IsRight, RunsAreRight}
-use Rattle.cmh_run.proofs.Tally.{tally_from_contains, no_repeat}
+use Rattle.cmh_run.proofs.Tally.{tally_from_contains, distinct}
 use Rattle.cmh_run.proofs.Sound.{engaged_deadlocked, none_on_way, at_rest_free}
 use Rattle.cmh_run.proofs.Tokens.{each_at, tokens, token, edge_from, edge_to}
 use Rattle.cmh_run.proofs.Live.{Live, Fine}
@@ -111,7 +111,7 @@ right_at g i restarts Declared end ok s e one =
           λ q k k_in. all_deadlocked g i end.config ok h.0 h.1 k
           (h.0.engaged_in k (tally_from_contains k end.config.engaged k_in));
       begins = λ q. h.0.begins;
-      once = λ q. no_repeat end.config.engaged h.0.once;
+      once = λ q. distinct end.config.engaged h.0.once;
       last_delivered = λ q m m_in. low_number g i end.config ok h.0 h.1 m m_in;
       all_delivered = λ none q. no_member end.config.bag (λ m m_in.
           let there : slice_get end.config.bag m_in.0 ≡ Some m =

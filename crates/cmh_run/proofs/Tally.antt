@@ -1,8 +1,7 @@
 -- How often a number stands in a list.
-use Rattle.std.proofs.Common.{◌≡◌, ℕ, zero, suc, ◌+◌, ◌<◌, ◌≤◌, Bool, true, false, cond, eqb, List, [], ◌∷◌, length, get_or, slice_get, Contains, Some, refl, arith}
-use Rattle.std.proofs.lemmas.Bool.{eqb-true, eq-eqb}
-use Rattle.std.proofs.lemmas.Option.{slice_get_within, get_or_from_slice_get, same_Some}
-use Rattle.cmh_run.specs.Legal.{HasNoRepeat}
+use Rattle.std.proofs.Common.{◌≡◌, ℕ, zero, suc, ◌+◌, ◌<◌, ◌≤◌, Bool, true, false, cond, eqb, List, [], ◌∷◌, length, get_or, Contains, refl, sym, arith}
+use Rattle.std.specs.List.{AllByRecursion, IsDistinct}
+use Rattle.std.proofs.lemmas.Bool.{eqb-true, eq-eqb, ne_eqb}
 
 abbrev pub one_if : Bool → ℕ
 one_if b = cond b 1 0
@@ -71,18 +70,19 @@ contains_from_tally r (y ∷ ys) h = step (eqb y r) refl h (contains_from_tally 
     step true e h ih = (0, omega arith, eqb-true y r e)
     step false e h ih = let c : Contains ys r = ih (omega arith) in (suc c.0, omega (arith, c.1), c.2)
 
--- a process that is got from the list stands in it
-tally_got : (r n : ℕ) (ys : List ℕ) → slice_get ys n ≡ Some r → 0 < tally r ys
-tally_got r n ys h = tally_at r n ys (slice_get_within ys n r h) (get_or_from_slice_get ys n r r h)
+-- a process that doesn't stand in the list is none of it
+none_equal : (y : ℕ) (ys : List ℕ) → tally y ys ≡ 0 → AllByRecursion (λ z. eqb y z ≡ false) ys
+none_equal y [] h = tt
+none_equal y (z ∷ zs) h = (
+  ne_eqb y z (λ e. absurd (omega (arith, rw (eq-eqb z y (sym e)) at h))),
+  none_equal y zs (omega (arith, h)),
+)
 
--- where each process stands at most once, no process repeats
-pub no_repeat : (ys : List ℕ) → ((k : ℕ) → tally k ys ≤ 1) → HasNoRepeat ys
-no_repeat [] few a b k h j = absurd (cc)
-no_repeat (y ∷ ys) few zero zero k h j = refl
-no_repeat (y ∷ ys) few zero (suc b) k h j =
-    absurd (omega (arith, rw (eq-eqb y k (same_Some y k h)) at (few k), tally_got k b ys j))
-no_repeat (y ∷ ys) few (suc a) zero k h j =
-    absurd (omega (arith, rw (eq-eqb y k (same_Some y k j)) at (few k), tally_got k a ys h))
-no_repeat (y ∷ ys) few (suc a) (suc b) k h j =
-    let rest : a ≡ b = no_repeat ys (λ x. omega (arith, few x)) a b k h j in
-    omega (arith, rest)
+-- where each process stands at most once, they are distinct
+pub distinct : (ys : List ℕ) → ((k : ℕ) → tally k ys ≤ 1) → IsDistinct eqb ys
+unfolding IsDistinct
+distinct [] few = tt
+distinct (y ∷ ys) few = (
+  none_equal y ys (omega (arith, rw (eq-eqb y y refl) at (few y))),
+  distinct ys (λ x. omega (arith, few x)),
+)

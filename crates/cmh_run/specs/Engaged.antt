@@ -1,12 +1,13 @@
 -- Who is engaged when a run has ended, and what an awake initiator does.
-use Rattle.std.specs.Prelude.{◌≡◌, ℕ, List, [], slice_get, Contains, Some, IsTrue, IsFalse}
+use Rattle.std.specs.Prelude.{◌≡◌, ℕ, nat_eq, List, [], slice_get, Contains, Some, IsTrue, IsFalse}
+use Rattle.std.specs.List.{IsDistinct}
 use Rattle.cmh_graph.specs.Graph.{Graph, is_idle, is_awake, IsWithinGraph}
 use Rattle.cmh_graph.specs.Path.{Reaches}
 use Rattle.cmh_graph.specs.Verdict.{IsDeadlocked}
 use Rattle.cmh_run.specs.declared.delivery.Delivery.{Delivery}
 use Rattle.cmh_run.specs.declared.delivery.Ending.{Ending}
 use Rattle.cmh_run.specs.declared.delivery.Ending.TheVariants.{Declared, AtRest, CutFree}
-use Rattle.cmh_run.specs.Legal.{Going, Rule, IsRun, HasNoRepeat}
+use Rattle.cmh_run.specs.Legal.{Going, Rule, IsRun}
 
 -- the run was cut at k: k is free, isn't awake, and is reached, and it didn't engage
 pub record IsCutAt (g : Graph) (i k : ℕ) (engaged : List ℕ) : Type 0 where
@@ -20,7 +21,7 @@ pub record IsCutAt (g : Graph) (i k : ℕ) (engaged : List ℕ) : Type 0 where
 -- was cut is none of them.
 pub record AreEngaged (g : Graph) (i : ℕ) (ending : Ending) (engaged : List ℕ) : Type 0 where
   pub begins : IsFalse (is_awake g i) → slice_get engaged 0 ≡ Some i
-  pub once : HasNoRepeat engaged
+  pub once : IsDistinct nat_eq engaged
   pub asleep : (k : ℕ) → Contains engaged k → IsFalse (is_awake g k)
   pub reached : (k : ℕ) → Contains engaged k → Reaches g i k
   pub deadlocked : ending ≡ Declared → (k : ℕ) → Contains engaged k → IsDeadlocked g k

@@ -1,5 +1,6 @@
 -- Legal runs of one initiator, and what they tell of the graph.
-use Rattle.std.specs.Prelude.{◌≡◌, ◌≢◌, ℕ, ◌+◌, ◌*◌, ◌<◌, ◌≤◌, Bool, true, ◌&&◌, ◌==◌, if◌then◌else◌, List, [], ◌∷◌, length, slice_get, Contains, Option, Some, None, is_none, IsTrue, ⊤}
+use Rattle.std.specs.Prelude.{◌≡◌, ◌≢◌, ℕ, ◌+◌, ◌*◌, ◌<◌, ◌≤◌, Bool, true, nat_eq, ◌&&◌, ◌==◌, if◌then◌else◌, List, [], ◌∷◌, length, slice_get, Contains, Option, Some, None, is_none, IsTrue, ⊤}
+use Rattle.std.specs.List.{IsDistinct}
 use Rattle.cmh_graph.specs.declared.verdict.Verdict.{Verdict}
 use Rattle.cmh_graph.specs.Graph.{Graph, is_idle, is_awake, dependency_count, IsWithinGraph}
 use Rattle.cmh_graph.specs.Verdict.{IsDeadlocked, IsVerdict}
@@ -92,11 +93,6 @@ pub record IsRun (rule : Rule) (g : Graph) (i : ℕ) (restarts : List ℕ)
   pub leads : Leads rule g i (begun g i restarts) log end
   pub ends : EndsAs end.config ending
 
--- no process stands at two places
-abbrev pub HasNoRepeat : List ℕ → Type 0
-HasNoRepeat list =
-    (x y k : ℕ) → slice_get list x ≡ Some k → slice_get list y ≡ Some k → x ≡ y
-
 -- what a run that has ended tells of the graph
 pub record IsRight (g : Graph) (i : ℕ) (restarts : List ℕ)
     (ending : Ending) (end : Going) : Type 0 where
@@ -104,7 +100,7 @@ pub record IsRight (g : Graph) (i : ℕ) (restarts : List ℕ)
   pub free : ending ≢ Declared → ¬ (IsDeadlocked g i)
   pub engaged : ending ≡ Declared → (k : ℕ) → Contains end.config.engaged k → IsDeadlocked g k
   pub begins : ending ≡ Declared → slice_get end.config.engaged 0 ≡ Some i
-  pub once : ending ≡ Declared → HasNoRepeat end.config.engaged
+  pub once : ending ≡ Declared → IsDistinct nat_eq end.config.engaged
   pub last_delivered : ending ≡ Declared → (m : Message) → Contains end.config.bag m
       → m.number < end.config.number
   pub all_delivered : restarts ≡ [] → ending ≡ Declared → end.config.bag ≡ []

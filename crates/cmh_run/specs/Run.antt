@@ -1,5 +1,6 @@
 -- What is kept of a run, on its way and when it has ended.
-use Rattle.std.specs.Prelude.{◌≡◌, ◌≢◌, ◌⊎◌, ℕ, suc, ◌+◌, ◌*◌, ◌%◌, Contains, ◌<◌, ◌≤◌, ◌^◌, IsTrue, IsFalse, if◌then◌else◌, List, [], ◌∷◌, ◌++◌, length, slice_get, slice_index, Option, Some, None}
+use Rattle.std.specs.Prelude.{◌≡◌, ◌≢◌, ◌⊎◌, ℕ, suc, nat_eq, ◌+◌, ◌*◌, ◌%◌, Contains, ◌<◌, ◌≤◌, ◌^◌, IsTrue, IsFalse, if◌then◌else◌, List, [], ◌∷◌, ◌++◌, length, slice_get, slice_index, Option, Some, None}
+use Rattle.std.specs.List.{IsDistinct}
 use Rattle.cmh_graph.specs.Graph.{Graph, process_count, is_idle, is_awake, dependency_count}
 use Rattle.cmh_graph.specs.declared.verdict.Verdict.{Verdict}
 use Rattle.cmh_graph.specs.declared.verdict.Verdict.TheVariants.{Deadlocked, Free}
@@ -12,7 +13,7 @@ use Rattle.cmh_run.specs.declared.fault.RunFault.TheVariants.{NotIdle, TooManyCh
 use Rattle.cmh_run.specs.declared.TheConstants.{MAX_CHOICES, MAX_RESTARTS}
 use Rattle.cmh_run.specs.Config.{Config, proc_at, without, received}
 use Rattle.cmh_graph.specs.Verdict.{IsDeadlocked, IsVerdict}
-use Rattle.cmh_run.specs.Legal.{Going, Rule, HintIsFit, IsRun, HasNoRepeat, IsRight}
+use Rattle.cmh_run.specs.Legal.{Going, Rule, HintIsFit, IsRun, IsRight}
 use Rattle.cmh_run.specs.Choices.{chosen_place, HasNoHints}
 use Rattle.cmh_run.specs.Last.{LastIsRun}
 
@@ -142,7 +143,7 @@ pub record TellsTruth (g : Graph) (r : Run) : Type 0 where
   pub verdict : IsVerdict g r.initiator (verdict_of r.ending)
   pub engaged : r.ending ≡ Declared → (k : ℕ) → Contains r.engaged k → IsDeadlocked g k
   pub begins : r.ending ≡ Declared → slice_get r.engaged 0 ≡ Some r.initiator
-  pub once : r.ending ≡ Declared → HasNoRepeat r.engaged
+  pub once : r.ending ≡ Declared → IsDistinct nat_eq r.engaged
   pub end : (rule : Rule) (restarts : List ℕ) (end : Going)
       → IsRun rule g r.initiator restarts r.log r.ending end
       → IsRight g r.initiator restarts r.ending end
