@@ -37,6 +37,7 @@ abbrev pub status_of_run : RunFault → ℕ
 status_of_run run.Memory = FAILED
 status_of_run fault = MISUSED
 
+-- the status with which a fault of an analysis or a trace ends the program
 abbrev pub status_of : AppFault → ℕ
 status_of (Dump fault) = status_of_dump fault
 status_of (Work fault) = FAILED
@@ -45,10 +46,12 @@ status_of (Run fault) = status_of_run fault
 status_of (Report fault) = FAILED
 status_of (WriteFault written) = FAILED
 
+-- the status with which a refused list of numbers does
 abbrev pub status_of_list : ListFault → ℕ
 status_of_list list.Memory = FAILED
 status_of_list fault = MISUSED
 
+-- the status with which a refused plan does
 abbrev pub status_of_plan : PlanFault → ℕ
 status_of_plan plan.Memory = FAILED
 status_of_plan fault = MISUSED
@@ -67,9 +70,11 @@ pub record Ends : Type 0 where
   pub is_finished : Bool
   pub out_failed : Bool
 
+-- no byte of the input was read
 abbrev pub IsUnread : Ends → Type 0
 IsUnread e = e.given_new ≡ e.given_old
 
+-- no byte was put into the output
 abbrev pub IsUnwritten : Ends → Type 0
 IsUnwritten e = e.taken_new ≡ e.taken_old
 

@@ -108,6 +108,7 @@ pub record IsReadOnce (v w : View) : Type 0 where
 abbrev pub unposted : List Row → List ℕ → List ℕ
 unposted rows processes = filter (λ p. is_none (fold_at rows p)) processes
 
+-- the list has no process
 abbrev pub is_empty : List ℕ → Bool
 is_empty [] = true
 is_empty (p ∷ ps) = false

@@ -17,6 +17,7 @@ abbrev pub spoken_of : Verdict → List ℕ → List ℕ → List ℕ
 spoken_of Deadlocked initiator engaged = engaged
 spoken_of Free initiator engaged = initiator
 
+-- what a run with this verdict, initiator and engaged processes tells
 abbrev pub told_of : Verdict → List ℕ → List ℕ → Told
 told_of verdict initiator engaged = record {
   processes = spoken_of verdict initiator engaged;

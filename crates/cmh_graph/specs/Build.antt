@@ -17,6 +17,7 @@ process_of part = record {
   dependents = part.dependents.items;
 }
 
+-- the graph that the parts and the messages in transit describe
 abbrev pub graph_of : List Part → List (ℕ × ℕ) → Graph
 graph_of parts in_transit = record { processes = map process_of parts; in_transit = in_transit }
 

@@ -22,25 +22,32 @@ pub record Graph : Type 0 where
 abbrev pub nobody : Process
 nobody = record { name = []; site = 0; state = Active; dependents = [] }
 
+-- how many processes the graph has
 abbrev pub process_count : Graph → ℕ
 process_count g = length g.processes
 
+-- the process with index p
 abbrev pub process_at : Graph → ℕ → Process
 process_at g p = slice_index_or g.processes p nobody
 
+-- the name of the process with index p, as bytes
 abbrev pub name_of : Graph → ℕ → List ℕ
 name_of g p = (process_at g p).name
 
+-- the number of the site at which p is
 abbrev pub site_of : Graph → ℕ → ℕ
 site_of g p = (process_at g p).site
 
+-- the dependent set of p, by rising index in a well-formed graph
 abbrev pub dependents_of : Graph → ℕ → List ℕ
 dependents_of g p = (process_at g p).dependents
 
+-- the state is that of a process that waits
 abbrev pub is_idle_state : State → Bool
 is_idle_state Idle = true
 is_idle_state Active = false
 
+-- p waits for a message of its dependent set
 abbrev pub is_idle : Graph → ℕ → Bool
 is_idle g p = is_idle_state (process_at g p).state
 
@@ -80,6 +87,7 @@ idle_list g = filter (λ p. is_idle g p) (indices g)
 abbrev pub entry : Graph → ℕ → ℕ → ℕ
 entry g i j = slice_index (dependents_of g i) j
 
+-- the dependent set of process i has an entry j
 abbrev pub HasEntry : Graph → ℕ → ℕ → Type 0
 HasEntry g i j = (i < process_count g) × (j < length (dependents_of g i))
 

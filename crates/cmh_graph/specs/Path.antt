@@ -23,6 +23,7 @@ paths_to g test zero p = if test p then (p ∷ []) ∷ [] else []
 paths_to g test (suc n) p =
     flat_map (λ r. map (λ path. p ∷ path) (paths_to g test n r)) (dependencies_of g p)
 
+-- there is a path in the list
 abbrev pub is_nonempty : List (List ℕ) → Bool
 is_nonempty [] = false
 is_nonempty (path ∷ paths) = true

@@ -15,6 +15,7 @@ IsDeadlocked g p =
 unfoldable pub is_deadlocked : Graph → ℕ → Bool
 is_deadlocked g p = is_idle g p && list_all (λ q. not (is_awake g q)) (reach_of g p)
 
+-- deadlocked or free, by the test
 abbrev pub verdict : Graph → ℕ → Verdict
 verdict g p = if is_deadlocked g p then Deadlocked else Free
 

@@ -46,6 +46,7 @@ proc_queried p number from size = if engages p number then proc_engaged number f
 abbrev pub repeat_action : Proc → ℕ → ℕ → Action
 repeat_action p number from = if p.wait && p.latest == number then ReplyTo from else Nothing
 
+-- what a process does that is asked by a query of this number, where its dependent set has that size
 abbrev pub query_action : Proc → ℕ → ℕ → ℕ → Action
 query_action p number from size =
     if engages p number then engage_action from size else repeat_action p number from
@@ -67,6 +68,7 @@ abbrev pub last_action : Option ℕ → Action
 last_action None = Declare
 last_action (Some engager) = ReplyTo engager
 
+-- what a process does that gets a reply of this number
 abbrev pub reply_action : Proc → ℕ → Action
 reply_action p number =
     if counts p number

@@ -31,5 +31,6 @@ pub record AreRecordsOf {L : Type 0} (g : Graph) (records : List (Record Run L))
   pub order : map initiator_of records ≡ idle_list g
   pub tell : All (TellsOf g) records
 
+-- the verdict of the record is that its initiator is deadlocked
 abbrev pub tells_deadlocked : {L : Type 0} → Record Run L → Bool
 tells_deadlocked r = says_deadlocked r.verdict

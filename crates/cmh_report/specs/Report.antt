@@ -16,6 +16,7 @@ line words = join_with_byte 32 words ++ 10 ∷ []
 abbrev pub spaced : List (List ℕ) → List ℕ
 spaced words = flat_map (λ word. 32 ∷ word) words
 
+-- the names of the processes, in the order of the list
 abbrev pub names : Graph → List ℕ → List (List ℕ)
 names g ps = map (name_of g) ps
 
@@ -24,9 +25,11 @@ abbrev pub names_or_dash : Graph → List ℕ → List (List ℕ)
 names_or_dash g [] = codes "-" ∷ []
 names_or_dash g (p ∷ ps) = names g (p ∷ ps)
 
+-- how many processes aren't idle
 abbrev pub active_count : Graph → ℕ
 active_count g = count_by (λ p. not (is_idle g p)) (indices g)
 
+-- how many processes are deadlocked
 abbrev pub deadlocked_count : Graph → ℕ
 deadlocked_count g = count_by (is_deadlocked g) (indices g)
 
@@ -74,6 +77,7 @@ abbrev pub report_lines : Graph → List (List (List ℕ))
 report_lines g =
     totals_line g ∷ map (process_line g) (idle_list g) ++ map (group_line g) (leaders g)
 
+-- the lines of the report, one after the other
 unfoldable pub report_text : Graph → List ℕ
 report_text g = flat_map line (report_lines g)
 

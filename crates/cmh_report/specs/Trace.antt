@@ -14,6 +14,7 @@ use Rattle.cmh_report.specs.Report.{line}
 use Rattle.cmh_report.specs.declared.fault.AppFault.{AppFault}
 use Rattle.cmh_report.specs.declared.fault.AppFault.TheVariants as app
 
+-- the word for the kind of a message
 abbrev pub kind_word : Kind → List ℕ
 kind_word Query = codes "query"
 kind_word Reply = codes "reply"
@@ -34,6 +35,7 @@ abbrev pub trace_lines : Graph → Run → List (List (List ℕ))
 trace_lines g r =
     map (λ d. message_line g d.message) r.log ++ ending_lines (name_of g r.initiator) r.ending
 
+-- the lines of the trace, one after the other
 unfoldable pub trace_text : Graph → Run → List ℕ
 trace_text g r = flat_map line (trace_lines g r)
 

@@ -34,6 +34,7 @@ pub record Waiting : Type 0 where
 abbrev pub is_waiting : Waiting → Message → Bool
 is_waiting w m = list_any (is_at (pair_cmp (m.from, m.to))) (of_kind m.kind w.queries w.replies)
 
+-- both are queries, or both are replies
 abbrev pub is_same_kind : Kind → Kind → Bool
 is_same_kind a b = of_kind a (of_kind b true false) (of_kind b false true)
 

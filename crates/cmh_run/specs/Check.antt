@@ -81,6 +81,7 @@ pub record HasOneAnswer (g : Graph) (i : ℕ) (log : List Delivery) : Type 0 whe
   pub sound : (a : Ending) (e : CheckFault) → IsLegalRun g i log a → IsFirstFault g i log e → ⊥
   pub first : (e f : CheckFault) → IsFirstFault g i log e → IsFirstFault g i log f → e ≡ f
 
+-- every log of a run of a well-formed graph has one answer
 abbrev pub LogsHaveOneAnswer : Type 0
 LogsHaveOneAnswer =
     (g : Graph) (i : ℕ) (log : List Delivery) → IsWellFormed g → HasOneAnswer g i log

@@ -9,6 +9,7 @@ use Rattle.cmh_run.specs.Legal.{Going, Rule, IsRun}
 abbrev pub chosen_place : List ℕ → Rule
 chosen_place choices done c x = x == slice_index choices done % length c.bag
 
+-- no delivery came with a hint
 abbrev pub HasNoHints : List Delivery → Type 0
 HasNoHints [] = ⊤
 HasNoHints (d ∷ rest) = (d.hint ≡ None) × HasNoHints rest

@@ -23,13 +23,16 @@ pub record Config : Type 0 where
   pub engaged : List ℕ
   pub ended : Option Ending
 
+-- what process k keeps of the computation
 abbrev pub proc_at : List Proc → ℕ → Proc
 proc_at procs k = slice_index_or procs k fresh
 
+-- the query of a computation from one process to another
 abbrev pub query : ℕ → ℕ → ℕ → ℕ → Message
 query i number from to =
     record { kind = Query; initiator = i; number = number; from = from; to = to }
 
+-- the reply of a computation from one process to another
 abbrev pub reply : ℕ → ℕ → ℕ → ℕ → Message
 reply i number from to =
     record { kind = Reply; initiator = i; number = number; from = from; to = to }
@@ -141,6 +144,7 @@ answered i c m =
     let next = proc_queried p m.number m.from 0 in
     acted i c m.number m.to [] next (query_action p m.number m.from 0)
 
+-- once the receiver has got a reply
 abbrev pub replied : ℕ → Config → Message → Config
 replied i c m =
     let p = proc_at c.procs m.to in
@@ -167,6 +171,7 @@ abbrev pub delivered : Graph → ℕ → Config → ℕ → Message → Option V
 delivered g i c x m hint =
     if is_awake g m.to then without c x else received g i (without c x) m m.kind hint
 
+-- the message is a query
 abbrev pub is_query : Kind → Bool
 is_query Query = true
 is_query Reply = false

@@ -18,6 +18,7 @@ pub record Going : Type 0 where
   pub restarts : List ℕ
   pub restarted : ℕ
 
+-- a run at its start, with the restarts that are to come
 abbrev pub going_from : Config → List ℕ → Going
 going_from c restarts = record { config = c; done = 0; restarts = restarts; restarted = 0 }
 
@@ -37,6 +38,7 @@ restart g i s rest = record {
   restarted = s.restarted + 1;
 }
 
+-- once the first of these restarts has come, if the run goes on and it is due now
 abbrev pub restarted_at : Graph → ℕ → Going → List ℕ → Going
 restarted_at g i s [] = s
 restarted_at g i s (n ∷ rest) =
@@ -46,6 +48,7 @@ restarted_at g i s (n ∷ rest) =
 abbrev pub ready : Graph → ℕ → Going → Going
 ready g i s = restarted_at g i s s.restarts
 
+-- once the message at place x of the bag is delivered
 abbrev pub after : Graph → ℕ → Going → ℕ → Delivery → Going
 after g i s x d = record {
   config = delivered g i s.config x d.message d.hint;

@@ -8,10 +8,12 @@ use Rattle.cmh_process.specs.declared.process.Action.{Action}
 use Rattle.cmh_process.specs.declared.process.Action.TheVariants.{Nothing, Engage, ReplyTo, Declare}
 use Rattle.cmh_run.specs.Config.{proc_at}
 
+-- the bit that stands for the kind of a message
 abbrev pub bit_of : Kind → ℕ
 bit_of Query = 0
 bit_of Reply = 1
 
+-- the kind of message that a bit stands for
 abbrev pub kind_of : ℕ → Kind
 kind_of bit = if bit == 0 then Query else Reply
 

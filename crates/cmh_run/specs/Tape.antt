@@ -7,37 +7,42 @@ use Rattle.cmh_process.specs.declared.message.Kind.{Kind}
 use Rattle.cmh_process.specs.declared.message.Kind.TheVariants.{Query, Reply}
 use Rattle.cmh_process.specs.declared.message.Message.{Message}
 use Rattle.cmh_run.specs.declared.delivery.Delivery.{Delivery}
+use Rattle.cmh_run.specs.Config.{is_query}
 
-abbrev pub is_query : Kind → Bool
-is_query Query = true
-is_query Reply = false
-
+-- the kind of message of which it is said whether it is a query
 abbrev pub kind_from : Bool → Kind
 kind_from true = Query
 kind_from false = Reply
 
+-- a kind is told by whether it is a query
 abbrev pub kind_back : (k : Kind) → kind_from (is_query k) ≡ k
 kind_back Query = refl
 kind_back Reply = refl
 
+-- the verdict is that the process is free
 abbrev pub says_free : Verdict → Bool
 says_free Free = true
 says_free Deadlocked = false
 
+-- the verdict of which it is said whether it is "free"
 abbrev pub verdict_from : Bool → Verdict
 verdict_from true = Free
 verdict_from false = Deadlocked
 
+-- a verdict is told by whether it is "free"
 abbrev pub verdict_back : (v : Verdict) → verdict_from (says_free v) ≡ v
 verdict_back Free = refl
 verdict_back Deadlocked = refl
 
+-- how a kind is stored
 abbrev pub kind_code : Coded Kind
 kind_code = code_by Bool coded_bool is_query kind_from kind_back
 
+-- how a verdict is stored
 abbrev pub verdict_code : Coded Verdict
 verdict_code = code_by Bool coded_bool says_free verdict_from verdict_back
 
+-- how a message is stored: as its parts
 abbrev pub message_code : Coded Message
 message_code =
     code_by (Kind × (ℕ × (ℕ × (ℕ × ℕ))))
@@ -46,6 +51,7 @@ message_code =
     (λ p. record { kind = p.0; initiator = p.1.0; number = p.1.1.0; from = p.1.1.1.0; to = p.1.1.1.1 })
     (λ _. refl)
 
+-- how a delivery is stored: as its message and its hint
 abbrev pub delivery_code : Coded Delivery
 delivery_code =
     code_by (Message × Option Verdict) (coded× message_code (coded_option verdict_code))

@@ -26,7 +26,7 @@ use Rattle.cmh_work.specs.Seats.{view}
 use Rattle.cmh_work.specs.Shape.{IsShape}
 use Rattle.cmh_work.specs.Record.{IsRunFor, IsSource, IsTrueRecord}
 use Rattle.cmh_work.specs.Analysis.{initiator_of, records_of, history_of, IsAnalysisOf}
-use Rattle.cmh_work.specs.Finding.{finder_of, IsSound}
+use Rattle.cmh_work.specs.Finding.{finding_initiator, IsSound}
 use Rattle.cmh_work.specs.Numbering.{IsNumbered, AreNumbered, IsNamed}
 use Rattle.cmh_work.specs.Working.{IsMadeFor, Sit, IsWorked}
 use Rattle.cmh_work.proofs.Accounting.{sound_more, all_explained_more}
@@ -79,7 +79,7 @@ each_record listed g choices rows P each (f ∷ fs) (r ∷ rs) sound n =
 
 -- records are of those of whom findings are
 same_order : {L : Type 0} (rows : List Row) (fs : List (Finding Run L)) (rs : List (Record Run L))
-    → AreNumbered rows fs rs → map initiator_of rs ≡ map finder_of fs
+    → AreNumbered rows fs rs → map initiator_of rs ≡ map finding_initiator fs
 same_order rows [] [] n = refl
 same_order rows [] (r ∷ rs) n = absurd n
 same_order rows (f ∷ fs) [] n = absurd n
@@ -115,7 +115,7 @@ all_stand listed g choices rows seen found sorted p begins sound =
 -- what workers found, sorted and numbered over the history that they posted, is an analysis
 pub analysed : {L : Type 0} (listed : L → List ℕ) (g : Graph) (plan : Setup) (j : Shared) (s : Seats)
     (found sorted : List (Finding Run L)) (a : Analysis Run L) → IsWellFormed g → IsMadeFor g plan j
-    → IsPermutation found sorted → IsNonDecreasingBy finder_of sorted
+    → IsPermutation found sorted → IsNonDecreasingBy finding_initiator sorted
     → Sit j s → (view s.tickets).share ≡ 64 → IsWorked listed g plan j s found
     → StartsWith (history_of a) (known s.board).seen → IsTrueOf g (history_of a)
     → IsMadeOf (known s.board).mine (history_of a)
@@ -126,7 +126,7 @@ analysed listed g plan j s found sorted a well for p up sit whole w begins true_
     let sound = all_stand listed g choices rows (known s.board).seen found sorted p begins w.of.accounts.sound in
     let order : map initiator_of (records_of a) ≡ idle_list g =
     same_order rows sorted (records_of a) n
-    ∙ sorted_same finder_of found sorted j.idle.items p up (subst Rises (sym for.idle) (rises_from g))
+    ∙ sorted_same finding_initiator found sorted j.idle.items p up (subst Rises (sym for.idle) (rises_from g))
     (all_worked listed g plan j s found for sit.tickets whole w)
     ∙ for.idle in
     let explained =

@@ -18,7 +18,7 @@ use Rattle.cmh_rw.specs.Machine.{total}
 use Rattle.cmh_work.specs.Tickets.{sum_below, joined_views, with_drawn}
 use Rattle.cmh_work.specs.Cutting.{gathered}
 use Rattle.cmh_work.specs.Seats.{view, IsSeatOf}
-use Rattle.cmh_work.specs.Finding.{finder_of}
+use Rattle.cmh_work.specs.Finding.{finding_initiator}
 use Rattle.cmh_work.specs.Working.{chunks_in, AreNew, AreOf, IsMadeFor, IsWorked}
 use Rattle.cmh_work.proofs.Accounting.{accounts_joined}
 use Rattle.cmh_work.proofs.Gathering.{gathered-append, gathered_snoc, gathered_once}
@@ -48,7 +48,7 @@ joined_worked listed g plan j s t u a b is jo first second w x = record {
     accounts =
         accounts_joined listed g plan.choices (known s.board) (known t.board) (known u.board) a b first second
         (ap (λ v. v.mine) jo) w.of.accounts x.of.accounts;
-    order = map-append finder_of a b ∙ (λ k. w.of.order k ++ x.of.order k)
+    order = map-append finding_initiator a b ∙ (λ k. w.of.order k ++ x.of.order k)
         ∙ sym (gathered-append (chunks_in plan j) (view s.tickets).drawn (view t.tickets).drawn)
         ∙ ap (λ v. gathered (chunks_in plan j) v.drawn) (sym is);
   };
@@ -65,9 +65,9 @@ nothing_found listed g plan j s new = record {
 
 -- a chunk more
 pub drawn_more : {L : Type 0} (plan : Setup) (j : Shared) (s u : TicketSeat) (n : ℕ) (a b : List (Finding Run L))
-    → view u ≡ with_drawn (view s) n → map finder_of a ≡ gathered (chunks_in plan j) (view s).drawn
-    → map finder_of b ≡ map finder_of a ++ slice_index_or (chunks_in plan j) n []
-    → map finder_of b ≡ gathered (chunks_in plan j) (view u).drawn
+    → view u ≡ with_drawn (view s) n → map finding_initiator a ≡ gathered (chunks_in plan j) (view s).drawn
+    → map finding_initiator b ≡ map finding_initiator a ++ slice_index_or (chunks_in plan j) n []
+    → map finding_initiator b ≡ gathered (chunks_in plan j) (view u).drawn
 drawn_more plan j s u n a b is was more =
     more ∙ ap (λ l. l ++ slice_index_or (chunks_in plan j) n []) was
     ∙ sym (gathered_snoc (chunks_in plan j) (view s).drawn n)
@@ -77,7 +77,7 @@ drawn_more plan j s u n a b is was more =
 pub all_worked : {L : Type 0} (listed : L → List ℕ) (g : Graph) (plan : Setup) (j : Shared) (s : Seats)
     (found : List (Finding Run L)) → IsMadeFor g plan j → IsSeatOf j.tickets s.tickets → (view s.tickets).share ≡ 64
     → IsWorked listed g plan j s found
-    → (weight : ℕ → ℕ) → total weight (map finder_of found) ≡ total weight j.idle.items
+    → (weight : ℕ → ℕ) → total weight (map finding_initiator found) ≡ total weight j.idle.items
 all_worked listed g plan j s found made own whole w weight =
     let all = s.tickets.knows w.done whole in
     let n : (view s.tickets).chunks ≡ length plan.cuts + 1 = own.1 ∙ made.tickets in

@@ -12,12 +12,15 @@ use Rattle.cmh_work.specs.declared.record.Origin.TheVariants.{FromRun}
 use Rattle.cmh_work.specs.declared.record.Analysis.{Analysis}
 use Rattle.cmh_work.specs.Record.{IsTrueRecord}
 
+-- the records of the analysis, one for each idle process
 abbrev pub records_of : {L : Type 0} → Analysis Run L → List (Record Run L)
 records_of a = a.records.items
 
+-- the rows of the board when all workers were done
 abbrev pub history_of : {L : Type 0} → Analysis Run L → List Row
 history_of a = a.history.items
 
+-- the process that the record is about
 abbrev pub initiator_of : {L : Type 0} → Record Run L → ℕ
 initiator_of r = r.initiator
 

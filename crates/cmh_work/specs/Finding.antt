@@ -12,8 +12,9 @@ use Rattle.cmh_work.specs.Shape.{IsShape}
 use Rattle.cmh_work.specs.Record.{IsRunFor}
 use Rattle.cmh_work.specs.Analysis.{IsPostedBy}
 
-abbrev pub finder_of : {L : Type 0} → Finding Run L → ℕ
-finder_of f = f.initiator
+-- the process that the finding is about
+abbrev pub finding_initiator : {L : Type 0} → Finding Run L → ℕ
+finding_initiator f = f.initiator
 
 -- the posting stands in what is seen, and is this run's
 pub record IsSeenFrom (seen posting : List Row) (run : Run) : Type 0 where
@@ -56,6 +57,7 @@ abbrev pub IsExplained : {L : Type 0} → List Row → List (Finding Run L) → 
 IsExplained {L = L} seen found posting = (f : Finding Run L) × Contains found f
     × (run : Run) × (f.run ≡ Some run) × IsSeenFrom seen posting run
 
+-- each of these postings is of the run of something that was found
 abbrev pub AreExplained : {L : Type 0} → List Row → List (Finding Run L) → List (List Row) → Type 0
 AreExplained seen found [] = Unit {0}
 AreExplained seen found (posting ∷ postings) =

@@ -15,6 +15,7 @@ unfoldable pub leader_below : Graph → ℕ → ℕ → Option ℕ
 leader_below g bound p =
     if is_deadlocked g p && nat_lt (leader_of g p) bound then Some (leader_of g p) else None
 
+-- the verdict is that the process is deadlocked
 abbrev pub says_deadlocked : Verdict → Bool
 says_deadlocked Deadlocked = true
 says_deadlocked Free = false

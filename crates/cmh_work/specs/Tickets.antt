@@ -15,6 +15,7 @@ sum_below weight (suc n) = sum_below weight n + weight n
 
 -- ---- what a seat knows
 
+-- what the first seat knows: it has all shares, and has drawn none of these chunks
 abbrev pub opening_view : ℕ → TicketView
 opening_view chunks = record { chunks = chunks; share = 64; drawn = []; done = false }
 
@@ -38,9 +39,11 @@ joined_views v w = record v {
 abbrev pub spent : TicketView
 spent = record { chunks = 0; share = 0; drawn = []; done = false }
 
+-- the seat once it has drawn chunk n
 abbrev pub with_drawn : TicketView → ℕ → TicketView
 with_drawn v n = record v { drawn = v.drawn ++ n ∷ [] }
 
+-- the seat once it has found no chunk left
 abbrev pub with_done : TicketView → TicketView
 with_done v = record v { done = true }
 
@@ -54,9 +57,11 @@ KnowsAll v = v.done ≡ true → v.share ≡ 64 → DrewAll v
 
 -- ---- the rule
 
+-- how many of the 64 shares the seat has
 abbrev pub share_of : TicketView → ℕ
 share_of v = v.share
 
+-- these shares where the test holds, else none
 abbrev pub share_if : Bool → ℕ → ℕ
 share_if done share = if done then share else 0
 

@@ -11,7 +11,7 @@ use Rattle.cmh_work.specs.Plan.{Setup}
 use Rattle.cmh_work.specs.Cutting.{chunks_of, bounds_of, gathered}
 use Rattle.cmh_work.specs.Seats.{view, IsSeatOf}
 use Rattle.cmh_work.specs.Shape.{AreShapesOf}
-use Rattle.cmh_work.specs.Finding.{finder_of, Accounts}
+use Rattle.cmh_work.specs.Finding.{finding_initiator, Accounts}
 
 -- it was made for this graph and this plan
 pub record IsMadeFor (g : Graph) (plan : Setup) (s : Shared) : Type 0 where
@@ -30,6 +30,7 @@ pub record SitsIn (s : Shared) (seat : BoardSeat) : Type 0 where
   pub sits : SitsAt s.board seat
   pub away : IsAway seat
 
+-- both seats of a worker belong to what the workers share
 pub record Sit (s : Shared) (seats : Seats) : Type 0 where
   pub board : SitsIn s seats.board
   pub tickets : IsSeatOf s.tickets seats.tickets
@@ -50,7 +51,7 @@ pub record AreOf {L : Type 0} (listed : L → List ℕ) (g : Graph) (plan : Setu
     (found : List (Finding Run L))
     : Type 0 where
   pub accounts : Accounts listed g plan.choices (known seats.board) found
-  pub order : map finder_of found ≡ gathered (chunks_in plan s) (view seats.tickets).drawn
+  pub order : map finding_initiator found ≡ gathered (chunks_in plan s) (view seats.tickets).drawn
 
 -- and no chunk is left
 pub record IsWorked {L : Type 0} (listed : L → List ℕ) (g : Graph) (plan : Setup) (s : Shared) (seats : Seats)

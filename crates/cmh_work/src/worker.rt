@@ -6,7 +6,7 @@ ghost use Rattle.cmh_run.specs.Run.{TellsTruth};
 ghost use Rattle.cmh_board.specs.Board.{known, Sees};
 ghost use Rattle.cmh_work.specs.Record.{IsRunFor};
 ghost use Rattle.cmh_run.specs.Run.{verdict_of};
-ghost use Rattle.cmh_work.specs.Finding.{finder_of, IsAnswered, IsRecorded, Accounts};
+ghost use Rattle.cmh_work.specs.Finding.{finding_initiator, IsAnswered, IsRecorded, Accounts};
 ghost use Rattle.cmh_work.specs.Working.{IsMadeFor, SitsIn, Sit, AreNew, AreBack, IsWorked};
 
 use crate::chunks::chunk_at;
@@ -134,8 +134,8 @@ fn find_each<L: Log, E: ProcessList, R: Wait, P: Gate>(
     ensures share { (known seat.new).lock.share ≡ (known seat.old).lock.share }
     ensures accounts { OnOk result (Accounts E.processes
         job.now.graph.now job.now.plan.now.choices (known seat.new) found.new.items) }
-    ensures order { OnOk result (map finder_of found.new.items
-        ≡ map finder_of found.old.items ++ chunk.now) }
+    ensures order { OnOk result (map finding_initiator found.new.items
+        ≡ map finding_initiator found.old.items ++ chunk.now) }
     ensures memory { IfErr result (λ e. e ≡ WorkFault.Memory) }
 {
     for initiator in chunk {

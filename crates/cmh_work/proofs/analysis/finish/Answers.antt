@@ -6,7 +6,7 @@ use Rattle.cmh_rw.specs.declared.row.Row.{Row}
 use Rattle.cmh_rw.specs.History.{IsTrueOf}
 use Rattle.cmh_rw.proofs.Folds.{true-few}
 use Rattle.cmh_board.specs.Board.{known, IsMadeOf}
-use Rattle.cmh_work.specs.Finding.{finder_of}
+use Rattle.cmh_work.specs.Finding.{finding_initiator}
 use Rattle.cmh_work.specs.Numbering.{Stands, AreNumbered}
 use Rattle.cmh_work.specs.Working.{IsWorked}
 use Rattle.cmh_work.proofs.Analysing.{all_stand, analysed}
@@ -65,9 +65,9 @@ returns-clause-ok g c =
     let w : IsWorked g.E.ProcessList.processes gr plan c.args.shared seats c.in_ok-found.found.items =
     subst (λ r. IfOk r (λ f. IsWorked g.E.ProcessList.processes gr plan c.args.shared seats f.items)) c.in_ok-found.was
     c.workers-seats.ensures.worked in
-    let up : IsNonDecreasingBy finder_of sorted =
-    IsNonDecreasingBy-from_sort finder_of _
-    (c.sort_unstable_by_key.ensures.sorted finder_of (answers_always _ _ _ (λ f a r x h. search rules))) in
+    let up : IsNonDecreasingBy finding_initiator sorted =
+    IsNonDecreasingBy-from_sort finding_initiator _
+    (c.sort_unstable_by_key.ensures.sorted finding_initiator (answers_always _ _ _ (λ f a r x h. search rules))) in
     let true_of : IsTrueOf gr rows =
     subst (λ x. IsTrueOf x rows) c.requires.made.board
     (given c.close.result c.map_err.result c.in_ok-history.history _ _ c.map_err.ensures.cases

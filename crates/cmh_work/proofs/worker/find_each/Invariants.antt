@@ -1,6 +1,6 @@
 use Rattle.std.proofs.Common.{◌≡◌, ◌++◌, map, take}
 use Rattle.cmh_board.specs.Board.{known}
-use Rattle.cmh_work.specs.Finding.{finder_of, Accounts}
+use Rattle.cmh_work.specs.Finding.{finding_initiator, Accounts}
 use Rattle.cmh_work.specs.Working.{SitsIn}
 use Rattle.cmh_work.proofs.worker.find_each.Given as goal
 
@@ -10,5 +10,5 @@ invariant-loop-initiator g l = record {
   sits : SitsIn l.job.shared.now l.seat;
   share : (known l.seat).lock.share ≡ (known l.fn.seat).lock.share;
   accounts : Accounts g.E.ProcessList.processes l.job.graph.now l.job.plan.now.choices (known l.seat) l.found.items;
-  order : map finder_of l.found.items ≡ map finder_of l.fn.found.items ++ take l.initiator-index l.chunk;
+  order : map finding_initiator l.found.items ≡ map finding_initiator l.fn.found.items ++ take l.initiator-index l.chunk;
 }
