@@ -6,12 +6,12 @@ use Rattle.std.specs.Global.{Global}
 use Rattle.cmh_graph.specs.Graph.{Graph, is_idle}
 use Rattle.cmh_dump.specs.declared.fault.DumpFault.{DumpFault}
 use Rattle.cmh_dump.specs.declared.fault.DumpFault.TheVariants as dump
-use Rattle.cmh_run.specs.Run.{AreRestarts, IsFirstFault as IsRunFault}
+use Rattle.cmh_run.specs.Run.{AreRestarts, IsFirstRunFault}
 use Rattle.cmh_run.specs.declared.TheConstants.{MAX_CHOICES}
 use Rattle.cmh_run.specs.declared.delivery.Ending.{Ending}
 use Rattle.cmh_run.specs.declared.fault.RunFault.{RunFault}
 use Rattle.cmh_run.specs.declared.fault.RunFault.TheVariants as run
-use Rattle.cmh_work.specs.Plan.{IsFirstFault as IsPlanFault}
+use Rattle.cmh_work.specs.Plan.{IsFirstPlanFault}
 use Rattle.cmh_work.specs.declared.fault.PlanFault.{PlanFault}
 use Rattle.cmh_work.specs.declared.fault.PlanFault.TheVariants as plan
 use Rattle.cmh_report.specs.declared.fault.AppFault.{AppFault}
@@ -20,7 +20,7 @@ use Rattle.cmh_report.specs.Ends.{GaveGraph, IsCutShort, IsRefused}
 use Rattle.cmh_report.specs.Fault.{IfDump, IfNoSuchProcess, IfRun, IfUnwritten, IfWriteFault}
 use Rattle.cmh_report.specs.Report.{IsCountedReport, IsReport}
 use Rattle.cmh_report.specs.Trace.{HasNoRun, IsEndedTrace, IsFirstNamed, IsSomeTrace, NobodyIsNamed}
-use Rattle.cmh_command.specs.List.{IsFirstFault, IsListOf}
+use Rattle.cmh_command.specs.List.{IsFirstListFault, IsListOf}
 use Rattle.cmh.specs.Status.{status_of, status_of_dump, status_of_run, status_of_list, status_of_plan, AreBadPlanWords, Ends, FitsTrace, HasAnswered, HasCuts, HasDeadlock, HasFailed, HasRefusedDump, IsCutsStatus, IsDone, IsListStatus, IsMisused, IsOutcome, IsOutcomeOf, IsPlanStatus, IsUnread, IsUnwritten, NobodyIdleIsNamed}
 use Rattle.cmh_command.specs.Words.{IsRequest}
 use Rattle.cmh_command.specs.declared.list.ListFault.{ListFault}
@@ -121,7 +121,7 @@ refused_dump r e f own failed = by_status (status_of_dump f) (dump_status f) own
 -- ---- lists and plans
 
 -- a list is refused for want of memory, or for its own fault
-pub list_status : (text : List ℕ) (f : ListFault) → (f ≡ list.Memory) ⊎ IsFirstFault text f
+pub list_status : (text : List ℕ) (f : ListFault) → (f ≡ list.Memory) ⊎ IsFirstListFault text f
     → IsListStatus text (status_of_list f)
 list_status text list.Memory h = inl refl
 list_status text (list.BadNumber i) (inl h) = cc
@@ -142,11 +142,11 @@ choices_next w s (inr h) = inr (h.0, inr (inl h.1))
 -- a plan is refused for want of memory, or for its own fault
 pub plan_status : (w : PlanWords) (cuts choices : List ℕ) (f : PlanFault) → HasCuts w.cuts cuts
     → IsListOf w.choices.now choices
-    → (f ≡ plan.Memory) ⊎ IsPlanFault record { workers = w.workers; cuts = cuts; choices = choices } f
+    → (f ≡ plan.Memory) ⊎ IsFirstPlanFault record { workers = w.workers; cuts = cuts; choices = choices } f
     → IsPlanStatus w (status_of_plan f)
 plan_status w cuts choices f listed next h = by_fault f h
   where
-    bad : (f : PlanFault) → IsPlanFault record { workers = w.workers; cuts = cuts; choices = choices } f
+    bad : (f : PlanFault) → IsFirstPlanFault record { workers = w.workers; cuts = cuts; choices = choices } f
         → AreBadPlanWords w
     bad f first =
         inr (inr
@@ -160,7 +160,7 @@ plan_status w cuts choices f listed next h = by_fault f h
         }))
 
     by_fault : (f : PlanFault)
-        → (f ≡ plan.Memory) ⊎ IsPlanFault record { workers = w.workers; cuts = cuts; choices = choices } f
+        → (f ≡ plan.Memory) ⊎ IsFirstPlanFault record { workers = w.workers; cuts = cuts; choices = choices } f
         → IsPlanStatus w (status_of_plan f)
     by_fault plan.Memory h = inl refl
     by_fault plan.BadWorkers (inl h) = cc
@@ -258,7 +258,7 @@ not_idle : (name choices : List ℕ) (f : RunFault) (g : Graph) → length choic
     → (f ≡ run.Memory) ⊎ NobodyIdleIsNamed name g
 not_idle name choices f g few h = by_fault f h.cause
   where
-    by_fault : (f : RunFault) → (f ≡ run.Memory) ⊎ IsRunFault g h.initiator choices [] f
+    by_fault : (f : RunFault) → (f ≡ run.Memory) ⊎ IsFirstRunFault g h.initiator choices [] f
         → (f ≡ run.Memory) ⊎ NobodyIdleIsNamed name g
     by_fault f (inl memory) = inl memory
     by_fault run.NotIdle (inr active) =

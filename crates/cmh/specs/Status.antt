@@ -6,7 +6,7 @@ use Rattle.cmh_dump.specs.declared.fault.DumpFault.{DumpFault}
 use Rattle.cmh_dump.specs.declared.fault.DumpFault.TheVariants as dump
 use Rattle.cmh_run.specs.declared.fault.RunFault.{RunFault}
 use Rattle.cmh_run.specs.declared.fault.RunFault.TheVariants as run
-use Rattle.cmh_work.specs.Plan.{IsFirstFault as IsPlanFault}
+use Rattle.cmh_work.specs.Plan.{IsFirstPlanFault}
 use Rattle.cmh_work.specs.declared.TheConstants.{MAX_CUTS}
 use Rattle.cmh_work.specs.declared.fault.PlanFault.{PlanFault}
 use Rattle.cmh_work.specs.declared.fault.PlanFault.TheVariants as plan
@@ -15,7 +15,7 @@ use Rattle.cmh_report.specs.declared.fault.AppFault.TheVariants.{Dump, Work, NoS
 use Rattle.cmh_report.specs.Ends.{GaveGraph, IsAnswer, IsCutShort, IsRefused}
 use Rattle.cmh_report.specs.Report.{IsCountedReport, IsReport}
 use Rattle.cmh_report.specs.Trace.{IsFirstNamed, IsSomeTrace}
-use Rattle.cmh_command.specs.List.{IsFirstFault, IsListOf}
+use Rattle.cmh_command.specs.List.{IsFirstListFault, IsListOf}
 use Rattle.cmh_command.specs.Words.{IsRequest}
 use Rattle.cmh_command.specs.declared.list.ListFault.{ListFault}
 use Rattle.cmh_command.specs.declared.list.ListFault.TheVariants as list
@@ -106,7 +106,7 @@ FitsTrace name list g text =
 
 -- the text is no list
 abbrev pub IsBadList : List ℕ → Type 0
-IsBadList text = (fault : ListFault) × IsFirstFault text fault
+IsBadList text = (fault : ListFault) × IsFirstListFault text fault
 
 -- the cuts that the text lists; where nothing is said, as many ones as there may be
 abbrev pub HasCuts : Option (Bor (List ℕ)) → List ℕ → Type 0
@@ -120,7 +120,7 @@ pub record IsBadPlan (words : PlanWords) : Type 0 where
   pub cuts_listed : HasCuts words.cuts cuts
   pub choices_listed : IsListOf words.choices.now choices
   pub fault : PlanFault
-  pub first : IsPlanFault record { workers = words.workers; cuts = cuts; choices = choices } fault
+  pub first : IsFirstPlanFault record { workers = words.workers; cuts = cuts; choices = choices } fault
 
 -- the words for a plan have a fault
 abbrev pub AreBadPlanWords : PlanWords → Type 0

@@ -7,7 +7,7 @@ use Rattle.cmh_rw.specs.declared.row.Row.{Row}
 use Rattle.cmh_rw.specs.History.{fold_at, row_code}
 use Rattle.cmh_rw.specs.View.{row}
 use Rattle.cmh_board.specs.Board.{unposted, rows_of, with_posting, times}
-use Rattle.cmh_board.specs.Posting.{Told, posting_of}
+use Rattle.cmh_board.specs.Posting.{PostingValue, posting_of}
 use Rattle.cmh_board.specs.Snap.{verdict_at}
 
 -- p and q, posted together
@@ -57,7 +57,7 @@ free_stored_as = refl
 -- ---- what runs tell
 
 -- a run of p that engaged q
-abbrev run_that : Ending → Told
+abbrev run_that : Ending → PostingValue
 run_that ending = posting_of record { initiator = 0; log = []; ending = ending; engaged = 0 ∷ 1 ∷ []; restarted = 0 }
 
 declared_tells : run_that Declared ≡ record { processes = 0 ∷ 1 ∷ []; verdict = Deadlocked }

@@ -3,11 +3,11 @@ use Rattle.std.proofs.Common.{◌∙◌, ap, arith}
 use Rattle.cmh_rw.specs.declared.view.View.{View}
 use Rattle.cmh_board.specs.declared.board.Board.{Board}
 use Rattle.cmh_board.specs.declared.board.BoardSeat.{BoardSeat}
-use Rattle.cmh_board.specs.Board.{known, SitsAt, IsHolding, Sees, Reads}
+use Rattle.cmh_board.specs.Board.{known, SitsAt, IsHolding, SeesMore, ReadsHistory}
 use Rattle.cmh_board.specs.HintProofs.{sees_on}
 
 -- one reading after another
-pub reads_on : (u v w : View) → Reads u v → Reads v w → Reads u w
+pub reads_on : (u v w : View) → ReadsHistory u v → ReadsHistory v w → ReadsHistory u w
 reads_on u v w a b = record {
   lock = b.lock ∙ a.lock;
   loaded = b.loaded;
@@ -19,12 +19,12 @@ reads_on u v w a b = record {
 pub record Held (b : Board) (s t : BoardSeat) : Type 0 where
   pub sits : SitsAt b t
   pub holding : IsHolding t
-  pub sees : Sees (known s) (known t)
-  pub reads : Reads (known s) (known t)
+  pub sees : SeesMore (known s) (known t)
+  pub reads : ReadsHistory (known s) (known t)
 
 -- and so after one reading more
-pub held_on : (b : Board) (s t u : BoardSeat) → Held b s t → SitsAt b u → Sees (known t) (known u)
-    → Reads (known t) (known u)
+pub held_on : (b : Board) (s t u : BoardSeat) → Held b s t → SitsAt b u → SeesMore (known t) (known u)
+    → ReadsHistory (known t) (known u)
     → Held b s u
 held_on b s t u h sits sees reads = record {
   sits = sits;

@@ -1,4 +1,4 @@
-pub mod Added
+pub mod AddingLemmas
 pub mod Closings
 pub mod Examples
 pub mod Histories
@@ -6,5 +6,5 @@ pub mod Holds
 pub mod Lists
 pub mod PostingRows
 pub mod RowWords
-pub mod Staging
+pub mod StagedRows
 pub mod Weights

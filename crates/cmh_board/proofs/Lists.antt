@@ -6,8 +6,8 @@ use Rattle.std.proofs.lemmas.Bool.{eqb-false}
 use Rattle.std.proofs.lemmas.List.Elements.{All-contains, All-from_recursion, recursion_from_All, All-filter, filter_passes}
 use Rattle.std.proofs.lemmas.List.Sums.{length-filter, count_by-le-length}
 use Rattle.std.proofs.lemmas.Map.Keys.{IsDistinct-head}
-use Rattle.cmh_graph.proofs.Reaching.{cons_contains, contains_cons}
-use Rattle.cmh_run.proofs.Theorem.{by_test}
+use Rattle.cmh_graph.proofs.PathLemmas.{cons_contains, contains_cons}
+use Rattle.cmh_run.proofs.Configurations.{by_test}
 
 -- the first of a list is in it
 pub contains_first : (p : ℕ) (ps : List ℕ) → Contains (p ∷ ps) p

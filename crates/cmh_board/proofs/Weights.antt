@@ -4,8 +4,8 @@ use Rattle.std.specs.Prelude.{Contains}
 use Rattle.std.proofs.lemmas.Bool.{eqb-true, eq-eqb, and_parts}
 use Rattle.cmh_graph.specs.declared.verdict.Verdict.{Verdict}
 use Rattle.cmh_graph.specs.declared.verdict.Verdict.TheVariants.{Deadlocked, Free}
-use Rattle.cmh_graph.proofs.Reaching.{cons_contains, contains_cons}
-use Rattle.cmh_run.proofs.Theorem.{by_test}
+use Rattle.cmh_graph.proofs.PathLemmas.{cons_contains, contains_cons}
+use Rattle.cmh_run.proofs.Configurations.{by_test}
 use Rattle.cmh_rw.specs.declared.row.Row.{Row}
 use Rattle.cmh_rw.specs.History.{weigh}
 

@@ -11,7 +11,7 @@ use Rattle.cmh_rw.specs.declared.view.View.{View}
 use Rattle.cmh_rw.specs.History.{fold_at, IsHistory, IsTrueOf}
 use Rattle.cmh_rw.specs.View.{mark}
 use Rattle.cmh_board.specs.Board.{unposted, rows_of, with_posting, times}
-use Rattle.cmh_board.specs.Posting.{Told}
+use Rattle.cmh_board.specs.Posting.{PostingValue}
 
 -- each of the processes is idle
 abbrev pub AreIdle : Graph → List ℕ → Type 0
@@ -59,7 +59,7 @@ pub record Stages (v : Verdict) (processes : List ℕ) (old new : View) : Type 0
   pub loads : old.loads ≤ new.loads
 
 -- the rows came behind those that others had added
-pub record Adds (t : Told) (v w : View) : Type 0 where
+pub record Adds (t : PostingValue) (v w : View) : Type 0 where
   pub between : List Row
   pub rows : List Row
   pub new : rows ≡ rows_of t.verdict (unposted (v.seen ++ between) t.processes)

@@ -20,23 +20,23 @@ use Rattle.cmh_board.specs.declared.answer.Post.{Post}
 use Rattle.cmh_board.specs.declared.answer.Post.TheVariants as post
 use Rattle.cmh_board.specs.declared.fault.BoardFault.{BoardFault}
 use Rattle.cmh_board.specs.declared.fault.BoardFault.TheVariants as fault
-use Rattle.cmh_board.specs.Posting.{Told}
+use Rattle.cmh_board.specs.Posting.{PostingValue}
 
 -- what the seat knows
 abbrev pub known : BoardSeat → View
 known s = words.view s.seat
 
 -- the graph whose verdicts the board holds
-abbrev pub graph_of : Board → Graph
-graph_of b = words.graph_of b.words
+abbrev pub board_graph : Board → Graph
+board_graph b = words.words_graph b.words
 
 -- The seat is one of this board: it names the board's graph, and what it has seen is a history that
 -- is true for the graph.
 pub record SitsAt (b : Board) (s : BoardSeat) : Type 0 where
   pub own : words.IsSeatOf b.words s.seat
-  pub graph : (known s).lock.graph ≡ graph_of b
+  pub graph : (known s).lock.graph ≡ board_graph b
   pub whole : IsHistory (known s).seen
-  pub true_of : IsTrueOf (graph_of b) (known s).seen
+  pub true_of : IsTrueOf (board_graph b) (known s).seen
 
 -- the seat holds nothing
 abbrev pub IsAway : BoardSeat → Type 0
@@ -47,7 +47,7 @@ abbrev pub IsHolding : BoardSeat → Type 0
 IsHolding s = (known s).lock.state ≡ Reading
 
 -- The seat may have seen more. Its graph, its share and the postings that it added are the same.
-pub record Sees (v w : View) : Type 0 where
+pub record SeesMore (v w : View) : Type 0 where
   pub seen : StartsWith w.seen v.seen
   pub mine : w.mine ≡ v.mine
   pub share : w.lock.share ≡ v.lock.share
@@ -63,7 +63,7 @@ pub record IsRead (v w : View) : Type 0 where
   pub loads : v.loads < w.loads
 
 -- a writer was found, by this lock word, and nothing was seen
-pub record IsRefused (n : ℕ) (v w : View) : Type 0 where
+pub record IsTurnedAway (n : ℕ) (v w : View) : Type 0 where
   pub found : n ≡ w.lock.found
   pub cause : WRITER ≤ n
   pub seen : w.seen ≡ v.seen
@@ -71,10 +71,10 @@ pub record IsRefused (n : ℕ) (v w : View) : Type 0 where
   pub loads : w.loads ≡ v.loads
 
 -- what a look at process p answers
-abbrev pub LookIs : ℕ → View → View → Look → Type 0
-LookIs p v w (Known verdict) = IsRead v w × (fold_at w.seen p ≡ Some verdict)
-LookIs p v w Unknown = IsRead v w × (fold_at w.seen p ≡ None)
-LookIs p v w (Busy n) = IsRefused n v w
+abbrev pub AnswersLook : ℕ → View → View → Look → Type 0
+AnswersLook p v w (Known verdict) = IsRead v w × (fold_at w.seen p ≡ Some verdict)
+AnswersLook p v w Unknown = IsRead v w × (fold_at w.seen p ≡ None)
+AnswersLook p v w (Busy n) = IsTurnedAway n v w
 
 -- what a look answers of p is the truth
 abbrev pub IsTrueLook : Graph → ℕ → Look → Type 0
@@ -83,21 +83,21 @@ IsTrueLook g p Unknown = ⊤
 IsTrueLook g p (Busy n) = ⊤
 
 -- what a try to hold the board answers
-abbrev pub HoldIs : View → View → Entry → Type 0
-HoldIs v w entry.Held = (w.lock.state ≡ Reading) × (w.lock.found < WRITER)
-HoldIs v w (entry.Busy n) = (w.lock.state ≡ Away) × IsRefused n v w
+abbrev pub AnswersHold : View → View → Entry → Type 0
+AnswersHold v w entry.Held = (w.lock.state ≡ Reading) × (w.lock.found < WRITER)
+AnswersHold v w (entry.Busy n) = (w.lock.state ≡ Away) × IsTurnedAway n v w
 
 -- in one hold the history is read, and it is the same at each later reading
-pub record Reads (v w : View) : Type 0 where
+pub record ReadsHistory (v w : View) : Type 0 where
   pub lock : w.lock ≡ v.lock
   pub loaded : w.loaded ≡ true
   pub same : v.loaded ≡ true → w.seen ≡ v.seen
   pub loads : v.loads < w.loads
 
 -- why the whole board wasn't read: a writer was found, or memory was refused before any try
-abbrev pub Fails : View → View → BoardFault → Type 0
-Fails v w (fault.Busy n) = TriesOnce v w × IsRefused n v w
-Fails v w fault.Memory = w ≡ v
+abbrev pub ExplainsReadFault : View → View → BoardFault → Type 0
+ExplainsReadFault v w (fault.Busy n) = TriesOnce v w × IsTurnedAway n v w
+ExplainsReadFault v w fault.Memory = w ≡ v
 
 -- the board was read whole, by one try
 pub record IsReadOnce (v w : View) : Type 0 where
@@ -129,7 +129,7 @@ times p rows = count_by (λ r. r.process == p) rows
 
 -- What is told is on the board. Beside what others had added, the rows that came are those of the
 -- processes that stood in no row, and they are the seat's next posting, if there are any.
-pub record Posts (t : Told) (v w : View) : Type 0 where
+pub record Posts (t : PostingValue) (v w : View) : Type 0 where
   pub between : List Row
   pub rows : List Row
   pub new : rows ≡ rows_of t.verdict (unposted (v.seen ++ between) t.processes)
@@ -144,7 +144,7 @@ pub record Posts (t : Told) (v w : View) : Type 0 where
 pub record IsBlocked (n : ℕ) (v w : View) : Type 0 where
   pub found : n ≡ w.lock.found
   pub cause : 0 < n
-  pub sees : Sees v w
+  pub sees : SeesMore v w
   pub seen : w.seen ≡ v.seen
   pub staged : w.staged ≡ v.staged
   pub loads : w.loads ≡ v.loads
@@ -155,9 +155,9 @@ pub record IsWritten (v w : View) : Type 0 where
   pub loads : v.loads < w.loads
 
 -- what became of a try to post
-abbrev pub PostIs : Told → View → View → Post → Type 0
-PostIs t v w post.Done = IsWritten v w × Posts t v w
-PostIs t v w (post.Busy n) = IsBlocked n v w
+abbrev pub AnswersPost : PostingValue → View → View → Post → Type 0
+AnswersPost t v w post.Done = IsWritten v w × Posts t v w
+AnswersPost t v w (post.Busy n) = IsBlocked n v w
 
 -- the rows are whole postings, which are just these, however they weigh
 pub record IsMadeOf (mine : List (List Row)) (rows : List Row) : Type 0 where

@@ -3,11 +3,11 @@
 use Rattle.std.proofs.Common.{[], ◌++◌, refl, sym, ap, ◌∙◌, append-nil, append_assoc}
 use Rattle.cmh_rw.specs.declared.view.View.{View}
 use Rattle.cmh_board.specs.declared.hints.BoardHints.{BoardHints}
-use Rattle.cmh_board.specs.Board.{known, Sees}
+use Rattle.cmh_board.specs.Board.{known, SeesMore}
 use Rattle.cmh_board.specs.Hints.{Keeps}
 
 -- nothing has changed
-sees_itself : (v : View) → Sees v v
+sees_itself : (v : View) → SeesMore v v
 sees_itself v = record {
   seen = ([], sym (append-nil v.seen));
   mine = refl;
@@ -16,7 +16,7 @@ sees_itself v = record {
 }
 
 -- one change after another is one
-pub sees_on : (u v w : View) → Sees u v → Sees v w → Sees u w
+pub sees_on : (u v w : View) → SeesMore u v → SeesMore v w → SeesMore u w
 sees_on u v w a b = record {
   seen = (
     a.seen.0 ++ b.seen.0,

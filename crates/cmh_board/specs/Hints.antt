@@ -6,11 +6,11 @@ use Rattle.cmh_graph.specs.declared.verdict.Verdict.{Verdict}
 use Rattle.cmh_rw.specs.declared.TheConstants.{WRITER}
 use Rattle.cmh_rw.specs.declared.view.View.{View}
 use Rattle.cmh_rw.specs.History.{fold_at}
-use Rattle.cmh_board.specs.Board.{known, graph_of, SitsAt, IsAway, Sees}
+use Rattle.cmh_board.specs.Board.{known, board_graph, SitsAt, IsAway, SeesMore}
 
 -- they speak of the board's graph, with a seat of the board that holds nothing
 pub record SpeaksOf (h : BoardHints) (g : Graph) : Type 0 where
-  pub graph : graph_of h.board.now ≡ g
+  pub graph : board_graph h.board.now ≡ g
   pub sits : SitsAt h.board.now h.seat.now
   pub away : IsAway h.seat.now
 
@@ -18,11 +18,11 @@ pub record SpeaksOf (h : BoardHints) (g : Graph) : Type 0 where
 pub record Keeps (a b : BoardHints) : Type 0 where
   pub board : a.board.now ≡ b.board.now
   pub seat : a.seat.ghost_name ≡ b.seat.ghost_name
-  pub sees : Sees (known a.seat.now) (known b.seat.now)
+  pub sees : SeesMore (known a.seat.now) (known b.seat.now)
   pub state : (known a.seat.now).lock.state ≡ (known b.seat.now).lock.state
   pub speaks : (g : Graph) → SpeaksOf a g ↔ SpeaksOf b g
 
 -- what is known of p, where no writer was found, and else nothing
-pub record HintIs (p : ℕ) (v w : View) (hint : Option Verdict) : Type 0 where
+pub record AnswersHint (p : ℕ) (v w : View) (hint : Option Verdict) : Type 0 where
   pub read : w.lock.found < WRITER → (hint ≡ fold_at w.seen p) × (v.loads < w.loads)
   pub busy : WRITER ≤ w.lock.found → hint ≡ None

@@ -8,7 +8,7 @@ use Rattle.cmh_graph.specs.Verdict.{IsVerdict}
 use Rattle.cmh_run.specs.Run.{Run, verdict_of}
 
 -- one verdict, and the processes that have it
-pub record Told : Type 0 where
+pub record PostingValue : Type 0 where
   pub processes : List ℕ
   pub verdict : Verdict
 
@@ -18,18 +18,18 @@ spoken_of Deadlocked initiator engaged = engaged
 spoken_of Free initiator engaged = initiator
 
 -- what a run with this verdict, initiator and engaged processes tells
-abbrev pub told_of : Verdict → List ℕ → List ℕ → Told
+abbrev pub told_of : Verdict → List ℕ → List ℕ → PostingValue
 told_of verdict initiator engaged = record {
   processes = spoken_of verdict initiator engaged;
   verdict = verdict;
 }
 
 -- what a run tells: who is engaged is deadlocked where it is declared, else the initiator is free
-abbrev pub posting_of : Run → Told
+abbrev pub posting_of : Run → PostingValue
 posting_of r = told_of (verdict_of r.ending) (r.initiator ∷ []) r.engaged
 
 -- it tells the truth about idle processes of the graph, and names none twice
-pub record IsTruth (g : Graph) (t : Told) : Type 0 where
+pub record IsTruth (g : Graph) (t : PostingValue) : Type 0 where
   pub idle : (p : ℕ) → Contains t.processes p → IsTrue (is_idle g p)
   pub verdict : (p : ℕ) → Contains t.processes p → IsVerdict g p t.verdict
   pub once : IsDistinct nat_eq t.processes

@@ -3,7 +3,7 @@
 ghost use Rattle.std.specs.Prelude.{◌≡◌, ◌≤◌};
 ghost use Rattle.cmh_graph.specs.declared.TheConstants.{MAX_PROCESSES};
 ghost use Rattle.cmh_graph.specs.Graph.{process_count, IsWithinGraph};
-ghost use Rattle.cmh_rw.specs.Seats.{graph_of};
+ghost use Rattle.cmh_rw.specs.Seats.{words_graph};
 
 use cmh_rw::{RwSeat, RwWords};
 
@@ -13,9 +13,9 @@ pub struct Board {
     pub(crate) words: RwWords,
     /// How many processes the graph has.
     pub(crate) processes: u32,
-    pub ghost counted: { processes ≡ process_count (graph_of words) },
+    pub ghost counted: { processes ≡ process_count (words_graph words) },
     pub ghost small: { processes ≤ MAX_PROCESSES },
-    pub ghost within: { IsWithinGraph (graph_of words) },
+    pub ghost within: { IsWithinGraph (words_graph words) },
 }
 
 /// A seat at a board, with which one worker looks and posts.

@@ -3,8 +3,8 @@
 ghost use Rattle.std.specs.Prelude.{◌≡◌, ◌<◌, IfSome, None};
 ghost use Rattle.cmh_graph.specs.Graph.{Graph, process_count};
 ghost use Rattle.cmh_graph.specs.Verdict.{IsVerdict};
-ghost use Rattle.cmh_board.specs.Board.{known, graph_of, SitsAt, IsAway, TriesOnce};
-ghost use Rattle.cmh_board.specs.Hints.{SpeaksOf, Keeps, HintIs};
+ghost use Rattle.cmh_board.specs.Board.{known, board_graph, SitsAt, IsAway, TriesOnce};
+ghost use Rattle.cmh_board.specs.Hints.{SpeaksOf, Keeps, AnswersHint};
 ghost use Rattle.cmh_board.specs.HintProofs.{keeps_itself, keeps_on};
 
 use crate::{Board, BoardSeat, Look};
@@ -27,7 +27,7 @@ impl<'a> BoardHints<'a> {
         ensures board { result.board.now ≡ board.now }
         ensures same_seat { result.seat.ghost_name ≡ seat.entry.ghost_name }
         ensures seat { result.seat.now ≡ seat.old }
-        ensures speaks { SpeaksOf result (graph_of board.now) }
+        ensures speaks { SpeaksOf result (board_graph board.now) }
     {
         BoardHints { board, seat }
     }
@@ -45,7 +45,7 @@ impl<'a> Hints for BoardHints<'a> {
     fn hint(&mut self, p: u32) -> Option<Verdict>
         requires { (g : Graph) × SpeaksOf self.old g × (p < process_count g) }
         ensures tried { TriesOnce (known self.old.seat.now) (known self.new.seat.now) }
-        ensures answer { HintIs p (known self.old.seat.now) (known self.new.seat.now) result }
+        ensures answer { AnswersHint p (known self.old.seat.now) (known self.new.seat.now) result }
         ensures true_verdict { (g : Graph) → SpeaksOf self.old g → p < process_count g
             → IfSome result (λ v. IsVerdict g p v) }
         ensures silent { ⊥ → result ≡ None }

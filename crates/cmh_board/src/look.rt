@@ -6,7 +6,7 @@ ghost use Rattle.cmh_graph.specs.Graph.{process_count};
 ghost use Rattle.cmh_graph.specs.Verdict.{IsVerdict};
 ghost use Rattle.cmh_rw.specs.History.{fold_at, verdict_code};
 ghost use Rattle.cmh_rw.specs.View.{ended};
-ghost use Rattle.cmh_board.specs.Board.{known, graph_of, SitsAt, IsAway, IsHolding, Sees, TriesOnce, LookIs, IsTrueLook, HoldIs, Reads};
+ghost use Rattle.cmh_board.specs.Board.{known, board_graph, SitsAt, IsAway, IsHolding, SeesMore, TriesOnce, AnswersLook, IsTrueLook, AnswersHold, ReadsHistory};
 
 use crate::{Board, BoardSeat, Look};
 use cmh_graph::Verdict;
@@ -17,12 +17,12 @@ impl Board {
     pub fn look(&self, seat: &mut BoardSeat, p: u32) -> Look
         requires sits { SitsAt self.now seat.old }
         requires away { IsAway seat.old }
-        requires process { p < process_count (graph_of self.now) }
+        requires process { p < process_count (board_graph self.now) }
         ensures sits { SitsAt self.now seat.new × IsAway seat.new }
-        ensures sees { Sees (known seat.old) (known seat.new) }
+        ensures sees { SeesMore (known seat.old) (known seat.new) }
         ensures tried { TriesOnce (known seat.old) (known seat.new) }
-        ensures answer { LookIs p (known seat.old) (known seat.new) result }
-        ensures true_verdict { IsTrueLook (graph_of self.now) p result }
+        ensures answer { AnswersLook p (known seat.old) (known seat.new) result }
+        ensures true_verdict { IsTrueLook (board_graph self.now) p result }
     {
         if let Entry::Busy(found) = self.hold(seat) {
             return Look::Busy(found);
@@ -41,10 +41,10 @@ impl Board {
         requires sits { SitsAt self.now seat.old }
         requires away { IsAway seat.old }
         ensures sits { SitsAt self.now seat.new }
-        ensures sees { Sees (known seat.old) (known seat.new) }
+        ensures sees { SeesMore (known seat.old) (known seat.new) }
         ensures tried { TriesOnce (known seat.old) (known seat.new) }
         ensures loads { (known seat.new).loads ≡ (known seat.old).loads }
-        ensures answer { HoldIs (known seat.old) (known seat.new) result }
+        ensures answer { AnswersHold (known seat.old) (known seat.new) result }
     {
         self.words.try_read(&mut seat.seat)
     }
@@ -53,12 +53,12 @@ impl Board {
     pub fn held_verdict(&self, seat: &mut BoardSeat, p: u32) -> Option<Verdict>
         requires sits { SitsAt self.now seat.old }
         requires holding { IsHolding seat.old }
-        requires process { p < process_count (graph_of self.now) }
+        requires process { p < process_count (board_graph self.now) }
         ensures sits { SitsAt self.now seat.new }
-        ensures sees { Sees (known seat.old) (known seat.new) }
-        ensures reads { Reads (known seat.old) (known seat.new) }
+        ensures sees { SeesMore (known seat.old) (known seat.new) }
+        ensures reads { ReadsHistory (known seat.old) (known seat.new) }
         ensures answer { result ≡ fold_at (known seat.new).seen p }
-        ensures true_verdict { IfSome result (λ v. IsVerdict (graph_of self.now) p v) }
+        ensures true_verdict { IfSome result (λ v. IsVerdict (board_graph self.now) p v) }
     {
         let code = self.words.load(&mut seat.seat, FIRST_VERDICT + p as usize);
         verdict_from(code)

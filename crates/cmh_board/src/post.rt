@@ -5,7 +5,7 @@ ghost use Rattle.cmh_graph.specs.declared.TheConstants.{MAX_PROCESSES};
 ghost use Rattle.cmh_rw.specs.declared.machine.SeatState.TheVariants.{Writing};
 ghost use Rattle.cmh_rw.specs.History.{fold_at};
 ghost use Rattle.cmh_rw.specs.Seats.{view, IsSeatOf};
-ghost use Rattle.cmh_board.specs.Board.{known, graph_of, SitsAt, IsAway, TriesOnce, PostIs, Posts, unposted};
+ghost use Rattle.cmh_board.specs.Board.{known, board_graph, SitsAt, IsAway, TriesOnce, AnswersPost, Posts, unposted};
 ghost use Rattle.cmh_board.specs.Adding.{AreIdle, CanPost, IsWriter, OnlyLoads, Stages, Adds};
 ghost use Rattle.cmh_board.specs.Posting.{IsTruth};
 
@@ -22,10 +22,10 @@ impl Board {
     pub fn try_post(&self, seat: &mut BoardSeat, posting: &Posting) -> Post
         requires sits { SitsAt self.now seat.old }
         requires away { IsAway seat.old }
-        requires truth { IsTruth (graph_of self.now) posting.now }
+        requires truth { IsTruth (board_graph self.now) posting.now }
         ensures sits { SitsAt self.now seat.new × IsAway seat.new }
         ensures tried { TriesOnce (known seat.old) (known seat.new) }
-        ensures answer { PostIs posting.now (known seat.old) (known seat.new) result }
+        ensures answer { AnswersPost posting.now (known seat.old) (known seat.new) result }
     {
         match self.words.try_write(&mut seat.seat) {
             Entry::Busy(found) => Post::Busy(found),
@@ -43,7 +43,7 @@ impl Board {
     pub fn post<R: Wait>(&self, rt: &R, seat: &mut BoardSeat, posting: &Posting)
         requires sits { SitsAt self.now seat.old }
         requires away { IsAway seat.old }
-        requires truth { IsTruth (graph_of self.now) posting.now }
+        requires truth { IsTruth (board_graph self.now) posting.now }
         ensures sits { SitsAt self.now seat.new × IsAway seat.new }
         ensures tried { (known seat.old).lock.tries < (known seat.new).lock.tries }
         ensures found { (known seat.new).lock.found ≡ 0 }

@@ -18,9 +18,9 @@ pub struct Posting<'a> {
 }
 
 impl<'a> Model for Posting<'a> {
-    ghost use Rattle.cmh_board.specs.Posting.{Told, told_of};
+    ghost use Rattle.cmh_board.specs.Posting.{PostingValue, told_of};
 
-    ghost Value = { Told };
+    ghost Value = { PostingValue };
 
     ghost view = { λ p. told_of p.verdict p.initiator p.engaged.now };
 }

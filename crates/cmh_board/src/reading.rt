@@ -6,7 +6,7 @@ ghost use Rattle.cmh_rw.specs.declared.TheConstants.{MAX_SEATS};
 ghost use Rattle.cmh_rw.specs.History.{row_of, StartsWith, IsHistory, IsTrueOf};
 ghost use Rattle.cmh_rw.specs.declared.row.Row.{Row};
 ghost use Rattle.cmh_rw.specs.Seats.{words_of};
-ghost use Rattle.cmh_board.specs.Board.{known, graph_of, SitsAt, IsAway, IsHolding, Sees, Reads, IsReadOnce, Fails, IsMadeOf};
+ghost use Rattle.cmh_board.specs.Board.{known, board_graph, SitsAt, IsAway, IsHolding, SeesMore, ReadsHistory, IsReadOnce, ExplainsReadFault, IsMadeOf};
 ghost use Rattle.cmh_board.specs.Closing.{Show};
 ghost use Rattle.cmh_board.specs.Snap.{Shows, IsTrueSnap};
 
@@ -24,11 +24,11 @@ impl Board {
         requires sits { SitsAt self.now seat.old }
         requires away { IsAway seat.old }
         ensures sits { SitsAt self.now seat.new × IsAway seat.new }
-        ensures sees { Sees (known seat.old) (known seat.new) }
+        ensures sees { SeesMore (known seat.old) (known seat.new) }
         ensures read { IfOk result (λ snap. IsReadOnce (known seat.old) (known seat.new)) }
         ensures shows { IfOk result (λ snap. Shows snap (known seat.new).seen) }
-        ensures true_verdicts { IfOk result (λ snap. IsTrueSnap (graph_of self.now) snap) }
-        ensures fault { IfErr result (Fails (known seat.old) (known seat.new)) }
+        ensures true_verdicts { IfOk result (λ snap. IsTrueSnap (board_graph self.now) snap) }
+        ensures fault { IfErr result (ExplainsReadFault (known seat.old) (known seat.new)) }
     {
         let mut verdicts = Vec::with_capacity(alloc, self.processes as usize)?;
         if let Entry::Busy(found) = self.hold(seat) {
@@ -44,10 +44,10 @@ impl Board {
         requires sits { SitsAt self.now seat.old }
         requires away { IsAway seat.old }
         ensures sits { SitsAt self.now seat.new × IsAway seat.new }
-        ensures sees { Sees (known seat.old) (known seat.new) }
+        ensures sees { SeesMore (known seat.old) (known seat.new) }
         ensures read { IfOk result (λ rows. IsReadOnce (known seat.old) (known seat.new)) }
         ensures whole { IfOk result (λ rows. rows.items ≡ (known seat.new).seen) }
-        ensures fault { IfErr result (Fails (known seat.old) (known seat.new)) }
+        ensures fault { IfErr result (ExplainsReadFault (known seat.old) (known seat.new)) }
     {
         let mut rows = Vec::with_capacity(alloc, self.processes as usize)?;
         if let Entry::Busy(found) = self.hold(seat) {
@@ -65,7 +65,7 @@ impl Board {
         requires away { IsAway seat }
         ensures begins { IfOk result (λ rows. StartsWith rows.items (known seat).seen) }
         ensures whole { IfOk result (λ rows. IsHistory rows.items) }
-        ensures true_of { IfOk result (λ rows. IsTrueOf (graph_of self) rows.items) }
+        ensures true_of { IfOk result (λ rows. IsTrueOf (board_graph self) rows.items) }
         ensures own { IfOk result (λ rows. (known seat).lock.share ≡ MAX_SEATS
             → IsMadeOf (known seat).mine rows.items) }
         ensures memory { IfErr result (λ e. e ≡ BoardFault.Memory) }
@@ -86,8 +86,8 @@ impl Board {
         requires sits { SitsAt self.now seat.old }
         requires holding { IsHolding seat.old }
         ensures sits { SitsAt self.now seat.new }
-        ensures sees { Sees (known seat.old) (known seat.new) }
-        ensures reads { Reads (known seat.old) (known seat.new) }
+        ensures sees { SeesMore (known seat.old) (known seat.new) }
+        ensures reads { ReadsHistory (known seat.old) (known seat.new) }
         ensures count { result ≡ length (known seat.new).seen }
     {
         self.words.load(&mut seat.seat, ROW_COUNT) as usize
@@ -98,10 +98,10 @@ impl Board {
         requires sits { SitsAt self.now seat.old }
         requires holding { IsHolding seat.old }
         requires empty { verdicts.old.items ≡ [] }
-        requires room { process_count (graph_of self.now) ≤ vec_capacity verdicts.old }
+        requires room { process_count (board_graph self.now) ≤ vec_capacity verdicts.old }
         ensures sits { SitsAt self.now seat.new }
-        ensures sees { Sees (known seat.old) (known seat.new) }
-        ensures reads { Reads (known seat.old) (known seat.new) }
+        ensures sees { SeesMore (known seat.old) (known seat.new) }
+        ensures reads { ReadsHistory (known seat.old) (known seat.new) }
         ensures shows { Shows verdicts.new.items (known seat.new).seen }
     {
         // A graph without processes is looked at too: a look loads at least one word.
@@ -116,10 +116,10 @@ impl Board {
         requires sits { SitsAt self.now seat.old }
         requires holding { IsHolding seat.old }
         requires empty { rows.old.items ≡ [] }
-        requires room { process_count (graph_of self.now) ≤ vec_capacity rows.old }
+        requires room { process_count (board_graph self.now) ≤ vec_capacity rows.old }
         ensures sits { SitsAt self.now seat.new }
-        ensures sees { Sees (known seat.old) (known seat.new) }
-        ensures reads { Reads (known seat.old) (known seat.new) }
+        ensures sees { SeesMore (known seat.old) (known seat.new) }
+        ensures reads { ReadsHistory (known seat.old) (known seat.new) }
         ensures whole { rows.new.items ≡ (known seat.new).seen }
     {
         let count = self.held_count(seat);
@@ -136,8 +136,8 @@ impl Board {
         requires loaded { (known seat.old).loaded ≡ true }
         requires there { n < length (known seat.old).seen }
         ensures sits { SitsAt self.now seat.new }
-        ensures sees { Sees (known seat.old) (known seat.new) }
-        ensures reads { Reads (known seat.old) (known seat.new) }
+        ensures sees { SeesMore (known seat.old) (known seat.new) }
+        ensures reads { ReadsHistory (known seat.old) (known seat.new) }
         ensures row { slice_get (known seat.new).seen n ≡ Some result }
     {
         let code = self.words.load(&mut seat.seat, FIRST_ROW + n);

@@ -4,7 +4,7 @@ ghost use Rattle.std.specs.Prelude.{◌≡◌, ◌<◌, ◌≤◌, IfOk, IfErr, 
 ghost use Rattle.cmh_rw.specs.declared.TheConstants.{MAX_SEATS};
 ghost use Rattle.cmh_rw.specs.History.{StartsWith};
 ghost use Rattle.cmh_rw.specs.View.{opening_view, less_one, newcomer, joined};
-ghost use Rattle.cmh_board.specs.Board.{known, graph_of, SitsAt, IsAway};
+ghost use Rattle.cmh_board.specs.Board.{known, board_graph, SitsAt, IsAway};
 
 use crate::fault::unopened;
 use crate::{Board, BoardFault, BoardSeat};
@@ -16,7 +16,7 @@ impl Board {
     /// A board on which nothing is posted. The seat has the whole share, which is 64.
     pub fn open(alloc: Global, graph: &WaitGraph) -> Result<(Board, BoardSeat), BoardFault>
         ensures sits { IfOk result (λ r. SitsAt r.0 r.1 × IsAway r.1) }
-        ensures graph { IfOk result (λ r. graph_of r.0 ≡ graph.now) }
+        ensures graph { IfOk result (λ r. board_graph r.0 ≡ graph.now) }
         ensures view { IfOk result (λ r. known r.1 ≡ opening_view graph.now) }
         ensures memory { IfErr result (λ e. e ≡ BoardFault.Memory) }
     {

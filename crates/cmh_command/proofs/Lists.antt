@@ -9,7 +9,7 @@ use Rattle.std.specs.Str.Parse.{digits_value, ParsesUnsigned}
 use Rattle.std.proofs.lemmas.Bool.{and_parts, and_from, ltb-true, lt-ltb, true≢false}
 use Rattle.std.proofs.lemmas.List.{get_or-map, take_more, map-append}
 use Rattle.std.proofs.lemmas.Str.Parse.{IsNumeralModel, numerals_by_value, tells_all_ascii_digits, parse_plain}
-use Rattle.cmh_command.specs.List.{IsFirstFault, IsListOf, items_of, item_at, is_number, number_of}
+use Rattle.cmh_command.specs.List.{IsFirstListFault, IsListOf, items_of, item_at, is_number, number_of}
 use Rattle.cmh_command.specs.declared.TheConstants.{MAX_NUMBERS}
 use Rattle.cmh_command.specs.declared.list.ListFault.{ListFault}
 use Rattle.cmh_command.specs.declared.list.ListFault.TheVariants.{Memory}
@@ -111,6 +111,6 @@ written_more items numbers i n l e h = ap (map number_of) (take_more items i [] 
 -- the fault is want of memory, whatever the items are
 pub out_of_memory : (text : List ℕ) (r : Result (Vec ℕ) ListFault) → IsErrAnd r (λ e. e ≡ Memory)
     → IfOk r (λ list. IsListOf text list.items) × IfOk r (λ list. length list.items ≤ MAX_NUMBERS)
-    × IfErr r (λ e. (e ≡ Memory) ⊎ IsFirstFault text e)
+    × IfErr r (λ e. (e ≡ Memory) ⊎ IsFirstListFault text e)
 out_of_memory text (Ok list) h = absurd h
 out_of_memory text (Err e) h = (tt, tt, inl h)

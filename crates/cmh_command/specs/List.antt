@@ -36,12 +36,12 @@ abbrev pub AreNumbersBefore : List ℕ → ℕ → Type 0
 AreNumbersBefore text i = (k : ℕ) → k < i → IsTrue (is_number (item_at text k))
 
 -- the first fault from the left: an item that is no number, or one too many, whatever it holds
-abbrev pub IsFirstFault : List ℕ → ListFault → Type 0
-IsFirstFault text (BadNumber i) = (i < MAX_NUMBERS) × (i < length (items_of text))
+abbrev pub IsFirstListFault : List ℕ → ListFault → Type 0
+IsFirstListFault text (BadNumber i) = (i < MAX_NUMBERS) × (i < length (items_of text))
     × IsFalse (is_number (item_at text i)) × AreNumbersBefore text i
-IsFirstFault text TooManyNumbers =
+IsFirstListFault text TooManyNumbers =
     (MAX_NUMBERS < length (items_of text)) × AreNumbersBefore text MAX_NUMBERS
-IsFirstFault text Memory = ⊥
+IsFirstListFault text Memory = ⊥
 
 -- what is printed of a fault
 abbrev pub fault_text : ListFault → List ℕ

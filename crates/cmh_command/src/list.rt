@@ -1,7 +1,7 @@
 //! Lists of numbers on the command line.
 
 ghost use Rattle.std.specs.Prelude.{◌≡◌, ◌⊎◌, ◌≤◌, length, map, IfOk, IfErr};
-ghost use Rattle.cmh_command.specs.List.{items_of, number_of, IsFirstFault, IsListOf};
+ghost use Rattle.cmh_command.specs.List.{items_of, number_of, IsFirstListFault, IsListOf};
 ghost use Rattle.cmh_command.specs.declared.TheConstants.{MAX_NUMBERS};
 ghost use Rattle.cmh_command.specs.declared.list.ListFault.TheVariants.{Memory};
 
@@ -63,7 +63,7 @@ impl<T: Drop> From<AllocFailed<T>> for ListFault {
 pub fn read_list(alloc: Global, text: &str) -> Result<Vec<u64>, ListFault>
     ensures ok { IfOk result (λ list. IsListOf text.now list.items) }
     ensures few { IfOk result (λ list. length list.items ≤ MAX_NUMBERS) }
-    ensures fault { IfErr result (λ e. (e ≡ Memory) ⊎ IsFirstFault text.now e) }
+    ensures fault { IfErr result (λ e. (e ≡ Memory) ⊎ IsFirstListFault text.now e) }
 {
     let items = items_of(alloc, text)?;
     let mut numbers = Vec::new(alloc);

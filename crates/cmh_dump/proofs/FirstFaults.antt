@@ -8,8 +8,8 @@ use Rattle.cmh_graph.specs.Graph.{Graph}
 use Rattle.cmh_dump.specs.declared.TheConstants.{MAX_BYTES}
 use Rattle.cmh_dump.specs.declared.fault.DumpFault.{DumpFault}
 use Rattle.cmh_dump.specs.declared.fault.DumpFault.TheVariants.{Memory, ReadFault, TooLong, NotJson}
-use Rattle.cmh_dump.specs.Dump.{holds, in_order, first_of, graph_of, dump_of_tree, tree_of, dump}
-use Rattle.cmh_dump.specs.FirstFault.{IsOfTree, Has, BytesHave, comes_before, IsFirstFault, AreNone, TreeFaultLaw, TreeGraphLaw, FirstFaultLaw, NoFaultLaw}
+use Rattle.cmh_dump.specs.Dump.{holds, in_order, first_of, tree_graph, dump_of_tree, tree_of, dump}
+use Rattle.cmh_dump.specs.FirstFault.{IsOfTree, HasTreeFault, BytesHave, dump_fault_comes_before, IsFirstDumpFault, AreNone, TreeFaultLaw, TreeGraphLaw, FirstFaultLaw, NoFaultLaw}
 use Rattle.cmh_dump.proofs.Order.{not_before_itself, not_before_both}
 use Rattle.cmh_dump.proofs.Stages.{allowed_in, IsLeastOfLists, least_of_lists}
 use Rattle.cmh_dump.proofs.Table.{stands, none_holds, in_stages}
@@ -24,7 +24,7 @@ least d fault e = least_of_lists (holds d) (IsOfTree d) 4 (in_order d) fault (in
 
 -- it is the first
 found_is_first : (d : Data) (fault : DumpFault) → first_of (holds d) (in_order d) ≡ Some fault
-    → IsFirstFault (Has d) fault
+    → IsFirstDumpFault (HasTreeFault d) fault
 found_is_first d fault e = record {
   had = (allowed_in (IsOfTree d) 4 (in_order d) (in_stages d) fault l.stands, l.passes);
   first = λ other h. after other (l.least other (stands d other h.0) h.1);
@@ -33,20 +33,22 @@ found_is_first d fault e = record {
     l : IsLeastOfLists (holds d) (in_order d) fault
     l = least d fault e
 
-    after : (other : DumpFault) → (other ≡ fault) ⊎ (comes_before fault other ≡ true) → comes_before other fault ≡ false
-    after other (inl s) = ap (λ f. comes_before f fault) s ∙ not_before_itself fault
+    after : (other : DumpFault) → (other ≡ fault) ⊎ (dump_fault_comes_before fault other ≡ true)
+        → dump_fault_comes_before other fault ≡ false
+    after other (inl s) = ap (λ f. dump_fault_comes_before f fault) s ∙ not_before_itself fault
     after other (inr b) = not_before_both fault other b
 
 -- where it finds none the tree has none
-none_is_had : (d : Data) → first_of (holds d) (in_order d) ≡ None → AreNone (Has d)
+none_is_had : (d : Data) → first_of (holds d) (in_order d) ≡ None → AreNone (HasTreeFault d)
 none_is_had d e fault h = false≢true (sym (none_holds d e fault h.0) ∙ h.1)
 
 -- and it finds the first
-first_is_found : (d : Data) (fault : DumpFault) → IsFirstFault (Has d) fault
+first_is_found : (d : Data) (fault : DumpFault) → IsFirstDumpFault (HasTreeFault d) fault
     → first_of (holds d) (in_order d) ≡ Some fault
 first_is_found d fault h = by (first_of (holds d) (in_order d)) refl
   where
-    same : (f : DumpFault) → first_of (holds d) (in_order d) ≡ Some f → (fault ≡ f) ⊎ (comes_before f fault ≡ true)
+    same : (f : DumpFault) → first_of (holds d) (in_order d) ≡ Some f
+        → (fault ≡ f) ⊎ (dump_fault_comes_before f fault ≡ true)
         → f ≡ fault
     same f e (inl s) = sym s
     same f e (inr b) = absurd (false≢true (sym (h.first f (found_is_first d f e).had) ∙ b))
@@ -56,7 +58,7 @@ first_is_found d fault h = by (first_of (holds d) (in_order d)) refl
     by (Some f) e = ap (λ g. Some g) (same f e ((least d f e).least fault (stands d fault h.had.0) h.had.1))
 
 -- where the tree has none it finds none
-none_is_found : (d : Data) → AreNone (Has d) → first_of (holds d) (in_order d) ≡ None
+none_is_found : (d : Data) → AreNone (HasTreeFault d) → first_of (holds d) (in_order d) ≡ None
 none_is_found d h = by (first_of (holds d) (in_order d)) refl
   where
     by : (o : Option DumpFault) → first_of (holds d) (in_order d) ≡ o → o ≡ None
@@ -78,22 +80,22 @@ accepted (Some f) h g e = absurd cc
 pub tree_fault_law : TreeFaultLaw
 unfolding dump_of_tree
 tree_fault_law = λ d fault. (
-  λ e. found_is_first d fault (refused (first_of (holds d) (in_order d)) (graph_of d) fault e),
-  λ h. ap (λ o. option_map_or Err o (Ok (graph_of d))) (first_is_found d fault h),
+  λ e. found_is_first d fault (refused (first_of (holds d) (in_order d)) (tree_graph d) fault e),
+  λ h. ap (λ o. option_map_or Err o (Ok (tree_graph d))) (first_is_found d fault h),
 )
 
 -- a tree without a fault, and no other, means its graph
 pub tree_graph_law : TreeGraphLaw
 unfolding dump_of_tree
 tree_graph_law = λ d g. (
-  λ e. let a = accepted (first_of (holds d) (in_order d)) (graph_of d) g e in (none_is_had d a.0, a.1),
+  λ e. let a = accepted (first_of (holds d) (in_order d)) (tree_graph d) g e in (none_is_had d a.0, a.1),
   λ h. (λ t. option_map_or Err (none_is_found d h.0 t) (Ok (sym h.1 t))),
 )
 
 -- ---- bytes
 
 -- what the tree of the bytes has, the bytes have
-pub bytes_have : (bytes : List ℕ) (d : Data) (fault : DumpFault) → tree_of bytes ≡ Some d → Has d fault
+pub bytes_have : (bytes : List ℕ) (d : Data) (fault : DumpFault) → tree_of bytes ≡ Some d → HasTreeFault d fault
     → BytesHave bytes fault
 bytes_have bytes d TooLong e h = absurd h.0
 bytes_have bytes d NotJson e h = absurd h.0
@@ -101,26 +103,26 @@ bytes_have bytes d fault e h = (d, e, h)
 
 -- what bytes that are not too long have, their tree has
 tree_has : (bytes : List ℕ) (d : Data) (fault : DumpFault) → length bytes ≤ MAX_BYTES → tree_of bytes ≡ Some d
-    → BytesHave bytes fault → Has d fault
+    → BytesHave bytes fault → HasTreeFault d fault
 tree_has bytes d TooLong l e h = absurd (omega (arith, l, h))
 tree_has bytes d NotJson l e h = absurd cc
-tree_has bytes d fault l e h = let same : h.0 ≡ d = cc in subst (λ t. Has t fault) same h.2
+tree_has bytes d fault l e h = let same : h.0 ≡ d = cc in subst (λ t. HasTreeFault t fault) same h.2
 
 -- of bytes that are too long that is the first fault
-first_too_long : (bytes : List ℕ) → MAX_BYTES < length bytes → IsFirstFault (BytesHave bytes) TooLong
+first_too_long : (bytes : List ℕ) → MAX_BYTES < length bytes → IsFirstDumpFault (BytesHave bytes) TooLong
 first_too_long bytes l = record { had = l; first = first }
   where
-    first : (other : DumpFault) → BytesHave bytes other → comes_before other TooLong ≡ false
+    first : (other : DumpFault) → BytesHave bytes other → dump_fault_comes_before other TooLong ≡ false
     first Memory h = absurd h.2.0
     first ReadFault h = absurd h.2.0
     first other h = refl
 
 -- and no other is
-is_too_long : (bytes : List ℕ) (fault : DumpFault) → MAX_BYTES < length bytes → IsFirstFault (BytesHave bytes) fault
+is_too_long : (bytes : List ℕ) (fault : DumpFault) → MAX_BYTES < length bytes → IsFirstDumpFault (BytesHave bytes) fault
     → fault ≡ TooLong
 is_too_long bytes fault l h = by fault h.had (h.first TooLong l)
   where
-    by : (fault : DumpFault) → BytesHave bytes fault → comes_before TooLong fault ≡ false → fault ≡ TooLong
+    by : (fault : DumpFault) → BytesHave bytes fault → dump_fault_comes_before TooLong fault ≡ false → fault ≡ TooLong
     by Memory h b = absurd h.2.0
     by ReadFault h b = absurd h.2.0
     by TooLong h b = refl
@@ -128,10 +130,10 @@ is_too_long bytes fault l h = by fault h.had (h.first TooLong l)
 
 -- of others that are no JSON that is the first fault
 first_not_json : (bytes : List ℕ) → length bytes ≤ MAX_BYTES → tree_of bytes ≡ None
-    → IsFirstFault (BytesHave bytes) NotJson
+    → IsFirstDumpFault (BytesHave bytes) NotJson
 first_not_json bytes l e = record { had = e; first = first }
   where
-    first : (other : DumpFault) → BytesHave bytes other → comes_before other NotJson ≡ false
+    first : (other : DumpFault) → BytesHave bytes other → dump_fault_comes_before other NotJson ≡ false
     first Memory h = absurd h.2.0
     first ReadFault h = absurd h.2.0
     first TooLong h = absurd (omega (arith, l, h))
@@ -146,7 +148,7 @@ is_not_json bytes fault l e h = let t : tree_of bytes ≡ Some h.0 = h.1 in absu
 
 -- of others the first fault is that of their tree
 first_of_tree : (bytes : List ℕ) (d : Data) (fault : DumpFault) → length bytes ≤ MAX_BYTES → tree_of bytes ≡ Some d
-    → IsFirstFault (Has d) fault → IsFirstFault (BytesHave bytes) fault
+    → IsFirstDumpFault (HasTreeFault d) fault → IsFirstDumpFault (BytesHave bytes) fault
 first_of_tree bytes d fault l e h = record {
   had = bytes_have bytes d fault e h.had;
   first = λ other k. h.first other (tree_has bytes d other l e k);
@@ -154,7 +156,7 @@ first_of_tree bytes d fault l e h = record {
 
 -- and the other way round
 first_in_tree : (bytes : List ℕ) (d : Data) (fault : DumpFault) → length bytes ≤ MAX_BYTES → tree_of bytes ≡ Some d
-    → IsFirstFault (BytesHave bytes) fault → IsFirstFault (Has d) fault
+    → IsFirstDumpFault (BytesHave bytes) fault → IsFirstDumpFault (HasTreeFault d) fault
 first_in_tree bytes d fault l e h = record {
   had = tree_has bytes d fault l e h.had;
   first = λ other k. h.first other (bytes_have bytes d other e k);
@@ -170,18 +172,18 @@ first_fault_law = λ bytes fault. (
   where
     first : (bytes : List ℕ) (fault : DumpFault) (long : Bool) → nat_lt MAX_BYTES (length bytes) ≡ long
         → (tree : Option Data) → tree_of bytes ≡ tree → cond long (Err TooLong) (of_tree tree) ≡ Err fault
-        → IsFirstFault (BytesHave bytes) fault
+        → IsFirstDumpFault (BytesHave bytes) fault
     first bytes fault true l tree t e =
         let same : TooLong ≡ fault = cc in
-        subst (IsFirstFault (BytesHave bytes)) same (first_too_long bytes (ltb-true MAX_BYTES (length bytes) l))
+        subst (IsFirstDumpFault (BytesHave bytes)) same (first_too_long bytes (ltb-true MAX_BYTES (length bytes) l))
     first bytes fault false l None t e =
         let same : NotJson ≡ fault = cc in
-        subst (IsFirstFault (BytesHave bytes)) same (first_not_json bytes (ltb-false MAX_BYTES (length bytes) l) t)
+        subst (IsFirstDumpFault (BytesHave bytes)) same (first_not_json bytes (ltb-false MAX_BYTES (length bytes) l) t)
     first bytes fault false l (Some d) t e =
         first_of_tree bytes d fault (ltb-false MAX_BYTES (length bytes) l) t ((tree_fault_law d fault).0 e)
 
     answered : (bytes : List ℕ) (fault : DumpFault) (long : Bool) → nat_lt MAX_BYTES (length bytes) ≡ long
-        → (tree : Option Data) → tree_of bytes ≡ tree → IsFirstFault (BytesHave bytes) fault
+        → (tree : Option Data) → tree_of bytes ≡ tree → IsFirstDumpFault (BytesHave bytes) fault
         → cond long (Err TooLong) (of_tree tree) ≡ Err fault
     answered bytes fault true l tree t h =
         ap (λ f. Err f) (sym (is_too_long bytes fault (ltb-true MAX_BYTES (length bytes) l) h))
@@ -192,13 +194,13 @@ first_fault_law = λ bytes fault. (
 
 -- bytes that mean a graph have no fault, and a tree of which it is the graph
 pub graph_told : (bytes : List ℕ) (g : Graph) → dump bytes ≡ Ok g
-    → AreNone (BytesHave bytes) × ((d : Data) × (tree_of bytes ≡ Some d) × (g ≡ graph_of d))
+    → AreNone (BytesHave bytes) × ((d : Data) × (tree_of bytes ≡ Some d) × (g ≡ tree_graph d))
 unfolding dump
 graph_told bytes g e = clean bytes g (nat_lt MAX_BYTES (length bytes)) refl (tree_of bytes) refl e
   where
     clean : (bytes : List ℕ) (g : Graph) (long : Bool) → nat_lt MAX_BYTES (length bytes) ≡ long → (tree : Option Data)
         → tree_of bytes ≡ tree → cond long (Err TooLong) (of_tree tree) ≡ Ok g
-        → AreNone (BytesHave bytes) × ((d : Data) × (tree_of bytes ≡ Some d) × (g ≡ graph_of d))
+        → AreNone (BytesHave bytes) × ((d : Data) × (tree_of bytes ≡ Some d) × (g ≡ tree_graph d))
     clean bytes g true l tree t e = absurd cc
     clean bytes g false l None t e = absurd cc
     clean bytes g false l (Some d) t e =
@@ -209,15 +211,15 @@ graph_told bytes g e = clean bytes g (nat_lt MAX_BYTES (length bytes)) refl (tre
 pub no_fault_law : NoFaultLaw
 unfolding dump
 no_fault_law = λ bytes g. (
-  λ e. let r = graph_told bytes g e in (r.0, ap (option_map graph_of) r.1.1 ∙ ap Some (sym r.1.2)),
+  λ e. let r = graph_told bytes g e in (r.0, ap (option_map tree_graph) r.1.1 ∙ ap Some (sym r.1.2)),
   λ h. answered bytes g (nat_lt MAX_BYTES (length bytes)) refl (tree_of bytes) refl h.0 h.1,
 )
   where
     answered : (bytes : List ℕ) (g : Graph) (long : Bool) → nat_lt MAX_BYTES (length bytes) ≡ long
         → (tree : Option Data) → tree_of bytes ≡ tree → AreNone (BytesHave bytes)
-        → option_map graph_of (tree_of bytes) ≡ Some g → cond long (Err TooLong) (of_tree tree) ≡ Ok g
+        → option_map tree_graph (tree_of bytes) ≡ Some g → cond long (Err TooLong) (of_tree tree) ≡ Ok g
     answered bytes g true l tree t n h = absurd (n TooLong (ltb-true MAX_BYTES (length bytes) l))
     answered bytes g false l None t n h = absurd (n NotJson t)
     answered bytes g false l (Some d) t n h =
-        let is : g ≡ graph_of d = ap (λ o. unwrap_or o g) (sym h ∙ ap (option_map graph_of) t) in
+        let is : g ≡ tree_graph d = ap (λ o. unwrap_or o g) (sym h ∙ ap (option_map tree_graph) t) in
         (tree_graph_law d g).1 (λ fault k. n fault (bytes_have bytes d fault t k), is)

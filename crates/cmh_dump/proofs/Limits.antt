@@ -8,7 +8,7 @@ use Rattle.cmh_dump.specs.declared.fault.DumpFault.TheVariants.{TooLong, TooMany
 use Rattle.cmh_dump.specs.Dump.{dump, dump_of_tree, holds, first_of, each}
 use Rattle.cmh_dump.specs.Entry.{processes, transits}
 use Rattle.cmh_dump.specs.Read.{top_faults, site_faults, process_faults, name_faults, entry_faults, transit_faults}
-use Rattle.cmh_dump.proofs.Composed.{faults_from_entries, faults_from_names, refused, refused_here, refused_later, refused_past_sites}
+use Rattle.cmh_dump.proofs.TreeStages.{faults_from_entries, faults_from_names, refused, refused_here, refused_later, refused_past_sites}
 use Rattle.cmh_dump.proofs.Faults.{below, found_at}
 use Rattle.cmh_dump.proofs.Searches.{first_here, first_later, alone}
 use Rattle.cmh_dump.proofs.Whole.{too_long}

@@ -5,7 +5,7 @@ use Rattle.std.specs.Cmp.{nat_cmp_is}
 use Rattle.std.specs.Cmp.Lexicographic.{slice_cmp}
 use Rattle.std.proofs.lemmas.Cmp.{tied_itself, nat_list_cmp_total}
 use Rattle.cmh_dump.specs.declared.fault.DumpFault.{DumpFault}
-use Rattle.cmh_dump.specs.FirstFault.{rank, comes_before}
+use Rattle.cmh_dump.specs.FirstFault.{dump_fault_rank, dump_fault_comes_before}
 
 -- ---- ranks
 
@@ -30,39 +30,43 @@ below_by_rest n ns ms e =
 
 -- the number of the fault's kind
 abbrev pub kind : DumpFault → ℕ
-kind fault = get_or (rank fault) 0 0
+kind fault = get_or (dump_fault_rank fault) 0 0
 
 -- a fault of an earlier kind comes before
-pub before_by_kind : (x y : DumpFault) → kind x < kind y → comes_before x y ≡ true
-before_by_kind x y l = below_by_first (rank x) (rank y) l
+pub before_by_kind : (x y : DumpFault) → kind x < kind y → dump_fault_comes_before x y ≡ true
+before_by_kind x y l = below_by_first (dump_fault_rank x) (dump_fault_rank y) l
 
 -- of two of a kind with one place, that of the lower place
-pub before_by_place : (x y : DumpFault) (k i j : ℕ) → rank x ≡ k ∷ i ∷ [] → rank y ≡ k ∷ j ∷ [] → i < j
-    → comes_before x y ≡ true
+pub before_by_place : (x y : DumpFault) (k i j : ℕ) → dump_fault_rank x ≡ k ∷ i ∷ [] → dump_fault_rank y ≡ k ∷ j ∷ []
+    → i < j
+    → dump_fault_comes_before x y ≡ true
 before_by_place x y k i j e f l =
     (λ t. is_below (e t) (f t)) ∙ below_by_rest k (i ∷ []) (j ∷ []) (below_by_first (i ∷ []) (j ∷ []) l)
 
 -- of two of a kind with two places, that of the lower first place
-pub before_by_first_place : (x y : DumpFault) (k i j h m : ℕ) → rank x ≡ k ∷ i ∷ j ∷ [] → rank y ≡ k ∷ h ∷ m ∷ []
-    → i < h → comes_before x y ≡ true
+pub before_by_first_place : (x y : DumpFault) (k i j h m : ℕ) → dump_fault_rank x ≡ k ∷ i ∷ j ∷ []
+    → dump_fault_rank y ≡ k ∷ h ∷ m ∷ []
+    → i < h → dump_fault_comes_before x y ≡ true
 before_by_first_place x y k i j h m e f l =
     (λ t. is_below (e t) (f t)) ∙ below_by_rest k (i ∷ j ∷ []) (h ∷ m ∷ []) (below_by_first (i ∷ j ∷ []) (h ∷ m ∷ []) l)
 
 -- where the first is the same, that of the lower second place
-pub before_by_second_place : (x y : DumpFault) (k i j m : ℕ) → rank x ≡ k ∷ i ∷ j ∷ [] → rank y ≡ k ∷ i ∷ m ∷ [] → j < m
-    → comes_before x y ≡ true
+pub before_by_second_place : (x y : DumpFault) (k i j m : ℕ) → dump_fault_rank x ≡ k ∷ i ∷ j ∷ []
+    → dump_fault_rank y ≡ k ∷ i ∷ m ∷ [] → j < m
+    → dump_fault_comes_before x y ≡ true
 before_by_second_place x y k i j m e f l =
     (λ t. is_below (e t) (f t))
     ∙ below_by_rest k (i ∷ j ∷ []) (i ∷ m ∷ []) (below_by_rest i (j ∷ []) (m ∷ []) (below_by_first (j ∷ []) (m ∷ []) l))
 
 -- no fault comes before itself
-pub not_before_itself : (x : DumpFault) → comes_before x x ≡ false
-not_before_itself x = ap is_lt (tied_itself nat_list_cmp_total (rank x))
+pub not_before_itself : (x : DumpFault) → dump_fault_comes_before x x ≡ false
+not_before_itself x = ap is_lt (tied_itself nat_list_cmp_total (dump_fault_rank x))
 
 -- of two faults at most one comes before the other
-pub not_before_both : (x y : DumpFault) → comes_before x y ≡ true → comes_before y x ≡ false
+pub not_before_both : (x y : DumpFault) → dump_fault_comes_before x y ≡ true → dump_fault_comes_before y x ≡ false
 not_before_both x y e =
-    ap is_lt (nat_list_cmp_total.antisymm (rank y) (rank x)) ∙ reversed (slice_cmp nat_cmp (rank x) (rank y)) e
+    ap is_lt (nat_list_cmp_total.antisymm (dump_fault_rank y) (dump_fault_rank x))
+        ∙ reversed (slice_cmp nat_cmp (dump_fault_rank x) (dump_fault_rank y)) e
   where
     reversed : (o : Ordering) → is_lt o ≡ true → is_lt (ordering_reverse o) ≡ false
     reversed Less e = refl

@@ -7,7 +7,7 @@ use Rattle.std.proofs.lemmas.Slice.Eq.{bytes_eq-Decides}
 use Rattle.std.proofs.lemmas.List.Folds.{list_any_at}
 use Rattle.std.proofs.lemmas.Bool.{false≢true, ltb-false}
 use Rattle.cmh_dump.specs.Name.{is_among, place_of}
-use Rattle.cmh_dump.proofs.Indexed.{among}
+use Rattle.cmh_dump.proofs.IndexLemmas.{among}
 
 -- the first place of a list that passes a test is within it where one passes
 pub first_within : {X : Type 0} (test : X → Bool) (xs : List X) → list_any test xs ≡ true

@@ -21,7 +21,7 @@ use Rattle.cmh_dump.specs.Texts.{texts, value_text}
 use Rattle.cmh_dump.specs.Tree.{texts_of}
 use Rattle.cmh_dump.proofs.Faults.{below}
 use Rattle.cmh_dump.proofs.Trees.{map-map}
-use Rattle.cmh_dump.proofs.Judging.{each_seen, pairs_seen, find-map, get-map}
+use Rattle.cmh_dump.proofs.FirstFaultSearches.{each_seen, pairs_seen, find-map, get-map}
 
 -- ---- kinds one after the other
 

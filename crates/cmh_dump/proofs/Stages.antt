@@ -5,7 +5,7 @@ use Rattle.std.specs.Option.{option_or}
 use Rattle.std.proofs.lemmas.Bool.{false≢true}
 use Rattle.cmh_dump.specs.declared.fault.DumpFault.{DumpFault}
 use Rattle.cmh_dump.specs.Dump.{first_of}
-use Rattle.cmh_dump.specs.FirstFault.{rank, comes_before}
+use Rattle.cmh_dump.specs.FirstFault.{dump_fault_rank, dump_fault_comes_before}
 use Rattle.cmh_dump.proofs.Members.{Among, AmongLists, among_cases, among_one, among_below_is, map-below, row, rows-below, among_rows_is}
 use Rattle.cmh_dump.proofs.Faults.{below}
 use Rattle.cmh_dump.proofs.Firsts.{fails}
@@ -16,11 +16,11 @@ use Rattle.cmh_dump.proofs.Order.{kind, before_by_kind, before_by_place, before_
 -- each fault comes before those that stand after it
 abbrev Rises : List DumpFault → Type 0
 Rises [] = ⊤
-Rises (x ∷ xs) = ((y : DumpFault) → Among y xs → comes_before x y ≡ true) × Rises xs
+Rises (x ∷ xs) = ((y : DumpFault) → Among y xs → dump_fault_comes_before x y ≡ true) × Rises xs
 
 -- two lists joined rise where each does, and those of the first come before those of the second
 rises-append : (xs ys : List DumpFault) → Rises xs → Rises ys
-    → ((x y : DumpFault) → Among x xs → Among y ys → comes_before x y ≡ true) → Rises (xs ++ ys)
+    → ((x y : DumpFault) → Among x xs → Among y ys → dump_fault_comes_before x y ≡ true) → Rises (xs ++ ys)
 rises-append [] ys r s h = s
 rises-append (x ∷ xs) ys r s h = (
   λ y m. elim (among_cases y xs ys m) [ inl l ↦ r.0 y l | inr l ↦ h x y (inl refl) l ],
@@ -32,19 +32,21 @@ rises_one : (x : DumpFault) → Rises (x ∷ [])
 rises_one x = (λ y m. absurd m, tt)
 
 -- a list made by numbers rises where its faults rise with their number
-rises_below : (f : ℕ → DumpFault) (n : ℕ) → ((i j : ℕ) → i < j → comes_before (f i) (f j) ≡ true)
+rises_below : (f : ℕ → DumpFault) (n : ℕ) → ((i j : ℕ) → i < j → dump_fault_comes_before (f i) (f j) ≡ true)
     → Rises (map f (below n))
 rises_below f zero h = tt
 rises_below f (suc n) h =
     subst Rises (sym (map-below f n))
     (rises-append (map f (below n)) (f n ∷ []) (rises_below f n h) (rises_one (f n)) last)
   where
-    last : (x y : DumpFault) → Among x (map f (below n)) → Among y (f n ∷ []) → comes_before x y ≡ true
-    last x y l m = let r = among_below_is f n x l in (λ t. comes_before (r.2 t) (among_one y (f n) m t)) ∙ h r.0 n r.1
+    last : (x y : DumpFault) → Among x (map f (below n)) → Among y (f n ∷ []) → dump_fault_comes_before x y ≡ true
+    last x y l m = let r = among_below_is f n x l in (λ t. dump_fault_comes_before (r.2 t) (among_one y (f n) m t))
+        ∙ h r.0 n r.1
 
 -- a list made by two numbers rises where its faults rise with the first, and then with the second
-rises_rows : (f : ℕ → ℕ → DumpFault) (m : ℕ → ℕ) (n : ℕ) → ((i j h l : ℕ) → i < h → comes_before (f i j) (f h l) ≡ true)
-    → ((i j l : ℕ) → j < l → comes_before (f i j) (f i l) ≡ true) → Rises (flat_map (row f m) (below n))
+rises_rows : (f : ℕ → ℕ → DumpFault) (m : ℕ → ℕ) (n : ℕ)
+    → ((i j h l : ℕ) → i < h → dump_fault_comes_before (f i j) (f h l) ≡ true)
+    → ((i j l : ℕ) → j < l → dump_fault_comes_before (f i j) (f i l) ≡ true) → Rises (flat_map (row f m) (below n))
 rises_rows f m zero g h = tt
 rises_rows f m (suc n) g h =
     subst Rises (sym (rows-below f m n))
@@ -57,11 +59,11 @@ rises_rows f m (suc n) g h =
     of_row y a = elim (among_cases y (row f m n) [] a) [ inl l ↦ l | inr l ↦ absurd l ]
 
     last : (x y : DumpFault) → Among x (flat_map (row f m) (below n)) → Among y (row f m n ++ [])
-        → comes_before x y ≡ true
+        → dump_fault_comes_before x y ≡ true
     last x y l a =
         let r = among_rows_is f m n x l in
         let s = among_below_is (f n) (m n) y (of_row y a) in
-        (λ t. comes_before (r.4 t) (s.2 t)) ∙ g r.0 r.1 n s.0 r.2
+        (λ t. dump_fault_comes_before (r.4 t) (s.2 t)) ∙ g r.0 r.1 n s.0 r.2
 
 -- ---- stages
 
@@ -100,7 +102,7 @@ module _ (Allowed : DumpFault → Type 0) where
   }
 
   -- a kind with one place
-  pub stage_below : (k : ℕ) (f : ℕ → DumpFault) (n : ℕ) → ((i : ℕ) → rank (f i) ≡ k ∷ i ∷ [])
+  pub stage_below : (k : ℕ) (f : ℕ → DumpFault) (n : ℕ) → ((i : ℕ) → dump_fault_rank (f i) ≡ k ∷ i ∷ [])
       → ((i : ℕ) → i < n → Allowed (f i)) → IsStage Allowed k (map f (below n))
   stage_below k f n e a = record {
     allowed = λ y m. let r = among_below_is f n y m in subst Allowed (sym r.2) (a r.0 r.1);
@@ -109,7 +111,8 @@ module _ (Allowed : DumpFault → Type 0) where
   }
 
   -- a kind with two places
-  pub stage_of_rows : (k : ℕ) (f : ℕ → ℕ → DumpFault) (m : ℕ → ℕ) (n : ℕ) → ((i j : ℕ) → rank (f i j) ≡ k ∷ i ∷ j ∷ [])
+  pub stage_of_rows : (k : ℕ) (f : ℕ → ℕ → DumpFault) (m : ℕ → ℕ) (n : ℕ)
+      → ((i j : ℕ) → dump_fault_rank (f i j) ≡ k ∷ i ∷ j ∷ [])
       → ((i j : ℕ) → i < n → j < m i → Allowed (f i j)) → IsStage Allowed k (flat_map (row f m) (below n))
   stage_of_rows k f m n e a = record {
     allowed = λ y l. let r = among_rows_is f m n y l in subst Allowed (sym r.4) (a r.0 r.1 r.2 r.3);
@@ -142,7 +145,7 @@ module _ (Allowed : DumpFault → Type 0) where
 
 -- y is x, or comes after it
 abbrev IsFrom : DumpFault → DumpFault → Type 0
-IsFrom x y = (y ≡ x) ⊎ (comes_before x y ≡ true)
+IsFrom x y = (y ≡ x) ⊎ (dump_fault_comes_before x y ≡ true)
 
 -- x stands here and passes, and each other that does comes after it
 pub record IsLeast (Stands : DumpFault → Type 0) (test : DumpFault → Bool) (x : DumpFault) : Type 0 where

@@ -13,15 +13,15 @@ use Rattle.cmh_graph.specs.declared.part.State.TheVariants.{Idle, Active}
 use Rattle.cmh_graph.specs.Graph as graph
 use Rattle.cmh_graph.specs.declared.fault.GraphFault.{GraphFault}
 use Rattle.cmh_graph.specs.declared.fault.GraphFault.TheVariants.{Memory}
-use Rattle.cmh_graph.proofs.Building.{well_formed_law as graph_law}
-use Rattle.cmh_graph.specs.Build.{IsFirstFault, IsWellFormed, entry_count, message_at}
+use Rattle.cmh_graph.proofs.BuildLemmas.{well_formed_law as graph_law}
+use Rattle.cmh_graph.specs.Build.{IsFirstGraphFault, IsWellFormed, dependent_count, message_at}
 use Rattle.cmh_dump.specs.declared.fault.DumpFault.{DumpFault}
 use Rattle.cmh_dump.specs.declared.fault.DumpFault.TheVariants.{TooManyProcesses, UnknownDependent, RepeatedDependent, ActiveWithDependents, TooManyDependencies, TooManyInTransit, BadInTransit, UnknownInTransit}
 use Rattle.cmh_dump.specs.Name.{is_among, place_of}
 use Rattle.cmh_dump.specs.Tree.{text_of, texts_of, entries_of}
 use Rattle.cmh_dump.specs.Entry.{sites, processes, transits, Entry, entry_of, entries, entry, names, is_pair}
-use Rattle.cmh_dump.specs.Dump.{holds, in_order, first_of, process_by, places_in_pair, graph_of}
-use Rattle.cmh_dump.specs.FirstFault.{IsOfTree, Has, AreNone, HasDependent, WellFormedLaw}
+use Rattle.cmh_dump.specs.Dump.{holds, in_order, first_of, process_by, places_in_pair, tree_graph}
+use Rattle.cmh_dump.specs.FirstFault.{IsOfTree, HasTreeFault, AreNone, HasDependent, DumpWellFormedLaw}
 use Rattle.cmh_dump.proofs.Places.{place_within, same_from_places, differs}
 use Rattle.cmh_dump.proofs.Table.{none_holds}
 use Rattle.cmh_dump.proofs.FirstFaults.{bytes_have, graph_told}
@@ -41,7 +41,7 @@ abbrev dependent : Data → ℕ → ℕ → List ℕ
 dependent d i j = get_or (entry d i).dependents j []
 
 -- the graph has as many processes as the tree
-process_count_is : (d : Data) → graph.process_count (graph_of d) ≡ length (processes d)
+process_count_is : (d : Data) → graph.process_count (tree_graph d) ≡ length (processes d)
 process_count_is d = length-map (entries d) (process d) ∙ length-map (processes d) entry_of
 
 -- and as many names
@@ -58,15 +58,15 @@ dependents_by d (p ∷ ps) (suc i) = dependents_by d ps i
 
 -- the same of the graph of the tree
 dependents_are : (d : Data) (i : ℕ)
-    → graph.dependents_of (graph_of d) i ≡ map (place_of (names d)) (entry d i).dependents
+    → graph.dependents_of (tree_graph d) i ≡ map (place_of (names d)) (entry d i).dependents
 dependents_are d i = dependents_by d (processes d) i
 
 -- an entry of a dependent set is the place of the dependent that the tree names
-entry_is : (d : Data) (i j : ℕ) → graph.HasEntry (graph_of d) i j
-    → HasDependent d i j × (graph.entry (graph_of d) i j ≡ place_of (names d) (dependent d i j))
+entry_is : (d : Data) (i j : ℕ) → graph.HasDependentAt (tree_graph d) i j
+    → HasDependent d i j × (graph.dependent_at (tree_graph d) i j ≡ place_of (names d) (dependent d i j))
 entry_is d i j h =
     let ds = (entry d i).dependents in
-    let l : length (graph.dependents_of (graph_of d) i) ≡ length ds =
+    let l : length (graph.dependents_of (tree_graph d) i) ≡ length ds =
     ap length (dependents_are d i) ∙ length-map ds (place_of (names d)) in
     let m : j < length ds = omega (arith, h.1, l) in (
       (omega (arith, h.0, process_count_is d), m),
@@ -78,7 +78,7 @@ known : (d : Data) → IsClean d → (i j : ℕ) → HasDependent d i j → is_a
 known d clean i j h = not-false (is_among (names d) (dependent d i j)) (clean (UnknownDependent i j) h)
 
 -- in the graph of a clean tree each dependent is a process
-within : (d : Data) → IsClean d → graph.IsWithinGraph (graph_of d)
+within : (d : Data) → IsClean d → graph.IsWithinGraph (tree_graph d)
 within d clean i j h =
     let e = entry_is d i j h in
     let l : place_of (names d) (dependent d i j) < length (names d) =
@@ -86,8 +86,8 @@ within d clean i j h =
     omega (arith, e.1, l, name_count_is d, process_count_is d)
 
 -- and the dependents of a process differ
-distinct : (d : Data) → IsClean d → (i j k : ℕ) → graph.HasEntry (graph_of d) i j → k < j
-    → graph.entry (graph_of d) i k ≢ graph.entry (graph_of d) i j
+distinct : (d : Data) → IsClean d → (i j k : ℕ) → graph.HasDependentAt (tree_graph d) i j → k < j
+    → graph.dependent_at (tree_graph d) i k ≢ graph.dependent_at (tree_graph d) i j
 distinct d clean i j k h l s =
     let later = entry_is d i j h in
     let earlier = entry_is d i k (h.0, omega (arith, h.1, l)) in
@@ -122,8 +122,8 @@ none_of_active Active [] e h = refl
 none_of_active Active (x ∷ ds) e h = let l = ltb-false 0 (suc (length ds)) h in absurd (omega (arith, l))
 
 -- in the graph of a clean tree a process that isn't idle has no dependents
-waiting : (d : Data) → IsClean d → (i : ℕ) → graph.is_idle (graph_of d) i ≡ false
-    → graph.dependents_of (graph_of d) i ≡ []
+waiting : (d : Data) → IsClean d → (i : ℕ) → graph.is_idle (tree_graph d) i ≡ false
+    → graph.dependents_of (tree_graph d) i ≡ []
 waiting d clean i e = dependents_are d i ∙ ap (map (place_of (names d))) (by (cases_lt i (length (processes d))))
   where
     by : (i < length (processes d)) ⊎ (length (processes d) ≤ i) → (entry d i).dependents ≡ []
@@ -141,7 +141,7 @@ counts_by d [] = refl
 counts_by d (e ∷ es) = λ i. length-map e.dependents (place_of (names d)) i ∷ counts_by d es i
 
 -- the entries of the graph are as many as the dependents of the tree
-entry_count_is : (d : Data) → entry_count (graph_of d) ≡ sum_by (λ e. length e.dependents) (entries d)
+entry_count_is : (d : Data) → dependent_count (tree_graph d) ≡ sum_by (λ e. length e.dependents) (entries d)
 entry_count_is d =
     sym (sum-map (λ p. length p.dependents) (map (process d) (entries d))) ∙ ap sum (counts_by d (entries d))
     ∙ sum-map (λ e. length e.dependents) (entries d)
@@ -150,7 +150,7 @@ entry_count_is d =
 
 -- in a clean tree the sender and the receiver of a message are processes of the graph
 known_in_pair : (d : Data) → IsClean d → (i k : ℕ) → i < length (transits d) → k < 2
-    → place_of (names d) (get_or (texts_of (get_or (transits d) i null)) k []) < graph.process_count (graph_of d)
+    → place_of (names d) (get_or (texts_of (get_or (transits d) i null)) k []) < graph.process_count (tree_graph d)
 known_in_pair d clean i k h l =
     let t = get_or (transits d) i null in
     let pair : is_pair t ≡ true = not-false (is_pair t) (clean (BadInTransit i) h) in
@@ -165,8 +165,8 @@ known_in_pair d clean i k h l =
     omega (arith, place, name_count_is d, process_count_is d)
 
 -- a message of the graph is the one that the tree tells
-transit_is : (d : Data) (i : ℕ) → i < length (graph_of d).in_transit
-    → (i < length (transits d)) × (message_at (graph_of d) i ≡ places_in_pair (names d) (get_or (transits d) i null))
+transit_is : (d : Data) (i : ℕ) → i < length (tree_graph d).in_transit
+    → (i < length (transits d)) × (message_at (tree_graph d) i ≡ places_in_pair (names d) (get_or (transits d) i null))
 transit_is d i l =
     let m : i < length (transits d) = omega (arith, l, length-map (transits d) (places_in_pair (names d))) in
     (m, get_or-map (places_in_pair (names d)) (transits d) i null (0, 0) m)
@@ -174,7 +174,7 @@ transit_is d i l =
 -- ---- the whole
 
 -- the graph of a clean tree is well formed
-pub clean_is_well_formed : (d : Data) → IsClean d → IsWellFormed (graph_of d)
+pub clean_is_well_formed : (d : Data) → IsClean d → IsWellFormed (tree_graph d)
 clean_is_well_formed d clean = record {
   processes =
       omega (arith, process_count_is d, ltb-false MAX_PROCESSES (length (processes d)) (clean TooManyProcesses tt));
@@ -195,30 +195,30 @@ clean_is_well_formed d clean = record {
       );
   sent_within =
       λ i l. let t = transit_is d i l in
-      subst (λ (m : ℕ × ℕ). m.0 < graph.process_count (graph_of d)) (sym t.1)
+      subst (λ (m : ℕ × ℕ). m.0 < graph.process_count (tree_graph d)) (sym t.1)
       (known_in_pair d clean i 0 t.0 (omega arith));
   received_within =
       λ i l. let t = transit_is d i l in
-      subst (λ (m : ℕ × ℕ). m.1 < graph.process_count (graph_of d)) (sym t.1)
+      subst (λ (m : ℕ × ℕ). m.1 < graph.process_count (tree_graph d)) (sym t.1)
       (known_in_pair d clean i 1 t.0 (omega arith));
 }
 
 -- where the table has no first fault, the graph of the tree is well formed
-pub well_formed : (d : Data) → first_of (holds d) (in_order d) ≡ None → IsWellFormed (graph_of d)
+pub well_formed : (d : Data) → first_of (holds d) (in_order d) ≡ None → IsWellFormed (tree_graph d)
 well_formed d e = clean_is_well_formed d (none_holds d e)
 
 -- a well-formed graph is refused for want of memory alone
-pub refused_for_memory : (g : graph.Graph) → IsWellFormed g → (e : GraphFault) → (e ≡ Memory) ⊎ IsFirstFault g e
+pub refused_for_memory : (g : graph.Graph) → IsWellFormed g → (e : GraphFault) → (e ≡ Memory) ⊎ IsFirstGraphFault g e
     → e ≡ Memory
 refused_for_memory g w e (inl m) = m
 refused_for_memory g w e (inr f) = absurd ((graph_law g).0 w e f.had)
 
 -- a tree that has no fault is clean
-clean : (d : Data) → AreNone (Has d) → IsClean d
+clean : (d : Data) → AreNone (HasTreeFault d) → IsClean d
 clean d none fault t = false_from_ne_true (holds d fault) (λ h. none fault (t, h))
 
 -- what bytes mean is well formed
-pub well_formed_law : WellFormedLaw
+pub well_formed_law : DumpWellFormedLaw
 well_formed_law = λ bytes g e.
     let r = graph_told bytes g e in
     let d = r.1.0 in

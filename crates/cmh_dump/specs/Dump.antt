@@ -107,8 +107,8 @@ places_in_pair names t =
     (place_of names (slice_index_or (texts_of t) 0 []), place_of names (slice_index_or (texts_of t) 1 []))
 
 -- the graph that the names of the tree tell
-abbrev pub graph_of : Data → Graph
-graph_of d = record {
+abbrev pub tree_graph : Data → Graph
+tree_graph d = record {
   processes = map (process_by (sites d) (names d)) (entries d);
   in_transit = map (places_in_pair (names d)) (transits d);
 }
@@ -117,7 +117,7 @@ graph_of d = record {
 
 -- what a tree means, or its first fault
 unfoldable pub dump_of_tree : Data → Result Graph DumpFault
-dump_of_tree d = option_map_or Err (first_of (holds d) (in_order d)) (Ok (graph_of d))
+dump_of_tree d = option_map_or Err (first_of (holds d) (in_order d)) (Ok (tree_graph d))
 
 -- the tree of the bytes
 abbrev pub tree_of : List ℕ → Option Data

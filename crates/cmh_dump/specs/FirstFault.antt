@@ -9,7 +9,7 @@ use Rattle.cmh_dump.specs.declared.TheConstants.{MAX_BYTES}
 use Rattle.cmh_dump.specs.declared.fault.DumpFault.{DumpFault}
 use Rattle.cmh_dump.specs.declared.fault.DumpFault.TheVariants.{Memory, ReadFault, TooLong, NotJson, BadTop, BadVersion, BadSites, RepeatedSite, TooManySites, TooManyProcesses, BadProcess, RepeatedProcess, UnknownSite, UnknownDependent, RepeatedDependent, ActiveWithDependents, TooManyDependencies, TooManyInTransit, BadInTransit, UnknownInTransit}
 use Rattle.cmh_dump.specs.Entry.{sites, processes, transits, entry}
-use Rattle.cmh_dump.specs.Dump.{holds, graph_of, dump_of_tree, tree_of, dump}
+use Rattle.cmh_dump.specs.Dump.{holds, tree_graph, dump_of_tree, tree_of, dump}
 
 -- ---- the faults that a tree has, and those that bytes have
 
@@ -41,48 +41,48 @@ IsOfTree d (BadInTransit i) = i < length (transits d)
 IsOfTree d (UnknownInTransit i) = i < length (transits d)
 
 -- the tree has the fault
-abbrev pub Has : Data → DumpFault → Type 0
-Has d fault = IsOfTree d fault × IsTrue (holds d fault)
+abbrev pub HasTreeFault : Data → DumpFault → Type 0
+HasTreeFault d fault = IsOfTree d fault × IsTrue (holds d fault)
 
 -- the bytes have the fault: they are too many, they are no tree, or their tree has it
 abbrev pub BytesHave : List ℕ → DumpFault → Type 0
 BytesHave bytes TooLong = MAX_BYTES < length bytes
 BytesHave bytes NotJson = tree_of bytes ≡ None
-BytesHave bytes fault = (d : Data) × (tree_of bytes ≡ Some d) × Has d fault
+BytesHave bytes fault = (d : Data) × (tree_of bytes ≡ Some d) × HasTreeFault d fault
 
 -- ---- their order
 
 -- the number of the fault's kind in the order of the variants, from 0, and its places
-abbrev pub rank : DumpFault → List ℕ
-rank Memory = 0 ∷ []
-rank ReadFault = 1 ∷ []
-rank TooLong = 2 ∷ []
-rank NotJson = 3 ∷ []
-rank BadTop = 4 ∷ []
-rank BadVersion = 5 ∷ []
-rank (BadSites i) = 6 ∷ i ∷ []
-rank (RepeatedSite i) = 7 ∷ i ∷ []
-rank TooManySites = 8 ∷ []
-rank TooManyProcesses = 9 ∷ []
-rank (BadProcess i) = 10 ∷ i ∷ []
-rank (RepeatedProcess i) = 11 ∷ i ∷ []
-rank (UnknownSite i) = 12 ∷ i ∷ []
-rank (UnknownDependent i j) = 13 ∷ i ∷ j ∷ []
-rank (RepeatedDependent i j) = 14 ∷ i ∷ j ∷ []
-rank (ActiveWithDependents i) = 15 ∷ i ∷ []
-rank TooManyDependencies = 16 ∷ []
-rank TooManyInTransit = 17 ∷ []
-rank (BadInTransit i) = 18 ∷ i ∷ []
-rank (UnknownInTransit i) = 19 ∷ i ∷ []
+abbrev pub dump_fault_rank : DumpFault → List ℕ
+dump_fault_rank Memory = 0 ∷ []
+dump_fault_rank ReadFault = 1 ∷ []
+dump_fault_rank TooLong = 2 ∷ []
+dump_fault_rank NotJson = 3 ∷ []
+dump_fault_rank BadTop = 4 ∷ []
+dump_fault_rank BadVersion = 5 ∷ []
+dump_fault_rank (BadSites i) = 6 ∷ i ∷ []
+dump_fault_rank (RepeatedSite i) = 7 ∷ i ∷ []
+dump_fault_rank TooManySites = 8 ∷ []
+dump_fault_rank TooManyProcesses = 9 ∷ []
+dump_fault_rank (BadProcess i) = 10 ∷ i ∷ []
+dump_fault_rank (RepeatedProcess i) = 11 ∷ i ∷ []
+dump_fault_rank (UnknownSite i) = 12 ∷ i ∷ []
+dump_fault_rank (UnknownDependent i j) = 13 ∷ i ∷ j ∷ []
+dump_fault_rank (RepeatedDependent i j) = 14 ∷ i ∷ j ∷ []
+dump_fault_rank (ActiveWithDependents i) = 15 ∷ i ∷ []
+dump_fault_rank TooManyDependencies = 16 ∷ []
+dump_fault_rank TooManyInTransit = 17 ∷ []
+dump_fault_rank (BadInTransit i) = 18 ∷ i ∷ []
+dump_fault_rank (UnknownInTransit i) = 19 ∷ i ∷ []
 
 -- faults go by the number of their kind, then by the first place, then by the second
-abbrev pub comes_before : DumpFault → DumpFault → Bool
-comes_before e f = is_lt (slice_cmp nat_cmp (rank e) (rank f))
+abbrev pub dump_fault_comes_before : DumpFault → DumpFault → Bool
+dump_fault_comes_before e f = is_lt (slice_cmp nat_cmp (dump_fault_rank e) (dump_fault_rank f))
 
 -- it is one of these faults, and none of them comes before it
-pub record IsFirstFault (These : DumpFault → Type 0) (fault : DumpFault) : Type 0 where
+pub record IsFirstDumpFault (These : DumpFault → Type 0) (fault : DumpFault) : Type 0 where
   pub had : These fault
-  pub first : (other : DumpFault) → These other → IsFalse (comes_before other fault)
+  pub first : (other : DumpFault) → These other → IsFalse (dump_fault_comes_before other fault)
 
 -- there is no such fault
 abbrev pub AreNone : (DumpFault → Type 0) → Type 0
@@ -93,23 +93,23 @@ AreNone These = (fault : DumpFault) → These fault → ⊥
 -- a tree is refused for the first fault that it has
 abbrev pub TreeFaultLaw : Type 0
 TreeFaultLaw = (d : Data) (fault : DumpFault)
-    → (dump_of_tree d ≡ Err fault) ↔ IsFirstFault (Has d) fault
+    → (dump_of_tree d ≡ Err fault) ↔ IsFirstDumpFault (HasTreeFault d) fault
 
 -- a tree without a fault, and no other, means a graph, and that is the one of its names
 abbrev pub TreeGraphLaw : Type 0
 TreeGraphLaw = (d : Data) (g : Graph)
-    → (dump_of_tree d ≡ Ok g) ↔ (AreNone (Has d) × (g ≡ graph_of d))
+    → (dump_of_tree d ≡ Ok g) ↔ (AreNone (HasTreeFault d) × (g ≡ tree_graph d))
 
 -- bytes are refused for the first fault that they have
 abbrev pub FirstFaultLaw : Type 0
 FirstFaultLaw = (bytes : List ℕ) (fault : DumpFault)
-    → (dump bytes ≡ Err fault) ↔ IsFirstFault (BytesHave bytes) fault
+    → (dump bytes ≡ Err fault) ↔ IsFirstDumpFault (BytesHave bytes) fault
 
 -- bytes without a fault, and no others, mean a graph, and that is the one of their tree
 abbrev pub NoFaultLaw : Type 0
 NoFaultLaw = (bytes : List ℕ) (g : Graph)
-    → (dump bytes ≡ Ok g) ↔ (AreNone (BytesHave bytes) × (option_map graph_of (tree_of bytes) ≡ Some g))
+    → (dump bytes ≡ Ok g) ↔ (AreNone (BytesHave bytes) × (option_map tree_graph (tree_of bytes) ≡ Some g))
 
 -- what bytes mean is a graph that can be built
-abbrev pub WellFormedLaw : Type 0
-WellFormedLaw = (bytes : List ℕ) (g : Graph) → dump bytes ≡ Ok g → IsWellFormed g
+abbrev pub DumpWellFormedLaw : Type 0
+DumpWellFormedLaw = (bytes : List ℕ) (g : Graph) → dump bytes ≡ Ok g → IsWellFormed g

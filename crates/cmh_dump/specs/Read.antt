@@ -8,7 +8,7 @@ use Rattle.cmh_graph.specs.declared.part.Part.{Part}
 use Rattle.cmh_dump.specs.declared.entry.Entry as declared
 use Rattle.cmh_dump.specs.declared.fault.DumpFault.{DumpFault}
 use Rattle.cmh_dump.specs.declared.fault.DumpFault.TheVariants.{Memory, BadTop, BadVersion, BadSites, RepeatedSite, TooManySites, TooManyProcesses, BadProcess, RepeatedProcess, UnknownSite, UnknownDependent, RepeatedDependent, ActiveWithDependents, TooManyDependencies, TooManyInTransit, BadInTransit, UnknownInTransit}
-use Rattle.cmh_dump.specs.Dump.{holds, first_of, graph_of, each, each_dependent}
+use Rattle.cmh_dump.specs.Dump.{holds, first_of, tree_graph, each, each_dependent}
 use Rattle.cmh_dump.specs.Entry.{Entry, sites, processes, transits, entries}
 use Rattle.cmh_dump.specs.Texts.{value_text}
 
@@ -76,5 +76,5 @@ pub record AreRead (d : Data) (es : List declared.Entry) (site_names : List (Lis
 -- The same as `Judges`, of parts and messages in transit: at Ok they make the graph of the tree.
 abbrev pub Builds : Data → List (List DumpFault) → Result (Vec Part × Vec (ℕ × ℕ)) DumpFault → Type 0
 Builds d kinds (Ok parts) =
-    (first_of (holds d) kinds ≡ None) × (graph.graph_of parts.0.items parts.1.items ≡ graph_of d)
+    (first_of (holds d) kinds ≡ None) × (graph.parts_graph parts.0.items parts.1.items ≡ tree_graph d)
 Builds d kinds (Err e) = e ≢ Memory → first_of (holds d) kinds ≡ Some e

@@ -1,7 +1,7 @@
 //! Laws of what a dump means. Each function here has an empty body; its contract is the law.
 
 ghost use Rattle.cmh_dump.specs.FirstFault.{TreeFaultLaw, TreeGraphLaw};
-ghost use Rattle.cmh_dump.specs.FirstFault.{FirstFaultLaw, NoFaultLaw, WellFormedLaw};
+ghost use Rattle.cmh_dump.specs.FirstFault.{FirstFaultLaw, NoFaultLaw, DumpWellFormedLaw};
 
 /// A tree is refused for a fault exactly where it has that fault and none that comes before it.
 pub fn law_tree_fault()
@@ -26,5 +26,5 @@ pub fn law_no_fault()
 /// The graph that bytes mean is well formed: `WaitGraph::build_with` refuses it for want of memory
 /// alone.
 pub fn law_well_formed()
-    ensures { WellFormedLaw }
+    ensures { DumpWellFormedLaw }
 {}

@@ -2,7 +2,7 @@
 use Rattle.cmh_graph.specs.Core.{CoreLaw}
 use Rattle.cmh_graph.specs.Graph.{process_count, indices}
 use Rattle.cmh_graph.specs.Path.{reaches, reach_of}
-use Rattle.cmh_graph.proofs.Reaching.{reaches_then, then_reaches, contains_index}
+use Rattle.cmh_graph.proofs.PathLemmas.{reaches_then, then_reaches, contains_index}
 use Rattle.cmh_graph.proofs.Verdicts.{contains_filter, reached_within, filter_contains}
 
 -- the core is what each reaches of the other

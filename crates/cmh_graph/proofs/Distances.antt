@@ -7,10 +7,10 @@ use Rattle.cmh_graph.specs.ChosenPath.{distance_of}
 use Rattle.cmh_graph.specs.Graph.{Graph, IsWithinGraph, indices, is_awake, process_count}
 use Rattle.cmh_graph.specs.Path.{Reaches}
 use Rattle.cmh_graph.specs.Verdict.{is_deadlocked, verdict}
-use Rattle.cmh_graph.proofs.Listing.{by_index, length-by_index}
-use Rattle.cmh_graph.proofs.Reaching.{Walk, walk}
-use Rattle.cmh_graph.proofs.Searching.{numbered}
-use Rattle.cmh_graph.proofs.Stepping.{near, has_steps}
+use Rattle.cmh_graph.proofs.IndexLists.{by_index, length-by_index}
+use Rattle.cmh_graph.proofs.PathLemmas.{Walk, walk}
+use Rattle.cmh_graph.proofs.PositionLemmas.{numbered}
+use Rattle.cmh_graph.proofs.LevelSearch.{near, has_steps}
 use Rattle.cmh_graph.proofs.Verdicts.{asleep_is_idle, test_then, then_test}
 
 -- a process with a distance reaches an awake one

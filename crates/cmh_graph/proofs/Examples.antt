@@ -6,13 +6,13 @@ use Rattle.cmh_graph.specs.declared.fault.GraphFault.{GraphFault}
 use Rattle.cmh_graph.specs.declared.fault.GraphFault.TheVariants.{TooManyProcesses, TooManyDependencies, DependentOutOfRange, RepeatedDependent, ActiveWithDependents, TooManyInTransit, TransitOutOfRange, Memory}
 use Rattle.cmh_graph.specs.declared.part.State.TheVariants.{Idle, Active}
 use Rattle.cmh_graph.specs.declared.verdict.Verdict.TheVariants.{Deadlocked, Free}
-use Rattle.cmh_graph.specs.Build.{comes_before, Has, IsFirstFault}
+use Rattle.cmh_graph.specs.Build.{graph_fault_comes_before, HasGraphFault, IsFirstGraphFault}
 use Rattle.cmh_graph.specs.ChosenPath.{chosen_path, distance_of}
 use Rattle.cmh_graph.specs.Core.{core_of}
 use Rattle.cmh_graph.specs.Graph.{Graph, idle_list, indices, is_awake, Process}
 use Rattle.cmh_graph.specs.Path.{reach_of, reaches}
 use Rattle.cmh_graph.specs.Verdict.{is_deadlocked, verdicts}
-use Rattle.cmh_graph.proofs.Building.{pair_first}
+use Rattle.cmh_graph.proofs.BuildLemmas.{pair_first}
 
 -- ---- graphs
 
@@ -141,7 +141,8 @@ abbrev far : Graph
 far = graph (idle (codes "p") 0 (5 ∷ []) ∷ [])
 
 -- no fault of it comes before the dependent that is out of range
-none_before_far : (other : GraphFault) → Has far other → IsFalse (comes_before other (DependentOutOfRange 0 0))
+none_before_far : (other : GraphFault) → HasGraphFault far other
+    → IsFalse (graph_fault_comes_before other (DependentOutOfRange 0 0))
 none_before_far TooManyProcesses h = absurd (omega (arith, h))
 none_before_far TooManyDependencies h = absurd (omega (arith, h))
 none_before_far (DependentOutOfRange zero b) h = pair_first 3 0 0 0 b (inr (refl, omega arith))
@@ -153,18 +154,19 @@ none_before_far (TransitOutOfRange i) h = refl
 none_before_far Memory h = absurd h
 
 -- that is its first fault
-far_is_refused : IsFirstFault far (DependentOutOfRange 0 0)
+far_is_refused : IsFirstGraphFault far (DependentOutOfRange 0 0)
 far_is_refused = record { had = ((omega arith, omega arith), omega arith); first = none_before_far }
 
 -- p@a: p p
-repeat_is_fault : Has (graph (idle (codes "p") 0 (0 ∷ 0 ∷ []) ∷ [])) (RepeatedDependent 0 1)
+repeat_is_fault : HasGraphFault (graph (idle (codes "p") 0 (0 ∷ 0 ∷ []) ∷ [])) (RepeatedDependent 0 1)
 repeat_is_fault = ((omega arith, omega arith), 0, omega arith, refl)
 
 -- p@a! with the dependent p
-active_is_fault : Has (graph (record { name = codes "p"; site = 0; state = Active; dependents = 0 ∷ [] } ∷ []))
+active_is_fault : HasGraphFault
+    (graph (record { name = codes "p"; site = 0; state = Active; dependents = 0 ∷ [] } ∷ []))
     (ActiveWithDependents 0)
 active_is_fault = ((omega arith, omega arith), refl)
 
 -- p@a: q; q@a: p with a message from p to no process
-transit_is_fault : Has (with_message (0, 2) two_in_a_cycle) (TransitOutOfRange 0)
+transit_is_fault : HasGraphFault (with_message (0, 2) two_in_a_cycle) (TransitOutOfRange 0)
 transit_is_fault = (omega arith, inr (omega arith))

@@ -16,8 +16,8 @@ use Rattle.cmh_graph.specs.Graph.{Graph, process_count, indices, IsWithinGraph}
 use Rattle.cmh_graph.specs.Path.{Leads, Reaches, reaches, reach_of}
 use Rattle.cmh_graph.specs.Verdict.{IsDeadlocked, is_deadlocked}
 use Rattle.cmh_graph.proofs.Cores.{core_law}
-use Rattle.cmh_graph.proofs.Listing.{filter_agree_on}
-use Rattle.cmh_graph.proofs.Reaching.{cons_contains, contains_cons, contains_index, index_within, reaches_then, then_reaches}
+use Rattle.cmh_graph.proofs.IndexLists.{filter_agree_on}
+use Rattle.cmh_graph.proofs.PathLemmas.{cons_contains, contains_cons, contains_index, index_within, reaches_then, then_reaches}
 use Rattle.cmh_graph.proofs.Verdicts.{and_true, asleep_is_idle, contains_filter, filter_contains, idle_within, reached_within, reaches_more, test_then, then_test}
 
 -- ---- rests

@@ -8,7 +8,7 @@ use Rattle.cmh_graph.specs.Path.{Leads, Reaches, reaches, reach_of}
 use Rattle.cmh_graph.specs.declared.verdict.Verdict.{Verdict}
 use Rattle.cmh_graph.specs.declared.verdict.Verdict.TheVariants.{Deadlocked, Free}
 use Rattle.cmh_graph.specs.Verdict.{IsDeadlocked, is_deadlocked, IsDeadlockedSet, IsVerdict, VerdictLaw, ClosedSetLaw, verdict, verdicts}
-use Rattle.cmh_graph.proofs.Reaching.{depends_within, cons_contains, contains_cons, reaches_then, then_reaches, contains_index}
+use Rattle.cmh_graph.proofs.PathLemmas.{depends_within, cons_contains, contains_cons, reaches_then, then_reaches, contains_index}
 
 -- what is idle is one of the list
 idle_within_by : (ps : List Process) (p : ℕ) → is_idle_state (get_or ps p nobody).state ≡ true → p < length ps

@@ -4,8 +4,8 @@ use Rattle.std.specs.Prelude.{Contains, Some, None, Option, is_some}
 use Rattle.cmh_graph.specs.ChosenPath.{distance_of, chosen_path, IsWayOut, IsDistance, DistanceLaw, PathLengthLaw}
 use Rattle.cmh_graph.specs.Graph.{Graph, IsWithinGraph, is_awake, process_count}
 use Rattle.cmh_graph.specs.Path.{IsPath, is_nonempty, paths_to}
-use Rattle.cmh_graph.proofs.Choosing.{chosen_is, chosen_length, has_distance, listed_is, length_is, way_out_length}
-use Rattle.cmh_graph.proofs.Stepping.{near}
+use Rattle.cmh_graph.proofs.ChosenPathLemmas.{chosen_is, chosen_length, has_distance, listed_is, length_is, way_out_length}
+use Rattle.cmh_graph.proofs.LevelSearch.{near}
 
 -- a list that is not empty has a member
 some_member : (xss : List (List ℕ)) → is_nonempty xss ≡ true → (path : List ℕ) × Contains xss path

@@ -37,8 +37,8 @@ ChosenPathLaw = (g : Graph) (p : ℕ) (path : List ℕ) → IsWithinGraph g → 
     → (chosen_path g p ≡ Some path) ↔ IsChosenPath g p path
 
 -- and there is none just where p reaches no awake process
-abbrev pub NoPathLaw : Type 0
-NoPathLaw = (g : Graph) (p : ℕ) → IsWithinGraph g → p < process_count g
+abbrev pub ChosenPathExistsLaw : Type 0
+ChosenPathExistsLaw = (g : Graph) (p : ℕ) → IsWithinGraph g → p < process_count g
     → (chosen_path g p ≡ None) ↔ ((q : ℕ) → Reaches g p q → IsFalse (is_awake g q))
 
 -- A distance in words: a path of so many dependencies leads from p to an awake process, and no

@@ -83,14 +83,14 @@ dependency_count g = sum_by (λ p. length (dependencies_of g p)) (indices g)
 abbrev pub idle_list : Graph → List ℕ
 idle_list g = filter (λ p. is_idle g p) (indices g)
 
--- entry j of the dependent set of process i
-abbrev pub entry : Graph → ℕ → ℕ → ℕ
-entry g i j = slice_index (dependents_of g i) j
+-- dependent j of process i
+abbrev pub dependent_at : Graph → ℕ → ℕ → ℕ
+dependent_at g i j = slice_index (dependents_of g i) j
 
--- the dependent set of process i has an entry j
-abbrev pub HasEntry : Graph → ℕ → ℕ → Type 0
-HasEntry g i j = (i < process_count g) × (j < length (dependents_of g i))
+-- process i has a dependent j
+abbrev pub HasDependentAt : Graph → ℕ → ℕ → Type 0
+HasDependentAt g i j = (i < process_count g) × (j < length (dependents_of g i))
 
 -- each dependent is a process of the graph
 abbrev pub IsWithinGraph : Graph → Type 0
-IsWithinGraph g = (i j : ℕ) → HasEntry g i j → entry g i j < process_count g
+IsWithinGraph g = (i j : ℕ) → HasDependentAt g i j → dependent_at g i j < process_count g

@@ -6,16 +6,16 @@ pub record IsFirst (Holds : ℕ → Type 0) (i : ℕ) : Type 0 where
   pub holds : Holds i
   pub first : (k : ℕ) → Holds k → i ≤ k
 
--- it holds at entry j of i, at no earlier entry of i, and at no entry of a place before i
+-- it holds at dependent j of i, at no earlier one of i, and at none of a process before i
 pub record IsFirstEntry (Holds : ℕ → ℕ → Type 0) (i j : ℕ) : Type 0 where
   pub holds : Holds i j
   pub first : (k l : ℕ) → Holds k l → (i < k) ⊎ ((i ≡ k) × (j ≤ l))
 
--- entry j is bound or more
+-- dependent j is bound or more
 abbrev pub IsAtLeast : ℕ → List ℕ → ℕ → Type 0
 IsAtLeast bound list j = (j < length list) × (bound ≤ slice_index list j)
 
--- entry j equals an earlier one
+-- dependent j equals an earlier one
 abbrev pub IsRepeat : List ℕ → ℕ → Type 0
 IsRepeat list j =
     (j < length list) × (k : ℕ) × (k < j) × (slice_index list k ≡ slice_index list j)

@@ -2,7 +2,7 @@
 
 ghost use Rattle.std.specs.Prelude.{◌≡◌, ◌⊎◌, ◌<◌, ◌↔◌, map, [], IfOk, IfErr, IsTrue, not};
 ghost use Rattle.cmh_graph.specs.Graph.{indices, process_count, is_idle, is_idle_state, is_awake, site_of, name_of, dependents_of, idle_list};
-ghost use Rattle.cmh_graph.specs.Build.{graph_of, IsWellFormed, IsFirstFault};
+ghost use Rattle.cmh_graph.specs.Build.{parts_graph, IsWellFormed, IsFirstGraphFault};
 
 use crate::judge::judge;
 use crate::{GraphFault, Part, State};
@@ -21,22 +21,22 @@ pub struct WaitGraph {
 impl Model for WaitGraph {
     ghost use Rattle.std.specs.Prelude.{◌≡◌, map};
     ghost use Rattle.cmh_graph.specs.Graph.{Graph, indices, is_awake};
-    ghost use Rattle.cmh_graph.specs.Build.{graph_of, IsWellFormed};
+    ghost use Rattle.cmh_graph.specs.Build.{parts_graph, IsWellFormed};
 
     ghost Value = { Graph };
 
-    ghost view = { λ w. graph_of w.parts.items w.in_transit.items };
+    ghost view = { λ w. parts_graph w.parts.items w.in_transit.items };
 
-    ghost invariant = { λ w. let g = graph_of w.parts.items w.in_transit.items in
+    ghost invariant = { λ w. let g = parts_graph w.parts.items w.in_transit.items in
         IsWellFormed g × (w.awake.items ≡ map (is_awake g) (indices g)) };
 }
 
 impl WaitGraph {
     /// The graph of the parts, with no message in transit.
     pub fn build(alloc: Global, parts: Vec<Part>) -> Result<WaitGraph, GraphFault>
-        ensures ok { IfOk result (λ g. (g ≡ graph_of parts.items []) × IsWellFormed g) }
+        ensures ok { IfOk result (λ g. (g ≡ parts_graph parts.items []) × IsWellFormed g) }
         ensures fault { IfErr result (λ e.
-            (e ≡ GraphFault.Memory) ⊎ IsFirstFault (graph_of parts.items []) e) }
+            (e ≡ GraphFault.Memory) ⊎ IsFirstGraphFault (parts_graph parts.items []) e) }
     {
         WaitGraph::build_with(alloc, parts, &[])
     }
@@ -49,9 +49,9 @@ impl WaitGraph {
         parts: Vec<Part>,
         in_transit: &[(u32, u32)],
     ) -> Result<WaitGraph, GraphFault>
-        ensures ok { IfOk result (λ g. (g ≡ graph_of parts.items in_transit.now) × IsWellFormed g) }
+        ensures ok { IfOk result (λ g. (g ≡ parts_graph parts.items in_transit.now) × IsWellFormed g) }
         ensures fault { IfErr result (λ e.
-            (e ≡ GraphFault.Memory) ⊎ IsFirstFault (graph_of parts.items in_transit.now) e) }
+            (e ≡ GraphFault.Memory) ⊎ IsFirstGraphFault (parts_graph parts.items in_transit.now) e) }
     {
         judge(alloc, &parts, in_transit)?;
         let awake = awake_marks(alloc, &parts, in_transit)?;
@@ -139,7 +139,7 @@ impl WaitGraph {
     }
 
     /// The idle processes, by rising index.
-    #[tactic(auto, using(crate::proofs::Listing::filter_indices_kept, crate::proofs::Listing::filter_indices_passed))]
+    #[tactic(auto, using(crate::proofs::IndexLists::filter_indices_kept, crate::proofs::IndexLists::filter_indices_passed))]
     pub fn idle_list(&self, alloc: Global) -> Result<Vec<u32>, GraphFault>
         ensures ok { IfOk result (λ list. list.items ≡ idle_list self.now) }
         ensures memory { IfErr result (λ e. e ≡ GraphFault.Memory) }
@@ -160,8 +160,8 @@ fn awake_marks(
     parts: &[Part],
     in_transit: &[(u32, u32)],
 ) -> Result<Vec<bool>, AllocError>
-    requires { IsWellFormed (graph_of parts.now in_transit.now) }
-    ensures { IfOk result (λ marks. let g = graph_of parts.now in_transit.now in
+    requires { IsWellFormed (parts_graph parts.now in_transit.now) }
+    ensures { IfOk result (λ marks. let g = parts_graph parts.now in_transit.now in
         marks.items ≡ map (is_awake g) (indices g)) }
 {
     let mut marks = active_marks(alloc, parts)?;

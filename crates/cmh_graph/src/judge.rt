@@ -3,7 +3,7 @@
 ghost use Rattle.std.specs.Prelude.{◌≡◌, ◌⊎◌, ◌<◌, ◌≤◌, ◌↔◌, ℕ, [], length, slice_index_or, All, IfOk, IfErr, IfNone, IfSome, IsTrue, OnOk};
 ghost use Rattle.cmh_graph.specs.declared.fault.GraphFault.TheVariants.{DependentOutOfRange, RepeatedDependent, ActiveWithDependents};
 ghost use Rattle.cmh_graph.specs.Graph.{IsWithinGraph};
-ghost use Rattle.cmh_graph.specs.Build.{entry_count, graph_of, Has, IsFirstFault, IsWellFormed};
+ghost use Rattle.cmh_graph.specs.Build.{dependent_count, parts_graph, HasGraphFault, IsFirstGraphFault, IsWellFormed};
 ghost use Rattle.cmh_graph.specs.Judge.{IsAtLeast, IsFirst, IsFirstEntry, IsRepeat};
 
 use crate::{GraphFault, MAX_DEPENDENCIES, MAX_IN_TRANSIT, MAX_PROCESSES, Part, State};
@@ -15,14 +15,14 @@ pub(crate) fn judge(
     parts: &[Part],
     in_transit: &[(u32, u32)],
 ) -> Result<(), GraphFault>
-    ensures ok { OnOk result (IsWellFormed (graph_of parts.now in_transit.now)) }
+    ensures ok { OnOk result (IsWellFormed (parts_graph parts.now in_transit.now)) }
     ensures fault { IfErr result (λ e.
-        (e ≡ GraphFault.Memory) ⊎ IsFirstFault (graph_of parts.now in_transit.now) e) }
+        (e ≡ GraphFault.Memory) ⊎ IsFirstGraphFault (parts_graph parts.now in_transit.now) e) }
 {
     if parts.len() > MAX_PROCESSES {
         return Err(GraphFault::TooManyProcesses);
     }
-    if has_too_many_entries(parts) {
+    if has_too_many_dependents(parts) {
         return Err(GraphFault::TooManyDependencies);
     }
     if let Some((i, j)) = out_of_range(parts) {
@@ -44,8 +44,8 @@ pub(crate) fn judge(
 }
 
 /// Whether the dependent sets have more than `MAX_DEPENDENCIES` entries together.
-fn has_too_many_entries(parts: &[Part]) -> bool
-    ensures { IsTrue result ↔ (MAX_DEPENDENCIES < entry_count (graph_of parts.now [])) }
+fn has_too_many_dependents(parts: &[Part]) -> bool
+    ensures { IsTrue result ↔ (MAX_DEPENDENCIES < dependent_count (parts_graph parts.now [])) }
 {
     let mut room = MAX_DEPENDENCIES;
     for part in parts {
@@ -60,8 +60,8 @@ fn has_too_many_entries(parts: &[Part]) -> bool
 /// The first entry that names no part, by the places of the part and of the entry.
 fn out_of_range(parts: &[Part]) -> Option<(usize, usize)>
     ensures some { IfSome result (λ at. IsFirstEntry
-        (λ i j. Has (graph_of parts.now []) (DependentOutOfRange i j)) at.0 at.1) }
-    ensures none { IfNone result (IsWithinGraph (graph_of parts.now [])) }
+        (λ i j. HasGraphFault (parts_graph parts.now []) (DependentOutOfRange i j)) at.0 at.1) }
+    ensures none { IfNone result (IsWithinGraph (parts_graph parts.now [])) }
 {
     for (i, part) in parts.iter().enumerate() {
         if let Some(j) = first_at_least(parts.len(), &part.dependents) {
@@ -87,11 +87,11 @@ fn first_at_least(bound: usize, list: &[u32]) -> Option<usize>
 /// The first entry that equals an earlier one of its part, by the places of the part and of the
 /// entry. Each process keeps the number of the last part that named it, counted from 1.
 fn repeated(alloc: Global, parts: &[Part]) -> Result<Option<(usize, usize)>, AllocError>
-    requires { IsWithinGraph (graph_of parts.now []) }
+    requires { IsWithinGraph (parts_graph parts.now []) }
     ensures some { IfOk result (λ found. IfSome found (λ at. IsFirstEntry
-        (λ i j. Has (graph_of parts.now []) (RepeatedDependent i j)) at.0 at.1)) }
+        (λ i j. HasGraphFault (parts_graph parts.now []) (RepeatedDependent i j)) at.0 at.1)) }
     ensures none { IfOk result (λ found. IfNone found
-        ((i j : ℕ) → Has (graph_of parts.now []) (RepeatedDependent i j) → ⊥)) }
+        ((i j : ℕ) → HasGraphFault (parts_graph parts.now []) (RepeatedDependent i j) → ⊥)) }
 {
     let mut last_named_by = vec![in alloc; 0; parts.len()]?;
     for (i, part) in parts.iter().enumerate() {
@@ -122,9 +122,9 @@ fn first_repeat(stamp: usize, list: &[u32], stamps: &mut [usize]) -> Option<usiz
 /// The first part that is active and has dependents.
 fn active_with_dependents(parts: &[Part]) -> Option<usize>
     ensures some { IfSome result (IsFirst
-        (λ i. Has (graph_of parts.now []) (ActiveWithDependents i))) }
+        (λ i. HasGraphFault (parts_graph parts.now []) (ActiveWithDependents i))) }
     ensures none { IfNone result
-        ((i : ℕ) → Has (graph_of parts.now []) (ActiveWithDependents i) → ⊥) }
+        ((i : ℕ) → HasGraphFault (parts_graph parts.now []) (ActiveWithDependents i) → ⊥) }
 {
     for (i, part) in parts.iter().enumerate() {
         if matches!(part.state, State::Active) && !part.dependents.is_empty() {

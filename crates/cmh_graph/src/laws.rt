@@ -2,7 +2,7 @@
 //! its contract is the law.
 
 ghost use Rattle.cmh_graph.specs.Path.{ReachLaw};
-ghost use Rattle.cmh_graph.specs.ChosenPath.{ChosenPathLaw, DistanceLaw, NoPathLaw, PathLengthLaw};
+ghost use Rattle.cmh_graph.specs.ChosenPath.{ChosenPathLaw, DistanceLaw, ChosenPathExistsLaw, PathLengthLaw};
 ghost use Rattle.cmh_graph.specs.Verdict.{ClosedSetLaw, VerdictLaw};
 ghost use Rattle.cmh_graph.specs.Core.{CoreLaw, GroupNumberLaw, LeaderLaw, LeadersLaw, RestLaw, RisingLaw};
 ghost use Rattle.cmh_graph.specs.Build.{IsWellFormed, WellFormedLaw};
@@ -17,7 +17,7 @@ pub fn law_closed_set()
 {}
 
 /// The test of reach says that there is a path.
-#[tactic(auto, using(crate::proofs::Reaching::reach_law))]
+#[tactic(auto, using(crate::proofs::PathLemmas::reach_law))]
 pub fn law_reach()
     ensures { ReachLaw }
 {}
@@ -34,9 +34,9 @@ pub fn law_chosen_path()
 {}
 
 /// There is no chosen path exactly where no awake process is reached.
-#[tactic(auto, using(crate::proofs::Choosing::no_path_law))]
-pub fn law_no_path()
-    ensures { NoPathLaw }
+#[tactic(auto, using(crate::proofs::ChosenPathLemmas::chosen_path_exists_law))]
+pub fn law_chosen_path_exists()
+    ensures { ChosenPathExistsLaw }
 {}
 
 /// The distance of a process is n exactly where a path of n dependencies leads from it to an awake

@@ -118,7 +118,7 @@ impl WaitGraph {
 }
 
 /// The marked places, by rising index.
-#[tactic(auto, using(crate::proofs::Listing::filter_indices_kept, crate::proofs::Listing::filter_indices_passed))]
+#[tactic(auto, using(crate::proofs::IndexLists::filter_indices_kept, crate::proofs::IndexLists::filter_indices_passed))]
 pub(crate) fn marked(alloc: Global, marks: &[bool]) -> Result<Vec<u32>, AllocError>
     requires { length marks.now < 2 ^ 32 }
     ensures { IfOk result (λ list.

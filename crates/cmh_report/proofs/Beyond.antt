@@ -11,8 +11,8 @@ use Rattle.cmh_graph.specs.Path.{reach_of, reaches, Reaches}
 use Rattle.cmh_graph.specs.Search.{is_marked}
 use Rattle.cmh_graph.proofs.Cores.{core_law}
 use Rattle.cmh_graph.proofs.Groups.{head_below, in_own_core, reaches_on, rest_law, rising_law, tail_rises}
-use Rattle.cmh_graph.proofs.Listing.{by_index}
-use Rattle.cmh_graph.proofs.Reaching.{cons_contains, contains_cons, contains_index, reaches_then, then_reaches}
+use Rattle.cmh_graph.proofs.IndexLists.{by_index}
+use Rattle.cmh_graph.proofs.PathLemmas.{cons_contains, contains_cons, contains_index, reaches_then, then_reaches}
 use Rattle.cmh_graph.proofs.Verdicts.{contains_filter, filter_contains, reached_within}
 use Rattle.cmh_report.specs.Known.{HasOneMore, IsKnownOf}
 use Rattle.cmh_report.specs.declared.known.Known.{Known}

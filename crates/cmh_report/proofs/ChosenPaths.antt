@@ -6,8 +6,8 @@ use Rattle.cmh_graph.specs.ChosenPath.{chosen_path, IsWayOut}
 use Rattle.cmh_graph.specs.Graph.{Graph, process_count, IsWithinGraph}
 use Rattle.cmh_graph.specs.Verdict.{is_deadlocked, IsDeadlocked}
 use Rattle.cmh_graph.proofs.Verdicts.{then_test}
-use Rattle.cmh_graph.proofs.Choosing.{chosen_path_law}
-use Rattle.cmh_graph.proofs.Reaching.{AllBelow, within}
+use Rattle.cmh_graph.proofs.ChosenPathLemmas.{chosen_path_law}
+use Rattle.cmh_graph.proofs.PathLemmas.{AllBelow, within}
 
 -- the two ways to say that all are below the bound agree
 all_below : (n : ℕ) (xs : List ℕ) → AllBelow n xs → All (λ q. q < n) xs

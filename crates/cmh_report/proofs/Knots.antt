@@ -9,11 +9,11 @@ use Rattle.cmh_graph.specs.Path.{Reaches}
 use Rattle.cmh_graph.specs.Verdict.{is_deadlocked}
 use Rattle.cmh_graph.proofs.Cores.{core_law}
 use Rattle.cmh_graph.proofs.Groups.{leader_in_core, reaches_on}
-use Rattle.cmh_graph.proofs.Reaching.{depends_within}
-use Rattle.cmh_graph.proofs.Searching.{waits}
+use Rattle.cmh_graph.proofs.PathLemmas.{depends_within}
+use Rattle.cmh_graph.proofs.PositionLemmas.{waits}
 use Rattle.cmh_work.specs.Leaders.{group_leader}
 use Rattle.cmh_report.specs.Group.{is_led_by}
-use Rattle.cmh_report.proofs.Joining.{leaders_lead}
+use Rattle.cmh_report.proofs.JoinedTexts.{leaders_lead}
 use Rattle.cmh_report.proofs.Numbers.{led_test}
 
 -- both parts hold

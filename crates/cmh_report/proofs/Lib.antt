@@ -1,14 +1,14 @@
 pub mod Beyond
 pub mod ChosenPaths
-pub mod Counting
 pub mod Counts
 pub mod Examples
-pub mod Joining
+pub mod JoinedTexts
 pub mod Knots
 pub mod Members
 pub mod Numbers
 pub mod Records
-pub mod Spaced
+pub mod SiteCounts
+pub mod SpacedNames
 pub mod TraceExamples
 pub mod Traces
 pub mod Words

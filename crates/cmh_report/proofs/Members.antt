@@ -6,7 +6,7 @@ use Rattle.std.proofs.lemmas.List.Elements.{All-filter}
 use Rattle.cmh_graph.specs.Graph.{Graph, process_count, indices}
 use Rattle.cmh_graph.specs.Path.{reaches, reach_of}
 use Rattle.cmh_graph.specs.Core.{rest_of}
-use Rattle.cmh_graph.proofs.Reaching.{index_within}
+use Rattle.cmh_graph.proofs.PathLemmas.{index_within}
 use Rattle.cmh_graph.proofs.Verdicts.{filter_contains}
 
 -- members of a reach are processes of the graph

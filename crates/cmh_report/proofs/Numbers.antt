@@ -11,8 +11,8 @@ use Rattle.cmh_graph.specs.Path.{reaches, reach_of}
 use Rattle.cmh_graph.specs.Verdict.{is_deadlocked}
 use Rattle.cmh_graph.specs.Core.{core_of, rest_of, leader_of, group_number}
 use Rattle.cmh_graph.proofs.Cores.{core_law}
-use Rattle.cmh_graph.proofs.Listing.{by_index, filter_agree_on, filter_indices_kept, filter_indices_passed}
-use Rattle.cmh_graph.proofs.Reaching.{index_within, reaches_then, then_reaches}
+use Rattle.cmh_graph.proofs.IndexLists.{by_index, filter_agree_on, filter_indices_kept, filter_indices_passed}
+use Rattle.cmh_graph.proofs.PathLemmas.{index_within, reaches_then, then_reaches}
 use Rattle.cmh_graph.proofs.Verdicts.{and_true, filter_contains}
 use Rattle.cmh_report.specs.Group.{is_led_by, leaders_up_to}
 use Rattle.cmh_work.specs.Leaders.{group_leader}

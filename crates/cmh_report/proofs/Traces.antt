@@ -19,11 +19,11 @@ use Rattle.cmh_run.specs.declared.delivery.Ending.{Ending}
 use Rattle.cmh_run.specs.declared.delivery.Ending.TheVariants.{Declared, AtRest, CutFree}
 use Rattle.cmh_run.specs.Choices.{chosen_place, HasNoHints}
 use Rattle.cmh_run.specs.Config.{Config, proc_at, ended_by, nothing_yet, start, delivered, received, without, hinted, answered}
-use Rattle.cmh_run.specs.Legal.{Going, Rule, begun, going_from, ready, restart, restarted_at, after, Leads, EndsAs, IsRun}
+use Rattle.cmh_run.specs.Legal.{Going, Rule, begun, going_from, ready, restart, restarted_at, after, DeliveriesLead, EndsAs, IsRun}
 use Rattle.cmh_run.specs.Run.{Run, IsRunOf}
-use Rattle.cmh_run.proofs.Decide.{choices_decide}
-use Rattle.cmh_run.proofs.Live.{Fine}
-use Rattle.cmh_run.proofs.Theorem.{by_test, Stands, stepped, first_start, ready_stands, status_none}
+use Rattle.cmh_run.proofs.Determinism.{runs_are_deterministic}
+use Rattle.cmh_run.proofs.LiveInvariant.{Fine}
+use Rattle.cmh_run.proofs.Configurations.{by_test, Stands, stepped, first_start, ready_stands, status_none}
 use Rattle.cmh_run.proofs.Tokens.{each_at}
 use Rattle.cmh_report.specs.Trace.{ending_lines, message_line, trace_text, IsBetween, IsFirstNamed, IsPlainRun, HasLines, OneTrace}
 use Rattle.cmh_report.specs.Report.{line}
@@ -32,7 +32,7 @@ use Rattle.cmh_report.specs.Report.{line}
 
 -- what leads on from a sound state has messages between processes of the graph alone
 leads_between : (rule : Rule) (g : Graph) (i : ℕ) → IsWithinGraph g → i < process_count g → is_awake g i ≡ false
-    → (log : List Delivery) (s end : Going) → Stands g i s.config → Leads rule g i s log end
+    → (log : List Delivery) (s end : Going) → Stands g i s.config → DeliveriesLead rule g i s log end
     → All (λ d. IsBetween g d.message) log
 leads_between rule g i ok within rests [] s end h l = All-nil (λ d. IsBetween g d.message)
 leads_between rule g i ok within rests (d ∷ log) s end h l =
@@ -47,7 +47,7 @@ leads_between rule g i ok within rests (d ∷ log) s end h l =
 
 -- where nothing was started, no message comes
 nothing_between : (rule : Rule) (g : Graph) (i : ℕ) (log : List Delivery) (end : Going)
-    → Leads rule g i (going_from (nothing_yet g) []) log end
+    → DeliveriesLead rule g i (going_from (nothing_yet g) []) log end
     → All (λ d. IsBetween g d.message) log
 nothing_between rule g i [] end l = All-nil (λ d. IsBetween g d.message)
 nothing_between rule g i (d ∷ log) end l = absurd (nothing_there l.1.there)
@@ -58,10 +58,11 @@ nothing_between rule g i (d ∷ log) end l = absurd (nothing_there l.1.there)
 -- a run of an idle process has messages between processes of the graph alone
 run_between : (rule : Rule) (g : Graph) (i : ℕ) (log : List Delivery) (end : Going) → IsWithinGraph g
     → is_idle g i ≡ true
-    → Leads rule g i (begun g i []) log end → All (λ d. IsBetween g d.message) log
+    → DeliveriesLead rule g i (begun g i []) log end → All (λ d. IsBetween g d.message) log
 run_between rule g i log end ok idle =
     by_test (is_awake g i)
-    (λ b. Leads rule g i (cond b (going_from (nothing_yet g) []) (going_from (start g i (nothing_yet g)) [])) log end
+    (λ b. DeliveriesLead rule g i (cond b (going_from (nothing_yet g) []) (going_from (start g i (nothing_yet g)) []))
+        log end
     → All (λ d. IsBetween g d.message) log)
     (λ e l. nothing_between rule g i log end l)
     (λ e l. leads_between rule g i ok (idle_within g i idle) e log (going_from (start g i (nothing_yet g)) []) end
@@ -116,7 +117,7 @@ ready_uncut g i s (n ∷ rest) h =
 
 -- whatever comes without hints
 leads_uncut : (rule : Rule) (g : Graph) (i : ℕ) (log : List Delivery) (s end : Going) → HasNoHints log
-    → IsUncut s.config.ended → Leads rule g i s log end
+    → IsUncut s.config.ended → DeliveriesLead rule g i s log end
     → IsUncut end.config.ended
 leads_uncut rule g i [] s end none h l =
     subst (λ (t : Going). IsUncut t.config.ended) l (ready_uncut g i s s.restarts h)
@@ -200,7 +201,8 @@ one_trace name choices g text other ending last a b =
     let its : IsRun (chosen_place choices) g r.initiator [] t.log t.ending b.plain.legal.end =
     subst (λ (i : ℕ). IsRun (chosen_place choices) g i [] t.log t.ending b.plain.legal.end)
     (sym same) b.plain.legal.legal in
-    let one = choices_decide choices g r.initiator [] r.log t.log r.ending t.ending a.plain.legal.end b.plain.legal.end
+    let one = runs_are_deterministic choices g r.initiator [] r.log t.log r.ending t.ending a.plain.legal.end
+        b.plain.legal.end
     a.plain.legal.legal its a.plain.unhinted b.plain.unhinted in
     let ended : r.ending ≡ t.ending = ends_once b.plain.legal.end.config r.ending t.ending
     (subst (λ (s : Going). EndsAs s.config r.ending) one.1 a.plain.legal.legal.ends) b.plain.legal.legal.ends in

@@ -9,7 +9,7 @@ use Rattle.cmh_run.specs.declared.delivery.Ending.TheVariants.{Declared, AtRest,
 use Rattle.cmh_run.specs.Choices.{HasNoHints}
 use Rattle.cmh_run.specs.declared.fault.RunFault.{RunFault}
 use Rattle.cmh_run.specs.declared.fault.RunFault.TheVariants.{Memory}
-use Rattle.cmh_run.specs.Run.{Run, IsRunOf, IsFirstFault}
+use Rattle.cmh_run.specs.Run.{Run, IsRunOf, IsFirstRunFault}
 use Rattle.cmh_report.specs.Report.{line}
 use Rattle.cmh_report.specs.declared.fault.AppFault.{AppFault}
 use Rattle.cmh_report.specs.declared.fault.AppFault.TheVariants as app
@@ -84,7 +84,7 @@ OneTrace =
 pub record HasNoRun (name choices : List ℕ) (fault : RunFault) (g : Graph) : Type 0 where
   pub initiator : ℕ
   pub named : IsFirstNamed g name initiator
-  pub cause : (fault ≡ Memory) ⊎ IsFirstFault g initiator choices [] fault
+  pub cause : (fault ≡ Memory) ⊎ IsFirstRunFault g initiator choices [] fault
 
 -- why a graph has no trace of that name by these choices: the name, the run, or memory for the text
 abbrev pub IsTraceFault : List ℕ → List ℕ → Graph → AppFault → Type 0

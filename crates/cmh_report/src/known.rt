@@ -204,7 +204,7 @@ fn reach_of(
 }
 
 /// The marked places, by rising index.
-#[tactic(auto, using(cmh_graph::proofs::Listing::filter_indices_kept, cmh_graph::proofs::Listing::filter_indices_passed))]
+#[tactic(auto, using(cmh_graph::proofs::IndexLists::filter_indices_kept, cmh_graph::proofs::IndexLists::filter_indices_passed))]
 fn marked(alloc: Global, marks: &[bool]) -> Result<Vec<u32>, AllocError>
     requires { length marks.now < 2 ^ 32 }
     ensures { IfOk result (λ list.

@@ -3,7 +3,7 @@
 ghost use Rattle.std.specs.Prelude.{◌≡◌, ◌≢◌, ◌++◌, ◌<◌, ◌+◌, ◌⊎◌, [], ℕ, true, IfOk, IfErr, OnOk, MatchOption, flat_map, string_bytes};
 ghost use Rattle.cmh_dump.specs.Source.{GaveAtMost};
 ghost use Rattle.cmh_dump.specs.declared.TheConstants.{MAX_BYTES};
-ghost use Rattle.cmh_run.specs.Run.{IsFirstFault};
+ghost use Rattle.cmh_run.specs.Run.{IsFirstRunFault};
 ghost use Rattle.cmh_run.specs.declared.fault.RunFault.{RunFault};
 ghost use Rattle.cmh_report.specs.Ends.{GaveGraph, IsAnswer, IsCutShort, IsRefused};
 ghost use Rattle.cmh_report.specs.Fault.{IfDump, IfNoSuchProcess, IfRun, IfUnwritten, IfWork, IfWriteFault};
@@ -127,7 +127,7 @@ fn plain_run(
     ensures plain { IfOk result (IsPlainRun choices.now graph.now) }
     ensures lines { IfOk result (HasLines graph.now) }
     ensures fault { IfErr result (λ e. (fault : RunFault) × (e ≡ AppFault.Run fault)
-        × ((fault ≡ RunFault.Memory) ⊎ IsFirstFault graph.now initiator choices.now [] fault)) }
+        × ((fault ≡ RunFault.Memory) ⊎ IsFirstRunFault graph.now initiator choices.now [] fault)) }
 {
     law_built_graph(graph);
     Ok(run(alloc, graph, initiator, choices, &mut NoHints)?)

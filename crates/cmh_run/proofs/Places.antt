@@ -10,7 +10,7 @@ use Rattle.cmh_graph.specs.Build.{IsWellFormed}
 use Rattle.cmh_run.specs.Config.{Config, proc_at}
 use Rattle.cmh_run.proofs.Tally.{tally, contains_from_tally}
 use Rattle.cmh_run.proofs.Tokens.{each_at, edge_from, edge_to, token, tokens, tokens-remove}
-use Rattle.cmh_run.proofs.Live.{Live, Fine}
+use Rattle.cmh_run.proofs.LiveInvariant.{Live, Fine}
 
 -- the message stands somewhere in the list
 abbrev pub IsIn : List Message → Message → Type 0

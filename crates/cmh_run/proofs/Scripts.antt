@@ -8,20 +8,20 @@ use Rattle.cmh_graph.specs.declared.verdict.Verdict.TheVariants.{Deadlocked, Fre
 use Rattle.cmh_graph.specs.Graph.{Graph, process_count, IsWithinGraph}
 use Rattle.cmh_graph.specs.Verdict.{verdict, verdicts, IsVerdict}
 use Rattle.cmh_graph.specs.Judge.{IsFirst}
-use Rattle.cmh_graph.proofs.Listing.{length-by_index, by_index}
+use Rattle.cmh_graph.proofs.IndexLists.{length-by_index, by_index}
 use Rattle.cmh_graph.proofs.Verdicts.{one_verdict, verdict_true}
-use Rattle.cmh_run.specs.Script.{Entry, is_for, told_at, AreTrueOf, IsOutOfRange, IsUntrue, Differs, IsNever}
-use Rattle.cmh_run.proofs.Theorem.{by_test}
+use Rattle.cmh_run.specs.Script.{ScriptLine, is_for, told_at, AreTrueOf, IsOutOfRange, IsUntrue, Differs, IsNever}
+use Rattle.cmh_run.proofs.Configurations.{by_test}
 
 -- ---- what entries tell
 
 -- true entries tell the truth of a process at each ask
-pub told_true : (g : Graph) (entries : List Entry) (ask p : ℕ) → AreTrueOf g entries
+pub told_true : (g : Graph) (entries : List ScriptLine) (ask p : ℕ) → AreTrueOf g entries
     → IfSome (told_at entries ask p) (λ v. IsVerdict g p v)
 told_true g [] ask p h = tt
 told_true g (e ∷ entries) ask p h =
     by_test (is_for ask p e)
-    (λ b. IfSome (option_map (λ (x : Entry). x.2) (cond b (Some e) (find (is_for ask p) entries)))
+    (λ b. IfSome (option_map (λ (x : ScriptLine). x.2) (cond b (Some e) (find (is_for ask p) entries)))
     (λ v. IsVerdict g p v))
     (λ t. subst (λ (q : ℕ). IsVerdict g q e.2) (eqb-true e.1 p (and_parts (eqb e.0 ask) (eqb e.1 p) t).1)
     (h 0 e refl))
@@ -47,24 +47,24 @@ first_same Holds Other i on back f =
 -- ---- entries out of range
 
 -- entry i is what the list has there
-entry_is : (entries : List Entry) (i : ℕ) (d e : Entry) → i < length entries
+entry_is : (entries : List ScriptLine) (i : ℕ) (d e : ScriptLine) → i < length entries
     → slice_get entries i ≡ Some e → get_or entries i d ≡ e
 entry_is entries i d e h s = same_Some (get_or entries i d) e (sym (slice_get-get_or entries i d h) ∙ s)
 
 -- an entry about a number that is too great is out of range
-pub out_of_range : (count : ℕ) (entries : List Entry) (i : ℕ) (d : Entry) → i < length entries
+pub out_of_range : (count : ℕ) (entries : List ScriptLine) (i : ℕ) (d : ScriptLine) → i < length entries
     → count ≤ (get_or entries i d).1 → IsOutOfRange count entries i
 out_of_range count entries i d h l = (get_or entries i d, slice_get-get_or entries i d h, l)
 
 -- an entry about a lesser number isn't
-pub in_range : (count : ℕ) (entries : List Entry) (i : ℕ) (d : Entry) → i < length entries
+pub in_range : (count : ℕ) (entries : List ScriptLine) (i : ℕ) (d : ScriptLine) → i < length entries
     → (get_or entries i d).1 < count → IsOutOfRange count entries i → ⊥
 in_range count entries i d h l o =
-    let same : (get_or entries i d).1 ≡ o.0.1 = ap (λ (e : Entry). e.1) (entry_is entries i d o.0 h o.1) in
+    let same : (get_or entries i d).1 ≡ o.0.1 = ap (λ (e : ScriptLine). e.1) (entry_is entries i d o.0 h o.1) in
     omega (arith, o.2)
 
 -- where no entry is out of range, each is about a number that is small enough
-pub each_in_range : (count : ℕ) (entries : List Entry) (i : ℕ) (d : Entry) → i < length entries
+pub each_in_range : (count : ℕ) (entries : List ScriptLine) (i : ℕ) (d : ScriptLine) → i < length entries
     → IsNever (IsOutOfRange count entries) → (get_or entries i d).1 < count
 each_in_range count entries i d h never =
     let not_more : count ≤ (get_or entries i d).1 → ⊥ = λ l. never i (out_of_range count entries i d h l) in
@@ -73,7 +73,7 @@ each_in_range count entries i d h never =
 -- ---- entries that aren't true
 
 -- an entry that tells another verdict than the list
-pub differs : (truth : List Verdict) (entries : List Entry) (i : ℕ) (d : Entry) (v : Verdict)
+pub differs : (truth : List Verdict) (entries : List ScriptLine) (i : ℕ) (d : ScriptLine) (v : Verdict)
     → i < length entries → (get_or entries i d).1 < length truth
     → get_or truth (get_or entries i d).1 v ≢ (get_or entries i d).2 → Differs truth entries i
 differs truth entries i d v h l other = (
@@ -84,11 +84,11 @@ differs truth entries i d v h l other = (
 )
 
 -- an entry that tells the verdict that stands in the list
-pub agrees : (truth : List Verdict) (entries : List Entry) (i : ℕ) (d : Entry) (v : Verdict)
+pub agrees : (truth : List Verdict) (entries : List ScriptLine) (i : ℕ) (d : ScriptLine) (v : Verdict)
     → i < length entries → (get_or entries i d).1 < length truth
     → get_or truth (get_or entries i d).1 v ≡ (get_or entries i d).2 → Differs truth entries i → ⊥
 agrees truth entries i d v h l same other =
-    other.2 (subst (λ (e : Entry). slice_get truth e.1 ≡ Some e.2) (entry_is entries i d other.0 h other.1)
+    other.2 (subst (λ (e : ScriptLine). slice_get truth e.1 ≡ Some e.2) (entry_is entries i d other.0 h other.1)
     (slice_get-get_or truth (get_or entries i d).1 v l ∙ ap Some same))
 
 -- the list of all verdicts has that of each process
@@ -102,7 +102,7 @@ pub verdict_count : (g : Graph) → length (verdicts g) ≡ process_count g
 verdict_count g = length-by_index g (verdict g)
 
 -- an entry that differs from the verdicts isn't true
-pub untrue : (g : Graph) (entries : List Entry) (k : ℕ) → IsWithinGraph g
+pub untrue : (g : Graph) (entries : List ScriptLine) (k : ℕ) → IsWithinGraph g
     → IsNever (IsOutOfRange (process_count g) entries) → Differs (verdicts g) entries k
     → IsUntrue g entries k
 untrue g entries k w never o = (
@@ -117,7 +117,7 @@ untrue g entries k w never o = (
 )
 
 -- an entry that isn't true differs from the verdicts
-pub untrue_differs : (g : Graph) (entries : List Entry) (k : ℕ) → IsWithinGraph g
+pub untrue_differs : (g : Graph) (entries : List ScriptLine) (k : ℕ) → IsWithinGraph g
     → IsNever (IsOutOfRange (process_count g) entries) → IsUntrue g entries k
     → Differs (verdicts g) entries k
 untrue_differs g entries k w never o = (
@@ -131,7 +131,7 @@ untrue_differs g entries k w never o = (
 )
 
 -- where no entry differs from the verdicts, all are true
-pub all_true : (g : Graph) (entries : List Entry) → IsWithinGraph g
+pub all_true : (g : Graph) (entries : List ScriptLine) → IsWithinGraph g
     → IsNever (IsOutOfRange (process_count g) entries) → IsNever (Differs (verdicts g) entries)
     → AreTrueOf g entries
 all_true g entries w never none i e s =
@@ -152,7 +152,8 @@ all_true g entries w never none i e s =
 
 -- ---- scripts over the list of all verdicts
 
-module _ (g : Graph) (truth : List Verdict) (entries : List Entry) (w : IsWithinGraph g) (is : truth ≡ verdicts g) where
+module _ (g : Graph) (truth : List Verdict) (entries : List ScriptLine) (w : IsWithinGraph g)
+    (is : truth ≡ verdicts g) where
   -- each entry is about a place of that list
   pub never_beyond : IsNever (IsOutOfRange (process_count g) entries) → IsNever (IsOutOfRange (length truth) entries)
   never_beyond never =

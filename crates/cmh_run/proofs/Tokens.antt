@@ -12,7 +12,7 @@ use Rattle.cmh_process.specs.declared.process.Proc.{Proc}
 use Rattle.cmh_process.specs.Process.{fresh}
 use Rattle.cmh_run.specs.Config.{query, proc_at}
 use Rattle.cmh_run.proofs.Tally.{one_if, tally}
-use Rattle.cmh_run.proofs.Steps.{upd, place}
+use Rattle.cmh_run.proofs.InvariantSteps.{upd, place}
 
 -- P of each message, by recursion
 abbrev pub Each : {X : Type 0} → (X → Type 0) → List X → Type 0

@@ -8,11 +8,11 @@ use Rattle.cmh_run.specs.declared.delivery.Ending.{Ending}
 use Rattle.cmh_run.specs.declared.fault.CheckFault.{CheckFault}
 use Rattle.cmh_run.specs.declared.fault.CheckFault.TheVariants.{NotIdle, NotUndelivered, FalseHint, AfterEnd, NotEnded, Memory}
 use Rattle.cmh_run.specs.Config.{Config}
-use Rattle.cmh_run.specs.Legal.{Going, begun, HintIsFit, any_place, Leads, EndsAs, IsRun}
+use Rattle.cmh_run.specs.Legal.{Going, begun, HintIsFit, any_place, DeliveriesLead, EndsAs, IsRun}
 
 -- the deliveries lead from the start to s, without a restart
 abbrev pub LeadTo : Graph → ℕ → List Delivery → Going → Type 0
-LeadTo g i log s = Leads any_place g i (begun g i []) log s
+LeadTo g i log s = DeliveriesLead any_place g i (begun g i []) log s
 
 -- the run is over, or nothing is undelivered
 abbrev pub HasEnded : Config → Type 0
@@ -60,26 +60,26 @@ pub record IsMisled (g : Graph) (i : ℕ) (log : List Delivery) (t : ℕ) : Type
   pub misled : ¬ (HintIsFit g state.config delivery.message delivery.hint)
 
 -- all deliveries are legal, and the run could go on
-pub record IsCutShort (g : Graph) (i : ℕ) (log : List Delivery) : Type 0 where
+pub record IsLogCutShort (g : Graph) (i : ℕ) (log : List Delivery) : Type 0 where
   pub idle : IsTrue (is_idle g i)
   pub state : Going
   pub leads : LeadTo g i log state
   pub going : ¬ (HasEnded state.config)
 
 -- the first thing that is wrong with the log
-abbrev pub IsFirstFault : Graph → ℕ → List Delivery → CheckFault → Type 0
-IsFirstFault g i log NotIdle = IsFalse (is_idle g i)
-IsFirstFault g i log (AfterEnd t) = IsAfterEnd g i log t
-IsFirstFault g i log (NotUndelivered t) = IsStray g i log t
-IsFirstFault g i log (FalseHint t) = IsMisled g i log t
-IsFirstFault g i log NotEnded = IsCutShort g i log
-IsFirstFault g i log Memory = ⊥
+abbrev pub IsFirstCheckFault : Graph → ℕ → List Delivery → CheckFault → Type 0
+IsFirstCheckFault g i log NotIdle = IsFalse (is_idle g i)
+IsFirstCheckFault g i log (AfterEnd t) = IsAfterEnd g i log t
+IsFirstCheckFault g i log (NotUndelivered t) = IsStray g i log t
+IsFirstCheckFault g i log (FalseHint t) = IsMisled g i log t
+IsFirstCheckFault g i log NotEnded = IsLogCutShort g i log
+IsFirstCheckFault g i log Memory = ⊥
 
 -- A log is legal with one ending, or has one first fault: never two of these.
 pub record HasOneAnswer (g : Graph) (i : ℕ) (log : List Delivery) : Type 0 where
   pub ending : (a b : Ending) → IsLegalRun g i log a → IsLegalRun g i log b → a ≡ b
-  pub sound : (a : Ending) (e : CheckFault) → IsLegalRun g i log a → IsFirstFault g i log e → ⊥
-  pub first : (e f : CheckFault) → IsFirstFault g i log e → IsFirstFault g i log f → e ≡ f
+  pub sound : (a : Ending) (e : CheckFault) → IsLegalRun g i log a → IsFirstCheckFault g i log e → ⊥
+  pub first : (e f : CheckFault) → IsFirstCheckFault g i log e → IsFirstCheckFault g i log f → e ≡ f
 
 -- every log of a run of a well-formed graph has one answer
 abbrev pub LogsHaveOneAnswer : Type 0

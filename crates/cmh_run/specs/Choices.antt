@@ -15,8 +15,8 @@ HasNoHints [] = ⊤
 HasNoHints (d ∷ rest) = (d.hint ≡ None) × HasNoHints rest
 
 -- without hints the choices leave one run
-abbrev pub ChoicesDecide : Type 0
-ChoicesDecide =
+abbrev pub RunsAreDeterministic : Type 0
+RunsAreDeterministic =
     (choices : List ℕ) (g : Graph) (i : ℕ) (restarts : List ℕ)
     (log other : List Delivery) (ending last : Ending) (end far : Going)
     → IsRun (chosen_place choices) g i restarts log ending end

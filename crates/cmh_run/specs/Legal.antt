@@ -77,12 +77,12 @@ abbrev pub any_place : Rule
 any_place done c x = true
 
 -- the deliveries lead from one state to another by the rule
-abbrev pub Leads : Rule → Graph → ℕ → Going → List Delivery → Going → Type 0
-Leads rule g i s [] end = ready g i s ≡ end
-Leads rule g i s (d ∷ rest) end =
+abbrev pub DeliveriesLead : Rule → Graph → ℕ → Going → List Delivery → Going → Type 0
+DeliveriesLead rule g i s [] end = ready g i s ≡ end
+DeliveriesLead rule g i s (d ∷ rest) end =
     let now = ready g i s in
     (x : ℕ) × MayCome g now.config x d × IsTrue (rule s.done now.config x)
-    × Leads rule g i (after g i now x d) rest end
+    × DeliveriesLead rule g i (after g i now x d) rest end
 
 -- how a run ends: it is over, or nothing is undelivered
 abbrev pub EndsAs : Config → Ending → Type 0
@@ -93,7 +93,7 @@ EndsAs c AtRest = (c.ended ≡ None) × (c.bag ≡ [])
 -- a legal run that has ended, by its deliveries
 pub record IsRun (rule : Rule) (g : Graph) (i : ℕ) (restarts : List ℕ)
     (log : List Delivery) (ending : Ending) (end : Going) : Type 0 where
-  pub leads : Leads rule g i (begun g i restarts) log end
+  pub leads : DeliveriesLead rule g i (begun g i restarts) log end
   pub ends : EndsAs end.config ending
 
 -- what a run that has ended tells of the graph
@@ -110,16 +110,16 @@ pub record IsRight (g : Graph) (i : ℕ) (restarts : List ℕ)
 
 -- Every legal run of an idle process tells the truth, whatever message comes next and whenever the
 -- initiator starts again.
-abbrev pub RunsAreRight : Type 0
-RunsAreRight =
+abbrev pub RunsAreSound : Type 0
+RunsAreSound =
     (rule : Rule) (g : Graph) (i : ℕ) (restarts : List ℕ)
     (log : List Delivery) (ending : Ending) (end : Going)
     → IsWithinGraph g → IsTrue (is_idle g i) → IsRun rule g i restarts log ending end
     → IsRight g i restarts ending end
 
 -- a run has at most two deliveries for each dependency and start
-abbrev pub RunsAreShort : Type 0
-RunsAreShort =
+abbrev pub DeliveriesAreBounded : Type 0
+DeliveriesAreBounded =
     (rule : Rule) (g : Graph) (i : ℕ) (restarts : List ℕ)
     (log : List Delivery) (ending : Ending) (end : Going)
     → IsWithinGraph g → IsTrue (is_idle g i) → IsRun rule g i restarts log ending end

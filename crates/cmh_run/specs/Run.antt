@@ -122,13 +122,13 @@ pub record IsAccepted (g : Graph) (i : ℕ) (choices restarts : List ℕ) : Type
   pub restarts_good : AreRestarts restarts
 
 -- the first reason for which there is no run
-abbrev pub IsFirstFault : Graph → ℕ → List ℕ → List ℕ → RunFault → Type 0
-IsFirstFault g i choices restarts NotIdle = IsFalse (is_idle g i)
-IsFirstFault g i choices restarts TooManyChoices =
+abbrev pub IsFirstRunFault : Graph → ℕ → List ℕ → List ℕ → RunFault → Type 0
+IsFirstRunFault g i choices restarts NotIdle = IsFalse (is_idle g i)
+IsFirstRunFault g i choices restarts TooManyChoices =
     IsTrue (is_idle g i) × (MAX_CHOICES < length choices)
-IsFirstFault g i choices restarts BadRestarts =
+IsFirstRunFault g i choices restarts BadRestarts =
     IsTrue (is_idle g i) × (length choices ≤ MAX_CHOICES) × ¬ (AreRestarts restarts)
-IsFirstFault g i choices restarts Memory = ⊥
+IsFirstRunFault g i choices restarts Memory = ⊥
 
 -- what an ending says of the initiator
 abbrev pub verdict_of : Ending → Verdict

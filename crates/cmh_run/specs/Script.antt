@@ -9,20 +9,20 @@ use Rattle.cmh_graph.specs.Judge.{IsFirst}
 use Rattle.cmh_graph.specs.Verdict.{IsVerdict}
 
 -- the number of an ask, a process, and what is told of it at that ask
-abbrev pub Entry : Type 0
-Entry = ℕ × ℕ × Verdict
+abbrev pub ScriptLine : Type 0
+ScriptLine = ℕ × ℕ × Verdict
 
 -- the entries, and how many asks there were
 pub record Script : Type 0 where
-  pub entries : List Entry
+  pub entries : List ScriptLine
   pub asked : ℕ
 
 -- the entry is for this ask of p
-abbrev pub is_for : ℕ → ℕ → Entry → Bool
+abbrev pub is_for : ℕ → ℕ → ScriptLine → Bool
 is_for ask p e = e.0 == ask && e.1 == p
 
 -- what the entries tell at this ask of p
-abbrev pub told_at : List Entry → ℕ → ℕ → Option Verdict
+abbrev pub told_at : List ScriptLine → ℕ → ℕ → Option Verdict
 told_at entries ask p = option_map (λ e. e.2) (find (is_for ask p) entries)
 
 -- what is told at the next ask, of p: after so many asks that they can't be counted, nothing
@@ -37,40 +37,40 @@ after_ask s = record {
 }
 
 -- each entry tells the truth about a process
-abbrev pub AreTrueOf : Graph → List Entry → Type 0
-AreTrueOf g entries = (i : ℕ) (e : Entry) → slice_get entries i ≡ Some e → IsVerdict g e.1 e.2
+abbrev pub AreTrueOf : Graph → List ScriptLine → Type 0
+AreTrueOf g entries = (i : ℕ) (e : ScriptLine) → slice_get entries i ≡ Some e → IsVerdict g e.1 e.2
 
 -- entry k is about none of so many processes
-abbrev pub IsOutOfRange : ℕ → List Entry → ℕ → Type 0
-IsOutOfRange count entries k = (e : Entry) × (slice_get entries k ≡ Some e) × (count ≤ e.1)
+abbrev pub IsOutOfRange : ℕ → List ScriptLine → ℕ → Type 0
+IsOutOfRange count entries k = (e : ScriptLine) × (slice_get entries k ≡ Some e) × (count ≤ e.1)
 
 -- entry k isn't true
-abbrev pub IsUntrue : Graph → List Entry → ℕ → Type 0
-IsUntrue g entries k = (e : Entry) × (slice_get entries k ≡ Some e) × ¬ (IsVerdict g e.1 e.2)
+abbrev pub IsUntrue : Graph → List ScriptLine → ℕ → Type 0
+IsUntrue g entries k = (e : ScriptLine) × (slice_get entries k ≡ Some e) × ¬ (IsVerdict g e.1 e.2)
 
 -- entry k tells another verdict than stands in the list
-abbrev pub Differs : List Verdict → List Entry → ℕ → Type 0
+abbrev pub Differs : List Verdict → List ScriptLine → ℕ → Type 0
 Differs truth entries k =
-    (e : Entry) × (slice_get entries k ≡ Some e) × (slice_get truth e.1 ≢ Some e.2)
+    (e : ScriptLine) × (slice_get entries k ≡ Some e) × (slice_get truth e.1 ≢ Some e.2)
 
 -- it holds of no place
 abbrev pub IsNever : (ℕ → Type 0) → Type 0
 IsNever Holds = (k : ℕ) → Holds k → ⊥
 
 -- the first fault of the entries: all processes are judged before any verdict
-abbrev pub IsFirstFault : Graph → List Entry → ScriptFault → Type 0
-IsFirstFault g entries (ProcessOutOfRange i) =
+abbrev pub IsFirstScriptFault : Graph → List ScriptLine → ScriptFault → Type 0
+IsFirstScriptFault g entries (ProcessOutOfRange i) =
     IsFirst (IsOutOfRange (process_count g) entries) i
-IsFirstFault g entries (FalseVerdict i) =
+IsFirstScriptFault g entries (FalseVerdict i) =
     IsNever (IsOutOfRange (process_count g) entries) × IsFirst (IsUntrue g entries) i
-IsFirstFault g entries Memory = ⊥
+IsFirstScriptFault g entries Memory = ⊥
 
 -- with the same entries two scripts speak of the same graphs
 pub scripts_keep_graphs : (a b : Script) (g : Graph) → a.entries ≡ b.entries
     → AreTrueOf g a.entries ↔ AreTrueOf g b.entries
 scripts_keep_graphs a b g e = (
-  λ h. subst (λ (xs : List Entry). AreTrueOf g xs) e h,
-  λ h. subst (λ (xs : List Entry). AreTrueOf g xs) (sym e) h,
+  λ h. subst (λ (xs : List ScriptLine). AreTrueOf g xs) e h,
+  λ h. subst (λ (xs : List ScriptLine). AreTrueOf g xs) (sym e) h,
 )
 
 -- with the same entries both or neither are silent

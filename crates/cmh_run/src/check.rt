@@ -3,7 +3,7 @@
 ghost use Rattle.std.specs.Prelude.{◌≡◌, ◌⊎◌, ◌↔◌, IfOk, IfErr};
 ghost use Rattle.cmh_graph.specs.Verdict.{IsDeadlocked};
 ghost use Rattle.cmh_run.specs.declared.delivery.Ending.TheVariants.{Declared};
-ghost use Rattle.cmh_run.specs.Check.{IsLegalRun, IsFirstFault};
+ghost use Rattle.cmh_run.specs.Check.{IsLegalRun, IsFirstCheckFault};
 
 use crate::auditor::Auditor;
 use crate::truth::truth_of;
@@ -28,7 +28,7 @@ pub fn check_run(
     ensures true_verdict { IfOk result (λ ending.
         (ending ≡ Declared) ↔ IsDeadlocked graph.now initiator) }
     ensures fault { IfErr result (λ e.
-        (e ≡ CheckFault.Memory) ⊎ IsFirstFault graph.now initiator log.now e) }
+        (e ≡ CheckFault.Memory) ⊎ IsFirstCheckFault graph.now initiator log.now e) }
 {
     if initiator >= graph.len() || !graph.is_idle(initiator) {
         return Err(CheckFault::NotIdle);

@@ -2,17 +2,17 @@
 //! contract is the law.
 
 ghost use Rattle.cmh_run.specs.Check.{LogsHaveOneAnswer};
-ghost use Rattle.cmh_run.specs.Choices.{ChoicesDecide};
+ghost use Rattle.cmh_run.specs.Choices.{RunsAreDeterministic};
 ghost use Rattle.cmh_run.specs.Engaged.{WhoEngages, AwakeOnesStartNothing};
 ghost use Rattle.cmh_run.specs.Last.{LastComputationIsARun};
-ghost use Rattle.cmh_run.specs.Legal.{RunsAreRight, RunsAreShort};
+ghost use Rattle.cmh_run.specs.Legal.{RunsAreSound, DeliveriesAreBounded};
 ghost use Rattle.cmh_run.specs.Run.{OneRun};
 
 /// A run that has ended tells whether its initiator is deadlocked. Where it is declared, everyone
 /// who is engaged is deadlocked too, and no message of the last start is undelivered.
-#[tactic(auto, using(crate::proofs::Right::runs_are_right))]
-pub fn law_runs_are_right()
-    ensures { RunsAreRight }
+#[tactic(auto, using(crate::proofs::Soundness::runs_are_sound))]
+pub fn law_runs_sound()
+    ensures { RunsAreSound }
 {}
 
 /// Whatever the ending, the initiator engaged first, unless it is awake, and nobody twice; the
@@ -24,21 +24,21 @@ pub fn law_who_engages()
 
 /// An awake initiator has the empty run: it comes to rest at once, with nobody engaged, and doesn't
 /// start again.
-#[tactic(auto, using(crate::proofs::Engaging::awake_ones_start_nothing))]
+#[tactic(auto, using(crate::proofs::EngagedLemmas::awake_ones_start_nothing))]
 pub fn law_awake_ones_start_nothing()
     ensures { AwakeOnesStartNothing }
 {}
 
 /// A run has at most two deliveries for each dependency and start.
-#[tactic(auto, using(crate::proofs::Bound::runs_are_short))]
-pub fn law_runs_are_short()
-    ensures { RunsAreShort }
+#[tactic(auto, using(crate::proofs::DeliveryBound::deliveries_are_bounded))]
+pub fn law_delivery_bound()
+    ensures { DeliveriesAreBounded }
 {}
 
 /// Without hints a list of choices leaves one run, with one ending.
-#[tactic(auto, using(crate::proofs::Decide::choices_decide))]
-pub fn law_choices_decide()
-    ensures { ChoicesDecide }
+#[tactic(auto, using(crate::proofs::Determinism::runs_are_deterministic))]
+pub fn law_runs_deterministic()
+    ensures { RunsAreDeterministic }
 {}
 
 /// Without hints there is one run to be kept of an initiator, a list of choices and a list of

@@ -166,7 +166,7 @@ impl Network {
 
     /// `deliver`, with what hints say of the receiver, who are asked just before it engages.
     #[inline(always)]
-    #[tactic(auto, using(crate::proofs::Asking::fit_where_asked, crate::proofs::Asking::asked_of_query, crate::proofs::Asking::engaged_receives))]
+    #[tactic(auto, using(crate::proofs::QueryLemmas::fit_where_asked, crate::proofs::QueryLemmas::asked_of_query, crate::proofs::QueryLemmas::engaged_receives))]
     pub(crate) fn deliver_asking<H: Hints>(
         &mut self,
         graph: &WaitGraph,
@@ -410,7 +410,7 @@ impl Network {
     /// A query engages nobody. So it isn't read how many dependents the receiver has, nor asked again
     /// whether it engages.
     #[inline(always)]
-    #[tactic(auto, using(crate::proofs::Asking::answers))]
+    #[tactic(auto, using(crate::proofs::QueryLemmas::answers))]
     fn answer(&mut self, initiator: u32, message: Message) -> Result<(), AllocError>
         requires within { message.to < length self.old.procs }
         requires stale { IsFalse (engages (proc_at self.old.procs message.to) message.number) }

@@ -20,7 +20,7 @@ pub(crate) fn head(kind: Kind, initiator: u32, number: u32, from: u32) -> u64
 
 /// The word of a message, in constant time.
 #[inline(always)]
-#[tactic(auto, using(crate::proofs::Packing::packed_is))]
+#[tactic(auto, using(crate::proofs::PackedLemmas::packed_is))]
 pub(crate) fn packed(message: Message) -> u64
     requires sender { CanSend message.initiator message.number message.from }
     requires to { message.to < 4096 }

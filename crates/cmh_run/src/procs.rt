@@ -29,7 +29,7 @@ impl Model for Procs {
 
 impl Procs {
     /// So many processes that have heard of nothing.
-    #[tactic(auto, using(crate::proofs::Touching::none_touched))]
+    #[tactic(auto, using(crate::proofs::TouchedProcesses::none_touched))]
     pub(crate) fn new(alloc: Global, count: usize) -> Result<Procs, AllocError>
         ensures { IfOk result (λ p. p ≡ replicate count fresh) }
     {
@@ -56,7 +56,7 @@ impl Procs {
     }
 
     /// The process starts, with so many dependents.
-    #[tactic(auto, using(crate::proofs::Touching::one_touched))]
+    #[tactic(auto, using(crate::proofs::TouchedProcesses::one_touched))]
     pub(crate) fn start(&mut self, k: u32, size: u32) -> Result<Action, AllocError>
         requires within { k < length self.old }
         requires next { (proc_at self.old k).latest + 1 < 2 ^ 32 }
@@ -69,7 +69,7 @@ impl Procs {
     }
 
     /// A query with this number has come to the process, which has so many dependents.
-    #[tactic(auto, using(crate::proofs::Touching::one_touched))]
+    #[tactic(auto, using(crate::proofs::TouchedProcesses::one_touched))]
     pub(crate) fn engage(
         &mut self,
         k: u32,
@@ -89,7 +89,7 @@ impl Procs {
 
     /// `engage` where it takes no memory to note that the process takes part, and else nothing.
     #[inline(always)]
-    #[tactic(auto, using(crate::proofs::Touching::one_touched))]
+    #[tactic(auto, using(crate::proofs::TouchedProcesses::one_touched))]
     pub(crate) fn engage_in_room(&mut self, k: u32, number: u32, from: u32, size: u32) -> bool
         requires { k < length self.old }
         ensures procs { IsTrue result → (self.new
@@ -113,7 +113,7 @@ impl Procs {
     }
 
     /// A reply with this number has come to the process.
-    #[tactic(auto, using(crate::proofs::Touching::replied_in_vain))]
+    #[tactic(auto, using(crate::proofs::TouchedProcesses::replied_in_vain))]
     pub(crate) fn reply(&mut self, k: u32, number: u32) -> Action
         requires { k < length self.old }
         ensures procs { self.new ≡ slice_set self.old k (proc_replied (proc_at self.old k) number) }

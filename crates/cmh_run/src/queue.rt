@@ -38,7 +38,7 @@ impl Queue {
 
     /// Adds a message as the last.
     #[inline(always)]
-    #[tactic(auto, using(crate::proofs::Packing::one_more))]
+    #[tactic(auto, using(crate::proofs::PackedLemmas::one_more))]
     pub(crate) fn add(&mut self, message: Message) -> Result<(), AllocError>
         requires sender { CanSend message.initiator message.number message.from }
         requires to { message.to < 4096 }

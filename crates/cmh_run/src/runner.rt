@@ -7,7 +7,7 @@ ghost use Rattle.cmh_run.specs.Choices.{HasNoHints};
 ghost use Rattle.cmh_run.specs.Config.{nothing_yet};
 ghost use Rattle.cmh_run.specs.Engaged.{AreEngaged};
 ghost use Rattle.cmh_run.specs.Follow.{Follows};
-ghost use Rattle.cmh_run.specs.Run.{IsRising, IsAccepted, IsFirstFault, IsRunOf, TellsTruth, empty_run_of};
+ghost use Rattle.cmh_run.specs.Run.{IsRising, IsAccepted, IsFirstRunFault, IsRunOf, TellsTruth, empty_run_of};
 
 use crate::choices::Choices;
 use crate::network::Network;
@@ -60,7 +60,7 @@ impl<'a> Runner<'a> {
         ensures same { self.new ≡ self.old }
         ensures accepted { IfOk result (λ r. IsAccepted self.old initiator choices.now []) }
         ensures fault { IfErr result (λ e. (e ≡ RunFault.Memory)
-            ⊎ IsFirstFault self.old initiator choices.now [] e) }
+            ⊎ IsFirstRunFault self.old initiator choices.now [] e) }
         ensures initiator { IfOk result (λ r. r.initiator ≡ initiator) }
         ensures legal { IfOk result (IsRunOf self.old choices.now []) }
         ensures once { IfOk result (λ r. r.restarted ≡ 0) }
@@ -88,7 +88,7 @@ impl<'a> Runner<'a> {
         ensures same { self.new ≡ self.old }
         ensures accepted { IfOk result (λ r. IsAccepted self.old initiator choices.now restarts.now) }
         ensures fault { IfErr result (λ e. (e ≡ RunFault.Memory)
-            ⊎ IsFirstFault self.old initiator choices.now restarts.now e) }
+            ⊎ IsFirstRunFault self.old initiator choices.now restarts.now e) }
         ensures initiator { IfOk result (λ r. r.initiator ≡ initiator) }
         ensures legal { IfOk result (IsRunOf self.old choices.now restarts.now) }
         ensures restarted { IfOk result (λ r. r.restarted ≤ length restarts.now) }
@@ -130,7 +130,7 @@ fn judge(
     ensures graph { IfOk result (λ u. IsWellFormed graph.now) }
     ensures ok { IfOk result (λ u. IsAccepted graph.now initiator choices.now restarts.now) }
     ensures fault { IfErr result (λ e.
-        IsFirstFault graph.now initiator choices.now restarts.now e) }
+        IsFirstRunFault graph.now initiator choices.now restarts.now e) }
 {
     if initiator >= graph.len() || !graph.is_idle(initiator) {
         return Err(RunFault::NotIdle);

@@ -4,7 +4,7 @@ ghost use Rattle.std.specs.Prelude.{◌≡◌, ◌⊎◌, [], ◌*◌, ◌<◌, 
 ghost use Rattle.cmh_graph.specs.Graph.{is_awake, dependency_count};
 ghost use Rattle.cmh_run.specs.Choices.{HasNoHints};
 ghost use Rattle.cmh_run.specs.Engaged.{AreEngaged};
-ghost use Rattle.cmh_run.specs.Run.{IsAccepted, IsFirstFault, IsRunOf, TellsTruth, empty_run_of};
+ghost use Rattle.cmh_run.specs.Run.{IsAccepted, IsFirstRunFault, IsRunOf, TellsTruth, empty_run_of};
 
 use crate::runner::Runner;
 use crate::{Hints, RunFault, RunLog};
@@ -33,7 +33,7 @@ pub fn run_again<H: Hints>(
     ensures accepted { IfOk result (λ r.
         IsAccepted graph.now initiator choices.now restarts.now) }
     ensures fault { IfErr result (λ e. (e ≡ RunFault.Memory)
-        ⊎ IsFirstFault graph.now initiator choices.now restarts.now e) }
+        ⊎ IsFirstRunFault graph.now initiator choices.now restarts.now e) }
     ensures initiator { IfOk result (λ r. r.initiator ≡ initiator) }
     ensures legal { IfOk result (IsRunOf graph.now choices.now restarts.now) }
     ensures restarted { IfOk result (λ r. r.restarted ≤ length restarts.now) }
@@ -59,7 +59,7 @@ pub fn run<H: Hints>(
     requires { H.speaks_of hints.old graph.now }
     ensures accepted { IfOk result (λ r. IsAccepted graph.now initiator choices.now []) }
     ensures fault { IfErr result (λ e. (e ≡ RunFault.Memory)
-        ⊎ IsFirstFault graph.now initiator choices.now [] e) }
+        ⊎ IsFirstRunFault graph.now initiator choices.now [] e) }
     ensures initiator { IfOk result (λ r. r.initiator ≡ initiator) }
     ensures legal { IfOk result (IsRunOf graph.now choices.now []) }
     ensures once { IfOk result (λ r. r.restarted ≡ 0) }

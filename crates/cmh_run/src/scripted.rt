@@ -11,7 +11,7 @@ ghost use Rattle.cmh_graph.specs.contracts.verdict.VerdictPartialEq.TheImpl as v
 ghost use Rattle.cmh_graph.specs.Judge.{IsFirst};
 ghost use Rattle.cmh_graph.specs.Graph.{Graph, process_count};
 ghost use Rattle.cmh_graph.specs.Verdict.{IsVerdict};
-ghost use Rattle.cmh_run.specs.Script.{AreTrueOf, scripts_keep_graphs, scripts_keep_silent, IsOutOfRange, Differs, IsNever, IsFirstFault, told_at, answer_of, after_ask};
+ghost use Rattle.cmh_run.specs.Script.{AreTrueOf, scripts_keep_graphs, scripts_keep_silent, IsOutOfRange, Differs, IsNever, IsFirstScriptFault, told_at, answer_of, after_ask};
 
 use crate::truth::truth_of;
 use crate::{Hints, ScriptFault};
@@ -47,7 +47,7 @@ impl Scripted {
             IsNever (IsOutOfRange (process_count graph.now) entries.now)) }
         ensures speaks { IfOk result (λ s. AreTrueOf graph.now s.entries) }
         ensures fault { IfErr result (λ e.
-            (e ≡ ScriptFault.Memory) ⊎ IsFirstFault graph.now entries.now e) }
+            (e ≡ ScriptFault.Memory) ⊎ IsFirstScriptFault graph.now entries.now e) }
     {
         if let Some(i) = first_out_of_range(graph.len(), entries) {
             return Err(ScriptFault::ProcessOutOfRange(i));

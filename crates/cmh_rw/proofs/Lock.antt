@@ -15,7 +15,7 @@ use Rattle.cmh_rw.specs.declared.machine.Event.TheVariants.{Admit, Leave, TryWri
 use Rattle.cmh_rw.specs.declared.view.LockView.{LockView}
 use Rattle.cmh_rw.specs.Machine.{world, total, writes, reads, retreats, turn, IsLawful}
 use Rattle.cmh_rw.specs.View.{away, less_share, new_lock, both_shares, spent_lock}
-use Rattle.cmh_rw.specs.Rule.{LockMoment, state_of, share_of, HasShare, Has, Kept}
+use Rattle.cmh_rw.specs.Rule.{LockMoment, state_of, share_of, HasShare, HasLockShare, LockRule}
 use Rattle.cmh_rw.specs.Steps.{after_try}
 use Rattle.cmh_rw.proofs.Lawful.{total-set, total-in, total-snoc, lawful-set, turn-lawful}
 
@@ -24,7 +24,7 @@ abbrev LockSeat : Type 0
 LockSeat = Me (Unit {0}) LockView
 
 -- who reads or retreats has a share
-holds_one : (key : Graph) (v : LockView) → Has key v → reads v.state + retreats v.state ≤ v.share
+holds_one : (key : Graph) (v : LockView) → HasLockShare key v → reads v.state + retreats v.state ≤ v.share
 holds_one key v h = let P : SeatState → Type 0 = λ s. HasShare key v.graph v.share s → reads s + retreats s ≤ v.share in
     elim v.state as P [
       | Away ↦ λ h. omega arith
@@ -35,14 +35,15 @@ holds_one key v h = let P : SeatState → Type 0 = λ s. HasShare key v.graph v.
     ] h
 
 -- so readers and retreaters are no more than the shares
-holders : (key : Graph) (views : List LockView) → ((i : ℕ) (v : LockView) → get_elem? views i ≡ some v → Has key v)
+holders : (key : Graph) (views : List LockView)
+    → ((i : ℕ) (v : LockView) → get_elem? views i ≡ some v → HasLockShare key v)
     → total reads (map state_of views) + total retreats (map state_of views) ≤ total share_of views
 holders key [] each = omega arith
 holders key (v ∷ vs) each =
     let h = holds_one key v (each zero v refl) in let r = holders key vs (λ i w e. each (suc i) w e) in omega arith
 
 -- the lock word is far from the end of its range
-pub word-small : (key : Graph) (s : LockMoment) → Kept key s → get_or s.words 0 0 < 8589934592
+pub word-small : (key : Graph) (s : LockMoment) → LockRule key s → get_or s.words 0 0 < 8589934592
 word-small key s h =
     let k = h.lock.word in
     let o = h.lock.one_writer in
@@ -51,7 +52,7 @@ word-small key s h =
     omega arith
 
 -- whoever is held counts in the word
-pub counts : (key : Graph) (s : LockMoment) (id : ℕ) (v : LockView) → Kept key s → get_elem? s.views id ≡ some v
+pub counts : (key : Graph) (s : LockMoment) (id : ℕ) (v : LockView) → LockRule key s → get_elem? s.views id ≡ some v
     → 4294967296 * writes v.state + reads v.state + retreats v.state ≤ get_or s.words 0 0
 counts key s id v h at = let k = h.lock.word in let e = at_map state_of s.views id v at in
     let a = total-in writes (map state_of s.views) id v.state e in
@@ -60,11 +61,11 @@ counts key s id v h at = let k = h.lock.word in let e = at_map state_of s.views 
     omega arith
 
 -- a step on word 0 that is an event of this seat, and changes neither its share nor its graph
-pub placed : (key : Graph) (e : Event) (s : LockMoment) (n id : ℕ) (me : LockSeat) (w : LockView) → Kept key s
+pub placed : (key : Graph) (e : Event) (s : LockMoment) (n id : ℕ) (me : LockSeat) (w : LockView) → LockRule key s
     → get_elem? s.views id ≡ some me.0
     → n ≡ (turn e (get_or s.words 0 0) me.0.state).0 → w.state ≡ (turn e (get_or s.words 0 0) me.0.state).1
-    → w.share ≡ me.0.share → Has key w
-    → Kept key (stepped s 0 n id me.1 w keeps)
+    → w.share ≡ me.0.share → HasLockShare key w
+    → LockRule key (stepped s 0 n id me.1 w keeps)
 placed key e s n id me w h at is state share has =
     let x = get_or s.words 0 0 in
     let wide = h.wide in
@@ -80,11 +81,11 @@ placed key e s n id me w h at is state share has =
           map-set state_of s.views id w ∙ ap (set (map state_of s.views) id) state in
           subst IsLawful (λ k. world (sym word k) (sym seats k)) law;
       shares = omega arith;
-      each = λ i v e. ⊎_elim (λ t. subst (Has key) t.1 has) (λ t. h.each i v t.1) (at_set s.views id i w v e);
+      each = λ i v e. ⊎_elim (λ t. subst (HasLockShare key) t.1 has) (λ t. h.each i v t.1) (at_set s.views id i w v e);
     }
 
 -- an unspent view keeps its share and its graph in another unspent state
-has_same : (key : Graph) (v : LockView) (b : SeatState) → Has key v → v.state ≢ Spent → b ≢ Spent
+has_same : (key : Graph) (v : LockView) (b : SeatState) → HasLockShare key v → v.state ≢ Spent → b ≢ Spent
     → HasShare key v.graph v.share b
 has_same key v b h here there = let Q : Type 0 = (0 < v.share) × (v.graph ≡ key) in
     let q : Q =
@@ -115,9 +116,9 @@ cond-not_spent true x y p q = p
 cond-not_spent false x y p q = q
 
 -- the rule after the step, with the view that the step tells: what a rule over more of a view stands on
-pub enter_kept : (key : Graph) (s : LockMoment) (id : ℕ) (me : LockSeat) → me.0.state ≡ Away → Kept key s
+pub enter_kept : (key : Graph) (s : LockMoment) (id : ℕ) (me : LockSeat) → me.0.state ≡ Away → LockRule key s
     → get_elem? s.views id ≡ some me.0
-    → Kept key
+    → LockRule key
     (stepped s 0 ((get_or s.words 0 0 + 1) % 18446744073709551616) id me.1
     (after_try (Admit 0) (get_or s.words 0 0) me.0) keeps)
 enter_kept key s id me away h at =
@@ -145,8 +146,8 @@ in-not_spent a is e = let z : reads a + retreats a ≡ 0 = ap (λ b. reads b + r
 
 -- a reader leaves, or a seat retreats
 pub leave_kept : (key : Graph) (s : LockMoment) (id : ℕ) (me : LockSeat) → reads me.0.state + retreats me.0.state ≡ 1
-    → Kept key s → get_elem? s.views id ≡ some me.0
-    → Kept key
+    → LockRule key s → get_elem? s.views id ≡ some me.0
+    → LockRule key
     (stepped s 0 ((get_or s.words 0 0 + 18446744073709551615) % 18446744073709551616) id me.1 (away me.0) keeps)
 leave_kept key s id me inside h at =
     let x = get_or s.words 0 0 in let small = word-small key s h in let one = counts key s id me.0 h at in
@@ -157,9 +158,9 @@ leave_kept key s id me inside h at =
     (sym (ap (λ p. p.1) t)) refl (has_same key me.0 Away (h.each id me.0 at) (in-not_spent me.0.state inside) (λ e. cc))
 
 -- a writer ends its hold
-pub end_kept : (key : Graph) (s : LockMoment) (id : ℕ) (me : LockSeat) → me.0.state ≡ Writing → Kept key s
+pub end_kept : (key : Graph) (s : LockMoment) (id : ℕ) (me : LockSeat) → me.0.state ≡ Writing → LockRule key s
     → get_elem? s.views id ≡ some me.0
-    → Kept key
+    → LockRule key
     (stepped s 0 ((get_or s.words 0 0 + 18446744069414584320) % 18446744073709551616) id me.1 (away me.0) keeps)
 end_kept key s id me writing h at =
     let x = get_or s.words 0 0 in let small = word-small key s h in let one = counts key s id me.0 h at in
@@ -186,9 +187,9 @@ pair-not_spent true x = λ e. cc
 pair-not_spent false x = λ e. cc
 
 -- a seat becomes the writer where the word is 0
-pub take_kept : (key : Graph) (s : LockMoment) (id : ℕ) (me : LockSeat) → me.0.state ≡ Away → Kept key s
+pub take_kept : (key : Graph) (s : LockMoment) (id : ℕ) (me : LockSeat) → me.0.state ≡ Away → LockRule key s
     → get_elem? s.views id ≡ some me.0
-    → Kept key
+    → LockRule key
     (stepped s 0 (either (eqb (get_or s.words 0 0) 0) 4294967296 (get_or s.words 0 0)) id me.1
     (after_try (TryWrite 0) (get_or s.words 0 0) me.0) keeps)
 take_kept key s id me away h at = let x = get_or s.words 0 0 in let w = after_try (TryWrite 0) x me.0 in
@@ -221,16 +222,16 @@ quiet word l i a b at away light h =
     lawful-set word word l i a b at h (omega arith) (omega arith) (λ p q. let z = h.alone (omega arith) in omega arith)
 
 -- who is away has a share
-has_share : (key : Graph) (v : LockView) → Has key v → v.state ≡ Away → (0 < v.share) × (v.graph ≡ key)
+has_share : (key : Graph) (v : LockView) → HasLockShare key v → v.state ≡ Away → (0 < v.share) × (v.graph ≡ key)
 has_share key v h away = subst (λ s. HasShare key v.graph v.share s) away h
 
 -- and is known by it
-has_from : (key : Graph) (v : LockView) → v.state ≡ Away → (0 < v.share) × (v.graph ≡ key) → Has key v
+has_from : (key : Graph) (v : LockView) → v.state ≡ Away → (0 < v.share) × (v.graph ≡ key) → HasLockShare key v
 has_from key v away h = subst (λ s. HasShare key v.graph v.share s) (sym away) h
 
 -- a seat that is away is split
 pub split_kept : (key : Graph) (id : ℕ) (v : LockView) → v.state ≡ Away → 1 < v.share
-    → Splits (Kept key) id v (less_share v) (new_lock v)
+    → Splits (LockRule key) id v (less_share v) (new_lock v)
 split_kept key id v away more s h at =
     let sum = total-set share_of s.views id v (less_share v) at in
     let all = total-snoc share_of (set s.views id (less_share v)) (new_lock v) in
@@ -249,15 +250,15 @@ split_kept key id v away more s h at =
           (lawful-snoc (get_or s.words 0 0) (set (map state_of s.views) id v.state) here);
       shares = omega arith;
       each = λ i u g. ⊎_elim
-          (λ old. ⊎_elim (λ t. subst (Has key) t.1 (has_from key (less_share v) away (omega arith, has.1)))
+          (λ old. ⊎_elim (λ t. subst (HasLockShare key) t.1 (has_from key (less_share v) away (omega arith, has.1)))
           (λ t. h.each i u t.1) (at_set s.views id i (less_share v) u old))
-          (λ new. subst (Has key) new (omega arith, has.1))
+          (λ new. subst (HasLockShare key) new (omega arith, has.1))
           (at_snoc (set s.views id (less_share v)) (new_lock v) u i g);
     }
 
 -- a seat that is away is joined into another
 pub join_kept : (key : Graph) (id : ℕ) (v : LockView) (other : ℕ) (w : LockView) → v.state ≡ Away → w.state ≡ Away
-    → Joins (Kept key) id v other w (both_shares v w) spent_lock
+    → Joins (LockRule key) id v other w (both_shares v w) spent_lock
 join_kept key id v other w away away' s h at apart there = let mid = set s.views id (both_shares v w) in
     let sum = total-set share_of s.views id v (both_shares v w) at in
     let all = total-set share_of mid other w spent_lock there in
@@ -278,14 +279,14 @@ join_kept key id v other w away away' s h at apart there = let mid = set s.views
           quiet x (map state_of mid) other w.state Spent e' away' refl one' in
           subst (λ l. IsLawful (world x l)) (sym (map-set state_of mid other spent_lock)) two;
       shares = omega arith;
-      each = λ i u g. ⊎_elim (λ t. subst (Has key) t.1 refl)
-          (λ t. ⊎_elim (λ t'. subst (Has key) t'.1 (has_from key (both_shares v w) away (omega arith, has.1)))
+      each = λ i u g. ⊎_elim (λ t. subst (HasLockShare key) t.1 refl)
+          (λ t. ⊎_elim (λ t'. subst (HasLockShare key) t'.1 (has_from key (both_shares v w) away (omega arith, has.1)))
           (λ t'. h.each i u t'.1) (at_set s.views id i (both_shares v w) u t.1))
           (at_set mid other i spent_lock u g);
     }
 
 -- a seat with each share is the only one that is not spent
-spent_one : (key : Graph) (v : LockView) → Has key v → v.share ≡ 0
+spent_one : (key : Graph) (v : LockView) → HasLockShare key v → v.share ≡ 0
     → writes v.state + reads v.state + retreats v.state ≡ 0
 spent_one key v h z =
     let P : SeatState → Type 0 = λ s. HasShare key v.graph v.share s → writes s + reads s + retreats s ≡ 0 in
@@ -298,7 +299,8 @@ spent_one key v h z =
     ] h
 
 -- views with no shares hold nothing
-all_spent : (key : Graph) (views : List LockView) → ((i : ℕ) (v : LockView) → get_elem? views i ≡ some v → Has key v)
+all_spent : (key : Graph) (views : List LockView)
+    → ((i : ℕ) (v : LockView) → get_elem? views i ≡ some v → HasLockShare key v)
     → total share_of views ≡ 0
     → total writes (map state_of views) + total reads (map state_of views) + total retreats (map state_of views) ≡ 0
 all_spent key [] each none_left = omega arith
@@ -309,7 +311,7 @@ all_spent key (v ∷ vs) each none_left =
 
 -- where one view has all shares, the others hold nothing
 pub alone : (key : Graph) (views : List LockView) (id : ℕ) (v : LockView)
-    → ((i : ℕ) (u : LockView) → get_elem? views i ≡ some u → Has key u) → get_elem? views id ≡ some v
+    → ((i : ℕ) (u : LockView) → get_elem? views i ≡ some u → HasLockShare key u) → get_elem? views id ≡ some v
     → total share_of views ≤ v.share
     → total writes (map state_of views) + total reads (map state_of views) + total retreats (map state_of views)
     ≡ writes v.state + reads v.state + retreats v.state

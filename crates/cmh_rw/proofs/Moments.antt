@@ -12,7 +12,7 @@ use Rattle.cmh_rw.specs.declared.view.View.{View}
 use Rattle.cmh_rw.specs.Machine.{world, total, writes, reads, IsLawful}
 use Rattle.cmh_rw.specs.History.{weigh}
 use Rattle.cmh_rw.specs.View.{IsHeld}
-use Rattle.cmh_rw.specs.Rule.{Moment, lock_of, state_of, HasShare, Has, Kept, Knows, Board}
+use Rattle.cmh_rw.specs.Rule.{Moment, lock_of, state_of, HasShare, HasLockShare, LockRule, SeatRule, WordsRule}
 use Rattle.cmh_rw.proofs.Lawful.{total-set, total-in}
 
 -- states that differ
@@ -41,7 +41,7 @@ pub state_at : (views : List View) (id : ℕ) (v : View) → get_elem? views id 
 state_at views id v at = at_map state_of (map lock_of views) id v.lock (at_map lock_of views id v at)
 
 -- who holds the lock names the graph of the table
-pub held_graph : (key : Graph) (l : LockView) → Has key l → IsHeld l.state → l.graph ≡ key
+pub held_graph : (key : Graph) (l : LockView) → HasLockShare key l → IsHeld l.state → l.graph ≡ key
 held_graph key l h held = let P : SeatState → Type 0 = λ s. HasShare key l.graph l.share s → IsHeld s → l.graph ≡ key in
     elim l.state as P [
       | Away ↦ λ h e. h.1
@@ -52,7 +52,7 @@ held_graph key l h held = let P : SeatState → Type 0 = λ s. HasShare key l.gr
     ] h held
 
 -- and so does who is away
-pub away_graph : (key : Graph) (l : LockView) → Has key l → l.state ≡ Away → l.graph ≡ key
+pub away_graph : (key : Graph) (l : LockView) → HasLockShare key l → l.state ≡ Away → l.graph ≡ key
 away_graph key l h is =
     let k : HasShare key l.graph l.share Away = subst (λ s. HasShare key l.graph l.share s) is h in k.1
 
@@ -92,7 +92,8 @@ none_beside word l i j a b law at is at' apart =
     (omega arith, omega arith)
 
 -- the same of a seat beside one that writes
-pub beside_writer : (key : Graph) (s : Moment) (b : Board key s) (id i : ℕ) (v u : View) → get_elem? s.views id ≡ some v
+pub beside_writer : (key : Graph) (s : Moment) (b : WordsRule key s) (id i : ℕ) (v u : View)
+    → get_elem? s.views id ≡ some v
     → v.lock.state ≡ Writing → get_elem? s.views i ≡ some u → i ≢ id
     → (writes u.lock.state ≡ 0) × (reads u.lock.state ≡ 0)
 beside_writer key s b id i v u at writing at' apart =
@@ -108,11 +109,11 @@ some_writer key s id v w at same writing z =
     let y = ap (λ l. total writes (map state_of l)) (sym (same_views s.views id v w at same)) ∙ z in omega arith
 
 -- a store past word 0 by a seat whose lock stays leaves the lock's part of the rule
-pub lock_beside : (key : Graph) (s : Moment) (b : Board key s) (id : ℕ) (v w : View) (i n : ℕ)
+pub lock_beside : (key : Graph) (s : Moment) (b : WordsRule key s) (id : ℕ) (v w : View) (i n : ℕ)
     → get_elem? s.views id ≡ some v → w.lock ≡ v.lock → 0 < i
-    → Kept key record { words = set s.words i n; homes = s.homes; views = map lock_of (set s.views id w) }
+    → LockRule key record { words = set s.words i n; homes = s.homes; views = map lock_of (set s.views id w) }
 lock_beside key s b id v w i n at same past = let views = map lock_of s.views in
-    subst (λ l. Kept key record { words = set s.words i n; homes = s.homes; views = l })
+    subst (λ l. LockRule key record { words = set s.words i n; homes = s.homes; views = l })
     (sym (same_views s.views id v w at same)) record {
       wide = length-set s.words i n ∙ b.lock.wide;
       lock =
@@ -123,16 +124,16 @@ lock_beside key s b id v w i n at same past = let views = map lock_of s.views in
     }
 
 -- the rule, where a seat's view changes, and neither its lock nor what it added
-pub reviewed : (key : Graph) (s : Moment) (b : Board key s) (id : ℕ) (v w : View) → get_elem? s.views id ≡ some v
-    → w.lock ≡ v.lock → w.mine ≡ v.mine → Knows b.postings b.staged b.told w
-    → Board key record { words = s.words; homes = s.homes; views = set s.views id w }
+pub reviewed : (key : Graph) (s : Moment) (b : WordsRule key s) (id : ℕ) (v w : View) → get_elem? s.views id ≡ some v
+    → w.lock ≡ v.lock → w.mine ≡ v.mine → SeatRule b.postings b.staged b.told w
+    → WordsRule key record { words = s.words; homes = s.homes; views = set s.views id w }
 reviewed key s b id v w at same mine knows = record {
   postings = b.postings;
   staged = b.staged;
   told = b.told;
   small = b.small;
   lock =
-      subst (λ l. Kept key record { words = s.words; homes = s.homes; views = l })
+      subst (λ l. LockRule key record { words = s.words; homes = s.homes; views = l })
       (sym (same_views s.views id v w at same)) b.lock;
   count = b.count;
   rows = b.rows;
@@ -143,7 +144,7 @@ reviewed key s b id v w at same mine knows = record {
   told_of = b.told_of;
   idle = λ z. b.idle (ap (λ l. total writes (map state_of l)) (sym (same_views s.views id v w at same)) ∙ z);
   each =
-      λ i u e. ⊎_elim (λ t. subst (Knows b.postings b.staged b.told) t.1 knows) (λ t. b.each i u t.1)
+      λ i u e. ⊎_elim (λ t. subst (SeatRule b.postings b.staged b.told) t.1 knows) (λ t. b.each i u t.1)
       (at_set s.views id i w u e);
   owners =
       λ h. let sum = total-set (λ (u : View). weigh h u.mine) s.views id v w at in
@@ -152,7 +153,7 @@ reviewed key s b id v w at same mine knows = record {
 }
 
 -- where a seat holds the lock, the writer's rows are its own: none for a reader
-pub own_rows : (key : Graph) (s : Moment) (b : Board key s) (id : ℕ) (v : View) → get_elem? s.views id ≡ some v
+pub own_rows : (key : Graph) (s : Moment) (b : WordsRule key s) (id : ℕ) (v : View) → get_elem? s.views id ≡ some v
     → IsHeld v.lock.state → (v.staged ≡ b.staged) × (v.told ≡ b.told)
 own_rows key s b id v at held = let k = b.each id v at in let law = b.lock.lock in let e = state_at s.views id v at in
     let P : SeatState → Type 0 = λ a. v.lock.state ≡ a → (v.staged ≡ b.staged) × (v.told ≡ b.told) in

@@ -45,20 +45,20 @@ HasShare key graph share Spent = share ≡ 0
 HasShare key graph share _ = (0 < share) × (graph ≡ key)
 
 -- the same of what a seat knows of the lock
-abbrev pub Has : Graph → LockView → Type 0
-Has key l = HasShare key l.graph l.share l.state
+abbrev pub HasLockShare : Graph → LockView → Type 0
+HasLockShare key l = HasShare key l.graph l.share l.state
 
 -- The lock's part of the rule: word 0 is the lock word of all views, which are lawful; each unspent
 -- view has a share, and all shares add up to no more than the whole.
-pub record Kept (key : Graph) (s : LockMoment) : Type 0 where
+pub record LockRule (key : Graph) (s : LockMoment) : Type 0 where
   pub wide : length s.words ≡ BOARD_WORDS
   pub lock : IsLawful (world (slice_index s.words 0) (map state_of s.views))
   pub shares : total share_of s.views ≤ MAX_SEATS
-  pub each : (i : ℕ) (l : LockView) → get_elem? s.views i ≡ some l → Has key l
+  pub each : (i : ℕ) (l : LockView) → get_elem? s.views i ≡ some l → HasLockShare key l
 
 -- What one seat knows, where these are the postings of the history, and these the rows and the
 -- verdicts that the writer has stored since.
-pub record Knows (postings : List (List Row)) (staged told : List Row) (v : View) : Type 0 where
+pub record SeatRule (postings : List (List Row)) (staged told : List Row) (v : View) : Type 0 where
   -- only a writer has staged rows
   pub writing : v.lock.state ≡ Writing → (v.staged ≡ staged) × (v.told ≡ told)
   pub bare : v.lock.state ≢ Writing → (v.staged ≡ []) × (v.told ≡ [])
@@ -73,12 +73,12 @@ pub record Knows (postings : List (List Row)) (staged told : List Row) (v : View
   pub gone : v.lock.state ≡ Spent → v.mine ≡ []
 
 -- The whole rule. The history is the postings laid end to end.
-pub record Board (key : Graph) (s : Moment) : Type 0 where
+pub record WordsRule (key : Graph) (s : Moment) : Type 0 where
   pub postings : List (List Row)
   pub staged : List Row
   pub told : List Row
   pub small : process_count key ≤ MAX_PROCESSES
-  pub lock : Kept key (lock_moment s)
+  pub lock : LockRule key (lock_moment s)
   -- word 1 counts the rows of the history
   pub count : slice_index s.words 1 ≡ length (laid postings)
   -- the row words are the history, then the staged rows, then 0
@@ -96,6 +96,6 @@ pub record Board (key : Graph) (s : Moment) : Type 0 where
   pub told_of : (p : ℕ) → (fold_at told p ≡ None) ⊎ (fold_at told p ≡ fold_at staged p)
   -- without a writer nothing is staged
   pub idle : total writes (map state_of (map lock_of s.views)) ≡ 0 → (staged ≡ []) × (told ≡ [])
-  pub each : (i : ℕ) (v : View) → get_elem? s.views i ≡ some v → Knows postings staged told v
+  pub each : (i : ℕ) (v : View) → get_elem? s.views i ≡ some v → SeatRule postings staged told v
   -- each posting stands in the `mine` of one view, and nothing else does, however postings weigh
   pub owners : (h : List Row → ℕ) → total (λ v. weigh h v.mine) s.views ≡ weigh h postings

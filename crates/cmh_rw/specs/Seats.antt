@@ -13,7 +13,7 @@ use Rattle.cmh_rw.specs.declared.seat.RwWords.{RwWords}
 use Rattle.cmh_rw.specs.declared.seat.RwSeat.{RwSeat}
 use Rattle.cmh_rw.specs.declared.seat.Closed.{Closed}
 use Rattle.cmh_rw.specs.History.{row_code, verdict_code, fold_at, laid, weigh, ArePostings, IsTrueOf, IsSeen}
-use Rattle.cmh_rw.specs.Rule.{Moment, Board}
+use Rattle.cmh_rw.specs.Rule.{Moment, WordsRule}
 
 -- what the seat knows
 abbrev pub view : RwSeat → View
@@ -28,8 +28,8 @@ abbrev pub IsAway : RwSeat → Type 0
 IsAway s = (view s).lock.state ≡ Away
 
 -- the graph whose verdicts the words hold
-abbrev pub graph_of : RwWords → Graph
-graph_of w = w.table.shared.key
+abbrev pub words_graph : RwWords → Graph
+words_graph w = w.table.shared.key
 
 -- the values of the closed words
 abbrev pub words_of : Closed → List ℕ
@@ -38,7 +38,7 @@ words_of c = slots_items c.inner.words
 -- these are the words of a moment that meets the rule, in which some seat has this view
 pub record ClosedBy (key : Graph) (v : View) (words : List ℕ) : Type 0 where
   pub moment : Moment
-  pub rule : Board key moment
+  pub rule : WordsRule key moment
   pub here : moment.words ≡ words
   pub seat : (id : ℕ) × (get_elem? moment.views id ≡ some v)
 

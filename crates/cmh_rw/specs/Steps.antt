@@ -7,7 +7,7 @@ use Rattle.cmh_rw.specs.declared.machine.Event.TheVariants.{Admit, TryWrite}
 use Rattle.cmh_rw.specs.declared.view.LockView.{LockView}
 use Rattle.cmh_rw.specs.declared.view.View.{View}
 use Rattle.cmh_rw.specs.Machine.{turn}
-use Rattle.cmh_rw.specs.History.{row_of, verdict_of, IsPosting, IsTrueOf, StartsWith}
+use Rattle.cmh_rw.specs.History.{row_of, verdict_from_code, IsPosting, IsTrueOf, StartsWith}
 use Rattle.cmh_rw.specs.View.{tried_lock, ended, AfterLoad, with_row, with_told, mark, posted, compared}
 
 -- a seat of the table: its view, and no slots
@@ -46,7 +46,7 @@ Staged st m found m' = m' ≡ (with_row m.0 (row_of st.first), m.1)
 -- a writer stored a verdict
 abbrev pub Told : Step (Unit {0}) → TableSeat → ℕ → TableSeat → Type 0
 Told st m found m' =
-    m' ≡ (with_told m.0 (mark (st.word - FIRST_VERDICT) (verdict_of st.first)), m.1)
+    m' ≡ (with_told m.0 (mark (st.word - FIRST_VERDICT) (verdict_from_code st.first)), m.1)
 
 -- a writer stored the count: what it had staged was a posting
 abbrev pub Counted : Step (Unit {0}) → TableSeat → ℕ → TableSeat → Type 0

@@ -4,11 +4,11 @@ ghost use Rattle.cmh_rw.specs.Machine.{StepLaw};
 ghost use Rattle.cmh_rw.specs.History.{RowCodeLaw};
 
 /// Each event keeps a lawful world lawful.
-pub fn law_step()
+pub fn law_step_lawful()
     ensures { StepLaw }
 {}
 
 /// A row can be told from the word that it is stored as.
-pub fn law_one_row_a_word()
+pub fn law_row_code_injective()
     ensures { RowCodeLaw }
 {}

@@ -7,10 +7,10 @@ use cmh_graph::WaitGraph;
 pub(crate) struct BoardRule;
 
 impl TableRule<(), View, WaitGraph> for BoardRule {
-    ghost use Rattle.cmh_rw.specs.Rule.{Board};
+    ghost use Rattle.cmh_rw.specs.Rule.{WordsRule};
     ghost use Rattle.cmh_rw.specs.View.{opening_view};
 
-    ghost holds = { Board };
+    ghost holds = { WordsRule };
 
     ghost first = { opening_view };
 }

@@ -4,7 +4,7 @@ ghost use Rattle.std.specs.Prelude.{◌≡◌, ◌+◌, ◌<◌, ◌≤◌, [], 
 ghost use Rattle.cmh_rw.specs.declared.machine.SeatState.TheVariants.{Reading, Writing};
 ghost use Rattle.cmh_rw.specs.History.{StartsWith};
 ghost use Rattle.cmh_rw.specs.View.{opening_view, AfterRead, AfterWrite, ended, less_one, newcomer, joined};
-ghost use Rattle.cmh_rw.specs.Seats.{view, IsSeatOf, IsAway, graph_of, words_of, ClosedBy, ClosedHistory};
+ghost use Rattle.cmh_rw.specs.Seats.{view, IsSeatOf, IsAway, words_graph, words_of, ClosedBy, ClosedHistory};
 
 use crate::rule::{Compare, End, Enter, Shares, Take};
 use crate::{BOARD_WORDS, Closed, MAX_SEATS, RwFault, RwSeat, RwWords, WRITER};
@@ -24,7 +24,7 @@ impl RwWords {
     /// All words are 0. The seat is away and has the whole share.
     pub fn open(alloc: Global, graph: &WaitGraph) -> Result<(RwWords, RwSeat), RwFault>
         ensures seat { IfOk result (λ r. IsSeatOf r.0 r.1) }
-        ensures graph { IfOk result (λ r. graph_of r.0 ≡ graph.now) }
+        ensures graph { IfOk result (λ r. words_graph r.0 ≡ graph.now) }
         ensures view { IfOk result (λ r. view r.1 ≡ opening_view graph.now) }
         ensures memory { IfErr result (λ e. e ≡ RwFault.Memory) }
     {
@@ -147,8 +147,8 @@ impl RwWords {
     pub fn close_with(self, seat: RwSeat) -> Closed
         requires own { IsSeatOf self seat }
         requires away { IsAway seat }
-        ensures rule { ClosedBy (graph_of self) (view seat) (words_of result) }
-        ensures history { ClosedHistory (graph_of self) (view seat) (words_of result) }
+        ensures rule { ClosedBy (words_graph self) (view seat) (words_of result) }
+        ensures history { ClosedHistory (words_graph self) (view seat) (words_of result) }
     {
         let RwWords { table } = self;
         let RwSeat { seat, share: _ } = seat;

@@ -30,8 +30,8 @@ use Rattle.cmh_work.specs.declared.ticket_rule.TicketView.{TicketView}
 use Rattle.cmh_work.specs.Cutting.{chunks_of, bounds_of, gathered}
 use Rattle.cmh_work.specs.Record.{IsRunFor, IsTrueRecord}
 use Rattle.cmh_work.specs.Analysis.{records_of, history_of, initiator_of, IsPostedBy, IsPostedByRecords, IsAnalysisOf}
-use Rattle.cmh_work.specs.Tickets.{Has, Dealt, opening_view, less_one, newcomer, with_drawn}
-use Rattle.cmh_work.proofs.Counting.{drawn_once}
+use Rattle.cmh_work.specs.Tickets.{IsTicketSeat, Dealt, ticket_opening_view, ticket_less_one, ticket_newcomer, with_drawn}
+use Rattle.cmh_work.proofs.DrawnNumbers.{drawn_once}
 
 -- the cuts 0, 1, 0 and 9 of three initiators: none, the first, none, the other two, none
 pub chunks_of_three : chunks_of (0 ∷ 1 ∷ 0 ∷ 9 ∷ []) (0 ∷ 1 ∷ 2 ∷ [])
@@ -309,10 +309,10 @@ cut_posting a is has h =
 
 -- x drew 0, and y, which was split from it, drew 1
 abbrev x_seat : TicketView
-x_seat = with_drawn (less_one (opening_view 2)) 0
+x_seat = with_drawn (ticket_less_one (ticket_opening_view 2)) 0
 
 abbrev y_seat : TicketView
-y_seat = with_drawn (newcomer (opening_view 2)) 1
+y_seat = with_drawn (ticket_newcomer (ticket_opening_view 2)) 1
 
 -- the table after so many draws
 abbrev table : ℕ → List TicketView → State (Unit {0}) TicketView
@@ -333,20 +333,20 @@ dealt = record {
   numbers = λ weight. omega arith;
 }
   where
-    each : (i : ℕ) (v : TicketView) → get_elem? (x_seat ∷ y_seat ∷ []) i ≡ some v → Has 2 2 v
+    each : (i : ℕ) (v : TicketView) → get_elem? (x_seat ∷ y_seat ∷ []) i ≡ some v → IsTicketSeat 2 2 v
     each zero v at =
-        subst (Has 2 2) (some-injective x_seat v at) record
+        subst (IsTicketSeat 2 2) (some-injective x_seat v at) record
         { bare = λ z. absurd (omega arith); knows = λ some. refl; past = λ done. omega arith }
     each (suc zero) v at =
-        subst (Has 2 2) (some-injective y_seat v at) record
+        subst (IsTicketSeat 2 2) (some-injective y_seat v at) record
         { bare = λ z. absurd (omega arith); knows = λ some. refl; past = λ done. omega arith }
     each (suc (suc i)) v at = absurd (some-ne-none v (sym at))
 
 -- it doesn't where both drew 0
-pub drawn_twice : Dealt 2 (table 2 (x_seat ∷ with_drawn (newcomer (opening_view 2)) 0 ∷ [])) → ⊥
+pub drawn_twice : Dealt 2 (table 2 (x_seat ∷ with_drawn (ticket_newcomer (ticket_opening_view 2)) 0 ∷ [])) → ⊥
 drawn_twice h =
     no 2 (omega arith)
-    ((drawn_once 2 (table 2 (x_seat ∷ with_drawn (newcomer (opening_view 2)) 0 ∷ [])) h 0).0 (omega arith)
+    ((drawn_once 2 (table 2 (x_seat ∷ with_drawn (ticket_newcomer (ticket_opening_view 2)) 0 ∷ [])) h 0).0 (omega arith)
     (omega arith))
   where
     no : (n : ℕ) → 1 < n → n ≡ 1 → ⊥

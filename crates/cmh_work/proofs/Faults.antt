@@ -6,7 +6,7 @@ use Rattle.cmh_graph.specs.Graph.{Graph, is_idle}
 use Rattle.cmh_run.specs.declared.fault.RunFault.{RunFault}
 use Rattle.cmh_run.specs.declared.fault.RunFault.TheVariants.{NotIdle, TooManyChoices, BadRestarts, Memory}
 use Rattle.cmh_run.specs.declared.TheConstants.{MAX_CHOICES}
-use Rattle.cmh_run.specs.Run.{IsFirstFault}
+use Rattle.cmh_run.specs.Run.{IsFirstRunFault}
 
 module _ {A E F : Type 0} where
   -- what is known of an answer is known of what it gives, whatever becomes of its fault
@@ -17,7 +17,7 @@ module _ {A E F : Type 0} where
 
 -- the run of an idle process, without restarts and by few choices, lacks memory if it has a fault
 pub only_memory : (g : Graph) (i : ℕ) (choices : List ℕ) (e : RunFault) → IsTrue (is_idle g i)
-    → length choices ≤ MAX_CHOICES → (e ≡ Memory) ⊎ IsFirstFault g i choices [] e → e ≡ Memory
+    → length choices ≤ MAX_CHOICES → (e ≡ Memory) ⊎ IsFirstRunFault g i choices [] e → e ≡ Memory
 only_memory g i choices Memory idle few fault = refl
 only_memory g i choices NotIdle idle few fault = ⊎_elim (λ e. e) (λ h. absurd (false≢true (sym h ∙ idle))) fault
 only_memory g i choices TooManyChoices idle few fault =

@@ -1,5 +1,5 @@
 -- How the initiators are cut into chunks.
-use Rattle.std.specs.Prelude.{◌≡◌, ℕ, ◌+◌, min, List, [], ◌∷◌, ◌++◌, take, drop, length, slice_index_or}
+use Rattle.std.specs.Prelude.{◌≡◌, ℕ, ◌+◌, min, List, [], ◌∷◌, ◌++◌, take, drop, flat_map, length, slice_index_or}
 
 -- each cut takes that many off the front, or all that are left; the rest is the last chunk
 abbrev pub chunks_of : List ℕ → List ℕ → List (List ℕ)
@@ -15,11 +15,6 @@ ends_from size begin (cut ∷ cuts) = min (begin + cut) size ∷ ends_from size 
 abbrev pub bounds_of : List ℕ → ℕ → List ℕ
 bounds_of cuts size = 0 ∷ ends_from size 0 cuts
 
--- lists, end to end
-abbrev pub joined : List (List ℕ) → List ℕ
-joined [] = []
-joined (list ∷ lists) = list ++ joined lists
-
 -- the chunks of these numbers, end to end
 abbrev pub gathered : List (List ℕ) → List ℕ → List ℕ
 gathered chunks [] = []
@@ -28,4 +23,4 @@ gathered chunks (number ∷ numbers) = slice_index_or chunks number [] ++ gather
 -- the chunks are the list, cut: end to end they are the list, and there is one more than cuts
 abbrev pub ChunksLaw : Type 0
 ChunksLaw = (cuts list : List ℕ)
-    → (joined (chunks_of cuts list) ≡ list) × (length (chunks_of cuts list) ≡ length cuts + 1)
+    → (flat_map (λ chunk. chunk) (chunks_of cuts list) ≡ list) × (length (chunks_of cuts list) ≡ length cuts + 1)

@@ -13,7 +13,7 @@ pub record Setup : Type 0 where
   pub choices : List ℕ
 
 -- what a plan may ask for
-pub record IsAccepted (s : Setup) : Type 0 where
+pub record IsAcceptedPlan (s : Setup) : Type 0 where
   pub some_worker : 0 < s.workers
   pub workers_few : s.workers ≤ MAX_WORKERS
   pub cuts_few : length s.cuts ≤ MAX_CUTS
@@ -24,9 +24,9 @@ abbrev pub AreWorkers : Setup → Type 0
 AreWorkers s = (0 < s.workers) × (s.workers ≤ MAX_WORKERS)
 
 -- the first reason for which there is no plan
-abbrev pub IsFirstFault : Setup → PlanFault → Type 0
-IsFirstFault s BadWorkers = ¬ (AreWorkers s)
-IsFirstFault s TooManyCuts = AreWorkers s × (MAX_CUTS < length s.cuts)
-IsFirstFault s TooManyChoices =
+abbrev pub IsFirstPlanFault : Setup → PlanFault → Type 0
+IsFirstPlanFault s BadWorkers = ¬ (AreWorkers s)
+IsFirstPlanFault s TooManyCuts = AreWorkers s × (MAX_CUTS < length s.cuts)
+IsFirstPlanFault s TooManyChoices =
     AreWorkers s × (length s.cuts ≤ MAX_CUTS) × (MAX_CHOICES < length s.choices)
-IsFirstFault s Memory = ⊥
+IsFirstPlanFault s Memory = ⊥

@@ -9,9 +9,9 @@ abbrev pub view : TicketSeat → TicketView
 view s = s.seat.me.0
 
 -- how many numbers there are
-abbrev pub chunks_in : Tickets → ℕ
-chunks_in t = t.chunks
+abbrev pub chunk_count : Tickets → ℕ
+chunk_count t = t.chunks
 
 -- the seat is one of these tickets
-abbrev pub IsSeatOf : Tickets → TicketSeat → Type 0
-IsSeatOf t s = (s.seat.table_id ≡ t.table.shared.table_id) × ((view s).chunks ≡ t.chunks)
+abbrev pub IsTicketSeatOf : Tickets → TicketSeat → Type 0
+IsTicketSeatOf t s = (s.seat.table_id ≡ t.table.shared.table_id) × ((view s).chunks ≡ t.chunks)

@@ -16,16 +16,16 @@ sum_below weight (suc n) = sum_below weight n + weight n
 -- ---- what a seat knows
 
 -- what the first seat knows: it has all shares, and has drawn none of these chunks
-abbrev pub opening_view : ℕ → TicketView
-opening_view chunks = record { chunks = chunks; share = 64; drawn = []; done = false }
+abbrev pub ticket_opening_view : ℕ → TicketView
+ticket_opening_view chunks = record { chunks = chunks; share = 64; drawn = []; done = false }
 
 -- it gave 1 of its share away
-abbrev pub less_one : TicketView → TicketView
-less_one v = record v { share = v.share - 1 }
+abbrev pub ticket_less_one : TicketView → TicketView
+ticket_less_one v = record v { share = v.share - 1 }
 
 -- what the seat knows that was given 1 of this one's share
-abbrev pub newcomer : TicketView → TicketView
-newcomer v = record { chunks = v.chunks; share = 1; drawn = []; done = v.done }
+abbrev pub ticket_newcomer : TicketView → TicketView
+ticket_newcomer v = record { chunks = v.chunks; share = 1; drawn = []; done = v.done }
 
 -- it took another seat in
 abbrev pub joined_views : TicketView → TicketView → TicketView
@@ -58,8 +58,8 @@ KnowsAll v = v.done ≡ true → v.share ≡ 64 → DrewAll v
 -- ---- the rule
 
 -- how many of the 64 shares the seat has
-abbrev pub share_of : TicketView → ℕ
-share_of v = v.share
+abbrev pub ticket_share : TicketView → ℕ
+ticket_share v = v.share
 
 -- these shares where the test holds, else none
 abbrev pub share_if : Bool → ℕ → ℕ
@@ -71,7 +71,7 @@ done_share v = share_if v.done v.share
 
 -- What is true of each seat. One with no share is spent, and has drawn nothing. Each other knows the
 -- number of chunks, and where one got none, the word is past the last chunk.
-pub record Has (chunks word : ℕ) (v : TicketView) : Type 0 where
+pub record IsTicketSeat (chunks word : ℕ) (v : TicketView) : Type 0 where
   pub bare : v.share ≡ 0 → v.drawn ≡ []
   pub knows : 0 < v.share → v.chunks ≡ chunks
   pub past : v.done ≡ true → chunks ≤ word
@@ -86,10 +86,10 @@ pub record Dealt (chunks : ℕ) (s : State (Unit {0}) TicketView) : Type 0 where
   pub before_end : slice_index s.words 0 ≤ chunks → reached ≡ slice_index s.words 0
   pub at_end : chunks ≤ slice_index s.words 0 → reached ≡ chunks
   pub small : chunks < 2 ^ 32
-  pub shares : total share_of s.views ≤ 64
+  pub shares : total ticket_share s.views ≤ 64
   pub over : slice_index s.words 0 ≤ chunks + total done_share s.views
   pub each : (i : ℕ) (v : TicketView) → get_elem? s.views i ≡ some v
-      → Has chunks (slice_index s.words 0) v
+      → IsTicketSeat chunks (slice_index s.words 0) v
   pub numbers : (weight : ℕ → ℕ)
       → total (λ v. total weight v.drawn) s.views ≡ sum_below weight reached
 

@@ -2,14 +2,14 @@
 use Rattle.std.specs.Prelude.{◌≡◌, ℕ, ◌+◌, List, [], length, map, true}
 use Rattle.cmh_graph.specs.Graph.{Graph, idle_list}
 use Rattle.cmh_board.specs.declared.board.BoardSeat.{BoardSeat}
-use Rattle.cmh_board.specs.Board.{known, graph_of, SitsAt, IsAway}
+use Rattle.cmh_board.specs.Board.{known, board_graph, SitsAt, IsAway}
 use Rattle.cmh_run.specs.Run.{Run}
 use Rattle.cmh_work.specs.declared.finding.Finding.{Finding}
 use Rattle.cmh_work.specs.declared.job.Shared.{Shared}
 use Rattle.cmh_work.specs.declared.job.Seats.{Seats}
 use Rattle.cmh_work.specs.Plan.{Setup}
 use Rattle.cmh_work.specs.Cutting.{chunks_of, bounds_of, gathered}
-use Rattle.cmh_work.specs.Seats.{view, IsSeatOf}
+use Rattle.cmh_work.specs.Seats.{view, IsTicketSeatOf}
 use Rattle.cmh_work.specs.Shape.{AreShapesOf}
 use Rattle.cmh_work.specs.Finding.{finding_initiator, Accounts}
 
@@ -18,7 +18,7 @@ pub record IsMadeFor (g : Graph) (plan : Setup) (s : Shared) : Type 0 where
   pub idle : s.idle.items ≡ idle_list g
   pub bounds : s.bounds.items ≡ bounds_of plan.cuts (length s.idle.items)
   pub shapes : AreShapesOf g s.shapes
-  pub board : graph_of s.board ≡ g
+  pub board : board_graph s.board ≡ g
   pub tickets : s.tickets.chunks ≡ length plan.cuts + 1
 
 -- the chunks of the idle processes
@@ -31,9 +31,9 @@ pub record SitsIn (s : Shared) (seat : BoardSeat) : Type 0 where
   pub away : IsAway seat
 
 -- both seats of a worker belong to what the workers share
-pub record Sit (s : Shared) (seats : Seats) : Type 0 where
+pub record AreSeated (s : Shared) (seats : Seats) : Type 0 where
   pub board : SitsIn s seats.board
-  pub tickets : IsSeatOf s.tickets seats.tickets
+  pub tickets : IsTicketSeatOf s.tickets seats.tickets
 
 -- nothing is drawn and nothing added yet
 pub record AreNew (seats : Seats) : Type 0 where
@@ -42,7 +42,7 @@ pub record AreNew (seats : Seats) : Type 0 where
 
 -- the seats are in their places afterwards, with the shares that they had
 pub record AreBack (s : Shared) (old new : Seats) : Type 0 where
-  pub sit : Sit s new
+  pub sit : AreSeated s new
   pub tickets : (view new.tickets).share ≡ (view old.tickets).share
   pub board : (known new.board).lock.share ≡ (known old.board).lock.share
 

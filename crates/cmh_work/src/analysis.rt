@@ -2,9 +2,9 @@
 
 ghost use Rattle.std.specs.Prelude.{◌≡◌, ◌+◌, ◌<◌, length, IfOk, IfErr};
 ghost use Rattle.cmh_work.specs.Analysis.{IsAnalysisOf};
-ghost use Rattle.cmh_work.specs.Seats.{view, IsSeatOf, chunks_in};
-ghost use Rattle.cmh_work.specs.Tickets.{opening_view};
-ghost use Rattle.cmh_work.specs.Working.{IsMadeFor, Sit, AreNew};
+ghost use Rattle.cmh_work.specs.Seats.{view, IsTicketSeatOf, chunk_count};
+ghost use Rattle.cmh_work.specs.Tickets.{ticket_opening_view};
+ghost use Rattle.cmh_work.specs.Working.{IsMadeFor, AreSeated, AreNew};
 ghost use Rattle.cmh_board.specs.Board.{known};
 
 use crate::chunks::chunk_bounds;
@@ -87,8 +87,8 @@ pub fn analyse_keeping<L: Log + Send, E: ProcessList + Send, R: Threads + Wait +
 
 /// A number for each chunk of the plan: there is one more than cuts.
 fn open_tickets(alloc: Global, plan: &Plan) -> Result<(Tickets, TicketSeat), WorkFault>
-    ensures open { IfOk result (λ r. IsSeatOf r.0 r.1 × (chunks_in r.0 ≡ length plan.now.cuts + 1)
-        × (view r.1 ≡ opening_view (length plan.now.cuts + 1))) }
+    ensures open { IfOk result (λ r. IsTicketSeatOf r.0 r.1 × (chunk_count r.0 ≡ length plan.now.cuts + 1)
+        × (view r.1 ≡ ticket_opening_view (length plan.now.cuts + 1))) }
     ensures memory { IfErr result (λ e. e ≡ WorkFault.Memory) }
 {
     let chunks = plan.cuts().len() as u32 + 1;
@@ -106,7 +106,7 @@ fn finish<L: Log + Send, E: ProcessList + Send, R: Threads + Wait + Sync, P: Gat
     seats: Seats,
 ) -> Result<Analysis<RunLog<L, E>, E>, WorkFault>
     requires made { IsMadeFor graph.now plan.now shared }
-    requires sit { Sit shared seats }
+    requires sit { AreSeated shared seats }
     requires new { AreNew seats }
     requires tickets { (view seats.tickets).share ≡ 64 }
     requires board { (known seats.board).lock.share ≡ 64 }

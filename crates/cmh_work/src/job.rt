@@ -3,7 +3,7 @@
 ghost use Rattle.std.specs.Prelude.{◌≡◌, ◌+◌, length, map};
 ghost use Rattle.cmh_graph.specs.Graph.{indices, idle_list};
 ghost use Rattle.cmh_graph.specs.ChosenPath.{distance_of};
-ghost use Rattle.cmh_board.specs.Board.{graph_of};
+ghost use Rattle.cmh_board.specs.Board.{board_graph};
 ghost use Rattle.cmh_work.specs.Cutting.{bounds_of};
 ghost use Rattle.cmh_work.specs.Leaders.{group_leader};
 
@@ -34,7 +34,7 @@ pub(crate) struct Job<'a> {
     ghost bounds: { shared.now.bounds.items ≡ bounds_of plan.now.cuts (length shared.now.idle.items) },
     ghost distances: { shared.now.shapes.distances.items ≡ map (distance_of graph.now) (indices graph.now) },
     ghost leaders: { shared.now.shapes.leaders.items ≡ map (group_leader graph.now) (indices graph.now) },
-    ghost named: { graph_of shared.now.board ≡ graph.now },
+    ghost named: { board_graph shared.now.board ≡ graph.now },
     ghost counted: { shared.now.tickets.chunks ≡ length plan.now.cuts + 1 },
 }
 

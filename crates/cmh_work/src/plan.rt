@@ -1,7 +1,7 @@
 //! How an analysis is shared out.
 
 ghost use Rattle.std.specs.Prelude.{◌≡◌, ◌⊎◌, IfOk, IfErr};
-ghost use Rattle.cmh_work.specs.Plan.{IsAccepted, IsFirstFault};
+ghost use Rattle.cmh_work.specs.Plan.{IsAcceptedPlan, IsFirstPlanFault};
 
 use crate::{MAX_CUTS, MAX_WORKERS, PlanFault};
 use cmh_run::MAX_CHOICES;
@@ -18,7 +18,7 @@ pub struct Plan {
 }
 
 impl Model for Plan {
-    ghost use Rattle.cmh_work.specs.Plan.{Setup, IsAccepted};
+    ghost use Rattle.cmh_work.specs.Plan.{Setup, IsAcceptedPlan};
 
     ghost Value = { Setup };
 
@@ -28,7 +28,7 @@ impl Model for Plan {
       choices = p.choices.items;
     } };
 
-    ghost invariant = { λ p. IsAccepted record {
+    ghost invariant = { λ p. IsAcceptedPlan record {
       workers = p.workers;
       cuts = p.cuts.items;
       choices = p.choices.items;
@@ -70,8 +70,8 @@ impl Plan {
     ) -> Result<Plan, PlanFault>
         ensures ok { IfOk result (λ p.
             p ≡ record { workers = workers; cuts = cuts.now; choices = choices.now }) }
-        ensures accepted { IfOk result IsAccepted }
-        ensures fault { IfErr result (λ e. (e ≡ PlanFault.Memory) ⊎ IsFirstFault
+        ensures accepted { IfOk result IsAcceptedPlan }
+        ensures fault { IfErr result (λ e. (e ≡ PlanFault.Memory) ⊎ IsFirstPlanFault
             record { workers = workers; cuts = cuts.now; choices = choices.now } e) }
     {
         if workers == 0 || workers > MAX_WORKERS {
@@ -94,21 +94,21 @@ impl Plan {
 
     pub fn workers(&self) -> u32
         ensures count { result ≡ self.now.workers }
-        ensures accepted { IsAccepted self.now }
+        ensures accepted { IsAcceptedPlan self.now }
     {
         self.workers
     }
 
     pub fn cuts(&self) -> &[u64]
         ensures cuts { result.now ≡ self.now.cuts }
-        ensures accepted { IsAccepted self.now }
+        ensures accepted { IsAcceptedPlan self.now }
     {
         &self.cuts
     }
 
     pub fn choices(&self) -> &[u64]
         ensures choices { result.now ≡ self.now.choices }
-        ensures accepted { IsAccepted self.now }
+        ensures accepted { IsAcceptedPlan self.now }
     {
         &self.choices
     }

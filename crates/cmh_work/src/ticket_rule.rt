@@ -19,11 +19,11 @@ pub struct TicketView {
 pub(crate) struct TicketRule;
 
 impl TableRule<(), TicketView, u32> for TicketRule {
-    ghost use Rattle.cmh_work.specs.Tickets.{Dealt, opening_view};
+    ghost use Rattle.cmh_work.specs.Tickets.{Dealt, ticket_opening_view};
 
     ghost holds = { Dealt };
 
-    ghost first = { opening_view };
+    ghost first = { ticket_opening_view };
 }
 
 /// The step that draws.
@@ -48,11 +48,11 @@ impl Play<(), TicketView> for Measure {
 pub(crate) struct Parts;
 
 impl Split<TicketView> for Parts {
-    ghost use Rattle.cmh_work.specs.Tickets.{less_one, newcomer};
+    ghost use Rattle.cmh_work.specs.Tickets.{ticket_less_one, ticket_newcomer};
 
-    ghost left = { less_one };
+    ghost left = { ticket_less_one };
 
-    ghost right = { newcomer };
+    ghost right = { ticket_newcomer };
 }
 
 impl Join<TicketView> for Parts {

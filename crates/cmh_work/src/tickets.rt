@@ -1,8 +1,8 @@
 //! The calls of the tickets. None of them waits.
 
 ghost use Rattle.std.specs.Prelude.{◌≡◌, ◌+◌, ◌<◌, ◌≤◌, true, length, IfOk, IfErr, IfSome, IfNone, IsNone};
-ghost use Rattle.cmh_work.specs.Tickets.{opening_view, less_one, newcomer, joined_views, with_drawn, with_done, DrewAll};
-ghost use Rattle.cmh_work.specs.Seats.{view, IsSeatOf, chunks_in};
+ghost use Rattle.cmh_work.specs.Tickets.{ticket_opening_view, ticket_less_one, ticket_newcomer, joined_views, with_drawn, with_done, DrewAll};
+ghost use Rattle.cmh_work.specs.Seats.{view, IsTicketSeatOf, chunk_count};
 
 use crate::PlanFault;
 use crate::seats::{TicketSeat, Tickets};
@@ -14,7 +14,7 @@ impl Tickets {
     /// Nothing is drawn yet, and the seat has the whole share, of 64.
     pub fn open(alloc: Global, chunks: u32) -> Result<(Tickets, TicketSeat), PlanFault>
         ensures ok { IfOk result (λ r.
-            IsSeatOf r.0 r.1 × (chunks_in r.0 ≡ chunks) × (view r.1 ≡ opening_view chunks)) }
+            IsTicketSeatOf r.0 r.1 × (chunk_count r.0 ≡ chunks) × (view r.1 ≡ ticket_opening_view chunks)) }
         ensures memory { IfErr result (λ e. e ≡ PlanFault.Memory) }
     {
         let (table, seat) = Table::of_words(alloc, &[0], &chunks)?;
@@ -30,10 +30,10 @@ impl Tickets {
 
     /// Gives 1 of the seat's share to a new seat, where the seat keeps some.
     pub fn split(&self, seat: &mut TicketSeat) -> Option<TicketSeat>
-        requires own { IsSeatOf self.now seat.old }
-        ensures own { IsSeatOf self.now seat.new }
-        ensures new { IfSome result (λ s. IsSeatOf self.now s × (view s ≡ newcomer (view seat.old))) }
-        ensures less { IfSome result (λ s. view seat.new ≡ less_one (view seat.old)) }
+        requires own { IsTicketSeatOf self.now seat.old }
+        ensures own { IsTicketSeatOf self.now seat.new }
+        ensures new { IfSome result (λ s. IsTicketSeatOf self.now s × (view s ≡ ticket_newcomer (view seat.old))) }
+        ensures less { IfSome result (λ s. view seat.new ≡ ticket_less_one (view seat.old)) }
         ensures some { IfSome result (λ s. 1 < (view seat.old).share) }
         ensures none { IfNone result (seat.new ≡ seat.old × ((view seat.old).share ≡ 1)) }
     {
@@ -51,8 +51,8 @@ impl Tickets {
 
     /// The seat has the shares and the numbers of both afterwards, and the other is gone.
     pub fn join(&self, seat: &mut TicketSeat, other: TicketSeat)
-        requires own { IsSeatOf self.now seat.old × IsSeatOf self.now other }
-        ensures own { IsSeatOf self.now seat.new }
+        requires own { IsTicketSeatOf self.now seat.old × IsTicketSeatOf self.now other }
+        ensures own { IsTicketSeatOf self.now seat.new }
         ensures both { view seat.new ≡ joined_views (view seat.old) (view other) }
         ensures all { (view seat.new).done ≡ true → (view seat.new).share ≡ 64
             → DrewAll (view seat.new) }
@@ -72,9 +72,9 @@ impl Tickets {
 
     /// The next number, or none where each is drawn. After none a seat gets none, and takes no step.
     pub fn draw(&self, seat: &mut TicketSeat) -> Option<u32>
-        requires own { IsSeatOf self.now seat.old }
-        ensures own { IsSeatOf self.now seat.new }
-        ensures within { IfSome result (λ n. n < chunks_in self.now) }
+        requires own { IsTicketSeatOf self.now seat.old }
+        ensures own { IsTicketSeatOf self.now seat.new }
+        ensures within { IfSome result (λ n. n < chunk_count self.now) }
         ensures few { IfSome result (λ n. length (view seat.old).drawn ≤ n) }
         ensures some { IfSome result (λ n. view seat.new ≡ with_drawn (view seat.old) n) }
         ensures none { IfNone result (view seat.new ≡ with_done (view seat.old)) }

@@ -3,11 +3,11 @@
 ghost use Rattle.std.specs.Prelude.{◌≡◌, ◌++◌, map, All, IfOk, IfErr, OnOk, IsTrue};
 ghost use Rattle.cmh_graph.specs.Graph.{is_idle};
 ghost use Rattle.cmh_run.specs.Run.{TellsTruth};
-ghost use Rattle.cmh_board.specs.Board.{known, Sees};
+ghost use Rattle.cmh_board.specs.Board.{known, SeesMore};
 ghost use Rattle.cmh_work.specs.Record.{IsRunFor};
 ghost use Rattle.cmh_run.specs.Run.{verdict_of};
 ghost use Rattle.cmh_work.specs.Finding.{finding_initiator, IsAnswered, IsRecorded, Accounts};
-ghost use Rattle.cmh_work.specs.Working.{IsMadeFor, SitsIn, Sit, AreNew, AreBack, IsWorked};
+ghost use Rattle.cmh_work.specs.Working.{IsMadeFor, SitsIn, AreSeated, AreNew, AreBack, IsWorked};
 
 use crate::chunks::chunk_at;
 use crate::fault::want_in_run;
@@ -34,7 +34,7 @@ fn run_of<L: Log>(
     requires idle { IsTrue (is_idle job.now.graph.now initiator) }
     ensures runner { runner.new ≡ runner.old }
     ensures sits { SitsIn job.now.shared.now seat.new }
-    ensures sees { Sees (known seat.old) (known seat.new) }
+    ensures sees { SeesMore (known seat.old) (known seat.new) }
     ensures run { IfOk result (λ r. IsRunFor
         job.now.graph.now job.now.plan.now.choices initiator (verdict_of r.ending) r) }
     ensures truth { IfOk result (TellsTruth job.now.graph.now) }
@@ -156,7 +156,7 @@ fn draw_all<L: Log, E: ProcessList, R: Wait, P: Gate>(
     gate: &P,
     seats: &mut Seats,
 ) -> Result<Vec<Finding<RunLog<L, E>, E>>, WorkFault>
-    requires sit { Sit job.now.shared.now seats.old }
+    requires sit { AreSeated job.now.shared.now seats.old }
     requires new { AreNew seats.old }
     ensures back { AreBack job.now.shared.now seats.old seats.new }
     ensures worked { IfOk result (λ found. IsWorked E.processes
@@ -192,7 +192,7 @@ pub(crate) fn work<L: Log, E: ProcessList, R: Wait, P: Gate>(
     seats: Seats,
 ) -> (Seats, Result<Vec<Finding<RunLog<L, E>, E>>, WorkFault>)
     requires made { IsMadeFor graph.now plan.now shared.now }
-    requires sit { Sit shared.now seats }
+    requires sit { AreSeated shared.now seats }
     requires new { AreNew seats }
     ensures back { AreBack shared.now seats result.0 }
     ensures worked { IfOk result.1 (λ found.

@@ -7,7 +7,7 @@ ghost use Rattle.cmh_rw.specs.View.{joined};
 ghost use Rattle.cmh_board.specs.Board.{known};
 ghost use Rattle.cmh_work.specs.Seats.{view};
 ghost use Rattle.cmh_work.specs.Tickets.{joined_views};
-ghost use Rattle.cmh_work.specs.Working.{IsMadeFor, Sit, AreNew, AreBack, IsWorked};
+ghost use Rattle.cmh_work.specs.Working.{IsMadeFor, AreSeated, AreNew, AreBack, IsWorked};
 
 use crate::finding::Finding;
 use crate::job::{Seats, Shared};
@@ -38,12 +38,12 @@ fn both<L: Log, E: ProcessList>(
 
 /// A seat of each with share 1, for another worker.
 fn split_off(shared: &Shared, seats: &mut Seats) -> Option<Seats>
-    requires sit { Sit shared.now seats.old }
+    requires sit { AreSeated shared.now seats.old }
     requires new { AreNew seats.old }
     requires share { (known seats.old.board).lock.share ≡ (view seats.old.tickets).share }
-    ensures sit { Sit shared.now seats.new × AreNew seats.new }
+    ensures sit { AreSeated shared.now seats.new × AreNew seats.new }
     ensures share { (known seats.new.board).lock.share ≡ (view seats.new.tickets).share }
-    ensures new { IfSome result (λ s. Sit shared.now s × AreNew s
+    ensures new { IfSome result (λ s. AreSeated shared.now s × AreNew s
         × ((known s.board).lock.share ≡ 1) × ((view s.tickets).share ≡ 1)) }
     ensures less { IfSome result (λ s.
         (view seats.new.tickets).share + 1 ≡ (view seats.old.tickets).share) }
@@ -60,8 +60,8 @@ fn split_off(shared: &Shared, seats: &mut Seats) -> Option<Seats>
 
 /// The seats of another worker come back.
 fn take_back(shared: &Shared, seats: &mut Seats, other: Seats)
-    requires sit { Sit shared.now seats.old × Sit shared.now other }
-    ensures sit { Sit shared.now seats.new }
+    requires sit { AreSeated shared.now seats.old × AreSeated shared.now other }
+    ensures sit { AreSeated shared.now seats.new }
     ensures tickets { view seats.new.tickets
         ≡ joined_views (view seats.old.tickets) (view other.tickets) }
     ensures board { known seats.new.board
@@ -87,7 +87,7 @@ pub(crate) fn workers<L: Log + Send, E: ProcessList + Send, R: Threads + Wait + 
     others: u32,
 ) -> (Seats, Result<Vec<Finding<RunLog<L, E>, E>>, WorkFault>)
     requires made { IsMadeFor graph.now plan.now shared.now }
-    requires sit { Sit shared.now seats }
+    requires sit { AreSeated shared.now seats }
     requires same { (known seats.board).lock.share ≡ (view seats.tickets).share }
     requires new { AreNew seats }
     requires share { others < (view seats.tickets).share }
@@ -108,14 +108,14 @@ pub(crate) fn workers<L: Log + Send, E: ProcessList + Send, R: Threads + Wait + 
         rt,
         || -> (Seats, Result<Vec<Finding<RunLog<L, E>, E>>, WorkFault>)
             requires { IsSync R.row × IsMadeFor graph.now plan.now shared.now
-                × Sit shared.now one × AreNew one }
+                × AreSeated shared.now one × AreNew one }
             ensures { AreBack shared.entry.now one result.0 × IfOk result.1 (λ found. IsWorked E.processes
                 graph.entry.now plan.entry.now shared.entry.now result.0 found.items)
                 × IfErr result.1 (λ e. e ≡ WorkFault.Memory) }
         { work(rt, alloc, graph, plan, shared, gate, one) },
         || -> (Seats, Result<Vec<Finding<RunLog<L, E>, E>>, WorkFault>)
             requires { IsSync R.row × IsMadeFor graph.now plan.now shared.now
-                × Sit shared.now rest
+                × AreSeated shared.now rest
                 × ((known rest.board).lock.share ≡ (view rest.tickets).share)
                 × AreNew rest × (fewer < (view rest.tickets).share) }
             ensures { AreBack shared.entry.now rest result.0 × IfOk result.1 (λ found. IsWorked E.processes

@@ -3,7 +3,7 @@
 ghost use Rattle.std.specs.Prelude.{◌<◌, IfOk};
 ghost use Rattle.cmh_graph.specs.Graph.{process_count};
 ghost use Rattle.cmh_run.specs.Run.{TellsTruth};
-ghost use Rattle.cmh_board.specs.Board.{graph_of, SitsAt, IsAway};
+ghost use Rattle.cmh_board.specs.Board.{board_graph, SitsAt, IsAway};
 
 use super::expect;
 use super::graphs::{cycle_and_follower, ring};
@@ -91,8 +91,8 @@ fn hold_together<R: Abort>(
     others: u32,
 ) -> BoardSeat
     requires sits { SitsAt board.now seat × IsAway seat }
-    requires process { 2 < process_count (graph_of board.now) }
-    requires truth { TellsTruth (graph_of board.now) run.now }
+    requires process { 2 < process_count (board_graph board.now) }
+    requires truth { TellsTruth (board_graph board.now) run.now }
     ensures { SitsAt board.now result × IsAway result }
 {
     let mut rest = seat;

@@ -3,7 +3,7 @@
 ghost use Rattle.std.specs.Prelude.{◌≡◌, ◌<◌, ◌+◌};
 ghost use Rattle.std.specs.Thread.{IsSync};
 ghost use Rattle.cmh_graph.specs.Graph.{process_count};
-ghost use Rattle.cmh_board.specs.Board.{graph_of, SitsAt, IsAway};
+ghost use Rattle.cmh_board.specs.Board.{board_graph, SitsAt, IsAway};
 
 use super::expect;
 use super::graphs::rings;
@@ -42,7 +42,7 @@ enum Ring {
 /// Looks at the first and the last process of a ring, in one hold.
 fn look_at_ring(board: &Board, seat: BoardSeat, ring: u32) -> (BoardSeat, Ring)
     requires sits { SitsAt board.now seat × IsAway seat }
-    requires full { process_count (graph_of board.now) ≡ 4096 }
+    requires full { process_count (board_graph board.now) ≡ 4096 }
     requires ring { ring < 16 }
     ensures { SitsAt board.now result.0 × IsAway result.0 }
 {
@@ -70,7 +70,7 @@ fn post_ring<R: Wait>(
     seat: BoardSeat,
     ring: u32,
 ) -> (BoardSeat, bool)
-    requires graph { graph_of board.now ≡ graph.now }
+    requires graph { board_graph board.now ≡ graph.now }
     requires sits { SitsAt board.now seat × IsAway seat }
     requires ring { ring < 16 }
     ensures { SitsAt board.now result.0 × IsAway result.0 }
@@ -90,7 +90,7 @@ fn take_turns<R: Wait>(
     seat: BoardSeat,
     start: u32,
 ) -> (BoardSeat, bool)
-    requires graph { graph_of board.now ≡ graph.now }
+    requires graph { board_graph board.now ≡ graph.now }
     requires sits { SitsAt board.now seat × IsAway seat }
     requires full { process_count graph.now ≡ 4096 }
     requires low { start < 16 }
@@ -129,7 +129,7 @@ fn take_turns_by<R: Threads + Wait + Sync>(
     seat: BoardSeat,
     others: u32,
 ) -> (BoardSeat, bool)
-    requires graph { graph_of board.now ≡ graph.now }
+    requires graph { board_graph board.now ≡ graph.now }
     requires sits { SitsAt board.now seat × IsAway seat }
     requires full { process_count graph.now ≡ 4096 }
     requires few { others < 4 }
@@ -147,12 +147,12 @@ fn take_turns_by<R: Threads + Wait + Sync>(
         rt,
         || -> (BoardSeat, bool)
             requires { SitsAt board.now one × IsAway one × IsSync R.row
-                × (graph_of board.now ≡ graph.now) × (process_count graph.now ≡ 4096) × (fewer < 3) }
+                × (board_graph board.now ≡ graph.now) × (process_count graph.now ≡ 4096) × (fewer < 3) }
             ensures { SitsAt board.entry.now result.0 × IsAway result.0 }
         { take_turns(rt, alloc, graph, board, one, 4 * fewer + 4) },
         || -> (BoardSeat, bool)
             requires { SitsAt board.now rest × IsAway rest × IsSync R.row
-                × (graph_of board.now ≡ graph.now) × (process_count graph.now ≡ 4096) × (fewer < 3) }
+                × (board_graph board.now ≡ graph.now) × (process_count graph.now ≡ 4096) × (fewer < 3) }
             ensures { SitsAt board.entry.now result.0 × IsAway result.0 }
         { take_turns_by(rt, alloc, graph, board, rest, fewer) },
     );

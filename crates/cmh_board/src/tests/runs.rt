@@ -2,7 +2,7 @@
 
 ghost use Rattle.std.specs.Prelude.{◌≡◌, IfOk};
 ghost use Rattle.cmh_run.specs.Run.{TellsTruth};
-ghost use Rattle.cmh_board.specs.Board.{known, graph_of, SitsAt, IsAway, Sees, PostIs};
+ghost use Rattle.cmh_board.specs.Board.{known, board_graph, SitsAt, IsAway, SeesMore, AnswersPost};
 ghost use Rattle.cmh_board.specs.Posting.{posting_of};
 
 use crate::{Board, BoardHints, BoardSeat, Post, Posting};
@@ -18,10 +18,10 @@ pub(super) fn run_with_hints(
     seat: &mut BoardSeat,
     p: u32,
 ) -> Result<RunLog, RunFault>
-    requires graph { graph_of board.now ≡ graph.now }
+    requires graph { board_graph board.now ≡ graph.now }
     requires sits { SitsAt board.now seat.old × IsAway seat.old }
     ensures sits { SitsAt board.now seat.new × IsAway seat.new }
-    ensures sees { Sees (known seat.old) (known seat.new) }
+    ensures sees { SeesMore (known seat.old) (known seat.new) }
     ensures truth { IfOk result (TellsTruth graph.now) }
 {
     let mut hints = BoardHints::new(board, seat);
@@ -31,9 +31,9 @@ pub(super) fn run_with_hints(
 /// One try to post a run.
 pub(super) fn try_post_run(board: &Board, seat: &mut BoardSeat, run: &RunLog) -> Post
     requires sits { SitsAt board.now seat.old × IsAway seat.old }
-    requires truth { TellsTruth (graph_of board.now) run.now }
+    requires truth { TellsTruth (board_graph board.now) run.now }
     ensures sits { SitsAt board.now seat.new × IsAway seat.new }
-    ensures answer { PostIs (posting_of run.now) (known seat.old) (known seat.new) result }
+    ensures answer { AnswersPost (posting_of run.now) (known seat.old) (known seat.new) result }
 {
     board.try_post(seat, &Posting::of_run(run))
 }

@@ -4,7 +4,7 @@ ghost use Rattle.std.specs.Prelude.{◌≡◌, ◌<◌, ◌-◌};
 ghost use Rattle.std.specs.Thread.{IsSync};
 ghost use Rattle.cmh_graph.specs.Graph.{process_count};
 ghost use Rattle.cmh_run.specs.Run.{TellsTruth};
-ghost use Rattle.cmh_board.specs.Board.{graph_of, SitsAt, IsAway};
+ghost use Rattle.cmh_board.specs.Board.{board_graph, SitsAt, IsAway};
 
 use super::expect;
 use super::graphs::{cycle_and_follower, ring_and_chain};
@@ -25,7 +25,7 @@ const TURNS: u32 = 1_000_000_000;
 /// came to that, and process 0 wasn't posted.
 fn meets(board: &Board, seat: BoardSeat, mine: &AtomicBool, other: &AtomicBool) -> (BoardSeat, bool)
     requires sits { SitsAt board.now seat × IsAway seat }
-    requires process { 0 < process_count (graph_of board.now) }
+    requires process { 0 < process_count (board_graph board.now) }
     ensures { SitsAt board.now result.0 × IsAway result.0 }
 {
     let mut seat = seat;
@@ -58,7 +58,7 @@ fn both_hold<R: Threads + Sync>(
 ) -> ((BoardSeat, bool), (BoardSeat, bool))
     requires sits { SitsAt board.now x × SitsAt board.now y }
     requires away { IsAway x × IsAway y }
-    requires process { 0 < process_count (graph_of board.now) }
+    requires process { 0 < process_count (board_graph board.now) }
     ensures first { SitsAt board.now result.0.0 × IsAway result.0.0 }
     ensures second { SitsAt board.now result.1.0 × IsAway result.1.0 }
 {
@@ -67,11 +67,11 @@ fn both_hold<R: Threads + Sync>(
     join(
         rt,
         || -> (BoardSeat, bool)
-            requires { SitsAt board.now x × IsAway x × (0 < process_count (graph_of board.now)) }
+            requires { SitsAt board.now x × IsAway x × (0 < process_count (board_graph board.now)) }
             ensures { SitsAt board.entry.now result.0 × IsAway result.0 }
         { meets(board, x, &first, &second) },
         || -> (BoardSeat, bool)
-            requires { SitsAt board.now y × IsAway y × (0 < process_count (graph_of board.now)) }
+            requires { SitsAt board.now y × IsAway y × (0 < process_count (board_graph board.now)) }
             ensures { SitsAt board.entry.now result.0 × IsAway result.0 }
         { meets(board, y, &second, &first) },
     )
@@ -93,7 +93,7 @@ fn two_threads_hold_at_once(rt: HostRuntime) -> Result<(), Fail> {
 /// Posts a run.
 pub(super) fn post_run<R: Wait>(rt: &R, board: &Board, seat: BoardSeat, run: &RunLog) -> BoardSeat
     requires sits { SitsAt board.now seat × IsAway seat }
-    requires truth { TellsTruth (graph_of board.now) run.now }
+    requires truth { TellsTruth (board_graph board.now) run.now }
     ensures { SitsAt board.now result × IsAway result }
 {
     let mut seat = seat;
@@ -132,7 +132,7 @@ fn post_beside_snapshots<R: Threads + Wait + Sync>(
 ) -> (BoardSeat, (BoardSeat, bool))
     requires sits { SitsAt board.now x × SitsAt board.now y }
     requires away { IsAway x × IsAway y }
-    requires truth { TellsTruth (graph_of board.now) run.now }
+    requires truth { TellsTruth (board_graph board.now) run.now }
     ensures first { SitsAt board.now result.0 × IsAway result.0 }
     ensures second { SitsAt board.now result.1.0 × IsAway result.1.0 }
 {
@@ -140,7 +140,7 @@ fn post_beside_snapshots<R: Threads + Wait + Sync>(
         rt,
         || -> BoardSeat
             requires { SitsAt board.now x × IsAway x × IsSync R.row
-                × TellsTruth (graph_of board.now) run.now }
+                × TellsTruth (board_graph board.now) run.now }
             ensures { SitsAt board.entry.now result × IsAway result }
         { post_run(rt, board, x, run) },
         || -> (BoardSeat, bool)
@@ -176,7 +176,7 @@ fn serve_all<R: Wait>(
     seat: BoardSeat,
     start: u32,
 ) -> (BoardSeat, bool)
-    requires graph { graph_of board.now ≡ graph.now }
+    requires graph { board_graph board.now ≡ graph.now }
     requires sits { SitsAt board.now seat × IsAway seat }
     requires low { start < 200 }
     ensures { SitsAt board.now result.0 × IsAway result.0 }
@@ -201,7 +201,7 @@ fn serve_by<R: Threads + Wait + Sync>(
     seat: BoardSeat,
     others: u32,
 ) -> (BoardSeat, bool)
-    requires graph { graph_of board.now ≡ graph.now }
+    requires graph { board_graph board.now ≡ graph.now }
     requires sits { SitsAt board.now seat × IsAway seat }
     requires few { others < 8 }
     ensures { SitsAt board.now result.0 × IsAway result.0 }
@@ -218,12 +218,12 @@ fn serve_by<R: Threads + Wait + Sync>(
         rt,
         || -> (BoardSeat, bool)
             requires { SitsAt board.now one × IsAway one × IsSync R.row
-                × (graph_of board.now ≡ graph.now) × (fewer < 7) }
+                × (board_graph board.now ≡ graph.now) × (fewer < 7) }
             ensures { SitsAt board.entry.now result.0 × IsAway result.0 }
         { serve_all(rt, alloc, graph, board, one, 25 * fewer) },
         || -> (BoardSeat, bool)
             requires { SitsAt board.now rest × IsAway rest × IsSync R.row
-                × (graph_of board.now ≡ graph.now) × (fewer < 7) }
+                × (board_graph board.now ≡ graph.now) × (fewer < 7) }
             ensures { SitsAt board.entry.now result.0 × IsAway result.0 }
         { serve_by(rt, alloc, graph, board, rest, fewer) },
     );

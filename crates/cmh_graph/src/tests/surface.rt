@@ -6,7 +6,7 @@ use super::{
 };
 use crate::laws::{
     law_built_graph, law_chosen_path, law_closed_set, law_core, law_distance, law_group_number,
-    law_leader, law_leaders, law_no_path, law_path_length, law_reach, law_rest, law_rising,
+    law_leader, law_leaders, law_chosen_path_exists, law_path_length, law_reach, law_rest, law_rising,
     law_verdict, law_well_formed,
 };
 use crate::{GraphFault, Part, Predecessors, State, Verdict, WaitGraph};
@@ -137,7 +137,7 @@ fn laws() {
     law_reach();
     law_verdict();
     law_chosen_path();
-    law_no_path();
+    law_chosen_path_exists();
     law_distance();
     law_path_length();
     law_core();

@@ -170,11 +170,11 @@ fn values(rt: HostRuntime) {
         hint: None,
     }
     .hash(&mut state);
-    laws::law_runs_are_right();
-    laws::law_runs_are_short();
+    laws::law_runs_sound();
+    laws::law_delivery_bound();
     laws::law_who_engages();
     laws::law_awake_ones_start_nothing();
-    laws::law_choices_decide();
+    laws::law_runs_deterministic();
     laws::law_one_run();
     laws::law_last_computation_is_a_run();
     laws::law_logs_have_one_answer();

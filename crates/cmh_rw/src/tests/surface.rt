@@ -6,7 +6,7 @@ ghost use Rattle.cmh_rw.specs.Seats.{IsSeatOf, IsAway};
 use super::graphs::two_in_a_cycle;
 use super::posting::post_two;
 use super::{expect, expect_eq};
-use crate::laws::{law_one_row_a_word, law_step};
+use crate::laws::{law_row_code_injective, law_step_lawful};
 use crate::{
     BOARD_WORDS, Entry, Event, FIRST_ROW, FIRST_VERDICT, LockWorld, MAX_SEATS, RwFault, RwSeat,
     RwWords, SeatState, WRITER, run_events,
@@ -16,8 +16,8 @@ use std::test::Fail;
 
 #[test]
 fn constants(rt: HostRuntime) {
-    law_step();
-    law_one_row_a_word();
+    law_step_lawful();
+    law_row_code_injective();
     expect_eq(&rt, WRITER, 4_294_967_296);
     expect_eq(&rt, MAX_SEATS, 64);
     expect_eq(

@@ -6,7 +6,7 @@ use Rattle.cmh_rw.proofs.Folds.{true-few}
 use Rattle.cmh_board.specs.Board.{unposted}
 use Rattle.cmh_board.specs.Adding.{Stages}
 use Rattle.cmh_board.proofs.Lists.{length-filter-le}
-use Rattle.cmh_board.proofs.Added.{adds_none, adds_rows, staged_ends, staged_told, staged_number}
+use Rattle.cmh_board.proofs.AddingLemmas.{adds_none, adds_rows, staged_ends, staged_told, staged_number}
 use Rattle.cmh_board.proofs.post.add.Goals as goal
 
 pub overflow_add-end : goal.overflow_add-end

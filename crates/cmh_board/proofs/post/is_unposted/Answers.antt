@@ -2,7 +2,7 @@ use Rattle.std.proofs.Common.{refl, ap, ◌∙◌, ◌++◌, eqb}
 use Rattle.std.specs.Prelude.{is_none}
 use Rattle.cmh_rw.specs.History.{fold_at}
 use Rattle.cmh_rw.specs.Seats.{view}
-use Rattle.cmh_board.proofs.Staging.{only_load, code_none}
+use Rattle.cmh_board.proofs.StagedRows.{only_load, code_none}
 use Rattle.cmh_board.proofs.post.is_unposted.Goals as goal
 
 pub returns-clause-loads : goal.returns-clause-loads

@@ -4,7 +4,7 @@ use Rattle.cmh_graph.proofs.Verdicts.{idle_within}
 use Rattle.cmh_rw.specs.declared.seat.RwSeat.{RwSeat}
 use Rattle.cmh_rw.specs.Seats.{view, IsSeatOf}
 use Rattle.cmh_board.specs.Board.{unposted}
-use Rattle.cmh_board.proofs.Staging.{Staging, found_new, below_end, next_number, can_stage, can_tell, is_last, staging-old, staging-new}
+use Rattle.cmh_board.proofs.StagedRows.{Staging, found_new, below_end, next_number, can_stage, can_tell, is_last, staging-old, staging-new}
 use Rattle.cmh_board.proofs.post.stage.Goals as goal
 use Rattle.cmh_board.proofs.post.stage.Goals.{then-is_unposted, else-is_unposted}
 

@@ -1,5 +1,5 @@
 use Rattle.cmh_rw.specs.Seats.{view, IsSeatOf}
-use Rattle.cmh_board.proofs.Staging.{Staging}
+use Rattle.cmh_board.proofs.StagedRows.{Staging}
 use Rattle.cmh_board.proofs.post.stage.Given as goal
 
 abbrev pub invariant-loop-p : goal.invariant-loop-p

@@ -4,7 +4,7 @@ use Rattle.cmh_dump.specs.View.{view}
 use Rattle.cmh_dump.specs.Dump.{holds}
 use Rattle.cmh_dump.specs.Read.{entry_faults, transit_faults}
 use Rattle.cmh_dump.specs.Texts.{texts}
-use Rattle.cmh_dump.proofs.Composed.{refused_here, refused_later, graph_is}
+use Rattle.cmh_dump.proofs.TreeStages.{refused_here, refused_later, graph_is}
 use Rattle.cmh_dump.proofs.Searches.{first_after}
 use Rattle.cmh_dump.proofs.dump.read_linked.Goals as goal
 

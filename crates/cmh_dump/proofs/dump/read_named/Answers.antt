@@ -2,8 +2,8 @@ use Rattle.std.proofs.Common.{◌∙◌}
 use Rattle.std.proofs.lemmas.Result.{err_from_is_err_and}
 use Rattle.cmh_dump.specs.View.{view}
 use Rattle.cmh_dump.specs.Read.{name_faults}
-use Rattle.cmh_dump.proofs.Composed.{faults_from_entries, refused_here, built_later}
-use Rattle.cmh_dump.proofs.Judged.{names_seen}
+use Rattle.cmh_dump.proofs.TreeStages.{faults_from_entries, refused_here, built_later}
+use Rattle.cmh_dump.proofs.StageAnswers.{names_seen}
 use Rattle.cmh_dump.proofs.dump.read_named.Goals as goal
 
 pub returns-in_err-names : goal.returns-in_err-names

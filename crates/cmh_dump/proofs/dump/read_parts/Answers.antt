@@ -2,7 +2,7 @@ use Rattle.std.proofs.Common.{◌++◌, map, ap, ◌∙◌}
 use Rattle.std.proofs.lemmas.Result.{err_from_is_err_and}
 use Rattle.cmh_dump.specs.View.{view}
 use Rattle.cmh_dump.specs.Read.{entry_view, top_faults, site_faults, process_faults}
-use Rattle.cmh_dump.proofs.Composed.{faults_from_names, refused_here, refused_later, refused_past_sites, built_later}
+use Rattle.cmh_dump.proofs.TreeStages.{faults_from_names, refused_here, refused_later, refused_past_sites, built_later}
 use Rattle.cmh_dump.proofs.dump.read_parts.Goals as goal
 
 pub returns-in_err-judge_top : goal.returns-in_err-judge_top

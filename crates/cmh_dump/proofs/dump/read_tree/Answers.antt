@@ -1,8 +1,8 @@
 use Rattle.std.proofs.Common.{ap, ◌∙◌}
 use Rattle.std.proofs.lemmas.Result.{err_from_is_err_and}
 use Rattle.cmh_dump.specs.View.{view}
-use Rattle.cmh_graph.specs.Build.{graph_of}
-use Rattle.cmh_dump.proofs.Composed.{refused, accepted, refused_for_memory_alone}
+use Rattle.cmh_graph.specs.Build.{parts_graph}
+use Rattle.cmh_dump.proofs.TreeStages.{refused, accepted, refused_for_memory_alone}
 use Rattle.cmh_dump.proofs.dump.read_tree.Goals as goal
 use Rattle.cmh_dump.proofs.dump.read_tree.Goals.{in-Memory, in_default}
 
@@ -14,10 +14,11 @@ returns-in_err-parts-clause-err c =
 pub returns-in-Ok-clause-ok : goal.returns-in-Ok-clause-ok
 returns-in-Ok-clause-ok c =
     accepted (view c.args.tree.now) c.in-Ok.graph c.in_ok-parts.ensures.0
-    (c.in-Ok.ensures.ok.0 ∙ ap (graph_of c.in_ok-parts.parts.items) c.deref.ensures.value ∙ c.in_ok-parts.ensures.1)
+    (c.in-Ok.ensures.ok.0 ∙ ap (parts_graph c.in_ok-parts.parts.items) c.deref.ensures.value ∙ c.in_ok-parts.ensures.1)
 
 pub prove-unreachable-requires : goal.prove-unreachable-requires
 prove-unreachable-requires c =
     let memory = refused_for_memory_alone (view c.args.tree.now) _ c.in-Err.fault c.in_ok-parts.ensures.0
-    (ap (graph_of c.in_ok-parts.parts.items) c.deref.ensures.value ∙ c.in_ok-parts.ensures.1) c.in-Err.ensures.fault in
+    (ap (parts_graph c.in_ok-parts.parts.items) c.deref.ensures.value ∙ c.in_ok-parts.ensures.1)
+        c.in-Err.ensures.fault in
     elim c.match-matches.branch [ in-Memory w ↦ (cc) | in_default w ↦ w.in_default.not-Memory memory ]

@@ -1,6 +1,6 @@
 use Rattle.std.proofs.Common.{arith, sym, ◌∙◌}
 use Rattle.cmh_dump.specs.Texts.{texts}
-use Rattle.cmh_dump.proofs.Indexed.{length-texts}
+use Rattle.cmh_dump.proofs.IndexLemmas.{length-texts}
 use Rattle.cmh_dump.proofs.Places.{place_is_some, place_within, place_is_none}
 use Rattle.cmh_dump.proofs.index.place_of.Goals as goal
 

@@ -4,9 +4,9 @@ use Rattle.std.proofs.lemmas.Result.{err_from_is_err_and}
 use Rattle.cmh_dump.specs.Places.{first_repeated_place}
 use Rattle.cmh_dump.specs.Read.{first_pair}
 use Rattle.cmh_dump.specs.Texts.{texts}
-use Rattle.cmh_dump.proofs.Indexed.{length-texts}
-use Rattle.cmh_dump.proofs.Judged.{site_unknown, dependent_told, dependent_repeated, active_waits, dependencies_many, entries_judged}
-use Rattle.cmh_dump.proofs.Repeating.{parts_within, pairs_alike}
+use Rattle.cmh_dump.proofs.IndexLemmas.{length-texts}
+use Rattle.cmh_dump.proofs.StageAnswers.{site_unknown, dependent_told, dependent_repeated, active_waits, dependencies_many, entries_judged}
+use Rattle.cmh_dump.proofs.RepeatedDependents.{parts_within, pairs_alike}
 use Rattle.cmh_dump.proofs.judge.link_entries.Goals as goal
 
 pub first_repeated_dependent-requires : goal.first_repeated_dependent-requires

@@ -1,7 +1,7 @@
 use Rattle.std.proofs.Common.{ap, ◌∙◌}
 use Rattle.cmh_dump.specs.Texts.{texts}
-use Rattle.cmh_dump.proofs.Indexed.{repeat_of}
-use Rattle.cmh_dump.proofs.Judged.{names_seen, name_repeated, names_judged}
+use Rattle.cmh_dump.proofs.IndexLemmas.{repeat_of}
+use Rattle.cmh_dump.proofs.StageAnswers.{names_seen, name_repeated, names_judged}
 use Rattle.cmh_dump.proofs.judge.read_names.Goals as goal
 
 pub returns-in-Ok-clause-judges : goal.returns-in-Ok-clause-judges

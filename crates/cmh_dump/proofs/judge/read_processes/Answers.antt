@@ -2,7 +2,7 @@ use Rattle.std.proofs.Common.{◌≤◌, length, map, ap, sym, ◌∙◌, arith}
 use Rattle.cmh_dump.specs.View.{view}
 use Rattle.cmh_graph.specs.declared.TheConstants.{MAX_PROCESSES}
 use Rattle.cmh_dump.specs.Entry.{entry_of}
-use Rattle.cmh_dump.proofs.Judged.{process_bad, processes_judged}
+use Rattle.cmh_dump.proofs.StageAnswers.{process_bad, processes_judged}
 use Rattle.cmh_dump.proofs.Trees.{map-map}
 use Rattle.cmh_dump.proofs.judge.read_processes.Goals as goal
 

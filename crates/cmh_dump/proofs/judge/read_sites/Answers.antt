@@ -5,8 +5,8 @@ use Rattle.cmh_dump.specs.declared.TheConstants.{MAX_SITES}
 use Rattle.cmh_dump.specs.Index.{first_repeat}
 use Rattle.cmh_dump.specs.Name.{is_name}
 use Rattle.cmh_dump.specs.Texts.{texts}
-use Rattle.cmh_dump.proofs.Indexed.{repeat_of, length-texts}
-use Rattle.cmh_dump.proofs.Judged.{site_bad, site_repeated, sites_many, sites_judged}
+use Rattle.cmh_dump.proofs.IndexLemmas.{repeat_of, length-texts}
+use Rattle.cmh_dump.proofs.StageAnswers.{site_bad, site_repeated, sites_many, sites_judged}
 use Rattle.cmh_dump.proofs.judge.read_sites.Goals as goal
 
 pub returns-in-Some-clause-judges : goal.returns-in-Some-clause-judges

@@ -4,7 +4,7 @@ use Rattle.std.specs.List.{list_all}
 use Rattle.std.proofs.lemmas.List.{take_at}
 use Rattle.cmh_dump.specs.Places.{first_repeated_place}
 use Rattle.cmh_dump.proofs.Pairs.{pair_found, pair_passed, no_pair}
-use Rattle.cmh_dump.proofs.Repeating.{first_is, none_is, row_below, passes_at}
+use Rattle.cmh_dump.proofs.RepeatedDependents.{first_is, none_is, row_below, passes_at}
 use Rattle.cmh_dump.proofs.repeats.first_repeated_dependent.Goals as goal
 
 pub first_repeat-requires-clause-within : goal.first_repeat-requires-clause-within

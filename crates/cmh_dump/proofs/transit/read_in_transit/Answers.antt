@@ -2,7 +2,7 @@ use Rattle.std.proofs.Common.{map, ap, sym, ◌∙◌}
 use Rattle.cmh_dump.specs.View.{view}
 use Rattle.cmh_dump.specs.Dump.{places_in_pair}
 use Rattle.cmh_dump.specs.Texts.{texts}
-use Rattle.cmh_dump.proofs.Judged.{transit_bad, transit_unknown, transits_judged}
+use Rattle.cmh_dump.proofs.StageAnswers.{transit_bad, transit_unknown, transits_judged}
 use Rattle.cmh_dump.proofs.Trees.{map-map}
 use Rattle.cmh_dump.proofs.transit.read_in_transit.Goals as goal
 

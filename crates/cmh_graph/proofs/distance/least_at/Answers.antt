@@ -1,7 +1,7 @@
 use Rattle.std.proofs.Common.{subst}
 use Rattle.std.proofs.lemmas.List.{take_all}
 use Rattle.cmh_graph.specs.Search.{IsLeastAt}
-use Rattle.cmh_graph.proofs.Searching.{least_above, least_more, least_other}
+use Rattle.cmh_graph.proofs.PositionLemmas.{least_above, least_more, least_other}
 use Rattle.cmh_graph.proofs.distance.least_at.Goals as goal
 use Rattle.cmh_graph.proofs.distance.least_at.Goals.{then-is_below+then-eq, else-is_below, else-is_below-via-then-is_below+else-eq, else-is_below-via-else-is_below}
 

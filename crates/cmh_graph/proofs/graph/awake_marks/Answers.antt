@@ -1,4 +1,4 @@
-use Rattle.cmh_graph.proofs.Waking.{awake_end, awake_start}
+use Rattle.cmh_graph.proofs.AwakeLemmas.{awake_end, awake_start}
 use Rattle.cmh_graph.proofs.graph.awake_marks.Goals as goal
 
 pub loop-sender-init : goal.loop-sender-init

@@ -1,6 +1,6 @@
 use Rattle.std.proofs.Common.{◌≤◌, arith}
 use Rattle.std.proofs.lemmas.List.Elements.{All-set}
-use Rattle.cmh_graph.proofs.Judging.{first_place, seen_none, stamp_more, stamp_repeat}
+use Rattle.cmh_graph.proofs.PartLemmas.{first_place, seen_none, stamp_more, stamp_repeat}
 use Rattle.cmh_graph.proofs.judge.first_repeat.Goals as goal
 
 pub loop-j-init : goal.loop-j-init

@@ -1,6 +1,6 @@
 use Rattle.std.proofs.Common.{◌≤◌, length}
 use Rattle.std.specs.Prelude.{All}
-use Rattle.cmh_graph.proofs.Judging.{SeenUpTo, stamped}
+use Rattle.cmh_graph.proofs.PartLemmas.{SeenUpTo, stamped}
 use Rattle.cmh_graph.proofs.judge.first_repeat.Given as goal
 
 abbrev pub invariant-loop-j : goal.invariant-loop-j

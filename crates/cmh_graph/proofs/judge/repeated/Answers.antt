@@ -1,7 +1,7 @@
 use Rattle.std.proofs.Common.{◌∙◌, ◌≤◌, ◌+◌, [], ap, arith, drop, length, subst, sym}
 use Rattle.std.specs.Prelude.{All}
 use Rattle.std.proofs.lemmas.List.{take_at}
-use Rattle.cmh_graph.proofs.Judging.{repeat_first, repeat_more, repeat_none, row_at, row_within}
+use Rattle.cmh_graph.proofs.PartLemmas.{repeat_first, repeat_more, repeat_none, row_at, row_within}
 use Rattle.cmh_graph.proofs.judge.repeated.Goals as goal
 
 pub first_repeat-requires-clause-within : goal.first_repeat-requires-clause-within

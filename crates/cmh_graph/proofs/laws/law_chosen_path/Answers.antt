@@ -1,4 +1,4 @@
-use Rattle.cmh_graph.proofs.Choosing.{chosen_path_law}
+use Rattle.cmh_graph.proofs.ChosenPathLemmas.{chosen_path_law}
 use Rattle.cmh_graph.proofs.laws.law_chosen_path.Goals as goal
 
 pub returns : goal.returns

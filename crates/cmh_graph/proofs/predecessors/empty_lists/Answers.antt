@@ -1,7 +1,7 @@
 use Rattle.std.proofs.Common.{length, ap, arith, ◌∙◌}
 use Rattle.std.proofs.lemmas.List.{length_push}
 use Rattle.cmh_graph.specs.Search.{list_at}
-use Rattle.cmh_graph.proofs.Searching.{empty_more}
+use Rattle.cmh_graph.proofs.PositionLemmas.{empty_more}
 use Rattle.cmh_graph.proofs.predecessors.empty_lists.Goals as goal
 
 pub loop-init : goal.loop-init

@@ -1,5 +1,5 @@
 use Rattle.std.proofs.Common.{arith}
-use Rattle.cmh_graph.proofs.Searching.{joins_more}
+use Rattle.cmh_graph.proofs.PositionLemmas.{joins_more}
 use Rattle.cmh_graph.proofs.predecessors.join_each.Goals as goal
 
 pub loop-r-preserved : goal.loop-r-preserved

@@ -1,6 +1,6 @@
 use Rattle.std.proofs.Common.{◌≡◌, ◌∙◌, ap, arith, false, get_or, true}
 use Rattle.cmh_graph.specs.Search.{is_marked}
-use Rattle.cmh_graph.proofs.Searching.{marks_kept_more, marks_more}
+use Rattle.cmh_graph.proofs.PositionLemmas.{marks_kept_more, marks_more}
 use Rattle.cmh_graph.proofs.search.mark_each.Goals as goal
 use Rattle.cmh_graph.proofs.search.mark_each.Goals.{then-not-marks-p+in_ok-push, else-not-marks-p}
 

@@ -1,6 +1,6 @@
 use Rattle.std.proofs.Common.{◌≡◌, ◌∙◌, ap, arith, false, get_or, true}
 use Rattle.cmh_graph.specs.Search.{is_marked}
-use Rattle.cmh_graph.proofs.Searching.{marks_inside_kept, marks_inside_more, marks_outside}
+use Rattle.cmh_graph.proofs.PositionLemmas.{marks_inside_kept, marks_inside_more, marks_outside}
 use Rattle.cmh_graph.proofs.search.mark_each_within.Goals as goal
 use Rattle.cmh_graph.proofs.search.mark_each_within.Goals.{then-inside-p+then-not-marks-p+in_ok-push, else-inside-p, else-inside-p-via-then-inside-p+else-not-marks-p, else-inside-p-via-else-inside-p}
 

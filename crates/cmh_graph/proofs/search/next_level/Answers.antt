@@ -1,7 +1,7 @@
 use Rattle.std.proofs.Common.{sym, subst, arith, get_or, length, ℕ, ◌<◌, List}
 use Rattle.std.specs.Prelude.{Contains}
 use Rattle.cmh_graph.specs.Search.{Numbers}
-use Rattle.cmh_graph.proofs.Searching.{level_more}
+use Rattle.cmh_graph.proofs.PositionLemmas.{level_more}
 use Rattle.cmh_graph.proofs.search.next_level.Goals as goal
 
 pub number_each-requires : goal.number_each-requires

@@ -1,5 +1,5 @@
 use Rattle.std.proofs.Common.{arith, ap, ◌∙◌}
-use Rattle.cmh_graph.proofs.Searching.{unnumbered, numbers_more, numbers_kept_more}
+use Rattle.cmh_graph.proofs.PositionLemmas.{unnumbered, numbers_more, numbers_kept_more}
 use Rattle.cmh_graph.proofs.search.number_each.Goals as goal
 use Rattle.cmh_graph.proofs.search.number_each.Goals.{then-is_none+in_ok-push, else-is_none}
 

@@ -1,6 +1,6 @@
 use Rattle.std.proofs.Common.{◌∙◌, ap, refl}
 use Rattle.cmh_graph.specs.Path.{reach_of}
-use Rattle.cmh_graph.proofs.Listing.{by_index}
+use Rattle.cmh_graph.proofs.IndexLists.{by_index}
 use Rattle.cmh_report.specs.Group.{leaders_up_to}
 use Rattle.cmh_report.specs.Report.{site_count}
 use Rattle.cmh_report.proofs.Members.{reach_within}

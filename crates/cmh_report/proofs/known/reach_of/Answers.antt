@@ -1,7 +1,7 @@
 use Rattle.std.proofs.Common.{◌∙◌, ap, arith, length}
 use Rattle.cmh_graph.specs.Path.{reaches}
-use Rattle.cmh_graph.proofs.Listing.{length-by_index}
-use Rattle.cmh_graph.proofs.Spreading.{reach_listed}
+use Rattle.cmh_graph.proofs.IndexLists.{length-by_index}
+use Rattle.cmh_graph.proofs.ForwardSearch.{reach_listed}
 use Rattle.rayon.proofs.ListFacts.{IfOk-then}
 use Rattle.cmh_report.proofs.known.reach_of.Goals as goal
 

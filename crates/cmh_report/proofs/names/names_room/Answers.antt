@@ -1,6 +1,6 @@
 use Rattle.std.proofs.Common.{◌-◌, ◌^◌, ◌∙◌, ap, arith, length, min, take_all}
 use Rattle.cmh_report.specs.Report.{names, spaced}
-use Rattle.cmh_report.proofs.Spaced.{names_more}
+use Rattle.cmh_report.proofs.SpacedNames.{names_more}
 use Rattle.cmh_report.proofs.names.names_room.Goals as goal
 
 pub loop-p-preserved : goal.loop-p-preserved

@@ -8,7 +8,7 @@ use Rattle.cmh_graph.specs.Core.{leaders}
 use Rattle.cmh_graph.specs.Graph.{process_count}
 use Rattle.cmh_report.specs.Group.{is_led_by}
 use Rattle.cmh_report.specs.Report.{line, group_line}
-use Rattle.cmh_report.proofs.Joining.{all_pieces, all_turned, collected, leaders_lead, pieces_joined}
+use Rattle.cmh_report.proofs.JoinedTexts.{all_pieces, all_turned, collected, leaders_lead, pieces_joined}
 use Rattle.cmh_report.proofs.parallel.group_lines.Goals as goal
 
 -- each piece has leaders alone

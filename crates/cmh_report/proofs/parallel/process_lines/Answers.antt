@@ -6,7 +6,7 @@ use Rattle.rayon.specs.Lists.{chunks_of}
 use Rattle.rayon.proofs.ListFacts.{IfOk-then}
 use Rattle.cmh_graph.specs.Graph.{idle_list, process_count}
 use Rattle.cmh_report.specs.Report.{line, process_line}
-use Rattle.cmh_report.proofs.Joining.{all_pieces, all_turned, collected, idle_within_list, pieces_joined}
+use Rattle.cmh_report.proofs.JoinedTexts.{all_pieces, all_turned, collected, idle_within_list, pieces_joined}
 use Rattle.cmh_report.proofs.parallel.process_lines.Goals as goal
 
 -- each piece has idle processes alone

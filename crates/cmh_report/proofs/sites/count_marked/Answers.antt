@@ -6,7 +6,7 @@ use Rattle.std.proofs.lemmas.List.{get_or_default}
 use Rattle.std.proofs.lemmas.Map.Made.{length-from_keys}
 use Rattle.cmh_graph.specs.Graph.{site_of}
 use Rattle.cmh_graph.specs.Search.{is_marked}
-use Rattle.cmh_report.proofs.Counting.{AreSeen, seen_again, seen_all, seen_more, seen_none, sites_more}
+use Rattle.cmh_report.proofs.SiteCounts.{AreSeen, seen_again, seen_all, seen_more, seen_none, sites_more}
 use Rattle.cmh_report.proofs.sites.count_marked.Goals as goal
 use Rattle.cmh_report.proofs.sites.count_marked.Goals.{then-not-index+in_ok-push, else-not-index}
 

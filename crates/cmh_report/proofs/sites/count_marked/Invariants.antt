@@ -1,6 +1,6 @@
 use Rattle.std.proofs.Common.{map, take}
 use Rattle.cmh_graph.specs.Graph.{site_of}
-use Rattle.cmh_report.proofs.Counting.{AreSeen}
+use Rattle.cmh_report.proofs.SiteCounts.{AreSeen}
 use Rattle.cmh_report.proofs.sites.count_marked.Given as goal
 
 abbrev pub invariant-loop-p : goal.invariant-loop-p

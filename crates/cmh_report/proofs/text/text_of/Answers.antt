@@ -1,5 +1,5 @@
 use Rattle.std.proofs.Common.{◌∙◌}
-use Rattle.cmh_report.proofs.Joining.{whole_report}
+use Rattle.cmh_report.proofs.JoinedTexts.{whole_report}
 use Rattle.cmh_report.proofs.text.text_of.Goals as goal
 use Rattle.rayon.proofs.ListFacts.{IfOk-then}
 

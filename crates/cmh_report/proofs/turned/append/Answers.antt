@@ -1,6 +1,6 @@
 use Rattle.std.proofs.Common.{◌≡◌, ◌∙◌, ◌++◌, ◌∷◌, [], ap, reverse}
 use Rattle.std.specs.Prelude.{flat_map, option_to_list}
-use Rattle.cmh_report.proofs.Joining.{last_appended}
+use Rattle.cmh_report.proofs.JoinedTexts.{last_appended}
 use Rattle.cmh_report.proofs.turned.append.Goals as goal
 
 pub loop-next-preserved : goal.loop-next-preserved

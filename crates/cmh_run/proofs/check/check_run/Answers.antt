@@ -9,9 +9,9 @@ use Rattle.cmh_run.specs.declared.delivery.Delivery.{Delivery}
 use Rattle.cmh_run.specs.declared.delivery.Ending.TheVariants.{Declared}
 use Rattle.cmh_run.specs.declared.fault.CheckFault.TheVariants.{Memory}
 use Rattle.cmh_run.specs.Legal.{Going}
-use Rattle.cmh_run.specs.Check.{IsLegalRun, IsFirstFault}
+use Rattle.cmh_run.specs.Check.{IsLegalRun, IsFirstCheckFault}
 use Rattle.cmh_run.specs.Audit.{Agrees, IsSettled, IsAudited, IsFlaw}
-use Rattle.cmh_run.proofs.Judging.{flaw_is_fault, answer_legal, answer_true, answer_cut}
+use Rattle.cmh_run.proofs.CheckLemmas.{flaw_is_fault, answer_legal, answer_true, answer_cut}
 use Rattle.cmh_run.proofs.check.check_run.Goals as goal
 
 -- what is wrong with a delivery is the first fault
@@ -60,7 +60,7 @@ returns-clause-true_verdict c =
 -- without one the log is cut short
 pub returns-clause-fault : goal.returns-clause-fault
 returns-clause-fault c =
-    subst (λ r. IfErr r (λ e. (e ≡ Memory) ⊎ IsFirstFault c.args.graph.now c.args.initiator c.args.log.now e))
+    subst (λ r. IfErr r (λ e. (e ≡ Memory) ⊎ IsFirstCheckFault c.args.graph.now c.args.initiator c.args.log.now e))
     (sym c.ok_or.ensures.value)
     (answer_cut c.args.graph.now c.args.initiator c.args.log.now c.loop-t.auditor
     (subst (λ (log : List Delivery). IsAudited c.args.graph.now c.args.initiator log c.loop-t.auditor)

@@ -1,4 +1,4 @@
-use Rattle.cmh_run.proofs.Last.{last_computation_is_a_run}
+use Rattle.cmh_run.proofs.LastComputation.{last_computation_is_a_run}
 use Rattle.cmh_run.proofs.laws.law_last_computation_is_a_run.Goals as goal
 
 -- the last computation of every run, taken alone, begins a run

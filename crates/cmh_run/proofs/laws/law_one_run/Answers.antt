@@ -1,4 +1,4 @@
-use Rattle.cmh_run.proofs.Decide.{one_run}
+use Rattle.cmh_run.proofs.Determinism.{one_run}
 use Rattle.cmh_run.proofs.laws.law_one_run.Goals as goal
 
 -- without hints there is one run to be kept

@@ -9,9 +9,9 @@ use Rattle.cmh_board.specs.Board.{known, IsMadeOf}
 use Rattle.cmh_work.specs.Finding.{finding_initiator}
 use Rattle.cmh_work.specs.Numbering.{Stands, AreNumbered}
 use Rattle.cmh_work.specs.Working.{IsWorked}
-use Rattle.cmh_work.proofs.Analysing.{all_stand, analysed}
+use Rattle.cmh_work.proofs.AnalysisLemmas.{all_stand, analysed}
 use Rattle.cmh_work.proofs.Faults.{given}
-use Rattle.cmh_work.proofs.Naming.{rows_within}
+use Rattle.cmh_work.proofs.RecordLemmas.{rows_within}
 use Rattle.cmh_work.proofs.analysis.finish.Goals as goal
 
 pub number_all-requires-clause-stand : goal.number_all-requires-clause-stand

@@ -1,6 +1,6 @@
 use Rattle.std.proofs.Common.{◌∙◌, [], ap, get_or, length, sym}
 use Rattle.cmh_work.specs.Cutting.{bounds_of, chunks_of}
-use Rattle.cmh_work.proofs.Gathering.{bounds_lie, chunk_is}
+use Rattle.cmh_work.proofs.CuttingLemmas.{bounds_lie, chunk_is}
 use Rattle.cmh_work.proofs.chunks.chunk_at.Goals as goal
 
 pub between-requires-clause-within : goal.between-requires-clause-within

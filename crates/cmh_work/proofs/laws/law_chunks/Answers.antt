@@ -1,4 +1,4 @@
-use Rattle.cmh_work.proofs.Gathering.{chunks_law}
+use Rattle.cmh_work.proofs.CuttingLemmas.{chunks_law}
 use Rattle.cmh_work.proofs.laws.law_chunks.Goals as goal
 
 pub returns : goal.returns

@@ -1,4 +1,4 @@
-use Rattle.cmh_work.proofs.Counting.{drawn_once}
+use Rattle.cmh_work.proofs.DrawnNumbers.{drawn_once}
 use Rattle.cmh_work.proofs.laws.law_drawn_once.Goals as goal
 
 pub returns : goal.returns

@@ -1,4 +1,4 @@
-use Rattle.cmh_work.proofs.Counting.{drew_each_once}
+use Rattle.cmh_work.proofs.DrawnNumbers.{drew_each_once}
 use Rattle.cmh_work.proofs.laws.law_drew_each_once.Goals as goal
 
 pub returns : goal.returns

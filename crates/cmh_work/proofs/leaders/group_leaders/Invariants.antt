@@ -1,4 +1,4 @@
-use Rattle.cmh_work.proofs.Leading.{AreLeadersBelow}
+use Rattle.cmh_work.proofs.LeadersLemmas.{AreLeadersBelow}
 use Rattle.cmh_work.proofs.leaders.group_leaders.Given as goal
 
 abbrev pub invariant-loop-p : goal.invariant-loop-p

@@ -1,6 +1,6 @@
 use Rattle.std.proofs.Common.{arith, subst, take_all}
 use Rattle.cmh_work.specs.Leaders.{LeadsEach}
-use Rattle.cmh_work.proofs.Leading.{leads_more, leads_none}
+use Rattle.cmh_work.proofs.LeadersLemmas.{leads_more, leads_none}
 use Rattle.cmh_work.proofs.leaders.lead_each.Goals as goal
 
 pub loop-p-init : goal.loop-p-init

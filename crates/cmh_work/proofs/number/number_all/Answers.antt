@@ -4,7 +4,7 @@ use Rattle.std.proofs.lemmas.List.{get_or_read}
 use Rattle.std.proofs.lemmas.List.Elements.{All-head, All-tail}
 use Rattle.cmh_work.specs.Record.{IsRowFor}
 use Rattle.cmh_work.specs.Numbering.{AreNumbered, Stands}
-use Rattle.cmh_work.proofs.Naming.{numbered_more}
+use Rattle.cmh_work.proofs.RecordLemmas.{numbered_more}
 use Rattle.cmh_work.proofs.number.number_all.Goals as goal
 
 pub index-row-requires : goal.index-row-requires

@@ -1,6 +1,6 @@
 use Rattle.std.proofs.Common.{◌-◌, ◌∙◌, ap, arith, length, rules}
 use Rattle.std.proofs.lemmas.List.{length-replicate}
-use Rattle.cmh_work.proofs.Naming.{numbers_all, numbers_more, numbers_start}
+use Rattle.cmh_work.proofs.RecordLemmas.{numbers_all, numbers_more, numbers_start}
 use Rattle.cmh_work.proofs.number.row_numbers.Goals as goal
 
 pub loop-n-init : goal.loop-n-init

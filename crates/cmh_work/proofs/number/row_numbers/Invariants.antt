@@ -1,4 +1,4 @@
-use Rattle.cmh_work.proofs.Naming.{NumbersFrom}
+use Rattle.cmh_work.proofs.RecordLemmas.{NumbersFrom}
 use Rattle.cmh_work.proofs.number.row_numbers.Given as goal
 
 abbrev pub invariant-loop-n : goal.invariant-loop-n

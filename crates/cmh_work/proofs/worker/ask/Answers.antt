@@ -2,7 +2,7 @@ use Rattle.std.proofs.Common.{rules, subst, sym}
 use Rattle.std.specs.Prelude.{Some}
 use Rattle.cmh_board.specs.Board.{known, Posts}
 use Rattle.cmh_work.specs.Finding.{IsAnswered}
-use Rattle.cmh_work.proofs.Accounting.{ran}
+use Rattle.cmh_work.proofs.AccountsLemmas.{ran}
 use Rattle.cmh_work.proofs.worker.ask.Goals as goal
 
 pub returns : goal.returns

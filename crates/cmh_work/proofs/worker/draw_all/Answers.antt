@@ -2,8 +2,8 @@ use Rattle.std.proofs.Common.{ℕ, rules, sym, subst, All}
 use Rattle.std.specs.Prelude.{IsTrue}
 use Rattle.cmh_graph.specs.Graph.{is_idle, idle_list}
 use Rattle.cmh_work.specs.Working.{AreOf}
-use Rattle.cmh_work.proofs.Collecting.{drawn_more, nothing_found}
-use Rattle.cmh_work.proofs.Gathering.{all_chunk, all_idle}
+use Rattle.cmh_work.proofs.FindingLemmas.{drawn_more, nothing_found}
+use Rattle.cmh_work.proofs.CuttingLemmas.{all_chunk, all_idle}
 use Rattle.cmh_work.proofs.worker.draw_all.Goals as goal
 
 pub find_each-requires-clause-idle : goal.find_each-requires-clause-idle

@@ -2,7 +2,7 @@ use Rattle.std.proofs.Common.{◌≡◌, [], ◌∷◌, ◌++◌, rules, sym, su
 use Rattle.std.proofs.lemmas.Grind.{common_steps}
 use Rattle.cmh_board.specs.Board.{known}
 use Rattle.cmh_work.specs.Finding.{Accounts}
-use Rattle.cmh_work.proofs.Accounting.{accounts_more}
+use Rattle.cmh_work.proofs.AccountsLemmas.{accounts_more}
 use Rattle.cmh_work.proofs.worker.find_each.Goals as goal
 
 pub loop-initiator-preserved : goal.loop-initiator-preserved

@@ -10,5 +10,6 @@ invariant-loop-initiator g l = record {
   sits : SitsIn l.job.shared.now l.seat;
   share : (known l.seat).lock.share ≡ (known l.fn.seat).lock.share;
   accounts : Accounts g.E.ProcessList.processes l.job.graph.now l.job.plan.now.choices (known l.seat) l.found.items;
-  order : map finding_initiator l.found.items ≡ map finding_initiator l.fn.found.items ++ take l.initiator-index l.chunk;
+  order : map finding_initiator l.found.items
+      ≡ map finding_initiator l.fn.found.items ++ take l.initiator-index l.chunk;
 }

@@ -4,7 +4,7 @@ use Rattle.cmh_graph.specs.Graph.{is_idle}
 use Rattle.cmh_run.specs.declared.TheConstants.{MAX_CHOICES}
 use Rattle.cmh_work.specs.Working.{SitsIn}
 use Rattle.cmh_work.proofs.Faults.{only_memory}
-use Rattle.cmh_work.proofs.Hinting.{still_sits}
+use Rattle.cmh_work.proofs.LentSeats.{still_sits}
 use Rattle.cmh_work.proofs.worker.run_of.Goals as goal
 
 pub returns-in-Ok-clause-sits : goal.returns-in-Ok-clause-sits

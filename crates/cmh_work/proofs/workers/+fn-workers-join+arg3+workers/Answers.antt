@@ -2,7 +2,7 @@ use Rattle.std.proofs.Common.{◌≡◌, ◌+◌, ap, arith}
 use Rattle.cmh_board.specs.Board.{known}
 use Rattle.cmh_work.specs.Seats.{view}
 use Rattle.cmh_work.specs.Working.{AreBack, IsWorked}
-use Rattle.cmh_work.proofs.Collecting.{collected, joined_worked}
+use Rattle.cmh_work.proofs.FindingLemmas.{collected, joined_worked}
 use Rattle.cmh_work.proofs.workers.+fn-workers-join+arg3+workers.Goals as goal
 
 pub take_back-requires : goal.take_back-requires

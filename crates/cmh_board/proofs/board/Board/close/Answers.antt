@@ -3,14 +3,14 @@ use Rattle.cmh_rw.specs.History.{laid, StartsWith, IsHistory, IsTrueOf}
 use Rattle.cmh_rw.specs.Seats.{words_of}
 use Rattle.cmh_rw.proofs.Folds.{true-few}
 use Rattle.cmh_rw.proofs.Postings.{seen-prefix}
-use Rattle.cmh_board.specs.Board.{known, graph_of, IsMadeOf}
+use Rattle.cmh_board.specs.Board.{known, board_graph, IsMadeOf}
 use Rattle.cmh_board.proofs.Closings.{shows_history, made_of}
 use Rattle.cmh_board.proofs.board.Board.close.Goals as goal
 
 pub read_closed-requires-clause-room : goal.read_closed-requires-clause-room
 read_closed-requires-clause-room c =
     let h = c.close_with-closed.ensures.history in
-    let key = graph_of c.args.self in
+    let key = board_graph c.args.self in
     let small = subst (λ n. n ≤ 4096) c.args.self.counted c.args.self.small in
     let few = true-few key (laid h.postings) h.true_of in
     let room = c.in_ok-rows.ensures.capacity in
@@ -20,7 +20,7 @@ read_closed-requires-clause-room c =
 pub returns-clause-begins : goal.returns-clause-begins
 returns-clause-begins c =
     let h = c.close_with-closed.ensures.history in
-    let key = graph_of c.args.self in
+    let key = board_graph c.args.self in
     let small = subst (λ n. n ≤ 4096) c.args.self.counted c.args.self.small in
     let shown = shows_history key (known c.args.seat) (words_of c.close_with-closed.result) h small in
     let read = c.read_closed.ensures (laid h.postings) shown in
@@ -30,7 +30,7 @@ returns-clause-begins c =
 pub returns-clause-whole : goal.returns-clause-whole
 returns-clause-whole c =
     let h = c.close_with-closed.ensures.history in
-    let key = graph_of c.args.self in
+    let key = board_graph c.args.self in
     let small = subst (λ n. n ≤ 4096) c.args.self.counted c.args.self.small in
     let shown = shows_history key (known c.args.seat) (words_of c.close_with-closed.result) h small in
     let read = c.read_closed.ensures (laid h.postings) shown in
@@ -39,7 +39,7 @@ returns-clause-whole c =
 pub returns-clause-true_of : goal.returns-clause-true_of
 returns-clause-true_of c =
     let h = c.close_with-closed.ensures.history in
-    let key = graph_of c.args.self in
+    let key = board_graph c.args.self in
     let small = subst (λ n. n ≤ 4096) c.args.self.counted c.args.self.small in
     let shown = shows_history key (known c.args.seat) (words_of c.close_with-closed.result) h small in
     let read = c.read_closed.ensures (laid h.postings) shown in
@@ -48,7 +48,7 @@ returns-clause-true_of c =
 pub returns-clause-own : goal.returns-clause-own
 returns-clause-own c = λ whole.
     let h = c.close_with-closed.ensures.history in
-    let key = graph_of c.args.self in
+    let key = board_graph c.args.self in
     let small = subst (λ n. n ≤ 4096) c.args.self.counted c.args.self.small in
     let shown = shows_history key (known c.args.seat) (words_of c.close_with-closed.result) h small in
     let read = c.read_closed.ensures (laid h.postings) shown in

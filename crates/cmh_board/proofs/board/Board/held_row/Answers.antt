@@ -1,14 +1,14 @@
 use Rattle.std.proofs.Common.{◌<◌, ◌≤◌, arith, subst, ap, ◌∙◌, sym, length, refl, Some}
 use Rattle.cmh_rw.specs.History.{IsTrueOf}
 use Rattle.cmh_rw.specs.Seats.{view}
-use Rattle.cmh_board.specs.Board.{known, graph_of}
+use Rattle.cmh_board.specs.Board.{known, board_graph}
 use Rattle.cmh_board.proofs.RowWords.{row_within, codes_small, row_back}
 use Rattle.cmh_board.proofs.board.Board.held_row.Goals as goal
 
 pub overflow_add-n : goal.overflow_add-n
 overflow_add-n c =
     let there =
-    row_within (graph_of c.args.self.now)
+    row_within (board_graph c.args.self.now)
     (known c.args.seat.now).seen c.args.n c.requires.sits.true_of c.requires.there in
     let counted = c.args.self.now.counted in
     let small = c.args.self.now.small in
@@ -17,7 +17,7 @@ overflow_add-n c =
 pub load-code-requires-clause-within : goal.load-code-requires-clause-within
 load-code-requires-clause-within c =
     let there =
-    row_within (graph_of c.args.self.now)
+    row_within (board_graph c.args.self.now)
     (known c.args.seat.now).seen c.args.n c.requires.sits.true_of c.requires.there in
     let counted = c.args.self.now.counted in
     let small = c.args.self.now.small in
@@ -32,7 +32,7 @@ row_from-requires c =
     let true_of = subst (λ g. IsTrueOf g seen) c.requires.sits.graph told.true_of in
     let code = told.row c.args.n refl there in
     let small =
-    codes_small (graph_of c.args.self.now) seen c.args.n
+    codes_small (board_graph c.args.self.now) seen c.args.n
     (subst (λ n. n ≤ 4096) c.args.self.now.counted c.args.self.now.small) true_of there in
     omega arith
 

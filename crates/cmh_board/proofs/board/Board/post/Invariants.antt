@@ -1,5 +1,5 @@
 use Rattle.cmh_board.specs.Board.{known, SitsAt, IsAway}
-use Rattle.cmh_board.proofs.Added.{IsUntouched}
+use Rattle.cmh_board.proofs.AddingLemmas.{IsUntouched}
 use Rattle.cmh_board.proofs.board.Board.post.Given as goal
 
 abbrev pub invariant-loop : goal.invariant-loop

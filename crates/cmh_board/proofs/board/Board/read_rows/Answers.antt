@@ -1,6 +1,6 @@
 use Rattle.std.proofs.Common.{◌≡◌, ◌<◌, arith, sym, ap, ◌∙◌, ◌++◌, ◌∷◌, [], take, length}
 use Rattle.std.proofs.lemmas.List.{length-take-le}
-use Rattle.cmh_board.specs.Board.{known, graph_of}
+use Rattle.cmh_board.specs.Board.{known, board_graph}
 use Rattle.cmh_board.proofs.Holds.{held_on}
 use Rattle.cmh_board.proofs.RowWords.{row_within, take_got}
 use Rattle.cmh_board.proofs.board.Board.read_rows.Goals as goal
@@ -11,7 +11,7 @@ push_reserved-requires c =
     let seen = (known c.loop-n.seat).seen in
     let count = c.loop-n.invariant.1 in
     let below : c.loop-n.n < length seen = omega (arith, c.loop-n-test.true) in
-    let within = row_within (graph_of c.args.self.now) seen c.loop-n.n held.sits.true_of below in
+    let within = row_within (board_graph c.args.self.now) seen c.loop-n.n held.sits.true_of below in
     let read = ap length c.loop-n.invariant.2 ∙ length-take-le c.loop-n.n seen (omega arith) in
     let room = c.loop-n.invariant.3 in
     omega arith

@@ -3,7 +3,7 @@ use Rattle.std.specs.List.{range_with_len}
 use Rattle.std.proofs.lemmas.List.{length-map}
 use Rattle.std.proofs.lemmas.List.FromFn.{length-range_with_len}
 use Rattle.cmh_rw.specs.History.{fold_at}
-use Rattle.cmh_board.specs.Board.{known, graph_of}
+use Rattle.cmh_board.specs.Board.{known, board_graph}
 use Rattle.cmh_board.proofs.Holds.{held_on}
 use Rattle.cmh_board.proofs.RowWords.{verdicts_more, shows_all}
 use Rattle.cmh_board.proofs.board.Board.read_verdicts.Goals as goal
@@ -35,7 +35,7 @@ pub returns-clause-shows : goal.returns-clause-shows
 returns-clause-shows c =
     let held = c.loop-p.invariant.0 in
     let seen = (known c.loop-p.seat).seen in
-    shows_all (graph_of c.args.self.now) seen c.loop-p.verdicts.items held.sits.true_of
+    shows_all (board_graph c.args.self.now) seen c.loop-p.verdicts.items held.sits.true_of
     (c.loop-p.invariant.1
     ∙ ap (λ n. map (fold_at seen) (range_with_len 0 n))
     (let last = c.loop-p-test.false in let end = c.loop-p.auto.p-end in let counted = c.args.self.now.counted in

@@ -1,9 +1,9 @@
 use Rattle.std.proofs.Common.{ap, subst, sym, ◌∙◌}
 use Rattle.cmh_rw.specs.declared.view.View.{View}
 use Rattle.cmh_rw.specs.Seats.{view}
-use Rattle.cmh_board.specs.Board.{known, graph_of}
+use Rattle.cmh_board.specs.Board.{known, board_graph}
 use Rattle.cmh_board.specs.Adding.{CanPost}
-use Rattle.cmh_board.proofs.Added.{can_post, posts_from}
+use Rattle.cmh_board.proofs.AddingLemmas.{can_post, posts_from}
 use Rattle.cmh_board.proofs.board.Board.try_post.Goals as goal
 
 pub add-requires-clause-can : goal.add-requires-clause-can
@@ -11,7 +11,7 @@ add-requires-clause-can c =
     let told = c.args.posting.now in
     let graph = ap (λ (v : View). v.lock.graph) c.in-Held.ensures.tried.0 ∙ c.requires.sits.graph in
     subst (λ g. CanPost g told.verdict told.processes) (sym graph)
-    (can_post (graph_of c.args.self.now) told c.args.self.now.within c.requires.truth)
+    (can_post (board_graph c.args.self.now) told c.args.self.now.within c.requires.truth)
 
 pub returns-in-Held-clause-answer : goal.returns-in-Held-clause-answer
 returns-in-Held-clause-answer c =

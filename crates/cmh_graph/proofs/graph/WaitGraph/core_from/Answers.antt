@@ -3,9 +3,9 @@ use Rattle.std.specs.Prelude.{filter}
 use Rattle.std.proofs.lemmas.List.{nil_from_length, take_at}
 use Rattle.cmh_graph.specs.Path.{reaches}
 use Rattle.cmh_graph.specs.Search.{is_marked, MarksEach}
-use Rattle.cmh_graph.proofs.Listing.{length-by_index}
-use Rattle.cmh_graph.proofs.Returning.{ReturnsTo, returning_within, returns_end, returns_more, returns_start}
-use Rattle.cmh_graph.proofs.Stepping.{listed_within}
+use Rattle.cmh_graph.proofs.IndexLists.{length-by_index}
+use Rattle.cmh_graph.proofs.BackwardSearch.{ReturnsTo, returning_within, returns_end, returns_more, returns_start}
+use Rattle.cmh_graph.proofs.LevelSearch.{listed_within}
 use Rattle.cmh_graph.proofs.graph.WaitGraph.core_from.Goals as goal
 
 pub at-requires : goal.at-requires

@@ -1,6 +1,6 @@
 use Rattle.std.proofs.Common.{◌+◌, length}
 use Rattle.cmh_graph.specs.Search.{unmarked_count}
-use Rattle.cmh_graph.proofs.Returning.{ReturnsTo}
+use Rattle.cmh_graph.proofs.BackwardSearch.{ReturnsTo}
 use Rattle.cmh_graph.proofs.graph.WaitGraph.core_from.Given as goal
 
 abbrev pub invariant-loop-q : goal.invariant-loop-q

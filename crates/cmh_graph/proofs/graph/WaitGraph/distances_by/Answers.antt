@@ -1,7 +1,7 @@
 use Rattle.std.proofs.Common.{◌∙◌, ap, length}
 use Rattle.cmh_graph.specs.Graph.{is_awake}
-use Rattle.cmh_graph.proofs.Listing.{length-by_index}
-use Rattle.cmh_graph.proofs.Stepping.{steps_to_awake}
+use Rattle.cmh_graph.proofs.IndexLists.{length-by_index}
+use Rattle.cmh_graph.proofs.LevelSearch.{steps_to_awake}
 use Rattle.cmh_graph.proofs.graph.WaitGraph.distances_by.Goals as goal
 
 pub steps_to-requires-clause-size : goal.steps_to-requires-clause-size

@@ -2,9 +2,9 @@ use Rattle.std.proofs.Common.{◌∙◌, ap, get_or, length, subst}
 use Rattle.std.specs.Prelude.{Some}
 use Rattle.cmh_graph.specs.ChosenPath.{distance_of}
 use Rattle.cmh_graph.specs.Search.{IsLeastAt}
-use Rattle.cmh_graph.proofs.Choosing.{nearest_alone, nearest_some}
-use Rattle.cmh_graph.proofs.Listing.{length-by_index}
-use Rattle.cmh_graph.proofs.Spreading.{dependents_within}
+use Rattle.cmh_graph.proofs.ChosenPathLemmas.{nearest_alone, nearest_some}
+use Rattle.cmh_graph.proofs.IndexLists.{length-by_index}
+use Rattle.cmh_graph.proofs.ForwardSearch.{dependents_within}
 use Rattle.cmh_graph.proofs.graph.WaitGraph.next_at.Goals as goal
 
 pub returns-then-dependents-eq1 : goal.returns-then-dependents-eq1

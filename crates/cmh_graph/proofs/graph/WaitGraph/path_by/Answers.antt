@@ -1,8 +1,8 @@
 use Rattle.std.proofs.Common.{◌∙◌, ◌++◌, ◌-◌, ◌<◌, ◌∷◌, [], Some, ap, arith, length, rules, refl, subst, sym}
 use Rattle.std.proofs.lemmas.List.{get_or_default}
 use Rattle.cmh_graph.specs.ChosenPath.{distance_of}
-use Rattle.cmh_graph.proofs.Choosing.{LeadsOn, chosen_none, leads_end, leads_on, leads_start}
-use Rattle.cmh_graph.proofs.Listing.{length-by_index}
+use Rattle.cmh_graph.proofs.ChosenPathLemmas.{LeadsOn, chosen_none, leads_end, leads_on, leads_start}
+use Rattle.cmh_graph.proofs.IndexLists.{length-by_index}
 use Rattle.cmh_graph.proofs.graph.WaitGraph.path_by.Goals as goal
 
 pub bounds : goal.bounds

@@ -1,6 +1,6 @@
 use Rattle.std.proofs.Common.{◌+◌, ◌≤◌}
 use Rattle.std.specs.Vec.{vec_len, vec_capacity}
-use Rattle.cmh_graph.proofs.Choosing.{LeadsOn}
+use Rattle.cmh_graph.proofs.ChosenPathLemmas.{LeadsOn}
 use Rattle.cmh_graph.proofs.graph.WaitGraph.path_by.Given as goal
 
 abbrev pub invariant-loop-nearer : goal.invariant-loop-nearer

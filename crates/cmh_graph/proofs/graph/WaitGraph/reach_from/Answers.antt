@@ -2,8 +2,8 @@ use Rattle.std.proofs.Common.{◌≡◌, ◌∙◌, ◌++◌, ◌∷◌, [], ap,
 use Rattle.std.specs.Prelude.{IfOk}
 use Rattle.std.proofs.lemmas.List.{nil_from_length, take_at}
 use Rattle.cmh_graph.specs.Search.{MarksEach}
-use Rattle.cmh_graph.proofs.Spreading.{dependents_within, pending_within, reach_listed, spreads_end}
-use Rattle.cmh_graph.proofs.Visiting.{ListsFrom, lists_end, lists_more, lists_start}
+use Rattle.cmh_graph.proofs.ForwardSearch.{dependents_within, pending_within, reach_listed, spreads_end}
+use Rattle.cmh_graph.proofs.ListedSearch.{ListsFrom, lists_end, lists_more, lists_start}
 use Rattle.cmh_graph.proofs.graph.WaitGraph.reach_from.Goals as goal
 
 pub loop-q-init : goal.loop-q-init

@@ -1,6 +1,6 @@
 use Rattle.std.proofs.Common.{◌+◌, length}
 use Rattle.cmh_graph.specs.Search.{unmarked_count}
-use Rattle.cmh_graph.proofs.Visiting.{ListsFrom}
+use Rattle.cmh_graph.proofs.ListedSearch.{ListsFrom}
 use Rattle.cmh_graph.proofs.graph.WaitGraph.reach_from.Given as goal
 
 abbrev pub invariant-loop-q : goal.invariant-loop-q

@@ -1,8 +1,8 @@
 use Rattle.std.proofs.Common.{◌∷◌, [], ap, arith, length, set, subst, sym, true}
 use Rattle.cmh_graph.specs.Path.{reaches}
 use Rattle.cmh_graph.specs.Search.{SpreadsFrom}
-use Rattle.cmh_graph.proofs.Listing.{length-by_index}
-use Rattle.cmh_graph.proofs.Spreading.{spreads_known}
+use Rattle.cmh_graph.proofs.IndexLists.{length-by_index}
+use Rattle.cmh_graph.proofs.ForwardSearch.{spreads_known}
 use Rattle.cmh_graph.proofs.graph.WaitGraph.reached_by.Goals as goal
 
 pub index_mut-requires : goal.index_mut-requires

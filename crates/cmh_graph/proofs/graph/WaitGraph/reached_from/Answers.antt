@@ -1,5 +1,5 @@
 use Rattle.std.proofs.Common.{◌∙◌}
-use Rattle.cmh_graph.proofs.Spreading.{spreads_alone}
+use Rattle.cmh_graph.proofs.ForwardSearch.{spreads_alone}
 use Rattle.cmh_graph.proofs.graph.WaitGraph.reached_from.Goals as goal
 
 pub spread-requires-clause-spreads : goal.spread-requires-clause-spreads

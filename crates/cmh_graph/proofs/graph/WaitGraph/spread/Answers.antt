@@ -1,7 +1,7 @@
 use Rattle.std.proofs.Common.{◌∙◌, arith, drop, length, subst, sym}
 use Rattle.std.proofs.lemmas.List.{nil_from_length, take_at}
 use Rattle.cmh_graph.specs.Search.{MarksEach, SpreadsFrom}
-use Rattle.cmh_graph.proofs.Spreading.{dependents_within, pending_within, spreads_end, spreads_more}
+use Rattle.cmh_graph.proofs.ForwardSearch.{dependents_within, pending_within, spreads_end, spreads_more}
 use Rattle.cmh_graph.proofs.graph.WaitGraph.spread.Goals as goal
 
 pub dependents-requires : goal.dependents-requires

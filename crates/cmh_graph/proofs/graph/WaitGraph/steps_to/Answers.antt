@@ -1,7 +1,7 @@
 use Rattle.std.proofs.Common.{rules, ◌≡◌, ◌<◌, ◌+◌, ◌∙◌, [], arith, drop, length, refl, subst, sym}
 use Rattle.std.proofs.lemmas.List.{take_at}
 use Rattle.cmh_graph.specs.Search.{is_marked, Numbers, IsNamedBy}
-use Rattle.cmh_graph.proofs.Stepping.{StepsUpTo, steps_start, steps_more, steps_end, level_below, level_listed, listed_within}
+use Rattle.cmh_graph.proofs.LevelSearch.{StepsUpTo, steps_start, steps_more, steps_end, level_below, level_listed, listed_within}
 use Rattle.cmh_graph.proofs.graph.WaitGraph.steps_to.Goals as goal
 
 pub marked-requires : goal.marked-requires

@@ -1,7 +1,7 @@
 use Rattle.std.proofs.Common.{◌-◌}
 use Rattle.cmh_graph.specs.Graph.{process_count}
 use Rattle.cmh_graph.specs.Search.{is_marked}
-use Rattle.cmh_graph.proofs.Stepping.{StepsUpTo}
+use Rattle.cmh_graph.proofs.LevelSearch.{StepsUpTo}
 use Rattle.cmh_graph.proofs.graph.WaitGraph.steps_to.Given as goal
 
 abbrev pub invariant-loop-alloc : goal.invariant-loop-alloc

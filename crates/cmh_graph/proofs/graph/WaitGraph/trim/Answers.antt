@@ -2,7 +2,7 @@ use Rattle.std.proofs.Common.{◌≡◌, ◌≤◌, ap, arith, get_or, length, s
 use Rattle.std.proofs.lemmas.List.{get_or-set_same}
 use Rattle.cmh_graph.specs.Graph.{dependents_of}
 use Rattle.cmh_graph.specs.Search.{is_marked}
-use Rattle.cmh_graph.proofs.Trimming.{alone_marked, passed_more, passed_stays}
+use Rattle.cmh_graph.proofs.AloneLemmas.{alone_marked, passed_more, passed_stays}
 use Rattle.cmh_graph.proofs.graph.WaitGraph.trim.Goals as goal
 
 pub returns : goal.returns

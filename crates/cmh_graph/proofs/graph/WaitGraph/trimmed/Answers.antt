@@ -3,8 +3,8 @@ use Rattle.std.proofs.lemmas.List.{length-replicate}
 use Rattle.std.proofs.lemmas.List.Elements.{All-pop}
 use Rattle.cmh_graph.specs.Alone.{AreAlone}
 use Rattle.cmh_graph.specs.Graph.{process_count}
-use Rattle.cmh_graph.proofs.Stepping.{listed_within}
-use Rattle.cmh_graph.proofs.Trimming.{alone_start, passed_start, zeros_at}
+use Rattle.cmh_graph.proofs.LevelSearch.{listed_within}
+use Rattle.cmh_graph.proofs.AloneLemmas.{alone_start, passed_start, zeros_at}
 use Rattle.cmh_graph.proofs.graph.WaitGraph.trimmed.Goals as goal
 
 pub waiting_for_nobody-requires : goal.waiting_for_nobody-requires

@@ -1,7 +1,7 @@
 use Rattle.std.proofs.Common.{◌+◌, ◌∙◌, arith, drop, length, subst, sym}
 use Rattle.std.proofs.lemmas.List.{take_at}
 use Rattle.cmh_graph.specs.Search.{JoinsEach}
-use Rattle.cmh_graph.proofs.Searching.{PredecessorsBelow, predecessors_all, predecessors_more}
+use Rattle.cmh_graph.proofs.PositionLemmas.{PredecessorsBelow, predecessors_all, predecessors_more}
 use Rattle.cmh_graph.proofs.predecessors.Predecessors.of_graph.Goals as goal
 
 pub loop-p-preserved : goal.loop-p-preserved

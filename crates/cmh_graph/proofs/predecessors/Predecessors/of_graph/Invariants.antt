@@ -1,4 +1,4 @@
-use Rattle.cmh_graph.proofs.Searching.{PredecessorsBelow}
+use Rattle.cmh_graph.proofs.PositionLemmas.{PredecessorsBelow}
 use Rattle.cmh_graph.proofs.predecessors.Predecessors.of_graph.Given as goal
 
 abbrev pub invariant-loop-p : goal.invariant-loop-p

@@ -3,8 +3,8 @@ use Rattle.std.specs.Prelude.{Contains}
 use Rattle.std.proofs.lemmas.List.Elements.{Contains-get_or}
 use Rattle.cmh_graph.specs.Build.{IsWellFormed}
 use Rattle.cmh_graph.specs.Graph.{Graph, Depends, dependents_of}
-use Rattle.cmh_graph.proofs.Reaching.{depends_within}
-use Rattle.cmh_graph.proofs.Searching.{waits}
+use Rattle.cmh_graph.proofs.PathLemmas.{depends_within}
+use Rattle.cmh_graph.proofs.PositionLemmas.{waits}
 use Rattle.cmh_graph.proofs.tests.reaches.reaches_by_each.Goals as goal
 
 -- a process depends on each of its dependents

@@ -5,7 +5,7 @@ use Rattle.cmh_graph.specs.Graph.{Graph, process_count}
 use Rattle.cmh_report.specs.Names.{AreNamesOf, SharesEnd}
 use Rattle.cmh_report.specs.Report.{names, spaced}
 use Rattle.cmh_report.specs.declared.names.LastNames.{LastNames}
-use Rattle.cmh_report.proofs.Spaced.{names_but, names_renewed}
+use Rattle.cmh_report.proofs.SpacedNames.{names_but, names_renewed}
 use Rattle.cmh_report.proofs.names.LastNames.renew.Goals as goal
 
 pub replace_range-requires-clause-in_bounds : goal.replace_range-requires-clause-in_bounds

@@ -1,6 +1,6 @@
 use Rattle.std.proofs.Common.{refl}
 use Rattle.cmh_work.proofs.Faults.{given}
-use Rattle.cmh_work.proofs.Shaping.{some_before, way_out}
+use Rattle.cmh_work.proofs.ShapeLemmas.{some_before, way_out}
 use Rattle.cmh_report.proofs.ChosenPaths.{not_deadlocked}
 use Rattle.cmh_report.proofs.paths.Paths.path_of.Goals as goal
 

@@ -1,6 +1,6 @@
 use Rattle.std.proofs.Common.{[]}
 use Rattle.cmh_run.specs.Legal.{begun}
-use Rattle.cmh_run.proofs.Auditing.{agrees_first}
+use Rattle.cmh_run.proofs.AuditLemmas.{agrees_first}
 use Rattle.cmh_run.proofs.auditor.Auditor.begin.Goals as goal
 
 -- at first nothing was delivered

@@ -5,7 +5,7 @@ use Rattle.cmh_run.specs.Config.{Config, received}
 use Rattle.cmh_run.specs.Legal.{after}
 use Rattle.cmh_run.specs.Packed.{EngagersHaveRoom}
 use Rattle.cmh_run.specs.Audit.{Audit}
-use Rattle.cmh_run.proofs.Judging.{audit_size, awaited, where_none, is_there, delivery_within, delivery_sender, delivery_from, delivery_engagers, network_going, after_delivery}
+use Rattle.cmh_run.proofs.CheckLemmas.{audit_size, awaited, where_none, is_there, delivery_within, delivery_sender, delivery_from, delivery_engagers, network_going, after_delivery}
 use Rattle.cmh_run.proofs.auditor.Auditor.deliver.Goals as goal
 
 -- the message isn't awaited, so it isn't undelivered

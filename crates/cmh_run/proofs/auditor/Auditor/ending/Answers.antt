@@ -1,7 +1,7 @@
 use Rattle.std.proofs.Common.{sym, ◌∙◌, subst}
 use Rattle.std.proofs.lemmas.Bool.{true≢false}
 use Rattle.cmh_run.specs.Audit.{Audit, Agrees, IsSettled}
-use Rattle.cmh_run.proofs.Judging.{ended_as, rests, goes_on}
+use Rattle.cmh_run.proofs.CheckLemmas.{ended_as, rests, goes_on}
 use Rattle.cmh_run.proofs.auditor.Auditor.ending.Goals as goal
 
 -- a declaration or a hint has ended it

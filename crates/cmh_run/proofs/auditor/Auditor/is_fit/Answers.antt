@@ -1,7 +1,7 @@
 use Rattle.std.proofs.Common.{◌≡◌, true, sym, ◌∙◌, subst}
 use Rattle.cmh_run.specs.Audit.{Audit}
 use Rattle.cmh_run.specs.Legal.{HintIsFit}
-use Rattle.cmh_run.proofs.Judging.{truth_at, fit_where_true}
+use Rattle.cmh_run.proofs.CheckLemmas.{truth_at, fit_where_true}
 use Rattle.cmh_run.proofs.auditor.Auditor.is_fit.Goals as goal
 
 -- there is a verdict of the receiver

@@ -1,5 +1,5 @@
 use Rattle.std.proofs.Common.{◌%◌, length}
-use Rattle.cmh_run.proofs.Auditing.{agrees_on}
+use Rattle.cmh_run.proofs.AuditLemmas.{agrees_on}
 use Rattle.cmh_run.proofs.auditor.Auditor.settle.Goals as goal
 
 -- what was just sent is awaited then

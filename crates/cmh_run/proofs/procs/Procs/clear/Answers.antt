@@ -3,7 +3,7 @@ use Rattle.std.specs.Prelude.{option_to_list, replicate, slice_set}
 use Rattle.std.proofs.lemmas.List.{length-set}
 use Rattle.cmh_process.specs.Process.{fresh}
 use Rattle.cmh_run.specs.Procs.{AreTouched}
-use Rattle.cmh_run.proofs.Touching.{all_clear, last_cleared}
+use Rattle.cmh_run.proofs.TouchedProcesses.{all_clear, last_cleared}
 use Rattle.cmh_run.proofs.procs.Procs.clear.Goals as goal
 
 pub loop-k-preserved : goal.loop-k-preserved

@@ -1,7 +1,7 @@
 use Rattle.std.proofs.Common.{ap, arith, length, subst, sym}
 use Rattle.std.specs.Prelude.{slice_set}
 use Rattle.cmh_run.specs.Procs.{AreTouched}
-use Rattle.cmh_run.proofs.Touching.{one_touched}
+use Rattle.cmh_run.proofs.TouchedProcesses.{one_touched}
 use Rattle.cmh_run.proofs.procs.Procs.engage.Goals as goal
 
 -- it is one of those that have taken part

@@ -1,6 +1,6 @@
 use Rattle.std.proofs.Common.{◌∙◌, ◌++◌, ℕ, ap, map}
 use Rattle.cmh_run.specs.Config.{query}
-use Rattle.cmh_run.proofs.Packing.{queries_more}
+use Rattle.cmh_run.proofs.PackedLemmas.{queries_more}
 use Rattle.cmh_run.proofs.queue.Queue.add_queries.Goals as goal
 
 -- the queries come after what was undelivered

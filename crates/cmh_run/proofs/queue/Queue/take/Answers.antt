@@ -1,6 +1,6 @@
 use Rattle.std.proofs.Common.{◌≡◌, ◌%◌, length, map, remove, subst}
 use Rattle.cmh_run.specs.Packed.{message_of}
-use Rattle.cmh_run.proofs.Packing.{taken_rest}
+use Rattle.cmh_run.proofs.PackedLemmas.{taken_rest}
 use Rattle.cmh_run.proofs.queue.Queue.take.Goals.{in-Some, in-None}
 use Rattle.cmh_run.proofs.queue.Queue.take.Goals as goal
 

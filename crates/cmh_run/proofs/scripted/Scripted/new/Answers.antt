@@ -1,5 +1,5 @@
 use Rattle.std.proofs.Common.{◌∙◌, inr, subst, sym, ℕ, List}
-use Rattle.cmh_run.specs.Script.{Entry, AreTrueOf, IsOutOfRange, IsNever}
+use Rattle.cmh_run.specs.Script.{ScriptLine, AreTrueOf, IsOutOfRange, IsNever}
 use Rattle.cmh_run.proofs.Scripts.{never_beyond, first_untrue, true_of}
 use Rattle.cmh_run.proofs.scripted.Scripted.new.Goals as goal
 
@@ -32,6 +32,6 @@ pub returns-clause-speaks : goal.returns-clause-speaks
 returns-clause-speaks c =
     let never =
     subst (λ (n : ℕ). IsNever (IsOutOfRange n c.args.entries.now)) c.len.ensures.count c.in_default.ensures.none in
-    subst (λ (xs : List Entry). AreTrueOf c.args.graph.now xs) (sym c.in_ok-entries.ensures.items)
+    subst (λ (xs : List ScriptLine). AreTrueOf c.args.graph.now xs) (sym c.in_ok-entries.ensures.items)
     (true_of c.args.graph.now c.deref.result.now c.args.entries.now c.len.ensures.well_formed.within
     (c.deref.ensures.value ∙ c.in_ok-truth.ensures) never c.in_default-first_difference.ensures.none)

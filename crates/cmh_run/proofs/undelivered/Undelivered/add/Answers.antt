@@ -1,4 +1,4 @@
-use Rattle.cmh_run.proofs.Waiting.{query_added, reply_added}
+use Rattle.cmh_run.proofs.UndeliveredLemmas.{query_added, reply_added}
 use Rattle.cmh_run.proofs.undelivered.Undelivered.add.Goals as goal
 
 -- a query is among the queries then

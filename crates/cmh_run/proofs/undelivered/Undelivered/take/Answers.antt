@@ -1,4 +1,4 @@
-use Rattle.cmh_run.proofs.Waiting.{query_taken, reply_taken}
+use Rattle.cmh_run.proofs.UndeliveredLemmas.{query_taken, reply_taken}
 use Rattle.cmh_run.proofs.undelivered.Undelivered.take.Goals as goal
 
 -- a query isn't among the queries then

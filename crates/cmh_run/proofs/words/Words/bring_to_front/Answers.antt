@@ -1,6 +1,6 @@
 use Rattle.std.proofs.Common.{◌≡◌, ◌∙◌, ◌+◌, ◌-◌, ◌≤◌, ◌++◌, ap, arith, drop, length, sym, take}
 use Rattle.std.proofs.lemmas.List.{length-take-le, with_items_is}
-use Rattle.cmh_run.proofs.Taking.{brought_in, turned_length}
+use Rattle.cmh_run.proofs.FirstTaken.{brought_in, turned_length}
 use Rattle.cmh_run.proofs.words.Words.bring_to_front.Goals as goal
 
 pub returns : goal.returns

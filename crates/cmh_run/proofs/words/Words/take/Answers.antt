@@ -1,5 +1,5 @@
 use Rattle.std.proofs.Common.{◌%◌, length, mod-lt}
-use Rattle.cmh_run.proofs.Taking.{took}
+use Rattle.cmh_run.proofs.FirstTaken.{took}
 use Rattle.cmh_run.proofs.words.Words.take.Goals as goal
 
 pub returns-clause-none : goal.returns-clause-none

@@ -1,4 +1,4 @@
-use Rattle.cmh_rw.proofs.Closing.{closed_shows}
+use Rattle.cmh_rw.proofs.ClosedWords.{closed_shows}
 use Rattle.cmh_rw.proofs.seat.RwWords.close_with.Goals as goal
 
 pub returns-clause-history : goal.returns-clause-history

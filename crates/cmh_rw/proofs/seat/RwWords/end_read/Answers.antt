@@ -1,6 +1,6 @@
 use Rattle.std.proofs.Common.{rules, ap, ◌+◌}
 use Rattle.cmh_rw.specs.Machine.{reads, retreats}
-use Rattle.cmh_rw.proofs.Holding.{leaves}
+use Rattle.cmh_rw.proofs.LockSteps.{leaves}
 use Rattle.cmh_rw.proofs.seat.RwWords.end_read.Goals as goal
 
 pub fetch_sub-requires : goal.fetch_sub-requires

@@ -1,5 +1,5 @@
 use Rattle.std.proofs.Common.{rules}
-use Rattle.cmh_rw.proofs.Holding.{ends}
+use Rattle.cmh_rw.proofs.LockSteps.{ends}
 use Rattle.cmh_rw.proofs.seat.RwWords.end_write.Goals as goal
 
 pub fetch_sub-requires : goal.fetch_sub-requires

@@ -2,7 +2,7 @@ use Rattle.std.proofs.Common.{◌≡◌, rules, arith, ap, ◌∙◌}
 use Rattle.cmh_rw.specs.View.{compared, joining}
 use Rattle.cmh_rw.specs.Steps.{TableSeat}
 use Rattle.cmh_rw.proofs.Room.{fits_joined, joined_begins}
-use Rattle.cmh_rw.proofs.Seating.{joins, compares}
+use Rattle.cmh_rw.proofs.SeatSteps.{joins, compares}
 use Rattle.cmh_rw.proofs.seat.RwWords.join.Goals as goal
 
 pub join_seat-requires : goal.join_seat-requires

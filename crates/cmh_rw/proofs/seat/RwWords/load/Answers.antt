@@ -1,6 +1,6 @@
 use Rattle.std.proofs.Common.{rules, ap, sym, ◌∙◌}
 use Rattle.cmh_rw.specs.declared.view.View.{View}
-use Rattle.cmh_rw.proofs.Loading.{loads}
+use Rattle.cmh_rw.proofs.LoadSteps.{loads}
 use Rattle.cmh_rw.proofs.Room.{fits_loaded}
 use Rattle.cmh_rw.proofs.seat.RwWords.load.Goals as goal
 

@@ -1,4 +1,4 @@
-use Rattle.cmh_rw.proofs.Seating.{opens}
+use Rattle.cmh_rw.proofs.SeatSteps.{opens}
 use Rattle.cmh_rw.proofs.seat.RwWords.open.Goals as goal
 
 pub of_words-requires : goal.of_words-requires

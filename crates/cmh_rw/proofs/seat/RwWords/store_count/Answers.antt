@@ -1,5 +1,5 @@
 use Rattle.std.proofs.Common.{rules, arith}
-use Rattle.cmh_rw.proofs.Posting.{counts_in}
+use Rattle.cmh_rw.proofs.CountSteps.{counts_in}
 use Rattle.cmh_rw.proofs.seat.RwWords.store_count.Goals as goal
 
 pub store-requires : goal.store-requires

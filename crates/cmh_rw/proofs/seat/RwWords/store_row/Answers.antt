@@ -4,7 +4,7 @@ use Rattle.cmh_rw.specs.History.{row_of}
 use Rattle.cmh_rw.specs.View.{row, with_row}
 use Rattle.cmh_rw.specs.Steps.{TableSeat}
 use Rattle.cmh_rw.proofs.Codes.{row_code_law}
-use Rattle.cmh_rw.proofs.Staging.{stages}
+use Rattle.cmh_rw.proofs.StoreSteps.{stages}
 use Rattle.cmh_rw.proofs.Room.{Fits, row_has_word, fits_with_row}
 use Rattle.cmh_rw.proofs.seat.RwWords.store_row.Goals as goal
 

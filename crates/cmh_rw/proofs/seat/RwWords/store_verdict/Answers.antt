@@ -1,6 +1,6 @@
 use Rattle.std.proofs.Common.{◌<◌, rules, arith}
 use Rattle.cmh_graph.specs.declared.TheConstants.{MAX_PROCESSES}
-use Rattle.cmh_rw.proofs.Staging.{tells}
+use Rattle.cmh_rw.proofs.StoreSteps.{tells}
 use Rattle.cmh_rw.proofs.Room.{verdict_has_word}
 use Rattle.cmh_rw.proofs.seat.RwWords.store_verdict.Goals as goal
 

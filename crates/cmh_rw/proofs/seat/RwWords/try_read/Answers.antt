@@ -4,7 +4,7 @@ use Rattle.cmh_rw.specs.declared.TheConstants.{WRITER}
 use Rattle.cmh_rw.specs.declared.machine.SeatState.TheVariants.{Reading, Retreating}
 use Rattle.cmh_rw.specs.declared.machine.Event.TheVariants.{Admit}
 use Rattle.cmh_rw.specs.Machine.{reads, retreats, turn}
-use Rattle.cmh_rw.proofs.Holding.{enters, leaves}
+use Rattle.cmh_rw.proofs.LockSteps.{enters, leaves}
 use Rattle.cmh_rw.proofs.seat.RwWords.try_read.Goals as goal
 
 pub fetch_add-found-requires : goal.fetch_add-found-requires

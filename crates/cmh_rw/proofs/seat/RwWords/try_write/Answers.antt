@@ -1,5 +1,5 @@
 use Rattle.std.proofs.Common.{rules}
-use Rattle.cmh_rw.proofs.Holding.{takes_lock}
+use Rattle.cmh_rw.proofs.LockSteps.{takes_lock}
 use Rattle.cmh_rw.proofs.seat.RwWords.try_write.Goals as goal
 
 pub compare_exchange-found-requires : goal.compare_exchange-found-requires

@@ -1,7 +1,7 @@
 use Rattle.std.proofs.Common.{arith, ap}
 use Rattle.std.specs.Prelude.{length}
 use Rattle.cmh_graph.specs.Verdict.{verdict}
-use Rattle.cmh_graph.proofs.Listing.{by_index, length-by_index}
+use Rattle.cmh_graph.proofs.IndexLists.{by_index, length-by_index}
 use Rattle.cmh_rw.proofs.tests.posting.verdict_of.Goals as goal
 
 pub bounds-all-p : goal.bounds-all-p

@@ -1,5 +1,5 @@
 use Rattle.std.proofs.Common.{rules, arith}
-use Rattle.cmh_work.proofs.Dealing.{draws}
+use Rattle.cmh_work.proofs.TicketsLemmas.{draws}
 use Rattle.cmh_work.proofs.seats.Tickets.draw.Goals as goal
 
 pub fetch_add-found-requires : goal.fetch_add-found-requires

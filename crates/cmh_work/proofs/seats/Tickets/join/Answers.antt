@@ -1,5 +1,5 @@
 use Rattle.std.proofs.Common.{rules, arith}
-use Rattle.cmh_work.proofs.Dealing.{joins, measures}
+use Rattle.cmh_work.proofs.TicketsLemmas.{joins, measures}
 use Rattle.cmh_work.proofs.seats.Tickets.join.Goals as goal
 
 pub join_seat-requires : goal.join_seat-requires

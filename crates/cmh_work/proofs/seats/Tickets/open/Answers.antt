@@ -1,4 +1,4 @@
-use Rattle.cmh_work.proofs.Dealing.{opens}
+use Rattle.cmh_work.proofs.TicketsLemmas.{opens}
 use Rattle.std.proofs.Common.{arith}
 use Rattle.cmh_work.proofs.seats.Tickets.open.Goals as goal
 

@@ -1,5 +1,5 @@
 use Rattle.std.proofs.Common.{rules, arith}
-use Rattle.cmh_work.proofs.Dealing.{splits}
+use Rattle.cmh_work.proofs.TicketsLemmas.{splits}
 use Rattle.cmh_work.proofs.seats.Tickets.split.Goals as goal
 
 pub split_seat-other-requires : goal.split_seat-other-requires

@@ -1,0 +1,147 @@
+-- What a writer has added.
+use Rattle.std.proofs.Common.{◌≡◌, ℕ, ◌+◌, ◌<◌, ◌≤◌, List, [], ◌∷◌, ◌++◌, length, refl, sym, ◌∙◌, ap, subst, arith, append-nil}
+use Rattle.std.proofs.lemmas.List.{nil_from_length}
+use Rattle.cmh_graph.specs.declared.verdict.Verdict.{Verdict}
+use Rattle.cmh_graph.specs.Graph.{Graph, IsWithinGraph}
+use Rattle.cmh_graph.proofs.Verdicts.{true_verdict}
+use Rattle.cmh_rw.specs.declared.row.Row.{Row}
+use Rattle.cmh_rw.specs.declared.view.View.{View}
+use Rattle.cmh_rw.specs.History.{fold_at, EndsLast, IsPosting, IsHistory, IsTrueOf, AreTold}
+use Rattle.cmh_rw.specs.declared.machine.SeatState.TheVariants.{Writing}
+use Rattle.cmh_rw.specs.View.{AfterLoad, posted, tried, ended}
+use Rattle.cmh_board.specs.Board.{unposted, rows_of, with_posting, times, IsWritten, Posts}
+use Rattle.cmh_board.specs.Posting.{PostingValue, IsTruth}
+use Rattle.cmh_board.specs.Adding.{CanPost, IsWriter, OnlyLoads, Stages, Adds}
+use Rattle.cmh_board.proofs.PostingRows.{rows_end, rows_told, true_behind, said_behind, once_behind, history-snoc, length-rows_of}
+
+-- the rows of a posting
+abbrev new_rows : PostingValue → List Row → List Row
+new_rows t rows = rows_of t.verdict (unposted rows t.processes)
+
+-- a seat that has seen the new rows behind the history has added them
+adds_from : (t : PostingValue) (v a w : View) (found : ℕ) → CanPost v.lock.graph t.verdict t.processes
+    → AfterLoad v 1 found a
+    → w.seen ≡ a.seen ++ new_rows t a.seen → w.mine ≡ with_posting v.mine (new_rows t a.seen) → w.lock ≡ v.lock
+    → w.staged ≡ [] → a.loads ≤ w.loads → IsHistory w.seen → Adds t v w
+adds_from t v a w found can h seen mine lock staged loads history =
+    let g = v.lock.graph in
+    let begins = h.begins.1 in record {
+      between = h.begins.0;
+      rows = new_rows t a.seen;
+      new = ap (new_rows t) begins;
+      seen = seen ∙ ap (λ l. l ++ new_rows t a.seen) begins;
+      mine = mine;
+      lock = lock;
+      staged = staged;
+      loads = (let e = ap (λ (u : View). u.loads) h.view in omega arith);
+      once = λ p c. ap (times p) seen ∙ once_behind g t.verdict t.processes a.seen h.true_of can p c;
+      says = λ p c. ap (λ l. fold_at l p) seen ∙ said_behind g t.verdict t.processes a.seen h.true_of can p c;
+      whole = history;
+      true_of = subst (IsTrueOf g) (sym seen) (true_behind g t.verdict t.processes a.seen h.true_of can);
+    }
+
+-- nothing was new
+pub adds_none : (t : PostingValue) (v a b : View) (found : ℕ) → IsWriter v → CanPost v.lock.graph t.verdict t.processes
+    → AfterLoad v 1 found a
+    → OnlyLoads a b → length (unposted a.seen t.processes) ≡ 0 → Adds t v b
+adds_none t v a b found writer can h loads few =
+    let none : new_rows t a.seen ≡ [] = ap (rows_of t.verdict) (nil_from_length (unposted a.seen t.processes) few) in
+    let seen : b.seen ≡ a.seen ++ new_rows t a.seen =
+    loads.seen ∙ sym (append-nil a.seen) ∙ ap (λ l. a.seen ++ l) (sym none) in
+    adds_from t v a b found can h seen
+    (loads.mine ∙ ap (λ (u : View). u.mine) h.view ∙ ap (with_posting v.mine) (sym none))
+    (loads.lock ∙ ap (λ (u : View). u.lock) h.view)
+    (loads.staged ∙ ap (λ (u : View). u.staged) h.view ∙ writer.unstaged)
+    loads.loads
+    (subst IsHistory (sym loads.seen) h.whole)
+
+-- a posting with rows is added
+some_posting : (mine : List (List Row)) (d : Verdict) (ps : List ℕ) → 0 < length ps
+    → with_posting mine (rows_of d ps) ≡ mine ++ rows_of d ps ∷ []
+some_posting mine d [] l = absurd (omega arith)
+some_posting mine d (p ∷ ps) l = refl
+
+-- the new rows were staged and counted
+pub adds_rows : (t : PostingValue) (v a b s w : View) (found : ℕ) → CanPost v.lock.graph t.verdict t.processes
+    → AfterLoad v 1 found a
+    → OnlyLoads a b → Stages t.verdict t.processes b s → w ≡ posted s → IsPosting s.staged
+    → 0 < length (unposted a.seen t.processes)
+    → Adds t v w
+adds_rows t v a b s w found can h loads st e posting some =
+    let rows = new_rows t a.seen in
+    let staged : s.staged ≡ rows = st.staged ∙ ap (new_rows t) loads.seen in
+    let kept : s.seen ≡ a.seen = st.seen ∙ loads.seen in
+    let seen : w.seen ≡ a.seen ++ rows =
+    ap (λ (u : View). u.seen) e ∙ ap (λ l. l ++ s.staged) kept ∙ ap (λ l. a.seen ++ l) staged in
+    adds_from t v a w found can h seen
+    (ap (λ (u : View). u.mine) e
+    ∙ ap (λ l. l ++ s.staged ∷ []) (st.mine ∙ loads.mine ∙ ap (λ (u : View). u.mine) h.view)
+    ∙ ap (λ r. v.mine ++ r ∷ []) staged ∙ sym (some_posting v.mine t.verdict (unposted a.seen t.processes) some))
+    (ap (λ (u : View). u.lock) e ∙ st.lock ∙ loads.lock ∙ ap (λ (u : View). u.lock) h.view)
+    (ap (λ (u : View). u.staged) e)
+    (let x = ap (λ (u : View). u.loads) e in let y = st.loads in let z = loads.loads in omega arith)
+    (subst IsHistory (sym seen) (history-snoc a.seen rows h.whole (subst IsPosting staged posting)))
+
+-- what is staged ends with a last row
+pub staged_ends : (d : Verdict) (ps : List ℕ) (v s : View) → Stages d ps v s → 0 < length (unposted v.seen ps)
+    → EndsLast s.staged
+staged_ends d ps v s st some = subst EndsLast (sym st.staged) (ends_some (unposted v.seen ps) some)
+  where
+    ends_some : (qs : List ℕ) → 0 < length qs → EndsLast (rows_of d qs)
+    ends_some [] l = absurd (omega arith)
+    ends_some (q ∷ qs) l = rows_end d q qs
+
+-- and is told
+pub staged_told : (d : Verdict) (ps : List ℕ) (v s : View) → Stages d ps v s → AreTold s.staged s.told
+staged_told d ps v s st =
+    subst (λ x. AreTold x s.told) (sym st.staged)
+    (subst (λ y. AreTold (rows_of d (unposted v.seen ps)) y) (sym st.told) (rows_told d (unposted v.seen ps)))
+
+-- the number of rows from then on
+pub staged_number : (d : Verdict) (ps : List ℕ) (v s : View) (count new : ℕ) → Stages d ps v s → count ≡ length v.seen
+    → new ≡ length (unposted v.seen ps) → count + new ≡ length s.seen + length s.staged
+staged_number d ps v s count new st c n =
+    let x = ap length st.seen in
+    let y = ap length st.staged ∙ length-rows_of d (unposted v.seen ps) in
+    omega arith
+
+-- what is told truly may be posted
+pub can_post : (g : Graph) (t : PostingValue) → IsWithinGraph g → IsTruth g t → CanPost g t.verdict t.processes
+can_post g t within truth = record {
+  idle = truth.idle;
+  truth = λ p c. true_verdict g p t.verdict within (truth.verdict p c);
+  once = truth.once;
+}
+
+-- a seat that took the lock, added a posting and let the lock go has posted it
+pub posts_from : (t : PostingValue) (v u a w : View) → u ≡ tried v Writing 0 → Adds t u a → w ≡ ended a
+    → IsWritten v w × Posts t v w
+posts_from t v u a w took adds ended =
+    let lock = adds.lock ∙ ap (λ (x : View). x.lock) took in
+    let before = ap (λ (x : View). x.seen) took in
+    let seen = ap (λ (x : View). x.seen) ended in (
+      record {
+        found = ap (λ (x : View). x.lock.found) ended ∙ ap (λ l. l.found) lock;
+        loads = (let x = ap (λ (y : View). y.loads) took in let y = adds.loads in
+            let z = ap (λ (y : View). y.loads) ended in omega arith);
+      },
+      record {
+        between = adds.between;
+        rows = adds.rows;
+        new = adds.new ∙ ap (λ l. rows_of t.verdict (unposted (l ++ adds.between) t.processes)) before;
+        seen = seen ∙ adds.seen ∙ ap (λ l. (l ++ adds.between) ++ adds.rows) before;
+        mine = ap (λ (x : View). x.mine) ended ∙ adds.mine ∙ ap (λ (x : View). with_posting x.mine adds.rows) took;
+        once = λ p c. ap (times p) seen ∙ adds.once p c;
+        says = λ p c. ap (λ l. fold_at l p) seen ∙ adds.says p c;
+        share = ap (λ (x : View). x.lock.share) ended ∙ ap (λ l. l.share) lock;
+        graph = ap (λ (x : View). x.lock.graph) ended ∙ ap (λ l. l.graph) lock;
+      },
+    )
+
+-- tries that were refused have changed nothing but how often the lock was tried
+pub record IsUntouched (v w : View) : Type 0 where
+  pub seen : w.seen ≡ v.seen
+  pub mine : w.mine ≡ v.mine
+  pub share : w.lock.share ≡ v.lock.share
+  pub graph : w.lock.graph ≡ v.lock.graph
+  pub tries : v.lock.tries ≤ w.lock.tries

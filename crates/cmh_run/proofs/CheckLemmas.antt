@@ -1,0 +1,290 @@
+-- What an auditor answers, against the run that the deliveries make.
+use Rattle.std.proofs.Common.{◌≡◌, ℕ, ◌<◌, arith, Bool, true, false, not, ◌&&◌, cond, List, [], ◌∷◌, ◌++◌, length, get_or, slice_get, Option, Some, None, is_some, refl, sym, ◌∙◌, ap, subst, ◌⊎◌, inr, ⊎_elim}
+use Rattle.std.specs.Prelude.{IfSome, IfNone, IfOk, IfErr, ok_or, ◌↔◌, take}
+use Rattle.std.proofs.lemmas.Bool.{true≢false, cases_Bool}
+use Rattle.cmh_process.specs.declared.message.Message.{Message}
+use Rattle.cmh_graph.specs.declared.verdict.Verdict.{Verdict}
+use Rattle.std.proofs.lemmas.Option.{none-some}
+use denote.Enum.Bare.{sameb}
+use Rattle.cmh_graph.specs.contracts.verdict.Verdict.{the_type}
+use Rattle.cmh_graph.specs.Graph.{Graph, process_count, is_idle, is_awake}
+use Rattle.cmh_graph.specs.Build.{IsWellFormed}
+use Rattle.cmh_graph.proofs.Verdicts.{idle_within}
+use Rattle.cmh_graph.specs.Verdict.{verdict, verdicts, IsDeadlocked}
+use Rattle.cmh_graph.proofs.Verdicts.{one_verdict, verdict_listed, verdict_true}
+use Rattle.cmh_run.proofs.Scripts.{verdict_count}
+use Rattle.cmh_run.proofs.Verdicts.{same, same_as_itself}
+use Rattle.cmh_run.specs.declared.delivery.Delivery.{Delivery}
+use Rattle.cmh_run.specs.declared.delivery.Ending.{Ending}
+use Rattle.cmh_run.specs.declared.delivery.Ending.TheVariants.{Declared, AtRest, CutFree}
+use Rattle.cmh_run.specs.Config.{Config, proc_at, asks, received}
+use Rattle.cmh_run.specs.Legal.{Going, after, HintIsFit, any_place, EndsAs}
+use Rattle.cmh_run.specs.declared.fault.CheckFault.{CheckFault}
+use Rattle.cmh_run.specs.declared.fault.CheckFault.TheVariants.{NotIdle, NotUndelivered, FalseHint, AfterEnd, NotEnded, Memory}
+use Rattle.cmh_run.specs.Packed.{CanSend, EngagersHaveRoom}
+use Rattle.cmh_run.specs.Check.{LeadTo, HasEnded, IsUndelivered, IsLegalRun, IsAfterEnd, IsStray, IsMisled, IsFirstCheckFault}
+use Rattle.cmh_run.proofs.Soundness.{runs_are_sound}
+use Rattle.cmh_run.specs.Audit.{is_waiting, goes_like, Waiting, Audit, with_bag, Agrees, IsSettled, IsAwaited, IsAudited, IsFlaw}
+use Rattle.cmh_run.proofs.Tokens.{each_at}
+use Rattle.cmh_run.proofs.LiveInvariant.{Fine}
+use Rattle.cmh_run.proofs.Places.{IsIn, in_nothing, none_in}
+use Rattle.cmh_run.proofs.AuditLemmas.{Own, Firm, firm, agrees_after}
+
+-- a hint that is fit with one bag is fit with any
+bag_fit : (g : Graph) (c : Config) (bag : List Message) (m : Message) (hint : Option Verdict)
+    → HintIsFit g (with_bag c bag) m hint → HintIsFit g c m hint
+bag_fit g c bag m None h = h
+bag_fit g c bag m (Some v) h = h
+
+module _ (g : Graph) (i : ℕ) (log : List Delivery) (s : Going) (a : Audit) (h : Agrees g i log s a) where
+  -- what may be counted on
+  here : Firm g i s
+  here = firm g i h.graph h.idle log s h.leads
+
+  -- the network has ended as the run has
+  same_ended : a.network.ended ≡ s.config.ended
+  same_ended = ap (λ (c : Config). c.ended) h.network
+
+  -- there are as many processes as the graph has
+  pub audit_size : length a.network.procs ≡ process_count g
+  audit_size = ap (λ (c : Config). length c.procs) h.network ∙ here.size
+
+  -- an ending of the network is the run's
+  pub ended_as : (e : Ending) → a.network.ended ≡ Some e → EndsAs s.config e
+  ended_as Declared e = sym same_ended ∙ e
+  ended_as (CutFree k) e = sym same_ended ∙ e
+  ended_as AtRest e = absurd (here.not_at_rest (sym same_ended ∙ e))
+
+  -- where the run hasn't ended, no declaration and no hint has ended it
+  pub is_going : ¬ (HasEnded s.config) → s.config.ended ≡ None
+  is_going no_end = by_ended s.config.ended refl
+    where
+      by_ended : (o : Option Ending) → s.config.ended ≡ o → o ≡ None
+      by_ended None e = refl
+      by_ended (Some Declared) e = absurd (no_end (Declared, e))
+      by_ended (Some (CutFree k)) e = absurd (no_end (CutFree k, e))
+      by_ended (Some AtRest) e = absurd (here.not_at_rest e)
+
+  -- an undelivered message goes to a process of the graph
+  pub audit_receiver : (m : Message) → IsUndelivered s.config m → s.config.ended ≡ None → m.to < process_count g
+  audit_receiver m u going =
+      let live = here.live m u going in
+      (each_at (Fine g i s.config.number (proc_at s.config.procs)) s.config.bag u.0 m live.fine u.1).to_in
+
+  -- hints are fit for the network as they are for the run
+  pub fit_run : (m : Message) (hint : Option Verdict) → HintIsFit g a.network m hint → HintIsFit g s.config m hint
+  fit_run m hint f = bag_fit g s.config a.network.bag m hint (subst (λ (c : Config). HintIsFit g c m hint) h.network f)
+
+  module _ (settled : IsSettled a) where
+    -- an undelivered message is awaited
+    pub awaited : (m : Message) → IsUndelivered s.config m → IsAwaited i a m
+    awaited m u =
+        let mine = each_at (Own i) s.config.bag u.0 m here.own u.1 in
+        record {
+          mine = mine.mine;
+          first = mine.first;
+          waits = ⊎_elim (λ (q : is_waiting a.undelivered m ≡ true). q)
+              (λ (n : IsUndelivered a.network m). absurd
+              (in_nothing m (subst (λ (bag : List Message). IsIn bag m) settled n))) (h.pending m u);
+        }
+
+    -- where nothing is awaited, the run is at rest unless it was ended
+    pub rests : a.network.ended ≡ None → ((m : Message) → is_waiting a.undelivered m ≡ false) → EndsAs s.config AtRest
+    rests e none = (sym same_ended ∙ e, none_in s.config.bag (λ m u. true≢false (sym (awaited m u).waits ∙ none m)))
+
+    -- where something is, the run hasn't ended unless it was ended
+    pub goes_on : a.network.ended ≡ None → (((m : Message) → is_waiting a.undelivered m ≡ false) → ⊥)
+        → ¬ (HasEnded s.config)
+    goes_on e some end = by_ending end.0 end.1
+      where
+        by_ending : (last : Ending) → EndsAs s.config last → ⊥
+        by_ending Declared f = none-some _ (sym e ∙ same_ended ∙ f)
+        by_ending (CutFree k) f = none-some _ (sym e ∙ same_ended ∙ f)
+        by_ending AtRest f = some (λ m. ⊎_elim
+            (λ (waits : is_waiting a.undelivered m ≡ true). absurd
+            (in_nothing (own m)
+            (subst (λ (bag : List Message). IsIn bag (own m)) f.1 (h.waiting (own m) refl refl waits))))
+            (λ (no_wait : is_waiting a.undelivered m ≡ false). no_wait) (cases_Bool (is_waiting a.undelivered m)))
+          where
+            own : Message → Message
+            own m = record { kind = m.kind; initiator = i; number = 1; from = m.from; to = m.to }
+
+-- ---- hints
+
+-- the list of all verdicts has that of each process
+pub truth_at : (g : Graph) (truth : List Verdict) (p : ℕ) → truth ≡ verdicts g → p < process_count g → p < length truth
+truth_at g truth p is within = subst (λ (n : ℕ). p < n) (sym (ap length is ∙ verdict_count g)) within
+
+-- a hint that is asked for is fit where it is the verdict of the list
+pub fit_where_true : (g : Graph) (c : Config) (m : Message) (hint : Option Verdict) (v d : Verdict)
+    (truth : List Verdict) (b : Bool) → IsWellFormed g → hint ≡ Some v → asks g c m ≡ true
+    → truth ≡ verdicts g → m.to < process_count g → b ≡ sameb the_type (get_or truth m.to d) v
+    → (b ≡ true → HintIsFit g c m hint) × (HintIsFit g c m hint → b ≡ true)
+fit_where_true g c m hint v d truth b w is asked all within test = (
+  λ e. subst (λ (o : Option Verdict). HintIsFit g c m o) (sym is) (
+    asked,
+    verdict_true g m.to v w.within
+        (sym (verdict_listed g truth m.to d all within) ∙ same (get_or truth m.to d) v (sym test ∙ e)),
+  ),
+  λ fit. let told : HintIsFit g c m (Some v) = subst (λ (o : Option Verdict). HintIsFit g c m o) is fit in
+      let equal : get_or truth m.to d ≡ v = verdict_listed g truth m.to d all within
+      ∙ one_verdict g m.to (verdict g m.to) v (verdict_true g m.to (verdict g m.to) w.within refl) told.1 in
+      test ∙ ap (λ (u : Verdict). sameb the_type u v) equal ∙ same_as_itself v,
+)
+
+-- ---- a delivery
+
+-- where no ending is answered, it is as is said of no ending
+pub where_none : (o : Option Ending) (P : Type 0) → false ≡ is_some o → IfNone o P → P
+where_none None P e h = h
+where_none (Some x) P e h = absurd (true≢false (sym e))
+
+module _ (g : Graph) (i : ℕ) (log : List Delivery) (s : Going) (a : Audit) (d : Delivery) (h : Agrees g i log s a)
+    (settled : IsSettled a) (going : ¬ (HasEnded s.config)) (aw : IsAwaited i a d.message) where
+  -- the message of the delivery is undelivered
+  pub is_there : IsUndelivered s.config d.message
+  is_there = h.waiting d.message aw.mine aw.first aw.waits
+
+  -- its receiver is a process of the graph
+  pub delivery_within : d.message.to < process_count g
+  delivery_within = audit_receiver g i log s a h d.message is_there (is_going g i log s a h going)
+
+  -- what it sends has room in words
+  pub delivery_sender : CanSend i d.message.number d.message.to
+  delivery_sender = record {
+    initiator = omega (arith, h.graph.processes, idle_within g i h.idle);
+    number = omega (arith, aw.first);
+    from = omega (arith, h.graph.processes, delivery_within);
+  }
+
+  -- so has its sender
+  pub delivery_from : d.message.from < 4096
+  delivery_from =
+      let live = (here g i log s a h).live d.message is_there (is_going g i log s a h going) in
+      omega (
+        arith,
+        h.graph.processes,
+        (each_at
+            (Fine g i s.config.number (proc_at s.config.procs)) s.config.bag is_there.0 d.message live.fine
+            is_there.1).from_in,
+      )
+
+  -- and whoever engaged a process
+  pub delivery_engagers : EngagersHaveRoom a.network.procs
+  delivery_engagers = rw h.network (λ k e is.
+      let live = (here g i log s a h).live d.message is_there (is_going g i log s a h going) in
+      omega (arith, h.graph.processes, live.in_range k e is))
+
+  -- the network hasn't ended
+  pub network_going : a.network.ended ≡ None
+  network_going = ap (λ (c : Config). c.ended) h.network ∙ is_going g i log s a h going
+
+  -- and after the delivery what is kept agrees with the run
+  pub after_delivery : (t b : Audit) → t.network ≡ a.network
+      → ((m : Message) → is_waiting t.undelivered m ≡ (not (goes_like d.message m) && is_waiting a.undelivered m))
+      → HintIsFit g t.network d.message d.hint
+      → b.network ≡ cond (is_awake g d.message.to) t.network (received g i t.network d.message d.message.kind d.hint)
+      → b.undelivered ≡ t.undelivered
+      → Agrees g i (log ++ d ∷ []) (after g i s is_there.0 d) b
+  after_delivery t b same fewer fit moved kept =
+      agrees_after g i log s a b h is_there.0 d settled
+      (record {
+        going = is_going g i log s a h going;
+        there = is_there.1;
+        hint = fit_run g i log s a h d.message d.hint
+            (subst (λ (c : Config). HintIsFit g c d.message d.hint) same fit);
+      })
+      (moved ∙ ap
+      (λ (c : Config). cond (is_awake g d.message.to) c (received g i c d.message d.message.kind d.hint)) whole)
+      (λ m. ap (λ (w : Waiting). is_waiting w m) kept ∙ fewer m)
+    where
+      whole : t.network ≡ with_bag s.config []
+      whole = same ∙ h.network ∙ ap (λ (bag : List Message). with_bag s.config bag) settled
+
+-- ---- the whole log
+
+-- what is wrong with delivery t is the first fault of the log
+pub flaw_is_fault : (g : Graph) (i : ℕ) (log : List Delivery) (t : ℕ) (d : Delivery) (s : Going) (e : CheckFault)
+    → is_idle g i ≡ true → slice_get log t ≡ Some d → LeadTo g i (take t log) s
+    → IsFlaw g s.config t d e → IsFirstCheckFault g i log e
+flaw_is_fault g i log t d s (AfterEnd n) idle there leads f =
+    subst (λ (k : ℕ). IsAfterEnd g i log k) (sym f.0)
+    (record { delivery = d; state = s; comes = record { idle = idle; there = there; before = leads }; ended = f.1 })
+flaw_is_fault g i log t d s (NotUndelivered n) idle there leads f =
+    subst (λ (k : ℕ). IsStray g i log k) (sym f.0)
+    (record {
+      delivery = d;
+      state = s;
+      comes = record { idle = idle; there = there; before = leads };
+      going = f.1;
+      stray = f.2;
+    })
+flaw_is_fault g i log t d s (FalseHint n) idle there leads f =
+    subst (λ (k : ℕ). IsMisled g i log k) (sym f.0)
+    (record {
+      delivery = d;
+      state = s;
+      comes = record { idle = idle; there = there; before = leads };
+      going = f.1;
+      there = f.2;
+      misled = f.3;
+    })
+flaw_is_fault g i log t d s NotIdle idle there leads f = absurd f
+flaw_is_fault g i log t d s NotEnded idle there leads f = absurd f
+flaw_is_fault g i log t d s Memory idle there leads f = absurd f
+
+-- an ending tells the truth
+ending_tells : (g : Graph) (i : ℕ) (log : List Delivery) (s : Going) (e : Ending) → IsWellFormed g → is_idle g i ≡ true
+    → LeadTo g i log s → EndsAs s.config e → (e ≡ Declared) ↔ IsDeadlocked g i
+ending_tells g i log s e w idle leads ends =
+    let right = runs_are_sound any_place g i [] log e s w.within idle (record { leads = leads; ends = ends }) in
+    (right.declared, λ dead. by_ending e (λ other. right.free other dead))
+  where
+    by_ending : (e : Ending) → ((e ≡ Declared → ⊥) → ⊥) → e ≡ Declared
+    by_ending Declared h = refl
+    by_ending AtRest h = absurd (h (λ q. cc))
+    by_ending (CutFree k) h = absurd (h (λ q. cc))
+
+module _ (g : Graph) (i : ℕ) (log : List Delivery) (a : Audit) (audited : IsAudited g i log a) where
+  -- all that the auditor answers of an ending
+  abbrev pub IsAnswer : Option Ending → Type 0
+  IsAnswer o =
+      IfSome o
+      (λ e. (g : Graph) (i : ℕ) (log : List Delivery) (s : Going) → Agrees g i log s a → IsSettled a
+      → EndsAs s.config e)
+
+  -- and of none
+  abbrev pub IsNoAnswer : Option Ending → Type 0
+  IsNoAnswer o =
+      IfNone o
+      ((g : Graph) (i : ℕ) (log : List Delivery) (s : Going) → Agrees g i log s a → IsSettled a
+      → ¬ (HasEnded s.config))
+
+  -- an ending makes the log a legal run
+  pub answer_legal : (o : Option Ending) → IsAnswer o → IfOk (ok_or o NotEnded) (IsLegalRun g i log)
+  answer_legal None f = tt
+  answer_legal (Some e) f =
+      record {
+        idle = audited.1.idle;
+        end = audited.0;
+        legal = record { leads = audited.1.leads; ends = f g i log audited.0 audited.1 audited.2 };
+      }
+
+  -- which tells the truth
+  pub answer_true : (o : Option Ending) → IsAnswer o → IfOk (ok_or o NotEnded) (λ e. (e ≡ Declared) ↔ IsDeadlocked g i)
+  answer_true None f = tt
+  answer_true (Some e) f =
+      ending_tells g i log audited.0 e audited.1.graph audited.1.idle audited.1.leads
+      (f g i log audited.0 audited.1 audited.2)
+
+  -- without an ending the log is cut short
+  pub answer_cut : (o : Option Ending) → IsNoAnswer o
+      → IfErr (ok_or o NotEnded) (λ e. (e ≡ Memory) ⊎ IsFirstCheckFault g i log e)
+  answer_cut None f =
+      inr (record {
+        idle = audited.1.idle;
+        state = audited.0;
+        leads = audited.1.leads;
+        going = f g i log audited.0 audited.1 audited.2;
+      })
+  answer_cut (Some e) f = tt

@@ -1,0 +1,562 @@
+-- A run that goes on by one delivery, and what its steps may count on.
+use Rattle.std.proofs.Common.{◌≡◌, ℕ, ◌+◌, ◌-◌, ◌*◌, ◌^◌, ◌<◌, ◌≤◌, ◌≢◌, Bool, true, false, ◌&&◌, cond, eqb, List, [], ◌∷◌, ◌++◌, length, drop, slice_get, Contains, Option, Some, None, is_none, refl, sym, ◌∙◌, ap, subst, arith, ◌⊎◌, ⊎_elim, length-append, mul-le-mul_left}
+use Rattle.std.proofs.lemmas.Bool.{eqb-true, eq-eqb, and_parts}
+use Rattle.std.proofs.lemmas.Option.{none-some}
+use Rattle.std.specs.Prelude.{slice_index}
+use Rattle.std.specs.List.{IsDistinct}
+use Rattle.std.proofs.lemmas.List.{length-replicate, get_or-drop, drop-drop}
+use Rattle.cmh_process.specs.declared.message.Message.{Message}
+use Rattle.cmh_graph.specs.declared.verdict.Verdict.{Verdict}
+use Rattle.cmh_run.specs.declared.delivery.Delivery.{Delivery}
+use Rattle.cmh_run.specs.declared.delivery.Ending.{Ending}
+use Rattle.cmh_run.specs.declared.delivery.Ending.TheVariants.{Declared, AtRest, CutFree}
+use Rattle.cmh_graph.specs.Graph.{Graph, process_count, is_idle, is_awake, IsWithinGraph, dependency_count}
+use Rattle.cmh_graph.proofs.Verdicts.{idle_within}
+use Rattle.cmh_process.specs.Process.{fresh}
+use Rattle.cmh_run.specs.Config.{Config, blank, proc_at, nothing_yet, start, without}
+use Rattle.cmh_run.specs.Legal.{Going, going_from, begun, restart, restarted_at, ready, after, Rule, MayCome, DeliveriesLead, EndsAs, IsRun, HintIsFit, IsRight}
+use Rattle.cmh_run.specs.Choices.{chosen_place, HasNoHints}
+use Rattle.cmh_run.specs.Engaged.{AreEngaged}
+use Rattle.cmh_run.specs.Run.{Stage, Run, IsRunOf, TellsTruth, empty_run_of, verdict_of, MayStart, place_in, IsTakenBy, delivered_to, ending_of}
+use Rattle.cmh_run.specs.Follow.{Follows}
+use Rattle.cmh_run.specs.Packed.{CanSend, EngagersHaveRoom}
+use Rattle.cmh_run.specs.declared.TheConstants.{MAX_RESTARTS}
+use Rattle.cmh_graph.specs.Verdict.{IsVerdict}
+use Rattle.cmh_run.proofs.LiveInvariant.{Fine}
+use Rattle.cmh_run.proofs.Tokens.{each_at}
+use Rattle.cmh_run.proofs.Soundness.{number_kept, runs_are_sound}
+use Rattle.cmh_run.proofs.Configurations.{by_test, is_none_true, Status, Stands, first_start, leads_stands, status_none, fresh_at, stepped, ready_stands}
+use Rattle.cmh_run.proofs.LastComputation.{last_computation_is_a_run}
+use Rattle.cmh_run.proofs.Determinism.{same_run}
+use Rattle.cmh_run.proofs.EngagedLemmas.{who_engages, awake_ones_start_nothing}
+use Rattle.cmh_run.proofs.DeliveryBound.{leads_are_short, deliveries_are_bounded, few_dependencies}
+use Rattle.cmh_graph.specs.Build.{IsWellFormed}
+
+-- a restart changes nothing of how many deliveries there were
+restart_keeps_count : (g : Graph) (i : ℕ) (s : Going) (ns : List ℕ) → (restarted_at g i s ns).done ≡ s.done
+restart_keeps_count g i s [] = refl
+restart_keeps_count g i s (n ∷ ns) =
+    by_test (is_none s.config.ended && eqb n s.done) (λ b. (cond b (restart g i s ns) s).done ≡ s.done) (λ e. refl)
+    (λ e. refl)
+
+-- one delivery more
+pub leads_on : (rule : Rule) (g : Graph) (i : ℕ) (log : List Delivery) (s mid : Going) (x : ℕ) (d : Delivery)
+    → DeliveriesLead rule g i s log mid → MayCome g mid.config x d → rule mid.done mid.config x ≡ true
+    → DeliveriesLead rule g i s (log ++ d ∷ []) (ready g i (after g i mid x d))
+leads_on rule g i [] s mid x d l may chosen = (
+  x,
+  subst (λ (t : Going). MayCome g t.config x d) (sym l) may,
+  subst (λ (n : ℕ). rule n (ready g i s).config x ≡ true) (restart_keeps_count g i s s.restarts)
+      (subst (λ (t : Going). rule t.done t.config x ≡ true) (sym l) chosen),
+  subst (λ (t : Going). ready g i (after g i (ready g i s) x d) ≡ ready g i (after g i t x d)) l refl,
+)
+leads_on rule g i (e ∷ log) s mid x d l may chosen =
+    (l.0, l.1, l.2, leads_on rule g i log (after g i (ready g i s) l.0 e) mid x d l.3 may chosen)
+
+-- a restart that is due takes one of those to come
+ready_restarts : (g : Graph) (i : ℕ) (s : Going) (ns : List ℕ) → s.restarts ≡ ns
+    → (restarted_at g i s ns).restarted + length (restarted_at g i s ns).restarts ≤ s.restarted + length s.restarts
+ready_restarts g i s [] e = omega arith
+ready_restarts g i s (n ∷ ns) e =
+    by_test (is_none s.config.ended && eqb n s.done)
+    (λ b. (cond b (restart g i s ns) s).restarted + length (cond b (restart g i s ns) s).restarts
+    ≤ s.restarted + length s.restarts)
+    (λ t. rw e (omega arith)) (λ t. omega arith)
+
+-- the restarts that were and those that are still to come are no more than at the start
+leads_restarts : (rule : Rule) (g : Graph) (i : ℕ) (log : List Delivery) (s end : Going)
+    → DeliveriesLead rule g i s log end
+    → end.restarted + length end.restarts ≤ s.restarted + length s.restarts
+leads_restarts rule g i [] s end l =
+    subst (λ (t : Going). t.restarted + length t.restarts ≤ s.restarted + length s.restarts) l
+    (ready_restarts g i s s.restarts refl)
+leads_restarts rule g i (d ∷ log) s end l =
+    let now = ready_restarts g i s s.restarts refl in
+    let rest = leads_restarts rule g i log (after g i (ready g i s) l.0 d) end l.3 in
+    omega (arith, now, rest)
+
+module _ (g : Graph) (i : ℕ) (ok : IsWithinGraph g) (within : i < process_count g) (rests : is_awake g i ≡ false) where
+  -- a restart keeps it so
+  ready_numbered : (s : Going) (ns : List ℕ) → Stands g i s.config → s.config.number ≡ s.restarted + 1
+      → (restarted_at g i s ns).config.number ≡ (restarted_at g i s ns).restarted + 1
+  ready_numbered s [] h e = e
+  ready_numbered s (n ∷ ns) h e =
+      by_test (is_none s.config.ended && eqb n s.done)
+      (λ b. (cond b (restart g i s ns) s).config.number ≡ (cond b (restart g i s ns) s).restarted + 1)
+      (λ t. let live = status_none g i s.config h
+      (is_none_true s.config.ended (and_parts (is_none s.config.ended) (eqb n s.done) t).0) in
+      omega (arith, live.0.sound.root_in, e))
+      (λ t. e)
+
+  -- deliveries keep it so
+  leads_numbered : (rule : Rule) (log : List Delivery) (s end : Going) → Stands g i s.config
+      → s.config.number ≡ s.restarted + 1
+      → DeliveriesLead rule g i s log end → end.config.number ≡ end.restarted + 1
+  leads_numbered rule [] s end h e l =
+      subst (λ (t : Going). t.config.number ≡ t.restarted + 1) l (ready_numbered s s.restarts h e)
+  leads_numbered rule (d ∷ log) s end h e l =
+      let now : Stands g i (ready g i s).config = ready_stands g i s ok within rests h s.restarts in
+      let live = status_none g i (ready g i s).config now l.1.going in
+      leads_numbered rule log (after g i (ready g i s) l.0 d) end
+      (stepped g i (ready g i s).config ok now.size l.1.going live.0 live.1 l.0 d.message l.1.there d.hint l.1.hint)
+      (number_kept g i (ready g i s).config l.0 d.message d.hint ∙ ready_numbered s s.restarts h e) l.3
+
+  -- the initiator may start again while few restarts were
+  pub may_start : (s : Going) → Stands g i s.config → s.config.number ≡ s.restarted + 1 → s.restarted ≤ MAX_RESTARTS
+      → s.config.ended ≡ None → MayStart g i s
+  may_start s h e few going =
+      let live = status_none g i s.config h going in
+      record { size = h.size; within = within; next = omega (arith, live.0.sound.root_in); count = omega arith }
+
+  -- the first start has number 1
+  first_number : (start g i (nothing_yet g)).number ≡ 1
+  first_number = rw (fresh_at (process_count g) i) refl
+
+  -- what is true of a configuration is true after the first start
+  pub first_stands : Stands g i (start g i (nothing_yet g))
+  first_stands = first_start g i ok within rests
+
+  -- it is true wherever deliveries lead from the first start
+  pub follows_stands : (rule : Rule) (restarts : List ℕ) (log : List Delivery) (s : Going)
+      → DeliveriesLead rule g i (going_from (start g i (nothing_yet g)) restarts) log s → Stands g i s.config
+  follows_stands rule restarts log s l =
+      leads_stands rule g i ok within rests log (going_from (start g i (nothing_yet g)) restarts) s first_stands l
+
+  -- there the number of the last start is one more than the restarts
+  pub follows_numbered : (rule : Rule) (restarts : List ℕ) (log : List Delivery) (s : Going)
+      → DeliveriesLead rule g i (going_from (start g i (nothing_yet g)) restarts) log s
+      → s.config.number ≡ s.restarted + 1
+  follows_numbered rule restarts log s l =
+      leads_numbered rule log (going_from (start g i (nothing_yet g)) restarts) s first_stands first_number l
+
+-- where nothing was started, nothing is to come
+pub nothing_comes : (rule : Rule) (g : Graph) (i : ℕ) (log : List Delivery) (s : Going)
+    → DeliveriesLead rule g i (going_from (nothing_yet g) []) log s → s ≡ going_from (nothing_yet g) []
+nothing_comes rule g i [] s l = sym l
+nothing_comes rule g i (d ∷ log) s l = absurd (none-some _ l.1.there)
+
+-- what a step may count on
+pub record Steady (g : Graph) (i : ℕ) (s : Going) : Type 0 where
+  pub rests : is_awake g i ≡ false
+  pub stands : Stands g i s.config
+  pub numbered : s.config.number ≡ s.restarted + 1
+
+module _ (g : Graph) (i : ℕ) (choices restarts : List ℕ) (s : Stage) (ok : IsWithinGraph g) (idle : is_idle g i ≡ true)
+    (f : Follows g i choices restarts s) where
+  -- an idle initiator is a process of the graph
+  within : i < process_count g
+  within = idle_within g i idle
+
+  -- where the initiator isn't awake, the deliveries lead on from its start
+  asleep_leads : is_awake g i ≡ false
+      → DeliveriesLead (chosen_place choices) g i (going_from (start g i (nothing_yet g)) restarts) s.log s.going
+  asleep_leads e = rw e at f.leads
+
+  -- where the initiator is awake, the deliveries lead on from where nothing was started
+  awake_leads : is_awake g i ≡ true
+      → DeliveriesLead (chosen_place choices) g i (going_from (nothing_yet g) []) s.log s.going
+  awake_leads e = rw e at f.leads
+
+  -- while a message is undelivered the run stands firm
+  pub steady : (x : ℕ) (m : Message) → slice_get s.going.config.bag x ≡ Some m → Steady g i s.going
+  steady x m there = by_awake (is_awake g i) refl
+    where
+      by_awake : (b : Bool) → is_awake g i ≡ b → Steady g i s.going
+      by_awake true e =
+          absurd (none-some _
+          (subst (λ (t : Going). slice_get t.config.bag x ≡ Some m)
+          (nothing_comes (chosen_place choices) g i s.log s.going (awake_leads e)) there))
+      by_awake false e = record {
+        rests = e;
+        stands = follows_stands g i ok within e (chosen_place choices) restarts s.log s.going (asleep_leads e);
+        numbered = follows_numbered g i ok within e (chosen_place choices) restarts s.log s.going (asleep_leads e);
+      }
+
+  -- there are as many processes as the graph has
+  pub all_there : length s.going.config.procs ≡ process_count g
+  all_there = by_awake (is_awake g i) refl
+    where
+      by_awake : (b : Bool) → is_awake g i ≡ b → length s.going.config.procs ≡ process_count g
+      by_awake true e =
+          ap (λ (t : Going). length t.config.procs)
+          (nothing_comes (chosen_place choices) g i s.log s.going (awake_leads e))
+          ∙ length-replicate (process_count g) fresh
+      by_awake false e =
+          (follows_stands g i ok within e (chosen_place choices) restarts s.log s.going (asleep_leads e)).size
+
+  -- an undelivered message goes to a process of the graph
+  pub receiver_within : (x : ℕ) (m : Message) → s.going.config.ended ≡ None → slice_get s.going.config.bag x ≡ Some m
+      → m.to < process_count g
+  receiver_within x m going there =
+      let firm = steady x m there in
+      let live = status_none g i s.going.config firm.stands going in
+      (each_at
+      (Fine g i s.going.config.number (proc_at s.going.config.procs)) s.going.config.bag x m live.0.fine
+      there).to_in
+
+  -- no more restarts have come than may be given
+  few_restarts : length restarts ≤ MAX_RESTARTS → s.going.restarted ≤ MAX_RESTARTS
+  few_restarts few = by_awake (is_awake g i) refl
+    where
+      by_awake : (b : Bool) → is_awake g i ≡ b → s.going.restarted ≤ MAX_RESTARTS
+      by_awake true e =
+          omega (
+            arith,
+            leads_restarts (chosen_place choices) g i s.log (going_from (nothing_yet g) []) s.going (awake_leads e),
+          )
+      by_awake false e =
+          omega (
+            arith,
+            leads_restarts (chosen_place choices) g i s.log (going_from (start g i (nothing_yet g)) restarts) s.going
+                (asleep_leads e),
+          )
+
+  -- the initiator may start again after a delivery
+  pub may_start_after : (x : ℕ) (d : Delivery) → length restarts ≤ MAX_RESTARTS → MayCome g s.going.config x d
+      → (after g i s.going x d).config.ended ≡ None → MayStart g i (after g i s.going x d)
+  may_start_after x d few may going =
+      let firm = steady x d.message may.there in
+      let live = status_none g i s.going.config firm.stands may.going in
+      may_start g i ok within firm.rests (after g i s.going x d)
+      (stepped g i s.going.config ok firm.stands.size may.going live.0 live.1 x d.message may.there d.hint may.hint)
+      (number_kept g i s.going.config x d.message d.hint ∙ firm.numbered) (few_restarts few) going
+
+  -- where none were given, none are to come
+  pub none_to_come : restarts ≡ [] → s.going.restarts ≡ []
+  none_to_come none = by_awake (is_awake g i) refl
+    where
+      nobody : (xs : List ℕ) → length xs ≤ 0 → xs ≡ []
+      nobody [] l = refl
+      nobody (x ∷ xs) l = absurd (omega (arith, l))
+
+      by_awake : (b : Bool) → is_awake g i ≡ b → s.going.restarts ≡ []
+      by_awake true e =
+          nobody s.going.restarts
+          (omega (
+            arith,
+            leads_restarts (chosen_place choices) g i s.log (going_from (nothing_yet g) []) s.going (awake_leads e),
+          ))
+      by_awake false e =
+          nobody s.going.restarts
+          (omega (
+            arith,
+            ap length none,
+            leads_restarts (chosen_place choices) g i s.log (going_from (start g i (nothing_yet g)) restarts) s.going
+                (asleep_leads e),
+          ))
+
+  -- the deliveries are few
+  pub log_bound : length restarts ≤ MAX_RESTARTS → length s.log ≤ 2 * dependency_count g * (MAX_RESTARTS + 1)
+  log_bound few =
+      let short = leads_are_short (chosen_place choices) g i restarts s.log s.going ok idle f.leads in
+      let most : s.going.restarted + 1 ≤ MAX_RESTARTS + 1 = omega (arith, few_restarts few) in
+      omega (arith, short, mul-le-mul_left (2 * dependency_count g) most)
+
+  -- the run goes on by a delivery that the choices name
+  pub follows_on : (d : Delivery) → MayCome g s.going.config (place_in choices s) d
+      → Follows g i choices restarts
+      (record { going = ready g i (after g i s.going (place_in choices s) d); log = s.log ++ d ∷ [] })
+  follows_on d may = record {
+    leads = leads_on (chosen_place choices) g i s.log (begun g i restarts) s.going
+        (place_in choices s) d f.leads may chosen;
+    count = restart_keeps_count g i (after g i s.going (place_in choices s) d) s.going.restarts ∙ longer;
+  }
+    where
+      chosen : chosen_place choices s.going.done s.going.config (place_in choices s) ≡ true
+      chosen = eq-eqb (place_in choices s) (place_in choices s) refl
+
+      longer : s.going.done + 1 ≡ length (s.log ++ d ∷ [])
+      longer = rw (length-append s.log (d ∷ []), f.count) refl
+
+-- at first the initiator may start again
+pub may_start_first : (g : Graph) (i : ℕ) (restarts : List ℕ) → IsWithinGraph g → is_idle g i ≡ true
+    → (begun g i restarts).config.ended ≡ None → MayStart g i (begun g i restarts)
+may_start_first g i restarts ok idle =
+    by_test (is_awake g i)
+    (λ b. (cond b (going_from (nothing_yet g) []) (going_from (start g i (nothing_yet g)) restarts)).config.ended ≡ None
+    → MayStart g i (cond b (going_from (nothing_yet g) []) (going_from (start g i (nothing_yet g)) restarts)))
+    (λ e going. record {
+      size = length-replicate (process_count g) fresh;
+      within = idle_within g i idle;
+      next = rw (fresh_at (process_count g) i) (omega arith);
+      count = omega arith;
+    })
+    (λ e going. may_start g i ok (idle_within g i idle) e (going_from (start g i (nothing_yet g)) restarts)
+    (first_stands g i ok (idle_within g i idle) e) (first_number g i ok (idle_within g i idle) e)
+    (omega arith) going)
+
+-- a log without hints, and one delivery more without one
+pub no_hints_on : (log : List Delivery) (d : Delivery) → HasNoHints log → d.hint ≡ None → HasNoHints (log ++ d ∷ [])
+no_hints_on [] d h e = (e, tt)
+no_hints_on (x ∷ log) d h e = (h.0, no_hints_on log d h.1 e)
+
+-- ---- the choices
+
+-- the first of the choices that are left is the next of them all
+pub next_is : (choices left : List ℕ) (n choice : ℕ) → left ≡ drop n choices → choice ≡ slice_index left 0
+    → choice ≡ slice_index choices n
+next_is choices left n choice are is =
+    is ∙ ap (λ xs. slice_index xs 0) are ∙ get_or-drop n choices 0 0 ∙ ap (slice_index choices) (omega arith)
+
+-- without it the rest are left
+pub next_left : (choices left rest : List ℕ) (n m : ℕ) → left ≡ drop n choices → rest ≡ drop 1 left → m ≡ n + 1
+    → rest ≡ drop m choices
+next_left choices left rest n m are is more =
+    is ∙ ap (drop 1) are ∙ drop-drop 1 n choices ∙ ap (λ k. drop k choices) (sym more)
+
+-- where there are none, each that comes is 0
+pub no_choice : (choices : List ℕ) (n : ℕ) → choices ≡ [] → 0 ≡ slice_index choices n
+no_choice choices n none = rw none refl
+
+-- a list is empty where it is told to be
+pub told_empty : (b : Bool) (xs : List ℕ) → b ≡ eqb (length xs) 0 → b ≡ true → xs ≡ []
+told_empty b [] is empty = refl
+told_empty b (x ∷ xs) is empty = absurd (omega (arith, eqb-true (length (x ∷ xs)) 0 (sym is ∙ empty)))
+
+-- ---- a message was taken
+
+module _ (g : Graph) (i : ℕ) (choices restarts : List ℕ) (s t : Stage) (m : Message) (ok : IsWithinGraph g)
+    (idle : is_idle g i ≡ true) (f : Follows g i choices restarts s) (taken : IsTakenBy choices s t (Some m)) where
+  -- there are as many processes as the graph has
+  pub taken_size : length t.going.config.procs ≡ process_count g
+  taken_size = rw taken.2 (steady g i choices restarts s ok idle f (place_in choices s) m taken.1).stands.size
+
+  -- the run isn't over
+  pub taken_going : t.going.config.ended ≡ None
+  taken_going = rw taken.2 taken.0
+
+  -- its receiver is one of them
+  pub taken_within : m.to < process_count g
+  taken_within = receiver_within g i choices restarts s ok idle f (place_in choices s) m taken.0 taken.1
+
+  -- what it sends has room in words
+  pub taken_sender : IsWellFormed g → m.number < 2 ^ 27 → CanSend i m.number m.to
+  taken_sender w low = record {
+    initiator = omega (arith, w.processes, idle_within g i idle);
+    number = low;
+    from = omega (arith, w.processes, taken_within);
+  }
+
+  -- and so has whoever engaged a process
+  pub taken_engagers : IsWellFormed g → EngagersHaveRoom t.going.config.procs
+  taken_engagers w = rw taken.2 (λ k e is.
+      let firm = steady g i choices restarts s ok idle f (place_in choices s) m taken.1 in
+      let live = status_none g i s.going.config firm.stands taken.0 in
+      omega (arith, w.processes, live.0.in_range k e is))
+
+  -- it can be counted
+  pub taken_room : IsWellFormed g → length restarts ≤ MAX_RESTARTS → t.going.done + 1 < 2 ^ 64
+  taken_room w few =
+      let same : t.going.done ≡ s.going.done = rw taken.2 refl in
+      omega (arith, same, f.count, log_bound g i choices restarts s ok idle f few, few_dependencies g w)
+
+  -- it may be delivered with what the hints say
+  taken_may : (hint : Option Verdict) → HintIsFit g t.going.config m hint
+      → MayCome g s.going.config (place_in choices s) (record { message = m; hint = hint })
+  taken_may hint fit =
+      record {
+        going = taken.0;
+        there = taken.1;
+        hint = same_fit hint (subst (λ (u : Stage). HintIsFit g u.going.config m hint) taken.2 fit);
+      }
+    where
+      same_fit : (h : Option Verdict) → HintIsFit g (without s.going.config (place_in choices s)) m h
+          → HintIsFit g s.going.config m h
+      same_fit None e = tt
+      same_fit (Some v) e = e
+
+  module _ (hint : Option Verdict) (fit : HintIsFit g t.going.config m hint) (u : Stage)
+      (step : u ≡ delivered_to g i t (record { message = m; hint = hint })) where
+    -- the delivery of m with this hint
+    d : Delivery
+    d = record { message = m; hint = hint }
+
+    -- the stage is then the one after this delivery, which ends its log
+    is_after : u
+        ≡ record {
+          going = after g i s.going (place_in choices s) (record { message = m; hint = hint });
+          log = s.log ++ (record { message = m; hint = hint }) ∷ [];
+        }
+    is_after = step ∙ ap (λ (w : Stage). delivered_to g i w (record { message = m; hint = hint })) taken.2
+
+    -- the initiator may start again after it
+    pub taken_may_start : length restarts ≤ MAX_RESTARTS → u.going.config.ended ≡ None → MayStart g i u.going
+    taken_may_start few = subst (λ (w : Stage). w.going.config.ended ≡ None → MayStart g i w.going) (sym is_after)
+        (may_start_after g i choices restarts s ok idle f (place_in choices s) (record { message = m; hint = hint }) few
+        (taken_may hint fit))
+
+    -- the run goes on
+    pub taken_follows : (v : Stage) → v ≡ record { going = ready g i u.going; log = u.log }
+        → Follows g i choices restarts v
+    taken_follows v e =
+        subst (λ (w : Stage). Follows g i choices restarts w)
+        (sym (e ∙ ap
+        (λ (w : Stage). let z : Stage = record { going = ready g i w.going; log = w.log } in z) is_after))
+        (follows_on g i choices restarts s ok idle f (record { message = m; hint = hint }) (taken_may hint fit))
+
+    -- there is one delivery more
+    pub taken_done : (v : Stage) → v ≡ record { going = ready g i u.going; log = u.log }
+        → v.going.done ≡ s.going.done + 1
+    taken_done v e =
+        ap (λ (w : Stage). w.going.done) e ∙ restart_keeps_count g i u.going u.going.restarts
+        ∙ ap (λ (w : Stage). w.going.done) is_after
+
+    -- the log is one delivery longer
+    pub taken_log : (v : Stage) → v ≡ record { going = ready g i u.going; log = u.log }
+        → v.log ≡ s.log ++ (record { message = m; hint = hint }) ∷ []
+    taken_log v e = ap (λ (w : Stage). w.log) e ∙ ap (λ (w : Stage). w.log) is_after
+
+    -- the restarts to come are the same
+    pub taken_restarts : s.going.restarts ≡ [] → u.going.restarts ≡ []
+    taken_restarts none = ap (λ (w : Stage). w.going.restarts) is_after ∙ none
+
+    -- where there are none, the initiator doesn't start again
+    pub taken_rests : s.going.restarts ≡ [] → u ≡ record { going = ready g i u.going; log = u.log }
+    taken_rests none = rw (taken_restarts none) refl
+
+    -- the measure of the run falls
+    pub taken_falls : (v : Stage) → v ≡ record { going = ready g i u.going; log = u.log }
+        → length restarts ≤ MAX_RESTARTS
+        → 2 * dependency_count g * (MAX_RESTARTS + 1) + 1 - length v.log
+        < 2 * dependency_count g * (MAX_RESTARTS + 1) + 1 - length s.log
+    taken_falls v e few =
+        let bound = log_bound g i choices restarts v ok idle (taken_follows v e) few in
+        let longer : length v.log ≡ length s.log + 1 =
+        ap length (taken_log v e) ∙ length-append s.log (record { message = m; hint = hint } ∷ []) in
+        omega arith
+
+-- ---- the end
+
+-- a run that is over, or has nothing left to deliver, has ended as it says
+ends_as : (g : Graph) (i : ℕ) (choices restarts : List ℕ) (s : Stage) → IsWithinGraph g → is_idle g i ≡ true
+    → Follows g i choices restarts s
+    → (s.going.config.ended ≢ None) ⊎ (s.going.config.bag ≡ []) → EndsAs s.going.config (ending_of s.going.config.ended)
+ends_as g i choices restarts s ok idle f over = by_ended s.going.config.ended refl
+  where
+    not_at_rest : (b : Bool) → is_awake g i ≡ b → s.going.config.ended ≡ Some AtRest → ⊥
+    not_at_rest true a e =
+        none-some _
+        (ap (λ (t : Going). t.config.ended)
+        (sym (nothing_comes (chosen_place choices) g i s.log s.going
+        (awake_leads g i choices restarts s ok idle f a))) ∙ e)
+    not_at_rest false a e =
+        let stands =
+        follows_stands g i ok (idle_within g i idle) a (chosen_place choices) restarts s.log s.going
+        (asleep_leads g i choices restarts s ok idle f a) in
+        subst (λ (o : Option Ending). Status g i s.going.config.number
+        (proc_at s.going.config.procs) s.going.config.bag s.going.config.engaged o) e stands.status
+
+    by_ended : (o : Option Ending) → s.going.config.ended ≡ o → EndsAs s.going.config (ending_of o)
+    by_ended None e =
+        (e, ⊎_elim (λ (n : s.going.config.ended ≢ None). absurd (n e)) (λ (b : s.going.config.bag ≡ []). b) over)
+    by_ended (Some Declared) e = e
+    by_ended (Some (CutFree k)) e = e
+    by_ended (Some AtRest) e = absurd (not_at_rest (is_awake g i) refl e)
+
+-- it has no delivery more
+pub over_log : (choices : List ℕ) (s t : Stage) → IsTakenBy choices s t None → t.log ≡ s.log
+over_log choices s t over = ap (λ (w : Stage). w.log) over.0
+
+-- its network is then as at first
+pub cleared : (g : Graph) (i : ℕ) (choices restarts : List ℕ) (s t : Stage) (c : Config) → IsWithinGraph g
+    → is_idle g i ≡ true → Follows g i choices restarts s
+    → IsTakenBy choices s t None → c ≡ blank (length t.going.config.procs) → c ≡ nothing_yet g
+cleared g i choices restarts s t c ok idle f over e =
+    e ∙ ap (λ (w : Stage). blank (length w.going.config.procs)) over.0
+    ∙ ap blank (all_there g i choices restarts s ok idle f)
+
+-- what is kept of it is a legal run
+pub finished : (g : Graph) (i : ℕ) (choices restarts : List ℕ) (s t : Stage) (r : Run) → IsWithinGraph g
+    → is_idle g i ≡ true → Follows g i choices restarts s
+    → IsTakenBy choices s t None
+    → r ≡ record {
+      initiator = i;
+      log = t.log;
+      ending = ending_of t.going.config.ended;
+      engaged = t.going.config.engaged;
+      restarted = t.going.restarted;
+    }
+    → IsRunOf g choices restarts r
+finished g i choices restarts s t r ok idle f over e =
+    subst (λ (x : Run). IsRunOf g choices restarts x)
+    (sym (e ∙ ap
+    (λ (w : Stage). let z : Run = record {
+      initiator = i;
+      log = w.log;
+      ending = ending_of w.going.config.ended;
+      engaged = w.going.config.engaged;
+      restarted = w.going.restarted;
+    } in z) over.0))
+    (record {
+      end = s.going;
+      legal = record { leads = f.leads; ends = ends_as g i choices restarts s ok idle f over.1 };
+      engaged = refl;
+      restarted = refl;
+    })
+
+-- what a legal run says of its initiator is true
+verdict_right : (g : Graph) (i : ℕ) (restarts : List ℕ) (ending : Ending) (end : Going)
+    → IsRight g i restarts ending end → IsVerdict g i (verdict_of ending)
+verdict_right g i restarts Declared end h = h.declared refl
+verdict_right g i restarts AtRest end h = h.free (λ e. cc)
+verdict_right g i restarts (CutFree k) end h = h.free (λ e. cc)
+
+-- a run that is kept tells the truth
+pub run_is_true : (g : Graph) (i : ℕ) (choices restarts : List ℕ) (r : Run) → IsWithinGraph g → is_idle g i ≡ true
+    → r.initiator ≡ i
+    → IsRunOf g choices restarts r → TellsTruth g r
+run_is_true g i choices restarts r ok idle same k =
+    let mine : is_idle g r.initiator ≡ true = rw same idle in
+    let right = runs_are_sound (chosen_place choices) g r.initiator restarts r.log r.ending k.end ok mine k.legal in
+    record {
+      idle = mine;
+      verdict = verdict_right g r.initiator restarts r.ending k.end right;
+      engaged = λ e p c. right.engaged e p (subst (λ (xs : List ℕ). Contains xs p) k.engaged c);
+      begins = λ e. rw k.engaged (right.begins e);
+      once = λ e. subst (λ (xs : List ℕ). IsDistinct eqb xs) (sym k.engaged) (right.once e);
+      end = λ rule others end run. runs_are_sound rule g r.initiator others r.log r.ending end ok mine run;
+      last = λ rule others end run. last_computation_is_a_run rule g r.initiator others r.log r.ending end ok mine run;
+      short = rw k.restarted
+          (deliveries_are_bounded (chosen_place choices) g r.initiator restarts r.log r.ending k.end ok mine k.legal);
+    }
+
+-- at first no more restarts are to come than were given
+begun_restarts : (g : Graph) (i : ℕ) (restarts : List ℕ)
+    → (begun g i restarts).restarted + length (begun g i restarts).restarts ≤ length restarts
+begun_restarts g i restarts =
+    by_test (is_awake g i)
+    (λ b. (cond b (going_from (nothing_yet g) []) (going_from (start g i (nothing_yet g)) restarts)).restarted
+    + length (cond b (going_from (nothing_yet g) []) (going_from (start g i (nothing_yet g)) restarts)).restarts
+    ≤ length restarts)
+    (λ e. omega arith) (λ e. omega arith)
+
+-- a run that is kept started again no more often than it was to
+pub restarted_few : (g : Graph) (choices restarts : List ℕ) (r : Run) → IsRunOf g choices restarts r
+    → r.restarted ≤ length restarts
+restarted_few g choices restarts r k =
+    omega (
+      arith,
+      k.restarted,
+      leads_restarts (chosen_place choices) g r.initiator r.log (begun g r.initiator restarts) k.end k.legal.leads,
+      begun_restarts g r.initiator restarts,
+    )
+
+-- who is engaged in a run that is kept is as it should be
+pub run_engages : (g : Graph) (i : ℕ) (choices restarts : List ℕ) (r : Run) → IsWithinGraph g → is_idle g i ≡ true
+    → r.initiator ≡ i
+    → IsRunOf g choices restarts r → AreEngaged g i r.ending r.engaged
+run_engages g i choices restarts r ok idle same k =
+    let legal : IsRun (chosen_place choices) g i restarts r.log r.ending k.end =
+    subst (λ (x : ℕ). IsRun (chosen_place choices) g x restarts r.log r.ending k.end) same k.legal in
+    subst (λ (xs : List ℕ). AreEngaged g i r.ending xs) (sym k.engaged)
+    (who_engages (chosen_place choices) g i restarts r.log r.ending k.end ok idle legal)
+
+-- what is kept of the run of an awake initiator is the empty run
+pub awake_runs_nothing : (g : Graph) (i : ℕ) (choices restarts : List ℕ) (r : Run) → r.initiator ≡ i
+    → IsRunOf g choices restarts r
+    → is_awake g i ≡ true → r ≡ empty_run_of i
+awake_runs_nothing g i choices restarts r same k up =
+    let legal : IsRun (chosen_place choices) g i restarts r.log r.ending k.end =
+    subst (λ (x : ℕ). IsRun (chosen_place choices) g x restarts r.log r.ending k.end) same k.legal in
+    let none = awake_ones_start_nothing (chosen_place choices) g i restarts r.log r.ending k.end up legal in
+    same_run r (empty_run_of i) same none.silent none.at_rest (k.engaged ∙ none.nobody) (k.restarted ∙ none.once)

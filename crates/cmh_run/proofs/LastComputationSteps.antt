@@ -1,0 +1,335 @@
+-- The steps of a run, seen from its last computation alone.
+use Rattle.std.proofs.Common.{◌≡◌, ℕ, ◌+◌, ◌<◌, ◌≤◌, Bool, true, false, ◌&&◌, cond, eqb, List, [], ◌∷◌, ◌++◌, map, remove, length, slice_get, slice_set, Option, Some, None, refl, sym, ◌∙◌, ap, subst, arith, append-nil}
+use Rattle.std.proofs.lemmas.Bool.{eq-eqb, ne_eqb, true≢false}
+use Rattle.std.proofs.lemmas.List.{map-set}
+use Rattle.std.proofs.Math.Seq.{map-set_same}
+use Rattle.cmh_process.specs.declared.message.Kind.{Kind}
+use Rattle.cmh_process.specs.declared.message.Kind.TheVariants.{Query, Reply}
+use Rattle.cmh_process.specs.declared.message.Message.{Message}
+use Rattle.cmh_process.specs.declared.process.Proc.{Proc}
+use Rattle.cmh_process.specs.declared.process.Action.{Action}
+use Rattle.cmh_process.specs.declared.process.Action.TheVariants.{Nothing, Engage, ReplyTo, Declare}
+use Rattle.cmh_process.specs.Process.{fresh, proc_started, start_action, engages, proc_queried, query_action, repeat_action, engage_action, counts, proc_replied, reply_action, last_action}
+use Rattle.cmh_graph.specs.declared.verdict.Verdict.{Verdict}
+use Rattle.cmh_graph.specs.declared.verdict.Verdict.TheVariants.{Deadlocked, Free}
+use Rattle.cmh_graph.specs.Graph.{Graph, process_count, dependents_of, is_awake}
+use Rattle.cmh_run.specs.declared.delivery.Ending.{Ending}
+use Rattle.cmh_run.specs.declared.delivery.Ending.TheVariants.{Declared, AtRest, CutFree}
+use Rattle.cmh_run.specs.Config.{Config, proc_at, sent, ended_by, nothing_yet, start, acted, engaged_by, hinted, answered, received, without, delivered, cut}
+use Rattle.cmh_run.specs.Legal.{HintIsFit}
+use Rattle.cmh_run.specs.Last.{renumbered}
+use Rattle.cmh_run.proofs.Tokens.{Each}
+use Rattle.cmh_run.proofs.Configurations.{by_test, fresh_at}
+use Rattle.cmh_run.proofs.OneComputation.{recast, kept, place_among, kept_append, kept_taken, kept_other, kept_sent, kept_other_sent, same_engages, same_queried, same_query_action, same_replied, same_reply_action, queried_below, replied_below, recast_at, all_fresh}
+
+-- how the computation alone has ended: it hasn't where an older one was cut
+abbrev pub SameEnd : Option Ending → Option Ending → Type 0
+SameEnd None e = e ≡ None
+SameEnd (Some Declared) e = e ≡ Some Declared
+SameEnd (Some AtRest) e = ⊥
+SameEnd (Some (CutFree k)) e = Unit {0}
+
+-- what an action ends, it ends alone too
+pub same_end : (action : Action) → SameEnd (ended_by action) (ended_by action)
+same_end Nothing = refl
+same_end Engage = refl
+same_end (ReplyTo to) = refl
+same_end Declare = refl
+
+-- a run that goes on also goes on alone
+pub still_going : (o e : Option Ending) → o ≡ None → SameEnd o e → e ≡ None
+still_going o e h s = subst (λ (z : Option Ending). SameEnd z e) h s
+
+-- the configuration as computation n has it
+abbrev pub shadow : ℕ → Config → Option Ending → Config
+shadow n c e = record { bag = kept n c.bag; procs = map (recast n) c.procs; number = 1; engaged = c.engaged; ended = e }
+
+-- two tests with one answer
+both_tests : (b c : Bool) → b ≡ c → (M : Bool → Bool → Type 0) → (b ≡ true → c ≡ true → M true true)
+    → (b ≡ false → c ≡ false → M false false) → M b c
+both_tests true true e M f g = f refl refl
+both_tests false false e M f g = g refl refl
+both_tests true false e M f g = absurd (true≢false e)
+both_tests false true e M f g = absurd (true≢false (sym e))
+
+-- ---- a message of the computation
+
+module _ (g : Graph) (i : ℕ) (c : Config) (x : ℕ) (m : Message) (there : slice_get c.bag x ≡ Some m)
+    (newest : m.number ≡ c.number) (going : c.ended ≡ None)
+    (low : (proc_at c.procs m.to).latest ≤ m.number) (positive : 0 < m.number) where
+  -- the receiver as the computation has it
+  here : proc_at (map (recast m.number) c.procs) m.to ≡ recast m.number (proc_at c.procs m.to)
+  here = recast_at m.number c.procs m.to positive
+
+  -- one change of the receiver, and what it sends
+  moved : (p q : Proc) (new also : List Message) (engaged : List ℕ) (e o : Option Ending) → recast m.number p ≡ q
+      → kept m.number new ≡ also
+      → ◌≡◌ {A = Config}
+      (record {
+        bag = remove (kept m.number c.bag) (place_among m.number c.bag x) ++ also;
+        procs = slice_set (map (recast m.number) c.procs) m.to q;
+        number = 1;
+        engaged = engaged;
+        ended = e;
+      })
+      (shadow m.number
+      (record {
+        bag = remove c.bag x ++ new;
+        procs = slice_set c.procs m.to p;
+        number = c.number;
+        engaged = engaged;
+        ended = o;
+      }) e)
+  moved p q new also engaged e o pq nn =
+      rw (
+        kept_append m.number (remove c.bag x) new,
+        kept_taken m.number c.bag x m there refl,
+        map-set (recast m.number) c.procs m.to p,
+        pq,
+        nn,
+      ) refl
+
+  -- the delivery leads to the same configuration, seen from the computation alone
+  abbrev pub IsAlike : Config → Config → Type 0
+  IsAlike next far = (e : Option Ending) × SameEnd next.ended e × (far ≡ shadow m.number next e)
+
+  -- an action of the receiver
+  acting : (act also : Action) (p q : Proc) → also ≡ act → recast m.number p ≡ q
+      → IsAlike (acted i (without c x) m.number m.to [] p act)
+      (acted i (without (shadow m.number c None) (place_among m.number c.bag x)) 1 m.to [] q also)
+  acting act also p q same pq = (
+    ended_by also,
+    subst (λ (z : Action). SameEnd (ended_by act) (ended_by z)) (sym same) (same_end act),
+    moved p q (sent i m.number m.to [] act) (sent i 1 m.to [] also) c.engaged (ended_by also) (ended_by act) pq
+        (kept_sent m.number i m.to [] act ∙ ap (λ (z : Action). sent i 1 m.to [] z) (sym same)),
+  )
+
+  -- after a query the receiver is still the same
+  queried_alike : (size : ℕ)
+      → recast m.number (proc_queried (proc_at c.procs m.to) m.number m.from size)
+      ≡ proc_queried (proc_at (map (recast m.number) c.procs) m.to) 1 m.from size
+  queried_alike size =
+      sym (ap (λ (z : Proc). proc_queried z 1 m.from size) here
+      ∙ same_queried m.number (proc_at c.procs m.to) low positive m.from size)
+
+  -- and acts alike
+  query_action_alike : (size : ℕ)
+      → query_action (proc_at (map (recast m.number) c.procs) m.to) 1 m.from size
+      ≡ query_action (proc_at c.procs m.to) m.number m.from size
+  query_action_alike size = ap (λ (z : Proc). query_action z 1 m.from size) here
+      ∙ same_query_action m.number (proc_at c.procs m.to) low positive m.from size
+
+  -- a query engages it
+  engaging : (ds : List ℕ)
+      → IsAlike (engaged_by i (without c x) m ds)
+      (engaged_by i (without (shadow m.number c None) (place_among m.number c.bag x)) (renumbered m) ds)
+  engaging ds = (
+    None,
+    refl,
+    rw (eq-eqb m.number c.number newest)
+        (moved (proc_queried (proc_at c.procs m.to) m.number m.from (length ds))
+        (proc_queried (proc_at (map (recast m.number) c.procs) m.to) 1 m.from (length ds))
+        (sent i m.number m.to ds (query_action (proc_at c.procs m.to) m.number m.from (length ds)))
+        (sent i 1 m.to ds (query_action (proc_at (map (recast m.number) c.procs) m.to) 1 m.from (length ds)))
+        (c.engaged ++ m.to ∷ []) None None (queried_alike (length ds))
+        (kept_sent m.number i m.to ds (query_action (proc_at c.procs m.to) m.number m.from (length ds))
+        ∙ ap (λ (z : Action). sent i 1 m.to ds z) (sym (query_action_alike (length ds))))),
+  )
+
+  -- a hint ends the run
+  cut_alike : IsAlike (cut (without c x) m.to)
+      (cut (without (shadow m.number c None) (place_among m.number c.bag x)) m.to)
+  cut_alike = (Some (CutFree m.to), tt, rw (kept_taken m.number c.bag x m there refl) refl)
+
+  -- a query that would engage it, with a hint
+  asked_alike : (hint : Option Verdict)
+      → IsAlike (hinted g i (without c x) m hint)
+      (hinted g i (without (shadow m.number c None) (place_among m.number c.bag x)) (renumbered m) hint)
+  asked_alike None = engaging (dependents_of g m.to)
+  asked_alike (Some Deadlocked) = engaging []
+  asked_alike (Some Free) = cut_alike
+
+  -- a message that an awake process discards
+  discarded_alike : IsAlike (without c x) (without (shadow m.number c None) (place_among m.number c.bag x))
+  discarded_alike = (
+    None,
+    subst (λ (z : Option Ending). SameEnd z None) (sym going) refl,
+    rw (kept_taken m.number c.bag x m there refl) refl,
+  )
+
+  -- a message to a receiver that isn't awake
+  received_alike : (k : Kind) (hint : Option Verdict)
+      → IsAlike (received g i (without c x) m k hint)
+      (received g i (without (shadow m.number c None) (place_among m.number c.bag x)) (renumbered m) k hint)
+  received_alike Reply hint =
+      acting (reply_action (proc_at c.procs m.to) m.number)
+      (reply_action (proc_at (map (recast m.number) c.procs) m.to) 1)
+      (proc_replied (proc_at c.procs m.to) m.number) (proc_replied (proc_at (map (recast m.number) c.procs) m.to) 1)
+      (ap (λ (z : Proc). reply_action z 1) here ∙ same_reply_action m.number (proc_at c.procs m.to) low positive)
+      (sym (ap (λ (z : Proc). proc_replied z 1) here ∙ same_replied m.number (proc_at c.procs m.to) low positive))
+  received_alike Query hint =
+      both_tests (engages (proc_at (map (recast m.number) c.procs) m.to) 1) (engages (proc_at c.procs m.to) m.number)
+      (ap (λ (z : Proc). engages z 1) here ∙ same_engages m.number (proc_at c.procs m.to) low positive)
+      (λ v w. IsAlike (cond w (hinted g i (without c x) m hint) (answered i (without c x) m))
+      (cond v (hinted g i (without (shadow m.number c None) (place_among m.number c.bag x)) (renumbered m) hint)
+      (answered i (without (shadow m.number c None) (place_among m.number c.bag x)) (renumbered m))))
+      (λ a b. asked_alike hint)
+      (λ a b. acting (query_action (proc_at c.procs m.to) m.number m.from 0)
+      (query_action (proc_at (map (recast m.number) c.procs) m.to) 1 m.from 0)
+      (proc_queried (proc_at c.procs m.to) m.number m.from 0)
+      (proc_queried (proc_at (map (recast m.number) c.procs) m.to) 1 m.from 0)
+      (query_action_alike 0) (queried_alike 0))
+
+  -- a delivery
+  pub delivered_alike : (hint : Option Verdict)
+      → IsAlike (delivered g i c x m hint)
+      (delivered g i (shadow m.number c None) (place_among m.number c.bag x) (renumbered m) hint)
+  delivered_alike hint =
+      by_test (is_awake g m.to)
+      (λ b. IsAlike (cond b (without c x) (received g i (without c x) m m.kind hint))
+      (cond b (without (shadow m.number c None) (place_among m.number c.bag x))
+      (received g i (without (shadow m.number c None) (place_among m.number c.bag x)) (renumbered m) m.kind hint)))
+      (λ e. discarded_alike) (λ e. received_alike m.kind hint)
+
+  -- a hint that is fit is so for the computation alone
+  pub fit_alike : (hint : Option Verdict) → HintIsFit g c m hint
+      → HintIsFit g (shadow m.number c None) (renumbered m) hint
+  fit_alike None fit = tt
+  fit_alike (Some v) fit = (
+    rw (ap (λ (z : Proc). engages z 1) here ∙ same_engages m.number (proc_at c.procs m.to) low positive) fit.0,
+    fit.1,
+  )
+
+-- ---- a message of an older computation
+
+-- a query makes nobody declare
+no_declaration : (p : Proc) (number from size : ℕ) → ended_by (query_action p number from size) ≡ None
+no_declaration p number from size =
+    by_test (engages p number)
+    (λ b. ended_by (cond b (engage_action from size) (repeat_action p number from)) ≡ None)
+    (λ e. by_test (eqb size 0) (λ b. ended_by (cond b (ReplyTo from) Engage) ≡ None) (λ q. refl) (λ q. refl))
+    (λ e. by_test (p.wait && eqb p.latest number) (λ b. ended_by (cond b (ReplyTo from) Nothing) ≡ None) (λ q. refl)
+    (λ q. refl))
+
+-- nor does a reply, unless it counts for a process without an engager
+no_declaration_yet : (p : Proc) (number : ℕ) → (counts p number ≡ true → p.engager ≡ None → ⊥)
+    → ended_by (reply_action p number) ≡ None
+no_declaration_yet p number no_top =
+    by_test (counts p number)
+    (λ b. ended_by (cond b (cond (eqb p.num 1) (last_action p.engager) Nothing) Nothing) ≡ None)
+    (λ e. by_test (eqb p.num 1) (λ b. ended_by (cond b (last_action p.engager) Nothing) ≡ None)
+    (λ q. last p.engager refl e) (λ q. refl))
+    (λ e. refl)
+  where
+    last : (o : Option ℕ) → p.engager ≡ o → counts p number ≡ true → ended_by (last_action o) ≡ None
+    last None top e = absurd (no_top e top)
+    last (Some k) top e = refl
+
+module _ (n : ℕ) (g : Graph) (i : ℕ) (c : Config) (x : ℕ) (m : Message) (there : slice_get c.bag x ≡ Some m)
+    (newest : c.number ≡ n) (below : m.number < n) (going : c.ended ≡ None)
+    (no_top : counts (proc_at c.procs m.to) m.number ≡ true → (proc_at c.procs m.to).engager ≡ None → ⊥) where
+  -- m is of another computation
+  other : m.number ≡ n → ⊥
+  other e = omega arith
+
+  -- seen from computation n, nothing has changed
+  abbrev pub IsUnseen : Config → Type 0
+  IsUnseen next = SameEnd next.ended None × (shadow n c None ≡ shadow n next None)
+
+  -- the receiver changes in its older computation, and sends in it
+  unseen : (p : Proc) (ds : List ℕ) (act : Action) (o : Option Ending) → recast n p ≡ recast n (proc_at c.procs m.to)
+      → ◌≡◌ {A = Config} (shadow n c None)
+      (shadow n
+      (record {
+        bag = remove c.bag x ++ sent i m.number m.to ds act;
+        procs = slice_set c.procs m.to p;
+        number = c.number;
+        engaged = c.engaged;
+        ended = o;
+      }) None)
+  unseen p ds act o same =
+      rw (
+        kept_append n (remove c.bag x) (sent i m.number m.to ds act),
+        kept_other n c.bag x m there other,
+        kept_other_sent n m.number i m.to ds act other,
+        append-nil (kept n c.bag),
+        map-set_same (recast n) c.procs m.to p fresh same,
+      ) refl
+
+  -- a query engages it
+  unseen_engaging : (ds : List ℕ) → IsUnseen (engaged_by i (without c x) m ds)
+  unseen_engaging ds = (
+    refl,
+    rw (ne_eqb m.number c.number (λ e. omega arith))
+        (unseen (proc_queried (proc_at c.procs m.to) m.number m.from (length ds)) ds
+        (query_action (proc_at c.procs m.to) m.number m.from (length ds)) None
+        (queried_below n m.number (proc_at c.procs m.to) below m.from (length ds))),
+  )
+
+  -- a hint ends the run
+  unseen_cut : IsUnseen (cut (without c x) m.to)
+  unseen_cut = (tt, rw (kept_other n c.bag x m there other) refl)
+
+  -- a query that would engage it, with a hint
+  unseen_asked : (hint : Option Verdict) → IsUnseen (hinted g i (without c x) m hint)
+  unseen_asked None = unseen_engaging (dependents_of g m.to)
+  unseen_asked (Some Deadlocked) = unseen_engaging []
+  unseen_asked (Some Free) = unseen_cut
+
+  -- an action that doesn't end the run
+  unseen_acting : (p : Proc) (act : Action) → ended_by act ≡ None → recast n p ≡ recast n (proc_at c.procs m.to)
+      → IsUnseen (acted i (without c x) m.number m.to [] p act)
+  unseen_acting p act calm same =
+      (subst (λ (z : Option Ending). SameEnd z None) (sym calm) refl, unseen p [] act (ended_by act) same)
+
+  -- an awake process discards it
+  unseen_discarded : IsUnseen (without c x)
+  unseen_discarded =
+      (subst (λ (z : Option Ending). SameEnd z None) (sym going) refl, rw (kept_other n c.bag x m there other) refl)
+
+  -- a message to a receiver that isn't awake
+  unseen_received : (k : Kind) (hint : Option Verdict) → IsUnseen (received g i (without c x) m k hint)
+  unseen_received Reply hint =
+      unseen_acting (proc_replied (proc_at c.procs m.to) m.number) (reply_action (proc_at c.procs m.to) m.number)
+      (no_declaration_yet (proc_at c.procs m.to) m.number no_top)
+      (replied_below n m.number (proc_at c.procs m.to) below)
+  unseen_received Query hint =
+      by_test (engages (proc_at c.procs m.to) m.number)
+      (λ b. IsUnseen (cond b (hinted g i (without c x) m hint) (answered i (without c x) m)))
+      (λ e. unseen_asked hint)
+      (λ e. unseen_acting (proc_queried (proc_at c.procs m.to) m.number m.from 0)
+      (query_action (proc_at c.procs m.to) m.number m.from 0)
+      (no_declaration (proc_at c.procs m.to) m.number m.from 0)
+      (queried_below n m.number (proc_at c.procs m.to) below m.from 0))
+
+  -- a delivery
+  pub unseen_delivered : (hint : Option Verdict) → IsUnseen (delivered g i c x m hint)
+  unseen_delivered hint =
+      by_test (is_awake g m.to) (λ b. IsUnseen (cond b (without c x) (received g i (without c x) m m.kind hint)))
+      (λ e. unseen_discarded) (λ e. unseen_received m.kind hint)
+
+-- ---- a start
+
+-- where all messages have lower numbers, none is of computation n
+none_kept : (n : ℕ) (bag : List Message) → Each (λ m. m.number < n) bag → kept n bag ≡ []
+none_kept n [] a = refl
+none_kept n (m ∷ bag) a = rw (ne_eqb m.number n (λ e. omega (arith, a.0)), none_kept n bag a.1) refl
+
+-- seen alone, the start of the last computation is the first start
+pub start_alone : (g : Graph) (i n : ℕ) (c : Config) → length c.procs ≡ process_count g
+    → (proc_at c.procs i).latest + 1 ≡ n → ((k : ℕ) → (proc_at c.procs k).latest < n) → Each (λ m. m.number < n) c.bag
+    → ◌≡◌ {A = Config} (shadow n (start g i c) (ended_by (start_action (length (dependents_of g i)))))
+    (start g i (nothing_yet g))
+start_alone g i n c size next low bag =
+    rw (
+      kept_append n c.bag
+          (sent i ((proc_at c.procs i).latest + 1) i (dependents_of g i) (start_action (length (dependents_of g i)))),
+      none_kept n c.bag bag,
+      map-set (recast n) c.procs i (proc_started (proc_at c.procs i) (length (dependents_of g i))),
+      all_fresh n c.procs low,
+      size,
+      next,
+      eq-eqb n n refl,
+      kept_sent n i i (dependents_of g i) (start_action (length (dependents_of g i))),
+      fresh_at (process_count g) i,
+    ) refl

@@ -1,0 +1,203 @@
+-- Processes and messages seen from one computation alone, which is numbered 1 then.
+use Rattle.std.proofs.Common.{◌≡◌, ℕ, zero, suc, ◌<◌, ◌≤◌, true, false, ◌&&◌, cond, eqb, ltb, List, [], ◌∷◌, ◌++◌, map, remove, replicate, length, slice_get, Some, refl, sym, ap, arith, ⊎_elim}
+use Rattle.std.proofs.lemmas.Bool.{eqb-true, eq-eqb, ne_eqb, cases_eq, and_parts, lt-ltb, le-ltb, ltb-true, ltb-false}
+use Rattle.std.proofs.Math.Bool.{and-false}
+use Rattle.cmh_process.specs.declared.message.Message.{Message}
+use Rattle.cmh_process.specs.declared.process.Proc.{Proc}
+use Rattle.cmh_process.specs.declared.process.Action.{Action}
+use Rattle.cmh_process.specs.declared.process.Action.TheVariants.{Nothing, Engage, ReplyTo, Declare}
+use Rattle.cmh_process.specs.Process.{fresh, engages, proc_engaged, engage_action, last_action, repeat_action, proc_queried, query_action, counts, lowered, proc_replied, reply_action}
+use Rattle.cmh_run.specs.Config.{query, proc_at, sent}
+use Rattle.cmh_run.specs.Last.{renumbered}
+use Rattle.cmh_run.proofs.Configurations.{by_test}
+
+-- a process as computation n has it: whoever isn't in it has heard of nothing
+abbrev pub recast : ℕ → Proc → Proc
+recast n p = cond (eqb p.latest n) (record { latest = 1; engager = p.engager; num = p.num; wait = p.wait }) fresh
+
+-- the messages of computation n
+abbrev pub kept : ℕ → List Message → List Message
+kept n [] = []
+kept n (m ∷ bag) = cond (eqb m.number n) (renumbered m ∷ kept n bag) (kept n bag)
+
+-- the place of what stands at place x, among the messages of computation n
+abbrev pub place_among : ℕ → List Message → ℕ → ℕ
+place_among n [] x = 0
+place_among n (m ∷ bag) zero = 0
+place_among n (m ∷ bag) (suc x) = cond (eqb m.number n) (suc (place_among n bag x)) (place_among n bag x)
+
+-- ---- messages
+
+-- the messages of computation n in two lists together are those of the one and of the other
+pub kept_append : (n : ℕ) (xs ys : List Message) → kept n (xs ++ ys) ≡ kept n xs ++ kept n ys
+kept_append n [] ys = refl
+kept_append n (m ∷ xs) ys =
+    by_test (eqb m.number n)
+    (λ b. cond b (renumbered m ∷ kept n (xs ++ ys)) (kept n (xs ++ ys))
+    ≡ cond b (renumbered m ∷ kept n xs) (kept n xs) ++ kept n ys)
+    (λ e. ap (λ (zs : List Message). renumbered m ∷ zs) (kept_append n xs ys)) (λ e. kept_append n xs ys)
+
+-- a message of computation n stands at its place among those
+pub kept_at : (n : ℕ) (bag : List Message) (x : ℕ) (m : Message) → slice_get bag x ≡ Some m → m.number ≡ n
+    → slice_get (kept n bag) (place_among n bag x) ≡ Some (renumbered m)
+kept_at n [] x m h e = absurd (cc)
+kept_at n (y ∷ bag) zero m h e =
+    let same : y ≡ m = cc in
+    rw (same, eq-eqb m.number n e) refl
+kept_at n (y ∷ bag) (suc x) m h e =
+    by_test (eqb y.number n)
+    (λ b. slice_get (cond b (renumbered y ∷ kept n bag) (kept n bag))
+    (cond b (suc (place_among n bag x)) (place_among n bag x)) ≡ Some (renumbered m))
+    (λ t. kept_at n bag x m h e) (λ t. kept_at n bag x m h e)
+
+-- once it is taken, the others are those without it
+pub kept_taken : (n : ℕ) (bag : List Message) (x : ℕ) (m : Message) → slice_get bag x ≡ Some m → m.number ≡ n
+    → kept n (remove bag x) ≡ remove (kept n bag) (place_among n bag x)
+kept_taken n [] x m h e = absurd (cc)
+kept_taken n (y ∷ bag) zero m h e =
+    let same : y ≡ m = cc in
+    rw (same, eq-eqb m.number n e) refl
+kept_taken n (y ∷ bag) (suc x) m h e =
+    by_test (eqb y.number n)
+    (λ b. cond b (renumbered y ∷ kept n (remove bag x)) (kept n (remove bag x))
+    ≡ remove (cond b (renumbered y ∷ kept n bag) (kept n bag))
+    (cond b (suc (place_among n bag x)) (place_among n bag x)))
+    (λ t. ap (λ (zs : List Message). renumbered y ∷ zs) (kept_taken n bag x m h e)) (λ t. kept_taken n bag x m h e)
+
+-- a message of another computation may be taken, and they stay the same
+pub kept_other : (n : ℕ) (bag : List Message) (x : ℕ) (m : Message) → slice_get bag x ≡ Some m → (m.number ≡ n → ⊥)
+    → kept n (remove bag x) ≡ kept n bag
+kept_other n [] x m h e = absurd (cc)
+kept_other n (y ∷ bag) zero m h e =
+    let same : y ≡ m = cc in
+    rw (same, ne_eqb m.number n e) refl
+kept_other n (y ∷ bag) (suc x) m h e =
+    by_test (eqb y.number n)
+    (λ b. cond b (renumbered y ∷ kept n (remove bag x)) (kept n (remove bag x))
+    ≡ cond b (renumbered y ∷ kept n bag) (kept n bag))
+    (λ t. ap (λ (zs : List Message). renumbered y ∷ zs) (kept_other n bag x m h e)) (λ t. kept_other n bag x m h e)
+
+-- queries of computation n, as it has them
+kept_queries : (n i k : ℕ) (ds : List ℕ)
+    → kept n (map (λ (r : ℕ). query i n k r) ds) ≡ map (λ (r : ℕ). query i 1 k r) ds
+kept_queries n i k [] = refl
+kept_queries n i k (d ∷ ds) = rw (eq-eqb n n refl, kept_queries n i k ds) refl
+
+-- what is sent in computation n, as it has it
+pub kept_sent : (n i k : ℕ) (ds : List ℕ) (action : Action) → kept n (sent i n k ds action) ≡ sent i 1 k ds action
+kept_sent n i k ds Nothing = refl
+kept_sent n i k ds Engage = kept_queries n i k ds
+kept_sent n i k ds (ReplyTo to) = rw (eq-eqb n n refl) refl
+kept_sent n i k ds Declare = refl
+
+-- queries of another computation are none of its messages
+kept_other_queries : (n l i k : ℕ) (ds : List ℕ) → (l ≡ n → ⊥) → kept n (map (λ (r : ℕ). query i l k r) ds) ≡ []
+kept_other_queries n l i k [] e = refl
+kept_other_queries n l i k (d ∷ ds) e = rw (ne_eqb l n e) (kept_other_queries n l i k ds e)
+
+-- nor is what is sent in another computation
+pub kept_other_sent : (n l i k : ℕ) (ds : List ℕ) (action : Action) → (l ≡ n → ⊥) → kept n (sent i l k ds action) ≡ []
+kept_other_sent n l i k ds Nothing e = refl
+kept_other_sent n l i k ds Engage e = kept_other_queries n l i k ds e
+kept_other_sent n l i k ds (ReplyTo to) e = rw (ne_eqb l n e) refl
+kept_other_sent n l i k ds Declare e = refl
+
+-- ---- a process and a message of computation n
+
+module _ (n : ℕ) (p : Proc) (low : p.latest ≤ n) (positive : 0 < n) where
+  -- a query engages it as it does the process as computation n has it
+  pub same_engages : engages (recast n p) 1 ≡ engages p n
+  same_engages =
+      ⊎_elim
+      (λ (e : p.latest ≡ n). rw (eq-eqb p.latest n e, le-ltb p.latest n (omega arith)) refl)
+      (λ (w : p.latest ≡ n → ⊥). rw (ne_eqb p.latest n w, lt-ltb p.latest n (omega (arith, w))) refl)
+      (cases_eq p.latest n)
+
+  -- a process that a query doesn't engage is in computation n
+  in_it : engages p n ≡ false → p.latest ≡ n
+  in_it e = let h = ltb-false p.latest n e in omega arith
+
+  -- after a query they are still the same
+  pub same_queried : (from size : ℕ) → proc_queried (recast n p) 1 from size ≡ recast n (proc_queried p n from size)
+  same_queried from size = rw same_engages
+      (by_test (engages p n)
+      (λ b. cond b (proc_engaged 1 from size) (recast n p) ≡ recast n (cond b (proc_engaged n from size) p))
+      (λ e. rw (eq-eqb n n refl) refl) (λ e. refl))
+
+  -- and act alike
+  pub same_query_action : (from size : ℕ) → query_action (recast n p) 1 from size ≡ query_action p n from size
+  same_query_action from size = rw same_engages
+      (by_test (engages p n)
+      (λ b. cond b (engage_action from size) (repeat_action (recast n p) 1 from)
+      ≡ cond b (engage_action from size) (repeat_action p n from))
+      (λ e. refl) (λ e. rw (eq-eqb p.latest n (in_it e)) refl))
+
+  -- a reply counts for both or for neither
+  same_counts : counts (recast n p) 1 ≡ counts p n
+  same_counts =
+      ⊎_elim
+      (λ (e : p.latest ≡ n). rw (eq-eqb p.latest n e) refl)
+      (λ (w : p.latest ≡ n → ⊥). rw (ne_eqb p.latest n w) (sym (and-false p.wait)))
+      (cases_eq p.latest n)
+
+  -- a process for which a reply counts is in computation n
+  counts_in : counts p n ≡ true → p.latest ≡ n
+  counts_in e =
+      eqb-true p.latest n
+      (and_parts (eqb p.latest n) (ltb 0 p.num) (and_parts p.wait (eqb p.latest n && ltb 0 p.num) e).1).0
+
+  -- after a reply they are still the same
+  pub same_replied : proc_replied (recast n p) 1 ≡ recast n (proc_replied p n)
+  same_replied = rw same_counts
+      (by_test (counts p n)
+      (λ b. cond b (lowered (recast n p)) (recast n p) ≡ recast n (cond b (lowered p) p))
+      (λ e. rw (eq-eqb p.latest n (counts_in e)) refl) (λ e. refl))
+
+  -- and act alike
+  pub same_reply_action : reply_action (recast n p) 1 ≡ reply_action p n
+  same_reply_action = rw same_counts
+      (by_test (counts p n)
+      (λ b. cond b (cond (eqb (recast n p).num 1) (last_action (recast n p).engager) Nothing) Nothing
+      ≡ cond b (cond (eqb p.num 1) (last_action p.engager) Nothing) Nothing)
+      (λ e. rw (eq-eqb p.latest n (counts_in e)) refl) (λ e. refl))
+
+-- ---- a process and a message of an older computation
+
+module _ (n l : ℕ) (p : Proc) (below : l < n) where
+  -- a query of it changes nothing of the process as computation n has it
+  pub queried_below : (from size : ℕ) → recast n (proc_queried p l from size) ≡ recast n p
+  queried_below from size =
+      by_test (engages p l)
+      (λ b. recast n (cond b (proc_engaged l from size) p) ≡ recast n p)
+      (λ e. let h = ltb-true p.latest l e in
+      rw (ne_eqb l n (λ q. omega arith), ne_eqb p.latest n (λ q. omega arith)) refl)
+      (λ e. refl)
+
+  -- nor does a reply
+  pub replied_below : recast n (proc_replied p l) ≡ recast n p
+  replied_below =
+      by_test (counts p l)
+      (λ b. recast n (cond b (lowered p) p) ≡ recast n p)
+      (λ e.
+      let same : p.latest ≡ l =
+      eqb-true p.latest l
+      (and_parts (eqb p.latest l) (ltb 0 p.num) (and_parts p.wait (eqb p.latest l && ltb 0 p.num) e).1).0 in
+      rw (ne_eqb p.latest n (λ q. omega arith)) refl)
+      (λ e. refl)
+
+-- ---- all processes
+
+-- at each place stands the process there, as computation n has it
+pub recast_at : (n : ℕ) (procs : List Proc) (k : ℕ) → 0 < n
+    → proc_at (map (recast n) procs) k ≡ recast n (proc_at procs k)
+recast_at n [] k h = rw (ne_eqb 0 n (λ e. omega arith)) refl
+recast_at n (p ∷ procs) zero h = refl
+recast_at n (p ∷ procs) (suc k) h = recast_at n procs k h
+
+-- before anybody is in computation n, nobody has heard of anything
+pub all_fresh : (n : ℕ) (procs : List Proc) → ((k : ℕ) → (proc_at procs k).latest < n)
+    → map (recast n) procs ≡ replicate (length procs) fresh
+all_fresh n [] h = refl
+all_fresh n (p ∷ procs) h =
+    let first : p.latest < n = h 0 in
+    rw (ne_eqb p.latest n (λ e. omega arith), all_fresh n procs (λ k. h (suc k))) refl

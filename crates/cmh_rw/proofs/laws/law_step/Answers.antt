@@ -1,5 +1,0 @@
-use Rattle.cmh_rw.proofs.Lawful.{step_law}
-use Rattle.cmh_rw.proofs.laws.law_step.Goals as goal
-
-pub returns : goal.returns
-returns c = step_law
