@@ -9,8 +9,8 @@ use Rattle.cmh_dump.specs.declared.TheConstants.{MAX_BYTES}
 use Rattle.cmh_dump.specs.declared.fault.DumpFault.{DumpFault}
 use Rattle.cmh_dump.specs.declared.fault.DumpFault.TheVariants.{Memory, ReadFault, TooLong, NotJson}
 use Rattle.cmh_dump.specs.Dump.{holds, in_order, first_of, tree_graph, dump_of_tree, tree_of, dump}
-use Rattle.cmh_dump.specs.FirstFault.{IsOfTree, HasTreeFault, BytesHave, dump_fault_comes_before, IsFirstDumpFault, AreNone, TreeFaultLaw, TreeGraphLaw, FirstFaultLaw, NoFaultLaw}
-use Rattle.cmh_dump.proofs.Order.{not_before_itself, not_before_both}
+use Rattle.cmh_dump.specs.FirstFault.{IsOfTree, HasTreeFault, BytesHave, dump_fault_rank, AreNone, TreeFaultLaw, TreeGraphLaw, FirstFaultLaw, NoFaultLaw}
+use Rattle.cmh_dump.proofs.Order.{dump_fault_comes_before, not_before_itself, not_before_both}
 use Rattle.cmh_dump.proofs.Stages.{allowed_in, IsLeastOfLists, least_of_lists}
 use Rattle.cmh_dump.proofs.Table.{stands, none_holds, in_stages}
 use Rattle.cmh_dump.proofs.Whole.{of_tree}
@@ -24,7 +24,7 @@ least d fault e = least_of_lists (holds d) (IsOfTree d) 4 (in_order d) fault (in
 
 -- it is the first
 found_is_first : (d : Data) (fault : DumpFault) → first_of (holds d) (in_order d) ≡ Some fault
-    → IsFirstDumpFault (HasTreeFault d) fault
+    → IsFirstBy dump_fault_rank (HasTreeFault d) fault
 found_is_first d fault e = record {
   had = (allowed_in (IsOfTree d) 4 (in_order d) (in_stages d) fault l.stands, l.passes);
   first = λ other h. after other (l.least other (stands d other h.0) h.1);
@@ -43,7 +43,7 @@ none_is_had : (d : Data) → first_of (holds d) (in_order d) ≡ None → AreNon
 none_is_had d e fault h = false≢true (sym (none_holds d e fault h.0) ∙ h.1)
 
 -- and it finds the first
-first_is_found : (d : Data) (fault : DumpFault) → IsFirstDumpFault (HasTreeFault d) fault
+first_is_found : (d : Data) (fault : DumpFault) → IsFirstBy dump_fault_rank (HasTreeFault d) fault
     → first_of (holds d) (in_order d) ≡ Some fault
 first_is_found d fault h = by (first_of (holds d) (in_order d)) refl
   where
@@ -109,7 +109,7 @@ tree_has bytes d NotJson l e h = absurd cc
 tree_has bytes d fault l e h = let same : h.0 ≡ d = cc in subst (λ t. HasTreeFault t fault) same h.2
 
 -- of bytes that are too long that is the first fault
-first_too_long : (bytes : List ℕ) → MAX_BYTES < length bytes → IsFirstDumpFault (BytesHave bytes) TooLong
+first_too_long : (bytes : List ℕ) → MAX_BYTES < length bytes → IsFirstBy dump_fault_rank (BytesHave bytes) TooLong
 first_too_long bytes l = record { had = l; first = first }
   where
     first : (other : DumpFault) → BytesHave bytes other → dump_fault_comes_before other TooLong ≡ false
@@ -118,7 +118,8 @@ first_too_long bytes l = record { had = l; first = first }
     first other h = refl
 
 -- and no other is
-is_too_long : (bytes : List ℕ) (fault : DumpFault) → MAX_BYTES < length bytes → IsFirstDumpFault (BytesHave bytes) fault
+is_too_long : (bytes : List ℕ) (fault : DumpFault) → MAX_BYTES < length bytes
+    → IsFirstBy dump_fault_rank (BytesHave bytes) fault
     → fault ≡ TooLong
 is_too_long bytes fault l h = by fault h.had (h.first TooLong l)
   where
@@ -130,7 +131,7 @@ is_too_long bytes fault l h = by fault h.had (h.first TooLong l)
 
 -- of others that are no JSON that is the first fault
 first_not_json : (bytes : List ℕ) → length bytes ≤ MAX_BYTES → tree_of bytes ≡ None
-    → IsFirstDumpFault (BytesHave bytes) NotJson
+    → IsFirstBy dump_fault_rank (BytesHave bytes) NotJson
 first_not_json bytes l e = record { had = e; first = first }
   where
     first : (other : DumpFault) → BytesHave bytes other → dump_fault_comes_before other NotJson ≡ false
@@ -148,7 +149,7 @@ is_not_json bytes fault l e h = let t : tree_of bytes ≡ Some h.0 = h.1 in absu
 
 -- of others the first fault is that of their tree
 first_of_tree : (bytes : List ℕ) (d : Data) (fault : DumpFault) → length bytes ≤ MAX_BYTES → tree_of bytes ≡ Some d
-    → IsFirstDumpFault (HasTreeFault d) fault → IsFirstDumpFault (BytesHave bytes) fault
+    → IsFirstBy dump_fault_rank (HasTreeFault d) fault → IsFirstBy dump_fault_rank (BytesHave bytes) fault
 first_of_tree bytes d fault l e h = record {
   had = bytes_have bytes d fault e h.had;
   first = λ other k. h.first other (tree_has bytes d other l e k);
@@ -156,7 +157,7 @@ first_of_tree bytes d fault l e h = record {
 
 -- and the other way round
 first_in_tree : (bytes : List ℕ) (d : Data) (fault : DumpFault) → length bytes ≤ MAX_BYTES → tree_of bytes ≡ Some d
-    → IsFirstDumpFault (BytesHave bytes) fault → IsFirstDumpFault (HasTreeFault d) fault
+    → IsFirstBy dump_fault_rank (BytesHave bytes) fault → IsFirstBy dump_fault_rank (HasTreeFault d) fault
 first_in_tree bytes d fault l e h = record {
   had = tree_has bytes d fault l e h.had;
   first = λ other k. h.first other (bytes_have bytes d other e k);
@@ -172,18 +173,20 @@ first_fault_law = λ bytes fault. (
   where
     first : (bytes : List ℕ) (fault : DumpFault) (long : Bool) → nat_lt MAX_BYTES (length bytes) ≡ long
         → (tree : Option Data) → tree_of bytes ≡ tree → cond long (Err TooLong) (of_tree tree) ≡ Err fault
-        → IsFirstDumpFault (BytesHave bytes) fault
+        → IsFirstBy dump_fault_rank (BytesHave bytes) fault
     first bytes fault true l tree t e =
         let same : TooLong ≡ fault = cc in
-        subst (IsFirstDumpFault (BytesHave bytes)) same (first_too_long bytes (ltb-true MAX_BYTES (length bytes) l))
+        subst (IsFirstBy dump_fault_rank (BytesHave bytes)) same
+            (first_too_long bytes (ltb-true MAX_BYTES (length bytes) l))
     first bytes fault false l None t e =
         let same : NotJson ≡ fault = cc in
-        subst (IsFirstDumpFault (BytesHave bytes)) same (first_not_json bytes (ltb-false MAX_BYTES (length bytes) l) t)
+        subst (IsFirstBy dump_fault_rank (BytesHave bytes)) same
+            (first_not_json bytes (ltb-false MAX_BYTES (length bytes) l) t)
     first bytes fault false l (Some d) t e =
         first_of_tree bytes d fault (ltb-false MAX_BYTES (length bytes) l) t ((tree_fault_law d fault).0 e)
 
     answered : (bytes : List ℕ) (fault : DumpFault) (long : Bool) → nat_lt MAX_BYTES (length bytes) ≡ long
-        → (tree : Option Data) → tree_of bytes ≡ tree → IsFirstDumpFault (BytesHave bytes) fault
+        → (tree : Option Data) → tree_of bytes ≡ tree → IsFirstBy dump_fault_rank (BytesHave bytes) fault
         → cond long (Err TooLong) (of_tree tree) ≡ Err fault
     answered bytes fault true l tree t h =
         ap (λ f. Err f) (sym (is_too_long bytes fault (ltb-true MAX_BYTES (length bytes) l) h))

@@ -4,17 +4,14 @@ use Rattle.std.specs.Ordering.{nat_cmp, is_lt, ordering_then, ordering_reverse}
 use Rattle.std.specs.Cmp.{nat_cmp_is}
 use Rattle.std.specs.Cmp.Lexicographic.{slice_cmp}
 use Rattle.std.proofs.lemmas.Cmp.{tied_itself, nat_list_cmp_total}
+use Rattle.cmh_graph.specs.First.{comes_before}
 use Rattle.cmh_dump.specs.declared.fault.DumpFault.{DumpFault}
-use Rattle.cmh_dump.specs.FirstFault.{dump_fault_rank, dump_fault_comes_before}
+use Rattle.cmh_dump.specs.FirstFault.{dump_fault_rank}
 
 -- ---- ranks
 
--- a rank comes before another
-abbrev is_below : List ℕ → List ℕ → Bool
-is_below ns ms = is_lt (slice_cmp nat_cmp ns ms)
-
 -- the first numbers decide where they differ
-below_by_first : (ns ms : List ℕ) → get_or ns 0 0 < get_or ms 0 0 → is_below ns ms ≡ true
+below_by_first : (ns ms : List ℕ) → get_or ns 0 0 < get_or ms 0 0 → comes_before ns ms ≡ true
 below_by_first [] [] l = absurd (omega arith)
 below_by_first [] (m ∷ ms) l = refl
 below_by_first (n ∷ ns) [] l = absurd (omega arith)
@@ -22,11 +19,15 @@ below_by_first (n ∷ ns) (m ∷ ms) l =
     ap (λ o. is_lt (ordering_then o (slice_cmp nat_cmp ns ms))) (sym (nat_cmp_is n m Less l))
 
 -- the rest decides where they are equal
-below_by_rest : (n : ℕ) (ns ms : List ℕ) → is_below ns ms ≡ true → is_below (n ∷ ns) (n ∷ ms) ≡ true
+below_by_rest : (n : ℕ) (ns ms : List ℕ) → comes_before ns ms ≡ true → comes_before (n ∷ ns) (n ∷ ms) ≡ true
 below_by_rest n ns ms e =
     ap (λ o. is_lt (ordering_then o (slice_cmp nat_cmp ns ms))) (sym (nat_cmp_is n n Equal refl)) ∙ e
 
 -- ---- faults
+
+-- faults go by the number of their kind, then by the first place, then by the second
+abbrev pub dump_fault_comes_before : DumpFault → DumpFault → Bool
+dump_fault_comes_before e f = comes_before (dump_fault_rank e) (dump_fault_rank f)
 
 -- the number of the fault's kind
 abbrev pub kind : DumpFault → ℕ
@@ -41,21 +42,22 @@ pub before_by_place : (x y : DumpFault) (k i j : ℕ) → dump_fault_rank x ≡ 
     → i < j
     → dump_fault_comes_before x y ≡ true
 before_by_place x y k i j e f l =
-    (λ t. is_below (e t) (f t)) ∙ below_by_rest k (i ∷ []) (j ∷ []) (below_by_first (i ∷ []) (j ∷ []) l)
+    (λ t. comes_before (e t) (f t)) ∙ below_by_rest k (i ∷ []) (j ∷ []) (below_by_first (i ∷ []) (j ∷ []) l)
 
 -- of two of a kind with two places, that of the lower first place
 pub before_by_first_place : (x y : DumpFault) (k i j h m : ℕ) → dump_fault_rank x ≡ k ∷ i ∷ j ∷ []
     → dump_fault_rank y ≡ k ∷ h ∷ m ∷ []
     → i < h → dump_fault_comes_before x y ≡ true
 before_by_first_place x y k i j h m e f l =
-    (λ t. is_below (e t) (f t)) ∙ below_by_rest k (i ∷ j ∷ []) (h ∷ m ∷ []) (below_by_first (i ∷ j ∷ []) (h ∷ m ∷ []) l)
+    (λ t. comes_before (e t) (f t))
+        ∙ below_by_rest k (i ∷ j ∷ []) (h ∷ m ∷ []) (below_by_first (i ∷ j ∷ []) (h ∷ m ∷ []) l)
 
 -- where the first is the same, that of the lower second place
 pub before_by_second_place : (x y : DumpFault) (k i j m : ℕ) → dump_fault_rank x ≡ k ∷ i ∷ j ∷ []
     → dump_fault_rank y ≡ k ∷ i ∷ m ∷ [] → j < m
     → dump_fault_comes_before x y ≡ true
 before_by_second_place x y k i j m e f l =
-    (λ t. is_below (e t) (f t))
+    (λ t. comes_before (e t) (f t))
     ∙ below_by_rest k (i ∷ j ∷ []) (i ∷ m ∷ []) (below_by_rest i (j ∷ []) (m ∷ []) (below_by_first (j ∷ []) (m ∷ []) l))
 
 -- no fault comes before itself

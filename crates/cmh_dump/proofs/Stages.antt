@@ -5,11 +5,11 @@ use Rattle.std.specs.Option.{option_or}
 use Rattle.std.proofs.lemmas.Bool.{false≢true}
 use Rattle.cmh_dump.specs.declared.fault.DumpFault.{DumpFault}
 use Rattle.cmh_dump.specs.Dump.{first_of}
-use Rattle.cmh_dump.specs.FirstFault.{dump_fault_rank, dump_fault_comes_before}
+use Rattle.cmh_dump.specs.FirstFault.{dump_fault_rank}
 use Rattle.cmh_dump.proofs.Members.{Among, AmongLists, among_cases, among_one, among_below_is, map-below, row, rows-below, among_rows_is}
 use Rattle.cmh_dump.proofs.Faults.{below}
 use Rattle.cmh_dump.proofs.Firsts.{fails}
-use Rattle.cmh_dump.proofs.Order.{kind, before_by_kind, before_by_place, before_by_first_place, before_by_second_place}
+use Rattle.cmh_dump.proofs.Order.{kind, dump_fault_comes_before, before_by_kind, before_by_place, before_by_first_place, before_by_second_place}
 
 -- ---- lists that rise
 

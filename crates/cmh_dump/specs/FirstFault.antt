@@ -1,10 +1,9 @@
 -- Which fault of a dump is the first, and what the laws of dumps say.
-use Rattle.std.specs.Prelude.{◌≡◌, ◌↔◌, ℕ, ◌<◌, Bool, List, [], ◌∷◌, length, Some, None, option_map, Ok, Err, IsTrue, IsFalse, ⊤}
-use Rattle.std.specs.Ordering.{nat_cmp, is_lt}
-use Rattle.std.specs.Cmp.Lexicographic.{slice_cmp}
+use Rattle.std.specs.Prelude.{◌≡◌, ◌↔◌, ℕ, ◌<◌, List, [], ◌∷◌, length, Some, None, option_map, Ok, Err, IsTrue, ⊤}
 use Rattle.serde_json.specs.Data.{Data}
 use Rattle.cmh_graph.specs.Graph.{Graph}
 use Rattle.cmh_graph.specs.Build.{IsWellFormed}
+use Rattle.cmh_graph.specs.First.{IsFirstBy}
 use Rattle.cmh_dump.specs.declared.TheConstants.{MAX_BYTES}
 use Rattle.cmh_dump.specs.declared.fault.DumpFault.{DumpFault}
 use Rattle.cmh_dump.specs.declared.fault.DumpFault.TheVariants.{Memory, ReadFault, TooLong, NotJson, BadTop, BadVersion, BadSites, RepeatedSite, TooManySites, TooManyProcesses, BadProcess, RepeatedProcess, UnknownSite, UnknownDependent, RepeatedDependent, ActiveWithDependents, TooManyDependencies, TooManyInTransit, BadInTransit, UnknownInTransit}
@@ -75,15 +74,6 @@ dump_fault_rank TooManyInTransit = 17 ∷ []
 dump_fault_rank (BadInTransit i) = 18 ∷ i ∷ []
 dump_fault_rank (UnknownInTransit i) = 19 ∷ i ∷ []
 
--- faults go by the number of their kind, then by the first place, then by the second
-abbrev pub dump_fault_comes_before : DumpFault → DumpFault → Bool
-dump_fault_comes_before e f = is_lt (slice_cmp nat_cmp (dump_fault_rank e) (dump_fault_rank f))
-
--- it is one of these faults, and none of them comes before it
-pub record IsFirstDumpFault (These : DumpFault → Type 0) (fault : DumpFault) : Type 0 where
-  pub had : These fault
-  pub first : (other : DumpFault) → These other → IsFalse (dump_fault_comes_before other fault)
-
 -- there is no such fault
 abbrev pub AreNone : (DumpFault → Type 0) → Type 0
 AreNone These = (fault : DumpFault) → These fault → ⊥
@@ -93,7 +83,7 @@ AreNone These = (fault : DumpFault) → These fault → ⊥
 -- a tree is refused for the first fault that it has
 abbrev pub TreeFaultLaw : Type 0
 TreeFaultLaw = (d : Data) (fault : DumpFault)
-    → (dump_of_tree d ≡ Err fault) ↔ IsFirstDumpFault (HasTreeFault d) fault
+    → (dump_of_tree d ≡ Err fault) ↔ IsFirstBy dump_fault_rank (HasTreeFault d) fault
 
 -- a tree without a fault, and no other, means a graph, and that is the one of its names
 abbrev pub TreeGraphLaw : Type 0
@@ -103,7 +93,7 @@ TreeGraphLaw = (d : Data) (g : Graph)
 -- bytes are refused for the first fault that they have
 abbrev pub FirstFaultLaw : Type 0
 FirstFaultLaw = (bytes : List ℕ) (fault : DumpFault)
-    → (dump bytes ≡ Err fault) ↔ IsFirstDumpFault (BytesHave bytes) fault
+    → (dump bytes ≡ Err fault) ↔ IsFirstBy dump_fault_rank (BytesHave bytes) fault
 
 -- bytes without a fault, and no others, mean a graph, and that is the one of their tree
 abbrev pub NoFaultLaw : Type 0

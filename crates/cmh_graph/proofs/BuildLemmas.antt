@@ -9,7 +9,8 @@ use native.Mathlib.Decide.{dec_lt}
 use Rattle.cmh_graph.specs.declared.TheConstants.{MAX_PROCESSES, MAX_DEPENDENCIES, MAX_IN_TRANSIT}
 use Rattle.cmh_graph.specs.declared.fault.GraphFault.{GraphFault}
 use Rattle.cmh_graph.specs.declared.fault.GraphFault.TheVariants.{TooManyProcesses, TooManyDependencies, DependentOutOfRange, RepeatedDependent, ActiveWithDependents, TooManyInTransit, TransitOutOfRange, Memory}
-use Rattle.cmh_graph.specs.Build.{graph_fault_comes_before, dependent_count, message_at, HasGraphFault, IsFirstGraphFault, IsWellFormed, WellFormedLaw}
+use Rattle.cmh_graph.specs.Build.{graph_fault_rank, dependent_count, message_at, HasGraphFault, IsFirstGraphFault, IsWellFormed, WellFormedLaw}
+use Rattle.cmh_graph.specs.First.{comes_before}
 use Rattle.cmh_graph.specs.Graph.{Process, Graph, process_count, dependents_of, is_idle, nobody, dependent_at, IsWithinGraph}
 use Rattle.cmh_graph.specs.Judge.{IsFirst, IsFirstEntry}
 
@@ -91,7 +92,7 @@ pair_first k i j a b (inr h) = rw (cmp_same k, sym (nat_cmp_is a i Equal (sym h.
 first_repeat_by : (g : Graph) (i j : ℕ) → process_count g ≤ MAX_PROCESSES → dependent_count g ≤ MAX_DEPENDENCIES
     → IsWithinGraph g → IsFirstEntry (λ i j. HasGraphFault g (RepeatedDependent i j)) i j → (other : GraphFault)
     → HasGraphFault g other
-    → IsFalse (graph_fault_comes_before other (RepeatedDependent i j))
+    → IsFalse (comes_before (graph_fault_rank other) (graph_fault_rank (RepeatedDependent i j)))
 first_repeat_by g i j np nd nr f TooManyProcesses h = absurd (omega (arith, np, h))
 first_repeat_by g i j np nd nr f TooManyDependencies h = absurd (omega (arith, nd, h))
 first_repeat_by g i j np nd nr f (DependentOutOfRange a b) h = absurd (let l = nr a b h.0 in omega (arith, l, h.1))
@@ -111,7 +112,7 @@ first_repeat g i j np nd nr f = record { had = f.holds; first = first_repeat_by 
 first_active_by : (g : Graph) (i : ℕ) → process_count g ≤ MAX_PROCESSES → dependent_count g ≤ MAX_DEPENDENCIES
     → IsWithinGraph g → ((i j : ℕ) → HasGraphFault g (RepeatedDependent i j) → ⊥)
     → IsFirst (λ i. HasGraphFault g (ActiveWithDependents i)) i → (other : GraphFault) → HasGraphFault g other
-    → IsFalse (graph_fault_comes_before other (ActiveWithDependents i))
+    → IsFalse (comes_before (graph_fault_rank other) (graph_fault_rank (ActiveWithDependents i)))
 first_active_by g i np nd nr ne f TooManyProcesses h = absurd (omega (arith, np, h))
 first_active_by g i np nd nr ne f TooManyDependencies h = absurd (omega (arith, nd, h))
 first_active_by g i np nd nr ne f (DependentOutOfRange a b) h = absurd (let l = nr a b h.0 in omega (arith, l, h.1))
@@ -133,7 +134,7 @@ first_in_transit_by : (g : Graph) → process_count g ≤ MAX_PROCESSES → depe
     → ((i j : ℕ) → HasGraphFault g (RepeatedDependent i j) → ⊥)
     → ((i : ℕ) → HasGraphFault g (ActiveWithDependents i) → ⊥)
     → MAX_IN_TRANSIT < length g.in_transit → (other : GraphFault) → HasGraphFault g other
-    → IsFalse (graph_fault_comes_before other TooManyInTransit)
+    → IsFalse (comes_before (graph_fault_rank other) (graph_fault_rank TooManyInTransit))
 first_in_transit_by g np nd nr ne na f TooManyProcesses h = absurd (omega (arith, np, h))
 first_in_transit_by g np nd nr ne na f TooManyDependencies h = absurd (omega (arith, nd, h))
 first_in_transit_by g np nd nr ne na f (DependentOutOfRange a b) h =
@@ -157,7 +158,7 @@ first_transit_by : (g : Graph) (i : ℕ) → process_count g ≤ MAX_PROCESSES �
     → ((i : ℕ) → HasGraphFault g (ActiveWithDependents i) → ⊥)
     → length g.in_transit ≤ MAX_IN_TRANSIT → IsFirst (λ i. HasGraphFault g (TransitOutOfRange i)) i
     → (other : GraphFault)
-    → HasGraphFault g other → IsFalse (graph_fault_comes_before other (TransitOutOfRange i))
+    → HasGraphFault g other → IsFalse (comes_before (graph_fault_rank other) (graph_fault_rank (TransitOutOfRange i)))
 first_transit_by g i np nd nr ne na nt f TooManyProcesses h = absurd (omega (arith, np, h))
 first_transit_by g i np nd nr ne na nt f TooManyDependencies h = absurd (omega (arith, nd, h))
 first_transit_by g i np nd nr ne na nt f (DependentOutOfRange a b) h =

@@ -6,7 +6,8 @@ use Rattle.cmh_graph.specs.declared.fault.GraphFault.{GraphFault}
 use Rattle.cmh_graph.specs.declared.fault.GraphFault.TheVariants.{TooManyProcesses, TooManyDependencies, DependentOutOfRange, RepeatedDependent, ActiveWithDependents, TooManyInTransit, TransitOutOfRange, Memory}
 use Rattle.cmh_graph.specs.declared.part.State.TheVariants.{Idle, Active}
 use Rattle.cmh_graph.specs.declared.verdict.Verdict.TheVariants.{Deadlocked, Free}
-use Rattle.cmh_graph.specs.Build.{graph_fault_comes_before, HasGraphFault, IsFirstGraphFault}
+use Rattle.cmh_graph.specs.Build.{graph_fault_rank, HasGraphFault, IsFirstGraphFault}
+use Rattle.cmh_graph.specs.First.{comes_before}
 use Rattle.cmh_graph.specs.ChosenPath.{chosen_path, distance_of}
 use Rattle.cmh_graph.specs.Core.{core_of}
 use Rattle.cmh_graph.specs.Graph.{Graph, idle_list, indices, is_awake, Process}
@@ -142,7 +143,7 @@ far = graph (idle (codes "p") 0 (5 ∷ []) ∷ [])
 
 -- no fault of it comes before the dependent that is out of range
 none_before_far : (other : GraphFault) → HasGraphFault far other
-    → IsFalse (graph_fault_comes_before other (DependentOutOfRange 0 0))
+    → IsFalse (comes_before (graph_fault_rank other) (graph_fault_rank (DependentOutOfRange 0 0)))
 none_before_far TooManyProcesses h = absurd (omega (arith, h))
 none_before_far TooManyDependencies h = absurd (omega (arith, h))
 none_before_far (DependentOutOfRange zero b) h = pair_first 3 0 0 0 b (inr (refl, omega arith))

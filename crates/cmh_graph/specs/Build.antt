@@ -1,12 +1,11 @@
 -- The graph that parts and messages in transit stand for, and what refuses it.
-use Rattle.std.specs.Prelude.{◌≡◌, ◌≢◌, ◌⊎◌, ◌↔◌, ℕ, ◌<◌, ◌≤◌, Bool, List, [], ◌∷◌, map, length, sum_by, slice_index_or, string_bytes, IsFalse}
-use Rattle.std.specs.Ordering.{nat_cmp, is_lt}
-use Rattle.std.specs.Cmp.Lexicographic.{slice_cmp}
+use Rattle.std.specs.Prelude.{◌≡◌, ◌≢◌, ◌⊎◌, ◌↔◌, ℕ, ◌<◌, ◌≤◌, List, [], ◌∷◌, map, length, sum_by, slice_index_or, string_bytes, IsFalse}
 use Rattle.cmh_graph.specs.declared.TheConstants.{MAX_PROCESSES, MAX_DEPENDENCIES, MAX_IN_TRANSIT}
 use Rattle.cmh_graph.specs.declared.part.Part.{Part}
 use Rattle.cmh_graph.specs.declared.fault.GraphFault.{GraphFault}
 use Rattle.cmh_graph.specs.declared.fault.GraphFault.TheVariants.{TooManyProcesses, TooManyDependencies, DependentOutOfRange, RepeatedDependent, ActiveWithDependents, TooManyInTransit, TransitOutOfRange, Memory}
 use Rattle.cmh_graph.specs.Graph.{Process, Graph, process_count, dependents_of, is_idle, dependent_at, HasDependentAt, IsWithinGraph}
+use Rattle.cmh_graph.specs.First.{IsFirstBy}
 
 -- a part without where it lies in memory
 abbrev pub process_of : Part → Process
@@ -57,14 +56,9 @@ graph_fault_rank Memory = 6 ∷ []
 graph_fault_rank TooManyInTransit = 7 ∷ []
 graph_fault_rank (TransitOutOfRange i) = 8 ∷ i ∷ []
 
--- faults go by the number of their kind, then by the first index, then by the second
-abbrev pub graph_fault_comes_before : GraphFault → GraphFault → Bool
-graph_fault_comes_before e f = is_lt (slice_cmp nat_cmp (graph_fault_rank e) (graph_fault_rank f))
-
 -- a fault that the graph has, and none that it has comes before it
-pub record IsFirstGraphFault (g : Graph) (fault : GraphFault) : Type 0 where
-  pub had : HasGraphFault g fault
-  pub first : (other : GraphFault) → HasGraphFault g other → IsFalse (graph_fault_comes_before other fault)
+abbrev pub IsFirstGraphFault : Graph → GraphFault → Type 0
+IsFirstGraphFault g fault = IsFirstBy graph_fault_rank (HasGraphFault g) fault
 
 -- the graph has no fault
 pub record IsWellFormed (g : Graph) : Type 0 where

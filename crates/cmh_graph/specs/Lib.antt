@@ -3,6 +3,7 @@ pub mod Build
 pub mod ChosenPath
 pub mod Core
 pub mod Fault
+pub mod First
 pub mod Graph
 pub mod Judge
 pub mod Path
