@@ -13,7 +13,7 @@ use Rattle.cmh_rw.specs.declared.row.Row.{Row}
 use Rattle.cmh_rw.specs.History.{fold_at, IsOpen, EndsLast, IsPosting, IsHistory, IsTrueOf, AreTold}
 use Rattle.cmh_rw.specs.View.{row, mark}
 use Rattle.cmh_board.specs.Board.{is_empty, rows_of, unposted, times}
-use Rattle.cmh_board.specs.Adding.{marks, rows_so_far, CanPost}
+use Rattle.cmh_board.specs.Adding.{marks, CanPost}
 use Rattle.cmh_rw.proofs.Folds.{fold-skip, true-snoc}
 use Rattle.cmh_rw.proofs.Postings.{laid-snoc, whole-snoc}
 use Rattle.cmh_board.proofs.Histories.{present-append, verdict_in, times-present}
@@ -59,12 +59,18 @@ rows_of-snoc v (q ∷ ps) p =
     ap (λ b. row q v b ∷ rows_of v (ps ++ p ∷ [])) (nonempty ps p)
     ∙ ap (λ l. mark q v ∷ l) (rows_of-snoc v ps p)
 
+-- the rows of the processes that are done, of which the last is a last row where no other is to come
+abbrev pub rows_so_far : Verdict → List ℕ → List ℕ → List Row
+rows_so_far v processes [] = rows_of v processes
+rows_so_far v processes (p ∷ ps) = marks v processes
+
 -- the rows so far, and the next one
 pub rows_so_far-more : (v : Verdict) (ps : List ℕ) (p : ℕ) (rest : List ℕ)
     → rows_so_far v (ps ++ p ∷ []) rest ≡ marks v ps ++ row p v (is_empty rest) ∷ []
 rows_so_far-more v ps p [] = rows_of-snoc v ps p
 rows_so_far-more v ps p (q ∷ rest) = marks-snoc v ps p
 
+-- the marks of some processes and of one more are those of them all
 pub marks-more : (v : Verdict) (ps : List ℕ) (p : ℕ) → marks v ps ++ mark p v ∷ [] ≡ marks v (ps ++ p ∷ [])
 marks-more v ps p = sym (marks-snoc v ps p)
 

@@ -17,9 +17,9 @@ use Rattle.cmh_rw.specs.History.{fold_at, verdict_code, IsOpen}
 use Rattle.cmh_rw.specs.View.{row, mark, AfterLoad, CanStage, with_row, with_told}
 use Rattle.cmh_rw.proofs.Folds.{fold-skip, fold-keeps}
 use Rattle.cmh_board.specs.Board.{is_empty, unposted}
-use Rattle.cmh_board.specs.Adding.{CanPost, OnlyLoads, marks, rows_so_far}
+use Rattle.cmh_board.specs.Adding.{CanPost, OnlyLoads, marks}
 use Rattle.cmh_board.proofs.Lists.{contains_filter}
-use Rattle.cmh_board.proofs.PostingRows.{absent-marks, marks-said, open-marks, rows_so_far-more, marks-more, none_is}
+use Rattle.cmh_board.proofs.PostingRows.{rows_so_far, absent-marks, marks-said, open-marks, rows_so_far-more, marks-more, none_is}
 
 -- ---- loads in a hold
 

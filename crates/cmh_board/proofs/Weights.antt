@@ -7,7 +7,7 @@ use Rattle.cmh_graph.specs.declared.verdict.Verdict.TheVariants.{Deadlocked, Fre
 use Rattle.cmh_graph.proofs.PathLemmas.{cons_contains, contains_cons}
 use Rattle.cmh_run.proofs.Configurations.{by_test}
 use Rattle.cmh_rw.specs.declared.row.Row.{Row}
-use Rattle.cmh_rw.specs.History.{weigh}
+use Rattle.cmh_rw.specs.Machine.{total}
 
 -- ---- a test of equal postings
 
@@ -95,7 +95,7 @@ abbrev pub is_one : List Row → List Row → ℕ
 is_one x y = cond {A = ℕ} (rows_eqb y x) 1 0
 
 -- a member weighs something
-member_weighs : (x : List Row) (ps : List (List Row)) → Contains ps x → 0 < weigh (is_one x) ps
+member_weighs : (x : List Row) (ps : List (List Row)) → Contains ps x → 0 < total (is_one x) ps
 member_weighs x [] c = absurd (let l = c.1 in omega arith)
 member_weighs x (p ∷ ps) c = ⊎_elim
     (λ e. let one : is_one x p ≡ 1 = ap (λ b. cond {A = ℕ} b 1 0) (ap (λ q. rows_eqb q x) e ∙ rows_eqb-refl x) in
@@ -104,16 +104,16 @@ member_weighs x (p ∷ ps) c = ⊎_elim
     (cons_contains p ps x c)
 
 -- what weighs something has the member
-weighs_member : (x : List Row) (ps : List (List Row)) → 0 < weigh (is_one x) ps → Contains ps x
+weighs_member : (x : List Row) (ps : List (List Row)) → 0 < total (is_one x) ps → Contains ps x
 weighs_member x [] l = absurd (omega arith)
 weighs_member x (p ∷ ps) l =
-    by_test (rows_eqb p x) (λ b. 0 < cond {A = ℕ} b 1 0 + weigh (is_one x) ps → Contains (p ∷ ps) x)
+    by_test (rows_eqb p x) (λ b. 0 < cond {A = ℕ} b 1 0 + total (is_one x) ps → Contains (p ∷ ps) x)
     (λ yes h. subst (λ q. Contains (p ∷ ps) q) (rows_eqb-true p x yes) (zero, omega arith, refl))
     (λ no h. contains_cons p ps x (weighs_member x ps (omega arith)))
     l
 
 -- what weighs the same however it is weighed has the same members
-pub same_members : (xs ys : List (List Row)) → ((h : List Row → ℕ) → weigh h xs ≡ weigh h ys)
+pub same_members : (xs ys : List (List Row)) → ((h : List Row → ℕ) → total h xs ≡ total h ys)
     → (x : List Row) → Contains xs x → Contains ys x
 same_members xs ys same x c =
     let much = member_weighs x xs c in

@@ -1,5 +1,5 @@
 -- What a writer does to add a posting.
-use Rattle.std.specs.Prelude.{◌≡◌, ℕ, nat_eq, ◌<◌, ◌≤◌, IsTrue, true, List, [], ◌∷◌, ◌++◌, map, Contains, Some}
+use Rattle.std.specs.Prelude.{◌≡◌, ℕ, nat_eq, ◌<◌, ◌≤◌, IsTrue, true, List, [], ◌++◌, map, Contains, Some}
 use Rattle.std.specs.List.{IsDistinct}
 use Rattle.cmh_graph.specs.declared.TheConstants.{MAX_PROCESSES}
 use Rattle.cmh_graph.specs.declared.verdict.Verdict.{Verdict}
@@ -43,11 +43,6 @@ pub record OnlyLoads (v w : View) : Type 0 where
 -- a row that isn't a last one for each of the processes
 abbrev pub marks : Verdict → List ℕ → List Row
 marks v processes = map (λ p. mark p v) processes
-
--- the rows of these processes and of those that are still to come
-abbrev pub rows_so_far : Verdict → List ℕ → List ℕ → List Row
-rows_so_far v processes [] = rows_of v processes
-rows_so_far v processes (p ∷ ps) = marks v processes
 
 -- all rows are staged, and their verdicts are told
 pub record Stages (v : Verdict) (processes : List ℕ) (old new : View) : Type 0 where

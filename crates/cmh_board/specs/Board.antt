@@ -9,7 +9,8 @@ use Rattle.cmh_rw.specs.declared.row.Row.{Row}
 use Rattle.cmh_rw.specs.declared.view.View.{View}
 use Rattle.cmh_rw.specs.declared.words.Entry.{Entry}
 use Rattle.cmh_rw.specs.declared.words.Entry.TheVariants as entry
-use Rattle.cmh_rw.specs.History.{fold_at, laid, weigh, IsHistory, ArePostings, IsTrueOf, StartsWith}
+use Rattle.cmh_rw.specs.History.{fold_at, laid, IsHistory, ArePostings, IsTrueOf, StartsWith}
+use Rattle.cmh_rw.specs.Machine.{total}
 use Rattle.cmh_rw.specs.View.{row}
 use Rattle.cmh_rw.specs.Seats as words
 use Rattle.cmh_board.specs.declared.board.Board.{Board}
@@ -164,5 +165,5 @@ pub record IsMadeOf (mine : List (List Row)) (rows : List Row) : Type 0 where
   pub postings : List (List Row)
   pub is_laid : rows ≡ laid postings
   pub whole : ArePostings postings
-  pub weights : (h : List Row → ℕ) → weigh h mine ≡ weigh h postings
+  pub weights : (h : List Row → ℕ) → total h mine ≡ total h postings
   pub same : (posting : List Row) → Contains postings posting ↔ Contains mine posting

@@ -10,7 +10,7 @@ use Rattle.cmh_rw.specs.declared.machine.SeatState.TheVariants.{Away, Retreating
 use Rattle.cmh_rw.specs.declared.row.Row.{Row}
 use Rattle.cmh_rw.specs.declared.view.View.{View}
 use Rattle.cmh_rw.specs.Machine.{total, writes, reads, retreats}
-use Rattle.cmh_rw.specs.History.{laid, weigh, row_code, verdict_code, fold_at}
+use Rattle.cmh_rw.specs.History.{laid, row_code, verdict_code, fold_at}
 use Rattle.cmh_rw.specs.Rule.{Moment, lock_of, state_of, share_of, HasShare, HasLockShare, WordsRule}
 use Rattle.cmh_rw.specs.Seats.{ClosedHistory, IsWhole}
 use Rattle.cmh_rw.proofs.Lawful.{total-in}
@@ -22,22 +22,22 @@ abbrev Shares : Graph → View → Type 0
 Shares key v = HasLockShare key v.lock × (v.lock.state ≡ Spent → v.mine ≡ [])
 
 -- a view with no share has added nothing
-none_added : (key : Graph) (v : View) (h : List Row → ℕ) → Shares key v → v.lock.share ≡ 0 → weigh h v.mine ≡ 0
+none_added : (key : Graph) (v : View) (h : List Row → ℕ) → Shares key v → v.lock.share ≡ 0 → total h v.mine ≡ 0
 none_added key v h shares z =
     let P : SeatState → Type 0 =
-    λ s. HasShare key v.lock.graph v.lock.share s → (s ≡ Spent → v.mine ≡ []) → weigh h v.mine ≡ 0 in
+    λ s. HasShare key v.lock.graph v.lock.share s → (s ≡ Spent → v.mine ≡ []) → total h v.mine ≡ 0 in
     elim v.lock.state as P [
       | Away ↦ λ k g. let p = k.0 in absurd (omega arith)
       | Retreating ↦ λ k g. let p = k.0 in absurd (omega arith)
       | Reading ↦ λ k g. let p = k.0 in absurd (omega arith)
       | Writing ↦ λ k g. let p = k.0 in absurd (omega arith)
-      | Spent ↦ λ k g. ap (weigh h) (g refl)
+      | Spent ↦ λ k g. ap (total h) (g refl)
     ] shares.0 shares.1
 
 -- views with no shares have added nothing
 all_none : (key : Graph) (views : List View) (h : List Row → ℕ)
     → ((i : ℕ) (v : View) → get_elem? views i ≡ some v → Shares key v) → total share_of (map lock_of views) ≡ 0
-    → total (λ v. weigh h v.mine) views ≡ 0
+    → total (λ v. total h v.mine) views ≡ 0
 all_none key [] h each z = refl
 all_none key (v ∷ vs) h each z =
     let r = all_none key vs h (λ i w e. each (suc i) w e) (omega arith) in
@@ -48,12 +48,12 @@ all_none key (v ∷ vs) h each z =
 mine_of_one : (key : Graph) (views : List View) (id : ℕ) (v : View) (h : List Row → ℕ)
     → ((i : ℕ) (u : View) → get_elem? views i ≡ some u → Shares key u) → get_elem? views id ≡ some v
     → total share_of (map lock_of views) ≤ v.lock.share
-    → total (λ u. weigh h u.mine) views ≡ weigh h v.mine
+    → total (λ u. total h u.mine) views ≡ total h v.mine
 mine_of_one key [] id v h each at most = absurd (some-ne-none v (sym at))
 mine_of_one key (x ∷ xs) zero v h each at most =
     let is = some-injective x v at in
     let share = ap (λ (u : View). u.lock.share) is in
-    let mine = ap (λ (u : View). weigh h u.mine) is in
+    let mine = ap (λ (u : View). total h u.mine) is in
     let r = all_none key xs h (λ i w e. each (suc i) w e) (omega arith) in omega arith
 mine_of_one key (x ∷ xs) (suc id) v h each at most =
     let in_there = total-in share_of (map lock_of xs) id v.lock (at_map lock_of xs id v at) in
@@ -63,7 +63,7 @@ mine_of_one key (x ∷ xs) (suc id) v h each at most =
 
 -- with the whole share, the seat has added each posting
 adds_all : (key : Graph) (s : Moment) (b : WordsRule key s) (id : ℕ) (v : View) → get_elem? s.views id ≡ some v
-    → v.lock.share ≡ MAX_SEATS → (h : List Row → ℕ) → weigh h v.mine ≡ weigh h b.postings
+    → v.lock.share ≡ MAX_SEATS → (h : List Row → ℕ) → total h v.mine ≡ total h b.postings
 adds_all key s b id v at whole h = let few = b.lock.shares in
     sym (mine_of_one key s.views id v h
     (λ i u e. (b.lock.each i u.lock (at_map lock_of s.views i u e), (b.each i u e).gone)) at (omega arith))

@@ -7,15 +7,15 @@ use Rattle.cmh_graph.specs.Graph.{Graph}
 use Rattle.cmh_rw.specs.declared.TheConstants.{FIRST_ROW, FIRST_VERDICT}
 use Rattle.cmh_rw.specs.declared.machine.SeatState.TheVariants.{Writing}
 use Rattle.cmh_rw.specs.declared.view.View.{View}
-use Rattle.cmh_rw.specs.Machine.{writes}
-use Rattle.cmh_rw.specs.History.{laid, weigh, row_code, verdict_code, fold_at, EndsLast, IsPosting, IsTrueOf, AreTold}
+use Rattle.cmh_rw.specs.Machine.{total, writes}
+use Rattle.cmh_rw.specs.History.{laid, row_code, verdict_code, fold_at, EndsLast, IsPosting, IsTrueOf, AreTold}
 use Rattle.cmh_rw.specs.View.{posted}
 use Rattle.cmh_rw.specs.Rule.{SeatRule, WordsRule}
 use Rattle.cmh_rw.specs.Steps.{TableSeat, Counted}
 use Rattle.cmh_rw.proofs.Folds.{fold-same, told-all}
-use Rattle.cmh_rw.proofs.Lawful.{total-set}
+use Rattle.cmh_rw.proofs.Lawful.{total-set, total-append}
 use Rattle.cmh_rw.proofs.Moments.{writes-Writing, beside_writer, lock_beside}
-use Rattle.cmh_rw.proofs.Postings.{laid-snoc, whole-snoc, weigh-append, seen-grows, posting_from, ends-some}
+use Rattle.cmh_rw.proofs.Postings.{laid-snoc, whole-snoc, seen-grows, posting_from, ends-some}
 
 -- a writer stores the count
 pub counts_in : (key : Graph) (slots id n : ℕ) (me : TableSeat) → me.0.lock.state ≡ Writing → EndsLast me.0.staged
@@ -79,9 +79,9 @@ counts_in key slots id n me writing ends stored is s b _ at _ =
             })
             (at_set s.views id i w u e);
         owners =
-            λ h. let sum = total-set (λ (u : View). weigh h u.mine) s.views id v w at in
-            let a = weigh-append h v.mine (v.staged ∷ []) in
-            let c = weigh-append h b.postings (b.staged ∷ []) in
+            λ h. let sum = total-set (λ (u : View). total h u.mine) s.views id v w at in
+            let a = total-append h v.mine (v.staged ∷ []) in
+            let c = total-append h b.postings (b.staged ∷ []) in
             let same = ap h own.0 in
             omega (arith, b.owners h);
       },

@@ -36,7 +36,12 @@ lawful-set word n l i a b at h is one al =
       alone = λ some. let z = al (omega arith) (omega arith) in omega arith;
     }
 
--- one more
+-- a sum over two lists is that over one and that over the other
+pub total-append : {A : Type 0} (f : A → ℕ) (l m : List A) → total f (l ++ m) ≡ total f l + total f m
+total-append f [] m = omega arith
+total-append f (x ∷ xs) m = omega (arith, total-append f xs m)
+
+-- a sum over a list with one item more
 pub total-snoc : {A : Type 0} (f : A → ℕ) (l : List A) (a : A) → total f (l ++ a ∷ []) ≡ total f l + f a
 total-snoc f [] a = omega arith
 total-snoc f (x ∷ xs) a = omega (arith, total-snoc f xs a)

@@ -15,7 +15,7 @@ use Rattle.cmh_rw.specs.declared.machine.Event.TheVariants.{Admit, TryWrite}
 use Rattle.cmh_rw.specs.declared.view.LockView.{LockView}
 use Rattle.cmh_rw.specs.declared.view.View.{View}
 use Rattle.cmh_rw.specs.Machine.{total, writes, reads, retreats, turn}
-use Rattle.cmh_rw.specs.History.{weigh, fold_at}
+use Rattle.cmh_rw.specs.History.{fold_at}
 use Rattle.cmh_rw.specs.View.{ended}
 use Rattle.cmh_rw.specs.Rule.{Moment, lock_of, lock_moment, state_of, LockRule, SeatRule, WordsRule}
 use Rattle.cmh_rw.specs.Steps.{TableSeat, after_try, with_lock, Entered, Ended, Taken}
@@ -55,8 +55,8 @@ locked key s b n id me w at kept mine knows idle = let views = map-set lock_of s
       λ i u e. ⊎_elim (λ t. subst (SeatRule b.postings b.staged b.told) t.1 knows) (λ t. b.each i u t.1)
       (at_set s.views id i w u e);
   owners =
-      λ h. let sum = total-set (λ (u : View). weigh h u.mine) s.views id me.0 w at in
-      let same = ap (weigh h) mine in
+      λ h. let sum = total-set (λ (u : View). total h u.mine) s.views id me.0 w at in
+      let same = ap (total h) mine in
       omega (arith, b.owners h);
 }
 

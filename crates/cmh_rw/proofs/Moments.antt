@@ -10,7 +10,6 @@ use Rattle.cmh_rw.specs.declared.machine.SeatState.TheVariants.{Away, Retreating
 use Rattle.cmh_rw.specs.declared.view.LockView.{LockView}
 use Rattle.cmh_rw.specs.declared.view.View.{View}
 use Rattle.cmh_rw.specs.Machine.{world, total, writes, reads, IsLawful}
-use Rattle.cmh_rw.specs.History.{weigh}
 use Rattle.cmh_rw.specs.View.{IsHeld}
 use Rattle.cmh_rw.specs.Rule.{Moment, lock_of, state_of, HasShare, HasLockShare, LockRule, SeatRule, WordsRule}
 use Rattle.cmh_rw.proofs.Lawful.{total-set, total-in}
@@ -147,8 +146,8 @@ reviewed key s b id v w at same mine knows = record {
       λ i u e. ⊎_elim (λ t. subst (SeatRule b.postings b.staged b.told) t.1 knows) (λ t. b.each i u t.1)
       (at_set s.views id i w u e);
   owners =
-      λ h. let sum = total-set (λ (u : View). weigh h u.mine) s.views id v w at in
-      let same_mine = ap (weigh h) mine in
+      λ h. let sum = total-set (λ (u : View). total h u.mine) s.views id v w at in
+      let same_mine = ap (total h) mine in
       omega (arith, b.owners h);
 }
 

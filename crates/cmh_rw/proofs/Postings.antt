@@ -1,9 +1,9 @@
 -- Postings laid end to end, and what of them a seat has seen.
-use Rattle.std.proofs.Common.{◌≡◌, ◌⊎◌, ℕ, ◌+◌, ◌≤◌, true, false, ltb, length, length-append, List, [], ◌∷◌, ◌++◌, drop, get_or, sym, refl, ap, ◌∙◌, subst, arith, append_assoc, append-nil, inl, inr, ⊎_elim}
+use Rattle.std.proofs.Common.{◌≡◌, ◌⊎◌, ◌+◌, ◌≤◌, true, false, ltb, length, length-append, List, [], ◌∷◌, ◌++◌, drop, get_or, sym, refl, ap, ◌∙◌, subst, arith, append_assoc, append-nil, inl, inr, ⊎_elim}
 use Rattle.cmh_rw.specs.declared.row.Row.{Row}
 use Rattle.std.proofs.lemmas.Bool.{ltb-true, ltb-false, cond_both}
 use Rattle.cmh_rw.specs.View.{longer}
-use Rattle.cmh_rw.specs.History.{laid, weigh, IsOpen, IsPosting, EndsLast, ArePostings, IsSeen, StartsWith}
+use Rattle.cmh_rw.specs.History.{laid, IsOpen, IsPosting, EndsLast, ArePostings, IsSeen, StartsWith}
 
 -- postings and more postings
 pub laid-append : (xs ys : List (List Row)) → laid (xs ++ ys) ≡ laid xs ++ laid ys
@@ -18,11 +18,6 @@ laid-snoc xs x = laid-append xs (x ∷ []) ∙ ap (λ l. laid xs ++ l) (append-n
 pub whole-snoc : (xs : List (List Row)) (x : List Row) → ArePostings xs → IsPosting x → ArePostings (xs ++ x ∷ [])
 whole-snoc [] x h p = (p, tt)
 whole-snoc (y ∷ ys) x h p = (h.0, whole-snoc ys x h.1 p)
-
--- the weights of postings and more postings
-pub weigh-append : (f : List Row → ℕ) (xs ys : List (List Row)) → weigh f (xs ++ ys) ≡ weigh f xs + weigh f ys
-weigh-append f [] ys = omega arith
-weigh-append f (x ∷ xs) ys = omega (arith, weigh-append f xs ys)
 
 -- the history begins with what was seen
 pub seen-prefix : (seen : List Row) (postings : List (List Row)) → IsSeen seen postings

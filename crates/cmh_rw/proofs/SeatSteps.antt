@@ -15,16 +15,16 @@ use Rattle.cmh_rw.specs.declared.row.Row.{Row}
 use Rattle.cmh_rw.specs.declared.view.LockView.{LockView}
 use Rattle.cmh_rw.specs.declared.view.View.{View}
 use Rattle.cmh_rw.specs.Machine.{total, writes}
-use Rattle.cmh_rw.specs.History.{weigh, IsSeen, IsTrueOf}
+use Rattle.cmh_rw.specs.History.{IsSeen, IsTrueOf}
 use Rattle.cmh_rw.specs.View.{opening_lock, opening_view, less_share, less_one, new_lock, newcomer, both_shares, joining, compared, spent_lock, spent_view}
 use Rattle.cmh_rw.specs.Rule.{lock_of, lock_moment, state_of, share_of, HasLockShare, LockRule, SeatRule, WordsRule}
 use Rattle.cmh_rw.specs.Steps.{TableSeat, Compared}
 use Rattle.cmh_rw.proofs.Folds.{true-left}
-use Rattle.cmh_rw.proofs.Lawful.{total-set, total-snoc, total-in}
+use Rattle.cmh_rw.proofs.Lawful.{total-set, total-append, total-snoc, total-in}
 use Rattle.cmh_rw.proofs.Lock.{split_kept, join_kept}
 use Rattle.cmh_rw.proofs.LoadSteps.{history-true}
 use Rattle.cmh_rw.proofs.Moments.{away_writing, away_spent, no_true, not_held, idle_still, state_at, away_graph, reviewed}
-use Rattle.cmh_rw.proofs.Postings.{weigh-append, none-seen, seen-prefix, seen_compare}
+use Rattle.cmh_rw.proofs.Postings.{none-seen, seen-prefix, seen_compare}
 
 -- a view that knows nothing, away or spent
 blank : (postings : List (List Row)) (staged told : List Row) (v : View) → v.lock.state ≢ Writing → v.staged ≡ []
@@ -133,8 +133,8 @@ splits key id v away more s b at =
           (blank b.postings b.staged b.told (newcomer v) away_writing refl refl refl refl refl k.seen))
           (at_snoc (set s.views id (less_one v)) (newcomer v) u i g);
       owners =
-          λ h. let sum = total-set (λ (u : View). weigh h u.mine) s.views id v (less_one v) at in
-          let all = total-snoc (λ (u : View). weigh h u.mine) (set s.views id (less_one v)) (newcomer v) in
+          λ h. let sum = total-set (λ (u : View). total h u.mine) s.views id v (less_one v) at in
+          let all = total-snoc (λ (u : View). total h u.mine) (set s.views id (less_one v)) (newcomer v) in
           omega (arith, b.owners h);
     }
 
@@ -198,9 +198,9 @@ joins key id v other w away away' s b at apart there =
           (at_set s.views id i both u t.1))
           (at_set mid other i spent_view u g);
       owners =
-          λ h. let sum = total-set (λ (u : View). weigh h u.mine) s.views id v both at in
-          let all = total-set (λ (u : View). weigh h u.mine) mid other w spent_view there in
-          let mine = weigh-append h v.mine w.mine in omega (arith, b.owners h);
+          λ h. let sum = total-set (λ (u : View). total h u.mine) s.views id v both at in
+          let all = total-set (λ (u : View). total h u.mine) mid other w spent_view there in
+          let mine = total-append h v.mine w.mine in omega (arith, b.owners h);
     }
 
 -- a load after a join: one of the two histories begins the other, and the longer is kept

@@ -14,7 +14,8 @@ use Rattle.cmh_rw.specs.declared.TheConstants.{FIRST_ROW, FIRST_VERDICT}
 use Rattle.cmh_rw.specs.declared.machine.SeatState.TheVariants.{Writing}
 use Rattle.cmh_rw.specs.declared.row.Row.{Row}
 use Rattle.cmh_rw.specs.declared.view.View.{View}
-use Rattle.cmh_rw.specs.History.{laid, weigh, row_code, verdict_code, fold_at, IsOpen, IsTrueOf}
+use Rattle.cmh_rw.specs.History.{laid, row_code, verdict_code, fold_at, IsOpen, IsTrueOf}
+use Rattle.cmh_rw.specs.Machine.{total}
 use Rattle.cmh_rw.specs.View.{CanStage, with_row, with_told, mark}
 use Rattle.cmh_rw.specs.Rule.{lock_of, SeatRule, WordsRule}
 use Rattle.cmh_rw.specs.Steps.{TableSeat, Staged, Told}
@@ -104,7 +105,7 @@ stages key slots id n r me writing loaded can is low s b _ at _ =
             (λ writes. writes-Writing u.lock.state writes (beside_writer key s b id i v u at writing t.1 t.0).0)
             (b.each i u t.1))
             (at_set s.views id i w u e);
-        owners = λ h. let sum = total-set (λ (u : View). weigh h u.mine) s.views id v w at in omega (arith, b.owners h);
+        owners = λ h. let sum = total-set (λ (u : View). total h u.mine) s.views id v w at in omega (arith, b.owners h);
       },
       ap (λ q. (with_row v q, me.1)) (sym (row_code_law r)),
     )
@@ -171,7 +172,7 @@ tells key slots id p says me writing staged_says low s b _ at _ =
             (λ writes. writes-Writing u.lock.state writes (beside_writer key s b id i v u at writing t.1 t.0).0)
             (b.each i u t.1))
             (at_set s.views id i w u e);
-        owners = λ h. let sum = total-set (λ (u : View). weigh h u.mine) s.views id v w at in omega (arith, b.owners h);
+        owners = λ h. let sum = total-set (λ (u : View). total h u.mine) s.views id v w at in omega (arith, b.owners h);
       },
       ap (λ r. (with_told v r, me.1)) (sym (mark_of p says)),
     )

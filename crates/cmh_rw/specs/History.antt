@@ -99,8 +99,3 @@ IsSeen seen postings = (before : List (List Row)) × (after : List (List Row))
 -- each verdict of the staged rows is told
 abbrev pub AreTold : List Row → List Row → Type 0
 AreTold staged told = (p : ℕ) (v : Verdict) → fold_at staged p ≡ Some v → fold_at told p ≡ Some v
-
--- the weights of the postings, added up
-abbrev pub weigh : (List Row → ℕ) → List (List Row) → ℕ
-weigh h [] = 0
-weigh h (x ∷ xs) = h x + weigh h xs

@@ -12,7 +12,7 @@ use Rattle.cmh_rw.specs.declared.row.Row.{Row}
 use Rattle.cmh_rw.specs.declared.view.LockView.{LockView}
 use Rattle.cmh_rw.specs.declared.view.View.{View}
 use Rattle.cmh_rw.specs.Machine.{world, total, writes, IsLawful}
-use Rattle.cmh_rw.specs.History.{row_code, verdict_code, fold_at, laid, weigh, IsOpen, IsPosting, ArePostings, IsTrueOf, IsSeen}
+use Rattle.cmh_rw.specs.History.{row_code, verdict_code, fold_at, laid, IsOpen, IsPosting, ArePostings, IsTrueOf, IsSeen}
 use Rattle.cmh_rw.specs.View.{IsHeld}
 
 -- the words, and the views of all seats, between two steps
@@ -98,4 +98,4 @@ pub record WordsRule (key : Graph) (s : Moment) : Type 0 where
   pub idle : total writes (map state_of (map lock_of s.views)) ≡ 0 → (staged ≡ []) × (told ≡ [])
   pub each : (i : ℕ) (v : View) → get_elem? s.views i ≡ some v → SeatRule postings staged told v
   -- each posting stands in the `mine` of one view, and nothing else does, however postings weigh
-  pub owners : (h : List Row → ℕ) → total (λ v. weigh h v.mine) s.views ≡ weigh h postings
+  pub owners : (h : List Row → ℕ) → total (λ v. total h v.mine) s.views ≡ total h postings

@@ -12,7 +12,8 @@ use Rattle.cmh_rw.specs.declared.view.View.{View}
 use Rattle.cmh_rw.specs.declared.seat.RwWords.{RwWords}
 use Rattle.cmh_rw.specs.declared.seat.RwSeat.{RwSeat}
 use Rattle.cmh_rw.specs.declared.seat.Closed.{Closed}
-use Rattle.cmh_rw.specs.History.{row_code, verdict_code, fold_at, laid, weigh, ArePostings, IsTrueOf, IsSeen}
+use Rattle.cmh_rw.specs.History.{row_code, verdict_code, fold_at, laid, ArePostings, IsTrueOf, IsSeen}
+use Rattle.cmh_rw.specs.Machine.{total}
 use Rattle.cmh_rw.specs.Rule.{Moment, WordsRule}
 
 -- what the seat knows
@@ -50,7 +51,7 @@ pub record IsWhole (v : View) (postings : List (List Row)) (words : List ℕ) : 
       slice_index words (FIRST_ROW + n) ≡ slice_index (map row_code (laid postings)) n
   pub verdicts : (p : ℕ) → p < MAX_PROCESSES →
       slice_index words (FIRST_VERDICT + p) ≡ verdict_code (fold_at (laid postings) p)
-  pub mine : (h : List Row → ℕ) → weigh h v.mine ≡ weigh h postings
+  pub mine : (h : List Row → ℕ) → total h v.mine ≡ total h postings
 
 -- The history that the words show: how many rows, and which. It is true for the graph and begins
 -- with what the seat had seen.

@@ -8,7 +8,7 @@ use Rattle.cmh_graph.proofs.Verdicts.{filter_contains}
 use Rattle.cmh_rw.specs.Machine.{total}
 use Rattle.cmh_work.specs.Tickets.{sum_below}
 use Rattle.cmh_work.specs.Cutting.{bounds_of, chunks_of, ends_from, gathered, ChunksLaw}
-use Rattle.cmh_work.proofs.TicketsLemmas.{total-append}
+use Rattle.cmh_rw.proofs.Lawful.{total-append}
 
 -- what is gathered by two lists of numbers
 pub gathered-append : (cs : List (List ℕ)) (a b : List ℕ) → gathered cs (a ++ b) ≡ gathered cs a ++ gathered cs b

@@ -14,7 +14,7 @@ use Rattle.cmh_graph.proofs.Groups.{in_own_core, leader_in_core, leader_least, s
 use Rattle.cmh_graph.proofs.IndexLists.{by_index, by_index_agree, length-by_index}
 use Rattle.cmh_graph.proofs.PositionLemmas.{taken_last, taken_more, taken_stays}
 use Rattle.cmh_graph.proofs.Verdicts.{verdict_listed}
-use Rattle.cmh_work.specs.Leaders.{group_leader, leader_below, is_deadlocked_at, leader_at, says_deadlocked, LeadsEach}
+use Rattle.cmh_work.specs.Leaders.{group_leader, is_deadlocked_at, leader_at, says_deadlocked, LeadsEach}
 use Rattle.cmh_work.proofs.Cores.{core_back, core_deadlocked, deadlocked_within}
 
 -- a deadlocked process's leader is deadlocked, and leads itself
@@ -24,6 +24,10 @@ leader_of_leader g p w e =
     let i = deadlocked_within g p w e in
     let c = leader_in_core g p w i in
     (core_deadlocked g p (leader_of g p) w e c, sym (same_leader g p (leader_of g p) w i c))
+
+-- the leader of p's group, if p is deadlocked and the leader is below the bound
+unfoldable pub leader_below : Graph → ℕ → ℕ → Option ℕ
+leader_below g bound p = cond (is_deadlocked g p && ltb (leader_of g p) bound) (Some (leader_of g p)) None
 
 -- a bound raised by one lets in the bound alone
 below_by : (dead : Bool) (leader bound : ℕ) → (dead ≡ true → leader ≢ bound)

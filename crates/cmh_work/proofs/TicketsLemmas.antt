@@ -1,5 +1,5 @@
 -- Each step of the tickets keeps their rule.
-use Rattle.std.proofs.Common.{◌≡◌, ◌≢◌, ℕ, zero, suc, ◌+◌, ◌-◌, ◌%◌, ◌^◌, ◌<◌, ◌≤◌, Bool, true, false, ltb, ◌||◌, List, [], ◌∷◌, ◌++◌, length, get_or, set, sym, refl, ap, ◌∙◌, subst, arith, length-set, get_or-set_same, ⊎_elim}
+use Rattle.std.proofs.Common.{◌≡◌, ◌≢◌, ℕ, zero, suc, ◌+◌, ◌-◌, ◌%◌, ◌^◌, ◌<◌, ◌≤◌, Bool, true, false, ltb, ◌||◌, List, [], ◌∷◌, length, get_or, set, sym, refl, ap, ◌∙◌, subst, arith, length-set, get_or-set_same, ⊎_elim}
 use Rattle.std.proofs.lemmas.Bool.{cond_both, ltb-true, ltb-false}
 use native.Mathlib.Numerals.{unary_clauses}
 use mathlib.Core.Option.{none, some, some-injective, some-ne-none}
@@ -10,7 +10,7 @@ use Rattle.atomic_table.proofs.Lists.{at_set, at_snoc, set_again}
 use Rattle.cmh_work.specs.declared.ticket_rule.TicketView.{TicketView}
 use Rattle.cmh_rw.proofs.Folds.{or_cases}
 use Rattle.cmh_rw.specs.Machine.{total}
-use Rattle.cmh_rw.proofs.Lawful.{total-set, total-in, total-snoc}
+use Rattle.cmh_rw.proofs.Lawful.{total-set, total-in, total-append, total-snoc}
 use Rattle.cmh_work.specs.Tickets.{sum_below, share_if, done_share, ticket_share, ticket_opening_view, ticket_less_one, ticket_newcomer, joined_views, spent, with_drawn, with_done, IsTicketSeat, Dealt, KnowsAll, after_draw, Drew, Measured}
 
 -- a state of the table
@@ -20,11 +20,6 @@ St = State (Unit {0}) TicketView
 -- a seat, at the table
 abbrev Sat : Type 0
 Sat = Me (Unit {0}) TicketView
-
--- the total of two lists is the sum of both
-pub total-append : {A : Type 0} (f : A → ℕ) (l m : List A) → total f (l ++ m) ≡ total f l + total f m
-total-append f [] m = omega arith
-total-append f (x ∷ xs) m = omega (arith, total-append f xs m)
 
 -- what is set stands there
 pub set_at : {A : Type 0} (l : List A) (i : ℕ) (a b : A) → get_elem? l i ≡ some a → get_elem? (set l i b) i ≡ some b

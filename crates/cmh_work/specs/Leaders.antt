@@ -1,5 +1,5 @@
 -- Who leads the group of a process, while leaders are found by rising index.
-use Rattle.std.specs.Prelude.{◌≡◌, ℕ, Bool, true, false, ◌&&◌, nat_lt, List, length, slice_index_or, if◌then◌else◌, Contains, Option, Some, None}
+use Rattle.std.specs.Prelude.{◌≡◌, ℕ, Bool, true, false, List, length, slice_index_or, if◌then◌else◌, Contains, Option, Some, None}
 use Rattle.cmh_graph.specs.declared.verdict.Verdict.{Verdict}
 use Rattle.cmh_graph.specs.declared.verdict.Verdict.TheVariants.{Deadlocked, Free}
 use Rattle.cmh_graph.specs.Graph.{Graph}
@@ -9,11 +9,6 @@ use Rattle.cmh_graph.specs.Core.{leader_of}
 -- the leader of p's group, if p is deadlocked
 unfoldable pub group_leader : Graph → ℕ → Option ℕ
 group_leader g p = if is_deadlocked g p then Some (leader_of g p) else None
-
--- the same, if the leader is below the bound
-unfoldable pub leader_below : Graph → ℕ → ℕ → Option ℕ
-leader_below g bound p =
-    if is_deadlocked g p && nat_lt (leader_of g p) bound then Some (leader_of g p) else None
 
 -- the verdict is that the process is deadlocked
 abbrev pub says_deadlocked : Verdict → Bool
