@@ -7,7 +7,7 @@ use Rattle.std.proofs.lemmas.Map.Keys.{IsDistinct-tail}
 use Rattle.cmh_graph.specs.declared.verdict.Verdict.{Verdict}
 use Rattle.cmh_graph.specs.Graph.{Graph, is_idle}
 use Rattle.cmh_graph.specs.Verdict.{verdict}
-use Rattle.cmh_graph.proofs.PathLemmas.{cons_contains, contains_cons}
+use Rattle.cmh_graph.proofs.PathLemmas.{cons_contains, contains_cons, contains_first}
 use Rattle.cmh_run.proofs.Configurations.{by_test}
 use Rattle.cmh_rw.specs.declared.row.Row.{Row}
 use Rattle.cmh_rw.specs.History.{fold_at, IsOpen, EndsLast, IsPosting, IsHistory, IsTrueOf, AreTold}
@@ -17,7 +17,8 @@ use Rattle.cmh_board.specs.Adding.{marks, CanPost}
 use Rattle.cmh_rw.proofs.Folds.{fold-skip, true-snoc}
 use Rattle.cmh_rw.proofs.Postings.{laid-snoc, whole-snoc}
 use Rattle.cmh_board.proofs.Histories.{present-append, verdict_in, times-present}
-use Rattle.cmh_board.proofs.Lists.{contains_first, first_once, contains_filter, filter_passed, filter_keeps, distinct-filter}
+use Rattle.cmh_board.proofs.Lists.{first_once, distinct-filter}
+use Rattle.cmh_graph.proofs.Verdicts.{contains_filter, filter_contains}
 
 -- ---- rows of processes
 
@@ -156,10 +157,10 @@ fresh_in : (g : Graph) (v : Verdict) (ps : List ℕ) (xs : List Row) → CanPost
     → (p : ℕ) → Contains (unposted xs ps) p → Fresh g v xs p
 fresh_in g v ps xs can p c =
     let f : ℕ → Bool = λ q. is_none (fold_at xs q) in
-    let there = contains_filter f ps p c in record {
-      idle = can.idle p there;
-      says = can.truth p there;
-      none = none_is (fold_at xs p) (filter_passed f ps p c);
+    let kept = filter_contains f ps p c in record {
+      idle = can.idle p kept.0;
+      says = can.truth p kept.0;
+      none = none_is (fold_at xs p) (kept.1);
     }
 
 -- the new rows of a posting behind a true history leave it true
@@ -179,7 +180,7 @@ said_behind g v ps xs t can p c =
     let rows = rows_of v (unposted xs ps) in
     by_test (f p) (λ b. fold_at (xs ++ rows) p ≡ Some v)
     (λ yes. fold-skip xs rows p (none_is (fold_at xs p) yes)
-    ∙ rows_of-said v (unposted xs ps) p (filter_keeps f ps p c yes))
+    ∙ rows_of-said v (unposted xs ps) p (contains_filter f ps p c yes))
     (λ no. present-append xs rows p v
     (agrees g xs p v t (can.truth p c) (fold_at xs p) refl no))
 

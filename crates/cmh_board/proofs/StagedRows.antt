@@ -18,8 +18,8 @@ use Rattle.cmh_rw.specs.View.{row, mark, AfterLoad, CanStage, with_row, with_tol
 use Rattle.cmh_rw.proofs.Folds.{fold-skip, fold-keeps}
 use Rattle.cmh_board.specs.Board.{is_empty, unposted}
 use Rattle.cmh_board.specs.Adding.{CanPost, OnlyLoads, marks}
-use Rattle.cmh_board.proofs.Lists.{contains_filter}
 use Rattle.cmh_board.proofs.PostingRows.{rows_so_far, absent-marks, marks-said, open-marks, rows_so_far-more, marks-more, none_is}
+use Rattle.cmh_graph.proofs.Verdicts.{filter_contains}
 
 -- ---- loads in a hold
 
@@ -101,7 +101,7 @@ not_before : (rows : List Row) (ps : List ℕ) (i : ℕ) → IsDistinct eqb ps �
     → Contains (done rows ps i) (get_or ps i 0) → ⊥
 not_before rows ps i once l c =
     let p = get_or ps i 0 in
-    let there = contains_filter (is_new rows) (take i ps) p c in
+    let there = (filter_contains (is_new rows) (take i ps) p c).0 in
     let few = length-take-le i ps (omega arith) in
     let k = there.0 in
     let low : k < i = (let b = there.1 in omega arith) in

@@ -115,7 +115,7 @@ bad_processes view d vs e =
     (λ k z h. ap (λ p. not (is_process p)) (or_seen view vs (processes d) k z null e h))
 
 -- there are as many names as processes
-length-names : (d : Data) → length (names d) ≡ length (processes d)
+pub length-names : (d : Data) → length (names d) ≡ length (processes d)
 length-names d = length-map (entries d) (λ e. e.name) ∙ length-map (processes d) _
 
 -- the first repeated process is the first repeat of the names

@@ -25,6 +25,7 @@ use Rattle.cmh_dump.specs.FirstFault.{IsOfTree, HasTreeFault, AreNone, HasDepend
 use Rattle.cmh_dump.proofs.Places.{place_within, same_from_places, differs}
 use Rattle.cmh_dump.proofs.Table.{none_holds}
 use Rattle.cmh_dump.proofs.FirstFaults.{bytes_have, graph_told}
+use Rattle.cmh_dump.proofs.Searches.{length-names}
 
 -- no fault of the tree holds
 abbrev pub IsClean : Data → Type 0
@@ -43,10 +44,6 @@ dependent d i j = get_or (entry d i).dependents j []
 -- the graph has as many processes as the tree
 process_count_is : (d : Data) → graph.process_count (tree_graph d) ≡ length (processes d)
 process_count_is d = length-map (entries d) (process d) ∙ length-map (processes d) entry_of
-
--- and as many names
-name_count_is : (d : Data) → length (names d) ≡ length (processes d)
-name_count_is d = length-map (entries d) (λ e. e.name) ∙ length-map (processes d) entry_of
 
 -- the dependents of a process are the places of those that its entry names, past the end too
 dependents_by : (d : Data) (ps : List Data) (i : ℕ)
@@ -83,7 +80,7 @@ within d clean i j h =
     let e = entry_is d i j h in
     let l : place_of (names d) (dependent d i j) < length (names d) =
     place_within (names d) (dependent d i j) (known d clean i j e.0) in
-    omega (arith, e.1, l, name_count_is d, process_count_is d)
+    omega (arith, e.1, l, length-names d, process_count_is d)
 
 -- and the dependents of a process differ
 distinct : (d : Data) → IsClean d → (i j k : ℕ) → graph.HasDependentAt (tree_graph d) i j → k < j
@@ -162,7 +159,7 @@ known_in_pair d clean i k h l =
     and_at (list_all (is_among (names d))) (is_among (names d)) refl (λ _ _. refl) (texts_of t) k []
     (omega (arith, l, two, size)) all in
     let place = place_within (names d) (get_or (texts_of t) k []) one in
-    omega (arith, place, name_count_is d, process_count_is d)
+    omega (arith, place, length-names d, process_count_is d)
 
 -- a message of the graph is the one that the tree tells
 transit_is : (d : Data) (i : ℕ) → i < length (tree_graph d).in_transit

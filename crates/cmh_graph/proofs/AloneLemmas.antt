@@ -14,6 +14,7 @@ use Rattle.cmh_graph.proofs.Groups.{in_own_core, reaches_on, rising_law}
 use Rattle.cmh_graph.proofs.IndexLists.{by_index, length-by_index}
 use Rattle.cmh_graph.proofs.PathLemmas.{cons_contains, depends_within}
 use Rattle.cmh_graph.proofs.LevelSearch.{marked_within}
+use Rattle.cmh_graph.proofs.PositionLemmas.{mark_keeps}
 
 -- a rising list that has p, and nothing else, is p alone
 only_member : (xs : List ℕ) (p : ℕ) → AllPairs (λ a b. a < b) xs → Contains xs p → ((q : ℕ) → Contains xs q → q ≡ p)
@@ -113,12 +114,6 @@ passed_more g marks passed p count h i on = record {
   ];
 }
 
--- what is marked stays marked
-mark_stays : (marks : List Bool) (p q : ℕ) → p < length marks → is_marked marks q ≡ true
-    → is_marked (set marks p true) q ≡ true
-mark_stays marks p q i m = elim (cases_eq q p) [
-  | inl same ↦ ap (is_marked (set marks p true)) same ∙ get_or-set_same marks p true false i
-  | inr other ↦ get_or-set_other marks p q true false other ∙ m
 ]
 
 -- and what was passed stays passed
@@ -126,7 +121,7 @@ pub passed_stays : (g : Graph) (marks : List Bool) (passed : List ℕ) (p : ℕ)
     → ArePassed g marks passed → ArePassed g (set marks p true) passed
 passed_stays g marks passed p i h = record {
   size = h.size;
-  marked = λ q k l. mark_stays marks p (get_or (dependents_of g q) k 0) i (h.marked q k l);
+  marked = λ q k l. mark_keeps marks p (get_or (dependents_of g q) k 0) i (h.marked q k l);
 }
 
 -- a process whose dependents are all passed is marked

@@ -16,6 +16,10 @@ pub cons_contains : {X : Type 0} (x : X) (xs : List X) (y : X) → Contains (x �
 cons_contains x xs y (zero, l, e) = inl e
 cons_contains x xs y (suc k, l, e) = inr (k, omega arith, e)
 
+-- a list has its head
+pub contains_first : {X : Type 0} (x : X) (xs : List X) → Contains (x ∷ xs) x
+contains_first x xs = (zero, omega arith, refl)
+
 -- what the rest has, the list has
 pub contains_cons : {X : Type 0} (x : X) (xs : List X) (y : X) → Contains xs y → Contains (x ∷ xs) y
 contains_cons x xs y (k, l, e) = (suc k, omega arith, e)

@@ -44,7 +44,7 @@ filtered_more t xs i b l e =
 -- ---- marks
 
 -- a mark makes one unmarked place fewer
-count_marked : (marks : List Bool) (p : ℕ) → p < length marks → is_marked marks p ≡ false
+pub count_marked : (marks : List Bool) (p : ℕ) → p < length marks → is_marked marks p ≡ false
     → unmarked_count (set marks p true) + 1 ≡ unmarked_count marks
 count_marked marks p l e =
     let change = sum_by-set (λ mark. cond {A = ℕ} (not mark) 1 0) marks p true false l in
@@ -52,7 +52,7 @@ count_marked marks p l e =
     omega (arith, change, was)
 
 -- and keeps the others
-mark_keeps : (marks : List Bool) (x p : ℕ) → x < length marks → is_marked marks p ≡ true
+pub mark_keeps : (marks : List Bool) (x p : ℕ) → x < length marks → is_marked marks p ≡ true
     → is_marked (set marks x true) p ≡ true
 mark_keeps marks x p l e = elim (cases_eq p x) [
   | inl h ↦ ap (is_marked (set marks x true)) h ∙ get_or-set_same marks x true false l

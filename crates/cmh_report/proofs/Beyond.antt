@@ -12,27 +12,23 @@ use Rattle.cmh_graph.specs.Search.{is_marked}
 use Rattle.cmh_graph.proofs.Cores.{core_law}
 use Rattle.cmh_graph.proofs.Groups.{head_below, in_own_core, reaches_on, rest_law, rising_law, tail_rises}
 use Rattle.cmh_graph.proofs.IndexLists.{by_index}
-use Rattle.cmh_graph.proofs.PathLemmas.{cons_contains, contains_cons, contains_index, reaches_then, then_reaches}
+use Rattle.cmh_graph.proofs.PathLemmas.{cons_contains, contains_cons, contains_index, reaches_then, then_reaches, contains_first}
 use Rattle.cmh_graph.proofs.Verdicts.{contains_filter, filter_contains, reached_within}
 use Rattle.cmh_report.specs.Known.{HasOneMore, IsKnownOf}
 use Rattle.cmh_report.specs.declared.known.Known.{Known}
 
 -- ---- rising lists
 
--- the first of a list is in it
-first_there : (x : ℕ) (xs : List ℕ) → Contains (x ∷ xs) x
-first_there x xs = (0, omega arith, refl)
-
 -- rising lists that have the same members are one
 same_rising : (xs ys : List ℕ) → AllPairs (λ a b. a < b) xs → AllPairs (λ a b. a < b) ys
     → ((z : ℕ) → Contains xs z → Contains ys z) → ((z : ℕ) → Contains ys z → Contains xs z) → xs ≡ ys
 same_rising [] [] rx ry to back = refl
-same_rising [] (y ∷ ys) rx ry to back = absurd (omega (arith, (back y (first_there y ys)).1))
-same_rising (x ∷ xs) [] rx ry to back = absurd (omega (arith, (to x (first_there x xs)).1))
+same_rising [] (y ∷ ys) rx ry to back = absurd (omega (arith, (back y (contains_first y ys)).1))
+same_rising (x ∷ xs) [] rx ry to back = absurd (omega (arith, (to x (contains_first x xs)).1))
 same_rising (x ∷ xs) (y ∷ ys) rx ry to back =
-    let first : x ≡ y = elim (cons_contains y ys x (to x (first_there x xs))) [
+    let first : x ≡ y = elim (cons_contains y ys x (to x (contains_first x xs))) [
       | inl same ↦ sym same
-      | inr d ↦ elim (cons_contains x xs y (back y (first_there y ys))) [
+      | inr d ↦ elim (cons_contains x xs y (back y (contains_first y ys))) [
         | inl same ↦ same
         | inr e ↦ absurd (omega (arith, head_below y ys ry x d, head_below x xs rx y e))
       ]
@@ -129,7 +125,7 @@ core_alone g p l w i is =
     same_rising (core_of g p) (p ∷ []) (AllPairs-from_increasing (core_of g p) (rising_law g p).1)
     (λ j k d low high. absurd (omega (arith, low, high)))
     (λ q c. elim (cases_eq q p) [
-      | inl same ↦ subst (Contains (p ∷ [])) (sym same) (first_there p [])
+      | inl same ↦ subst (Contains (p ∷ [])) (sym same) (contains_first p [])
       | inr other ↦
           let both = (core_law g p q w i).0 c in
           absurd (is.apart (reaches_on g l q p (is.others q both.0 other) both.1))
@@ -168,7 +164,7 @@ reach_beyond g p l w i j is low =
       | inr d ↦ reached_listed g p q w i (reaches_on g p l q is.beyond (listed_reached g l q d))
     ])
     (λ q c. elim (cases_eq q p) [
-      | inl same ↦ subst (Contains (p ∷ reach_of g l)) (sym same) (first_there p (reach_of g l))
+      | inl same ↦ subst (Contains (p ∷ reach_of g l)) (sym same) (contains_first p (reach_of g l))
       | inr other ↦
           contains_cons p (reach_of g l) q
           (reached_listed g l q w j (is.others q (listed_reached g p q c) other))

@@ -4,15 +4,16 @@ use Rattle.std.specs.Prelude.{All, nat_eq}
 use Rattle.std.specs.Set.{is_member, distinct_count}
 use Rattle.std.specs.List.{IsDistinct, list_any}
 use Rattle.std.specs.Cmp.{nat_eq_equiv}
-use Rattle.std.proofs.lemmas.Bool.{cases_eq}
+use Rattle.std.proofs.lemmas.Bool.{cases_eq, or_right}
 use Rattle.std.proofs.lemmas.List.{get_or-set_other, get_or-set_same, length-replicate, length-set, map-append, take-append-drop, take_more}
 use Rattle.std.proofs.lemmas.List.Elements.{All-head, All-tail}
 use Rattle.std.proofs.lemmas.List.Folds.{list_any-append}
-use Rattle.std.proofs.lemmas.List.Sums.{sum_by-cons, sum_by-set}
+use Rattle.std.proofs.lemmas.List.Sums.{sum_by-cons}
 use Rattle.std.proofs.lemmas.Map.Keys.{IsDistinct-push}
 use Rattle.std.proofs.lemmas.Map.Made.{length-from_keys}
 use Rattle.cmh_graph.specs.Search.{is_marked, unmarked_count}
 use Rattle.cmh_graph.proofs.Groups.{same_test}
+use Rattle.cmh_graph.proofs.PositionLemmas.{count_marked}
 
 -- The sites are those of so many processes, each once, and are marked alone.
 pub record AreSeen (bound : ℕ) (seen : List Bool) (sites all : List ℕ) : Type 0 where
@@ -33,14 +34,6 @@ none_counted : (n : ℕ) → unmarked_count (replicate n false) ≡ n
 none_counted zero = refl
 none_counted (suc n) =
     sum_by-cons (λ mark. cond {A = ℕ} (not mark) 1 0) false (replicate n false) ∙ omega (arith, none_counted n)
-
--- a mark more is an unmarked place fewer
-mark_counted : (marks : List Bool) (p : ℕ) → p < length marks → is_marked marks p ≡ false
-    → unmarked_count (set marks p true) + 1 ≡ unmarked_count marks
-mark_counted marks p l e =
-    let change = sum_by-set (λ mark. cond {A = ℕ} (not mark) 1 0) marks p true false l in
-    let was = ap (λ b. cond {A = ℕ} (not b) 1 0) e in
-    omega (arith, change, was)
 
 -- where no place is unmarked each is marked
 all_marked : (marks : List Bool) (s : ℕ) → unmarked_count marks ≡ 0 → s < length marks → is_marked marks s ≡ true
@@ -78,11 +71,6 @@ or_known : (a b : Bool) → (b ≡ true → a ≡ true) → a ≡ (a || b)
 or_known true b h = refl
 or_known false true h = h refl
 or_known false false h = refl
-
--- and what is true of the second part is true of both
-or_right : (a b : Bool) → b ≡ true → (a || b) ≡ true
-or_right true b e = refl
-or_right false b e = e
 
 -- what isn't true is false
 other_false : (b : Bool) → (b ≡ true → ⊥) → b ≡ false
@@ -124,7 +112,7 @@ seen_more bound seen sites all x h l m = record {
   ];
   count = omega (
     arith,
-    mark_counted seen x (omega (arith, l, h.size)) m,
+    count_marked seen x (omega (arith, l, h.size)) m,
     length-append sites (x ∷ []),
     h.count,
   );

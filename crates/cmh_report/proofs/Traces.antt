@@ -16,12 +16,12 @@ use Rattle.cmh_process.specs.declared.process.Action.TheVariants.{Nothing, Engag
 use Rattle.cmh_process.specs.Process.{start_action, engages, query_action, reply_action}
 use Rattle.cmh_run.specs.declared.delivery.Delivery.{Delivery}
 use Rattle.cmh_run.specs.declared.delivery.Ending.{Ending}
-use Rattle.cmh_run.specs.declared.delivery.Ending.TheVariants.{Declared, AtRest, CutFree}
+use Rattle.cmh_run.specs.declared.delivery.Ending.TheVariants.{CutFree}
 use Rattle.cmh_run.specs.Choices.{chosen_place, HasNoHints}
 use Rattle.cmh_run.specs.Config.{Config, proc_at, ended_by, nothing_yet, start, delivered, received, without, hinted, answered}
 use Rattle.cmh_run.specs.Legal.{Going, Rule, begun, going_from, ready, restart, restarted_at, after, DeliveriesLead, EndsAs, IsRun}
 use Rattle.cmh_run.specs.Run.{Run, IsRunOf}
-use Rattle.cmh_run.proofs.Determinism.{runs_are_deterministic}
+use Rattle.cmh_run.proofs.Determinism.{runs_are_deterministic, one_ending}
 use Rattle.cmh_run.proofs.LiveInvariant.{Fine}
 use Rattle.cmh_run.proofs.Configurations.{by_test, Stands, stepped, first_start, ready_stands, status_none}
 use Rattle.cmh_run.proofs.Tokens.{each_at}
@@ -174,18 +174,6 @@ named_once g name p q a b =
     (cases_lt p q))
     (cases_eq p q)
 
--- a configuration is the end of runs with one ending
-ends_once : (c : Config) (a b : Ending) → EndsAs c a → EndsAs c b → a ≡ b
-ends_once c Declared Declared e f = refl
-ends_once c Declared AtRest e f = absurd (let no : None ≡ Some Declared = sym f.0 ∙ e in cc)
-ends_once c Declared (CutFree k) e f = let same : Some Declared ≡ Some (CutFree k) = sym e ∙ f in cc
-ends_once c AtRest Declared e f = absurd (let no : None ≡ Some Declared = sym e.0 ∙ f in cc)
-ends_once c AtRest AtRest e f = refl
-ends_once c AtRest (CutFree k) e f = absurd (let no : None ≡ Some (CutFree k) = sym e.0 ∙ f in cc)
-ends_once c (CutFree k) Declared e f = let same : Some (CutFree k) ≡ Some Declared = sym e ∙ f in cc
-ends_once c (CutFree k) AtRest e f = absurd (let no : None ≡ Some (CutFree k) = sym f.0 ∙ e in cc)
-ends_once c (CutFree k) (CutFree j) e f = let same : Some (CutFree k) ≡ Some (CutFree j) = sym e ∙ f in cc
-
 -- the text goes by who ran, what was delivered and how the run ended
 text_by_parts : (g : Graph) (r t : Run) → r.initiator ≡ t.initiator → r.log ≡ t.log → r.ending ≡ t.ending
     → trace_text g r ≡ trace_text g t
@@ -204,6 +192,6 @@ one_trace name choices g text other ending last a b =
     let one = runs_are_deterministic choices g r.initiator [] r.log t.log r.ending t.ending a.plain.legal.end
         b.plain.legal.end
     a.plain.legal.legal its a.plain.unhinted b.plain.unhinted in
-    let ended : r.ending ≡ t.ending = ends_once b.plain.legal.end.config r.ending t.ending
+    let ended : r.ending ≡ t.ending = one_ending b.plain.legal.end.config r.ending t.ending
     (subst (λ (s : Going). EndsAs s.config r.ending) one.1 a.plain.legal.legal.ends) b.plain.legal.legal.ends in
     (a.lines ∙ text_by_parts g r t same one.0 ended ∙ sym b.lines, a.ends ∙ ended ∙ sym b.ends)

@@ -1,6 +1,6 @@
 -- What an auditor keeps agrees with the run, from delivery to delivery.
 use Rattle.std.proofs.Common.{◌≡◌, ℕ, ◌+◌, Bool, true, false, not, ◌&&◌, ◌||◌, cond, eqb, List, [], ◌∷◌, ◌++◌, map, remove, replicate, length, slice_get, Option, Some, None, refl, sym, ◌∙◌, ap, subst, inl, inr, ◌⊎◌, ⊎_elim, append-nil}
-use Rattle.std.proofs.lemmas.Bool.{eqb-true, eq-eqb, cases_eq, true≢false, and_parts, and_from}
+use Rattle.std.proofs.lemmas.Bool.{eqb-true, eq-eqb, cases_eq, true≢false, and_parts, and_from, or_right}
 use Rattle.std.proofs.lemmas.Option.{none-some, same_Some}
 use Rattle.std.proofs.lemmas.List.{length-replicate}
 use Rattle.cmh_process.specs.declared.message.Kind.{Kind}
@@ -277,10 +277,6 @@ module _ (g : Graph) (i : ℕ) (log : List Delivery) (s : Going) (a b : Audit) (
     where
       network : b.network ≡ with_bag s.config b.network.bag
       network = rw moved (ap (λ (c : Config). with_bag c (remove a.network.bag y)) h.network)
-
-      or_right : (p q : Bool) → q ≡ true → (p || q) ≡ true
-      or_right true q e = refl
-      or_right false q e = e
 
       by_place : (x : Message) (n : IsUndelivered a.network x) → (n.0 ≡ y) ⊎ (n.0 ≡ y → ⊥)
           → (is_waiting b.undelivered x ≡ true) ⊎ IsUndelivered b.network x

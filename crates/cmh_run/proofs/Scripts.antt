@@ -29,15 +29,6 @@ told_true g (e ∷ entries) ask p h =
 
 -- ---- first places
 
--- where it holds at no place below i, the places where it holds are i or more
-none_below : (Holds : ℕ → Type 0) (i k : ℕ) → ((j : ℕ) → j < i → Holds j → ⊥) → Holds k → i ≤ k
-none_below Holds i k none h = let not_less : k < i → ⊥ = λ l. none k l h in omega arith
-
--- the first place is one where it holds, with none below
-pub first_place : (Holds : ℕ → Type 0) (i : ℕ) → ((j : ℕ) → j < i → Holds j → ⊥) → Holds i
-    → IsFirst Holds i
-first_place Holds i none h = record { holds = h; first = λ k other. none_below Holds i k none other }
-
 -- a first place is the first of all that holds in the same places
 pub first_same : (Holds Other : ℕ → Type 0) (i : ℕ) → ((k : ℕ) → Holds k → Other k)
     → ((k : ℕ) → Other k → Holds k) → IsFirst Holds i → IsFirst Other i

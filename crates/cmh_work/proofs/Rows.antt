@@ -1,8 +1,9 @@
 -- Rows that begin with others, and what they say of a process.
-use Rattle.std.proofs.Common.{◌≡◌, ℕ, Bool, true, false, cond, eqb, List, [], ◌∷◌, ◌++◌, append_assoc, append-nil, Option, Some, sym, ap, ◌∙◌}
+use Rattle.std.proofs.Common.{◌≡◌, ℕ, Bool, true, false, cond, List, [], ◌++◌, append_assoc, append-nil, Option, Some, sym, ap, ◌∙◌}
 use Rattle.cmh_graph.specs.declared.verdict.Verdict.{Verdict}
 use Rattle.cmh_rw.specs.declared.row.Row.{Row}
 use Rattle.cmh_rw.specs.History.{StartsWith, fold_at}
+use Rattle.cmh_board.proofs.Histories.{present-append}
 
 -- rows begin with themselves
 pub starts_same : (a : List Row) → StartsWith a a
@@ -18,12 +19,6 @@ first_or : (b : Bool) (a x y : Option Verdict) (v : Verdict) → (x ≡ Some v �
 first_or true a x y v f e = e
 first_or false a x y v f e = f e
 
--- what rows say, more rows say
-fold_append : (rows more : List Row) (p : ℕ) (v : Verdict) → fold_at rows p ≡ Some v → fold_at (rows ++ more) p ≡ Some v
-fold_append [] more p v e = cc
-fold_append (r ∷ rs) more p v e =
-    first_or (eqb r.process p) (Some r.verdict) (fold_at rs p) (fold_at (rs ++ more) p) v (fold_append rs more p v) e
-
 -- what a beginning says, the rows say
 pub fold_more : (a b : List Row) (p : ℕ) (v : Verdict) → StartsWith a b → fold_at b p ≡ Some v → fold_at a p ≡ Some v
-fold_more a b p v h e = ap (λ l. fold_at l p) h.1 ∙ fold_append b h.0 p v e
+fold_more a b p v h e = ap (λ l. fold_at l p) h.1 ∙ present-append b h.0 p v e

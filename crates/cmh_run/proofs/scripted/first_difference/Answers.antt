@@ -1,9 +1,10 @@
 use Rattle.std.proofs.Common.{◌<◌, length, arith, below_more}
 use Rattle.std.proofs.lemmas.Option.{slice_get_within}
 use Rattle.cmh_run.specs.Script.{Differs}
-use Rattle.cmh_run.proofs.Scripts.{first_place, each_in_range, differs, agrees}
+use Rattle.cmh_run.proofs.Scripts.{each_in_range, differs, agrees}
 use Rattle.cmh_run.proofs.Verdicts.{alike, unlike}
 use Rattle.cmh_run.proofs.scripted.first_difference.Goals as goal
+use Rattle.cmh_graph.proofs.PartLemmas.{first_place}
 
 -- the entry is about a process that has a verdict in the list
 pub bounds-truth-entry : goal.bounds-truth-entry

@@ -1,8 +1,9 @@
 use Rattle.std.proofs.Common.{◌<◌, length, arith, below_more}
 use Rattle.std.proofs.lemmas.Option.{slice_get_within}
 use Rattle.cmh_run.specs.Script.{IsOutOfRange}
-use Rattle.cmh_run.proofs.Scripts.{first_place, out_of_range, in_range}
+use Rattle.cmh_run.proofs.Scripts.{out_of_range, in_range}
 use Rattle.cmh_run.proofs.scripted.first_out_of_range.Goals as goal
+use Rattle.cmh_graph.proofs.PartLemmas.{first_place}
 
 -- the place that is returned is that of the first entry out of range
 pub returns-then-entry-count-clause-some : goal.returns-then-entry-count-clause-some
