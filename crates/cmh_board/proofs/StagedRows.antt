@@ -121,11 +121,6 @@ pub record Staging (v : View) (d : Verdict) (ps : List ℕ) (i : ℕ) (w : View)
   pub loads : v.loads ≤ w.loads
   pub number : n ≡ length v.seen + length (done v.seen ps i)
 
--- before anything is done
-nothing_so_far : (d : Verdict) (rest : List ℕ) → rows_so_far d [] rest ≡ []
-nothing_so_far d [] = refl
-nothing_so_far d (p ∷ rest) = refl
-
 -- what is told says nothing of the process at hand
 pub untold : (v : View) (d : Verdict) (ps : List ℕ) (i : ℕ) (w : View) (n : ℕ) → Staging v d ps i w n
     → IsDistinct eqb ps → i < length ps

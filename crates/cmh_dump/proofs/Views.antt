@@ -102,20 +102,6 @@ read_is text j rest h none f =
     (option_and_then (λ p. json.if_last p.0 p.1) o)) h
     ∙ ap (λ ts. option_and_then of_json (json.if_last j ts)) none ∙ data_is j f
 
--- a text that begins with no value doesn't read
-pub no_value : (text : List ℕ) → json.value 127 (tokens text) ≡ None → read text ≡ None
-no_value text h =
-    ap (λ (o : Option (json.Json × List Token)). option_and_then of_json
-    (option_and_then (λ p. json.if_last p.0 p.1) o)) h
-
--- nor does one in which something follows it
-pub not_last : (text : List ℕ) (j : json.Json) (rest : List Token) (t : Token) (ts : List Token)
-    → json.value 127 (tokens text) ≡ Some (j, rest) → rest ≡ t ∷ ts → read text ≡ None
-not_last text j rest t ts h more =
-    ap (λ (o : Option (json.Json × List Token)). option_and_then of_json
-    (option_and_then (λ p. json.if_last p.0 p.1) o)) h
-    ∙ ap (λ us. option_and_then of_json (json.if_last j us)) more
-
 -- nor one with a number out of range
 pub no_fit : (text : List ℕ) (j : json.Json) (rest : List Token) → json.value 127 (tokens text) ≡ Some (j, rest)
     → rest ≡ [] → fits j ≡ false → read text ≡ None

@@ -1,9 +1,8 @@
 -- What was found accounts for what a seat added: with each finding, after a join, and at the close.
-use Rattle.std.proofs.Common.{◌≡◌, ◌⊎◌, ℕ, zero, suc, List, [], ◌∷◌, ◌++◌, append_assoc, All, get_or, Some, None, sym, refl, ap, ◌∙◌, subst, arith, inl, inr, ⊎_elim}
+use Rattle.std.proofs.Common.{◌≡◌, ◌⊎◌, ℕ, zero, suc, List, [], ◌∷◌, ◌++◌, append_assoc, All, get_or, Some, sym, refl, ap, ◌∙◌, subst, arith, inl, inr, ⊎_elim}
 use Rattle.std.specs.Prelude.{Contains, IsTrue, slice_get}
 use Rattle.std.proofs.lemmas.Option.{slice_get_within, get_or_from_slice_get}
 use Rattle.std.proofs.lemmas.List.Elements.{All-append, Contains-append_left, Contains-append_right}
-use Rattle.cmh_graph.specs.declared.verdict.Verdict.{Verdict}
 use Rattle.cmh_graph.specs.Graph.{Graph, is_idle}
 use Rattle.cmh_run.specs.declared.delivery.Ending.{Ending}
 use Rattle.cmh_run.specs.declared.delivery.Ending.TheVariants.{Declared, AtRest, CutFree}
@@ -35,17 +34,6 @@ speaks_of_initiator Declared i engaged begins = contains_first engaged i (begins
 speaks_of_initiator AtRest i engaged begins = contains_first (i ∷ []) i refl
 speaks_of_initiator (CutFree k) i engaged begins = contains_first (i ∷ []) i refl
 
--- what the board knows is an answer
-pub looked : (g : Graph) (choices : List ℕ) (p : ℕ) (v w : View) (verdict : Verdict) → SeesMore v w
-    → IsVerdict g p verdict
-    → fold_at w.seen p ≡ Some verdict
-    → IsAnswered g choices p v w record { verdict = verdict; run = None }
-looked g choices p v w verdict s true_of stands = record {
-  sees = s.seen;
-  verdict = true_of;
-  stands = stands;
-  run = tt;
-  mine = inl s.mine;
 }
 
 -- a posting that a seat added is its next one, if it has rows

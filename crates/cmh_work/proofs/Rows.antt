@@ -1,5 +1,5 @@
 -- Rows that begin with others, and what they say of a process.
-use Rattle.std.proofs.Common.{◌≡◌, ℕ, Bool, true, false, cond, List, [], ◌++◌, append_assoc, append-nil, Option, Some, sym, ap, ◌∙◌}
+use Rattle.std.proofs.Common.{◌≡◌, ℕ, List, [], ◌++◌, append_assoc, append-nil, Some, sym, ap, ◌∙◌}
 use Rattle.cmh_graph.specs.declared.verdict.Verdict.{Verdict}
 use Rattle.cmh_rw.specs.declared.row.Row.{Row}
 use Rattle.cmh_rw.specs.History.{StartsWith, fold_at}
@@ -12,12 +12,6 @@ starts_same a = ([], sym (append-nil a))
 -- what begins with b begins with what b begins with
 pub starts_trans : (a b c : List Row) → StartsWith a b → StartsWith b c → StartsWith a c
 starts_trans a b c h k = (k.0 ++ h.0, h.1 ∙ ap (λ l. l ++ h.0) k.1 ∙ append_assoc c k.0 h.0)
-
--- an answer of the first row, or of the rest, stays where the rest's does
-first_or : (b : Bool) (a x y : Option Verdict) (v : Verdict) → (x ≡ Some v → y ≡ Some v) → cond b a x ≡ Some v
-    → cond b a y ≡ Some v
-first_or true a x y v f e = e
-first_or false a x y v f e = f e
 
 -- what a beginning says, the rows say
 pub fold_more : (a b : List Row) (p : ℕ) (v : Verdict) → StartsWith a b → fold_at b p ≡ Some v → fold_at a p ≡ Some v
