@@ -42,7 +42,7 @@ is_done r e h = record {
   known = omega arith;
 }
 
-pub is_misused : (r : Request) (e : Ends) → IsMisused r e → IsOutcome r MISUSED e
+is_misused : (r : Request) (e : Ends) → IsMisused r e → IsOutcome r MISUSED e
 is_misused r e h = record {
   free = λ x. absurd (omega arith);
   refused = λ x. absurd (omega arith);
@@ -52,7 +52,7 @@ is_misused r e h = record {
   known = omega arith;
 }
 
-pub has_deadlock : (r : Request) (e : Ends) → HasDeadlock r e → IsOutcome r DEADLOCKED e
+has_deadlock : (r : Request) (e : Ends) → HasDeadlock r e → IsOutcome r DEADLOCKED e
 has_deadlock r e h = record {
   free = λ x. absurd (omega arith);
   refused = λ x. absurd (omega arith);

@@ -54,7 +54,7 @@ times-cons r rs p =
     ∙ ap (λ n. n + times p rs) (zero-add (cond {A = ℕ} (eqb r.process p) 1 0))
 
 -- a process of which nothing is said stands nowhere
-pub times-absent : (rows : List Row) (p : ℕ) → fold_at rows p ≡ None → times p rows ≡ 0
+times-absent : (rows : List Row) (p : ℕ) → fold_at rows p ≡ None → times p rows ≡ 0
 times-absent [] p e = refl
 times-absent (r ∷ rs) p e = times-cons r rs p ∙
     by_test (eqb r.process p)

@@ -85,7 +85,7 @@ pub rows_told : (v : Verdict) (ps : List ℕ) → AreTold (rows_of v ps) (marks 
 rows_told v ps p u e = sym (rows-marks v ps p) ∙ e
 
 -- each of the processes has a row
-pub rows_of-said : (v : Verdict) (ps : List ℕ) (p : ℕ) → Contains ps p → fold_at (rows_of v ps) p ≡ Some v
+rows_of-said : (v : Verdict) (ps : List ℕ) (p : ℕ) → Contains ps p → fold_at (rows_of v ps) p ≡ Some v
 rows_of-said v [] p c = absurd (let l = c.1 in omega arith)
 rows_of-said v (q ∷ ps) p c =
     by_test (eqb q p) (λ b. eqb q p ≡ b → cond b (Some v) (fold_at (rows_of v ps) p) ≡ Some v)

@@ -42,7 +42,7 @@ code_none (Some Deadlocked) = refl
 code_none (Some Free) = refl
 
 -- rows behind that don't name a process change nothing of what is said of it
-pub absent-behind : (xs ys : List Row) (p : ℕ) → fold_at ys p ≡ None → fold_at (xs ++ ys) p ≡ fold_at xs p
+absent-behind : (xs ys : List Row) (p : ℕ) → fold_at ys p ≡ None → fold_at (xs ++ ys) p ≡ fold_at xs p
 absent-behind xs ys p none = ⊎_elim
     (λ e. fold-skip xs ys p e ∙ none ∙ sym e)
     (λ same. same)
@@ -75,11 +75,11 @@ to_come-more rows ps i b l e =
     ∙ ap (λ c. cond c (get_or ps i 0 ∷ to_come rows ps (i + 1)) (to_come rows ps (i + 1))) e
 
 -- a process that stands in no row is one more that is done
-pub done-new : (rows : List Row) (ps : List ℕ) (i : ℕ) → i < length ps → is_new rows (get_or ps i 0) ≡ true
+done-new : (rows : List Row) (ps : List ℕ) (i : ℕ) → i < length ps → is_new rows (get_or ps i 0) ≡ true
     → done rows ps (i + 1) ≡ done rows ps i ++ get_or ps i 0 ∷ []
 done-new rows ps i l e = done-more rows ps i true l e
 
-pub done-old : (rows : List Row) (ps : List ℕ) (i : ℕ) → i < length ps → is_new rows (get_or ps i 0) ≡ false
+done-old : (rows : List Row) (ps : List ℕ) (i : ℕ) → i < length ps → is_new rows (get_or ps i 0) ≡ false
     → done rows ps (i + 1) ≡ done rows ps i
 done-old rows ps i l e = done-more rows ps i false l e ∙ append-nil (done rows ps i)
 

@@ -17,7 +17,7 @@ use Rattle.cmh_command.specs.declared.list.ListFault.TheVariants.{Memory}
 -- ---- one item
 
 -- what makes an item a number
-pub number_parts : (item : List ℕ) → is_number item ≡ true
+number_parts : (item : List ℕ) → is_number item ≡ true
     → (0 < length item) × (all_ascii_digits item ≡ true) × (digits_value 10 item < 2 ^ 64)
 unfolding is_number
 number_parts item h =
@@ -26,7 +26,7 @@ number_parts item h =
     (ltb-true 0 (length item) inner.0, inner.1, ltb-true (digits_value 10 item) (2 ^ 64) outer.1)
 
 -- and nothing else does
-pub parts_number : (item : List ℕ) → 0 < length item → all_ascii_digits item ≡ true → digits_value 10 item < 2 ^ 64
+parts_number : (item : List ℕ) → 0 < length item → all_ascii_digits item ≡ true → digits_value 10 item < 2 ^ 64
     → is_number item ≡ true
 unfolding is_number
 parts_number item some digits fits =

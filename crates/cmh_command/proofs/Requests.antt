@@ -23,7 +23,7 @@ use Rattle.cmh_command.specs.declared.request.TheConstants.{DEFAULT_WORKERS}
 pub is_free : is_simple_and_free program ≡ true
 is_free = refl
 
-pub is_plain : is_simple program ≡ true
+is_plain : is_simple program ≡ true
 is_plain = refl
 
 -- what a getter gives is the option's value in the rows
@@ -84,7 +84,7 @@ pub some_workers : (rows : List Row) (r : Option ℕ) (n : ℕ)
 some_workers rows r n h is = subst (λ (o : Option ℕ). MatchOption o (HasBadWorkers rows) (λ n. HasWorkers n rows)) is h
 
 -- an error that isn't want of memory has a kind of the words' own
-pub kind_is : (e : Error) (kinds : List ErrorKind) → HasKind kinds e → kind_of e ≢ OutOfMemory
+kind_is : (e : Error) (kinds : List ErrorKind) → HasKind kinds e → kind_of e ≢ OutOfMemory
     → IsAmong (kind_of e) kinds
 kind_is e kinds (inl memory) other = absurd (other memory)
 kind_is e kinds (inr among) other = among
@@ -122,7 +122,7 @@ known_entered (Some p) =
     find_known (λ s. answers_to p.0 (label_of s)) (built program).subs p.1 (inl refl, (inr refl, tt))
 
 -- what was entered by words that `clap` takes is what the words enter
-pub rows_are : (c : Command) (words : List Text) (m : ArgMatches) → app_of c ≡ program → HasMatchesOf (app_of c) words m
+rows_are : (c : Command) (words : List Text) (m : ArgMatches) → app_of c ≡ program → HasMatchesOf (app_of c) words m
     → subcommand_rows_of m ≡ subcommand_of program words
 rows_are c words m app h = (h (ap is_simple app ∙ is_plain)).1 ∙ ap (λ (a : App). subcommand_of a words) app
 

@@ -54,7 +54,7 @@ module _ {X : Type 0} (test : X → Bool) where
       ∙ ap (λ b. cond b (Some (f n)) None) (h n (omega arith))
 
   -- a fault that is found stays the first one
-  pub found_below : (f : ℕ → X) (i m : ℕ) → ((k : ℕ) → k < i → test (f k) ≡ false) → test (f i) ≡ true
+  found_below : (f : ℕ → X) (i m : ℕ) → ((k : ℕ) → k < i → test (f k) ≡ false) → test (f i) ≡ true
       → find test (map f (below (suc i + m))) ≡ Some (f i)
   found_below f i zero h t =
       ap (λ n. find test (map f (below n))) same ∙ last_of f i

@@ -186,7 +186,7 @@ module _ (d : Data) (es : List declared.Entry) (seen : map entry_view es ≡ ent
       (unknown_sites d es seen site_names are_sites) (ap (option_map UnknownSite) h) later
 
   -- then an unknown dependent is the first
-  pub dependent_unknown : (i j : ℕ) → unknown_site ≡ None → unknown_dependent ≡ Some (i, j)
+  dependent_unknown : (i j : ℕ) → unknown_site ≡ None → unknown_dependent ≡ Some (i, j)
       → first_of (holds d) (entry_faults d) ≡ Some (UnknownDependent i j)
   dependent_unknown i j h k =
       sites_known (Some (UnknownDependent i j)) h

@@ -40,7 +40,7 @@ get-at (y ∷ ys) zero x lt e = ap Some (sym e)
 get-at (y ∷ ys) (suc i) x lt e = get-at ys i x (omega arith) e
 
 -- one element more, as a function makes it
-pub map-next : {X Y : Type 0} (f : X → Y) (xs : List X) (i : ℕ) (x : X) → i < length xs → x ≡ get_or xs i x
+map-next : {X Y : Type 0} (f : X → Y) (xs : List X) (i : ℕ) (x : X) → i < length xs → x ≡ get_or xs i x
     → map f (take (i + 1) xs) ≡ map f (take i xs) ++ f x ∷ []
 map-next f xs i x lt e =
     let next : i + 1 ≡ suc i = omega arith in

@@ -35,7 +35,7 @@ list_of-items_of [] = refl
 list_of-items_of (d ∷ ds) = ap (λ es. d ∷ es) (list_of-items_of ds)
 
 -- the entries of an array are the items that the reader gives
-pub entries_of_items : (d : Data) (ds : List Data) → Some (items_of ds) ≡ as_array d → ds ≡ entries_of d
+entries_of_items : (d : Data) (ds : List Data) → Some (items_of ds) ≡ as_array d → ds ≡ entries_of d
 entries_of_items d ds e =
     sym (list_of-items_of ds) ∙ ap (λ (o : Option Items). option_map_or list_of o []) e
 

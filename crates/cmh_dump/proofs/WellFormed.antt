@@ -171,7 +171,7 @@ transit_is d i l =
 -- ---- the whole
 
 -- the graph of a clean tree is well formed
-pub clean_is_well_formed : (d : Data) → IsClean d → IsWellFormed (tree_graph d)
+clean_is_well_formed : (d : Data) → IsClean d → IsWellFormed (tree_graph d)
 clean_is_well_formed d clean = record {
   processes =
       omega (arith, process_count_is d, ltb-false MAX_PROCESSES (length (processes d)) (clean TooManyProcesses tt));

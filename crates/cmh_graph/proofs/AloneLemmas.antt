@@ -57,7 +57,7 @@ behind_alone g p w i alone q (x ∷ r ∷ rest, (e, l)) back =
     sym other ∙ own
 
 -- a process each of whose dependencies is a core by itself is one
-pub alone_more : (g : Graph) (p : ℕ) → IsWithinGraph g → p < process_count g
+alone_more : (g : Graph) (p : ℕ) → IsWithinGraph g → p < process_count g
     → ((r : ℕ) → Depends g p r → core_of g r ≡ r ∷ []) → core_of g p ≡ p ∷ []
 alone_more g p w i alone = core_alone g p w i (behind_alone g p w i alone)
 

@@ -215,7 +215,7 @@ unfolding distance_of
 has_distance g w p q i rest l a = has_steps g (is_awake g) w p q i rest l a
 
 -- a process with a path to an awake one has a chosen path
-pub some_chosen : (g : Graph) → IsWithinGraph g → (p q : ℕ) (path : List ℕ) → p < process_count g → is_awake g q ≡ true
+some_chosen : (g : Graph) → IsWithinGraph g → (p q : ℕ) (path : List ℕ) → p < process_count g → is_awake g q ≡ true
     → IsPath g p q path → (other : List ℕ) × (chosen_path g p ≡ Some other)
 unfolding chosen_path
 some_chosen g w p q [] i a h = absurd h
@@ -301,7 +301,7 @@ way_out_length g p n (x ∷ rest) e o =
     ]
 
 -- an awake process is its own chosen path
-pub chosen_alone : (g : Graph) (p : ℕ) → distance_of g p ≡ Some 0 → IsChosenPath g p (p ∷ [])
+chosen_alone : (g : Graph) (p : ℕ) → distance_of g p ≡ Some 0 → IsChosenPath g p (p ∷ [])
 unfolding distance_of
 chosen_alone g p e = record {
   awake = (p, passes_itself g (is_awake g) p e, (refl, refl));
@@ -338,7 +338,7 @@ later_than s x tail rest l h =
     ]
 
 -- The chosen path goes on with the least of the nearer dependencies, by its chosen path.
-pub chosen_more : (g : Graph) (p r n : ℕ) (path : List ℕ) → IsWithinGraph g → p < process_count g
+chosen_more : (g : Graph) (p r n : ℕ) (path : List ℕ) → IsWithinGraph g → p < process_count g
     → distance_of g p ≡ Some (suc n) → Depends g p r → distance_of g r ≡ Some n
     → ((s : ℕ) → Depends g p s → distance_of g s ≡ Some n → r ≤ s) → IsChosenPath g r path → IsChosenPath g p (p ∷ path)
 chosen_more g p r n [] w i e d f least c = absurd c.awake.2
@@ -383,7 +383,7 @@ pub record LeadsOn (g : Graph) (p n : ℕ) (path : List ℕ) (last : ℕ) : Type
   pub completes : (rest : List ℕ) → IsChosenPath g last rest → IsChosenPath g p (front ++ rest)
 
 -- what a list of all distances has at a place
-pub distance_read : (g : Graph) (distances : List (Option ℕ)) (q : ℕ) → distances ≡ map (distance_of g) (indices g)
+distance_read : (g : Graph) (distances : List (Option ℕ)) (q : ℕ) → distances ≡ map (distance_of g) (indices g)
     → q < process_count g → number_at distances q ≡ distance_of g q
 distance_read g distances q e l = by_index g (distance_of g) distances q None e l
 
@@ -400,7 +400,7 @@ leads_start g p n path distances o i e f s is = record {
 }
 
 -- a process that isn't awake has a dependent that is nearer
-pub nearer_dependent : (g : Graph) (p m : ℕ) (row : List ℕ) (distances : List (Option ℕ)) → IsWellFormed g
+nearer_dependent : (g : Graph) (p m : ℕ) (row : List ℕ) (distances : List (Option ℕ)) → IsWellFormed g
     → p < process_count g → distance_of g p ≡ Some (m + 1) → row ≡ dependents_of g p
     → distances ≡ map (distance_of g) (indices g)
     → (q : ℕ) × Contains row q × (number_at distances q ≡ Some m)

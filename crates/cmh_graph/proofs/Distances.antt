@@ -14,14 +14,14 @@ use Rattle.cmh_graph.proofs.LevelSearch.{near, has_steps}
 use Rattle.cmh_graph.proofs.Verdicts.{asleep_is_idle, test_then, then_test}
 
 -- a process with a distance reaches an awake one
-pub reaches_awake : (g : Graph) (p n : ℕ) → distance_of g p ≡ Some n → (q : ℕ) × (is_awake g q ≡ true) × Reaches g p q
+reaches_awake : (g : Graph) (p n : ℕ) → distance_of g p ≡ Some n → (q : ℕ) × (is_awake g q ≡ true) × Reaches g p q
 unfolding distance_of Walk
 reaches_awake g p n e =
     let w = walk g (is_awake g) n p (near g (is_awake g) p n e) in
     (w.0, w.1, (p ∷ w.2, (refl, w.3)))
 
 -- and a process that reaches an awake one has a distance
-pub distance_if_awake : (g : Graph) → IsWithinGraph g → (p q : ℕ) → p < process_count g → Reaches g p q
+distance_if_awake : (g : Graph) → IsWithinGraph g → (p q : ℕ) → p < process_count g → Reaches g p q
     → is_awake g q ≡ true → is_some (distance_of g p) ≡ true
 unfolding distance_of
 distance_if_awake g w p q i ([], l) a = absurd l
@@ -58,7 +58,7 @@ free_by_distance g w p e =
     ]
 
 -- so the distance decides the verdict
-pub verdict_by_distance : (g : Graph) → IsWithinGraph g → (p : ℕ) → p < process_count g
+verdict_by_distance : (g : Graph) → IsWithinGraph g → (p : ℕ) → p < process_count g
     → verdict g p ≡ cond (is_some (distance_of g p)) Free Deadlocked
 verdict_by_distance g w p i =
     elim (cases_Bool (is_some (distance_of g p))) [

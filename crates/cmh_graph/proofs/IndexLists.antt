@@ -17,7 +17,7 @@ indices_more n =
     ∙ ap (λ xs. xs ++ n ∷ []) (map-id (range_with_len 0 n))
 
 -- a filter of one index more keeps it where it passes
-pub filter_indices_more : (p : ℕ → Bool) (n : ℕ)
+filter_indices_more : (p : ℕ → Bool) (n : ℕ)
     → filter p (range_with_len 0 (n + 1)) ≡ filter p (range_with_len 0 n) ++ cond (p n) (n ∷ []) []
 filter_indices_more p n = rw (indices_more n) (filter-append p (range_with_len 0 n) (n ∷ []))
 

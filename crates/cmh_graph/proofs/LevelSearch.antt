@@ -53,7 +53,7 @@ found_within t a (suc k) n e = found_within_by t a k n (t a) (λ s. found_within
 -- ---- the least number of dependencies
 
 -- it is below the number of processes
-pub steps_within : (g : Graph) (test : ℕ → Bool) (p n : ℕ) → steps_to g test p ≡ Some n → n < process_count g
+steps_within : (g : Graph) (test : ℕ → Bool) (p n : ℕ) → steps_to g test p ≡ Some n → n < process_count g
 steps_within g test p n e = omega (arith, found_within (λ m. is_nonempty (paths_to g test m p)) 0 (process_count g) n e)
 
 -- there is one where a path leads to a process that passes
@@ -117,7 +117,7 @@ steps_back g test w p n i e =
     ]
 
 -- none is needed where the process passes itself
-pub steps_none : (g : Graph) (test : ℕ → Bool) → IsWithinGraph g → (p : ℕ) → p < process_count g → test p ≡ true
+steps_none : (g : Graph) (test : ℕ → Bool) → IsWithinGraph g → (p : ℕ) → p < process_count g → test p ≡ true
     → steps_to g test p ≡ Some 0
 steps_none g test w p i e =
     let k = near_then g test w p 0 i (start_nonempty p (test p) e) in
@@ -147,7 +147,7 @@ paths_agree g t u w e (suc n) p i =
     (λ r c. ap (map (λ path. p ∷ path)) (paths_agree g t u w e n r (depends_within g w p r i (depends g p r c))))
 
 -- they give one answer
-pub steps_agree : (g : Graph) (t u : ℕ → Bool) → IsWithinGraph g → ((r : ℕ) → r < process_count g → t r ≡ u r) → (p : ℕ)
+steps_agree : (g : Graph) (t u : ℕ → Bool) → IsWithinGraph g → ((r : ℕ) → r < process_count g → t r ≡ u r) → (p : ℕ)
     → p < process_count g → steps_to g t p ≡ steps_to g u p
 steps_agree g t u w e p l = λ i. find (λ n. is_nonempty (paths_agree g t u w e n p l i)) (indices g)
 

@@ -31,7 +31,7 @@ first_place P i before h = record {
 }
 
 -- the same for entries
-pub entries_more : (P : ℕ → ℕ → Type 0) (i : ℕ) → ((k j : ℕ) → k < i → P k j → ⊥) → ((j : ℕ) → P i j → ⊥) → (k j : ℕ)
+entries_more : (P : ℕ → ℕ → Type 0) (i : ℕ) → ((k j : ℕ) → k < i → P k j → ⊥) → ((j : ℕ) → P i j → ⊥) → (k j : ℕ)
     → k < i + 1 → P k j → ⊥
 entries_more P i before here k j l h =
     elim (cases_lt k i) [
@@ -100,13 +100,13 @@ abbrev pub stamped : ℕ → List ℕ → List Bool
 stamped stamp stamps = map (λ s. eqb s stamp) stamps
 
 -- where a stamp is written a place is marked
-pub stamped_written : (stamp : ℕ) (stamps : List ℕ) (r : ℕ)
+stamped_written : (stamp : ℕ) (stamps : List ℕ) (r : ℕ)
     → stamped stamp (set stamps r stamp) ≡ set (stamped stamp stamps) r true
 stamped_written stamp stamps r =
     map-set (λ s. eqb s stamp) stamps r stamp ∙ ap (λ b. set (stamped stamp stamps) r b) (eq-eqb stamp stamp refl)
 
 -- whether a place is marked, by its stamp
-pub stamped_read : (stamp : ℕ) (stamps : List ℕ) (r : ℕ) → r < length stamps
+stamped_read : (stamp : ℕ) (stamps : List ℕ) (r : ℕ) → r < length stamps
     → is_marked (stamped stamp stamps) r ≡ eqb (get_or stamps r 0) stamp
 stamped_read stamp stamps r l = get_or-map (λ s. eqb s stamp) stamps r 0 false l
 
@@ -139,7 +139,7 @@ taken_at list n r c =
     (c.0, l, m, sym (get_or-take n list c.0 0 l) ∙ get_or_default (take n list) c.0 0 r c.1 ∙ c.2)
 
 -- a marked entry is a repeat
-pub seen_repeat : (list : List ℕ) (n count : ℕ) (seen : List Bool) → n < length list → SeenUpTo n list count seen
+seen_repeat : (list : List ℕ) (n count : ℕ) (seen : List Bool) → n < length list → SeenUpTo n list count seen
     → is_marked seen (get_or list n 0) ≡ true → IsRepeat list n
 seen_repeat list n count seen l s m =
     let t = taken_at list n (get_or list n 0) (s.marked (get_or list n 0) m) in

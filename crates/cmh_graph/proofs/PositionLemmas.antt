@@ -165,7 +165,7 @@ marks_outside t i list old marks new before xs after l h b e f =
 -- ---- lists at places
 
 -- the list at a place, by what a read of the place gave
-pub list_at_read : (lists : List (Vec ℕ)) (r : ℕ) (v : Vec ℕ) → r < length lists → v ≡ get_or lists r v
+list_at_read : (lists : List (Vec ℕ)) (r : ℕ) (v : Vec ℕ) → r < length lists → v ≡ get_or lists r v
     → list_at lists r ≡ v.items
 list_at_read lists r v l e = get_or-map (λ u. u.items) lists r v [] l ∙ ap (λ u. u.items) (sym e)
 

@@ -168,7 +168,7 @@ leaders_no_more g list p count are i is not_so =
 -- ---- core and rest by the table of leaders
 
 -- of those that a leader reaches, it leads those that reach it
-pub leads_back : (g : Graph) (list : List (Option ℕ)) (l q : ℕ) → IsWithinGraph g → l < process_count g
+leads_back : (g : Graph) (list : List (Option ℕ)) (l q : ℕ) → IsWithinGraph g → l < process_count g
     → list ≡ map (group_leader g) (indices g) → is_led_by list l l ≡ true → Contains (reach_of g l) q
     → is_led_by list l q ≡ reaches g q l
 leads_back g list l q w i are leads c =

@@ -57,7 +57,7 @@ freed g p true w free e = absurd (free (test_then g p w e))
 freed g p false w free e = refl
 
 -- a true verdict is what the test says
-pub verdict_test : (g : Graph) (p : ℕ) (v : Verdict) → IsWithinGraph g → IsVerdict g p v
+verdict_test : (g : Graph) (p : ℕ) (v : Verdict) → IsWithinGraph g → IsVerdict g p v
     → is_deadlocked g p ≡ says_deadlocked v
 verdict_test g p Deadlocked w is = then_test g p is
 verdict_test g p Free w is = freed g p (is_deadlocked g p) w is refl
@@ -80,7 +80,7 @@ counted g (r ∷ rs) w tell =
     ∙ sym (count_cons (is_deadlocked g) r.initiator (map initiator_of rs))
 
 -- a process that isn't idle isn't deadlocked
-pub active_free : (g : Graph) (p : ℕ) → is_idle g p ≡ false → is_deadlocked g p ≡ false
+active_free : (g : Graph) (p : ℕ) → is_idle g p ≡ false → is_deadlocked g p ≡ false
 unfolding is_deadlocked
 active_free g p e = rw e refl
 

@@ -7,13 +7,13 @@ use Rattle.cmh_report.specs.Names.{SharesEnd}
 use Rattle.cmh_report.specs.Report.{names, spaced}
 
 -- the names of two lists
-pub names_parts : (g : Graph) (xs ys : List ℕ)
+names_parts : (g : Graph) (xs ys : List ℕ)
     → spaced (names g (xs ++ ys)) ≡ spaced (names g xs) ++ spaced (names g ys)
 names_parts g xs ys =
     ap spaced (map-append (name_of g) xs ys) ∙ flat_map-append (λ word. 32 ∷ word) (names g xs) (names g ys)
 
 -- the names of a list that is cut
-pub names_cut : (g : Graph) (xs : List ℕ) (n : ℕ)
+names_cut : (g : Graph) (xs : List ℕ) (n : ℕ)
     → spaced (names g xs) ≡ spaced (names g (take n xs)) ++ spaced (names g (drop n xs))
 names_cut g xs n = ap (λ ys. spaced (names g ys)) (sym (take-append-drop n xs)) ∙ names_parts g (take n xs) (drop n xs)
 
@@ -31,7 +31,7 @@ names_more g xs i l =
     ∙ omega (arith, one)
 
 -- a text may be cut between two words that follow spaces
-pub cut_between : (front back : List (List ℕ)) → (length (spaced front) ≤ length (spaced front ++ spaced back))
+cut_between : (front back : List (List ℕ)) → (length (spaced front) ≤ length (spaced front ++ spaced back))
     × (length (spaced front) < length (spaced front ++ spaced back)
     → get_or (spaced front ++ spaced back) (length (spaced front)) 0 < 128)
 cut_between front [] =

@@ -13,12 +13,12 @@ use Rattle.cmh_report.specs.Report.{deadlocked_line, free_line, group_line, line
 -- ---- words
 
 -- words parted by spaces are the first one, and each other one after a space
-pub join_spaced : (word : List ℕ) (words : List (List ℕ)) → join_with_byte 32 (word ∷ words) ≡ word ++ spaced words
+join_spaced : (word : List ℕ) (words : List (List ℕ)) → join_with_byte 32 (word ∷ words) ≡ word ++ spaced words
 join_spaced word [] = sym (append-nil word)
 join_spaced word (next ∷ words) = ap (λ xs. word ++ (32 ∷ xs)) (join_spaced next words)
 
 -- a line is its first word, each other one after a space, and a line feed
-pub line_spaced : (word : List ℕ) (words : List (List ℕ)) → line (word ∷ words) ≡ word ++ (spaced words ++ 10 ∷ [])
+line_spaced : (word : List ℕ) (words : List (List ℕ)) → line (word ∷ words) ≡ word ++ (spaced words ++ 10 ∷ [])
 line_spaced word words = ap (λ xs. xs ++ 10 ∷ []) (join_spaced word words) ∙ append_assoc word (spaced words) (10 ∷ [])
 
 -- the pieces of a free process's line

@@ -56,7 +56,7 @@ module _ (g : Graph) (i : ℕ) (log : List Delivery) (s : Going) (a : Audit) (h 
   ended_as AtRest e = absurd (here.not_at_rest (sym same_ended ∙ e))
 
   -- where the run hasn't ended, no declaration and no hint has ended it
-  pub is_going : ¬ (HasEnded s.config) → s.config.ended ≡ None
+  is_going : ¬ (HasEnded s.config) → s.config.ended ≡ None
   is_going no_end = by_ended s.config.ended refl
     where
       by_ended : (o : Option Ending) → s.config.ended ≡ o → o ≡ None
@@ -66,13 +66,13 @@ module _ (g : Graph) (i : ℕ) (log : List Delivery) (s : Going) (a : Audit) (h 
       by_ended (Some AtRest) e = absurd (here.not_at_rest e)
 
   -- an undelivered message goes to a process of the graph
-  pub audit_receiver : (m : Message) → IsUndelivered s.config m → s.config.ended ≡ None → m.to < process_count g
+  audit_receiver : (m : Message) → IsUndelivered s.config m → s.config.ended ≡ None → m.to < process_count g
   audit_receiver m u going =
       let live = here.live m u going in
       (each_at (Fine g i s.config.number (proc_at s.config.procs)) s.config.bag u.0 m live.fine u.1).to_in
 
   -- hints are fit for the network as they are for the run
-  pub fit_run : (m : Message) (hint : Option Verdict) → HintIsFit g a.network m hint → HintIsFit g s.config m hint
+  fit_run : (m : Message) (hint : Option Verdict) → HintIsFit g a.network m hint → HintIsFit g s.config m hint
   fit_run m hint f = bag_fit g s.config a.network.bag m hint (subst (λ (c : Config). HintIsFit g c m hint) h.network f)
 
   module _ (settled : IsSettled a) where

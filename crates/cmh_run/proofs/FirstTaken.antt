@@ -59,7 +59,7 @@ before_at (y ∷ ys) zero = refl
 before_at (y ∷ ys) (suc x) = ap (λ l. y ∷ l) (before_at ys x)
 
 -- the last of those up to a place, put first, stands before the others
-pub brought : {A : Type 0} (xs : List A) (x : ℕ) (m : A) → slice_get xs x ≡ Some m
+brought : {A : Type 0} (xs : List A) (x : ℕ) (m : A) → slice_get xs x ≡ Some m
     → (drop x (take (suc x) xs) ++ take x (take (suc x) xs)) ++ drop (suc x) xs ≡ m ∷ remove xs x
 brought xs x m there =
     ap (λ l. (l ++ take x (take (suc x) xs)) ++ drop (suc x) xs) (alone_at xs x m there)

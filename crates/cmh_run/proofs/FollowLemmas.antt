@@ -102,7 +102,7 @@ module _ (g : Graph) (i : ℕ) (ok : IsWithinGraph g) (within : i < process_coun
       (number_kept g i (ready g i s).config l.0 d.message d.hint ∙ ready_numbered s s.restarts h e) l.3
 
   -- the initiator may start again while few restarts were
-  pub may_start : (s : Going) → Stands g i s.config → s.config.number ≡ s.restarted + 1 → s.restarted ≤ MAX_RESTARTS
+  may_start : (s : Going) → Stands g i s.config → s.config.number ≡ s.restarted + 1 → s.restarted ≤ MAX_RESTARTS
       → s.config.ended ≡ None → MayStart g i s
   may_start s h e few going =
       let live = status_none g i s.config h going in
@@ -123,7 +123,7 @@ module _ (g : Graph) (i : ℕ) (ok : IsWithinGraph g) (within : i < process_coun
       leads_stands rule g i ok within rests log (going_from (start g i (nothing_yet g)) restarts) s first_stands l
 
   -- there the number of the last start is one more than the restarts
-  pub follows_numbered : (rule : Rule) (restarts : List ℕ) (log : List Delivery) (s : Going)
+  follows_numbered : (rule : Rule) (restarts : List ℕ) (log : List Delivery) (s : Going)
       → DeliveriesLead rule g i (going_from (start g i (nothing_yet g)) restarts) log s
       → s.config.number ≡ s.restarted + 1
   follows_numbered rule restarts log s l =
@@ -158,7 +158,7 @@ module _ (g : Graph) (i : ℕ) (choices restarts : List ℕ) (s : Stage) (ok : I
   awake_leads e = rw e at f.leads
 
   -- while a message is undelivered the run stands firm
-  pub steady : (x : ℕ) (m : Message) → slice_get s.going.config.bag x ≡ Some m → Steady g i s.going
+  steady : (x : ℕ) (m : Message) → slice_get s.going.config.bag x ≡ Some m → Steady g i s.going
   steady x m there = by_awake (is_awake g i) refl
     where
       by_awake : (b : Bool) → is_awake g i ≡ b → Steady g i s.going
@@ -173,7 +173,7 @@ module _ (g : Graph) (i : ℕ) (choices restarts : List ℕ) (s : Stage) (ok : I
       }
 
   -- there are as many processes as the graph has
-  pub all_there : length s.going.config.procs ≡ process_count g
+  all_there : length s.going.config.procs ≡ process_count g
   all_there = by_awake (is_awake g i) refl
     where
       by_awake : (b : Bool) → is_awake g i ≡ b → length s.going.config.procs ≡ process_count g
@@ -185,7 +185,7 @@ module _ (g : Graph) (i : ℕ) (choices restarts : List ℕ) (s : Stage) (ok : I
           (follows_stands g i ok within e (chosen_place choices) restarts s.log s.going (asleep_leads e)).size
 
   -- an undelivered message goes to a process of the graph
-  pub receiver_within : (x : ℕ) (m : Message) → s.going.config.ended ≡ None → slice_get s.going.config.bag x ≡ Some m
+  receiver_within : (x : ℕ) (m : Message) → s.going.config.ended ≡ None → slice_get s.going.config.bag x ≡ Some m
       → m.to < process_count g
   receiver_within x m going there =
       let firm = steady x m there in
@@ -212,7 +212,7 @@ module _ (g : Graph) (i : ℕ) (choices restarts : List ℕ) (s : Stage) (ok : I
           )
 
   -- the initiator may start again after a delivery
-  pub may_start_after : (x : ℕ) (d : Delivery) → length restarts ≤ MAX_RESTARTS → MayCome g s.going.config x d
+  may_start_after : (x : ℕ) (d : Delivery) → length restarts ≤ MAX_RESTARTS → MayCome g s.going.config x d
       → (after g i s.going x d).config.ended ≡ None → MayStart g i (after g i s.going x d)
   may_start_after x d few may going =
       let firm = steady x d.message may.there in
@@ -246,7 +246,7 @@ module _ (g : Graph) (i : ℕ) (choices restarts : List ℕ) (s : Stage) (ok : I
           ))
 
   -- the deliveries are few
-  pub log_bound : length restarts ≤ MAX_RESTARTS → length s.log ≤ 2 * dependency_count g * (MAX_RESTARTS + 1)
+  log_bound : length restarts ≤ MAX_RESTARTS → length s.log ≤ 2 * dependency_count g * (MAX_RESTARTS + 1)
   log_bound few =
       let short = leads_are_short (chosen_place choices) g i restarts s.log s.going ok idle f.leads in
       let most : s.going.restarted + 1 ≤ MAX_RESTARTS + 1 = omega (arith, few_restarts few) in

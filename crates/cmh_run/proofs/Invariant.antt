@@ -44,7 +44,7 @@ pub record Sound (g : Graph) (i m : ℕ) (P : ℕ → Proc) (T : ℕ → ℕ →
   pub few : (k r : ℕ) → tally r (out k) ≤ tally r (dependents_of g k)
 
 -- a process of computation m that k engaged and that still waits owes k a reply
-pub owes_from : (m k : ℕ) (p : Proc) → p.latest ≡ m → p.engager ≡ Some k → 0 < p.num → owes m k p ≡ true
+owes_from : (m k : ℕ) (p : Proc) → p.latest ≡ m → p.engager ≡ Some k → 0 < p.num → owes m k p ≡ true
 owes_from m k p l e h = and_from (eqb p.latest m) (is_engager k p.engager && ltb 0 p.num) (eq-eqb p.latest m l)
     (and_from (is_engager k p.engager) (ltb 0 p.num) (rw e (eq-eqb k k refl)) (lt-ltb 0 p.num h))
 
@@ -54,7 +54,7 @@ is_engager_true k None h = absurd (true≢false (sym h))
 is_engager_true k (Some e) h = ap Some (eqb-true e k h)
 
 -- who owes k a reply is of computation m, was engaged by k, and still waits
-pub owes_parts : (m k : ℕ) (p : Proc) → owes m k p ≡ true → (p.latest ≡ m) × (p.engager ≡ Some k) × (0 < p.num)
+owes_parts : (m k : ℕ) (p : Proc) → owes m k p ≡ true → (p.latest ≡ m) × (p.engager ≡ Some k) × (0 < p.num)
 owes_parts m k p h =
     let a = and_parts (eqb p.latest m) (is_engager k p.engager && ltb 0 p.num) h in
     let b = and_parts (is_engager k p.engager) (ltb 0 p.num) a.1 in
@@ -88,7 +88,7 @@ module _ (g : Graph) (i m : ℕ) (P : ℕ → Proc) (T : ℕ → ℕ → ℕ) (o
           (eq-zero-or-pos (P k).num)
 
   -- once the initiator waits for no reply, nobody in its computation waits
-  pub none_waits : (P i).num ≡ 0 → (k : ℕ) → (P k).latest ≡ m → (P k).num ≡ 0
+  none_waits : (P i).num ≡ 0 → (k : ℕ) → (P k).latest ≡ m → (P k).num ≡ 0
   none_waits top k l = none_waits_below top (suc (rank k)) k (omega arith) l
 
   -- then nobody awake can be reached from one that is engaged

@@ -42,7 +42,7 @@ pub record Live (g : Graph) (i n : ℕ) (F : ℕ → Proc) (bag : List Message) 
   pub begins : slice_get engaged 0 ≡ Some i
 
 -- a process stands in two lists together as often as in the one and in the other
-pub tally-append : (r : ℕ) (xs ys : List ℕ) → tally r (xs ++ ys) ≡ tally r xs + tally r ys
+tally-append : (r : ℕ) (xs ys : List ℕ) → tally r (xs ++ ys) ≡ tally r xs + tally r ys
 tally-append r [] ys = omega arith
 tally-append r (x ∷ xs) ys = omega (arith, tally-append r xs ys)
 
@@ -52,7 +52,7 @@ begins_append [] ys i h = absurd (cc)
 begins_append (x ∷ xs) ys i h = h
 
 -- what is true of each undelivered message stays true while nobody leaves the newest computation
-pub fine_on : (g : Graph) (i n : ℕ) (F F' : ℕ → Proc) (bag : List Message)
+fine_on : (g : Graph) (i n : ℕ) (F F' : ℕ → Proc) (bag : List Message)
     → ((k : ℕ) → (F k).latest ≡ n → (F' k).latest ≡ n) → Each (Fine g i n F) bag → Each (Fine g i n F') bag
 fine_on g i n F F' bag still a = each_more (Fine g i n F) (Fine g i n F') bag
     (λ x f. record {

@@ -18,7 +18,7 @@ bit_below Query = omega arith
 bit_below Reply = omega arith
 
 -- the message that parts make, each the rest of a division
-pub packed_parts : (k : Kind) (i number from to : ℕ) → i < 4096 → from < 4096 → to < 4096
+packed_parts : (k : Kind) (i number from to : ℕ) → i < 4096 → from < 4096 → to < 4096
     → message_of (head_of k i number from + to)
     ≡ record { kind = k; initiator = i; number = number; from = from; to = to }
 packed_parts k i number from to hi hf ht =

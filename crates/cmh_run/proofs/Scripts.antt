@@ -30,7 +30,7 @@ told_true g (e ∷ entries) ask p h =
 -- ---- first places
 
 -- a first place is the first of all that holds in the same places
-pub first_same : (Holds Other : ℕ → Type 0) (i : ℕ) → ((k : ℕ) → Holds k → Other k)
+first_same : (Holds Other : ℕ → Type 0) (i : ℕ) → ((k : ℕ) → Holds k → Other k)
     → ((k : ℕ) → Other k → Holds k) → IsFirst Holds i → IsFirst Other i
 first_same Holds Other i on back f =
     record { holds = on i f.holds; first = λ k h. f.first k (back k h) }
@@ -93,7 +93,7 @@ pub verdict_count : (g : Graph) → length (verdicts g) ≡ process_count g
 verdict_count g = length-by_index g (verdict g)
 
 -- an entry that differs from the verdicts isn't true
-pub untrue : (g : Graph) (entries : List ScriptLine) (k : ℕ) → IsWithinGraph g
+untrue : (g : Graph) (entries : List ScriptLine) (k : ℕ) → IsWithinGraph g
     → IsNever (IsOutOfRange (process_count g) entries) → Differs (verdicts g) entries k
     → IsUntrue g entries k
 untrue g entries k w never o = (
@@ -108,7 +108,7 @@ untrue g entries k w never o = (
 )
 
 -- an entry that isn't true differs from the verdicts
-pub untrue_differs : (g : Graph) (entries : List ScriptLine) (k : ℕ) → IsWithinGraph g
+untrue_differs : (g : Graph) (entries : List ScriptLine) (k : ℕ) → IsWithinGraph g
     → IsNever (IsOutOfRange (process_count g) entries) → IsUntrue g entries k
     → Differs (verdicts g) entries k
 untrue_differs g entries k w never o = (
@@ -122,7 +122,7 @@ untrue_differs g entries k w never o = (
 )
 
 -- where no entry differs from the verdicts, all are true
-pub all_true : (g : Graph) (entries : List ScriptLine) → IsWithinGraph g
+all_true : (g : Graph) (entries : List ScriptLine) → IsWithinGraph g
     → IsNever (IsOutOfRange (process_count g) entries) → IsNever (Differs (verdicts g) entries)
     → AreTrueOf g entries
 all_true g entries w never none i e s =

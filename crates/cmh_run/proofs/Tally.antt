@@ -52,7 +52,7 @@ some_tally [] h = absurd (omega arith)
 some_tally (y ∷ ys) h = (y, rw (eq-eqb y y refl) (omega arith))
 
 -- a process that stands at a place of the list stands in it
-pub tally_at : (r k : ℕ) (ys : List ℕ) → k < length ys → get_or ys k r ≡ r → 0 < tally r ys
+tally_at : (r k : ℕ) (ys : List ℕ) → k < length ys → get_or ys k r ≡ r → 0 < tally r ys
 tally_at r k [] h e = absurd (omega arith)
 tally_at r zero (y ∷ ys) h e = rw (eq-eqb y r e) (omega arith)
 tally_at r (suc k) (y ∷ ys) h e = omega (arith, tally_at r k ys (omega arith) e)

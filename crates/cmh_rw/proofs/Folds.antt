@@ -22,7 +22,7 @@ cond-none true v m n h e = e
 cond-none false v m n h e = h e
 
 -- rows that say nothing of a process have a beginning that says nothing of it
-pub fold-left : (xs ys : List Row) (p : ℕ) → fold_at (xs ++ ys) p ≡ None → fold_at xs p ≡ None
+fold-left : (xs ys : List Row) (p : ℕ) → fold_at (xs ++ ys) p ≡ None → fold_at xs p ≡ None
 fold-left [] ys p h = refl
 fold-left (r ∷ rs) ys p h =
     cond-none (eqb r.process p) r.verdict (fold_at (rs ++ ys) p) (fold_at rs p) (fold-left rs ys p) h
@@ -34,7 +34,7 @@ cond-none_right true v m n h e = absurd (some_none v e)
 cond-none_right false v m n h e = h e
 
 -- and an end that says nothing of it
-pub fold-right : (xs ys : List Row) (p : ℕ) → fold_at (xs ++ ys) p ≡ None → fold_at ys p ≡ None
+fold-right : (xs ys : List Row) (p : ℕ) → fold_at (xs ++ ys) p ≡ None → fold_at ys p ≡ None
 fold-right [] ys p e = e
 fold-right (x ∷ xs) ys p e =
     cond-none_right (eqb x.process p) x.verdict (fold_at (xs ++ ys) p) (fold_at ys p) (fold-right xs ys p) e
@@ -75,7 +75,7 @@ fold-same [] ys zs p e = e
 fold-same (r ∷ rs) ys zs p e = ap (λ n. cond (eqb r.process p) (Some r.verdict) n) (fold-same rs ys zs p e)
 
 -- a row says what it says of its process
-pub fold-one : (r : Row) → fold_at (r ∷ []) r.process ≡ Some r.verdict
+fold-one : (r : Row) → fold_at (r ∷ []) r.process ≡ Some r.verdict
 fold-one r = ap (λ b. cond b (Some r.verdict) None) (eq-eqb r.process r.process refl)
 
 -- rows that say nothing of any process are none

@@ -91,7 +91,7 @@ turn-lawful (EndWrite n) word l i Writing at h =
 turn-lawful e word l i a at h = unmoved word l i a at h
 
 -- no list of n seats has more readers, retreaters and writers than n
-pub few_hold : (l : List SeatState) → total writes l + total reads l + total retreats l ≤ length l
+few_hold : (l : List SeatState) → total writes l + total reads l + total retreats l ≤ length l
 few_hold [] = omega arith
 few_hold (Away ∷ xs) = omega (arith, few_hold xs)
 few_hold (Retreating ∷ xs) = omega (arith, few_hold xs)
@@ -132,14 +132,14 @@ set-past (x ∷ xs) zero b h = absurd (omega arith)
 set-past (x ∷ xs) (suc n) b h = ap (λ ys. x ∷ ys) (set-past xs n b (omega arith))
 
 -- a spent seat does nothing
-pub turn-spent : (e : Event) (word : ℕ) → turn e word Spent ≡ (word, Spent)
+turn-spent : (e : Event) (word : ℕ) → turn e word Spent ≡ (word, Spent)
 turn-spent (Admit n) word = refl
 turn-spent (Leave n) word = refl
 turn-spent (TryWrite n) word = refl
 turn-spent (EndWrite n) word = refl
 
 -- an event on no seat changes nothing
-pub step-past : (e : Event) (word : ℕ) (l : List SeatState) → length l ≤ seat_of e
+step-past : (e : Event) (word : ℕ) (l : List SeatState) → length l ≤ seat_of e
     → world word l ≡ step_of (world word l) e
 step-past e word l h =
     let is : turn e word (get_or l (seat_of e) Spent) ≡ (word, Spent) =
@@ -155,7 +155,7 @@ step_law w e h = elim (cases_lt (seat_of e) (length w.seats)) as (λ d. IsLawful
 ]
 
 -- each event keeps a lock a lock
-pub step-lawful : (w : World) (e : Event) → IsLock w → IsLock (step_of w e)
+step-lawful : (w : World) (e : Event) → IsLock w → IsLock (step_of w e)
 step-lawful w e h =
     record {
       lawful = step_law w e h.lawful;

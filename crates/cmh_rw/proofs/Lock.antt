@@ -43,7 +43,7 @@ holders key (v ∷ vs) each =
     let h = holds_one key v (each zero v refl) in let r = holders key vs (λ i w e. each (suc i) w e) in omega arith
 
 -- the lock word is far from the end of its range
-pub word-small : (key : Graph) (s : LockMoment) → LockRule key s → get_or s.words 0 0 < 8589934592
+word-small : (key : Graph) (s : LockMoment) → LockRule key s → get_or s.words 0 0 < 8589934592
 word-small key s h =
     let k = h.lock.word in
     let o = h.lock.one_writer in
@@ -61,7 +61,7 @@ counts key s id v h at = let k = h.lock.word in let e = at_map state_of s.views 
     omega arith
 
 -- a step on word 0 that is an event of this seat, and changes neither its share nor its graph
-pub placed : (key : Graph) (e : Event) (s : LockMoment) (n id : ℕ) (me : LockSeat) (w : LockView) → LockRule key s
+placed : (key : Graph) (e : Event) (s : LockMoment) (n id : ℕ) (me : LockSeat) (w : LockView) → LockRule key s
     → get_elem? s.views id ≡ some me.0
     → n ≡ (turn e (get_or s.words 0 0) me.0.state).0 → w.state ≡ (turn e (get_or s.words 0 0) me.0.state).1
     → w.share ≡ me.0.share → HasLockShare key w

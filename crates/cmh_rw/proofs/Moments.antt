@@ -56,7 +56,7 @@ away_graph key l h is =
     let k : HasShare key l.graph l.share Away = subst (λ s. HasShare key l.graph l.share s) is h in k.1
 
 -- where a view changes and its lock does not, the locks stay
-pub same_views : (views : List View) (id : ℕ) (v w : View) → get_elem? views id ≡ some v → w.lock ≡ v.lock
+same_views : (views : List View) (id : ℕ) (v w : View) → get_elem? views id ≡ some v → w.lock ≡ v.lock
     → map lock_of (set views id w) ≡ map lock_of views
 same_views views id v w at same =
     map-set lock_of views id w ∙ ap (set (map lock_of views) id) same

@@ -6,7 +6,7 @@ use Rattle.cmh_rw.specs.View.{longer}
 use Rattle.cmh_rw.specs.History.{laid, IsOpen, IsPosting, EndsLast, ArePostings, IsSeen, StartsWith}
 
 -- postings and more postings
-pub laid-append : (xs ys : List (List Row)) → laid (xs ++ ys) ≡ laid xs ++ laid ys
+laid-append : (xs ys : List (List Row)) → laid (xs ++ ys) ≡ laid xs ++ laid ys
 laid-append [] ys = refl
 laid-append (x ∷ xs) ys = ap (λ l. x ++ l) (laid-append xs ys) ∙ sym (append_assoc x (laid xs) (laid ys))
 

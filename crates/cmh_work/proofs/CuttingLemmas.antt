@@ -22,7 +22,7 @@ pub gathered_snoc : (cs : List (List ℕ)) (a : List ℕ) (n : ℕ)
 gathered_snoc cs a n = gathered-append cs a (n ∷ []) ∙ ap (λ l. gathered cs a ++ l) (append-nil (get_or cs n []))
 
 -- the weight of what is gathered is that of its chunks
-pub total-gathered : (h : ℕ → ℕ) (cs : List (List ℕ)) (ds : List ℕ)
+total-gathered : (h : ℕ → ℕ) (cs : List (List ℕ)) (ds : List ℕ)
     → total h (gathered cs ds) ≡ total (λ c. total h (get_or cs c [])) ds
 total-gathered h cs [] = refl
 total-gathered h cs (d ∷ ds) = omega (arith, total-gathered h cs ds, total-append h (get_or cs d []) (gathered cs ds))
@@ -50,7 +50,7 @@ total-chunks h [] xs = omega arith
 total-chunks h (c ∷ cs) xs = omega (arith, total-chunks h cs (drop c xs), total-parts h c xs)
 
 -- there is one chunk more than cuts
-pub length_chunks : (cuts xs : List ℕ) → length (chunks_of cuts xs) ≡ length cuts + 1
+length_chunks : (cuts xs : List ℕ) → length (chunks_of cuts xs) ≡ length cuts + 1
 length_chunks [] xs = refl
 length_chunks (c ∷ cs) xs = omega (arith, length_chunks cs (drop c xs))
 

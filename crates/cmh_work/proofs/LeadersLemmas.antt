@@ -18,7 +18,7 @@ use Rattle.cmh_work.specs.Leaders.{group_leader, is_deadlocked_at, leader_at, sa
 use Rattle.cmh_work.proofs.Cores.{core_back, core_deadlocked, deadlocked_within}
 
 -- a deadlocked process's leader is deadlocked, and leads itself
-pub leader_of_leader : (g : Graph) (p : ℕ) → IsWithinGraph g → is_deadlocked g p ≡ true
+leader_of_leader : (g : Graph) (p : ℕ) → IsWithinGraph g → is_deadlocked g p ≡ true
     → (is_deadlocked g (leader_of g p) ≡ true) × (leader_of g (leader_of g p) ≡ leader_of g p)
 leader_of_leader g p w e =
     let i = deadlocked_within g p w e in
@@ -42,20 +42,20 @@ below_by true leader bound h =
     ap (λ b. cond b (Some leader) None) same
 
 -- with the bound raised by one nothing changes for a process that the bound doesn't lead
-pub not_led : (g : Graph) (bound p : ℕ) → (is_deadlocked g p ≡ true → leader_of g p ≢ bound)
+not_led : (g : Graph) (bound p : ℕ) → (is_deadlocked g p ≡ true → leader_of g p ≢ bound)
     → leader_below g bound p ≡ leader_below g (bound + 1) p
 unfolding leader_below
 not_led g bound p h = below_by (is_deadlocked g p) (leader_of g p) bound h
 
 -- a free process leads nobody
-pub free_leads_nobody : (g : Graph) (p : ℕ) → IsWithinGraph g → is_deadlocked g p ≡ false → (q : ℕ)
+free_leads_nobody : (g : Graph) (p : ℕ) → IsWithinGraph g → is_deadlocked g p ≡ false → (q : ℕ)
     → is_deadlocked g q ≡ true → leader_of g q ≢ p
 free_leads_nobody g p w free q e same =
     let dead : is_deadlocked g p ≡ true = subst (λ l. is_deadlocked g l ≡ true) same (leader_of_leader g q w e).0 in
     cc
 
 -- a process with another leader leads nobody
-pub led_leads_nobody : (g : Graph) (p : ℕ) → IsWithinGraph g → leader_of g p < p → (q : ℕ) → is_deadlocked g q ≡ true
+led_leads_nobody : (g : Graph) (p : ℕ) → IsWithinGraph g → leader_of g p < p → (q : ℕ) → is_deadlocked g q ≡ true
     → leader_of g q ≢ p
 led_leads_nobody g p w less q e same =
     let own : leader_of g p ≡ p = ap (leader_of g) (sym same) ∙ (leader_of_leader g q w e).1 ∙ same in
@@ -118,7 +118,7 @@ pub leaders_size : (g : Graph) (bound : ℕ) (list : List (Option ℕ)) → AreL
 leaders_size g bound list are = ap length are ∙ length-by_index g (leader_below g bound)
 
 -- what the table has at a place
-pub leader_read : (g : Graph) (bound p : ℕ) (list : List (Option ℕ)) → AreLeadersBelow g bound list
+leader_read : (g : Graph) (bound p : ℕ) (list : List (Option ℕ)) → AreLeadersBelow g bound list
     → p < process_count g → leader_at list p ≡ leader_below g bound p
 leader_read g bound p list are i = by_index g (leader_below g bound) list p None are i
 
@@ -146,13 +146,13 @@ leaders_start g list size none =
     below_zero true leader = none_below leader (ltb leader 0) refl
 
 -- a process that leads nobody changes nothing
-pub leaders_kept : (g : Graph) (p : ℕ) (list : List (Option ℕ)) → AreLeadersBelow g p list
+leaders_kept : (g : Graph) (p : ℕ) (list : List (Option ℕ)) → AreLeadersBelow g p list
     → ((q : ℕ) → is_deadlocked g q ≡ true → leader_of g q ≢ p) → AreLeadersBelow g (p + 1) list
 leaders_kept g p list are nobody =
     are ∙ by_index_agree g (leader_below g p) (leader_below g (p + 1)) None (λ q l. not_led g p q (nobody q))
 
 -- a process that has a leader changes nothing
-pub leaders_led : (g : Graph) (p : ℕ) (list : List (Option ℕ)) → IsWithinGraph g → p < process_count g
+leaders_led : (g : Graph) (p : ℕ) (list : List (Option ℕ)) → IsWithinGraph g → p < process_count g
     → AreLeadersBelow g p list → is_some (leader_at list p) ≡ true → AreLeadersBelow g (p + 1) list
 unfolding leader_below
 leaders_led g p list w i are e =
@@ -170,7 +170,7 @@ led_by_itself_by leader p false f l e = elim (cases_eq leader p) [
 ]
 
 -- a deadlocked process that no process before it leads, leads itself
-pub led_by_itself : (g : Graph) (p : ℕ) → IsWithinGraph g → is_deadlocked g p ≡ true → leader_below g p p ≡ None
+led_by_itself : (g : Graph) (p : ℕ) → IsWithinGraph g → is_deadlocked g p ≡ true → leader_below g p p ≡ None
     → leader_of g p ≡ p
 unfolding leader_below
 led_by_itself g p w e none =
@@ -231,7 +231,7 @@ says_chosen true = refl
 says_chosen false = refl
 
 -- the known verdicts say who is deadlocked
-pub says_at : (g : Graph) (known : List Verdict) (p : ℕ) → known ≡ verdicts g → p < process_count g
+says_at : (g : Graph) (known : List Verdict) (p : ℕ) → known ≡ verdicts g → p < process_count g
     → is_deadlocked_at known p ≡ is_deadlocked g p
 says_at g known p are i = ap says_deadlocked (verdict_listed g known p Free are i) ∙ says_chosen (is_deadlocked g p)
 

@@ -39,7 +39,7 @@ rows_within g (r ∷ rs) h =
     All-cons (λ (x : Row). x.process < process_count g) r rs (idle_within g r.process h.0) (rows_within g rs h.3)
 
 -- who stands in rows of so many processes is one of these
-pub stands_within : (rows : List Row) (count p : ℕ) (v : Verdict) → All (λ (r : Row). r.process < count) rows
+stands_within : (rows : List Row) (count p : ℕ) (v : Verdict) → All (λ (r : Row). r.process < count) rows
     → fold_at rows p ≡ Some v → p < count
 stands_within [] count p v w e = absurd cc
 stands_within (r ∷ rs) count p v w e = elim (cases_Bool (eqb r.process p)) [

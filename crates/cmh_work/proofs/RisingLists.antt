@@ -76,7 +76,7 @@ module _ {X : Type 0} where
   all_from f x (y ∷ ys) h = (h zero y (omega arith), all_from f x ys (λ j d low. h (suc j) d (omega arith)))
 
   -- a list that is sorted by a number has rising numbers
-  pub rises_by : (f : X → ℕ) (xs : List X) → IsNonDecreasingBy f xs → Rises (map f xs)
+  rises_by : (f : X → ℕ) (xs : List X) → IsNonDecreasingBy f xs → Rises (map f xs)
   rises_by f [] h = tt
   rises_by f (x ∷ xs) h = (
     all_from f x xs (λ j d low. h zero (suc j) d (omega arith) (omega arith)),
@@ -89,12 +89,12 @@ module _ {X : Type 0} where
   total-sum_by f (x ∷ xs) = omega (arith, total-sum_by f xs, sum_by-cons f x xs)
 
   -- the total of what is mapped
-  pub total-map : (h : ℕ → ℕ) (f : X → ℕ) (xs : List X) → total h (map f xs) ≡ total (λ x. h (f x)) xs
+  total-map : (h : ℕ → ℕ) (f : X → ℕ) (xs : List X) → total h (map f xs) ≡ total (λ x. h (f x)) xs
   total-map h f [] = refl
   total-map h f (x ∷ xs) = omega (arith, total-map h f xs)
 
   -- the order is of no matter for a total
-  pub total-permutation : (f : X → ℕ) (xs ys : List X) → IsPermutation xs ys → total f ys ≡ total f xs
+  total-permutation : (f : X → ℕ) (xs ys : List X) → IsPermutation xs ys → total f ys ≡ total f xs
   total-permutation f xs ys p = total-sum_by f ys ∙ sum_by-IsPermutation f xs ys p ∙ sym (total-sum_by f xs)
 
   -- sorted by a number, a list has the numbers of a rising list that weighs the same

@@ -22,13 +22,13 @@ abbrev Sat : Type 0
 Sat = Me (Unit {0}) TicketView
 
 -- what is set stands there
-pub set_at : {A : Type 0} (l : List A) (i : ℕ) (a b : A) → get_elem? l i ≡ some a → get_elem? (set l i b) i ≡ some b
+set_at : {A : Type 0} (l : List A) (i : ℕ) (a b : A) → get_elem? l i ≡ some a → get_elem? (set l i b) i ≡ some b
 set_at [] i a b e = absurd (some-ne-none a (sym e))
 set_at (x ∷ xs) zero a b e = refl
 set_at (x ∷ xs) (suc i) a b e = set_at xs i a b e
 
 -- one number more below the bound
-pub sum-step : (h : ℕ → ℕ) (n : ℕ) → sum_below h (n + 1) ≡ sum_below h n + h n
+sum-step : (h : ℕ → ℕ) (n : ℕ) → sum_below h (n + 1) ≡ sum_below h n + h n
 sum-step h n = simp unary_clauses refl
 
 -- how many there are, as a total
@@ -81,7 +81,7 @@ drawn_of_one key x (y ∷ ys) (suc id) v f each at most = let in_there = total-i
     ap (total f) ((each zero y refl).bare (omega arith)) in omega arith
 
 -- with the whole share and after none, a seat drew all
-pub knows_all : (key : ℕ) (s : St) (id : ℕ) (v : TicketView) → Dealt key s → get_elem? s.views id ≡ some v → KnowsAll v
+knows_all : (key : ℕ) (s : St) (id : ℕ) (v : TicketView) → Dealt key s → get_elem? s.views id ≡ some v → KnowsAll v
 knows_all key s id v h at done whole f = let has = h.each id v at in let few = h.shares in let is =
     has.knows (omega arith) in let past = has.past done in let r = h.at_end past in
     sym (drawn_of_one key (get_or s.words 0 0) s.views id v f h.each at (omega arith)) ∙ h.numbers f
