@@ -134,7 +134,7 @@ pub cuts_first : (w : PlanWords) (s : ℕ) → IsCutsStatus w.cuts s → IsPlanS
 cuts_first w s (inl h) = inl h
 cuts_first w s (inr h) = inr (h.0, inl h.1)
 
--- and so is that of refused choices
+-- the status of refused choices is one of the plan
 pub choices_next : (w : PlanWords) (s : ℕ) → IsListStatus w.choices.now s → IsPlanStatus w s
 choices_next w s (inl h) = inl h
 choices_next w s (inr h) = inr (h.0, inr (inl h.1))
@@ -172,7 +172,7 @@ plan_status w cuts choices f listed next h = by_fault f h
 
 -- ---- an analysis
 
--- the plan is refused before anything is read
+-- where the plan is refused before anything is read, the outcome has the status of that refusal
 pub misplanned : (w : PlanWords) (s : ℕ) (e : Ends) → IsPlanStatus w s → IsUnread e → IsUnwritten e
     → IsOutcome (Analyse w) s e
 misplanned w s e (inl h) unread unwritten =
@@ -180,16 +180,16 @@ misplanned w s e (inl h) unread unwritten =
 misplanned w s e (inr h) unread unwritten =
     subst (λ (n : ℕ). IsOutcome (Analyse w) n e) (sym h.0) (is_misused (Analyse w) e (unwritten, unread, h.1))
 
--- the report says that nothing is deadlocked
+-- where the report says that nothing is deadlocked, the outcome has the status `FREE`
 pub nothing_deadlocked : (w : PlanWords) (e : Ends) → HasAnswered (IsCountedReport 0) e → IsOutcome (Analyse w) FREE e
 nothing_deadlocked w e h = is_done (Analyse w) e h
 
--- the report says that something is
+-- where the report says that something is deadlocked, the outcome has the status `DEADLOCKED`
 pub something_deadlocked : (w : PlanWords) (e : Ends) (d : ℕ) → d ≢ 0 → HasAnswered (IsCountedReport d) e
     → IsOutcome (Analyse w) DEADLOCKED e
 something_deadlocked w e d some h = has_deadlock (Analyse w) e (d, omega (arith, some), h)
 
--- the analysis has a fault
+-- where the analysis has a fault, the outcome has the status of that fault
 pub analysis_failed : (w : PlanWords) (e : Ends) (f : AppFault)
     → IfDump f (IsRefused e.given_old e.given_new e.has_ended e.source_failed)
     → IfNoSuchProcess f ⊥ → IfRun f (λ _. ⊥) → IfUnwritten f (IsUnwritten e)
@@ -206,7 +206,7 @@ analysis_failed w e (WriteFault n) refused nobody no_run unwritten cut stopped =
 
 -- ---- a trace
 
--- the list of choices is refused before anything is read
+-- where the list of choices is refused before anything is read, the outcome has the status of that refusal
 pub mislisted : (name list : Bor (List ℕ)) (s : ℕ) (e : Ends) → IsListStatus list.now s → IsUnread e → IsUnwritten e
     → IsOutcome (Trace name list) s e
 mislisted name list s e (inl h) unread unwritten =
@@ -221,7 +221,7 @@ any_ending : (name list choices : List ℕ) (ending : Ending) (g : Graph) (text 
 any_ending name list choices ending g text listed h =
     (choices, listed, record { run = h.run; named = h.named; plain = h.plain; ends = tt; lines = h.lines })
 
--- the trace is out
+-- where the trace is out, the outcome has the status `FREE`
 pub traced : (name list : Bor (List ℕ)) (choices : List ℕ) (ending : Ending) (e : Ends) → IsListOf list.now choices
     → HasAnswered (IsEndedTrace name.now choices ending) e → IsOutcome (Trace name list) FREE e
 traced name list choices ending e listed h = is_done (Trace name list) e (record {
@@ -237,7 +237,7 @@ traced name list choices ending e listed h = is_done (Trace name list) e (record
 nobody_named : (name : List ℕ) (g : Graph) → NobodyIsNamed g name → NobodyIdleIsNamed name g
 nobody_named name g none p h = absurd (none p h.within h.named)
 
--- one process alone is the first of its name
+-- at most one process is the first of a name
 first_alone : (name : List ℕ) (g : Graph) (p q : ℕ) → IsFirstNamed g name p → IsFirstNamed g name q → p ≡ q
 first_alone name g p q one other = by_order (cases_order p q)
   where
@@ -253,7 +253,7 @@ no_restarts = record {
   rising = λ k l. absurd (omega arith);
 }
 
--- a process that has no run by few choices isn't idle
+-- where a named process has no run by few choices, memory is wanting or nobody idle has the name
 not_idle : (name choices : List ℕ) (f : RunFault) (g : Graph) → length choices ≤ MAX_CHOICES → HasNoRun name choices f g
     → (f ≡ run.Memory) ⊎ NobodyIdleIsNamed name g
 not_idle name choices f g few h = by_fault f h.cause
@@ -268,7 +268,7 @@ not_idle name choices f g few h = by_fault f h.cause
     by_fault run.BadRestarts (inr bad) = absurd (bad.2 no_restarts)
     by_fault run.Memory (inr none) = absurd none
 
--- the trace has a fault
+-- where the trace has a fault, the outcome has the status of that fault
 pub trace_failed : (name list : Bor (List ℕ)) (choices : List ℕ) (e : Ends) (f : AppFault) → IsListOf list.now choices
     → length choices ≤ MAX_CHOICES
     → IfDump f (IsRefused e.given_old e.given_new e.has_ended e.source_failed)
@@ -325,7 +325,7 @@ trace_failed name list choices e (WriteFault n) listed few refused nobody no_run
 
 -- ---- a text that was asked for
 
--- the text is out, or its front where the output failed
+-- where a text that was asked for is out, or its front as the output failed, the outcome fits the status
 pub shown : (text : String Global) (s : ℕ) (e : Ends) → (s ≡ FREE) ⊎ (s ≡ FAILED) → IsUnread e
     → (s ≡ FREE → e.taken_new ≡ e.taken_old ++ string_bytes text) → (s ≡ FREE → e.is_finished ≡ true)
     → (s ≡ FAILED
@@ -350,12 +350,12 @@ shown text s e (inr is) unread taken finished front = record {
 
 -- ---- the whole program
 
--- the request is what the words ask for
+-- where the request is what the words ask for, its outcome is one of the words
 pub requested : (words : List (List ℕ)) (r : Request) (s : ℕ) (e : Ends) → IsRequest words r → IsOutcome r s e
     → IsOutcomeOf words s e
 requested words r s e asked h = inl (r, asked, h)
 
--- the words are refused, and nothing is touched
+-- where the words are refused and nothing is touched, the outcome has the status `MISUSED`
 pub refused_words : (words : List (List ℕ)) (text : String Global) (e : Ends) → IsRequest words (Refused text)
     → IsUnread e → IsUnwritten e → IsOutcomeOf words MISUSED e
 refused_words words text e asked unread unwritten =

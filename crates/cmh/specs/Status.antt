@@ -26,13 +26,13 @@ use Rattle.cmh.specs.declared.status.TheConstants.{FREE, REFUSED, MISUSED, DEADL
 
 -- ---- the status after a fault
 
--- want of memory and a failed source are no fault of the dump
+-- the status after a fault in reading a dump: want of memory and a failed source are no fault of the dump
 abbrev pub status_of_dump : DumpFault → ℕ
 status_of_dump dump.Memory = FAILED
 status_of_dump dump.ReadFault = FAILED
 status_of_dump fault = REFUSED
 
--- other faults of a run lie in what was asked
+-- the status after a fault of a run: all but want of memory lie in what was asked
 abbrev pub status_of_run : RunFault → ℕ
 status_of_run run.Memory = FAILED
 status_of_run fault = MISUSED
@@ -46,12 +46,12 @@ status_of (Run fault) = status_of_run fault
 status_of (Report fault) = FAILED
 status_of (WriteFault written) = FAILED
 
--- the status with which a refused list of numbers does
+-- the status with which a refused list of numbers ends the program
 abbrev pub status_of_list : ListFault → ℕ
 status_of_list list.Memory = FAILED
 status_of_list fault = MISUSED
 
--- the status with which a refused plan does
+-- the status with which a refused plan ends the program
 abbrev pub status_of_plan : PlanFault → ℕ
 status_of_plan plan.Memory = FAILED
 status_of_plan fault = MISUSED
@@ -83,7 +83,7 @@ abbrev pub HasAnswered : (Graph → List ℕ → Type 0) → Ends → Type 0
 HasAnswered Fits e =
     IsAnswer Fits e.given_old e.given_new e.has_ended e.taken_old e.taken_new e.is_finished
 
--- the source gave a dump, and the output failed after it had taken the front of such a text
+-- the source gave a dump, and the output failed after it had taken the front of a text that fits its graph
 abbrev pub HasStopped : (Graph → List ℕ → Type 0) → Ends → Type 0
 HasStopped Fits e = (e.out_failed ≡ true) × ((written : ℕ)
     × IsCutShort Fits e.given_old e.given_new e.has_ended e.taken_old e.taken_new written)
@@ -131,12 +131,12 @@ AreBadPlanWords words = MatchOption words.cuts ⊥ (λ text. IsBadList text.now)
 abbrev pub IsListStatus : List ℕ → ℕ → Type 0
 IsListStatus text status = (status ≡ FAILED) ⊎ ((status ≡ MISUSED) × IsBadList text)
 
--- the same of a list of cuts that was given
+-- the status of a refused list of cuts that was given, or of cuts for which there was no memory
 abbrev pub IsCutsStatus : Option (Bor (List ℕ)) → ℕ → Type 0
 IsCutsStatus words status = (status ≡ FAILED)
     ⊎ ((status ≡ MISUSED) × MatchOption words ⊥ (λ text. IsBadList text.now))
 
--- the same of the words for a plan
+-- the status of refused words for a plan, or of a plan for which there was no memory
 abbrev pub IsPlanStatus : PlanWords → ℕ → Type 0
 IsPlanStatus words status = (status ≡ FAILED) ⊎ ((status ≡ MISUSED) × AreBadPlanWords words)
 

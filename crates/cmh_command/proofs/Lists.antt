@@ -16,7 +16,7 @@ use Rattle.cmh_command.specs.declared.list.ListFault.TheVariants.{Memory}
 
 -- ---- one item
 
--- what makes an item a number
+-- an item that is a number has one or more bytes, all of them digits, and a value that fits
 number_parts : (item : List ℕ) → is_number item ≡ true
     → (0 < length item) × (all_ascii_digits item ≡ true) × (digits_value 10 item < 2 ^ 64)
 unfolding is_number
@@ -25,7 +25,7 @@ number_parts item h =
     let inner = and_parts (ltb 0 (length item)) (all_ascii_digits item) outer.0 in
     (ltb-true 0 (length item) inner.0, inner.1, ltb-true (digits_value 10 item) (2 ^ 64) outer.1)
 
--- and nothing else does
+-- an item of one or more bytes, all of them digits, with a value that fits is a number
 parts_number : (item : List ℕ) → 0 < length item → all_ascii_digits item ≡ true → digits_value 10 item < 2 ^ 64
     → is_number item ≡ true
 unfolding is_number
@@ -34,7 +34,7 @@ parts_number item some digits fits =
     (and_from (ltb 0 (length item)) (all_ascii_digits item) (lt-ltb 0 (length item) some) digits)
     (lt-ltb (digits_value 10 item) (2 ^ 64) fits)
 
--- an item that writes a number is one
+-- an item that writes a number is a number
 pub number_is : (item : List ℕ) (n : ℕ) → number_of item ≡ Some n → is_number item ≡ true
 number_is item n = by_test (is_number item)
   where
@@ -42,7 +42,7 @@ number_is item n = by_test (is_number item)
     by_test true e = refl
     by_test false e = cc
 
--- an item that writes none isn't
+-- an item that writes no number is no number
 pub no_number_is : (item : List ℕ) → number_of item ≡ None → is_number item ≡ false
 no_number_is item = by_test (is_number item)
   where
@@ -94,13 +94,14 @@ pub cut_items : (text : List ℕ) → length text ≢ 0 → items_of text ≡ sl
 cut_items [] some = absurd (some refl)
 cut_items (b ∷ bs) some = refl
 
--- an item that was cut from the text
+-- what was cut from the text at place i is item i of the text
 pub item_is : (list : List (Bor (List ℕ))) (text : List ℕ) (i : ℕ) (d : Bor (List ℕ))
     → map (λ item. item.now) list ≡ items_of text → i < length list → (get_or list i d).now ≡ item_at text i
 item_is list text i d e l =
     sym (get_or-map (λ (item : Bor (List ℕ)). item.now) list i d [] l) ∙ ap (λ xs. get_or xs i []) e
 
--- one number more
+-- where the first i items write the numbers so far and the next one writes n, the first i + 1 write
+-- n at the end
 pub written_more : (items : List (List ℕ)) (numbers : List ℕ) (i n : ℕ) → i < length items
     → map number_of (take i items) ≡ map Some numbers → number_of (get_or items i []) ≡ Some n
     → map number_of (take (i + 1) items) ≡ map Some (numbers ++ n ∷ [])

@@ -31,7 +31,7 @@ pub value_is : (f : Found) (id : Text) (r : Option (Bor Text)) → option_map (�
     → option_map (λ s. s.now) r ≡ first_of id (rows_of f)
 value_is f id r e = e ∙ first_value-rows f id
 
--- and so it is where the empty text stands for none
+-- where the empty text stands for none, what a getter gives is the option's text in the rows
 pub text_is : (f : Found) (id : Text) (r : Option (Bor Text)) (d u : Bor Text)
     → option_map (λ s. s.now) r ≡ first_value f id → u ≡ unwrap_or r d → d.now ≡ []
     → u.now ≡ text_of id (rows_of f)
@@ -42,7 +42,7 @@ text_is f id r d u e is empty =
     by_value None = empty
     by_value (Some b) = refl
 
--- without the option there are as many workers as by default
+-- without the option `--workers` there are as many workers as by default
 pub has_default : (f : Found) (r : Option (Bor Text)) → option_map (λ s. s.now) r ≡ first_value f (codes "workers")
     → r ≡ None → HasWorkers DEFAULT_WORKERS (rows_of f)
 has_default f r e is =
@@ -50,7 +50,7 @@ has_default f r e is =
     (λ text. number_of text ≡ Some DEFAULT_WORKERS))
     (sym (ap (option_map (λ (s : Bor Text). s.now)) is) ∙ value_is f (codes "workers") r e) refl
 
--- with it as many as it writes
+-- with the option `--workers` there are as many workers as it writes
 pub has_number : (f : Found) (r : Option (Bor Text)) (text : Bor Text) (m : Option ℕ) (n : ℕ)
     → option_map (λ s. s.now) r ≡ first_value f (codes "workers") → r ≡ Some text
     → m ≡ number_of text.now → m ≡ Some n → HasWorkers n (rows_of f)
@@ -58,7 +58,7 @@ has_number f r text m n e is reads some =
     subst (λ (o : Option Text). MatchOption o (n ≡ DEFAULT_WORKERS) (λ text. number_of text ≡ Some n))
     (sym (ap (option_map (λ (s : Bor Text). s.now)) is) ∙ value_is f (codes "workers") r e) (sym reads ∙ some)
 
--- what is no number is no number of workers
+-- what is written with the option `--workers` is bad where it is no number
 pub has_none : (f : Found) (r : Option (Bor Text)) (text : Bor Text) (m : Option ℕ)
     → option_map (λ s. s.now) r ≡ first_value f (codes "workers") → r ≡ Some text
     → m ≡ number_of text.now → m ≡ None → HasBadWorkers (rows_of f)
@@ -68,7 +68,7 @@ has_none f r text m e is reads none = (
   subst (λ (o : Option ℕ). MatchOption o ⊤ (λ n. 2 ^ 32 ≤ n)) (sym none ∙ reads) tt,
 )
 
--- nor is what is too large
+-- what is written with the option `--workers` is bad where it is too large a number
 pub has_large : (f : Found) (r : Option (Bor Text)) (text : Bor Text) (m : Option ℕ) (n : ℕ)
     → option_map (λ s. s.now) r ≡ first_value f (codes "workers") → r ≡ Some text
     → m ≡ number_of text.now → m ≡ Some n → 2 ^ 32 ≤ n → HasBadWorkers (rows_of f)
@@ -96,7 +96,7 @@ abbrev AreNamed : List Shape → Type 0
 AreNamed [] = ⊤
 AreNamed (x ∷ xs) = ((x.name ≡ codes "analyse") ⊎ (x.name ≡ codes "trace")) × AreNamed xs
 
--- whichever of them is found is known
+-- where the shapes have the names of the two commands, one of them that is found is a known command
 find_known : (f : Shape → Bool) (xs : List Shape) (words : List Text) → AreNamed xs
     → (option_map (λ s. rows_at s words) (find f xs) ≡ None) ⊎ IsKnown (option_map (λ s. rows_at s words) (find f xs))
 find_known f [] words h = inl refl
@@ -126,7 +126,7 @@ rows_are : (c : Command) (words : List Text) (m : ArgMatches) → app_of c ≡ p
     → subcommand_rows_of m ≡ subcommand_of program words
 rows_are c words m app h = (h (ap is_simple app ∙ is_plain)).1 ∙ ap (λ (a : App). subcommand_of a words) app
 
--- and it is one of the commands
+-- a command that was entered by words that `clap` takes is one of the two commands
 pub is_known : (c : Command) (words : List Text) (m : ArgMatches) → app_of c ≡ program → HasMatchesOf (app_of c) words m
     → has_subcommand m ≡ true → IsKnown (subcommand_rows_of m)
 is_known c words m app h has =

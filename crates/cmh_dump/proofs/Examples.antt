@@ -140,7 +140,7 @@ not_json_empty : IsRefused [] NotJson
 unfolding dump dump_of_tree serde_json_on_literals is_utf8 chars
 not_json_empty = refl
 
--- two in a cycle without the last byte
+-- a dump of two processes in a cycle, without its last byte, is no JSON
 not_json_cut_short : IsRefused (codes "{'version':1,'sites':['a'],'processes':[" ++ in_a_cycle ++ codes "]") NotJson
 unfolding dump dump_of_tree serde_json_on_literals is_utf8 chars
 not_json_cut_short = refl
@@ -243,12 +243,12 @@ bad_version_exponent = refl
 
 -- ---- the sites
 
--- a name that is none comes before one that repeats
+-- a bad name of a site is a fault before one that repeats
 bad_site_before_repeated : IsRefused (codes "{'version':1,'sites':['a','a','b c'],'processes':[]}") (BadSites 2)
 unfolding dump dump_of_tree serde_json_on_literals is_utf8 chars
 bad_site_before_repeated = refl
 
--- the sites come before the processes
+-- a fault of the sites comes before one of the processes
 repeated_site_before_processes : IsRefused (codes "{'version':1,'sites':['b','a','a'],'processes':[7]}")
     (RepeatedSite 2)
 unfolding dump dump_of_tree serde_json_on_literals is_utf8 chars
@@ -256,7 +256,7 @@ repeated_site_before_processes = refl
 
 -- ---- the processes
 
--- how each is written comes before what any names
+-- a process that is written badly comes before one that names an unknown site
 bad_process_before_unknown_site : IsRefused (with_processes (codes "{'name':'p','site':'z','state':'active'},7"))
     (BadProcess 1)
 unfolding dump dump_of_tree serde_json_on_literals is_utf8 chars
@@ -356,7 +356,7 @@ active_with_dependents = refl
 
 -- ---- the messages in transit
 
--- the processes come before the messages
+-- a fault of the processes comes before one of the messages in transit
 active_with_dependents_before_messages : IsRefused
     (codes "{'version':2,'sites':['a'],'processes':[{'name':'p','site':'a','state':'active','dependents':['p']}],"
     ++ codes "'in_transit':[7]}")
@@ -364,7 +364,7 @@ active_with_dependents_before_messages : IsRefused
 unfolding dump dump_of_tree serde_json_on_literals is_utf8 chars
 active_with_dependents_before_messages = refl
 
--- how each is written comes before whom any names
+-- a message that is written badly comes before one that names an unknown process
 bad_message_before_unknown : IsRefused (with_messages (codes "[['x','p'],['p']]")) (BadInTransit 1)
 unfolding dump dump_of_tree serde_json_on_literals is_utf8 chars
 bad_message_before_unknown = refl

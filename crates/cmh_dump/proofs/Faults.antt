@@ -4,7 +4,7 @@ use Rattle.std.specs.Prelude.{find, map}
 use Rattle.std.specs.Option.{option_or}
 use Rattle.std.specs.List.{range_with_len}
 
--- 0 to n - 1
+-- the numbers from 0 to n - 1
 abbrev pub below : ℕ → List ℕ
 below n = range_with_len 0 n
 
@@ -32,12 +32,12 @@ module _ {X : Type 0} (test : X → Bool) where
       by true e = refl
       by false e = e
 
-  -- a function over two lists joined
+  -- two lists joined are mapped to the two mapped lists joined
   map-append : (f : ℕ → X) (ms ns : List ℕ) → map f (ms ++ ns) ≡ map f ms ++ map f ns
   map-append f [] ns = refl
   map-append f (m ∷ ms) ns = ap (λ xs. f m ∷ xs) (map-append f ms ns)
 
-  -- the last of those below n + 1 comes last
+  -- a search of f at the numbers below n + 1 asks f at n last
   last_of : (f : ℕ → X) (n : ℕ)
       → find test (map f (below (suc n)))
       ≡ option_or (find test (map f (below n))) (cond (test (f n)) (Some (f n)) None)
@@ -53,7 +53,7 @@ module _ {X : Type 0} (test : X → Bool) where
       ∙ ap (λ o. option_or o (cond (test (f n)) (Some (f n)) None)) (none_below f n (λ k lt. h k (omega arith)))
       ∙ ap (λ b. cond b (Some (f n)) None) (h n (omega arith))
 
-  -- a fault that is found stays the first one
+  -- where f passes at i and at no number before, a search of f at more numbers than i finds it at i
   found_below : (f : ℕ → X) (i m : ℕ) → ((k : ℕ) → k < i → test (f k) ≡ false) → test (f i) ≡ true
       → find test (map f (below (suc i + m))) ≡ Some (f i)
   found_below f i zero h t =
@@ -70,25 +70,25 @@ module _ {X : Type 0} (test : X → Bool) where
       same : suc i + suc m ≡ suc (suc i + m)
       same = omega arith
 
--- what is found at i among the first n, where none before it passes
+-- where f passes at i below n and at no number before, a search of f at the numbers below n finds it at i
 pub found_at : {X : Type 0} (test : X → Bool) (f : ℕ → X) (n i : ℕ) → i < n → ((k : ℕ) → k < i → test (f k) ≡ false)
     → test (f i) ≡ true → find test (map f (below n)) ≡ Some (f i)
 found_at test f n i lt before now =
     let e : suc i + (n - suc i) ≡ n = omega arith in
     ap (λ m. find test (map f (below m))) (sym e) ∙ found_below test f i (n - suc i) before now
 
--- a function that changes nothing
+-- a list mapped by a function that changes nothing is the list itself
 map-same : (xs : List ℕ) → map (λ x. x) xs ≡ xs
 map-same [] = refl
 map-same (x ∷ xs) = ap (λ ys. x ∷ ys) (map-same xs)
 
--- the least number below n that passes
+-- where i below n passes and no number before it does, a search of the numbers below n finds i
 pub least_found : (test : ℕ → Bool) (n i : ℕ) → i < n → ((k : ℕ) → k < i → test k ≡ false) → test i ≡ true
     → find test (below n) ≡ Some i
 least_found test n i lt before now =
     ap (find test) (sym (map-same (below n))) ∙ found_at test (λ k. k) n i lt before now
 
--- no number below n passes
+-- where no number below n passes, a search of them finds none
 pub none_found : (test : ℕ → Bool) (n : ℕ) → ((k : ℕ) → k < n → test k ≡ false) → find test (below n) ≡ None
 none_found test n h = ap (find test) (sym (map-same (below n))) ∙ none_below test (λ k. k) n h
 

@@ -7,7 +7,7 @@ use Rattle.std.proofs.lemmas.Iterator.Adapters.{position_from-zero}
 use Rattle.cmh_dump.specs.Read.{first_pair}
 use Rattle.cmh_dump.proofs.Faults.{below, find-append}
 
--- the element at a place, in the list that another one is seen as
+-- where an element is read at a place, what a function makes of it is read there in the mapped list
 pub get-map : {Y Z : Type 0} (f : Y → Z) (ys : List Y) (k : ℕ) (y : Y) → slice_get ys k ≡ Some y
     → slice_get (map f ys) k ≡ Some (f y)
 get-map f [] k y e = absurd cc
@@ -17,7 +17,7 @@ get-map f (x ∷ xs) (suc k) y e = get-map f xs k y e
 -- ---- one index
 
 module _ {X : Type 0} (test : X → Bool) where
-  -- one step of two searches that go together
+  -- one step of two searches, of a list and of its faults by number, keeps them together
   one_by : (b c : Bool) (x : X) (F : ℕ → X) (a : ℕ) (o : Option ℕ) (r : Option X) → b ≡ c → x ≡ F a → r ≡ option_map F o
       → cond b (Some x) r ≡ option_map F (cond c (Some a) o)
   one_by true true x F a o r e s h = ap Some s
@@ -46,7 +46,7 @@ module _ {X : Type 0} (test : X → Bool) where
       each_from F bad ys 0 (λ k y e. let start : 0 + k ≡ k = omega arith in ap (λ b. test (F b)) start ∙ h k y e)
       ∙ ap (option_map F) (sym (position_from-zero bad ys))
 
-  -- the same, where the list that is searched is seen as another one
+  -- the first fault of a kind stands where a list is first bad by what its elements are seen as
   pub each_seen : {Y Z : Type 0} (F : ℕ → X) (f : Y → Z) (bad : Z → Bool) (ys : List Y) (n : ℕ) → n ≡ length ys
       → ((k : ℕ) (z : Z) → slice_get (map f ys) k ≡ Some z → test (F k) ≡ bad z)
       → find test (map F (below n)) ≡ option_map F (position (λ y. bad (f y)) ys)
@@ -56,7 +56,7 @@ module _ {X : Type 0} (test : X → Bool) where
 
   -- ---- two indices
 
-  -- the first of a row, or of later rows, by two numbers
+  -- what is first of a row or of later rows, by two numbers, is what the first pair of numbers makes
   pair_by : (F : ℕ → ℕ → X) (a : ℕ) (o : Option ℕ) (later : Option (ℕ × ℕ))
       → option_or (option_map (F a) o) (option_map (λ p. F p.0 p.1) later)
       ≡ option_map (λ p. F p.0 p.1) (option_or (option_map (λ j. (a, j)) o) later)
@@ -79,7 +79,7 @@ module _ {X : Type 0} (test : X → Bool) where
       ap (λ b. find test (row b)) next ∙ h (suc k) z e ∙ ap (λ b. option_map (F b) (search z)) (sym next)))
       ∙ pair_by F a (search y) (first_pair search (a + 1) ys)
 
-  -- the first of faults that go by two indices
+  -- the first fault of a kind with two places stands where the search by rows finds it
   pub pairs_seen : {Y : Type 0} (F : ℕ → ℕ → X) (row : ℕ → List X) (search : Y → Option ℕ) (ys : List Y) (n : ℕ)
       → n ≡ length ys → ((k : ℕ) (y : Y) → slice_get ys k ≡ Some y → find test (row k) ≡ option_map (F k) (search y))
       → find test (flat_map row (below n)) ≡ option_map (λ p. F p.0 p.1) (first_pair search 0 ys)
@@ -89,7 +89,7 @@ module _ {X : Type 0} (test : X → Bool) where
       (λ k y e. let start : 0 + k ≡ k = omega arith in
       ap (λ b. find test (row b)) start ∙ h k y e ∙ ap (λ b. option_map (F b) (search y)) (sym start))
 
-  -- a search of a list that is made by a function
+  -- a search of a mapped list finds what the function makes of what is first found in the list
   pub find-map : {Y : Type 0} (f : Y → X) (ys : List Y)
       → find test (map f ys) ≡ option_map f (find (λ y. test (f y)) ys)
   find-map f [] = refl

@@ -22,7 +22,7 @@ least : (d : Data) (fault : DumpFault) → first_of (holds d) (in_order d) ≡ S
     → IsLeastOfLists (holds d) (in_order d) fault
 least d fault e = least_of_lists (holds d) (IsOfTree d) 4 (in_order d) fault (in_stages d) e
 
--- it is the first
+-- what the search through the table finds is the first fault that the tree has
 found_is_first : (d : Data) (fault : DumpFault) → first_of (holds d) (in_order d) ≡ Some fault
     → IsFirstBy dump_fault_rank (HasTreeFault d) fault
 found_is_first d fault e = record {
@@ -38,11 +38,11 @@ found_is_first d fault e = record {
     after other (inl s) = ap (λ f. dump_fault_comes_before f fault) s ∙ not_before_itself fault
     after other (inr b) = not_before_both fault other b
 
--- where it finds none the tree has none
+-- where the search through the table finds no fault, the tree has none
 none_is_had : (d : Data) → first_of (holds d) (in_order d) ≡ None → AreNone (HasTreeFault d)
 none_is_had d e fault h = false≢true (sym (none_holds d e fault h.0) ∙ h.1)
 
--- and it finds the first
+-- the search through the table finds the first fault that the tree has
 first_is_found : (d : Data) (fault : DumpFault) → IsFirstBy dump_fault_rank (HasTreeFault d) fault
     → first_of (holds d) (in_order d) ≡ Some fault
 first_is_found d fault h = by (first_of (holds d) (in_order d)) refl
@@ -57,7 +57,7 @@ first_is_found d fault h = by (first_of (holds d) (in_order d)) refl
     by None e = absurd (none_is_had d e fault h.had)
     by (Some f) e = ap (λ g. Some g) (same f e ((least d f e).least fault (stands d fault h.had.0) h.had.1))
 
--- where the tree has none it finds none
+-- where the tree has no fault, the search through the table finds none
 none_is_found : (d : Data) → AreNone (HasTreeFault d) → first_of (holds d) (in_order d) ≡ None
 none_is_found d h = by (first_of (holds d) (in_order d)) refl
   where
@@ -65,13 +65,13 @@ none_is_found d h = by (first_of (holds d) (in_order d)) refl
     by None e = refl
     by (Some f) e = absurd (h f (found_is_first d f e).had)
 
--- what is refused was found
+-- where the answer is a fault, that fault was found
 refused : (o : Option DumpFault) (g : Graph) (fault : DumpFault) → option_map_or Err o (Ok g) ≡ Err fault
     → o ≡ Some fault
 refused None g fault e = absurd cc
 refused (Some f) g fault e = cc
 
--- where a graph is answered none was found
+-- where the answer is a graph, no fault was found, and it is the graph that is answered in that case
 accepted : (o : Option DumpFault) (h g : Graph) → option_map_or Err o (Ok h) ≡ Ok g → (o ≡ None) × (g ≡ h)
 accepted None h g e = (refl, cc)
 accepted (Some f) h g e = absurd cc
@@ -108,7 +108,7 @@ tree_has bytes d TooLong l e h = absurd (omega (arith, l, h))
 tree_has bytes d NotJson l e h = absurd cc
 tree_has bytes d fault l e h = let same : h.0 ≡ d = cc in subst (λ t. HasTreeFault t fault) same h.2
 
--- of bytes that are too long that is the first fault
+-- of too many bytes the first fault is that they are too long
 first_too_long : (bytes : List ℕ) → MAX_BYTES < length bytes → IsFirstBy dump_fault_rank (BytesHave bytes) TooLong
 first_too_long bytes l = record { had = l; first = first }
   where
@@ -117,7 +117,7 @@ first_too_long bytes l = record { had = l; first = first }
     first ReadFault h = absurd h.2.0
     first other h = refl
 
--- and no other is
+-- of too many bytes no fault but that they are too long is the first
 is_too_long : (bytes : List ℕ) (fault : DumpFault) → MAX_BYTES < length bytes
     → IsFirstBy dump_fault_rank (BytesHave bytes) fault
     → fault ≡ TooLong
@@ -129,7 +129,7 @@ is_too_long bytes fault l h = by fault h.had (h.first TooLong l)
     by TooLong h b = refl
     by fault h b = absurd (false≢true (sym b))
 
--- of others that are no JSON that is the first fault
+-- of bytes that are not too many and have no tree the first fault is that they are no JSON
 first_not_json : (bytes : List ℕ) → length bytes ≤ MAX_BYTES → tree_of bytes ≡ None
     → IsFirstBy dump_fault_rank (BytesHave bytes) NotJson
 first_not_json bytes l e = record { had = e; first = first }
@@ -140,14 +140,14 @@ first_not_json bytes l e = record { had = e; first = first }
     first TooLong h = absurd (omega (arith, l, h))
     first other h = refl
 
--- and no other is
+-- bytes that are not too many and have no tree have no fault but that they are no JSON
 is_not_json : (bytes : List ℕ) (fault : DumpFault) → length bytes ≤ MAX_BYTES → tree_of bytes ≡ None
     → BytesHave bytes fault → fault ≡ NotJson
 is_not_json bytes TooLong l e h = absurd (omega (arith, l, h))
 is_not_json bytes NotJson l e h = refl
 is_not_json bytes fault l e h = let t : tree_of bytes ≡ Some h.0 = h.1 in absurd cc
 
--- of others the first fault is that of their tree
+-- the first fault of the tree of bytes that are not too many is the first of the bytes
 first_of_tree : (bytes : List ℕ) (d : Data) (fault : DumpFault) → length bytes ≤ MAX_BYTES → tree_of bytes ≡ Some d
     → IsFirstBy dump_fault_rank (HasTreeFault d) fault → IsFirstBy dump_fault_rank (BytesHave bytes) fault
 first_of_tree bytes d fault l e h = record {
@@ -155,7 +155,7 @@ first_of_tree bytes d fault l e h = record {
   first = λ other k. h.first other (tree_has bytes d other l e k);
 }
 
--- and the other way round
+-- the first fault of bytes that are not too many and have a tree is the first of the tree
 first_in_tree : (bytes : List ℕ) (d : Data) (fault : DumpFault) → length bytes ≤ MAX_BYTES → tree_of bytes ≡ Some d
     → IsFirstBy dump_fault_rank (BytesHave bytes) fault → IsFirstBy dump_fault_rank (HasTreeFault d) fault
 first_in_tree bytes d fault l e h = record {

@@ -6,7 +6,7 @@ use Rattle.cmh_dump.specs.declared.fault.DumpFault.{DumpFault}
 use Rattle.cmh_dump.specs.Dump.{first_of}
 use Rattle.cmh_dump.proofs.Members.{Among, AmongLists}
 
--- neither the head passes nor the rest has a first, where there is none
+-- where a head and the rest behind it have no first, the head fails and the rest has none
 neither_head : {X : Type 0} (b : Bool) (x : X) (rest : Option X) → cond b (Some x) rest ≡ None
     → (b ≡ false) × (rest ≡ None)
 neither_head true x rest e = absurd cc
@@ -18,7 +18,7 @@ fails test [] e x m = absurd m
 fails test (y ∷ ys) e x (inl s) = ap test s ∙ (neither_head (test y) y (find test ys) e).0
 fails test (y ∷ ys) e x (inr m) = fails test ys (neither_head (test y) y (find test ys) e).1 x m
 
--- neither of two is there, where there is no first of them
+-- where the first of two that may be there is none, neither is there
 neither : {X : Type 0} (o p : Option X) → option_or o p ≡ None → (o ≡ None) × (p ≡ None)
 neither None p e = (refl, e)
 neither (Some x) p e = absurd cc

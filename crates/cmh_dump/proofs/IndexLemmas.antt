@@ -16,7 +16,7 @@ use Rattle.cmh_dump.proofs.Taken.{take-next, texts-append}
 abbrev pub same_text : Bor (List ℕ) → Bor (List ℕ) → Bool
 same_text a b = bytes_eq a.now b.now
 
--- the text at a place, as a list reads it and as the check says it
+-- the text of the borrow at a place is read at that place of the list of texts
 at_texts : (names : List (Bor (List ℕ))) (i : ℕ) (d : Bor (List ℕ)) → i < length names
     → slice_get (texts names) i ≡ Some (get_or names i d).now
 at_texts [] i d lt = absurd (omega arith)
@@ -28,7 +28,7 @@ pub length-texts : (names : List (Bor (List ℕ))) → length (texts names) ≡ 
 length-texts [] = refl
 length-texts (x ∷ xs) = ap suc (length-texts xs)
 
--- a name that the keys so far hold is one that repeats
+-- whether the keys so far hold the name at place i tells whether it repeats an earlier one
 repeat_is : (names keys : List (Bor (List ℕ))) (i : ℕ) (d : Bor (List ℕ)) → i < length names
     → texts keys ≡ take i (texts names) → list_any (same_text (get_or names i d)) keys ≡ repeats (texts names) i
 repeat_is names keys i d lt h =
@@ -81,11 +81,11 @@ position-texts : (name : List ℕ) (keys : List (Bor (List ℕ)))
 position-texts name [] = refl
 position-texts name (k ∷ ks) = ap (λ n. cond (not (bytes_eq name k.now)) (1 + n) 0) (position-texts name ks)
 
--- a comparison, with one more on both sides
+-- with one more on both sides a comparison stays as it is
 shifted : (a b : ℕ) → nat_lt (1 + a) (suc b) ≡ nat_lt a b
 shifted a b = grind arith
 
--- zero is less than any number above
+-- zero is less than one more than any number
 first_is : (b : ℕ) → nat_lt 0 (suc b) ≡ true
 first_is b = grind arith
 
@@ -108,7 +108,7 @@ place_is name keys =
     (λ i. cond (nat_lt (position-texts name keys i) (sym (length-texts keys) i)) (Some (position-texts name keys i))
     None) ∙ ap (λ b. cond b (Some (place_of (texts keys) name)) None) (among name (texts keys))
 
--- what the index says of the name that repeats one, where a `match` found which error it is
+-- an error of the index that tells a repeat tells the first repeat of the names
 pub repeat_of : (all : List (List ℕ)) (e : IndexFault) (i : ℕ) → e ≡ Repeated i → TellsRepeat all e
     → first_repeat all ≡ Some i
 repeat_of all e i is h = subst (TellsRepeat all) is h

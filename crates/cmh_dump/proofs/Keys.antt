@@ -40,12 +40,12 @@ only needed allowed (e ∷ es) =
     λ i. (any_of_texts (bytes_eq e.0.now) needed i || any_of_texts (bytes_eq e.0.now) allowed i)
     && only needed allowed es i
 
--- the members that the reader finds are those of the data
+-- the data of the members that the reader finds in an object are those of the object's data
 members_are : (es : List (Bor (List ℕ) × Tree)) (j : json.Json) → Some (members_view es) ≡ json_find.as_object j
     → Some (members_data (members_view es) no_members) ≡ as_object (data_of j)
 members_are es j h = ap (option_map (λ ms. members_data ms no_members)) h ∙ object_at j
 
--- both tests together are the test of the keys
+-- the test of the needed keys and that of all written keys are together the test of an object's keys
 object_keys : (needed allowed : List (Bor (List ℕ))) (es : List (Bor (List ℕ) × Tree)) (j : json.Json)
     → Some (members_view es) ≡ json_find.as_object j
     → (list_all (λ k. is_some (get k.now (data_of j))) needed && list_all (λ m. is_allowed needed allowed m.0.now) es)
@@ -60,7 +60,7 @@ object_keys needed allowed es j e =
     && list_all test (option_map_or keys_of o []))
     (members_are es j e)
 
--- what the two tests answer, as the code goes from the one to the other
+-- where all needed keys are there, the test of all written keys is the test of an object's keys
 pub keys_then : (needed allowed : List (Bor (List ℕ))) (es : List (Bor (List ℕ) × Tree)) (j : json.Json)
     (each others : Bool) → each ≡ list_all (λ k. is_some (get k.now (data_of j))) needed → each ≡ true
     → others ≡ list_all (λ m. is_allowed needed allowed m.0.now) es
@@ -70,7 +70,7 @@ keys_then needed allowed es j each others e t o h =
     o ∙ ap (λ b. b && list_all (λ m. is_allowed needed allowed m.0.now) es) (sym t ∙ e)
     ∙ object_keys needed allowed es j h
 
--- where the first test fails, so does the whole
+-- where a needed key is missing, the test of an object's keys fails too
 pub keys_else : (needed allowed : List (Bor (List ℕ))) (es : List (Bor (List ℕ) × Tree)) (j : json.Json)
     (each : Bool) → each ≡ list_all (λ k. is_some (get k.now (data_of j))) needed → each ≡ false
     → Some (members_view es) ≡ json_find.as_object j → each ≡ has_keys (texts needed) (texts allowed) (data_of j)

@@ -48,12 +48,12 @@ process n =
 -- needn't be written out.
 module _ (d : Data) (top : first_of (holds d) (top_faults d) ≡ None)
     (apart : first_of (holds d) (site_faults d) ≡ None) where
-  -- fault 0 of a kind is its first
+  -- fault 0 of a kind, where it holds, is the first of the kind
   first_of_kind : (F : ℕ → DumpFault) (n : ℕ) → 0 < n → holds d (F 0) ≡ true
       → find (holds d) (map F (below n)) ≡ Some (F 0)
   first_of_kind F n l h = found_at (holds d) F n 0 l (λ k before. absurd (omega arith)) h
 
-  -- the first process is what is wrong
+  -- a tree whose first process is bad is refused for it, where no kind of fault before it holds
   first_process_bad : holds d TooManyProcesses ≡ false → 0 < length (processes d) → holds d (BadProcess 0) ≡ true
       → dump_of_tree d ≡ Err (BadProcess 0)
   first_process_bad few l h =
@@ -67,7 +67,7 @@ module _ (d : Data) (top : first_of (holds d) (top_faults d) ≡ None)
       (refused_here d (process_faults d) (faults_from_names d) (BadProcess 0) (λ m. bad)))
       (λ m. cc)
 
-  -- the first message is what is wrong
+  -- a tree whose first message in transit is bad is refused for it, where no kind of fault before it holds
   first_message_bad : first_of (holds d) (process_faults d) ≡ None → first_of (holds d) (name_faults d) ≡ None
       → first_of (holds d) (entry_faults d) ≡ None → holds d TooManyInTransit ≡ false → 0 < length (transits d)
       → holds d (BadInTransit 0) ≡ true → dump_of_tree d ≡ Err (BadInTransit 0)
@@ -88,7 +88,7 @@ module _ (d : Data) (top : first_of (holds d) (top_faults d) ≡ None)
 most_sites : holds (tree (copies 4096 (string (codes "a"))) no_items) TooManySites ≡ false
 most_sites = refl
 
--- 4,097 are
+-- 4,097 sites are too many
 too_many_sites : holds (tree (copies 4097 (string (codes "a"))) no_items) TooManySites ≡ true
 too_many_sites = refl
 
@@ -96,7 +96,7 @@ too_many_sites = refl
 most_processes : dump_of_tree (tree no_items (copies 4096 null)) ≡ Err (BadProcess 0)
 most_processes = first_process_bad (tree no_items (copies 4096 null)) refl refl refl (omega arith) refl
 
--- 4,097 are not
+-- 4,097 processes are refused as too many
 too_many_processes : dump_of_tree (tree no_items (copies 4097 null)) ≡ Err TooManyProcesses
 unfolding dump_of_tree
 too_many_processes = refl
@@ -106,20 +106,20 @@ most_dependencies : holds (tree no_items (item (process 32768) (item (process 32
     ≡ false
 most_dependencies = refl
 
--- 65,537 are
+-- 65,537 dependents together are too many
 too_many_dependencies : holds (tree no_items (item (process 32768) (item (process 32769) no_items))) TooManyDependencies
     ≡ true
 too_many_dependencies = refl
 
--- 4,096 messages are judged one by one
+-- 4,096 messages in transit are judged one by one
 most_messages : dump_of_tree (tree_of_messages (copies 4096 null)) ≡ Err (BadInTransit 0)
 most_messages = first_message_bad (tree_of_messages (copies 4096 null)) refl refl refl refl refl refl (omega arith) refl
 
--- 4,097 are not
+-- 4,097 messages in transit are refused as too many
 too_many_messages : dump_of_tree (tree_of_messages (copies 4097 null)) ≡ Err TooManyInTransit
 unfolding dump_of_tree
 too_many_messages = refl
 
--- a dump may have 8,388,608 bytes
+-- 8,388,609 bytes are refused as too long
 too_long_by_one : (n : ℕ) → n ≡ 8388609 → dump (replicate n 32) ≡ Err TooLong
 too_long_by_one n e = too_long (replicate n 32) (omega (arith, e, length-replicate {A = ℕ} n 32))

@@ -16,13 +16,13 @@ abbrev pub AmongLists : {X : Type 0} → X → List (List X) → Type 0
 AmongLists x [] = ⊥
 AmongLists x (xs ∷ rest) = Among x xs ⊎ AmongLists x rest
 
--- an element of the first list is one of the two joined
+-- an element of the first of two lists is one of the two joined
 among_left : {X : Type 0} (x : X) (xs ys : List X) → Among x xs → Among x (xs ++ ys)
 among_left x [] ys m = absurd m
 among_left x (y ∷ xs) ys (inl e) = inl e
 among_left x (y ∷ xs) ys (inr m) = inr (among_left x xs ys m)
 
--- and so is one of the second
+-- an element of the second of two lists is one of the two joined
 among_right : {X : Type 0} (x : X) (xs ys : List X) → Among x ys → Among x (xs ++ ys)
 among_right x [] ys m = m
 among_right x (y ∷ xs) ys m = inr (among_right x xs ys m)
@@ -60,7 +60,7 @@ among_below f (suc n) i l =
     by (inl m) h = among_left (f i) (map f (below n)) (f n ∷ []) (h m)
     by (inr m) h = let e : i ≡ n = omega arith in among_right (f i) (map f (below n)) (f n ∷ []) (inl (ap f e))
 
--- and that list has no other elements
+-- the list of f at the numbers below n has no other elements than these
 pub among_below_is : {X : Type 0} (f : ℕ → X) (n : ℕ) (x : X) → Among x (map f (below n))
     → (i : ℕ) × (i < n) × (x ≡ f i)
 among_below_is f zero x m = absurd m
@@ -75,7 +75,7 @@ among_below_is f (suc n) x m =
 
 -- ---- by two numbers, the second below a bound that the first sets
 
--- the elements by one first number
+-- the elements that f makes of one first number and of each second one below its bound
 abbrev pub row : {X : Type 0} → (ℕ → ℕ → X) → (ℕ → ℕ) → ℕ → List X
 row f m i = map (f i) (below (m i))
 
@@ -84,7 +84,7 @@ pub rows-below : {X : Type 0} (f : ℕ → ℕ → X) (m : ℕ → ℕ) (n : ℕ
     → flat_map (row f m) (below (suc n)) ≡ flat_map (row f m) (below n) ++ (row f m n ++ [])
 rows-below f m n = ap (flat_map (row f m)) (below-last n) ∙ flat_map-append (row f m) (below n) (n ∷ [])
 
--- f at two such numbers is an element of the list of these
+-- f at i below n and at j below the bound of i is an element of the list of all these
 pub among_rows : {X : Type 0} (f : ℕ → ℕ → X) (m : ℕ → ℕ) (n i j : ℕ) → i < n → j < m i
     → Among (f i j) (flat_map (row f m) (below n))
 among_rows f m zero i j l h = absurd (omega arith)
@@ -100,7 +100,7 @@ among_rows f m (suc n) i j l h =
         let here = subst (λ p. Among (f i j) (row f m p)) e (among_below (f i) (m i) j h) in
         among_right (f i j) (flat_map (row f m) (below n)) (row f m n ++ []) (among_left (f i j) (row f m n) [] here)
 
--- and that list has no other elements
+-- the list of f at each i below n and at each j below the bound of i has no other elements
 pub among_rows_is : {X : Type 0} (f : ℕ → ℕ → X) (m : ℕ → ℕ) (n : ℕ) (x : X) → Among x (flat_map (row f m) (below n))
     → (i j : ℕ) × (i < n) × (j < m i) × (x ≡ f i j)
 among_rows_is f m zero x a = absurd a

@@ -10,7 +10,7 @@ use Rattle.cmh_dump.specs.FirstFault.{dump_fault_rank}
 
 -- ---- ranks
 
--- the first numbers decide where they differ
+-- a rank with the lesser first number comes before the other
 below_by_first : (ns ms : List ℕ) → get_or ns 0 0 < get_or ms 0 0 → comes_before ns ms ≡ true
 below_by_first [] [] l = absurd (omega arith)
 below_by_first [] (m ∷ ms) l = refl
@@ -18,7 +18,7 @@ below_by_first (n ∷ ns) [] l = absurd (omega arith)
 below_by_first (n ∷ ns) (m ∷ ms) l =
     ap (λ o. is_lt (ordering_then o (slice_cmp nat_cmp ns ms))) (sym (nat_cmp_is n m Less l))
 
--- the rest decides where they are equal
+-- where two ranks begin with one number, the rank whose rest comes before the other's comes before it
 below_by_rest : (n : ℕ) (ns ms : List ℕ) → comes_before ns ms ≡ true → comes_before (n ∷ ns) (n ∷ ms) ≡ true
 below_by_rest n ns ms e =
     ap (λ o. is_lt (ordering_then o (slice_cmp nat_cmp ns ms))) (sym (nat_cmp_is n n Equal refl)) ∙ e
@@ -33,18 +33,18 @@ dump_fault_comes_before e f = comes_before (dump_fault_rank e) (dump_fault_rank 
 abbrev pub kind : DumpFault → ℕ
 kind fault = get_or (dump_fault_rank fault) 0 0
 
--- a fault of an earlier kind comes before
+-- a fault of an earlier kind comes before one of a later kind
 pub before_by_kind : (x y : DumpFault) → kind x < kind y → dump_fault_comes_before x y ≡ true
 before_by_kind x y l = below_by_first (dump_fault_rank x) (dump_fault_rank y) l
 
--- of two of a kind with one place, that of the lower place
+-- of two faults of a kind with one place, that of the lower place comes before
 pub before_by_place : (x y : DumpFault) (k i j : ℕ) → dump_fault_rank x ≡ k ∷ i ∷ [] → dump_fault_rank y ≡ k ∷ j ∷ []
     → i < j
     → dump_fault_comes_before x y ≡ true
 before_by_place x y k i j e f l =
     (λ t. comes_before (e t) (f t)) ∙ below_by_rest k (i ∷ []) (j ∷ []) (below_by_first (i ∷ []) (j ∷ []) l)
 
--- of two of a kind with two places, that of the lower first place
+-- of two faults of a kind with two places, that of the lower first place comes before
 pub before_by_first_place : (x y : DumpFault) (k i j h m : ℕ) → dump_fault_rank x ≡ k ∷ i ∷ j ∷ []
     → dump_fault_rank y ≡ k ∷ h ∷ m ∷ []
     → i < h → dump_fault_comes_before x y ≡ true
@@ -52,7 +52,7 @@ before_by_first_place x y k i j h m e f l =
     (λ t. comes_before (e t) (f t))
         ∙ below_by_rest k (i ∷ j ∷ []) (h ∷ m ∷ []) (below_by_first (i ∷ j ∷ []) (h ∷ m ∷ []) l)
 
--- where the first is the same, that of the lower second place
+-- of two faults of one kind and one first place, that of the lower second place comes before
 pub before_by_second_place : (x y : DumpFault) (k i j m : ℕ) → dump_fault_rank x ≡ k ∷ i ∷ j ∷ []
     → dump_fault_rank y ≡ k ∷ i ∷ m ∷ [] → j < m
     → dump_fault_comes_before x y ≡ true

@@ -50,7 +50,7 @@ differs names name k e l s =
 abbrev pub place_or_none : List (List ℕ) → List ℕ → Option ℕ
 place_or_none names name = cond (is_among names name) (Some (place_of names name)) None
 
--- a place that is there, by whether the name is among the names
+-- a place that is there is that of the name, by cases of whether the name is among the names
 some_by : (names : List (List ℕ)) (name : List ℕ) (i : ℕ) (b : Bool) → is_among names name ≡ b
     → Some i ≡ cond b (Some (place_of names name)) None → (i ≡ place_of names name) × (is_among names name ≡ true)
 some_by names name i true e h = (ap (λ o. unwrap_or o i) h, e)
@@ -61,13 +61,13 @@ pub place_is_some : (names : List (List ℕ)) (name : List ℕ) (i : ℕ) → So
     → (i ≡ place_of names name) × (is_among names name ≡ true)
 place_is_some names name i h = some_by names name i (is_among names name) refl h
 
--- no place, by whether the name is among the names
+-- where no place is there the name isn't among the names, by cases of whether it is
 none_by : (names : List (List ℕ)) (name : List ℕ) (b : Bool) → is_among names name ≡ b
     → None ≡ cond b (Some (place_of names name)) None → is_among names name ≡ false
 none_by names name true e h = absurd cc
 none_by names name false e h = e
 
--- where no place is found, the place is past the end
+-- where no place is found, the place of the name is past the end
 pub place_is_none : (names : List (List ℕ)) (name : List ℕ) → None ≡ place_or_none names name
     → place_of names name ≡ length names
 place_is_none names name h =

@@ -28,7 +28,7 @@ use Rattle.cmh_dump.proofs.Trees.{all-map}
 
 -- ---- by places
 
--- a repeat passes the test
+-- a place that equals an earlier one passes the test of repeats
 repeat_passes : (places : List ℕ) (j : ℕ) → IsRepeat places j → place_repeats places j ≡ true
 repeat_passes places j h =
     let size = length-take-le j places (omega (arith, h.0)) in
@@ -37,7 +37,7 @@ repeat_passes places j h =
     list_any_at (λ p. p == get_or places j 0) (take j places) h.1 0 (omega (arith, size, h.2))
     (eq-eqb (get_or (take j places) h.1 0) (get_or places j 0) same)
 
--- what passes the test is a repeat
+-- a place that passes the test of repeats equals an earlier one
 passes_repeat : (places : List ℕ) (j : ℕ) → j < length places → place_repeats places j ≡ true → IsRepeat places j
 passes_repeat places j l e =
     let test = λ (p : ℕ). p == get_or places j 0 in
@@ -58,7 +58,7 @@ first_is places j f =
     absurd (omega (arith, l, least))))
     (repeat_passes places j f.holds)
 
--- where there is no repeat, it finds none
+-- where no place equals an earlier one, the search of places finds no repeat
 pub none_is : (places : List ℕ) → ((j : ℕ) → IsRepeat places j → ⊥) → first_repeated_place places ≡ None
 none_is places none =
     none_found (place_repeats places) (length places)
@@ -71,7 +71,7 @@ module _ (names : List (List ℕ)) where
   abbrev AreAmong : List (List ℕ) → Type 0
   AreAmong xs = list_all (is_among names) xs ≡ true
 
-  -- two names are the same where their places are
+  -- where two texts are among the names, their places are the same just where the texts are
   same_test : (a b : List ℕ) → is_among names a ≡ true → is_among names b ≡ true
       → (place_of names b == place_of names a) ≡ bytes_eq a b
   same_test a b p q = by (bytes_eq a b) refl
@@ -87,7 +87,7 @@ module _ (names : List (List ℕ)) where
           (same_from_places names a b p q (sym (eqb-true (place_of names b) (place_of names a) h)))))
           ∙ sym e
 
-  -- so a name is among others where its place is among theirs
+  -- a text among the names is one of others among them just where its place is one of theirs
   any_same : (a : List ℕ) → is_among names a ≡ true → (xs : List (List ℕ)) → AreAmong xs
       → list_any (λ p. p == place_of names a) (map (place_of names) xs) ≡ list_any (bytes_eq a) xs
   any_same a p [] h = refl
@@ -95,7 +95,7 @@ module _ (names : List (List ℕ)) where
       let both = and_parts (is_among names x) (list_all (is_among names) xs) h in
       λ i. same_test a x p both.0 i || any_same a p xs both.1 i
 
-  -- the first of them are too
+  -- where all of a list are among the names, so are the first j of them
   among_taken : (j : ℕ) (xs : List (List ℕ)) → AreAmong xs → AreAmong (take j xs)
   among_taken zero [] h = refl
   among_taken zero (x ∷ xs) h = refl
@@ -104,14 +104,14 @@ module _ (names : List (List ℕ)) where
       let both = and_parts (is_among names x) (list_all (is_among names) xs) h in
       λ i. both.0 i && among_taken j xs both.1 i
 
-  -- and so is each
+  -- where all of a list are among the names, so is the one at each place of it
   among_at : (j : ℕ) (xs : List (List ℕ)) → j < length xs → AreAmong xs → is_among names (get_or xs j []) ≡ true
   among_at j [] l h = absurd (omega arith)
   among_at zero (x ∷ xs) l h = (and_parts (is_among names x) (list_all (is_among names) xs) h).0
   among_at (suc j) (x ∷ xs) l h =
       among_at j xs (omega arith) (and_parts (is_among names x) (list_all (is_among names) xs) h).1
 
-  -- the place at a place is that of the name there
+  -- in the list of the places of texts the place of each stands where the text does
   place_at : (j : ℕ) (xs : List (List ℕ)) → j < length xs
       → get_or (map (place_of names) xs) j 0 ≡ place_of names (get_or xs j [])
   place_at j [] l = absurd (omega arith)
@@ -131,19 +131,19 @@ module _ (names : List (List ℕ)) where
       ap (λ n. find (place_repeats (map (place_of names) xs)) (below n)) (length-map xs (place_of names))
       ∙ find_alike (place_repeats (map (place_of names) xs)) (repeats xs) (length xs) (repeats_alike xs h)
 
-  -- where no value is unknown, all are among the names
+  -- where no value is unknown, the texts of all are among the names
   none_unknown : (values : List Tree) → first_unknown names values ≡ None → AreAmong (map value_text values)
   none_unknown values h =
       sym (all-map (is_among names) value_text values)
       ∙ all_pass (λ v. is_among names (value_text v)) values h
 
-  -- the places of such are below the number of names
+  -- the places of texts that are all among the names are below the number of names
   row_within : (xs : List (List ℕ)) → AreAmong xs
       → list_all (λ p. nat_lt p (length names)) (map (place_of names) xs) ≡ true
   row_within xs h =
       sym (all-map (λ p. nat_lt p (length names)) (place_of names) xs) ∙ (λ i. list_all (λ x. among x names i) xs) ∙ h
 
-  -- the same of the dependents of all processes
+  -- where no process has an unknown dependent, the places of all dependents are below the number of names
   rows_within : (i : ℕ) (es : List declared.Entry) → first_pair (λ e. first_unknown names e.dependents.now) i es ≡ None
       → list_all
       (λ e. list_all (λ p. nat_lt p (length names)) (map (place_of names) (map value_text e.dependents.now))) es ≡ true
@@ -153,7 +153,7 @@ module _ (names : List (List ℕ)) where
       λ k. row_within (map value_text e.dependents.now) (none_unknown e.dependents.now both.0) k
       && rows_within (i + 1) es both.1 k
 
-  -- the first repeat among all of them, by places and by names
+  -- where no dependent is unknown, the first repeat among all dependents is the same by places and by names
   rows_alike : (i : ℕ) (es : List declared.Entry) → first_pair (λ e. first_unknown names e.dependents.now) i es ≡ None
       → first_pair (λ e. first_repeated_place (map (place_of names) (map value_text e.dependents.now))) i es
       ≡ first_pair (λ e. first_repeat (map value_text e.dependents.now)) i es
@@ -170,21 +170,21 @@ module _ (names : List (List ℕ)) where
   module _ (sites : List (List ℕ)) (es : List declared.Entry) (parts : List Part)
       (known : unknown_dependent names es ≡ None)
       (made : map graph.process_of parts ≡ map (λ e. process_by sites names (entry_view e)) es) where
-    -- a search by rows of what a function makes
+    -- a search by rows of a mapped list is one of the list for what the function makes of each row
     pairs-map : {Y Z : Type 0} (search : Z → Option ℕ) (f : Y → Z) (i : ℕ) (ys : List Y)
         → first_pair (λ y. search (f y)) i ys ≡ first_pair search i (map f ys)
     pairs-map search f i [] = refl
     pairs-map search f i (y ∷ ys) =
         ap (option_or (option_map (λ j. (i, j)) (search (f y)))) (pairs-map search f (i + 1) ys)
 
-    -- the dependents of the parts are processes
+    -- the dependents of the parts that are made of the entries are below the number of names
     pub parts_within : list_all (λ part. list_all (λ p. nat_lt p (length names)) part.dependents.items) parts ≡ true
     parts_within =
         let test = λ (p : Process). list_all (λ p. nat_lt p (length names)) p.dependents in
         all-map test graph.process_of parts ∙ ap (list_all test) made
         ∙ sym (all-map test (λ e. process_by sites names (entry_view e)) es) ∙ rows_within 0 es known
 
-    -- the first place that repeats is the first repeated dependent
+    -- the first place that repeats in parts made of the entries is the first repeated dependent
     pub pairs_alike : first_pair (λ part. first_repeated_place part.dependents.items) 0 parts
         ≡ first_pair (λ e. first_repeat (map value_text e.dependents.now)) 0 es
     pairs_alike =
@@ -203,7 +203,7 @@ row_below count (p ∷ ps) h zero d l =
 row_below count (p ∷ ps) h (suc k) d l =
     row_below count ps (and_parts (nat_lt p count) (list_all (λ p. nat_lt p count) ps) h).1 k d (omega arith)
 
--- what all elements pass, the one at a place passes
+-- where all elements of a list pass a test, the one at each place does
 pub passes_at : {X : Type 0} (test : X → Bool) (xs : List X) (i : ℕ) (x : X) → list_all test xs ≡ true → i < length xs
     → x ≡ get_or xs i x → test x ≡ true
 passes_at test [] i x h l is = absurd (omega arith)

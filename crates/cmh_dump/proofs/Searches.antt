@@ -36,7 +36,7 @@ module _ (test : DumpFault → Bool) where
       → o ≡ None → first_of test rest ≡ r → first_of test (fs ∷ rest) ≡ r
   first_later fs rest o r h n later = ap (λ q. option_or q (first_of test rest)) (h ∙ n) ∙ later
 
-  -- a kind of one fault
+  -- in a kind of one fault that fault is found just where it holds
   pub alone : (f : DumpFault) (b : Bool) → test f ≡ b → find test (f ∷ []) ≡ cond b (Some f) None
   alone f b h = ap (λ c. cond c (Some f) None) h
 
@@ -66,7 +66,7 @@ module _ (test : DumpFault → Bool) where
 
 -- ---- the kinds of a tree
 
--- a sum over what a function makes of each element
+-- a sum over a mapped list is the sum, over the list, of the sizes of what the function makes
 sum_by-map : {X Y : Type 0} (size : Y → ℕ) (f : X → Y) (xs : List X)
     → sum_by size (map f xs) ≡ sum_by (λ x. size (f x)) xs
 sum_by-map size f xs = sym (sum-map size (map f xs)) ∙ ap sum (sym (map-map size f xs)) ∙ sum-map (λ x. size (f x)) xs
@@ -75,12 +75,13 @@ sum_by-map size f xs = sym (sum-map size (map f xs)) ∙ ap sum (sym (map-map si
 size_of : {Y Z : Type 0} (f : Y → Z) (ys : List Y) (all : List Z) → map f ys ≡ all → length all ≡ length ys
 size_of f ys all e = ap length (sym e) ∙ length-map ys f
 
--- the same element, in the list that another one is seen as
+-- where a list is seen as another one, what is seen at a place is read at that place of the other
 at_seen : {Y Z : Type 0} (f : Y → Z) (ys : List Y) (all : List Z) (k : ℕ) (z : Z) → map f ys ≡ all
     → slice_get (map f ys) k ≡ Some z → slice_get all k ≡ Some z
 at_seen f ys all k z e h = ap (λ zs. slice_get zs k) (sym e) ∙ h
 
--- the same, with what is read past the end
+-- where a list is seen as another one, what is seen at a place is what the other has there,
+-- whatever would be read past its end
 or_seen : {Y Z : Type 0} (f : Y → Z) (ys : List Y) (all : List Z) (k : ℕ) (z x : Z) → map f ys ≡ all
     → slice_get (map f ys) k ≡ Some z → get_or all k x ≡ z
 or_seen f ys all k z x e h = sym (unwrap_or-slice_get all k x) ∙ ap (λ o. unwrap_or o x) (at_seen f ys all k z e h)
@@ -134,7 +135,7 @@ module _ (d : Data) (es : List declared.Entry) (seen : map entry_view es ≡ ent
   entry_is : (k : ℕ) (z : Entry) → slice_get (map entry_view es) k ≡ Some z → entry d k ≡ z
   entry_is k z h = made_at entry_of (processes d) k null z (at_seen entry_view es (entries d) k z seen h)
 
-  -- the same, for the entry itself
+  -- the process at the place of an entry that was read is that entry, as it is seen
   entry_seen : (k : ℕ) (e : declared.Entry) → slice_get es k ≡ Some e → entry d k ≡ entry_view e
   entry_seen k e h = entry_is k (entry_view e) (get-map entry_view es k e h)
 

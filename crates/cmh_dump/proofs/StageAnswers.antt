@@ -22,13 +22,13 @@ use Rattle.cmh_dump.specs.Tree.{texts_of}
 use Rattle.cmh_dump.proofs.Trees.{map-map}
 use Rattle.cmh_dump.proofs.Searches.{first_here, first_later, alone, bad_sites, repeated_sites, bad_processes, repeated_processes, unknown_sites, unknown_dependents, repeated_dependents, active_with_dependents, dependent_total_is, bad_transits, unknown_transits}
 
--- a limit on a length, of a list that another one is seen as
+-- where a list is longer than a limit, so is the one that it is seen as
 over : {Y Z : Type 0} (f : Y → Z) (ys : List Y) (all : List Z) (most : ℕ) → map f ys ≡ all → most < length ys
     → nat_lt most (length all) ≡ true
 over f ys all most e h =
     ap (λ zs. nat_lt most (length zs)) (sym e) ∙ ap (nat_lt most) (length-map ys f) ∙ lt-ltb most (length ys) h
 
--- and a length within a limit
+-- where a list is within a limit, so is the one that it is seen as
 within : {Y Z : Type 0} (f : Y → Z) (ys : List Y) (all : List Z) (most : ℕ) → map f ys ≡ all → length ys ≤ most
     → nat_lt most (length all) ≡ false
 within f ys all most e h =
@@ -37,7 +37,7 @@ within f ys all most e h =
 -- ---- sites
 
 module _ (d : Data) (ys : List (Bor (List ℕ))) (seen : texts ys ≡ sites d) where
-  -- what the search for a bad name answers
+  -- what the search of the sites for a bad name answers
   abbrev bad_name : Option ℕ
   bad_name = position (λ t. not (is_name t.now)) ys
 
@@ -48,7 +48,7 @@ module _ (d : Data) (ys : List (Bor (List ℕ))) (seen : texts ys ≡ sites d) w
       (BadSites i)
       (bad_sites d ys seen) (ap (option_map BadSites) h)
 
-  -- where no name is bad, the other kinds decide
+  -- where no name of a site is bad, the other kinds of faults of the sites decide
   names_only : (r : Option DumpFault) → bad_name ≡ None
       → first_of (holds d) (each (sites d) RepeatedSite ∷ (TooManySites ∷ []) ∷ []) ≡ r
       → first_of (holds d) (site_faults d) ≡ r
@@ -56,7 +56,7 @@ module _ (d : Data) (ys : List (Bor (List ℕ))) (seen : texts ys ≡ sites d) w
       first_later (holds d) (each (sites d) BadSites) (each (sites d) RepeatedSite ∷ (TooManySites ∷ []) ∷ []) _ r
       (bad_sites d ys seen) (ap (option_map BadSites) h) later
 
-  -- a repeat is the first, where no name is bad
+  -- where no name of a site is bad, a repeated site is the first fault of the sites
   pub site_repeated : (i : ℕ) → bad_name ≡ None → first_repeat (texts ys) ≡ Some i
       → first_of (holds d) (site_faults d) ≡ Some (RepeatedSite i)
   site_repeated i h r =
@@ -64,7 +64,7 @@ module _ (d : Data) (ys : List (Bor (List ℕ))) (seen : texts ys ≡ sites d) w
       (first_here (holds d) (each (sites d) RepeatedSite) ((TooManySites ∷ []) ∷ []) _ (RepeatedSite i)
       (repeated_sites d) (ap (option_map RepeatedSite) (ap first_repeat (sym seen) ∙ r)))
 
-  -- where no name is bad and none repeats, the count decides
+  -- where no name of a site is bad and none repeats, the number of sites decides
   apart_only : (r : Option DumpFault) → bad_name ≡ None → first_repeat (texts ys) ≡ None
       → first_of (holds d) ((TooManySites ∷ []) ∷ []) ≡ r → first_of (holds d) (site_faults d) ≡ r
   apart_only r h apart later =
@@ -72,7 +72,7 @@ module _ (d : Data) (ys : List (Bor (List ℕ))) (seen : texts ys ≡ sites d) w
       (first_later (holds d) (each (sites d) RepeatedSite) ((TooManySites ∷ []) ∷ []) _ r
       (repeated_sites d) (ap (option_map RepeatedSite) (ap first_repeat (sym seen) ∙ apart)) later)
 
-  -- then too many sites are the first fault
+  -- where no name of a site is bad and none repeats, too many sites are the first fault of the sites
   pub sites_many : bad_name ≡ None → first_repeat (texts ys) ≡ None → MAX_SITES < length ys
       → first_of (holds d) (site_faults d) ≡ Some TooManySites
   sites_many h apart many =
@@ -80,7 +80,7 @@ module _ (d : Data) (ys : List (Bor (List ℕ))) (seen : texts ys ≡ sites d) w
       (first_here (holds d) (TooManySites ∷ []) [] _ TooManySites
       (alone (holds d) TooManySites true (over (λ t. t.now) ys (sites d) MAX_SITES seen many)) refl)
 
-  -- and few enough have none
+  -- where no name of a site is bad, none repeats and the sites are few enough, they have no fault
   pub sites_judged : bad_name ≡ None → first_repeat (texts ys) ≡ None → length ys ≤ MAX_SITES
       → first_of (holds d) (site_faults d) ≡ None
   sites_judged h apart few =
@@ -95,14 +95,14 @@ module _ {V : Type 0} (view : V → Data) (d : Data) (vs : List V) (seen : map v
   abbrev bad_process : Option ℕ
   bad_process = position (λ v. not (is_process (view v))) vs
 
-  -- where they are few enough, the other kind decides
+  -- where the processes are few enough, the kind of bad processes decides
   few_only : (r : Option DumpFault) → length vs ≤ MAX_PROCESSES
       → first_of (holds d) (each (processes d) BadProcess ∷ []) ≡ r → first_of (holds d) (process_faults d) ≡ r
   few_only r few later =
       first_later (holds d) (TooManyProcesses ∷ []) (each (processes d) BadProcess ∷ []) _ r
       (alone (holds d) TooManyProcesses false (within view vs (processes d) MAX_PROCESSES seen few)) refl later
 
-  -- then a bad process is the first fault
+  -- where the processes are few enough, a bad one is the first fault of the processes
   pub process_bad : (i : ℕ) → length vs ≤ MAX_PROCESSES → bad_process ≡ Some i
       → first_of (holds d) (process_faults d) ≡ Some (BadProcess i)
   process_bad i few h =
@@ -110,7 +110,7 @@ module _ {V : Type 0} (view : V → Data) (d : Data) (vs : List V) (seen : map v
       (first_here (holds d) (each (processes d) BadProcess) [] _ (BadProcess i) (bad_processes view d vs seen)
       (ap (option_map BadProcess) h))
 
-  -- and without one there is none
+  -- where the processes are few enough and none is bad, they have no fault of their stage
   pub processes_judged : length vs ≤ MAX_PROCESSES → bad_process ≡ None → first_of (holds d) (process_faults d) ≡ None
   processes_judged few h =
       few_only None few
@@ -124,14 +124,14 @@ pub names_seen : (d : Data) (es : List declared.Entry) → map entry_view es ≡
     → map (λ e. (entry_view e).name) es ≡ names d
 names_seen d es seen = map-map (λ e. e.name) entry_view es ∙ ap (map (λ e. e.name)) seen
 
--- a repeated name is the first fault of the names
+-- a repeated name is the first fault of the names of the processes
 pub name_repeated : (d : Data) (ns : List (List ℕ)) (i : ℕ) → ns ≡ names d → first_repeat ns ≡ Some i
     → first_of (holds d) (name_faults d) ≡ Some (RepeatedProcess i)
 name_repeated d ns i seen r =
     first_here (holds d) (each (processes d) RepeatedProcess) [] _ (RepeatedProcess i)
     (repeated_processes d) (ap (option_map RepeatedProcess) (ap first_repeat (sym seen) ∙ r))
 
--- names that are apart have none
+-- names of processes of which none repeats have no fault
 pub names_judged : (d : Data) (ns : List (List ℕ)) → ns ≡ names d → first_repeat ns ≡ None
     → first_of (holds d) (name_faults d) ≡ None
 names_judged d ns seen apart =
@@ -143,7 +143,7 @@ names_judged d ns seen apart =
 module _ (d : Data) (es : List declared.Entry) (seen : map entry_view es ≡ entries d)
     (site_names process_names : List (List ℕ)) (are_sites : site_names ≡ sites d)
     (are_names : process_names ≡ names d) where
-  -- what the searches answer, in their order
+  -- what the searches of the entries answer, in their order: here the first process on an unknown site
   abbrev unknown_site : Option ℕ
   unknown_site = position (λ e. not (is_among site_names e.site.now)) es
 
@@ -159,7 +159,7 @@ module _ (d : Data) (es : List declared.Entry) (seen : map entry_view es ≡ ent
   abbrev total : ℕ
   total = sum_by (λ e. length e.dependents.now) es
 
-  -- the kinds from one of them on
+  -- the kinds of faults of the entries from one of them on: here from the total of dependents on
   abbrev from_total : List (List DumpFault)
   from_total = (TooManyDependencies ∷ []) ∷ []
 
@@ -172,20 +172,20 @@ module _ (d : Data) (es : List declared.Entry) (seen : map entry_view es ≡ ent
   abbrev from_dependents : List (List DumpFault)
   from_dependents = each_dependent d UnknownDependent ∷ from_repeats
 
-  -- an unknown site is the first fault
+  -- a process on an unknown site is the first fault of the entries
   pub site_unknown : (i : ℕ) → unknown_site ≡ Some i → first_of (holds d) (entry_faults d) ≡ Some (UnknownSite i)
   site_unknown i h =
       first_here (holds d) (each (processes d) UnknownSite) from_dependents _ (UnknownSite i)
       (unknown_sites d es seen site_names are_sites) (ap (option_map UnknownSite) h)
 
-  -- where all sites are known, the other kinds decide
+  -- where all sites are known, the other kinds of faults of the entries decide
   sites_known : (r : Option DumpFault) → unknown_site ≡ None → first_of (holds d) from_dependents ≡ r
       → first_of (holds d) (entry_faults d) ≡ r
   sites_known r h later =
       first_later (holds d) (each (processes d) UnknownSite) from_dependents _ r
       (unknown_sites d es seen site_names are_sites) (ap (option_map UnknownSite) h) later
 
-  -- then an unknown dependent is the first
+  -- where all sites are known, an unknown dependent is the first fault of the entries
   dependent_unknown : (i j : ℕ) → unknown_site ≡ None → unknown_dependent ≡ Some (i, j)
       → first_of (holds d) (entry_faults d) ≡ Some (UnknownDependent i j)
   dependent_unknown i j h k =
@@ -193,7 +193,8 @@ module _ (d : Data) (es : List declared.Entry) (seen : map entry_view es ≡ ent
       (first_here (holds d) (each_dependent d UnknownDependent) from_repeats _ (UnknownDependent i j)
       (unknown_dependents d es seen process_names are_names) (ap (option_map (λ p. UnknownDependent p.0 p.1)) k))
 
-  -- the same of a fault that tells it, if it is no want of memory
+  -- where all sites are known, a fault that tells the unknown dependent, want of memory apart, is the
+  -- first fault of the entries
   pub dependent_told : (e : DumpFault) → unknown_site ≡ None
       → (e ≢ Memory → (i j : ℕ) × (e ≡ UnknownDependent i j) × (unknown_dependent ≡ Some (i, j))) → e ≢ Memory
       → first_of (holds d) (entry_faults d) ≡ Some e
@@ -201,7 +202,7 @@ module _ (d : Data) (es : List declared.Entry) (seen : map entry_view es ≡ ent
       let t = told other in
       dependent_unknown t.0 t.1 h t.3 ∙ ap Some (sym t.2)
 
-  -- where all dependents are known too, the kinds after them decide
+  -- where all sites and all dependents are known, the kinds after these decide
   dependents_known : (r : Option DumpFault) → unknown_site ≡ None → unknown_dependent ≡ None
       → first_of (holds d) from_repeats ≡ r → first_of (holds d) (entry_faults d) ≡ r
   dependents_known r h k later =
@@ -210,7 +211,7 @@ module _ (d : Data) (es : List declared.Entry) (seen : map entry_view es ≡ ent
       (unknown_dependents d es seen process_names are_names) (ap (option_map (λ p. UnknownDependent p.0 p.1)) k)
       later)
 
-  -- then a repeated dependent is the first
+  -- where all sites and all dependents are known, a repeated dependent is the first fault of the entries
   pub dependent_repeated : (i j : ℕ) → unknown_site ≡ None → unknown_dependent ≡ None → repeated_dependent ≡ Some (i, j)
       → first_of (holds d) (entry_faults d) ≡ Some (RepeatedDependent i j)
   dependent_repeated i j h k l =
@@ -218,7 +219,7 @@ module _ (d : Data) (es : List declared.Entry) (seen : map entry_view es ≡ ent
       (first_here (holds d) (each_dependent d RepeatedDependent) from_active _ (RepeatedDependent i j)
       (repeated_dependents d es seen) (ap (option_map (λ p. RepeatedDependent p.0 p.1)) l))
 
-  -- where none repeats either, the kinds after that decide
+  -- where all sites and all dependents are known and no dependent repeats, the kinds after these decide
   dependents_apart : (r : Option DumpFault) → unknown_site ≡ None → unknown_dependent ≡ None → repeated_dependent ≡ None
       → first_of (holds d) from_active ≡ r → first_of (holds d) (entry_faults d) ≡ r
   dependents_apart r h k l later =
@@ -226,7 +227,8 @@ module _ (d : Data) (es : List declared.Entry) (seen : map entry_view es ≡ ent
       (first_later (holds d) (each_dependent d RepeatedDependent) from_active _ r (repeated_dependents d es seen)
       (ap (option_map (λ p. RepeatedDependent p.0 p.1)) l) later)
 
-  -- then an active process with dependents is the first
+  -- where all sites and all dependents are known and no dependent repeats, an active process with
+  -- dependents is the first fault of the entries
   pub active_waits : (i : ℕ) → unknown_site ≡ None → unknown_dependent ≡ None → repeated_dependent ≡ None
       → active ≡ Some i → first_of (holds d) (entry_faults d) ≡ Some (ActiveWithDependents i)
   active_waits i h k l m =
@@ -234,7 +236,7 @@ module _ (d : Data) (es : List declared.Entry) (seen : map entry_view es ≡ ent
       (first_here (holds d) (each (processes d) ActiveWithDependents) from_total _ (ActiveWithDependents i)
       (active_with_dependents d es seen) (ap (option_map ActiveWithDependents) m))
 
-  -- where there is none, the total decides
+  -- where none of the faults of the entries before it holds, the total of dependents decides
   entries_but_total : (b : Bool) → unknown_site ≡ None → unknown_dependent ≡ None → repeated_dependent ≡ None
       → active ≡ None → nat_lt MAX_DEPENDENCIES total ≡ b
       → first_of (holds d) (entry_faults d) ≡ cond b (Some TooManyDependencies) None
@@ -252,12 +254,12 @@ module _ (d : Data) (es : List declared.Entry) (seen : map entry_view es ≡ ent
       by true e = first_here (holds d) (TooManyDependencies ∷ []) [] _ TooManyDependencies e refl
       by false e = first_later (holds d) (TooManyDependencies ∷ []) [] _ None e refl refl
 
-  -- too large a total is then the first fault
+  -- where none of the faults of the entries before it holds, too large a total of dependents is the first
   pub dependencies_many : unknown_site ≡ None → unknown_dependent ≡ None → repeated_dependent ≡ None → active ≡ None
       → nat_lt MAX_DEPENDENCIES total ≡ true → first_of (holds d) (entry_faults d) ≡ Some TooManyDependencies
   dependencies_many h k l m t = entries_but_total true h k l m t
 
-  -- and a total within the limit leaves none
+  -- where no other fault of the entries holds and the total of dependents is within the limit, none holds
   pub entries_judged : unknown_site ≡ None → unknown_dependent ≡ None → repeated_dependent ≡ None → active ≡ None
       → nat_lt MAX_DEPENDENCIES total ≡ false → first_of (holds d) (entry_faults d) ≡ None
   entries_judged h k l m t = entries_but_total false h k l m t
@@ -266,14 +268,14 @@ module _ (d : Data) (es : List declared.Entry) (seen : map entry_view es ≡ ent
 
 module _ {V : Type 0} (view : V → Data) (d : Data) (vs : List V) (seen : map view vs ≡ transits d)
     (process_names : List (List ℕ)) (are_names : process_names ≡ names d) where
-  -- what the searches answer
+  -- what the searches of the messages in transit answer: here the first one that is no pair
   abbrev bad_pair : Option ℕ
   bad_pair = position (λ v. not (is_pair (view v))) vs
 
   abbrev unknown_pair : Option ℕ
   unknown_pair = position (λ v. not (list_all (is_among process_names) (texts_of (view v)))) vs
 
-  -- where they are few enough, the other kinds decide
+  -- where the messages in transit are few enough, the other kinds of their faults decide
   few_transits : (r : Option DumpFault) → length vs ≤ MAX_IN_TRANSIT
       → first_of (holds d) (each (transits d) BadInTransit ∷ each (transits d) UnknownInTransit ∷ []) ≡ r
       → first_of (holds d) (transit_faults d) ≡ r
@@ -282,7 +284,7 @@ module _ {V : Type 0} (view : V → Data) (d : Data) (vs : List V) (seen : map v
       (each (transits d) BadInTransit ∷ each (transits d) UnknownInTransit ∷ [])
       _ r (alone (holds d) TooManyInTransit false (within view vs (transits d) MAX_IN_TRANSIT seen few)) refl later
 
-  -- then one that is no pair is the first
+  -- where the messages in transit are few enough, one that is no pair is their first fault
   pub transit_bad : (i : ℕ) → length vs ≤ MAX_IN_TRANSIT → bad_pair ≡ Some i
       → first_of (holds d) (transit_faults d) ≡ Some (BadInTransit i)
   transit_bad i few h =
@@ -291,7 +293,7 @@ module _ {V : Type 0} (view : V → Data) (d : Data) (vs : List V) (seen : map v
       (BadInTransit i)
       (bad_transits view d vs seen) (ap (option_map BadInTransit) h))
 
-  -- where all are pairs, the last kind decides
+  -- where the messages in transit are few enough and all are pairs, the kind of unknown names decides
   pairs_only : (r : Option DumpFault) → length vs ≤ MAX_IN_TRANSIT → bad_pair ≡ None
       → first_of (holds d) (each (transits d) UnknownInTransit ∷ []) ≡ r → first_of (holds d) (transit_faults d) ≡ r
   pairs_only r few h later =
@@ -299,7 +301,8 @@ module _ {V : Type 0} (view : V → Data) (d : Data) (vs : List V) (seen : map v
       (first_later (holds d) (each (transits d) BadInTransit) (each (transits d) UnknownInTransit ∷ []) _ r
       (bad_transits view d vs seen) (ap (option_map BadInTransit) h) later)
 
-  -- then one with an unknown name is the first
+  -- where the messages in transit are few enough and all are pairs, one with an unknown name is their
+  -- first fault
   pub transit_unknown : (i : ℕ) → length vs ≤ MAX_IN_TRANSIT → bad_pair ≡ None → unknown_pair ≡ Some i
       → first_of (holds d) (transit_faults d) ≡ Some (UnknownInTransit i)
   transit_unknown i few h k =
@@ -307,7 +310,7 @@ module _ {V : Type 0} (view : V → Data) (d : Data) (vs : List V) (seen : map v
       (first_here (holds d) (each (transits d) UnknownInTransit) [] _ (UnknownInTransit i)
       (unknown_transits view d vs process_names seen are_names) (ap (option_map UnknownInTransit) k))
 
-  -- and without one there is none
+  -- where the messages in transit are few enough and all are pairs of known names, they have no fault
   pub transits_judged : length vs ≤ MAX_IN_TRANSIT → bad_pair ≡ None → unknown_pair ≡ None
       → first_of (holds d) (transit_faults d) ≡ None
   transits_judged few h k =

@@ -78,7 +78,7 @@ abbrev Kinds : (DumpFault → Type 0) → ℕ → List (List DumpFault) → Type
 Kinds Allowed k [] = ⊤
 Kinds Allowed k (xs ∷ rest) = IsStage Allowed k xs × Kinds Allowed (suc k) rest
 
--- the same as a record, whose arguments can be told from it
+-- each list is a stage, of kind k, k + 1 and so on: as a record, whose arguments can be told from it
 pub record AreStages (Allowed : DumpFault → Type 0) (k : ℕ) (lists : List (List DumpFault)) : Type 0 where
   pub kinds : Kinds Allowed k lists
 
@@ -88,12 +88,12 @@ pub ◌and_then◌ : {Allowed : DumpFault → Type 0} {k : ℕ} {xs : List DumpF
     → IsStage Allowed k xs → AreStages Allowed (suc k) rest → AreStages Allowed k (xs ∷ rest)
 s and_then t = record { kinds = (s, t.kinds) }
 
--- no stages
+-- the empty list of lists is in stages, from any kind on
 pub no_more : {Allowed : DumpFault → Type 0} {k : ℕ} → AreStages Allowed k []
 no_more = record { kinds = tt }
 
 module _ (Allowed : DumpFault → Type 0) where
-  -- a kind that has no place
+  -- the only fault of a kind that has no place is a stage
   pub stage_of_one : (k : ℕ) (x : DumpFault) → kind x ≡ k → Allowed x → IsStage Allowed k (x ∷ [])
   stage_of_one k x e a = record {
     allowed = λ y m. subst Allowed (sym (among_one y x m)) a;
@@ -101,7 +101,7 @@ module _ (Allowed : DumpFault → Type 0) where
     rises = rises_one x;
   }
 
-  -- a kind with one place
+  -- the faults of a kind with one place, by each number below n, are a stage
   pub stage_below : (k : ℕ) (f : ℕ → DumpFault) (n : ℕ) → ((i : ℕ) → dump_fault_rank (f i) ≡ k ∷ i ∷ [])
       → ((i : ℕ) → i < n → Allowed (f i)) → IsStage Allowed k (map f (below n))
   stage_below k f n e a = record {
@@ -110,7 +110,7 @@ module _ (Allowed : DumpFault → Type 0) where
     rises = rises_below f n (λ i j l. before_by_place (f i) (f j) k i j (e i) (e j) l);
   }
 
-  -- a kind with two places
+  -- the faults of a kind with two places, row by row, are a stage
   pub stage_of_rows : (k : ℕ) (f : ℕ → ℕ → DumpFault) (m : ℕ → ℕ) (n : ℕ)
       → ((i j : ℕ) → dump_fault_rank (f i j) ≡ k ∷ i ∷ j ∷ [])
       → ((i j : ℕ) → i < n → j < m i → Allowed (f i j)) → IsStage Allowed k (flat_map (row f m) (below n))
@@ -122,7 +122,7 @@ module _ (Allowed : DumpFault → Type 0) where
         (λ i j l u. before_by_second_place (f i j) (f i l) k i j l (e i j) (e i l) u);
   }
 
-  -- kinds only rise
+  -- in lists that are stages from kind k on each fault is of kind k or a later one
   kind_from : (k : ℕ) (lists : List (List DumpFault)) → Kinds Allowed k lists → (x : DumpFault) → AmongLists x lists
       → k ≤ kind x
   kind_from k [] s x m = absurd m
@@ -136,7 +136,7 @@ module _ (Allowed : DumpFault → Type 0) where
   allowed_by k (xs ∷ rest) s x (inl m) = s.0.allowed x m
   allowed_by k (xs ∷ rest) s x (inr m) = allowed_by (suc k) rest s.1 x m
 
-  -- the same of stages as a record
+  -- what stands in lists that are stages, given as a record, is allowed
   pub allowed_in : (k : ℕ) (lists : List (List DumpFault)) → AreStages Allowed k lists → (x : DumpFault)
       → AmongLists x lists → Allowed x
   allowed_in k lists s x m = allowed_by k lists s.kinds x m
@@ -218,7 +218,7 @@ module _ (test : DumpFault → Bool) where
         by None f e h = least_in_rest xs rest x f (h e)
         by (Some z) f e h = least_in_first k xs rest x s (least_of_list xs x s.0.rises (f ∙ e))
 
-    -- the same of stages as a record
+    -- in lists that are stages, given as a record, the first that passes is the least
     pub least_of_lists : (k : ℕ) (lists : List (List DumpFault)) (x : DumpFault) → AreStages Allowed k lists
         → first_of test lists ≡ Some x → IsLeastOfLists lists x
     least_of_lists k lists x s e = least_by k lists x s.kinds e

@@ -37,7 +37,7 @@ module _ (d : Data) where
       → (e ≢ Memory → first_of (holds d) ys ≡ Some e) → e ≢ Memory → first_of (holds d) (xs ++ ys) ≡ Some e
   refused_later xs ys e none h m = first_after (holds d) xs ys none ∙ h m
 
-  -- and where none of the first two stages holds
+  -- where no fault of the top and none of the sites holds, the kinds after these decide
   pub refused_past_sites : (e : DumpFault) → first_of (holds d) (top_faults d) ≡ None
       → first_of (holds d) (site_faults d) ≡ None
       → (e ≢ Memory → first_of (holds d) (process_faults d ++ faults_from_names d) ≡ Some e) → e ≢ Memory
@@ -46,7 +46,7 @@ module _ (d : Data) where
       refused_later (top_faults d) (site_faults d ++ process_faults d ++ faults_from_names d) e top
       (refused_later (site_faults d) (process_faults d ++ faults_from_names d) e apart h)
 
-  -- what the graph is built of, where no kind of a stage holds
+  -- where no kind of a stage holds, an answer that fits the kinds after it fits both together
   pub built_later : (xs ys : List (List DumpFault)) (r : Result (Vec Part × Vec (ℕ × ℕ)) DumpFault)
       → first_of (holds d) xs ≡ None → Builds d ys r → Builds d (xs ++ ys) r
   built_later xs ys (Ok parts) none b = (first_after (holds d) xs ys none ∙ b.0, b.1)

@@ -29,7 +29,7 @@ no_tree bytes refused = by (is_utf8 bytes) refl
     by true e = ap (λ b. cond b (read bytes) None) e ∙ refused (IsUtf8-from_is_utf8 bytes e)
     by false e = ap (λ b. cond b (read bytes) None) e
 
--- a list as items and back
+-- a list that is made into items and back is the list itself
 list_of-items_of : (ds : List Data) → list_of (items_of ds) ≡ ds
 list_of-items_of [] = refl
 list_of-items_of (d ∷ ds) = ap (λ es. d ∷ es) (list_of-items_of ds)
@@ -47,7 +47,7 @@ entries_or_none view d None b h none =
     ap (map view) none ∙ ap (λ (o : Option Items). option_map_or list_of o []) h
 entries_or_none view d (Some v) b h none = entries_of_items d (map view v.now) h
 
--- two functions one after the other
+-- a list mapped by one function after another is mapped by both at once
 pub map-map : {X Y Z : Type 0} (g : Y → Z) (f : X → Y) (xs : List X) → map (λ x. g (f x)) xs ≡ map g (map f xs)
 map-map g f [] = refl
 map-map g f (x ∷ xs) = ap (λ ys. g (f x) ∷ ys) (map-map g f xs)
@@ -57,7 +57,7 @@ pub texts_of_views : {V : Type 0} (view : V → Data) (vs : List V) (d : Data) �
     → map (λ v. text_of (view v)) vs ≡ map text_of (entries_of d)
 texts_of_views view vs d e = map-map text_of view vs ∙ ap (map text_of) e
 
--- a test of what a function makes of each element
+-- a test of what a function makes of each element is a test of the mapped list
 pub all-map : {X Y : Type 0} (test : Y → Bool) (f : X → Y) (xs : List X)
     → list_all (λ x. test (f x)) xs ≡ list_all test (map f xs)
 all-map test f [] = refl
@@ -70,7 +70,7 @@ pub all_of_views : {V : Type 0} (test : List ℕ → Bool) (view : V → Data) (
 all_of_views test view vs d e =
     all-map test (λ v. text_of (view v)) vs ∙ ap (list_all test) (texts_of_views view vs d e)
 
--- the text at a place of an array
+-- the text of the value at a place of an array is the text at that place of its data
 pub text_at_place : {V : Type 0} (view : V → Data) (vs : List V) (d : Data) (i : ℕ) (v : V) → map view vs ≡ entries_of d
     → true ≡ nat_lt i (length vs) → v ≡ get_or vs i v → text_of (view v) ≡ get_or (texts_of d) i []
 text_at_place view vs d i v e within is =
@@ -86,7 +86,7 @@ text_past view vs d i e past =
     (ap (λ ts. slice_get ts i) (sym (texts_of_views view vs d e))
     ∙ get-past (map (λ w. text_of (view w)) vs) i (rw length-map (ltb-false i (length vs) (sym past)))))
 
--- an array of two texts
+-- an array of two entries is a pair just where all its values are texts
 pub is_pair_of : {V : Type 0} (view : V → Data) (vs : List V) (d : Data) → map view vs ≡ entries_of d → length vs ≡ 2
     → list_all (λ v. is_some (as_str (view v))) vs ≡ is_pair d
 is_pair_of view vs d e two =

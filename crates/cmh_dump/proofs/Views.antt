@@ -31,7 +31,7 @@ number_is : (o : Option Num) → is_some o ≡ true
 number_is None h = absurd cc
 number_is (Some n) h = refl
 
--- and one out of range has none
+-- a number out of range has no data
 no_number : (o : Option Num) → is_some o ≡ false → option_map number o ≡ None
 no_number None h = refl
 no_number (Some n) h = absurd cc
@@ -94,7 +94,7 @@ mutual
 
 -- ---- the whole text
 
--- a text that is one value, with its numbers in range, reads as its data
+-- a text that is one value, with its numbers in range, reads as the data of that value
 pub read_is : (text : List ℕ) (j : json.Json) (rest : List Token) → json.value 127 (tokens text) ≡ Some (j, rest)
     → rest ≡ [] → fits j ≡ true → read text ≡ Some (data_of j)
 read_is text j rest h none f =
@@ -102,7 +102,7 @@ read_is text j rest h none f =
     (option_and_then (λ p. json.if_last p.0 p.1) o)) h
     ∙ ap (λ ts. option_and_then of_json (json.if_last j ts)) none ∙ data_is j f
 
--- nor one with a number out of range
+-- a text that is one value, with a number out of range, doesn't read
 pub no_fit : (text : List ℕ) (j : json.Json) (rest : List Token) → json.value 127 (tokens text) ≡ Some (j, rest)
     → rest ≡ [] → fits j ≡ false → read text ≡ None
 no_fit text j rest h none f =
@@ -112,7 +112,7 @@ no_fit text j rest h none f =
 
 -- ---- what is looked up
 
--- the text
+-- the text that a tree of JSON is, if it is one, is that of its data
 pub str_is : (j : json.Json) → json_find.as_str j ≡ as_str (data_of j)
 str_is json.null = refl
 str_is (json.boolean b) = refl
@@ -125,7 +125,7 @@ str_is (json.string s) = refl
 str_is (json.array js) = refl
 str_is (json.object ms) = refl
 
--- the array
+-- the data of the array that a tree of JSON is, if it is one, are the array of its data
 array_at : (j : json.Json) → option_map items_data (json_find.as_array j) ≡ as_array (data_of j)
 array_at json.null = refl
 array_at (json.boolean b) = refl
@@ -138,7 +138,7 @@ array_at (json.string s) = refl
 array_at (json.array js) = refl
 array_at (json.object ms) = refl
 
--- the object
+-- the data of the object that a tree of JSON is, if it is one, are the object of its data
 pub object_at : (j : json.Json)
     → option_map (λ ms. members_data ms no_members) (json_find.as_object j) ≡ as_object (data_of j)
 object_at json.null = refl
@@ -152,7 +152,7 @@ object_at (json.string s) = refl
 object_at (json.array js) = refl
 object_at (json.object ms) = refl
 
--- the natural number
+-- the natural number that a tree of JSON writes, if it writes one, is that of its data
 pub natural_at : (j : json.Json)
     → option_and_then (λ s. option_and_then as_u64 (number_of s)) (json_find.as_number j)
     ≡ option_and_then as_u64 (as_number (data_of j))
@@ -168,12 +168,12 @@ natural_at (json.string s) = refl
 natural_at (json.array js) = refl
 natural_at (json.object ms) = refl
 
--- the items of values, by their data
+-- the data of values as items are the data of those values' items
 items_are_data : (vs : List Tree) → items_of (map view vs) ≡ items_data (items_view vs)
 items_are_data [] = refl
 items_are_data (v ∷ vs) = ap (item (view v)) (items_are_data vs)
 
--- the array, as the reader finds it
+-- what the reader finds as the array of a tree of JSON is, as data, the array of the tree's data
 pub array_seen : {X : Type 0} (items : X → List Tree) (r : Option X) (j : json.Json)
     → option_map (λ x. items_view (items x)) r ≡ json_find.as_array j
     → option_map (λ x. items_of (map view (items x))) r ≡ as_array (data_of j)
@@ -184,12 +184,12 @@ array_seen {X = X} items r j h = by r ∙ ap (option_map items_data) h ∙ array
     by None = refl
     by (Some x) = ap Some (items_are_data (items x))
 
--- the natural number, where a number stands
+-- where a number stands, the natural number that it writes, if any, is that of the data
 pub natural_some : (s : List ℕ) (j : json.Json) → Some s ≡ json_find.as_number j
     → option_and_then as_u64 (number_of s) ≡ option_and_then as_u64 (as_number (data_of j))
 natural_some s j h = ap (option_and_then (λ t. option_and_then as_u64 (number_of t))) h ∙ natural_at j
 
--- and where none does
+-- where no number stands, the data have no natural number
 pub natural_none : (j : json.Json) → None ≡ json_find.as_number j
     → None ≡ option_and_then as_u64 (as_number (data_of j))
 natural_none j h = ap (option_and_then (λ t. option_and_then as_u64 (number_of t))) h ∙ natural_at j
@@ -201,7 +201,7 @@ abbrev or_before : Option json.Json → Option Data → Option Data
 or_before None before = before
 or_before (Some j) before = Some (data_of j)
 
--- the value of a key is the last
+-- in the data of members the value of a key is its last one, or what was found before
 members_get : (q : List ℕ) (ms : json.Members) (found : Members)
     → get_member q (members_data ms found) ≡ or_before (json_find.get_member q ms) (get_member q found)
 members_get q json.no_members found = refl
@@ -221,7 +221,7 @@ members_get q (json.member k j ms) found =
     later None = here (bytes_eq k q) refl
     later (Some x) = refl
 
--- the member at a key
+-- the data of the member at a key of a tree of JSON are the member at that key of its data
 get_is : (q : List ℕ) (j : json.Json) → option_map data_of (json_find.get q j) ≡ get q (data_of j)
 get_is q json.null = refl
 get_is q (json.boolean b) = refl
@@ -238,7 +238,7 @@ get_is q (json.object ms) = sym (members_get q ms no_members ∙ by (json_find.g
     by None = refl
     by (Some x) = refl
 
--- the member, as the reader finds it
+-- what the reader finds at a key of a tree of JSON is, as data, the member at that key of its data
 pub member_seen : (r : Option (Bor Tree)) (q : List ℕ) (j : json.Json)
     → option_map (λ v. value_view v.now) r ≡ json_find.get q j → option_map (λ v. view v.now) r ≡ get q (data_of j)
 member_seen r q j h = by r ∙ ap (option_map data_of) h ∙ get_is q j
@@ -250,18 +250,18 @@ member_seen r q j h = by r ∙ ap (option_map data_of) h ∙ get_is q j
 
 -- ---- keys
 
--- a test that passes twice passes once
+-- asking the first of two tests twice changes nothing
 once : (a b : Bool) → (a && b) ≡ (a && (a && b))
 once true b = refl
 once false b = refl
 
--- two tests the other way round
+-- of three tests the first two can be asked the other way round
 swapped : (a b c : Bool) → (a && (b && c)) ≡ (b && (a && c))
 swapped true b c = refl
 swapped false true c = refl
 swapped false false c = refl
 
--- a test before two others, after one of them
+-- of three tests the first can as well be asked after the second
 moved : (a b c : Bool) → (a && (b && c)) ≡ ((b && a) && c)
 moved true true c = refl
 moved true false c = refl
@@ -273,7 +273,7 @@ with_true : (a : Bool) → (a && true) ≡ a
 with_true true = refl
 with_true false = refl
 
--- the keys after a put are those before and the one that is put
+-- a test of the keys after a put is one of the keys before it and of the one that is put
 keys_put : (test : List ℕ → Bool) (k : List ℕ) (d : Data) (ms : Members)
     → list_all test (keys_of (put k d ms)) ≡ (test k && list_all test (keys_of ms))
 keys_put test k d no_members = refl
@@ -297,7 +297,7 @@ abbrev pub written_keys : json.Members → List (List ℕ)
 written_keys json.no_members = []
 written_keys (json.member k j ms) = k ∷ written_keys ms
 
--- a test of all keys is one of all that are written
+-- a test of the keys of the data of members is one of the written keys and of those found before
 members_keys : (test : List ℕ → Bool) (ms : json.Members) (found : Members)
     → list_all test (keys_of (members_data ms found))
     ≡ (list_all test (written_keys ms) && list_all test (keys_of found))
@@ -307,7 +307,7 @@ members_keys test (json.member k j ms) found =
     ∙ ap (λ b. list_all test (written_keys ms) && b) (keys_put test k (data_of j) found)
     ∙ moved (list_all test (written_keys ms)) (test k) (list_all test (keys_of found))
 
--- the same where nothing was found before
+-- where nothing was found before, a test of the keys of the data of members is one of the written keys
 pub all_keys_are : (test : List ℕ → Bool) (ms : json.Members)
     → list_all test (keys_of (members_data ms no_members)) ≡ list_all test (written_keys ms)
 all_keys_are test ms = members_keys test ms no_members ∙ with_true (list_all test (written_keys ms))
@@ -331,7 +331,7 @@ no_natural p =
 
 module _ {X : Type 0} (all_fit : List X → Bool) (fit : X → Bool) (none : all_fit [] ≡ true)
     (more : (x : X) (xs : List X) → all_fit (x ∷ xs) ≡ (fit x && all_fit xs)) where
-  -- where one fails, not all of them pass
+  -- where an element of a list fails, not all of them pass
   pub fit_refused : (xs all : List X) (i : ℕ) (x : X) → xs ≡ all → i < length xs → x ≡ get_or xs i x
       → all_fit (drop i xs) ≡ all_fit xs → fit x ≡ false → false ≡ all_fit all
   fit_refused xs all i x same lt is left failed =
@@ -339,7 +339,7 @@ module _ {X : Type 0} (all_fit : List X → Bool) (fit : X → Bool) (none : all
       (ap all_fit (sym same) ∙ sym left ∙ ap all_fit (drop_next xs i x lt is) ∙ more x (drop (i + 1) xs)
       ∙ ap (λ b. b && all_fit (drop (i + 1) xs)) failed)
 
-  -- one that passes is left out
+  -- past an element that passes, those that are left still decide whether all pass
   pub fit_passed : (xs : List X) (i : ℕ) (x : X) → i < length xs → x ≡ get_or xs i x
       → all_fit (drop i xs) ≡ all_fit xs → fit x ≡ true → all_fit (drop (i + 1) xs) ≡ all_fit xs
   fit_passed xs i x lt is left passed =
@@ -348,7 +348,7 @@ module _ {X : Type 0} (all_fit : List X → Bool) (fit : X → Bool) (none : all
       ∙ ap (λ b. b && all_fit (drop (i + 1) xs)) passed)
       ∙ left
 
-  -- at the end all of them pass
+  -- where those that are left decide whether all pass, and none are left, all pass
   pub fit_all : (xs all : List X) (i : ℕ) → xs ≡ all → length xs ≤ i → all_fit (drop i xs) ≡ all_fit xs
       → true ≡ all_fit all
   fit_all xs all i same le left =

@@ -53,7 +53,7 @@ dependents_by d [] i = refl
 dependents_by d (p ∷ ps) zero = refl
 dependents_by d (p ∷ ps) (suc i) = dependents_by d ps i
 
--- the same of the graph of the tree
+-- in the graph of a tree the dependents of a process are the places of those that its entry names
 dependents_are : (d : Data) (i : ℕ)
     → graph.dependents_of (tree_graph d) i ≡ map (place_of (names d)) (entry d i).dependents
 dependents_are d i = dependents_by d (processes d) i
@@ -82,7 +82,7 @@ within d clean i j h =
     place_within (names d) (dependent d i j) (known d clean i j e.0) in
     omega (arith, e.1, l, length-names d, process_count_is d)
 
--- and the dependents of a process differ
+-- in the graph of a clean tree the dependents of a process differ from one another
 distinct : (d : Data) → IsClean d → (i j k : ℕ) → graph.HasDependentAt (tree_graph d) i j → k < j
     → graph.dependent_at (tree_graph d) i k ≢ graph.dependent_at (tree_graph d) i j
 distinct d clean i j k h l s =
@@ -111,7 +111,7 @@ past_the_end [] i l = refl
 past_the_end (p ∷ ps) zero l = absurd (omega arith)
 past_the_end (p ∷ ps) (suc i) l = past_the_end ps i (omega arith)
 
--- an active process that has no dependents too many has none
+-- an active process has no dependents where the test for an active one with dependents fails
 none_of_active : (s : State) (ds : List (List ℕ)) → graph.is_idle_state s ≡ false
     → (not (graph.is_idle_state s) && nat_lt 0 (length ds)) ≡ false → ds ≡ []
 none_of_active Idle ds e h = absurd cc
@@ -214,7 +214,7 @@ refused_for_memory g w e (inr f) = absurd ((graph_law g).0 w e f.had)
 clean : (d : Data) → AreNone (HasTreeFault d) → IsClean d
 clean d none fault t = false_from_ne_true (holds d fault) (λ h. none fault (t, h))
 
--- what bytes mean is well formed
+-- the graph that bytes mean is well formed
 pub well_formed_law : DumpWellFormedLaw
 well_formed_law = λ bytes g e.
     let r = graph_told bytes g e in

@@ -83,7 +83,7 @@ in_order d =
     ∷ each (transits d) UnknownInTransit
     ∷ []
 
--- the first that holds
+-- the first fault of the lists, one list after the other, that passes the test
 abbrev pub first_of : (DumpFault → Bool) → List (List DumpFault) → Option DumpFault
 first_of test [] = None
 first_of test (faults ∷ rest) = option_or (find test faults) (first_of test rest)

@@ -60,7 +60,7 @@ entry d i = entry_of (slice_index_or (processes d) i null)
 abbrev pub names : Data → List (List ℕ)
 names d = map (λ e. e.name) (entries d)
 
--- an active process may leave its dependents out
+-- the dependents of a process are an array; an active one may leave them out
 abbrev pub has_dependents : Data → Bool
 has_dependents p =
     if is_some (get (codes "dependents") p) then has_array (codes "dependents") p

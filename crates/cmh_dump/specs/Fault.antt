@@ -4,7 +4,7 @@ use Rattle.std.specs.Fmt.{decimal}
 use Rattle.cmh_dump.specs.declared.fault.DumpFault.{DumpFault}
 use Rattle.cmh_dump.specs.declared.fault.DumpFault.TheVariants.{Memory, ReadFault, TooLong, NotJson, BadTop, BadVersion, BadSites, RepeatedSite, TooManySites, TooManyProcesses, BadProcess, RepeatedProcess, UnknownSite, UnknownDependent, RepeatedDependent, ActiveWithDependents, TooManyDependencies, TooManyInTransit, BadInTransit, UnknownInTransit}
 
--- what is wrong, without its places
+-- the text of what is wrong, without the places of the fault
 abbrev pub kind_text : DumpFault → List ℕ
 kind_text Memory = codes "out of memory"
 kind_text ReadFault = codes "read fault"
@@ -27,7 +27,7 @@ kind_text TooManyInTransit = codes "too many in transit"
 kind_text (BadInTransit i) = codes "bad in transit"
 kind_text (UnknownInTransit i) = codes "unknown in transit"
 
--- the place of the fault: of a site, a process or a message
+-- the first place of a fault: that of a site, a process or a message
 abbrev pub first_place : DumpFault → Option ℕ
 first_place (BadSites i) = Some i
 first_place (RepeatedSite i) = Some i
@@ -41,13 +41,13 @@ first_place (BadInTransit i) = Some i
 first_place (UnknownInTransit i) = Some i
 first_place fault = None
 
--- the place of a dependent
+-- the second place of a fault: that of a dependent
 abbrev pub second_place : DumpFault → Option ℕ
 second_place (UnknownDependent i j) = Some j
 second_place (RepeatedDependent i j) = Some j
 second_place fault = None
 
--- a place after what is wrong
+-- what is printed of a place after what is wrong
 abbrev pub place_text : Option ℕ → List ℕ
 place_text None = []
 place_text (Some i) = codes " " ++ decimal i

@@ -74,7 +74,7 @@ dump_fault_rank TooManyInTransit = 17 ∷ []
 dump_fault_rank (BadInTransit i) = 18 ∷ i ∷ []
 dump_fault_rank (UnknownInTransit i) = 19 ∷ i ∷ []
 
--- there is no such fault
+-- no fault is one of these
 abbrev pub AreNone : (DumpFault → Type 0) → Type 0
 AreNone These = (fault : DumpFault) → These fault → ⊥
 

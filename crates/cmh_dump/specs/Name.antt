@@ -14,7 +14,7 @@ is_name text =
     nat_le 1 (length text) && nat_le (length text) MAX_NAME
     && is_ascii_alphanumeric (slice_index text 0) && list_all is_name_byte text
 
--- the name is among those
+-- the name is one of the names
 abbrev pub is_among : List (List ℕ) → List ℕ → Bool
 is_among names name = list_any (bytes_eq name) names
 

@@ -34,13 +34,15 @@ PlacesOrUnknown names values (Ok places) =
     (first_unknown names values ≡ None) × (places.items ≡ map (λ v. place_of names (value_text v)) values)
 PlacesOrUnknown names values (Err e) = TellsUnknown names values e
 
--- the same of a process by indices
+-- no dependent of the entry is unknown and the part is its process by indices, or the fault tells the
+-- first unknown dependent, if it is no want of memory
 abbrev pub PartOrUnknown : List (List ℕ) → List (List ℕ) → declared.Entry → Result Part PlaceFault → Type 0
 PartOrUnknown sites names e (Ok part) =
     (first_unknown names e.dependents.now ≡ None) × (graph.process_of part ≡ process_by sites names (entry_view e))
 PartOrUnknown sites names e (Err f) = TellsUnknown names e.dependents.now f
 
--- the same of all processes
+-- no dependent of an entry is unknown and the parts are the processes by indices, or the fault tells
+-- the first unknown dependent, if it is no want of memory
 abbrev pub PartsOrUnknown : List (List ℕ) → List (List ℕ) → List declared.Entry → Result (Vec Part) DumpFault → Type 0
 PartsOrUnknown sites names es (Ok parts) =
     (unknown_dependent names es ≡ None)

@@ -73,7 +73,8 @@ pub record AreRead (d : Data) (es : List declared.Entry) (site_names : List (Lis
   pub written : map entry_view es ≡ entries d
   pub are_sites : site_names ≡ sites d
 
--- The same as `Judges`, of parts and messages in transit: at Ok they make the graph of the tree.
+-- None of the kinds holds, and the parts and messages in transit make the graph of the tree; or the
+-- fault answered is the first that holds, want of memory apart.
 abbrev pub Builds : Data → List (List DumpFault) → Result (Vec Part × Vec (ℕ × ℕ)) DumpFault → Type 0
 Builds d kinds (Ok parts) =
     (first_of (holds d) kinds ≡ None) × (graph.parts_graph parts.0.items parts.1.items ≡ tree_graph d)

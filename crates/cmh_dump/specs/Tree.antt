@@ -17,19 +17,19 @@ abbrev pub keys_of : Members → List (List ℕ)
 keys_of no_members = []
 keys_of (member k d ms) = k ∷ keys_of ms
 
--- the text, or the empty one
+-- the text that the data are, or the empty one
 abbrev pub text_of : Data → List ℕ
 text_of d = unwrap_or (as_str d) []
 
--- the entries of the array, or none
+-- the entries of the array that the data are, or none
 abbrev pub entries_of : Data → List Data
 entries_of d = option_map_or list_of (as_array d) []
 
--- the entries as texts
+-- the entries of the array that the data are, as texts
 abbrev pub texts_of : Data → List (List ℕ)
 texts_of d = map text_of (entries_of d)
 
--- the member of the object, or null
+-- the member of the object at the key, or null
 abbrev pub at_key : List ℕ → Data → Data
 at_key k d = unwrap_or (get k d) null
 

@@ -26,7 +26,7 @@ abbrev mutual
   members_data json.no_members found = found
   members_data (json.member k j ms) found = members_data ms (put k (data_of j) found)
 
--- all numbers are in range
+-- all numbers of a tree of JSON are in range
 abbrev mutual
   pub fits : json.Json → Bool
   fits json.null = true
@@ -48,6 +48,6 @@ abbrev mutual
 abbrev pub Tree : Type 0
 Tree = Value Global
 
--- the data that it stands for
+-- the data that a tree in memory stands for
 abbrev pub view : Tree → Data
 view v = data_of (value_view v)

@@ -39,7 +39,7 @@ one_contains x y c = elim (cons_contains x [] y c) [
   | inr none ↦ absurd (omega (arith, none.1))
 ]
 
--- where p reaches q and q reaches p, and each dependency of p is a core by itself, they are one
+-- where each dependency of p is a core by itself, and p and q reach each other, they are one process
 behind_alone : (g : Graph) (p : ℕ) → IsWithinGraph g → p < process_count g
     → ((r : ℕ) → Depends g p r → core_of g r ≡ r ∷ []) → (q : ℕ) → Reaches g p q → Reaches g q p → q ≡ p
 behind_alone g p w i alone q ([], e) back = absurd e
@@ -66,13 +66,13 @@ last_step : (g : Graph) (q r : ℕ) (rest : List ℕ) (p : ℕ) → Leads g q (r
 last_step g q r [] p l = (q, subst (λ z. Depends g q z) l.1 l.0)
 last_step g q r (s ∷ rest) p l = last_step g r s rest p l.1
 
--- nobody but p reaches a process that nobody depends on
+-- where nobody depends on p, nobody but p reaches it
 unnamed_alone : (g : Graph) (p : ℕ) → ((t : ℕ) → Depends g t p → ⊥) → (q : ℕ) → Reaches g q p → q ≡ p
 unnamed_alone g p nobody q ([], e) = absurd e
 unnamed_alone g p nobody q (x ∷ [], (e, l)) = l
 unnamed_alone g p nobody q (x ∷ r ∷ rest, (e, l)) = let step = last_step g q r rest p l in absurd (nobody step.0 step.1)
 
--- a process that nobody depends on is a core by itself
+-- where just those processes are marked on which nobody depends, each of them is a core by itself
 pub alone_start : (g : Graph) (lists : List (List ℕ)) (marks : List Bool) → IsWithinGraph g → ArePredecessors g lists
     → marks ≡ map (λ p. eqb (length (predecessors_at lists p)) 0) (indices g) → AreAlone g marks
 alone_start g lists marks w pre is =
@@ -89,12 +89,12 @@ alone_start g lists marks w pre is =
           (λ t d. let c = pre.complete t p d in absurd (omega (arith, c.1, empty))) q back);
     }
 
--- at first nothing is passed
+-- at first no dependents are passed, so all that are passed are marked
 pub passed_start : (g : Graph) (marks : List Bool) (passed : List ℕ) → length passed ≡ process_count g
     → ((p : ℕ) → get_or passed p 0 ≡ 0) → ArePassed g marks passed
 passed_start g marks passed size none = record { size = size; marked = λ p k l. absurd (omega (arith, l, none p)) }
 
--- marked dependents more are passed
+-- where the dependents of p up to a count are marked, so many of them may be passed
 pub passed_more : (g : Graph) (marks : List Bool) (passed : List ℕ) (p count : ℕ) → ArePassed g marks passed
     → p < process_count g
     → ((k : ℕ) → get_or passed p 0 ≤ k → k < count → is_marked marks (get_or (dependents_of g p) k 0) ≡ true)
@@ -116,7 +116,7 @@ passed_more g marks passed p count h i on = record {
 
 ]
 
--- and what was passed stays passed
+-- where a place more is marked, the dependents that were passed stay passed
 pub passed_stays : (g : Graph) (marks : List Bool) (passed : List ℕ) (p : ℕ) → p < length marks
     → ArePassed g marks passed → ArePassed g (set marks p true) passed
 passed_stays g marks passed p i h = record {
@@ -124,7 +124,7 @@ passed_stays g marks passed p i h = record {
   marked = λ q k l. mark_keeps marks p (get_or (dependents_of g q) k 0) i (h.marked q k l);
 }
 
--- a process whose dependents are all passed is marked
+-- where all dependents of p are passed, p may be marked as a core by itself
 pub alone_marked : (g : Graph) (marks : List Bool) (passed : List ℕ) (p : ℕ) → IsWithinGraph g → p < process_count g
     → AreAlone g marks → ArePassed g marks passed
     → length (dependents_of g p) ≤ get_or passed p 0 → AreAlone g (set marks p true)
@@ -145,7 +145,7 @@ alone_marked g marks passed p w i a h all = record {
     at_place (x ∷ xs) zero r l e = e
     at_place (x ∷ xs) (suc k) r l e = at_place xs k r (omega (arith, l)) e
 
--- a list of zeros
+-- a list of zeros has a zero at each place
 pub zeros_at : (n p : ℕ) → get_or {A = ℕ} (replicate n 0) p 0 ≡ 0
 zeros_at zero p = refl
 zeros_at (suc n) zero = refl

@@ -31,7 +31,7 @@ active_mark [] t p l = absurd (omega (arith, l))
 active_mark (x ∷ parts) t zero l = refl
 active_mark (x ∷ parts) t (suc p) l = active_mark parts t p (omega (arith, l))
 
--- at first the active ones are marked
+-- at first, before any message is looked at, the active processes are marked
 pub awake_start : (parts : List Part) (t : List (ℕ × ℕ)) (marks : List Bool)
     → marks ≡ map (λ part. not (is_idle_state part.state)) parts → AwakeUpTo (parts_graph parts t) 0 marks
 awake_start parts t marks e = record {

@@ -34,20 +34,20 @@ pub record ReturnsTo (g : Graph) (p : ℕ) (marks : List Bool) (pending found : 
 
 -- ---- how many are marked
 
--- one place more is marked or not
+-- one place more is either counted as unmarked or listed as marked
 places_by : (b : Bool) (x n unmarked : ℕ) (marked : List ℕ) → unmarked + length marked ≡ n
     → cond {A = ℕ} (not b) 1 0 + unmarked + length (cond b (x ∷ marked) marked) ≡ suc n
 places_by true x n unmarked marked e = omega (arith, e)
 places_by false x n unmarked marked e = omega (arith, e)
 
--- each place is marked or not
+-- the places of a list that fail a test and those that pass it are together as many as all
 places : (t : ℕ → Bool) (xs : List ℕ) → unmarked_count (map t xs) + length (filter t xs) ≡ length xs
 places t [] = refl
 places t (x ∷ xs) =
     ap (λ n. n + length (filter t (x ∷ xs))) (sum_by-cons (λ mark. cond {A = ℕ} (not mark) 1 0) (t x) (map t xs))
     ∙ places_by (t x) x (length xs) (unmarked_count (map t xs)) (filter t xs) (places t xs)
 
--- so the unmarked places and the list of the marked ones are all
+-- the unmarked places and the marked ones are together as many as all
 pub marked_and_not : (marks : List Bool)
     → unmarked_count marks + length (filter (is_marked marks) (range_with_len 0 (length marks))) ≡ length marks
 marked_and_not marks =
@@ -59,7 +59,7 @@ marked_and_not marks =
 
 -- ---- the search
 
--- at first p is marked alone
+-- at first p alone is marked and pending, and nobody is found
 pub returns_start : (g : Graph) (p : ℕ) (marks : List Bool) (pending found : List ℕ) → length marks ≡ process_count g
     → p < process_count g → ((q : ℕ) → is_marked marks q ≡ eqb q p) → pending ≡ p ∷ [] → found ≡ []
     → ReturnsTo g p marks pending found
@@ -113,7 +113,7 @@ entered g p q r lists reached pre e back c =
     let at = by_index g (reaches g p) reached r false e (idle_within g r d.0) in
     (reaches_then g p r (sym at ∙ both.1), reaches_before g r q p d back)
 
--- and each one that p reaches is entered
+-- each predecessor that p reaches is one that the search enters
 enters : (g : Graph) (p q r : ℕ) (lists : List (List ℕ)) (reached : List Bool) → IsWithinGraph g → p < process_count g
     → ArePredecessors g lists → reached ≡ map (reaches g p) (indices g) → Depends g r q → Reaches g p r
     → Contains (filter (is_marked reached) (predecessors_at lists q)) r
@@ -122,7 +122,7 @@ enters g p q r lists reached w i pre e d there =
     contains_filter (is_marked reached) (predecessors_at lists q) r (pre.complete r q d)
     (at ∙ then_reaches g p r w i there)
 
--- its predecessors that p reaches are marked, and it is found
+-- a pending process is found, and its predecessors that p reaches are marked
 pub returns_more : (g : Graph) (p q : ℕ) (lists : List (List ℕ)) (reached old new : List Bool)
     (pending rest after found more : List ℕ) → IsWithinGraph g → p < process_count g → ArePredecessors g lists
     → reached ≡ map (reaches g p) (indices g) → ReturnsTo g p old pending found → pending ≡ rest ++ q ∷ []
@@ -181,7 +181,7 @@ led_back g p marks start closed q [] there e = ap (is_marked marks) e ∙ start
 led_back g p marks start closed q (r ∷ rest) there l =
     closed r (led_back g p marks start closed r rest (reaches_more g p q r there l.0) l.1) q l.0 there
 
--- so the core is marked
+-- where nothing is pending, each process that p reaches and that reaches p is marked
 returned_marked : (g : Graph) (p : ℕ) (marks : List Bool) (found : List ℕ) → ReturnsTo g p marks [] found → (q : ℕ)
     → Reaches g p q → Reaches g q p → is_marked marks q ≡ true
 returned_marked g p marks found s q there ([], e) = absurd e
@@ -201,7 +201,7 @@ mark_by true true false sound complete = complete refl refl
 mark_by true false false sound complete = refl
 mark_by false back false sound complete = refl
 
--- and the marks say who is in the core
+-- where nothing is pending, the marks say who is in the core
 marks_end : (g : Graph) (p : ℕ) (marks : List Bool) (found : List ℕ) → IsWithinGraph g → p < process_count g
     → ReturnsTo g p marks [] found → marks ≡ map (λ q. reaches g p q && reaches g q p) (indices g)
 marks_end g p marks found w i s =
@@ -223,7 +223,7 @@ filter_both : (t u : ℕ → Bool) (xs : List ℕ) → filter (λ x. t x && u x)
 filter_both t u [] = refl
 filter_both t u (x ∷ xs) = filter_both_by u x (filter (λ y. t y && u y) xs) (filter t xs) (t x) (filter_both t u xs)
 
--- the marked places are the core
+-- where the marks say who is in the core, the list of the marked places is the core
 core_listed : (g : Graph) (p : ℕ) (marks : List Bool) → marks ≡ map (λ q. reaches g p q && reaches g q p) (indices g)
     → filter (is_marked marks) (range_with_len 0 (length marks)) ≡ core_of g p
 core_listed g p marks e =
@@ -260,7 +260,7 @@ sorted_is (x ∷ xs) (y ∷ ys) sorted rises has l =
     ] in
     λ k. first k ∷ rest k
 
--- those that are found, in order, are the core
+-- where nothing is pending, those that are found, in order, are the core
 pub returns_end : (g : Graph) (p : ℕ) (marks : List Bool) (pending found sorted : List ℕ) → IsWithinGraph g
     → p < process_count g → pending ≡ [] → ReturnsTo g p marks pending found → IsPermutation found sorted
     → IsSorted nat_cmp sorted → sorted ≡ core_of g p

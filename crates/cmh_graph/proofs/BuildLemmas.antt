@@ -14,7 +14,7 @@ use Rattle.cmh_graph.specs.First.{comes_before}
 use Rattle.cmh_graph.specs.Graph.{Process, Graph, process_count, dependents_of, is_idle, nobody, dependent_at, IsWithinGraph}
 use Rattle.cmh_graph.specs.Judge.{IsFirst, IsFirstEntry}
 
--- an active process without that fault has no dependents
+-- in a graph without a fault an active process has no dependents
 empty_by : (g : Graph) (i : ℕ) (ds : List ℕ) → dependents_of g i ≡ ds → is_idle g i ≡ false
     → ((fault : GraphFault) → HasGraphFault g fault → ⊥) → ds ≡ []
 empty_by g i [] e a h = refl
@@ -60,7 +60,7 @@ no_fault g w (TransitOutOfRange i) (l, inl h) = let b = w.sent_within i l in ome
 no_fault g w (TransitOutOfRange i) (l, inr h) = let b = w.received_within i l in omega (arith, b, h)
 no_fault g w Memory h = h
 
--- well formed is without a fault
+-- a graph is well formed just where it has no fault
 pub well_formed_law : WellFormedLaw
 well_formed_law = λ g. (λ w fault h. no_fault g w fault h, λ h. without_fault g h)
 
@@ -78,17 +78,17 @@ not_below b j l =
       | no h ↦ let same : b ≡ j = omega (arith, h, l) in rw (sym (nat_cmp_is b j Equal same)) refl
     ]
 
--- faults of one kind with one index go by it
+-- of two faults of a kind with one index, that of no lower index doesn't come before the other
 one_first : (k i a : ℕ) → i ≤ a → is_lt (slice_cmp nat_cmp (k ∷ a ∷ []) (k ∷ i ∷ [])) ≡ false
 one_first k i a l = rw (cmp_same k) (not_below a i l)
 
--- and those with two go by these
+-- of two faults of a kind with two indices, that whose indices are no earlier doesn't come before
 pub pair_first : (k i j a b : ℕ) → (i < a) ⊎ ((i ≡ a) × (j ≤ b))
     → is_lt (slice_cmp nat_cmp (k ∷ a ∷ b ∷ []) (k ∷ i ∷ j ∷ [])) ≡ false
 pair_first k i j a b (inl h) = rw (cmp_same k, sym (nat_cmp_is a i Greater h)) refl
 pair_first k i j a b (inr h) = rw (cmp_same k, sym (nat_cmp_is a i Equal (sym h.0))) (not_below b j h.1)
 
--- no fault that is left comes before the first repeat
+-- where no fault of an earlier kind holds, none comes before the first repeated dependent
 first_repeat_by : (g : Graph) (i j : ℕ) → process_count g ≤ MAX_PROCESSES → dependent_count g ≤ MAX_DEPENDENCIES
     → IsWithinGraph g → IsFirstEntry (λ i j. HasGraphFault g (RepeatedDependent i j)) i j → (other : GraphFault)
     → HasGraphFault g other
@@ -102,13 +102,13 @@ first_repeat_by g i j np nd nr f TooManyInTransit h = refl
 first_repeat_by g i j np nd nr f (TransitOutOfRange a) h = refl
 first_repeat_by g i j np nd nr f Memory h = absurd h
 
--- then the first repeat
+-- where no fault of an earlier kind holds, the first repeated dependent is the first fault of the graph
 pub first_repeat : (g : Graph) (i j : ℕ) → process_count g ≤ MAX_PROCESSES → dependent_count g ≤ MAX_DEPENDENCIES
     → IsWithinGraph g → IsFirstEntry (λ i j. HasGraphFault g (RepeatedDependent i j)) i j
     → IsFirstGraphFault g (RepeatedDependent i j)
 first_repeat g i j np nd nr f = record { had = f.holds; first = first_repeat_by g i j np nd nr f }
 
--- no fault that is left comes before the first active process with dependents
+-- where no fault of an earlier kind holds, none comes before the first active process with dependents
 first_active_by : (g : Graph) (i : ℕ) → process_count g ≤ MAX_PROCESSES → dependent_count g ≤ MAX_DEPENDENCIES
     → IsWithinGraph g → ((i j : ℕ) → HasGraphFault g (RepeatedDependent i j) → ⊥)
     → IsFirst (λ i. HasGraphFault g (ActiveWithDependents i)) i → (other : GraphFault) → HasGraphFault g other
@@ -122,13 +122,14 @@ first_active_by g i np nd nr ne f TooManyInTransit h = refl
 first_active_by g i np nd nr ne f (TransitOutOfRange a) h = refl
 first_active_by g i np nd nr ne f Memory h = absurd h
 
--- then the first active process with dependents
+-- where no fault of an earlier kind holds, the first active process with dependents is the first fault
+-- of the graph
 pub first_active : (g : Graph) (i : ℕ) → process_count g ≤ MAX_PROCESSES → dependent_count g ≤ MAX_DEPENDENCIES
     → IsWithinGraph g → ((i j : ℕ) → HasGraphFault g (RepeatedDependent i j) → ⊥)
     → IsFirst (λ i. HasGraphFault g (ActiveWithDependents i)) i → IsFirstGraphFault g (ActiveWithDependents i)
 first_active g i np nd nr ne f = record { had = f.holds; first = first_active_by g i np nd nr ne f }
 
--- no fault that is left comes before too many messages
+-- where no fault of an earlier kind holds, none comes before too many messages in transit
 first_in_transit_by : (g : Graph) → process_count g ≤ MAX_PROCESSES → dependent_count g ≤ MAX_DEPENDENCIES
     → IsWithinGraph g
     → ((i j : ℕ) → HasGraphFault g (RepeatedDependent i j) → ⊥)
@@ -145,14 +146,14 @@ first_in_transit_by g np nd nr ne na f TooManyInTransit h = refl
 first_in_transit_by g np nd nr ne na f (TransitOutOfRange a) h = refl
 first_in_transit_by g np nd nr ne na f Memory h = absurd h
 
--- then too many messages
+-- where no fault of an earlier kind holds, too many messages in transit are the first fault of the graph
 pub first_in_transit : (g : Graph) → process_count g ≤ MAX_PROCESSES → dependent_count g ≤ MAX_DEPENDENCIES
     → IsWithinGraph g → ((i j : ℕ) → HasGraphFault g (RepeatedDependent i j) → ⊥)
     → ((i : ℕ) → HasGraphFault g (ActiveWithDependents i) → ⊥)
     → MAX_IN_TRANSIT < length g.in_transit → IsFirstGraphFault g TooManyInTransit
 first_in_transit g np nd nr ne na f = record { had = f; first = first_in_transit_by g np nd nr ne na f }
 
--- no fault that is left comes before the first message out of range
+-- where no fault of an earlier kind holds, none comes before the first message out of range
 first_transit_by : (g : Graph) (i : ℕ) → process_count g ≤ MAX_PROCESSES → dependent_count g ≤ MAX_DEPENDENCIES
     → IsWithinGraph g → ((i j : ℕ) → HasGraphFault g (RepeatedDependent i j) → ⊥)
     → ((i : ℕ) → HasGraphFault g (ActiveWithDependents i) → ⊥)
@@ -169,7 +170,7 @@ first_transit_by g i np nd nr ne na nt f TooManyInTransit h = absurd (omega (ari
 first_transit_by g i np nd nr ne na nt f (TransitOutOfRange a) h = one_first 7 i a (f.first a h)
 first_transit_by g i np nd nr ne na nt f Memory h = absurd h
 
--- then the first message out of range
+-- where no fault of an earlier kind holds, the first message out of range is the first fault of the graph
 pub first_transit : (g : Graph) (i : ℕ) → process_count g ≤ MAX_PROCESSES → dependent_count g ≤ MAX_DEPENDENCIES
     → IsWithinGraph g → ((i j : ℕ) → HasGraphFault g (RepeatedDependent i j) → ⊥)
     → ((i : ℕ) → HasGraphFault g (ActiveWithDependents i) → ⊥)
@@ -185,7 +186,8 @@ transit_none : (g : Graph)
 transit_none g n i (l, inl h) = let b = n i l in omega (arith, b.0, h)
 transit_none g n i (l, inr h) = let b = n i l in omega (arith, b.1, h)
 
--- a graph without any of these is well formed
+-- a graph within its limits is well formed where nothing is out of range, no dependent repeats and no
+-- active process has dependents
 pub well_formed_then : (g : Graph) → process_count g ≤ MAX_PROCESSES → dependent_count g ≤ MAX_DEPENDENCIES
     → IsWithinGraph g → ((i j : ℕ) → HasGraphFault g (RepeatedDependent i j) → ⊥)
     → ((i : ℕ) → HasGraphFault g (ActiveWithDependents i) → ⊥)

@@ -56,7 +56,7 @@ map_contains p (ys ∷ yss) xs c =
       | inr d ↦ contains_cons (p ∷ ys) (map (λ path. p ∷ path) yss) (p ∷ xs) (map_contains p yss xs d)
     ]
 
--- a path of that list begins with p and goes on by a path of the list
+-- a path that begins with p, of a list made by putting p before paths, is p and then one of those paths
 contains_map : (p : ℕ) (xss : List (List ℕ)) (path : List ℕ) → Contains (map (λ path. p ∷ path) xss) path
     → (xs : List ℕ) × Contains xss xs × (p ∷ xs ≡ path)
 contains_map p [] path c = absurd (omega (arith, c.1))
@@ -85,7 +85,7 @@ start_by g test p path true e c =
     ]
 start_by g test p path false e c = absurd (omega (arith, c.1))
 
--- what is listed is a path
+-- a path that is listed by n leads by n dependencies from p to a process that passes the test
 pub listed_is : (g : Graph) (test : ℕ → Bool) (n p : ℕ) (path : List ℕ) → Contains (paths_to g test n p) path
     → IsListed g test n p path
 listed_is g test zero p path c = start_by g test p path (test p) refl c
@@ -102,12 +102,12 @@ listed_is g test (suc n) p path c =
       passes = l.passes;
     }
 
--- a process that passes is listed alone
+-- where p passes the test, the path of p alone is listed
 start_listed : (p : ℕ) (b : Bool) → b ≡ true → Contains (cond b ((p ∷ []) ∷ []) []) (p ∷ [])
 start_listed p true e = (zero, omega arith, refl)
 start_listed p false e = absurd cc
 
--- a path is listed
+-- a path from p to a process that passes the test is listed by its number of dependencies
 is_listed : (g : Graph) (test : ℕ → Bool) (p : ℕ) (rest : List ℕ) (q : ℕ) → Leads g p rest q → test q ≡ true
     → Contains (paths_to g test (length rest) p) (p ∷ rest)
 is_listed g test p [] q l t = start_listed p (test p) (ap test l ∙ t)
@@ -181,7 +181,7 @@ chosen_at g p n path e r =
         (subst (λ y. Contains (paths_to g (is_awake g) (length rest) p) (y ∷ rest)) (sym w.0)
         (is_listed g (is_awake g) p rest q w.1 a))
 
--- the same, whatever the distance is
+-- the least path of the length of the distance, where there is a distance, is a chosen path in words
 chosen_by : (g : Graph) (p : ℕ) (path : List ℕ) (o : Option ℕ) → distance_of g p ≡ o
     → option_and_then (λ n. reduce lesser (paths_to g (is_awake g) n p)) o ≡ Some path → IsChosenPath g p path
 chosen_by g p path (Some n) e r = chosen_at g p n path e r
@@ -274,7 +274,7 @@ chosen_path_exists_law =
 
 -- ---- a step of the chosen path
 
--- it is one longer than the distance
+-- a chosen path in words has one process more than the distance has dependencies
 pub chosen_length : (g : Graph) (p n : ℕ) (path : List ℕ) → distance_of g p ≡ Some n → IsChosenPath g p path
     → length path ≡ suc n
 unfolding distance_of
@@ -284,7 +284,7 @@ chosen_length g p n path e c =
     ap length (one_chosen g p path s.0 c (unfold distance_of in chosen_at g p n s.0 e s.1))
     ∙ length_is g p n s.0 (listed_is g (is_awake g) n p s.0 m.0)
 
--- every way out is at least as long
+-- each path to an awake process has at least one process more than the distance has dependencies
 pub way_out_length : (g : Graph) (p n : ℕ) (other : List ℕ) → distance_of g p ≡ Some n → IsWayOut g p other
     → suc n ≤ length other
 unfolding distance_of
@@ -300,7 +300,7 @@ way_out_length g p n (x ∷ rest) e o =
       | no h ↦ omega (arith, h)
     ]
 
--- an awake process is its own chosen path
+-- a process at distance 0 is alone its chosen path
 chosen_alone : (g : Graph) (p : ℕ) → distance_of g p ≡ Some 0 → IsChosenPath g p (p ∷ [])
 unfolding distance_of
 chosen_alone g p e = record {
@@ -315,7 +315,8 @@ chosen_alone g p e = record {
     alone g p (x ∷ []) q w same = rw (sym (nat_cmp_is x p Equal w.0)) refl
     alone g p (x ∷ y ∷ rest) q w same = absurd (omega (arith, same))
 
--- a dependency that starts an equally long way out is one nearer
+-- where p is at distance n + 1, a dependency of p with a path of n dependencies to an awake process is
+-- at distance n
 next_distance : (g : Graph) (p s n : ℕ) (tail : List ℕ) (q : ℕ) → IsWithinGraph g → p < process_count g
     → distance_of g p ≡ Some (suc n) → Depends g p s → Leads g s tail q → is_awake g q ≡ true → length tail ≡ n
     → distance_of g s ≡ Some n
@@ -328,7 +329,7 @@ next_distance g p s n tail q w i e d l a size =
     let is : k.0 ≡ n = omega (arith, far, on.1, k.1, size) in
     k.2 ∙ ap (λ m. Some m) is
 
--- a list that begins with no less a number is not less, if it isn't where these are equal
+-- a list that begins with no less a number than another is not less, if it isn't where these are equal
 later_than : (s x : ℕ) (tail rest : List ℕ) → x ≤ s → (s ≡ x → is_lt (slice_cmp nat_cmp (s ∷ tail) (x ∷ rest)) ≡ false)
     → is_lt (slice_cmp nat_cmp (s ∷ tail) (x ∷ rest)) ≡ false
 later_than s x tail rest l h =
@@ -382,12 +383,12 @@ pub record LeadsOn (g : Graph) (p n : ℕ) (path : List ℕ) (last : ℕ) : Type
   pub is : path ≡ front ++ last ∷ []
   pub completes : (rest : List ℕ) → IsChosenPath g last rest → IsChosenPath g p (front ++ rest)
 
--- what a list of all distances has at a place
+-- a list of all distances has at a place the distance of the process there
 distance_read : (g : Graph) (distances : List (Option ℕ)) (q : ℕ) → distances ≡ map (distance_of g) (indices g)
     → q < process_count g → number_at distances q ≡ distance_of g q
 distance_read g distances q e l = by_index g (distance_of g) distances q None e l
 
--- at first the path is p alone
+-- at first the path so far is p alone, and each chosen path from p completes it
 pub leads_start : (g : Graph) (p n : ℕ) (path : List ℕ) (distances : List (Option ℕ)) (o : Option ℕ)
     → p < process_count g → distances ≡ map (distance_of g) (indices g) → o ≡ get_or distances p o → o ≡ Some n
     → path ≡ [] ++ p ∷ [] → LeadsOn g p n path p
@@ -399,7 +400,7 @@ leads_start g p n path distances o i e f s is = record {
   completes = λ rest c. c;
 }
 
--- a process that isn't awake has a dependent that is nearer
+-- a process at distance m + 1 has a dependent at distance m
 nearer_dependent : (g : Graph) (p m : ℕ) (row : List ℕ) (distances : List (Option ℕ)) → IsWellFormed g
     → p < process_count g → distance_of g p ≡ Some (m + 1) → row ≡ dependents_of g p
     → distances ≡ map (distance_of g) (indices g)
@@ -414,7 +415,7 @@ nearer_dependent g p m row distances w i e f a =
       (unfold distance_of in distance_read g distances back.0 a here) ∙ back.2,
     )
 
--- so there is a least one
+-- a process at distance m + 1 has a least dependent at distance m
 pub nearest_some : (g : Graph) (p m : ℕ) (row : List ℕ) (distances : List (Option ℕ)) (o : Option ℕ)
     → IsWellFormed g → p < process_count g → distance_of g p ≡ Some (m + 1) → row ≡ dependents_of g p
     → distances ≡ map (distance_of g) (indices g) → IsLeastAt m row distances o → IsSome o
@@ -423,7 +424,7 @@ nearest_some g p m row distances None w i e f a least =
     let q = nearer_dependent g p m row distances w i e f a in
     absurd (least q.0 q.1 q.2)
 
--- the only member of a list
+-- the only member of a list stands at its first place
 only_member : (row : List ℕ) (q d : ℕ) → length row ≡ 1 → Contains row q → get_or row 0 d ≡ q
 only_member [] q d e c = absurd (omega (arith, e))
 only_member (x ∷ []) q d e c = elim (cons_contains x [] q c) [
@@ -432,7 +433,7 @@ only_member (x ∷ []) q d e c = elim (cons_contains x [] q c) [
 ]
 only_member (x ∷ y ∷ xs) q d e c = absurd (omega (arith, e))
 
--- and where it is the only one, it is the least
+-- the only dependent of a process at distance m + 1 is its least dependent at distance m
 pub nearest_alone : (g : Graph) (p m d : ℕ) (row : List ℕ) (distances : List (Option ℕ)) → IsWellFormed g
     → p < process_count g → distance_of g p ≡ Some (m + 1) → row ≡ dependents_of g p
     → distances ≡ map (distance_of g) (indices g) → length row ≡ 1 → IsLeastAt m row distances (Some (get_or row 0 d))
@@ -444,7 +445,7 @@ nearest_alone g p m d row distances w i e f a one =
       λ s c near. omega (arith, only_member row s d one c),
     )
 
--- the least of these is next
+-- the path so far goes on with the least dependent that is one nearer
 pub leads_on : (g : Graph) (p n m last r : ℕ) (path row : List ℕ) (distances : List (Option ℕ)) → IsWellFormed g
     → LeadsOn g p n path last → n ≡ suc m → row ≡ dependents_of g last → distances ≡ map (distance_of g) (indices g)
     → IsLeastAt m row distances (Some r) → LeadsOn g p m (path ++ r ∷ []) r
@@ -467,7 +468,7 @@ leads_on g p n m last r path row distances w h e f a least =
           c));
     }
 
--- at an awake process the path is done
+-- where the path so far has come to distance 0, it is the chosen path
 pub leads_end : (g : Graph) (p n last : ℕ) (path : List ℕ) → IsWithinGraph g → p < process_count g
     → LeadsOn g p n path last → n ≤ 0 → Some path ≡ chosen_path g p
 leads_end g p n last path w i h none =
@@ -476,7 +477,7 @@ leads_end g p n last path w i h none =
     (subst (λ xs. IsChosenPath g p xs) (sym h.is)
     (h.completes (last ∷ []) (chosen_alone g last (h.distance ∙ ap (λ k. Some k) zero_left)))))
 
--- without a distance there is none
+-- a process without a distance has no chosen path
 pub chosen_none : (g : Graph) (p : ℕ) (distances : List (Option ℕ)) (o : Option ℕ) → p < process_count g
     → distances ≡ map (distance_of g) (indices g) → o ≡ get_or distances p o → o ≡ None → None ≡ chosen_path g p
 unfolding chosen_path

@@ -5,7 +5,7 @@ use Rattle.cmh_graph.specs.Path.{reaches, reach_of}
 use Rattle.cmh_graph.proofs.PathLemmas.{reaches_then, then_reaches, contains_index}
 use Rattle.cmh_graph.proofs.Verdicts.{contains_filter, reached_within, filter_contains}
 
--- the core is what each reaches of the other
+-- q is in p's core just where each reaches the other
 pub core_law : CoreLaw
 core_law = λ g p q w i. (
   λ c. let outer = filter_contains (λ r. reaches g r p) (reach_of g p) q c in

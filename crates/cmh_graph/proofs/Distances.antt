@@ -20,7 +20,7 @@ reaches_awake g p n e =
     let w = walk g (is_awake g) n p (near g (is_awake g) p n e) in
     (w.0, w.1, (p ∷ w.2, (refl, w.3)))
 
--- and a process that reaches an awake one has a distance
+-- a process that reaches an awake one has a distance
 distance_if_awake : (g : Graph) → IsWithinGraph g → (p q : ℕ) → p < process_count g → Reaches g p q
     → is_awake g q ≡ true → is_some (distance_of g p) ≡ true
 unfolding distance_of
@@ -44,7 +44,7 @@ deadlocked_by_distance g w p i e =
       λ q r. no_distance_asleep g w p q i e r,
     )
 
--- and one with a distance is not
+-- a process with a distance is not deadlocked
 free_by_distance : (g : Graph) → IsWithinGraph g → (p : ℕ) → is_some (distance_of g p) ≡ true
     → is_deadlocked g p ≡ false
 free_by_distance g w p e =
@@ -57,7 +57,7 @@ free_by_distance g w p e =
       | inr d ↦ d
     ]
 
--- so the distance decides the verdict
+-- a process with a distance is free, and one without is deadlocked
 verdict_by_distance : (g : Graph) → IsWithinGraph g → (p : ℕ) → p < process_count g
     → verdict g p ≡ cond (is_some (distance_of g p)) Free Deadlocked
 verdict_by_distance g w p i =
@@ -66,7 +66,7 @@ verdict_by_distance g w p i =
       | inr e ↦ rw (deadlocked_by_distance g w p i e, e) refl
     ]
 
--- the same, by the place of p in the list of all distances
+-- p is free where the list of all distances has one at its place, and deadlocked where it has none
 verdict_at : (g : Graph) → IsWithinGraph g → (p : ℕ) → p < process_count g → (distances : List (Option ℕ))
     → distances ≡ map (distance_of g) (indices g) → (distance : Option ℕ) → get_or distances p None ≡ distance
     → cond (is_some distance) Free Deadlocked ≡ verdict g p
@@ -74,17 +74,17 @@ verdict_at g w p i distances e distance f =
     let at = sym f ∙ by_index g (distance_of g) distances p None e i in
     ap (λ d. cond (is_some d) Free Deadlocked) at ∙ sym (verdict_by_distance g w p i)
 
--- each process has a place there
+-- each process has a place in the list of all distances
 pub has_distance : (g : Graph) (p : ℕ) (distances : List (Option ℕ)) → p < process_count g
     → distances ≡ map (distance_of g) (indices g) → p < length distances
 has_distance g p distances i e = omega (arith, ap length e, length-by_index g (distance_of g), i)
 
--- p is free where a distance stands there
+-- p is free where a distance stands at its place in the list of all distances
 pub free_at : (g : Graph) (p d : ℕ) (distances : List (Option ℕ)) → IsWithinGraph g → p < process_count g
     → distances ≡ map (distance_of g) (indices g) → get_or distances p None ≡ Some d → Free ≡ verdict g p
 free_at g p d distances w i e f = verdict_at g w p i distances e (Some d) f
 
--- and deadlocked where none does
+-- p is deadlocked where no distance stands at its place in the list of all distances
 pub deadlocked_at : (g : Graph) (p : ℕ) (distances : List (Option ℕ)) → IsWithinGraph g → p < process_count g
     → distances ≡ map (distance_of g) (indices g) → get_or distances p None ≡ None → Deadlocked ≡ verdict g p
 deadlocked_at g p distances w i e f = verdict_at g w p i distances e None f

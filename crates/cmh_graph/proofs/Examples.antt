@@ -30,7 +30,7 @@ active name site = record { name = name; site = site; state = Active; dependents
 abbrev graph : List Process → Graph
 graph processes = record { processes = processes; in_transit = [] }
 
--- the same graph with one message in transit
+-- the processes of a graph with just one message in transit
 abbrev with_message : ℕ × ℕ → Graph → Graph
 with_message message g = record { processes = g.processes; in_transit = message ∷ [] }
 
@@ -92,7 +92,7 @@ path_of_awake = refl
 
 -- ---- messages in transit
 
--- q to p wakes p
+-- two in a cycle with a message from q to p, which wakes p
 abbrev cycle_with_message : Graph
 cycle_with_message = with_message (1, 0) two_in_a_cycle
 
@@ -111,7 +111,7 @@ path_to_woken : chosen_path cycle_with_message 1 ≡ Some (1 ∷ 0 ∷ [])
 unfolding chosen_path distance_of
 path_to_woken = refl
 
--- p to r wakes r
+-- a cycle and r, which waits for it, with a message from p to r, which wakes r
 abbrev follower_with_message : Graph
 follower_with_message = with_message (0, 2) cycle_and_follower
 
@@ -123,7 +123,7 @@ path_of_woken_follower : chosen_path follower_with_message 2 ≡ Some (2 ∷ [])
 unfolding chosen_path distance_of
 path_of_woken_follower = refl
 
--- q to r wakes nobody, for q is no dependent of r
+-- a message from q to r, which wakes nobody, for q is no dependent of r
 abbrev message_from_another : Graph
 message_from_another = with_message (1, 2) cycle_and_follower
 
@@ -141,7 +141,7 @@ verdicts_with_message_from_another = refl
 abbrev far : Graph
 far = graph (idle (codes "p") 0 (5 ∷ []) ∷ [])
 
--- no fault of it comes before the dependent that is out of range
+-- no fault of the graph `far` comes before its dependent that is out of range
 none_before_far : (other : GraphFault) → HasGraphFault far other
     → IsFalse (comes_before (graph_fault_rank other) (graph_fault_rank (DependentOutOfRange 0 0)))
 none_before_far TooManyProcesses h = absurd (omega (arith, h))
@@ -154,7 +154,7 @@ none_before_far TooManyInTransit h = refl
 none_before_far (TransitOutOfRange i) h = refl
 none_before_far Memory h = absurd h
 
--- that is its first fault
+-- the dependent out of range is the first fault of the graph `far`
 far_is_refused : IsFirstGraphFault far (DependentOutOfRange 0 0)
 far_is_refused = record { had = ((omega arith, omega arith), omega arith); first = none_before_far }
 

@@ -17,7 +17,7 @@ use Rattle.cmh_graph.proofs.PositionLemmas.{waits}
 use Rattle.cmh_graph.proofs.LevelSearch.{marked_within}
 use Rattle.cmh_graph.proofs.Verdicts.{idle_within, reached_within, reaches_more}
 
--- at first p is marked alone
+-- at first p alone is marked and pending
 pub spreads_alone : (g : Graph) (p : ℕ) (marks : List Bool) → length marks ≡ process_count g → p < process_count g
     → ((q : ℕ) → is_marked marks q ≡ eqb q p) → SpreadsFrom g p marks (p ∷ [])
 spreads_alone g p marks size i alone =
@@ -44,7 +44,7 @@ pending_within g p q marks pending rest s e =
       s.size,
     )
 
--- and so are the dependents of a process
+-- the dependents of a process are processes of the graph
 pub dependents_within : (g : Graph) (q : ℕ) (row : List ℕ) (n : ℕ) → IsWellFormed g → row ≡ dependents_of g q
     → n ≡ process_count g → (k d : ℕ) → k < length row → get_or row k d < n
 dependents_within g q row n w e f k d l =
@@ -52,7 +52,7 @@ dependents_within g q row n w e f k d l =
     let depends = waits g q r w (subst (λ xs. Contains xs r) e (Contains-get_or row k d l)) in
     omega (arith, depends_within g w.within q r (idle_within g q depends.0) depends, f)
 
--- its dependents are marked
+-- a pending process is taken off, and its dependents are marked
 pub spreads_more : (g : Graph) (p q : ℕ) (old new : List Bool) (pending rest after : List ℕ) → IsWellFormed g
     → SpreadsFrom g p old pending → pending ≡ rest ++ q ∷ [] → MarksEach (dependents_of g q) old new rest after
     → SpreadsFrom g p new after
@@ -90,7 +90,7 @@ led_marked : (g : Graph) (marks : List Bool)
 led_marked g marks closed p [] q m e = ap (is_marked marks) (sym e) ∙ m
 led_marked g marks closed p (r ∷ rest) q m l = led_marked g marks closed r rest q (closed p m r l.0) l.1
 
--- what p reaches is marked
+-- where nothing is pending, what p reaches is marked
 reached_marked : (g : Graph) (p : ℕ) (marks : List Bool) → SpreadsFrom g p marks [] → (q : ℕ) → Reaches g p q
     → is_marked marks q ≡ true
 reached_marked g p marks s q ([], e) = absurd e
@@ -102,7 +102,7 @@ reached_marked g p marks s q (x ∷ rest, (e, l)) =
     ])
     p rest q s.start l
 
--- and the marks say what p reaches
+-- where nothing is pending, the marks say what p reaches
 pub spreads_end : (g : Graph) (p : ℕ) (marks : List Bool) (pending : List ℕ) → IsWithinGraph g → p < process_count g
     → pending ≡ [] → SpreadsFrom g p marks pending → marks ≡ map (reaches g p) (indices g)
 spreads_end g p marks pending w i e s =
@@ -116,7 +116,7 @@ spreads_end g p marks pending w i e s =
       ]
     ])
 
--- listed, they are the reach of p
+-- where the marks say what p reaches, the list of the marked processes is the reach of p
 pub reach_listed : (g : Graph) (p : ℕ) (marks : List Bool) → marks ≡ map (reaches g p) (indices g)
     → filter (is_marked marks) (range_with_len 0 (length marks)) ≡ reach_of g p
 reach_listed g p marks e =
@@ -125,7 +125,7 @@ reach_listed g p marks e =
     ∙ filter_agree_on (is_marked marks) (reaches g p) (indices g)
     (λ q c. by_index g (reaches g p) marks q false e (index_within (process_count g) q c))
 
--- a process beside those that a reached one reaches
+-- where p reaches q, the search from p may start with what q reaches marked, and p marked and pending
 pub spreads_known : (g : Graph) (p q : ℕ) (known : List Bool) → IsWithinGraph g → p < process_count g → Reaches g p q
     → known ≡ map (reaches g q) (indices g) → SpreadsFrom g p (set known p true) (p ∷ [])
 spreads_known g p q known w i there is =

@@ -57,15 +57,15 @@ indices_rise n k l =
     let within : k + 1 < n = omega (arith, l, length-range_with_len 0 n) in
     omega (arith, get_or-range_with_len 0 n k 0 (omega (arith, within)), get_or-range_with_len 0 n (k + 1) 0 within)
 
--- what a process reaches rises
+-- what a process reaches stands by rising index
 reach_rises : (g : Graph) (p : ℕ) → IsStrictlyIncreasing (reach_of g p)
 reach_rises g p = IsStrictlyIncreasing-filter (reaches g p) (indices g) (indices_rise (process_count g))
 
--- and so does its core
+-- the core of a process stands by rising index
 core_rises : (g : Graph) (p : ℕ) → IsStrictlyIncreasing (core_of g p)
 core_rises g p = IsStrictlyIncreasing-filter (λ q. reaches g q p) (reach_of g p) (reach_rises g p)
 
--- all three lists rise
+-- what a process reaches, its core and its rest stand by rising index
 pub rising_law : RisingLaw
 rising_law =
     λ g p. (
@@ -140,12 +140,12 @@ same_core g p q w i c =
     (index_within (process_count g) r (filter_contains (reaches g p) (indices g) r d).0))
     ∙ ap (filter (λ r. reaches g r q)) reach
 
--- and the same leader
+-- members of a core have the same leader
 pub same_leader : (g : Graph) (p q : ℕ) → IsWithinGraph g → p < process_count g → Contains (core_of g p) q
     → leader_of g p ≡ leader_of g q
 same_leader g p q w i c = ap (λ xs. get_or xs 0 0) (same_core g p q w i c)
 
--- the leader is a member
+-- the leader of a process is in its core
 pub leader_in_core : (g : Graph) (p : ℕ) → IsWithinGraph g → p < process_count g
     → Contains (core_of g p) (leader_of g p)
 leader_in_core g p w i =
@@ -153,11 +153,11 @@ leader_in_core g p w i =
     let some : 0 < length (core_of g p) = omega (arith, own.1) in
     (zero, some, get_or_default (core_of g p) 0 (leader_of g p) 0 some)
 
--- and the least one
+-- nobody in the core of a process is less than its leader
 pub leader_least : (g : Graph) (p q : ℕ) → Contains (core_of g p) q → leader_of g p ≤ q
 leader_least g p q c = first_least (core_of g p) q (AllPairs-from_increasing (core_of g p) (core_rises g p)) c
 
--- the leader is one in words
+-- the leader that is computed is one in words
 leader_is : (g : Graph) (p : ℕ) → IsWithinGraph g → p < process_count g → IsLeader g p (leader_of g p)
 leader_is g p w i = record { member = leader_in_core g p w i; least = leader_least g p }
 
@@ -232,18 +232,18 @@ unfolding up_to
 number_is g p =
     sym (is_count_by (λ xs. up_to xs (leader_of g p)) (λ x. leb x (leader_of g p)) refl (λ x xs. refl) (leaders g))
 
--- and one leader has one number
+-- processes with one leader have one group number
 number_of_leader : (g : Graph) (p q : ℕ) → leader_of g p ≡ leader_of g q → group_number g p ≡ group_number g q
 number_of_leader g p q e = ap (λ z. count_by (λ x. leb x z) (leaders g)) e
 
--- a number that is not up to n is above it
+-- a number that fails the test of being up to n is above n
 past : (x n : ℕ) → leb x n ≡ false → n < x
 past x n e = elim (dec_lt n x) [
   | yes h ↦ h
   | no h ↦ let bad : true ≡ false = sym (le-leb x n (omega (arith, h))) ∙ e in absurd cc
 ]
 
--- one member more, by cases
+-- where no more numbers are up to m than up to a greater n, one member more leaves it so, by cases
 more_by : (x m n : ℕ) (a b : ℕ) (low high : Bool) → leb x m ≡ low → leb x n ≡ high → m ≤ n → a ≤ b
     → cond low (1 + a) a ≤ cond high (1 + b) b
 more_by x m n a b true true e f l h = omega (arith, h)
@@ -251,21 +251,21 @@ more_by x m n a b true false e f l h = absurd (omega (arith, leb-true x m e, pas
 more_by x m n a b false true e f l h = omega (arith, h)
 more_by x m n a b false false e f l h = h
 
--- up to more there are as many at least
+-- up to a greater number there are at least as many numbers of a list
 up_to_rises : (xs : List ℕ) (m n : ℕ) → m ≤ n → up_to xs m ≤ up_to xs n
 unfolding up_to
 up_to_rises [] m n l = omega arith
 up_to_rises (x ∷ xs) m n l =
     more_by x m n (up_to xs m) (up_to xs n) (leb x m) (leb x n) refl refl l (up_to_rises xs m n l)
 
--- the member itself counts above what is less than it, by cases
+-- a head that is n counts up to n but not up to a lesser m, so there are more up to n, by cases
 itself_by : (x m n : ℕ) (a b : ℕ) (low high : Bool) → leb x m ≡ low → leb x n ≡ high → x ≡ n → m < n → a ≤ b
     → cond low (1 + a) a < cond high (1 + b) b
 itself_by x m n a b true high e f same l h = absurd (omega (arith, leb-true x m e, same, l))
 itself_by x m n a b false true e f same l h = omega (arith, h)
 itself_by x m n a b false false e f same l h = absurd (omega (arith, past x n f, same))
 
--- another member counts alike or more, by cases
+-- where more numbers are up to n than up to a lesser m, another member leaves it so, by cases
 other_by : (x m n : ℕ) (a b : ℕ) (low high : Bool) → leb x m ≡ low → leb x n ≡ high → m < n → a < b
     → cond low (1 + a) a < cond high (1 + b) b
 other_by x m n a b true true e f l h = omega (arith, h)
@@ -273,7 +273,7 @@ other_by x m n a b true false e f l h = absurd (omega (arith, leb-true x m e, pa
 other_by x m n a b false true e f l h = omega (arith, h)
 other_by x m n a b false false e f l h = h
 
--- up to a member there are more than up to less
+-- up to a member of a list there are more of its numbers than up to a lesser number
 up_to_member : (xs : List ℕ) (m n : ℕ) → Contains xs n → m < n → up_to xs m < up_to xs n
 unfolding up_to
 up_to_member [] m n c l = absurd (omega (arith, c.1))
@@ -284,13 +284,13 @@ up_to_member (x ∷ xs) m n c l =
       | inr d ↦ other_by x m n (up_to xs m) (up_to xs n) (leb x m) (leb x n) refl refl l (up_to_member xs m n d l)
     ]
 
--- a member counts itself, by cases
+-- where the head is n or one of the rest is up to n, at least one number is up to n, by cases
 counted_by : (x n a : ℕ) (b : Bool) → leb x n ≡ b → (x ≡ n) ⊎ (1 ≤ a) → 1 ≤ cond b (1 + a) a
 counted_by x n a true e h = omega arith
 counted_by x n a false e (inl same) = absurd (omega (arith, past x n e, same))
 counted_by x n a false e (inr l) = l
 
--- up to a member there is one at least
+-- up to a member of a list there is at least one of its numbers
 up_to_one : (xs : List ℕ) (n : ℕ) → Contains xs n → 1 ≤ up_to xs n
 unfolding up_to
 up_to_one [] n c = absurd (omega (arith, c.1))
@@ -298,7 +298,7 @@ up_to_one (x ∷ xs) n c =
     counted_by x n (up_to xs n) (leb x n) refl
     (elim (cons_contains x xs n c) [ inl same ↦ inl same | inr d ↦ inr (up_to_one xs n d) ])
 
--- none of what is above n is up to it
+-- where all numbers of a list are above n, none of them is up to n
 up_to_none : (xs : List ℕ) (n : ℕ) → ((x : ℕ) → Contains xs x → n < x) → up_to xs n ≡ 0
 unfolding up_to
 up_to_none [] n h = refl
@@ -310,11 +310,11 @@ up_to_none (x ∷ xs) n h =
     none_by x n a true e l z = absurd (omega (arith, leb-true x n e, l))
     none_by x n a false e l z = z
 
--- the others of a rising list rise
+-- a rising list without its first number rises
 pub tail_rises : (x : ℕ) (xs : List ℕ) → AllPairs (λ a b. a < b) (x ∷ xs) → AllPairs (λ a b. a < b) xs
 tail_rises x xs pairs i j d l k = pairs (suc i) (suc j) d (omega (arith, l)) (omega (arith, k))
 
--- and are above the first
+-- the numbers of a rising list after the first are above it
 pub head_below : (x : ℕ) (xs : List ℕ) → AllPairs (λ a b. a < b) (x ∷ xs) → (y : ℕ) → Contains xs y → x < y
 head_below x xs pairs y c = let less =
     pairs 0 (suc c.0) y (omega arith) (omega (arith, c.1)) in omega (arith, less, c.2)
@@ -332,7 +332,7 @@ up_to_place (x ∷ xs) (suc k) pairs l =
 
 -- ---- the law
 
--- lesser, equal or greater
+-- a number is less than another, equal to it or greater
 compared : (m n : ℕ) → (m < n) ⊎ ((m ≡ n) ⊎ (n < m))
 compared m n =
     elim (dec_lt m n) [

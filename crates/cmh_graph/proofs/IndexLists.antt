@@ -9,24 +9,24 @@ use mathlib.Core.List.{map-id}
 use Rattle.cmh_graph.specs.Graph.{Graph, process_count, indices}
 use Rattle.cmh_graph.proofs.PathLemmas.{contains_cons}
 
--- one index more is the next
+-- the first n + 1 indices are the first n, and then n
 indices_more : (n : ℕ) → range_with_len 0 (n + 1) ≡ range_with_len 0 n ++ n ∷ []
 indices_more n =
     sym (map-id (range_with_len 0 (n + 1)))
     ∙ map-range_with_len_more (λ x. x) 0 n n (omega arith)
     ∙ ap (λ xs. xs ++ n ∷ []) (map-id (range_with_len 0 n))
 
--- a filter of one index more keeps it where it passes
+-- a filter of one index more has the index at its end where it passes, and else nothing more
 filter_indices_more : (p : ℕ → Bool) (n : ℕ)
     → filter p (range_with_len 0 (n + 1)) ≡ filter p (range_with_len 0 n) ++ cond (p n) (n ∷ []) []
 filter_indices_more p n = rw (indices_more n) (filter-append p (range_with_len 0 n) (n ∷ []))
 
--- it keeps an index that passes
+-- a filter of one index more keeps it where it passes
 pub filter_indices_kept : (p : ℕ → Bool) (n : ℕ) → p n ≡ true
     → filter p (range_with_len 0 (n + 1)) ≡ filter p (range_with_len 0 n) ++ n ∷ []
 filter_indices_kept p n e = rw (filter_indices_more p n, e) refl
 
--- and leaves out one that doesn't
+-- a filter of one index more leaves it out where it doesn't pass
 pub filter_indices_passed : (p : ℕ → Bool) (n : ℕ) → p n ≡ false
     → filter p (range_with_len 0 (n + 1)) ≡ filter p (range_with_len 0 n)
 filter_indices_passed p n e = rw (filter_indices_more p n, e) (append-nil (filter p (range_with_len 0 n)))
@@ -37,7 +37,7 @@ filter_indices_passed p n e = rw (filter_indices_more p n, e) (append-nil (filte
 pub length-by_index : {X : Type 0} (g : Graph) (f : ℕ → X) → length (map f (indices g)) ≡ process_count g
 length-by_index g f = length-map (indices g) f ∙ length-range_with_len 0 (process_count g)
 
--- what a list made by index has at a place
+-- a list made by index has at a place what the function makes of the place
 pub by_index : {X : Type 0} (g : Graph) (f : ℕ → X) (xs : List X) (p : ℕ) (d : X) → xs ≡ map f (indices g)
     → p < process_count g → get_or xs p d ≡ f p
 by_index g f xs p d e l =

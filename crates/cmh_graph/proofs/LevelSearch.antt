@@ -39,24 +39,24 @@ pub first : (t : ℕ → Bool) (a k n : ℕ) → find t (range_with_len a k) ≡
 first t a zero n e = absurd cc
 first t a (suc k) n e = first_by t a k n (t a) refl (λ s. first t (a + 1) k n s) e
 
--- what is found is one of the range, by cases
+-- a number that is found in a range is below the end of it, by cases
 found_within_by : (t : ℕ → Bool) (a k n : ℕ) (b : Bool) → (find t (range_with_len (a + 1) k) ≡ Some n → n < a + 1 + k)
     → cond b (Some a) (find t (range_with_len (a + 1) k)) ≡ Some n → n < a + suc k
 found_within_by t a k n true h s = let same : a ≡ n = ap (λ o. unwrap_or o 0) s in omega (arith, same)
 found_within_by t a k n false h s = omega (arith, h s)
 
--- and it is one of the range
+-- a number that is found in a range is below the end of it
 found_within : (t : ℕ → Bool) (a k n : ℕ) → find t (range_with_len a k) ≡ Some n → n < a + k
 found_within t a zero n e = absurd cc
 found_within t a (suc k) n e = found_within_by t a k n (t a) (λ s. found_within t (a + 1) k n s) e
 
 -- ---- the least number of dependencies
 
--- it is below the number of processes
+-- the least number of dependencies to a process that passes is below the number of processes
 steps_within : (g : Graph) (test : ℕ → Bool) (p n : ℕ) → steps_to g test p ≡ Some n → n < process_count g
 steps_within g test p n e = omega (arith, found_within (λ m. is_nonempty (paths_to g test m p)) 0 (process_count g) n e)
 
--- there is one where a path leads to a process that passes
+-- where a path leads to a process that passes, there is a least number of dependencies to one
 pub has_steps : (g : Graph) (test : ℕ → Bool) → IsWithinGraph g → (p q : ℕ) → p < process_count g → (rest : List ℕ)
     → Leads g p rest q → test q ≡ true → is_some (steps_to g test p) ≡ true
 unfolding Simple
@@ -68,7 +68,7 @@ has_steps g test w p q i rest l a =
     (contains_index (process_count g) (length s.0) (omega (arith, short)))
     (listed g test p s.0 q s.1 a)
 
--- it is at most the length of each path
+-- where a path of m dependencies is listed, there is a least number of dependencies, and it is at most m
 pub near_then : (g : Graph) (test : ℕ → Bool) → IsWithinGraph g → (p m : ℕ) → p < process_count g
     → is_nonempty (paths_to g test m p) ≡ true → (k : ℕ) × (k ≤ m) × (steps_to g test p ≡ Some k)
 unfolding Walk
@@ -91,17 +91,17 @@ near_more g test n p r d e =
     flat_map_nonempty (λ r. map (λ path. p ∷ path) (paths_to g test n r)) (dependencies_of g p) r (dependency g p r d)
     (map_nonempty (λ path. p ∷ path) (paths_to g test n r) e)
 
--- a path of that length is listed
+-- a path of the least number of dependencies is listed
 pub near : (g : Graph) (test : ℕ → Bool) (p n : ℕ) → steps_to g test p ≡ Some n
     → is_nonempty (paths_to g test n p) ≡ true
 near g test p n e = (first (λ m. is_nonempty (paths_to g test m p)) 0 (process_count g) n e).0
 
--- a process has at most one dependency more than each that it depends on
+-- where p depends on q, the least number of dependencies from p is at most one more than that from q
 pub steps_on : (g : Graph) (test : ℕ → Bool) → IsWithinGraph g → (p q n : ℕ) → p < process_count g → Depends g p q
     → steps_to g test q ≡ Some n → (m : ℕ) × (m ≤ suc n) × (steps_to g test p ≡ Some m)
 steps_on g test w p q n i d e = near_then g test w p (suc n) i (near_more g test n p q d (near g test q n e))
 
--- and just one more than some of these
+-- a process from which the least number of dependencies is n + 1 depends on one from which it is n
 pub steps_back : (g : Graph) (test : ℕ → Bool) → IsWithinGraph g → (p n : ℕ) → p < process_count g
     → steps_to g test p ≡ Some (suc n) → (r : ℕ) × Depends g p r × (steps_to g test r ≡ Some n)
 steps_back g test w p n i e =
@@ -116,7 +116,7 @@ steps_back g test w p n i e =
       | no h ↦ let same : k.0 ≡ n = omega (arith, h, k.1) in (v.0, d, k.2 ∙ ap (λ m. Some m) same)
     ]
 
--- none is needed where the process passes itself
+-- from a process that passes the test itself the least number of dependencies is 0
 steps_none : (g : Graph) (test : ℕ → Bool) → IsWithinGraph g → (p : ℕ) → p < process_count g → test p ≡ true
     → steps_to g test p ≡ Some 0
 steps_none g test w p i e =
@@ -124,7 +124,7 @@ steps_none g test w p i e =
     let same : k.0 ≡ 0 = omega (arith, k.1) in
     k.2 ∙ ap (λ m. Some m) same
 
--- and only there
+-- a process from which the least number of dependencies is 0 passes the test itself
 pub passes_itself : (g : Graph) (test : ℕ → Bool) (p : ℕ) → steps_to g test p ≡ Some 0 → test p ≡ true
 passes_itself g test p e = start_by test p (test p) (near g test p 0 e)
 
@@ -146,7 +146,7 @@ paths_agree g t u w e (suc n) p i =
     (dependencies_of g p)
     (λ r c. ap (map (λ path. p ∷ path)) (paths_agree g t u w e n r (depends_within g w p r i (depends g p r c))))
 
--- they give one answer
+-- tests that agree within the graph give one least number of dependencies
 steps_agree : (g : Graph) (t u : ℕ → Bool) → IsWithinGraph g → ((r : ℕ) → r < process_count g → t r ≡ u r) → (p : ℕ)
     → p < process_count g → steps_to g t p ≡ steps_to g u p
 steps_agree g t u w e p l = λ i. find (λ n. is_nonempty (paths_agree g t u w e n p l i)) (indices g)
@@ -162,7 +162,7 @@ pub record StepsUpTo (g : Graph) (test : ℕ → Bool) (n : ℕ) (steps : List (
   pub members : (q : ℕ) → Contains level q → (q < process_count g) × (steps_to g test q ≡ Some n)
   pub level_has : (q : ℕ) → q < process_count g → steps_to g test q ≡ Some n → Contains level q
 
--- whether a place of a marked list is numbered
+-- in a list that numbers the marked places 0, a place has a number just where it is marked
 number_of_mark : (marks : List Bool) (p : ℕ)
     → number_at (map (λ b. cond b (Some 0) None) marks) p ≡ cond (is_marked marks p) (Some 0) None
 number_of_mark [] p = refl
@@ -180,7 +180,7 @@ zero_if_true : (b : Bool) (d : ℕ) → cond b (Some 0) None ≡ Some d → (b �
 zero_if_true true d e = (refl, sym (ap (λ o. unwrap_or o 0) e))
 zero_if_true false d e = absurd cc
 
--- at first the marked processes are numbered
+-- at first the marked processes are numbered 0, and they are the level
 marked_start : (g : Graph) (marks : List Bool) → IsWithinGraph g → length marks ≡ process_count g
     → StepsUpTo g (is_marked marks) 0 (map (λ b. cond b (Some 0) None) marks)
     (filter (is_marked marks) (range_with_len 0 (length marks)))
@@ -202,7 +202,7 @@ marked_start g marks w size = record {
       (contains_index (length marks) q (omega (arith, i, size))) (passes_itself g (is_marked marks) q e);
 }
 
--- the same, by what the list and the level are
+-- at first a list that numbers the marked processes 0, with these as the level, has the least numbers up to 0
 pub steps_start : (g : Graph) (marks : List Bool) (steps : List (Option ℕ)) (level : List ℕ) → IsWithinGraph g
     → length marks ≡ process_count g → steps ≡ map (λ b. cond b (Some 0) None) marks
     → level ≡ filter (is_marked marks) (range_with_len 0 (length marks)) → StepsUpTo g (is_marked marks) 0 steps level
@@ -211,11 +211,11 @@ steps_start g marks steps level w size e f =
     (subst (λ xs. StepsUpTo g (is_marked marks) 0 (map (λ b. cond b (Some 0) None) marks) xs) (sym f)
     (marked_start g marks w size))
 
--- numbers are equal where they are there alike
+-- where two numbers that are there are equal as options, they are equal
 some_same : (a b : ℕ) → Some a ≡ Some b → a ≡ b
 some_same a b e = ap (λ o. unwrap_or o 0) e
 
--- a number that the level gives is right
+-- once a level is numbered, each number is the least number of dependencies of its process
 level_sound : (g : Graph) (test : ℕ → Bool) (n m : ℕ) (lists : List (List ℕ)) (old new : List (Option ℕ))
     (level next : List ℕ) → IsWithinGraph g → ArePredecessors g lists → m ≡ suc n → StepsUpTo g test n old level
     → Numbers (IsNamedBy lists level) m old new [] next → (p d : ℕ) → number_at new p ≡ Some d
@@ -236,7 +236,7 @@ level_sound g test n m lists old new level next w pre e s h p d f =
           ]
     ]
 
--- and each process of that number gets it
+-- once a level is numbered, each process has its least number of dependencies where that is up to m
 level_complete : (g : Graph) (test : ℕ → Bool) (n m : ℕ) (lists : List (List ℕ)) (old new : List (Option ℕ))
     (level next : List ℕ) → IsWithinGraph g → ArePredecessors g lists → m ≡ suc n → StepsUpTo g test n old level
     → Numbers (IsNamedBy lists level) m old new [] next → (p d : ℕ) → p < process_count g
@@ -253,7 +253,7 @@ level_complete g test n m lists old new level next w pre e s h p d i f l =
       | no k ↦ h.kept p d (s.complete p d i f (omega (arith, k)))
     ]
 
--- a level more
+-- once the predecessors of a level are numbered, the list has the least numbers up to one more
 pub steps_more : (g : Graph) (test : ℕ → Bool) (n m : ℕ) (lists : List (List ℕ)) (old new : List (Option ℕ))
     (level next : List ℕ) → IsWithinGraph g → ArePredecessors g lists → m ≡ suc n → StepsUpTo g test n old level
     → Numbers (IsNamedBy lists level) m old new [] next → StepsUpTo g test m new next
@@ -278,7 +278,7 @@ steps_more g test n m lists old new level next w pre e s h = record {
       ];
 }
 
--- the members of a level have predecessors
+-- each member of a level has a list of predecessors
 pub level_listed : (g : Graph) (test : ℕ → Bool) (n : ℕ) (lists : List (List ℕ)) (steps : List (Option ℕ))
     (level xs : List ℕ) → ArePredecessors g lists → StepsUpTo g test n steps level → xs ≡ level → (k d : ℕ)
     → k < length xs → get_or xs k d < length lists
@@ -286,7 +286,7 @@ level_listed g test n lists steps level xs pre s e k d l =
     let c : Contains level (get_or xs k d) = subst (λ zs. Contains zs (get_or xs k d)) e (Contains-get_or xs k d l) in
     omega (arith, (s.members (get_or xs k d) c).0, pre.size)
 
--- a predecessor is one of the graph
+-- a listed predecessor is a process of the graph
 pub listed_within : (g : Graph) (lists : List (List ℕ)) (q : ℕ) (row : List ℕ) (n : ℕ) → ArePredecessors g lists
     → row ≡ predecessors_at lists q → n ≡ process_count g → (k d : ℕ) → k < length row → get_or row k d < n
 listed_within g lists q row n pre e f k d l =
@@ -294,7 +294,7 @@ listed_within g lists q row n pre e f k d l =
     let c = subst (λ xs. Contains xs p) e (Contains-get_or row k d l) in
     omega (arith, idle_within g p (pre.sound p q c).0, f)
 
--- some process is at each number up to that of another
+-- where some process needs k + n dependencies to one that passes, some process needs n
 steps_between : (g : Graph) (test : ℕ → Bool) → IsWithinGraph g → (n k p : ℕ) → p < process_count g
     → steps_to g test p ≡ Some (k + n) → (q : ℕ) × (q < process_count g) × (steps_to g test q ≡ Some n)
 steps_between g test w n zero p i e =
@@ -312,7 +312,7 @@ level_below g test n steps level l s =
     let q = get_or level 0 0 in
     steps_within g test q n (s.members q (Contains-get_or level 0 0 l)).1
 
--- past an empty level there is nobody, so all are found
+-- where a level is empty, nobody is past it, so the least numbers of all processes are found
 pub steps_end : (g : Graph) (test : ℕ → Bool) (n : ℕ) (steps : List (Option ℕ)) (level : List ℕ) → IsWithinGraph g
     → length level ≡ 0 → StepsUpTo g test n steps level → steps ≡ map (steps_to g test) (indices g)
 steps_end g test n steps level w none s =

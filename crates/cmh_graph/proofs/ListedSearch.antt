@@ -24,7 +24,7 @@ pub record ListsFrom (g : Graph) (p : ℕ) (marks : List Bool) (pending list : L
   pub listed : (q : ℕ) → is_marked marks q ≡ true → Contains pending q ⊎ Contains list q
   pub count : unmarked_count marks + length pending + length list ≤ process_count g
 
--- at first p is pending alone
+-- at first p alone is marked and pending, and nobody is listed
 pub lists_start : (g : Graph) (p : ℕ) (marks : List Bool) (pending list : List ℕ) → length marks ≡ process_count g
     → p < process_count g → ((q : ℕ) → is_marked marks q ≡ eqb q p) → pending ≡ p ∷ [] → list ≡ []
     → ListsFrom g p marks pending list

@@ -30,7 +30,7 @@ first_place P i before h = record {
   first = λ k g. elim (cases_lt k i) [ inl m ↦ absurd (before k m g) | inr m ↦ m ];
 }
 
--- the same for entries
+-- what holds at no entry of a process before i, nor at one of i, holds at no entry before i + 1
 entries_more : (P : ℕ → ℕ → Type 0) (i : ℕ) → ((k j : ℕ) → k < i → P k j → ⊥) → ((j : ℕ) → P i j → ⊥) → (k j : ℕ)
     → k < i + 1 → P k j → ⊥
 entries_more P i before here k j l h =
@@ -71,13 +71,13 @@ idle_at parts t i part e l = ap (λ p. is_idle_state p.state) e
 
 -- ---- entries out of range
 
--- an entry out of range is too large
+-- a dependent out of range is an entry of its row that is too large
 then_out : (parts : List Part) (i j : ℕ) (row : List ℕ) → row ≡ dependents_of (parts_graph parts []) i
     → HasGraphFault (parts_graph parts []) (DependentOutOfRange i j) → IsAtLeast (length parts) row j
 then_out parts i j row same h =
     subst (λ r. IsAtLeast (length parts) r j) (sym same) (h.0.1, omega (arith, h.1, as_many parts))
 
--- a row more without an entry out of range
+-- where no row before i has an entry out of range, nor has row i, none before i + 1 has
 pub out_more : (parts : List Part) (i : ℕ) (row : List ℕ) → row ≡ dependents_of (parts_graph parts []) i
     → ((k j : ℕ) → k < i → HasGraphFault (parts_graph parts []) (DependentOutOfRange k j) → ⊥)
     → ((j : ℕ) → IsAtLeast (length parts) row j → ⊥) → (k j : ℕ) → k < i + 1
@@ -110,7 +110,7 @@ stamped_read : (stamp : ℕ) (stamps : List ℕ) (r : ℕ) → r < length stamps
     → is_marked (stamped stamp stamps) r ≡ eqb (get_or stamps r 0) stamp
 stamped_read stamp stamps r l = get_or-map (λ s. eqb s stamp) stamps r 0 false l
 
--- a fresh stamp is nowhere
+-- where a stamp is above all that stand, no entry is marked by it yet
 pub seen_none : (list : List ℕ) (stamp : ℕ) (stamps : List ℕ) → All (λ s. s < stamp) stamps
     → SeenUpTo 0 list (length stamps) (stamped stamp stamps)
 seen_none list stamp stamps fresh = record {
@@ -124,13 +124,13 @@ seen_none list stamp stamps fresh = record {
   none = λ j l h. absurd (omega (arith, l));
 }
 
--- an entry is among those that were taken with it
+-- the first n entries of a list have the entry at each place before n
 contains_taken : (list : List ℕ) (n k : ℕ) → k < n → k < length list → Contains (take n list) (get_or list k 0)
 contains_taken list n k l m =
     let size : k < length (take n list) = omega (arith, length-take n list, l, m) in
     subst (λ x. Contains (take n list) x) (get_or-take n list k 0 l) (Contains-get_or (take n list) k 0 size)
 
--- what was taken stands at a place
+-- what the first n entries of a list have stands at a place before n
 taken_at : (list : List ℕ) (n r : ℕ) → Contains (take n list) r
     → (k : ℕ) × (k < n) × (k < length list) × (get_or list k 0 ≡ r)
 taken_at list n r c =
@@ -145,7 +145,7 @@ seen_repeat list n count seen l s m =
     let t = taken_at list n (get_or list n 0) (s.marked (get_or list n 0) m) in
     (l, t.0, t.1, t.3)
 
--- an unmarked one is none, and is marked next
+-- an unmarked entry is no repeat, and is marked next
 pub seen_more : (list : List ℕ) (n count : ℕ) (seen : List Bool) → n < length list → SeenUpTo n list count seen
     → get_or list n 0 < count → is_marked seen (get_or list n 0) ≡ false
     → SeenUpTo (n + 1) list count (set seen (get_or list n 0) true)
@@ -177,7 +177,7 @@ seen_more list n count seen l s m f =
       ];
     }
 
--- a place that is stamped already is a repeat
+-- an entry whose place has the stamp already is a repeat
 pub stamp_repeat : (list : List ℕ) (n stamp : ℕ) (stamps : List ℕ) → n < length list → get_or list n 0 < length stamps
     → SeenUpTo n list (length stamps) (stamped stamp stamps) → get_or stamps (get_or list n 0) 0 ≡ stamp
     → IsRepeat list n
@@ -185,7 +185,7 @@ stamp_repeat list n stamp stamps l m s e =
     seen_repeat list n (length stamps) (stamped stamp stamps) l s
     (stamped_read stamp stamps (get_or list n 0) m ∙ eq-eqb (get_or stamps (get_or list n 0) 0) stamp e)
 
--- another is none, and is stamped next
+-- an entry whose place doesn't have the stamp is no repeat, and its place is stamped next
 pub stamp_more : (list : List ℕ) (n stamp : ℕ) (stamps : List ℕ) → n < length list → get_or list n 0 < length stamps
     → SeenUpTo n list (length stamps) (stamped stamp stamps) → (get_or stamps (get_or list n 0) 0 ≡ stamp → ⊥)
     → SeenUpTo (n + 1) list (length (set stamps (get_or list n 0) stamp))
@@ -209,7 +209,7 @@ then_repeat : (parts : List Part) (i j : ℕ) (row : List ℕ) → row ≡ depen
     → HasGraphFault (parts_graph parts []) (RepeatedDependent i j) → IsRepeat row j
 then_repeat parts i j row same h = subst (λ r. IsRepeat r j) (sym same) (h.0.1, h.1, h.2, h.3)
 
--- a row more without a repeat
+-- where no row before i has a repeat, nor has row i, none before i + 1 has
 pub repeat_more : (parts : List Part) (i : ℕ) (row : List ℕ) → row ≡ dependents_of (parts_graph parts []) i
     → ((k j : ℕ) → k < i → HasGraphFault (parts_graph parts []) (RepeatedDependent k j) → ⊥)
     → ((j : ℕ) → IsRepeat row j → ⊥)
@@ -218,7 +218,7 @@ repeat_more parts i row same before none =
     entries_more (λ k j. HasGraphFault (parts_graph parts []) (RepeatedDependent k j)) i before
     (λ j h. none j (then_repeat parts i j row same h))
 
--- the first repeat of the first row that has one
+-- the first repeat of the first row that has one is the first repeated dependent of the graph
 pub repeat_first : (parts : List Part) (i j : ℕ) (row : List ℕ) → row ≡ dependents_of (parts_graph parts []) i
     → i < length parts → ((k j : ℕ) → k < i → HasGraphFault (parts_graph parts []) (RepeatedDependent k j) → ⊥)
     → IsFirst (IsRepeat row) j → IsFirstEntry (λ k l. HasGraphFault (parts_graph parts []) (RepeatedDependent k l)) i j
@@ -226,13 +226,13 @@ repeat_first parts i j row same l before f =
     first_entry (λ k l. HasGraphFault (parts_graph parts []) (RepeatedDependent k l)) i j before
     (repeat_then parts i j row same l f.holds) (λ m h. f.first m (then_repeat parts i m row same h))
 
--- no row has a repeat
+-- where no row of a part has a repeat, the graph has no repeated dependent
 pub repeat_none : (parts : List Part) (n : ℕ) → length parts ≤ n
     → ((k j : ℕ) → k < n → HasGraphFault (parts_graph parts []) (RepeatedDependent k j) → ⊥) → (i j : ℕ)
     → HasGraphFault (parts_graph parts []) (RepeatedDependent i j) → ⊥
 repeat_none parts n l before i j h = before i j (omega (arith, h.0.0, as_many parts, l)) h
 
--- the entries of a row are within
+-- where each dependent is a process of the graph, the entries of a row are below the number of parts
 pub row_within : (parts : List Part) (i : ℕ) (row : List ℕ) → row ≡ dependents_of (parts_graph parts []) i
     → i < length parts → IsWithinGraph (parts_graph parts []) → (k d : ℕ) → k < length row
     → get_or row k d < length parts
@@ -245,7 +245,7 @@ row_within parts i row same l w k d m =
 
 -- ---- counts and messages
 
--- a test that fails bounds the count
+-- where the test for more than a limit fails, the count is within the limit
 pub few_entries : (n m : ℕ) → (false ≡ true) ↔ (m < n) → n ≤ m
 few_entries n m h = elim (cases_lt m n) [
   | inl l ↦ let bad = h.1 l in absurd cc

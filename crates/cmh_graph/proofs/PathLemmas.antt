@@ -30,27 +30,27 @@ nonempty_append : (xs ys : List (List ℕ)) → is_nonempty (xs ++ ys) ≡ true
 nonempty_append [] ys e = inr e
 nonempty_append (x ∷ xs) ys e = inl refl
 
--- joined to a list, one that is not empty stays so
+-- two lists joined are not empty where the first is not
 append_nonempty_left : (xs ys : List (List ℕ)) → is_nonempty xs ≡ true → is_nonempty (xs ++ ys) ≡ true
 append_nonempty_left [] ys e = cc
 append_nonempty_left (x ∷ xs) ys e = refl
 
--- and from the other side
+-- two lists joined are not empty where the second is not
 append_nonempty_right : (xs ys : List (List ℕ)) → is_nonempty ys ≡ true → is_nonempty (xs ++ ys) ≡ true
 append_nonempty_right [] ys e = e
 append_nonempty_right (x ∷ xs) ys e = refl
 
--- a list is not empty where its map is not
+-- a list is not empty where what a function makes of it is not
 pub nonempty_map : (f : List ℕ → List ℕ) (xs : List (List ℕ)) → is_nonempty (map f xs) ≡ true → is_nonempty xs ≡ true
 nonempty_map f [] e = e
 nonempty_map f (x ∷ xs) e = refl
 
--- and the other way round
+-- what a function makes of a list is not empty where the list is not
 pub map_nonempty : (f : List ℕ → List ℕ) (xs : List (List ℕ)) → is_nonempty xs ≡ true → is_nonempty (map f xs) ≡ true
 map_nonempty f [] e = e
 map_nonempty f (x ∷ xs) e = refl
 
--- joined lists are not empty only where a member's list is not
+-- where joined lists are not empty, the list of some member is not
 pub nonempty_flat_map : (f : ℕ → List (List ℕ)) (xs : List ℕ) → is_nonempty (flat_map f xs) ≡ true
     → (r : ℕ) × Contains xs r × (is_nonempty (f r) ≡ true)
 nonempty_flat_map f [] e = cc
@@ -60,7 +60,7 @@ nonempty_flat_map f (x ∷ xs) e =
       | inr h ↦ let w = nonempty_flat_map f xs h in (w.0, contains_cons x xs w.0 w.1, w.2)
     ]
 
--- and there they are not
+-- joined lists are not empty where the list of a member is not
 pub flat_map_nonempty : (f : ℕ → List (List ℕ)) (xs : List ℕ) (r : ℕ) → Contains xs r → is_nonempty (f r) ≡ true
     → is_nonempty (flat_map f xs) ≡ true
 flat_map_nonempty f [] r (k, l, e) h = absurd (omega arith)
@@ -72,7 +72,7 @@ flat_map_nonempty f (x ∷ xs) r c h =
 
 -- ---- dependencies
 
--- a dependency is idle and has the dependent
+-- what is listed as a dependency of p is one, by cases of whether p is idle
 depends_by : (g : Graph) (p r : ℕ) (b : Bool) → is_idle g p ≡ b → Contains (cond b (dependents_of g p) []) r
     → Depends g p r
 depends_by g p r true e c = (e, c)
@@ -97,7 +97,7 @@ dependency g p r d = dependencies_by (dependents_of g p) r (is_idle g p) d.0 d.1
 unfoldable pub Walk : Graph → (ℕ → Bool) → ℕ → Type 0
 Walk g test p = (q : ℕ) × (test q ≡ true) × (rest : List ℕ) × Leads g p rest q
 
--- a process that is listed alone passes
+-- where the path of p alone is listed, p passes the test
 pub start_by : (test : ℕ → Bool) (p : ℕ) (b : Bool) → is_nonempty (cond b ((p ∷ []) ∷ []) []) ≡ true → b ≡ true
 start_by test p true e = refl
 start_by test p false e = e
@@ -111,7 +111,7 @@ walk g test (suc n) p e =
     let v = walk g test n w.0 (nonempty_map (λ path. p ∷ path) (paths_to g test n w.0) w.2) in
     (v.0, v.1, w.0 ∷ v.2, (depends g p w.0 w.1, v.3))
 
--- a process that passes is listed alone
+-- where p passes the test, the path of p alone is listed
 pub start_nonempty : (p : ℕ) (b : Bool) → b ≡ true → is_nonempty (cond b ((p ∷ []) ∷ []) []) ≡ true
 start_nonempty p true e = refl
 start_nonempty p false e = e
@@ -173,7 +173,7 @@ simple g p (r ∷ rest) q l =
 
 -- ---- a list of distinct numbers below n is no longer than n
 
--- each member is below n
+-- each member of the list is below n
 abbrev pub AllBelow : ℕ → List ℕ → Type 0
 AllBelow n [] = ⊤
 AllBelow n (x ∷ xs) = (x < n) × AllBelow n xs

@@ -15,7 +15,7 @@ use Rattle.cmh_graph.proofs.Verdicts.{idle_within}
 
 -- ---- a list that is one longer
 
--- what one element more can have
+-- what the first i + 1 elements of a list have is the one at i, or the first i have it
 pub taken_more : (xs : List ℕ) (i q : ℕ) → i < length xs → Contains (take (i + 1) xs) q
     → Contains (take i xs) q ⊎ (q ≡ get_or xs i 0)
 taken_more xs i q l c =
@@ -24,18 +24,18 @@ taken_more xs i q l c =
       | inr e ↦ inr (sym e)
     ]
 
--- what was taken stays
+-- what the first i elements of a list have, the first i + 1 have
 pub taken_stays : (xs : List ℕ) (i q : ℕ) → i < length xs → Contains (take i xs) q → Contains (take (i + 1) xs) q
 taken_stays xs i q l c =
     subst (λ ys. Contains ys q) (sym (take_more xs i 0 l)) (Contains-append_left (take i xs) (get_or xs i 0 ∷ []) q c)
 
--- and the element is there
+-- the first i + 1 elements of a list have the one at i
 pub taken_last : (xs : List ℕ) (i q : ℕ) → i < length xs → q ≡ get_or xs i 0 → Contains (take (i + 1) xs) q
 taken_last xs i q l e =
     subst (λ ys. Contains ys q) (sym (take_more xs i 0 l))
     (subst (λ z. Contains (take i xs ++ get_or xs i 0 ∷ []) z) (sym e) (Contains-push (take i xs) (get_or xs i 0)))
 
--- a member more of a list is filtered
+-- a filter of the first i + 1 members of a list adds the one at i to that of the first i where it passes
 filtered_more : (t : ℕ → Bool) (xs : List ℕ) (i : ℕ) (b : Bool) → i < length xs → b ≡ t (get_or xs i 0)
     → filter t (take (i + 1) xs) ≡ filter t (take i xs) ++ cond b (get_or xs i 0 ∷ []) []
 filtered_more t xs i b l e =
@@ -51,7 +51,7 @@ count_marked marks p l e =
     let was = ap (λ b. cond {A = ℕ} (not b) 1 0) e in
     omega (arith, change, was)
 
--- and keeps the others
+-- a mark at one place keeps the others
 pub mark_keeps : (marks : List Bool) (x p : ℕ) → x < length marks → is_marked marks p ≡ true
     → is_marked (set marks x true) p ≡ true
 mark_keeps marks x p l e = elim (cases_eq p x) [
@@ -59,7 +59,7 @@ mark_keeps marks x p l e = elim (cases_eq p x) [
   | inr h ↦ get_or-set_other marks x p true false h ∙ e
 ]
 
--- a member more, that is marked already
+-- a member more that is marked already leaves the marks and the pending places as they are
 marks_stay : (xs : List ℕ) (x : ℕ) (old marks : List Bool) (before pending : List ℕ)
     → MarksEach xs old marks before pending → is_marked marks x ≡ true
     → MarksEach (xs ++ x ∷ []) old marks before pending
@@ -79,7 +79,7 @@ marks_stay xs x old marks before pending h k = record {
   count = h.count;
 }
 
--- a member more, that is marked now
+-- a member more that is marked now becomes pending
 marks_one : (xs : List ℕ) (x : ℕ) (old marks : List Bool) (before pending : List ℕ)
     → MarksEach xs old marks before pending → x < length marks → is_marked marks x ≡ false
     → MarksEach (xs ++ x ∷ []) old (set marks x true) before (pending ++ x ∷ [])
@@ -110,7 +110,7 @@ marks_one xs x old marks before pending h m k =
       count = omega (arith, h.count, count_marked marks x m k, length_push pending x);
     }
 
--- the same, by what the list, the marks and the pending are
+-- what is said of a list, of marks and of pending places holds of equal ones too
 marks_are : (xs ys : List ℕ) (old marks new : List Bool) (before pending after : List ℕ) → ys ≡ xs → new ≡ marks
     → after ≡ pending → MarksEach xs old marks before pending → MarksEach ys old new before after
 marks_are xs ys old marks new before pending after d e f h =
@@ -118,7 +118,7 @@ marks_are xs ys old marks new before pending after d e f h =
     (subst (λ m. MarksEach xs old m before after) (sym e)
     (subst (λ zs. MarksEach xs old marks before zs) (sym f) h))
 
--- one place more of a list, that is marked already
+-- where the next place of a list is marked already, all places up to it are marked without a change
 pub marks_kept_more : (i : ℕ) (list : List ℕ) (old marks new : List Bool) (before xs after : List ℕ) → i < length list
     → MarksEach (take i list) old marks before xs → is_marked marks (get_or list i 0) ≡ true → new ≡ marks → after ≡ xs
     → MarksEach (take (i + 1) list) old new before after
@@ -126,7 +126,7 @@ marks_kept_more i list old marks new before xs after l h k e f =
     marks_are _ _ old marks new before xs after (take_more list i 0 l) e f
     (marks_stay (take i list) (get_or list i 0) old marks before xs h k)
 
--- one place more of a list, that is marked now
+-- where the next place of a list is marked now and becomes pending, all places up to it are marked
 pub marks_more : (i : ℕ) (list : List ℕ) (old marks new : List Bool) (before xs after : List ℕ) → i < length list
     → MarksEach (take i list) old marks before xs → get_or list i 0 < length marks
     → is_marked marks (get_or list i 0) ≡ false → new ≡ set marks (get_or list i 0) true
@@ -135,7 +135,8 @@ marks_more i list old marks new before xs after l h m k e f =
     marks_are _ _ old _ new before _ after (take_more list i 0 l) e f
     (marks_one (take i list) (get_or list i 0) old marks before xs h m k)
 
--- one place more of a list, that passes the test and is marked already
+-- where the next place of a list passes the test and is marked already, those that pass up to it are
+-- marked without a change
 pub marks_inside_kept : (t : ℕ → Bool) (i : ℕ) (list : List ℕ) (old marks new : List Bool) (before xs after : List ℕ)
     → i < length list → MarksEach (filter t (take i list)) old marks before xs → t (get_or list i 0) ≡ true
     → is_marked marks (get_or list i 0) ≡ true → new ≡ marks → after ≡ xs
@@ -144,7 +145,8 @@ marks_inside_kept t i list old marks new before xs after l h b k e f =
     marks_are _ _ old marks new before xs after (filtered_more t list i true l (sym b)) e f
     (marks_stay (filter t (take i list)) (get_or list i 0) old marks before xs h k)
 
--- one place more of a list, that passes the test and is marked now
+-- where the next place of a list passes the test, is marked now and becomes pending, those that pass
+-- up to it are marked
 pub marks_inside_more : (t : ℕ → Bool) (i : ℕ) (list : List ℕ) (old marks new : List Bool) (before xs after : List ℕ)
     → i < length list → MarksEach (filter t (take i list)) old marks before xs → t (get_or list i 0) ≡ true
     → get_or list i 0 < length marks → is_marked marks (get_or list i 0) ≡ false
@@ -154,7 +156,7 @@ marks_inside_more t i list old marks new before xs after l h b m k e f =
     marks_are _ _ old _ new before _ after (filtered_more t list i true l (sym b)) e f
     (marks_one (filter t (take i list)) (get_or list i 0) old marks before xs h m k)
 
--- one place more of a list, that doesn't pass the test
+-- where the next place of a list doesn't pass the test, those that pass up to it are marked without a change
 pub marks_outside : (t : ℕ → Bool) (i : ℕ) (list : List ℕ) (old marks new : List Bool) (before xs after : List ℕ)
     → i < length list → MarksEach (filter t (take i list)) old marks before xs → t (get_or list i 0) ≡ false
     → new ≡ marks → after ≡ xs → MarksEach (filter t (take (i + 1) list)) old new before after
@@ -164,7 +166,7 @@ marks_outside t i list old marks new before xs after l h b e f =
 
 -- ---- lists at places
 
--- the list at a place, by what a read of the place gave
+-- the list at a place is that which a read of the place gives
 list_at_read : (lists : List (Vec ℕ)) (r : ℕ) (v : Vec ℕ) → r < length lists → v ≡ get_or lists r v
     → list_at lists r ≡ v.items
 list_at_read lists r v l e = get_or-map (λ u. u.items) lists r v [] l ∙ ap (λ u. u.items) (sym e)
@@ -176,7 +178,7 @@ list_at_written lists r v l =
     ap (λ xss. get_or xss r []) (map-set (λ u. u.items) lists r v)
     ∙ get_or-set_same (map (λ u. u.items) lists) r v.items [] m
 
--- and leaves the other lists
+-- a write of a list at one place leaves the lists at the other places
 list_at_other : (lists : List (Vec ℕ)) (r q : ℕ) (v : Vec ℕ) → q ≢ r → list_at (set lists r v) q ≡ list_at lists q
 list_at_other lists r q v n =
     ap (λ xss. get_or xss q []) (map-set (λ u. u.items) lists r v)
@@ -190,7 +192,7 @@ empty_more [] v h e (suc r) = refl
 empty_more (x ∷ xs) v h e zero = h zero
 empty_more (x ∷ xs) v h e (suc r) = empty_more xs v (λ q. h (suc q)) e r
 
--- p joins one list
+-- where p is written at the end of the list at r, it joins that list alone
 joins_one : (p r : ℕ) (lists : List (Vec ℕ)) (v w : Vec ℕ) → r < length lists → v ≡ get_or lists r v
     → w.items ≡ v.items ++ p ∷ [] → JoinsEach p (r ∷ []) lists (set lists r w)
 joins_one p r lists v w l e f =
@@ -221,7 +223,7 @@ joins_one p r lists v w l e f =
       ];
     }
 
--- p joins the lists of some places, and then of others
+-- where p joins the lists of some places and then those of others, it joins those of both
 joins_both : (p : ℕ) (xs ys : List ℕ) (a b c : List (Vec ℕ)) → JoinsEach p xs a b → JoinsEach p ys b c
     → JoinsEach p (xs ++ ys) a c
 joins_both p xs ys a b c one two = record {
@@ -240,7 +242,7 @@ joins_both p xs ys a b c one two = record {
   ];
 }
 
--- p joins the list of one place more
+-- where p joins the list of the next place, it has joined those of all places up to it
 pub joins_more : (p : ℕ) (places : List ℕ) (i : ℕ) (old lists : List (Vec ℕ)) (v w : Vec ℕ) → i < length places
     → JoinsEach p (take i places) old lists → get_or places i 0 < length lists → v ≡ get_or lists (get_or places i 0) v
     → w.items ≡ (get_or lists (get_or places i 0) v).items ++ p ∷ []
@@ -269,7 +271,8 @@ waits_by g p r false w e c = let none : Contains {X = ℕ} [] r =
 pub waits : (g : Graph) (p r : ℕ) → IsWellFormed g → Contains (dependents_of g p) r → Depends g p r
 waits g p r w c = waits_by g p r (is_idle g p) w refl c
 
--- a process more has joined the lists of its dependents
+-- where process n has joined the lists of its dependents, the lists have the predecessors among the
+-- first n + 1 processes
 pub predecessors_more : (g : Graph) (n : ℕ) (old new : List (Vec ℕ)) → IsWellFormed g → PredecessorsBelow g n old
     → JoinsEach n (dependents_of g n) old new → PredecessorsBelow g (n + 1) new
 predecessors_more g n old new w h j = record {
@@ -286,7 +289,7 @@ predecessors_more g n old new w h j = record {
   ];
 }
 
--- once all have joined, they are the predecessors
+-- once all processes have joined the lists of their dependents, the lists have all predecessors
 pub predecessors_all : (g : Graph) (n : ℕ) (lists : List (Vec ℕ)) → process_count g ≤ n → PredecessorsBelow g n lists
     → ArePredecessors g (map (λ v. v.items) lists)
 predecessors_all g n lists l h = record {
@@ -303,22 +306,22 @@ numbered_within [] p d e = absurd cc
 numbered_within (x ∷ xs) zero d e = omega arith
 numbered_within (x ∷ xs) (suc p) d e = omega (arith, numbered_within xs p d e)
 
--- a number or none
+-- there is a number, or there is none
 pub cases_number : (o : Option ℕ) → ((d : ℕ) × (o ≡ Some d)) ⊎ (o ≡ None)
 cases_number (Some d) = inl (d, refl)
 cases_number None = inr refl
 
--- a place that has a number has it
+-- where the test finds a number there is one
 pub numbered : (o : Option ℕ) → IsSome o → (d : ℕ) × (o ≡ Some d)
 numbered (Some d) e = (d, refl)
 numbered None e = absurd cc
 
--- a place without a number has none
+-- where the test finds no number there is none
 pub unnumbered : (o : Option ℕ) → is_some o ≡ false → o ≡ None
 unnumbered (Some d) e = absurd cc
 unnumbered None e = refl
 
--- one place is named, and has a number already
+-- where the one place that is named has a number already, nothing changes
 numbers_kept : (n p : ℕ) (numbers : List (Option ℕ)) (xs : List ℕ) → IsSome (number_at numbers p)
     → Numbers (λ q. q ≡ p) n numbers numbers xs xs
 numbers_kept n p numbers xs h = record {
@@ -330,7 +333,7 @@ numbers_kept n p numbers xs h = record {
   only = λ q c. inl c;
 }
 
--- one place is named, and gets its number
+-- where the one place that is named has no number, it gets one and joins the list
 numbers_one : (n p : ℕ) (numbers : List (Option ℕ)) (xs : List ℕ) → p < length numbers → number_at numbers p ≡ None
     → Numbers (λ q. q ≡ p) n numbers (set numbers p (Some n)) xs (xs ++ p ∷ [])
 numbers_one n p numbers xs l none =
@@ -354,7 +357,7 @@ numbers_one n p numbers xs l none =
       ];
     }
 
--- some places are named, and then others
+-- where some places that are named are numbered and then others, all of them are
 numbers_both : (P Q R : ℕ → Type 0) (n : ℕ) (a b c : List (Option ℕ)) (x y z : List ℕ) → ((p : ℕ) → R p → P p ⊎ Q p)
     → ((p : ℕ) → P p → R p) → ((p : ℕ) → Q p → R p) → Numbers P n a b x y → Numbers Q n b c y z → Numbers R n a c x z
 numbers_both P Q R n a b c x y z split left right one two = record {
@@ -384,7 +387,7 @@ numbers_both P Q R n a b c x y z split left right one two = record {
   ];
 }
 
--- one place more of a list, that has a number already
+-- where the next place of a list has a number already, all places up to it have numbers without a change
 pub numbers_kept_more : (n i : ℕ) (list : List ℕ) (old numbers new : List (Option ℕ)) (before xs after : List ℕ)
     → i < length list → Numbers (Contains (take i list)) n old numbers before xs
     → IsSome (number_at numbers (get_or list i 0)) → new ≡ numbers → after ≡ xs
@@ -397,7 +400,7 @@ numbers_kept_more n i list old numbers new before xs after l h k e f =
     (λ q c. taken_more list i q l c) (λ q c. taken_stays list i q l c) (λ q s. taken_last list i q l s)
     h (numbers_kept n (get_or list i 0) numbers xs k)))
 
--- one place more of a list, that has no number yet
+-- where the next place of a list gets its number, all places up to it have theirs
 pub numbers_more : (n i : ℕ) (list : List ℕ) (old numbers new : List (Option ℕ)) (before xs after : List ℕ)
     → i < length list → Numbers (Contains (take i list)) n old numbers before xs → get_or list i 0 < length numbers
     → number_at numbers (get_or list i 0) ≡ None → new ≡ set numbers (get_or list i 0) (Some n)
@@ -410,7 +413,7 @@ numbers_more n i list old numbers new before xs after l h m k e f =
     (λ q c. taken_more list i q l c) (λ q c. taken_stays list i q l c) (λ q s. taken_last list i q l s)
     h (numbers_one n (get_or list i 0) numbers xs m k)))
 
--- the list of one member more of a level
+-- where the predecessors of the next member of a level get numbers, those of all members up to it have them
 pub level_more : (lists : List (List ℕ)) (level : List ℕ) (n i : ℕ) (a b c : List (Option ℕ)) (x y z : List ℕ)
     → i < length level → Numbers (IsNamedBy lists (take i level)) n a b x y
     → Numbers (Contains (predecessors_at lists (get_or level i 0))) n b c y z
@@ -427,17 +430,17 @@ level_more lists level n i a b c x y z l =
 
 -- ---- the least place with a number
 
--- an answer of a test of equality is right
+-- a place that passes the test of having the number has it
 numbered_by_test : (o : Option ℕ) (n : ℕ) → true ≡ option_eq eqb o (Some n) → o ≡ Some n
 numbered_by_test (Some d) n e = ap (λ m. Some m) (eqb-true d n (sym e))
 numbered_by_test None n e = absurd cc
 
--- and an answer against it too
+-- a place that fails the test of having the number doesn't have it
 unnumbered_by_test : (o : Option ℕ) (n : ℕ) → false ≡ option_eq eqb o (Some n) → o ≢ Some n
 unnumbered_by_test o n e f = let bad : true ≡ false =
     sym (eq-eqb n n refl) ∙ sym (ap (λ p. option_eq eqb p (Some n)) f) ∙ sym e in absurd cc
 
--- one member more, that has the number and is below the least so far
+-- where the next member has the number and is below the least so far, it is the least
 pub least_more : (n i : ℕ) (list : List ℕ) (numbers : List (Option ℕ)) (least new : Option ℕ) → i < length list
     → IsLeastAt n (take i list) numbers least
     → MatchOption least (true ≡ true) (λ r. (true ≡ true) ↔ (get_or list i 0 < r))
@@ -460,7 +463,7 @@ least_more n i list numbers least new l h below e f =
     lesser n i list numbers None q h below c s = absurd (h q c s)
     lesser n i list numbers (Some r) q h below c s = omega (arith, h.2 q c s, below.0 refl)
 
--- one member more, that is not below the least so far
+-- where the next member is not below the least so far, that stays the least
 pub least_above : (n i : ℕ) (list : List ℕ) (numbers : List (Option ℕ)) (least new : Option ℕ) → i < length list
     → IsLeastAt n (take i list) numbers least
     → MatchOption least (false ≡ true) (λ r. (false ≡ true) ↔ (get_or list i 0 < r)) → new ≡ least
@@ -485,7 +488,7 @@ least_above n i list numbers least new l h above e =
       ],
     )
 
--- one member more, that has another number
+-- where the next member doesn't have the number, the least so far stays the least
 pub least_other : (n i : ℕ) (list : List ℕ) (numbers : List (Option ℕ)) (least new : Option ℕ) → i < length list
     → IsLeastAt n (take i list) numbers least → false ≡ option_eq eqb (number_at numbers (get_or list i 0)) (Some n)
     → new ≡ least → IsLeastAt n (take (i + 1) list) numbers new

@@ -36,7 +36,7 @@ leads_more : (g : Graph) (p : ℕ) (rest : List ℕ) (q r : ℕ) → Leads g p r
 leads_more g p [] q r e d = (r ∷ [], (subst (λ z. Depends g z r) (sym e) d, refl))
 leads_more g p (s ∷ rest) q r l d = let m = leads_more g s rest q r l.1 d in (s ∷ m.0, (l.0, m.1))
 
--- what a process reaches depends on is reached
+-- where p reaches q and q depends on r, p reaches r
 pub reaches_more : (g : Graph) (p q r : ℕ) → Reaches g p q → Depends g q r → Reaches g p r
 reaches_more g p q r ([], e) d = absurd e
 reaches_more g p q r (x ∷ rest, (e, l)) d = let m = leads_more g p rest q r l d in (p ∷ m.0, (refl, m.1))
@@ -147,7 +147,7 @@ not_true : (b : Bool) → not b ≡ true → b ≡ false
 not_true true e = absurd cc
 not_true false e = refl
 
--- and what is false is not true
+-- what is false is not true
 not_false : (b : Bool) → b ≡ false → not b ≡ true
 not_false b e = rw e refl
 
@@ -180,7 +180,7 @@ verdict_law = λ g p w. (λ e. test_then g p w e, λ d. then_test g p d)
 
 -- ---- the verdict in words
 
--- what the test of deadlock says of the verdict
+-- the verdict that is computed is true, by cases of the test of deadlock
 verdict_by : (g : Graph) (p : ℕ) (v : Verdict) → IsWithinGraph g → (b : Bool) → is_deadlocked g p ≡ b
     → cond b Deadlocked Free ≡ v → IsVerdict g p v
 verdict_by g p Deadlocked w true t e = test_then g p w t
@@ -192,7 +192,7 @@ verdict_by g p Free w false t e = λ dead. let z : true ≡ false = sym (then_te
 pub verdict_true : (g : Graph) (p : ℕ) (v : Verdict) → IsWithinGraph g → verdict g p ≡ v → IsVerdict g p v
 verdict_true g p v w e = verdict_by g p v w (is_deadlocked g p) refl e
 
--- no other verdict is true
+-- two verdicts about a process that are both true are one
 pub one_verdict : (g : Graph) (p : ℕ) (v u : Verdict) → IsVerdict g p v → IsVerdict g p u → v ≡ u
 one_verdict g p Deadlocked Deadlocked a b = refl
 one_verdict g p Deadlocked Free a b = absurd (b a)
@@ -203,7 +203,7 @@ one_verdict g p Free Free a b = refl
 pub true_verdict : (g : Graph) (p : ℕ) (v : Verdict) → IsWithinGraph g → IsVerdict g p v → v ≡ verdict g p
 true_verdict g p v w h = one_verdict g p v (verdict g p) h (verdict_true g p (verdict g p) w refl)
 
--- a process's verdict stands at its place
+-- a process's verdict stands at its place in the list of all verdicts
 pub verdict_listed : (g : Graph) (known : List Verdict) (p : ℕ) (d : Verdict) → known ≡ verdicts g
     → p < process_count g → get_or known p d ≡ verdict g p
 verdict_listed g known p d are l =

@@ -15,6 +15,6 @@ pub record ArePassed (g : Graph) (marks : List Bool) (passed : List ℕ) : Type 
   pub marked : (p k : ℕ) → k < slice_index passed p
       → IsTrue (is_marked marks (slice_index (dependents_of g p) k))
 
--- both, while processes are marked
+-- while processes are marked: each marked one is a core by itself, and passed dependents are marked
 abbrev pub IsTrimming : Graph → List Bool → List ℕ → Type 0
 IsTrimming g marks passed = AreAlone g marks × ArePassed g marks passed

@@ -71,6 +71,6 @@ pub record IsWellFormed (g : Graph) : Type 0 where
   pub sent_within : (i : ℕ) → i < length g.in_transit → (message_at g i).0 < process_count g
   pub received_within : (i : ℕ) → i < length g.in_transit → (message_at g i).1 < process_count g
 
--- well formed is without a fault
+-- a graph is well formed just where it has no fault
 abbrev pub WellFormedLaw : Type 0
 WellFormedLaw = (g : Graph) → IsWellFormed g ↔ ((fault : GraphFault) → HasGraphFault g fault → ⊥)

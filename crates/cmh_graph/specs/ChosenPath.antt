@@ -23,8 +23,8 @@ chosen_path g p =
 abbrev pub IsWayOut : Graph → ℕ → List ℕ → Type 0
 IsWayOut g p path = (q : ℕ) × IsTrue (is_awake g q) × IsPath g p q path
 
--- The same in words: a path to an awake process, such that no other one is shorter, nor as long
--- and less.
+-- The chosen path in words: a path to an awake process, such that no other one is shorter, nor as
+-- long and less.
 pub record IsChosenPath (g : Graph) (p : ℕ) (path : List ℕ) : Type 0 where
   pub awake : IsWayOut g p path
   pub shortest : (other : List ℕ) → IsWayOut g p other → length path ≤ length other
@@ -36,7 +36,7 @@ abbrev pub ChosenPathLaw : Type 0
 ChosenPathLaw = (g : Graph) (p : ℕ) (path : List ℕ) → IsWithinGraph g → p < process_count g
     → (chosen_path g p ≡ Some path) ↔ IsChosenPath g p path
 
--- and there is none just where p reaches no awake process
+-- there is no chosen path just where p reaches no awake process
 abbrev pub ChosenPathExistsLaw : Type 0
 ChosenPathExistsLaw = (g : Graph) (p : ℕ) → IsWithinGraph g → p < process_count g
     → (chosen_path g p ≡ None) ↔ ((q : ℕ) → Reaches g p q → IsFalse (is_awake g q))

@@ -40,7 +40,7 @@ abbrev pub RisingLaw : Type 0
 RisingLaw = (g : Graph) (p : ℕ) → IsStrictlyIncreasing (reach_of g p)
     × IsStrictlyIncreasing (core_of g p) × IsStrictlyIncreasing (rest_of g p)
 
--- in words: the leader is in the core, and nobody in it is less
+-- the leader of p in words: it is in p's core, and nobody there is less
 pub record IsLeader (g : Graph) (p leader : ℕ) : Type 0 where
   pub member : Contains (core_of g p) leader
   pub least : (q : ℕ) → Contains (core_of g p) q → leader ≤ q

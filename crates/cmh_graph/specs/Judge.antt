@@ -1,21 +1,22 @@
 -- First places, for the judging of parts.
 use Rattle.std.specs.Prelude.{◌≡◌, ◌⊎◌, ℕ, ◌<◌, ◌≤◌, List, length, slice_index}
 
--- it holds at i, and nowhere before
+-- a condition of places holds at i, and nowhere before
 pub record IsFirst (Holds : ℕ → Type 0) (i : ℕ) : Type 0 where
   pub holds : Holds i
   pub first : (k : ℕ) → Holds k → i ≤ k
 
--- it holds at dependent j of i, at no earlier one of i, and at none of a process before i
+-- a condition of dependents holds at dependent j of i, at no earlier one of i, and at none of a process
+-- before i
 pub record IsFirstEntry (Holds : ℕ → ℕ → Type 0) (i j : ℕ) : Type 0 where
   pub holds : Holds i j
   pub first : (k l : ℕ) → Holds k l → (i < k) ⊎ ((i ≡ k) × (j ≤ l))
 
--- dependent j is bound or more
+-- the list has an entry j, which is the bound or more
 abbrev pub IsAtLeast : ℕ → List ℕ → ℕ → Type 0
 IsAtLeast bound list j = (j < length list) × (bound ≤ slice_index list j)
 
--- dependent j equals an earlier one
+-- the list has an entry j, which equals an earlier one
 abbrev pub IsRepeat : List ℕ → ℕ → Type 0
 IsRepeat list j =
     (j < length list) × (k : ℕ) × (k < j) × (slice_index list k ≡ slice_index list j)

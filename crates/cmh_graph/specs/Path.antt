@@ -23,7 +23,7 @@ paths_to g test zero p = if test p then (p ∷ []) ∷ [] else []
 paths_to g test (suc n) p =
     flat_map (λ r. map (λ path. p ∷ path) (paths_to g test n r)) (dependencies_of g p)
 
--- there is a path in the list
+-- the list of paths is not empty
 abbrev pub is_nonempty : List (List ℕ) → Bool
 is_nonempty [] = false
 is_nonempty (path ∷ paths) = true
@@ -41,7 +41,7 @@ reaches g p q = is_some (steps_to g (λ r. r == q) p)
 abbrev pub reach_of : Graph → ℕ → List ℕ
 reach_of g p = filter (reaches g p) (indices g)
 
--- the test says what the relation says
+-- the test of reach says what the relation says
 abbrev pub ReachLaw : Type 0
 ReachLaw = (g : Graph) (p q : ℕ) → IsWithinGraph g → p < process_count g
     → IsTrue (reaches g p q) ↔ Reaches g p q

@@ -43,6 +43,6 @@ IsInDeadlockedSet g p = (member : ℕ → Bool) × IsTrue (member p) × IsDeadlo
 abbrev pub ClosedSetLaw : Type 0
 ClosedSetLaw = (g : Graph) (p : ℕ) → IsWithinGraph g → IsDeadlocked g p ↔ IsInDeadlockedSet g p
 
--- the test says what the relation says
+-- the test of deadlock says what the relation says
 abbrev pub VerdictLaw : Type 0
 VerdictLaw = (g : Graph) (p : ℕ) → IsWithinGraph g → IsTrue (is_deadlocked g p) ↔ IsDeadlocked g p

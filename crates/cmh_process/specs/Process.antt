@@ -8,7 +8,7 @@ use Rattle.cmh_process.specs.declared.process.Action.TheVariants.{Nothing, Engag
 abbrev pub fresh : Proc
 fresh = record { latest = 0; engager = None; num = 0; wait = false }
 
--- the initiator takes its next number, and waits for this many replies
+-- the initiator after a start: it takes its next number, and waits for this many replies
 abbrev pub proc_started : Proc → ℕ → Proc
 proc_started p size = record {
   latest = p.latest + 1;
@@ -17,15 +17,15 @@ proc_started p size = record {
   wait = true;
 }
 
--- with nobody to ask it is deadlocked at once
+-- what the initiator does at a start: with nobody to ask it is deadlocked at once
 abbrev pub start_action : ℕ → Action
 start_action size = if size == 0 then Declare else Engage
 
--- a query with this number is news to it, so it engages
+-- a query with this number is news to the process, so it engages
 abbrev pub engages : Proc → ℕ → Bool
 engages p number = nat_lt p.latest number
 
--- it belongs to the computation now, and waits for this many replies
+-- a process after a query has engaged it: it belongs to the computation, and waits for this many replies
 abbrev pub proc_engaged : ℕ → ℕ → ℕ → Proc
 proc_engaged number from size = record {
   latest = number;
@@ -34,15 +34,15 @@ proc_engaged number from size = record {
   wait = true;
 }
 
--- with nobody to ask it replies at once
+-- what a process does when a query engages it: with nobody to ask it replies at once
 abbrev pub engage_action : ℕ → ℕ → Action
 engage_action from size = if size == 0 then ReplyTo from else Engage
 
--- a query with this number has come from this process; size is how many dependents there are
+-- a process after a query with this number has come from that process; size is how many dependents it has
 abbrev pub proc_queried : Proc → ℕ → ℕ → ℕ → Proc
 proc_queried p number from size = if engages p number then proc_engaged number from size else p
 
--- a query that doesn't engage it is answered where it is of the computation in which it waits
+-- a query that doesn't engage a process is answered where it is of the computation in which it waits
 abbrev pub repeat_action : Proc → ℕ → ℕ → Action
 repeat_action p number from = if p.wait && p.latest == number then ReplyTo from else Nothing
 
@@ -51,19 +51,19 @@ abbrev pub query_action : Proc → ℕ → ℕ → ℕ → Action
 query_action p number from size =
     if engages p number then engage_action from size else repeat_action p number from
 
--- a reply with this number is one for which it waits
+-- a reply with this number is one for which the process waits
 abbrev pub counts : Proc → ℕ → Bool
 counts p number = p.wait && (p.latest == number && nat_lt 0 p.num)
 
--- one reply fewer to wait for
+-- a process with one reply fewer to wait for
 abbrev pub lowered : Proc → Proc
 lowered p = record { latest = p.latest; engager = p.engager; num = p.num - 1; wait = p.wait }
 
--- a reply with this number has come
+-- a process after a reply with this number
 abbrev pub proc_replied : Proc → ℕ → Proc
 proc_replied p number = if counts p number then lowered p else p
 
--- once the last reply has come: the initiator alone has no engager
+-- what a process does once the last reply has come: the initiator alone has no engager
 abbrev pub last_action : Option ℕ → Action
 last_action None = Declare
 last_action (Some engager) = ReplyTo engager

@@ -21,7 +21,7 @@ grown-by_others xs start old new w n first next =
     next ∙ ap (λ ys. ys ++ take n (others xs w)) first ∙ append_assoc start (take w xs) _
     ∙ ap (λ ys. start ++ ys) (sym (take-others xs w n))
 
--- so many elements of the next piece stand behind all those of the pieces so far
+-- the first w + n elements of all pieces are the w of the pieces so far, and the first n of the next piece
 pub take_next : {X : Type 0} {A : Type 0} (f : X → List A) (xs : List X) (i : ℕ) (x : X) (w n : ℕ)
     → i < length xs → x ≡ get_or xs i x → w ≡ length (flat_map f (take i xs)) → n ≤ length (f x)
     → take (w + n) (flat_map f xs) ≡ flat_map f (take i xs) ++ take n (f x)
