@@ -14,7 +14,7 @@ use Rattle.cmh_board.specs.Posting.{PostingValue, IsTruth}
 use Rattle.cmh_board.specs.Adding.{CanPost, IsWriter, OnlyLoads, Stages, Adds}
 use Rattle.cmh_board.proofs.PostingRows.{rows_end, rows_told, true_behind, said_behind, once_behind, history-snoc, length-rows_of}
 
--- the rows of a posting
+-- the rows that a posting adds to a history: those of its processes that stand in no row yet
 abbrev new_rows : PostingValue → List Row → List Row
 new_rows t rows = rows_of t.verdict (unposted rows t.processes)
 
@@ -40,7 +40,7 @@ adds_from t v a w found can h seen mine lock staged loads history =
       true_of = subst (IsTrueOf g) (sym seen) (true_behind g t.verdict t.processes a.seen h.true_of can);
     }
 
--- nothing was new
+-- where no process of the posting is new, the seat has added it, with no rows
 pub adds_none : (t : PostingValue) (v a b : View) (found : ℕ) → IsWriter v → CanPost v.lock.graph t.verdict t.processes
     → AfterLoad v 1 found a
     → OnlyLoads a b → length (unposted a.seen t.processes) ≡ 0 → Adds t v b
@@ -61,7 +61,7 @@ some_posting : (mine : List (List Row)) (d : Verdict) (ps : List ℕ) → 0 < le
 some_posting mine d [] l = absurd (omega arith)
 some_posting mine d (p ∷ ps) l = refl
 
--- the new rows were staged and counted
+-- where new rows were staged and counted, the seat has added the posting
 pub adds_rows : (t : PostingValue) (v a b s w : View) (found : ℕ) → CanPost v.lock.graph t.verdict t.processes
     → AfterLoad v 1 found a
     → OnlyLoads a b → Stages t.verdict t.processes b s → w ≡ posted s → IsPosting s.staged
@@ -82,7 +82,7 @@ adds_rows t v a b s w found can h loads st e posting some =
     (let x = ap (λ (u : View). u.loads) e in let y = st.loads in let z = loads.loads in omega arith)
     (subst IsHistory (sym seen) (history-snoc a.seen rows h.whole (subst IsPosting staged posting)))
 
--- what is staged ends with a last row
+-- where some process is new, what is staged for a posting ends with a last row
 pub staged_ends : (d : Verdict) (ps : List ℕ) (v s : View) → Stages d ps v s → 0 < length (unposted v.seen ps)
     → EndsLast s.staged
 staged_ends d ps v s st some = subst EndsLast (sym st.staged) (ends_some (unposted v.seen ps) some)
@@ -91,13 +91,13 @@ staged_ends d ps v s st some = subst EndsLast (sym st.staged) (ends_some (unpost
     ends_some [] l = absurd (omega arith)
     ends_some (q ∷ qs) l = rows_end d q qs
 
--- and is told
+-- each verdict of the rows that are staged for a posting is told
 pub staged_told : (d : Verdict) (ps : List ℕ) (v s : View) → Stages d ps v s → AreTold s.staged s.told
 staged_told d ps v s st =
     subst (λ x. AreTold x s.told) (sym st.staged)
     (subst (λ y. AreTold (rows_of d (unposted v.seen ps)) y) (sym st.told) (rows_told d (unposted v.seen ps)))
 
--- the number of rows from then on
+-- the rows seen before and the new ones are together as many as are seen and staged afterwards
 pub staged_number : (d : Verdict) (ps : List ℕ) (v s : View) (count new : ℕ) → Stages d ps v s → count ≡ length v.seen
     → new ≡ length (unposted v.seen ps) → count + new ≡ length s.seen + length s.staged
 staged_number d ps v s count new st c n =

@@ -11,7 +11,7 @@ use Rattle.cmh_board.specs.Closing.{Show}
 use Rattle.cmh_board.proofs.RowWords.{codes_small}
 use Rattle.cmh_board.proofs.Weights.{same_members}
 
--- the words show the history
+-- closed words show the rows of the history
 pub shows_history : (key : Graph) (v : View) (words : List ℕ) (h : ClosedHistory key v words)
     → process_count key ≤ MAX_PROCESSES → Show words (laid h.postings)
 shows_history key v words h few = record {
@@ -21,7 +21,7 @@ shows_history key v words h few = record {
   small = λ n l. codes_small key (laid h.postings) n few h.true_of l;
 }
 
--- with the whole share its postings are the seat's own
+-- where a seat with the whole share closed the words, the postings of the history are its own
 pub made_of : (key : Graph) (v : View) (words : List ℕ) (h : ClosedHistory key v words)
     → v.lock.share ≡ MAX_SEATS → IsMadeOf v.mine (laid h.postings)
 made_of key v words h whole =

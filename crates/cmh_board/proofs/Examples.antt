@@ -10,7 +10,7 @@ use Rattle.cmh_board.specs.Board.{unposted, rows_of, with_posting, times}
 use Rattle.cmh_board.specs.Posting.{PostingValue, posting_of}
 use Rattle.cmh_board.specs.Snap.{verdict_at}
 
--- p and q, posted together
+-- the rows of p and q, posted together
 abbrev p_and_q : List Row
 p_and_q = row 0 Deadlocked false ∷ row 1 Deadlocked true ∷ []
 
@@ -20,14 +20,14 @@ posted_together = refl
 stored_as : map row_code p_and_q ≡ 0 ∷ 6 ∷ []
 stored_as = refl
 
--- r comes with a posting that names p and q too, and is added alone
+-- where p and q stand in rows, a posting of r, p and q adds the row of r alone
 added_alone : rows_of Deadlocked (unposted p_and_q (2 ∷ 0 ∷ 1 ∷ [])) ≡ row 2 Deadlocked true ∷ []
 added_alone = refl
 
 added_stored_as : map row_code (row 2 Deadlocked true ∷ []) ≡ 10 ∷ []
 added_stored_as = refl
 
--- what is posted again adds nothing
+-- where p and q stand in rows, a posting of both adds no rows
 added_again : rows_of Deadlocked (unposted p_and_q (0 ∷ 1 ∷ [])) ≡ []
 added_again = refl
 
@@ -37,7 +37,7 @@ own_postings = refl
 no_new_posting : with_posting (p_and_q ∷ []) [] ≡ p_and_q ∷ []
 no_new_posting = refl
 
--- q is known, r isn't
+-- the rows of p and q say that q is deadlocked
 known_of_q : fold_at p_and_q 1 ≡ Some Deadlocked
 known_of_q = refl
 
@@ -50,13 +50,13 @@ stands_once = refl
 stands_nowhere : times 2 p_and_q ≡ 0
 stands_nowhere = refl
 
--- a free process, alone
+-- the row of process 0 alone, which is free, is stored as 3
 free_stored_as : map row_code (rows_of Free (0 ∷ [])) ≡ 3 ∷ []
 free_stored_as = refl
 
 -- ---- what runs tell
 
--- a run of p that engaged q
+-- what a run of p that engaged q tells, by how it ended
 abbrev run_that : Ending → PostingValue
 run_that ending = posting_of record { initiator = 0; log = []; ending = ending; engaged = 0 ∷ 1 ∷ []; restarted = 0 }
 

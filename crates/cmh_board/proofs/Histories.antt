@@ -14,7 +14,7 @@ use Rattle.cmh_board.specs.Board.{times}
 
 -- ---- what rows say of a process
 
--- rows behind change nothing of what is said
+-- what rows say of a process they say with other rows behind them
 pub present-append : (xs ys : List Row) (p : ℕ) (v : Verdict) → fold_at xs p ≡ Some v
     → fold_at (xs ++ ys) p ≡ Some v
 present-append [] ys p v e = absurd (cc)
@@ -37,7 +37,7 @@ verdict_in g (r ∷ rs) p v t e =
     (λ no h. verdict_in g rs p v t.3 h)
     e
 
--- in a hold whatever the rows say of a process is the truth
+-- whatever true rows say of a process is the truth
 pub truth_in : (g : Graph) (rows : List Row) (p : ℕ) (o : Option Verdict) → IsWithinGraph g
     → IsTrueOf g rows → o ≡ fold_at rows p → IfSome o (λ v. IsVerdict g p v)
 truth_in g rows p None within t e = tt
@@ -46,14 +46,14 @@ truth_in g rows p (Some v) within t e =
 
 -- ---- how often a process stands
 
--- a row counts where it names the process
+-- a row in front adds 1 to how often its own process stands, and nothing for another
 times-cons : (r : Row) (rs : List Row) (p : ℕ)
     → times p (r ∷ rs) ≡ cond {A = ℕ} (eqb r.process p) 1 0 + times p rs
 times-cons r rs p =
     sum_by-append (λ (x : Row). cond {A = ℕ} (eqb x.process p) 1 0) (r ∷ []) rs
     ∙ ap (λ n. n + times p rs) (zero-add (cond {A = ℕ} (eqb r.process p) 1 0))
 
--- a process of which nothing is said stands nowhere
+-- a process of which the rows say nothing stands nowhere in them
 times-absent : (rows : List Row) (p : ℕ) → fold_at rows p ≡ None → times p rows ≡ 0
 times-absent [] p e = refl
 times-absent (r ∷ rs) p e = times-cons r rs p ∙

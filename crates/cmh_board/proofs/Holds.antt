@@ -6,7 +6,7 @@ use Rattle.cmh_board.specs.declared.board.BoardSeat.{BoardSeat}
 use Rattle.cmh_board.specs.Board.{known, SitsAt, IsHolding, SeesMore, ReadsHistory}
 use Rattle.cmh_board.specs.HintProofs.{sees_on}
 
--- one reading after another
+-- one reading of the history after another makes one reading
 pub reads_on : (u v w : View) → ReadsHistory u v → ReadsHistory v w → ReadsHistory u w
 reads_on u v w a b = record {
   lock = b.lock ∙ a.lock;
@@ -15,14 +15,14 @@ reads_on u v w a b = record {
   loads = (let p = a.loads in let q = b.loads in omega arith);
 }
 
--- the seat holds the board still, and has read
+-- the seat still holds the board, and has read the history
 pub record Held (b : Board) (s t : BoardSeat) : Type 0 where
   pub sits : SitsAt b t
   pub holding : IsHolding t
   pub sees : SeesMore (known s) (known t)
   pub reads : ReadsHistory (known s) (known t)
 
--- and so after one reading more
+-- a seat that still holds the board, and has read, does so after one more reading
 pub held_on : (b : Board) (s t u : BoardSeat) → Held b s t → SitsAt b u → SeesMore (known t) (known u)
     → ReadsHistory (known t) (known u)
     → Held b s u

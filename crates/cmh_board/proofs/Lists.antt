@@ -12,7 +12,7 @@ use Rattle.cmh_run.proofs.Configurations.{by_test}
 abbrev Differs : ℕ → ℕ → Type 0
 Differs p q = eqb p q ≡ false
 
--- one process is distinct from all others there
+-- a list of one process has distinct processes
 pub one_is_distinct : (p : ℕ) → IsDistinct eqb (p ∷ [])
 unfolding IsDistinct
 one_is_distinct p = (tt, tt)
@@ -23,7 +23,7 @@ first_once p ps d c =
     let others = All-from_recursion (Differs p) ps (IsDistinct-head eqb p ps d) in
     eqb-false p p (All-contains (Differs p) ps p others c) refl
 
--- of distinct processes those that are kept are distinct
+-- of distinct processes those that a test keeps are distinct
 pub distinct-filter : (f : ℕ → Bool) (ps : List ℕ) → IsDistinct eqb ps → IsDistinct eqb (filter f ps)
 unfolding IsDistinct
 distinct-filter f [] d = tt
@@ -34,6 +34,6 @@ distinct-filter f (p ∷ ps) d =
     (λ yes. (recursion_from_All (Differs p) (filter f ps) (All-filter f (Differs p) ps others), rest))
     (λ no. rest)
 
--- no more are kept than there were
+-- a test keeps no more of a list than was in it
 pub length-filter-le : (f : ℕ → Bool) (ps : List ℕ) → length (filter f ps) ≤ length ps
 length-filter-le f ps = omega (arith, length-filter f ps, count_by-le-length f ps)

@@ -42,12 +42,12 @@ pub open-marks : (v : Verdict) (ps : List ℕ) → IsOpen (marks v ps)
 open-marks v [] = tt
 open-marks v (p ∷ ps) = (refl, open-marks v ps)
 
--- one mark more
+-- the marks of a list with one more process are its marks, and then that of the process
 marks-snoc : (v : Verdict) (ps : List ℕ) (p : ℕ) → marks v (ps ++ p ∷ []) ≡ marks v ps ++ mark p v ∷ []
 marks-snoc v [] p = refl
 marks-snoc v (q ∷ ps) p = ap (λ l. mark q v ∷ l) (marks-snoc v ps p)
 
--- a list that goes on has something
+-- a list with one more behind it isn't empty
 nonempty : (ps : List ℕ) (p : ℕ) → is_empty (ps ++ p ∷ []) ≡ false
 nonempty [] p = refl
 nonempty (q ∷ ps) p = refl
@@ -65,7 +65,7 @@ abbrev pub rows_so_far : Verdict → List ℕ → List ℕ → List Row
 rows_so_far v processes [] = rows_of v processes
 rows_so_far v processes (p ∷ ps) = marks v processes
 
--- the rows so far, and the next one
+-- the rows so far with the next one are marks, and then its row, a last one if no more are to come
 pub rows_so_far-more : (v : Verdict) (ps : List ℕ) (p : ℕ) (rest : List ℕ)
     → rows_so_far v (ps ++ p ∷ []) rest ≡ marks v ps ++ row p v (is_empty rest) ∷ []
 rows_so_far-more v ps p [] = rows_of-snoc v ps p
@@ -75,16 +75,16 @@ rows_so_far-more v ps p (q ∷ rest) = marks-snoc v ps p
 pub marks-more : (v : Verdict) (ps : List ℕ) (p : ℕ) → marks v ps ++ mark p v ∷ [] ≡ marks v (ps ++ p ∷ [])
 marks-more v ps p = sym (marks-snoc v ps p)
 
--- rows say the same whether or not they are last ones
+-- the rows of a posting say of each process what its marks say
 rows-marks : (v : Verdict) (ps : List ℕ) (p : ℕ) → fold_at (rows_of v ps) p ≡ fold_at (marks v ps) p
 rows-marks v [] p = refl
 rows-marks v (q ∷ ps) p = ap (λ o. cond (eqb q p) (Some v) o) (rows-marks v ps p)
 
--- so what rows say is told by their marks
+-- what the rows of a posting say of a process is told by its marks
 pub rows_told : (v : Verdict) (ps : List ℕ) → AreTold (rows_of v ps) (marks v ps)
 rows_told v ps p u e = sym (rows-marks v ps p) ∙ e
 
--- each of the processes has a row
+-- the rows of a posting say its verdict of each of its processes
 rows_of-said : (v : Verdict) (ps : List ℕ) (p : ℕ) → Contains ps p → fold_at (rows_of v ps) p ≡ Some v
 rows_of-said v [] p c = absurd (let l = c.1 in omega arith)
 rows_of-said v (q ∷ ps) p c =
@@ -105,20 +105,20 @@ rows_end v p [] = ([], row p v true, refl, refl)
 rows_end v p (q ∷ ps) = let rest = rows_end v q ps in
     (row p v false ∷ rest.0, rest.1, ap (λ l. row p v false ∷ l) rest.2, rest.3)
 
--- there are as many rows as processes
+-- a posting has as many rows as processes
 pub length-rows_of : (v : Verdict) (ps : List ℕ) → length (rows_of v ps) ≡ length ps
 length-rows_of v [] = refl
 length-rows_of v (p ∷ ps) = let e = length-rows_of v ps in omega arith
 
 -- ---- rows that come behind a history
 
--- what the rows of a posting need, behind these
+-- what a process needs for a row behind these: it is idle, has this verdict, and has no row yet
 pub record Fresh (g : Graph) (v : Verdict) (xs : List Row) (p : ℕ) : Type 0 where
   pub idle : is_idle g p ≡ true
   pub says : v ≡ verdict g p
   pub none : fold_at xs p ≡ None
 
--- true rows of fresh processes behind true rows
+-- true rows stay true with the rows of fresh, distinct processes behind them
 true-rows : (g : Graph) (v : Verdict) (ps : List ℕ) (xs : List Row) → IsTrueOf g xs
     → ((p : ℕ) → Contains ps p → Fresh g v xs p) → IsDistinct eqb ps → IsTrueOf g (xs ++ rows_of v ps)
 true-rows g v [] xs t fresh distinct = subst (IsTrueOf g) (sym (append-nil xs)) t
@@ -140,14 +140,14 @@ true-rows g v (p ∷ ps) xs t fresh distinct =
         (λ yes. absurd (first_once p ps distinct (subst (λ x. Contains ps x) (sym (eqb-true p q yes)) c)))
         (λ no. refl)
 
--- what true rows say of a process is what is true
+-- where true rows say something of a process, they say its verdict
 agrees : (g : Graph) (xs : List Row) (p : ℕ) (v : Verdict) → IsTrueOf g xs → v ≡ verdict g p
     → (o : Option Verdict) → fold_at xs p ≡ o → is_none o ≡ false → fold_at xs p ≡ Some v
 agrees g xs p v t says None e s = absurd (cc)
 agrees g xs p v t says (Some u) e s =
     e ∙ ap (λ w. Some w) (sym (verdict_in g xs p u t e) ∙ sym says)
 
--- what a test finds missing is missing
+-- a verdict that a test finds to be none is none
 pub none_is : (o : Option Verdict) → is_none o ≡ true → o ≡ None
 none_is None e = refl
 none_is (Some u) e = absurd (cc)
@@ -171,7 +171,7 @@ true_behind g v ps xs t can =
     true-rows g v (unposted xs ps) xs t (fresh_in g v ps xs can)
     (distinct-filter f ps can.once)
 
--- then each process of the posting has its verdict
+-- with the new rows of a posting behind a true history, each process of the posting has its verdict
 pub said_behind : (g : Graph) (v : Verdict) (ps : List ℕ) (xs : List Row) → IsTrueOf g xs
     → CanPost g v ps → (p : ℕ) → Contains ps p
     → fold_at (xs ++ rows_of v (unposted xs ps)) p ≡ Some v
@@ -184,7 +184,7 @@ said_behind g v ps xs t can p c =
     (λ no. present-append xs rows p v
     (agrees g xs p v t (can.truth p c) (fold_at xs p) refl no))
 
--- and stands once
+-- with the new rows of a posting behind a true history, each process of the posting stands once
 pub once_behind : (g : Graph) (v : Verdict) (ps : List ℕ) (xs : List Row) → IsTrueOf g xs
     → CanPost g v ps → (p : ℕ) → Contains ps p
     → times p (xs ++ rows_of v (unposted xs ps)) ≡ 1
@@ -194,7 +194,7 @@ once_behind g v ps xs t can p c =
 
 -- ---- whole postings
 
--- a posting behind a history makes one
+-- a history with a posting behind it is a history
 pub history-snoc : (xs rows : List Row) → IsHistory xs → IsPosting rows → IsHistory (xs ++ rows)
 history-snoc xs rows h posting = (
   h.0 ++ rows ∷ [],

@@ -26,7 +26,7 @@ row_within g rows n t l = omega (arith, true-few g rows t)
 code_small : (r : Row) → r.process < MAX_PROCESSES → row_code r < 2 ^ 34
 code_small r l = omega (arith, bit-small r.last, free_bit-small r.verdict)
 
--- and so is that of each true row
+-- the word of each true row is small
 pub codes_small : (g : Graph) (rows : List Row) (n : ℕ) → process_count g ≤ MAX_PROCESSES → IsTrueOf g rows
     → n < length rows
     → get_or (map row_code rows) n 0 < 2 ^ 34
@@ -41,7 +41,7 @@ row_back [] n code l e = absurd (omega arith)
 row_back (r ∷ rs) zero code l e = ap (λ x. Some x) (sym (ap row_of e ∙ row_code_law r))
 row_back (r ∷ rs) (suc n) code l e = row_back rs n code (omega arith) e
 
--- a list as far as it was read, and its next item
+-- rows as far as they were read, with the next one, are the rows as far as that one
 pub take_got : (rows : List Row) (n : ℕ) (r : Row) → slice_get rows n ≡ Some r
     → take (n + 1) rows ≡ take n rows ++ r ∷ []
 take_got rows n r e = take_more rows n r (slice_get_within rows n r e)
@@ -53,7 +53,7 @@ absent_past : (g : Graph) (rows : List Row) (p : ℕ) → IsTrueOf g rows → pr
 absent_past g rows p t past None e = refl
 absent_past g rows p t past (Some v) e = let there = idle_within g p (true-idle g rows p v t e) in absurd (omega arith)
 
--- a verdict for each process is a snapshot
+-- the list of what true rows say of each process shows the rows
 pub shows_all : (g : Graph) (rows : List Row) (verdicts : List (Option Verdict)) → IsTrueOf g rows
     → verdicts ≡ map (fold_at rows) (range_with_len 0 (process_count g)) → Shows verdicts rows
 shows_all g rows verdicts t e p = elim (cases_lt p (process_count g)) [
@@ -68,14 +68,14 @@ shows_all g rows verdicts t e p = elim (cases_lt p (process_count g)) [
       ∙ sym (absent_past g rows p t l (fold_at rows p) refl)
 ]
 
--- one process more
+-- what rows say of the first p processes, with what they say of p, is what they say of the first p + 1
 pub verdicts_more : (rows : List Row) (verdicts : List (Option Verdict)) (p : ℕ)
     → verdicts ≡ map (fold_at rows) (range_with_len 0 p)
     → verdicts ++ fold_at rows p ∷ [] ≡ map (fold_at rows) (range_with_len 0 (p + 1))
 verdicts_more rows verdicts p e =
     ap (λ l. l ++ fold_at rows p ∷ []) e ∙ sym (map-range_with_len_more (fold_at rows) 0 p p (omega arith))
 
--- what a snapshot shows is the truth
+-- where the rows are true, what a snapshot shows of them is the truth
 pub snap_true : (g : Graph) (rows : List Row) (verdicts : List (Option Verdict)) → IsWithinGraph g → IsTrueOf g rows
     → Shows verdicts rows → IsTrueSnap g verdicts
 snap_true g rows verdicts within t shows p v e = verdict_true g p v within (verdict_in g rows p v t (sym (shows p) ∙ e))

@@ -23,7 +23,7 @@ use Rattle.cmh_graph.proofs.Verdicts.{filter_contains}
 
 -- ---- loads in a hold
 
--- a load in a hold in which words had been loaded
+-- a load in a hold in which words had been loaded changes nothing else that the seat knows
 pub only_load : (v : View) (word found : ℕ) (w : View) → v.loaded ≡ true → AfterLoad v word found w → OnlyLoads v w
 only_load v word found w had a = record {
   lock = ap (λ (u : View). u.lock) a.view;
@@ -50,15 +50,15 @@ absent-behind xs ys p none = ⊎_elim
 
 -- ---- how far the processes were gone through
 
--- those that stand in no row, of the first so many
+-- those of the first i processes that stand in no row
 abbrev pub done : List Row → List ℕ → ℕ → List ℕ
 done rows ps i = unposted rows (take i ps)
 
--- and of those that are still to come
+-- those of the processes from place i on that stand in no row
 abbrev pub to_come : List Row → List ℕ → ℕ → List ℕ
 to_come rows ps i = unposted rows (drop i ps)
 
--- the test of a process
+-- whether a process stands in no row
 abbrev is_new : List Row → ℕ → Bool
 is_new rows p = is_none (fold_at rows p)
 
@@ -91,7 +91,7 @@ to_come-old : (rows : List Row) (ps : List ℕ) (i : ℕ) → i < length ps → 
     → to_come rows ps i ≡ to_come rows ps (i + 1)
 to_come-old rows ps i l e = to_come-more rows ps i false l e
 
--- all of them are done or to come
+-- the processes that stand in no row are those that are done and those that are to come
 whole : (rows : List Row) (ps : List ℕ) (i : ℕ) → unposted rows ps ≡ done rows ps i ++ to_come rows ps i
 whole rows ps i =
     ap (filter (is_new rows)) (sym (take-append-drop i ps)) ∙ filter-append (is_new rows) (take i ps) (drop i ps)
@@ -153,7 +153,7 @@ staged_open : (v : View) (d : Verdict) (ps : List ℕ) (i : ℕ) (w u : View) (n
 staged_open v d ps i w u n s l new a =
     a.staged ∙ s.staged ∙ ap (rows_so_far d (done v.seen ps i)) (to_come-new v.seen ps i l new)
 
--- its row may be staged
+-- where the process at hand stands in no row, its row may be staged
 pub can_stage : (v : View) (d : Verdict) (ps : List ℕ) (i : ℕ) (w u : View) (n : ℕ) (last : Bool) → Staging v d ps i w n
     → CanPost v.lock.graph d ps → i < length ps → is_new v.seen (get_or ps i 0) ≡ true → OnlyLoads w u
     → CanStage u (row (get_or ps i 0) d last)
@@ -171,7 +171,7 @@ can_stage v d ps i w u n last s can l new a =
       true_verdict = can.truth p there ∙ ap (λ g. verdict g p) (sym graph);
     }
 
--- then its verdict may be told
+-- once the row of the process at hand is staged, its verdict may be told
 pub can_tell : (v : View) (d : Verdict) (ps : List ℕ) (i : ℕ) (w u : View) (n : ℕ) (last : Bool) → Staging v d ps i w n
     → IsDistinct eqb ps → i < length ps → is_new v.seen (get_or ps i 0) ≡ true → OnlyLoads w u
     → (x : View) → x ≡ with_row u (row (get_or ps i 0) d last) → fold_at x.staged (get_or ps i 0) ≡ Some d
@@ -208,7 +208,7 @@ below_end v d ps i w n end s l new e =
     let number = s.number in
     omega arith
 
--- and it is the number of rows that are seen and staged
+-- the number of the next row is the number of rows that are seen and staged
 pub next_number : (v : View) (d : Verdict) (ps : List ℕ) (i : ℕ) (w u : View) (n : ℕ) → Staging v d ps i w n
     → i < length ps
     → is_new v.seen (get_or ps i 0) ≡ true → OnlyLoads w u → n ≡ length u.seen + length u.staged
@@ -224,7 +224,7 @@ pub found_new : (v : View) (d : Verdict) (ps : List ℕ) (i : ℕ) (w : View) (n
     → i < length ps → b ≡ is_none (fold_at (w.seen ++ w.told) (get_or ps i 0)) → is_new v.seen (get_or ps i 0) ≡ b
 found_new v d ps i w n b s once l e = sym (e ∙ ap is_none (untold v d ps i w n s once l))
 
--- a process that stands in no row is done
+-- a process that stands in no row is done once its row is staged and its verdict is told
 pub staging-new : (v : View) (d : Verdict) (ps : List ℕ) (i : ℕ) (w u x y : View) (n : ℕ) (last : Bool)
     → Staging v d ps i w n → i < length ps
     → is_new v.seen (get_or ps i 0) ≡ true → OnlyLoads w u → x ≡ with_row u (row (get_or ps i 0) d last)

@@ -26,7 +26,7 @@ bool_eqb false false = true
 row_eqb : Row → Row → Bool
 row_eqb r s = eqb r.process s.process && (verdict_eqb r.verdict s.verdict && bool_eqb r.last s.last)
 
--- the two lists of rows are one
+-- whether two lists of rows are equal
 pub rows_eqb : List Row → List Row → Bool
 rows_eqb [] [] = true
 rows_eqb [] (s ∷ ss) = false
@@ -58,7 +58,7 @@ row_eqb-true r s e =
       last = bool_eqb-true r.last s.last rest.1 k;
     }
 
--- what the test finds equal is
+-- two lists of rows that the test finds equal are equal
 rows_eqb-true : (xs ys : List Row) → rows_eqb xs ys ≡ true → xs ≡ ys
 unfolding rows_eqb
 rows_eqb-true [] [] e = refl
@@ -82,7 +82,7 @@ row_eqb-refl : (r : Row) → row_eqb r r ≡ true
 unfolding row_eqb
 row_eqb-refl r = rw (eq-eqb r.process r.process refl, verdict_eqb-refl r.verdict, bool_eqb-refl r.last) refl
 
--- and finds a list equal to itself
+-- the test finds a list of rows equal to itself
 rows_eqb-refl : (xs : List Row) → rows_eqb xs xs ≡ true
 unfolding rows_eqb
 rows_eqb-refl [] = refl
@@ -94,7 +94,7 @@ rows_eqb-refl (r ∷ rs) = rw (row_eqb-refl r, rows_eqb-refl rs) refl
 abbrev pub is_one : List Row → List Row → ℕ
 is_one x y = cond {A = ℕ} (rows_eqb y x) 1 0
 
--- a member weighs something
+-- a posting that is a member of a list weighs something there
 member_weighs : (x : List Row) (ps : List (List Row)) → Contains ps x → 0 < total (is_one x) ps
 member_weighs x [] c = absurd (let l = c.1 in omega arith)
 member_weighs x (p ∷ ps) c = ⊎_elim
@@ -103,7 +103,7 @@ member_weighs x (p ∷ ps) c = ⊎_elim
     (λ r. let rest = member_weighs x ps r in omega arith)
     (cons_contains p ps x c)
 
--- what weighs something has the member
+-- a posting that weighs something in a list is a member of it
 weighs_member : (x : List Row) (ps : List (List Row)) → 0 < total (is_one x) ps → Contains ps x
 weighs_member x [] l = absurd (omega arith)
 weighs_member x (p ∷ ps) l =
@@ -112,7 +112,7 @@ weighs_member x (p ∷ ps) l =
     (λ no h. contains_cons p ps x (weighs_member x ps (omega arith)))
     l
 
--- what weighs the same however it is weighed has the same members
+-- two lists of postings that weigh the same, however it is weighed, have the same members
 pub same_members : (xs ys : List (List Row)) → ((h : List Row → ℕ) → total h xs ≡ total h ys)
     → (x : List Row) → Contains xs x → Contains ys x
 same_members xs ys same x c =

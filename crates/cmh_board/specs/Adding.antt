@@ -17,7 +17,7 @@ use Rattle.cmh_board.specs.Posting.{PostingValue}
 abbrev pub AreIdle : Graph → List ℕ → Type 0
 AreIdle g processes = (p : ℕ) → Contains processes p → IsTrue (is_idle g p)
 
--- rows of these processes may come, with this verdict
+-- rows of these processes may be posted, with this verdict
 pub record CanPost (g : Graph) (v : Verdict) (processes : List ℕ) : Type 0 where
   pub idle : AreIdle g processes
   pub truth : (p : ℕ) → Contains processes p → v ≡ verdict g p
@@ -44,7 +44,7 @@ pub record OnlyLoads (v w : View) : Type 0 where
 abbrev pub marks : Verdict → List ℕ → List Row
 marks v processes = map (λ p. mark p v) processes
 
--- all rows are staged, and their verdicts are told
+-- the rows of all processes that stood in none are staged, and their verdicts are told
 pub record Stages (v : Verdict) (processes : List ℕ) (old new : View) : Type 0 where
   pub lock : new.lock ≡ old.lock
   pub seen : new.seen ≡ old.seen
@@ -53,7 +53,7 @@ pub record Stages (v : Verdict) (processes : List ℕ) (old new : View) : Type 0
   pub mine : new.mine ≡ old.mine
   pub loads : old.loads ≤ new.loads
 
--- the rows came behind those that others had added
+-- the rows of the posting came behind those that others had added
 pub record Adds (t : PostingValue) (v w : View) : Type 0 where
   pub between : List Row
   pub rows : List Row

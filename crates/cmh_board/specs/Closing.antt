@@ -4,7 +4,7 @@ use Rattle.cmh_rw.specs.declared.TheConstants.{FIRST_ROW}
 use Rattle.cmh_rw.specs.declared.row.Row.{Row}
 use Rattle.cmh_rw.specs.History.{row_code}
 
--- they show these rows: how many, and each by its word
+-- the words show these rows: how many, and each by its word
 pub record Show (words : List ℕ) (rows : List Row) : Type 0 where
   pub count : slice_index words 1 ≡ length rows
   pub few : length rows < 2 ^ 32

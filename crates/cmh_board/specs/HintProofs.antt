@@ -6,7 +6,7 @@ use Rattle.cmh_board.specs.declared.hints.BoardHints.{BoardHints}
 use Rattle.cmh_board.specs.Board.{known, SeesMore}
 use Rattle.cmh_board.specs.Hints.{Keeps}
 
--- nothing has changed
+-- where nothing has changed, a seat has seen all that it had seen
 sees_itself : (v : View) → SeesMore v v
 sees_itself v = record {
   seen = ([], sym (append-nil v.seen));
@@ -15,7 +15,7 @@ sees_itself v = record {
   graph = refl;
 }
 
--- one change after another is one
+-- a seat that has seen more after one change, and more after the next, has seen more after both
 pub sees_on : (u v w : View) → SeesMore u v → SeesMore v w → SeesMore u w
 sees_on u v w a b = record {
   seen = (
@@ -27,7 +27,7 @@ sees_on u v w a b = record {
   graph = b.graph ∙ a.graph;
 }
 
--- hints keep what they are
+-- where nothing changes, hints keep what they are
 pub keeps_itself : (h : BoardHints) → Keeps h h
 keeps_itself h = record {
   board = refl;
@@ -37,7 +37,7 @@ keeps_itself h = record {
   speaks = λ g. (λ s. s, λ s. s);
 }
 
--- and on from one change to the next
+-- hints that keep what they are in one change, and in the next, keep it in both
 pub keeps_on : (a b c : BoardHints) → Keeps a b → Keeps b c → Keeps a c
 keeps_on a b c x y = record {
   board = x.board ∙ y.board;

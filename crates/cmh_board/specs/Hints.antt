@@ -8,13 +8,13 @@ use Rattle.cmh_rw.specs.declared.view.View.{View}
 use Rattle.cmh_rw.specs.History.{fold_at}
 use Rattle.cmh_board.specs.Board.{known, board_graph, SitsAt, IsAway, SeesMore}
 
--- they speak of the board's graph, with a seat of the board that holds nothing
+-- the hints speak of the board's graph, with a seat of the board that holds nothing
 pub record SpeaksOf (h : BoardHints) (g : Graph) : Type 0 where
   pub graph : board_graph h.board.now ≡ g
   pub sits : SitsAt h.board.now h.seat.now
   pub away : IsAway h.seat.now
 
--- the same board and seat, which may have seen more
+-- the hints have the same board and seat as before, and may have seen more
 pub record Keeps (a b : BoardHints) : Type 0 where
   pub board : a.board.now ≡ b.board.now
   pub seat : a.seat.ghost_name ≡ b.seat.ghost_name
@@ -22,7 +22,7 @@ pub record Keeps (a b : BoardHints) : Type 0 where
   pub state : (known a.seat.now).lock.state ≡ (known b.seat.now).lock.state
   pub speaks : (g : Graph) → SpeaksOf a g ↔ SpeaksOf b g
 
--- what is known of p, where no writer was found, and else nothing
+-- the hint about p is what is known of it, where no writer was found, and else nothing
 pub record AnswersHint (p : ℕ) (v w : View) (hint : Option Verdict) : Type 0 where
   pub read : w.lock.found < WRITER → (hint ≡ fold_at w.seen p) × (v.loads < w.loads)
   pub busy : WRITER ≤ w.lock.found → hint ≡ None

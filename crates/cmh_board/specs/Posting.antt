@@ -28,7 +28,7 @@ told_of verdict initiator engaged = record {
 abbrev pub posting_of : Run → PostingValue
 posting_of r = told_of (verdict_of r.ending) (r.initiator ∷ []) r.engaged
 
--- it tells the truth about idle processes of the graph, and names none twice
+-- the posting tells the truth about idle processes of the graph, and names none twice
 pub record IsTruth (g : Graph) (t : PostingValue) : Type 0 where
   pub idle : (p : ℕ) → Contains t.processes p → IsTrue (is_idle g p)
   pub verdict : (p : ℕ) → Contains t.processes p → IsVerdict g p t.verdict

@@ -6,14 +6,14 @@ use Rattle.cmh_graph.specs.Verdict.{IsVerdict}
 use Rattle.cmh_rw.specs.declared.row.Row.{Row}
 use Rattle.cmh_rw.specs.History.{fold_at}
 
--- the verdict of p; past the end there is none
+-- the verdict of p in a snapshot; past the end there is none
 abbrev pub verdict_at : List (Option Verdict) → ℕ → Option Verdict
 verdict_at verdicts p = slice_index_or verdicts p None
 
--- it says of each process what the rows say
+-- the snapshot says of each process what the rows say
 abbrev pub Shows : List (Option Verdict) → List Row → Type 0
 Shows verdicts rows = (p : ℕ) → verdict_at verdicts p ≡ fold_at rows p
 
--- each verdict in it is the truth
+-- each verdict in the snapshot is the truth
 abbrev pub IsTrueSnap : Graph → List (Option Verdict) → Type 0
 IsTrueSnap g verdicts = (p : ℕ) (v : Verdict) → verdict_at verdicts p ≡ Some v → IsVerdict g p v

@@ -14,6 +14,7 @@ use Rattle.cmh_dump.proofs.Order.{dump_fault_comes_before, not_before_itself, no
 use Rattle.cmh_dump.proofs.Stages.{allowed_in, IsLeastOfLists, least_of_lists}
 use Rattle.cmh_dump.proofs.Table.{stands, none_holds, in_stages}
 use Rattle.cmh_dump.proofs.Whole.{of_tree}
+use Rattle.cmh_graph.specs.First.{IsFirstBy}
 
 -- ---- a tree
 
@@ -177,11 +178,11 @@ first_fault_law = λ bytes fault. (
     first bytes fault true l tree t e =
         let same : TooLong ≡ fault = cc in
         subst (IsFirstBy dump_fault_rank (BytesHave bytes)) same
-            (first_too_long bytes (ltb-true MAX_BYTES (length bytes) l))
+        (first_too_long bytes (ltb-true MAX_BYTES (length bytes) l))
     first bytes fault false l None t e =
         let same : NotJson ≡ fault = cc in
         subst (IsFirstBy dump_fault_rank (BytesHave bytes)) same
-            (first_not_json bytes (ltb-false MAX_BYTES (length bytes) l) t)
+        (first_not_json bytes (ltb-false MAX_BYTES (length bytes) l) t)
     first bytes fault false l (Some d) t e =
         first_of_tree bytes d fault (ltb-false MAX_BYTES (length bytes) l) t ((tree_fault_law d fault).0 e)
 

@@ -50,7 +50,7 @@ pub before_by_first_place : (x y : DumpFault) (k i j h m : ℕ) → dump_fault_r
     → i < h → dump_fault_comes_before x y ≡ true
 before_by_first_place x y k i j h m e f l =
     (λ t. comes_before (e t) (f t))
-        ∙ below_by_rest k (i ∷ j ∷ []) (h ∷ m ∷ []) (below_by_first (i ∷ j ∷ []) (h ∷ m ∷ []) l)
+    ∙ below_by_rest k (i ∷ j ∷ []) (h ∷ m ∷ []) (below_by_first (i ∷ j ∷ []) (h ∷ m ∷ []) l)
 
 -- of two faults of one kind and one first place, that of the lower second place comes before
 pub before_by_second_place : (x y : DumpFault) (k i j m : ℕ) → dump_fault_rank x ≡ k ∷ i ∷ j ∷ []
@@ -68,7 +68,7 @@ not_before_itself x = ap is_lt (tied_itself nat_list_cmp_total (dump_fault_rank 
 pub not_before_both : (x y : DumpFault) → dump_fault_comes_before x y ≡ true → dump_fault_comes_before y x ≡ false
 not_before_both x y e =
     ap is_lt (nat_list_cmp_total.antisymm (dump_fault_rank y) (dump_fault_rank x))
-        ∙ reversed (slice_cmp nat_cmp (dump_fault_rank x) (dump_fault_rank y)) e
+    ∙ reversed (slice_cmp nat_cmp (dump_fault_rank x) (dump_fault_rank y)) e
   where
     reversed : (o : Ordering) → is_lt o ≡ true → is_lt (ordering_reverse o) ≡ false
     reversed Less e = refl

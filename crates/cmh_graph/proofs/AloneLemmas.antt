@@ -114,8 +114,6 @@ passed_more g marks passed p count h i on = record {
   ];
 }
 
-]
-
 -- where a place more is marked, the dependents that were passed stay passed
 pub passed_stays : (g : Graph) (marks : List Bool) (passed : List ℕ) (p : ℕ) → p < length marks
     → ArePassed g marks passed → ArePassed g (set marks p true) passed

@@ -53,7 +53,7 @@ below_all (x ∷ xs) p q rises low c = elim (cons_contains x xs q c) [
   | inr d ↦ omega (arith, low, head_below x xs rises q d)
 ]
 
--- and before it the list still rises
+-- a process below the first of a rising list, put before it, leaves it rising
 cons_rises : (xs : List ℕ) (p : ℕ) → AllPairs (λ a b. a < b) xs → p < get_or xs 0 0 → AllPairs (λ a b. a < b) (p ∷ xs)
 cons_rises xs p rises low i zero d l k = absurd (omega (arith, l))
 cons_rises xs p rises low zero (suc j) d l k =
@@ -62,7 +62,7 @@ cons_rises xs p rises low (suc i) (suc j) d l k = rises i j d (omega (arith, l))
 
 -- ---- marks
 
--- at other places the marks are the same
+-- at places other than p the marks with one more at p are the same
 same_beside : (p q : ℕ) (old new : List Bool) → HasOneMore p old new → (q ≡ p → ⊥) → is_marked new q ≡ is_marked old q
 same_beside p q old new more other = elim (cases_lt q p) [
   | inl low ↦
@@ -83,13 +83,13 @@ same_beside p q old new more other = elim (cases_lt q p) [
 
 -- ---- who is reached
 
--- All that p reaches but itself is reached by the other one, and p isn't.
+-- all that p reaches but itself is reached by l, p isn't, and p reaches l
 record ReachesBeside (g : Graph) (p l : ℕ) : Type 0 where
   others : (q : ℕ) → Reaches g p q → (q ≡ p → ⊥) → Reaches g l q
   apart : Reaches g l p → ⊥
   beyond : Reaches g p l
 
--- the marks say so
+-- where p reaches a leader and has one mark more than it, p itself, that leader reaches all else that p does
 beside : (g : Graph) (p : ℕ) (known : Known) (marks : List Bool) → IsWithinGraph g → p < process_count g
     → IsKnownOf g known → Reaches g p known.leader → marks ≡ map (reaches g p) (indices g)
     → HasOneMore p known.marks.items marks → ReachesBeside g p known.leader
@@ -119,7 +119,7 @@ reached_listed g p q w i r =
     contains_filter (reaches g p) (indices g) q (contains_index (process_count g) q (reached_within g w p q i r))
     (then_reaches g p q w i r)
 
--- such a p is a group by itself
+-- where l reaches just what p does but p itself, p is a group by itself
 core_alone : (g : Graph) (p l : ℕ) → IsWithinGraph g → p < process_count g → ReachesBeside g p l → core_of g p ≡ p ∷ []
 core_alone g p l w i is =
     same_rising (core_of g p) (p ∷ []) (AllPairs-from_increasing (core_of g p) (rising_law g p).1)
@@ -135,7 +135,7 @@ core_alone g p l w i is =
       | inr none ↦ absurd (omega (arith, none.1))
     ])
 
--- its rest is all that the other one reaches
+-- where l reaches just what p does but p itself, the rest of p's group is all that l reaches
 rest_beyond : (g : Graph) (p l : ℕ) → IsWithinGraph g → p < process_count g → l < process_count g → ReachesBeside g p l
     → rest_of g p ≡ reach_of g l
 rest_beyond g p l w i j is =
@@ -150,7 +150,7 @@ rest_beyond g p l w i j is =
     (rest_law g p q w i).1
     (reaches_on g p l q is.beyond there, λ d. is.apart (reaches_on g l q p there ((core_law g p q w i).0 d).1)))
 
--- and where it is before them, what it reaches is itself and they
+-- where l reaches just what p does but p, and p is below all of that, p reaches itself and then that
 reach_beyond : (g : Graph) (p l : ℕ) → IsWithinGraph g → p < process_count g → l < process_count g → ReachesBeside g p l
     → p < get_or (reach_of g l) 0 0 → p ∷ reach_of g l ≡ reach_of g p
 reach_beyond g p l w i j is low =
@@ -172,7 +172,7 @@ reach_beyond g p l w i j is low =
 
 -- ---- the parts of such a leader
 
--- its core, its rest, and what it reaches where it is before them
+-- p's core is p, its rest is what is known, and it reaches both, p first, where p is below the others
 pub record IsBeyond (g : Graph) (p : ℕ) (known : Known) : Type 0 where
   pub core : core_of g p ≡ p ∷ []
   pub rest : rest_of g p ≡ known.reach.items

@@ -7,7 +7,7 @@ use Rattle.std.proofs.lemmas.List.FromFn.{length-range_with_len}
 use Rattle.cmh_graph.specs.Graph.{Graph, process_count, indices, is_idle, idle_list}
 use Rattle.cmh_report.specs.Report.{active_count, deadlocked_count, counts_line, totals_line}
 
--- idle and active ones are all
+-- the idle and the active processes together are all
 pub active_and_idle : (g : Graph) → length (idle_list g) + active_count g ≡ process_count g
 active_and_idle g =
     let is_active : ℕ → Bool = λ p. not (is_idle g p) in

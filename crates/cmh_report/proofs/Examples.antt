@@ -39,7 +39,7 @@ unfolding report_text totals_line deadlocked_line free_line group_line digits re
     distance_of
 two_in_a_cycle_length = refl
 
--- there is no process
+-- a graph without a process
 abbrev pub empty : List Process
 empty =
     []
@@ -160,7 +160,7 @@ unfolding report_text totals_line deadlocked_line free_line group_line digits re
     distance_of
 knot_of_three_report = refl
 
--- a message from q to p is in transit
+-- p and q wait for each other, and a message from q to p is in transit, so that both are free
 pub woken_in_a_cycle_report : report_text (record { processes = two_in_a_cycle; in_transit = (1, 0) ∷ [] })
     ≡ codes "processes 2 active 0 idle 2 deadlocked 0" ++ lf
     ++ codes "free p path p" ++ lf
@@ -169,7 +169,7 @@ unfolding report_text totals_line deadlocked_line free_line group_line digits re
     distance_of
 woken_in_a_cycle_report = refl
 
--- a message from p to itself is in transit
+-- p waits for itself, and a message from p to itself is in transit, so that p is free
 pub woken_by_itself_report : report_text (record { processes = waits_for_itself; in_transit = (0, 0) ∷ [] })
     ≡ codes "processes 1 active 0 idle 1 deadlocked 0" ++ lf
     ++ codes "free p path p" ++ lf
@@ -177,7 +177,7 @@ unfolding report_text totals_line deadlocked_line free_line group_line digits re
     distance_of
 woken_by_itself_report = refl
 
--- a message from q to r is in transit, for which r does not wait
+-- a message from q to r is in transit, for which r doesn't wait, so that all three are deadlocked
 pub told_by_no_dependent_report : report_text (record { processes = cycle_and_follower; in_transit = (1, 2) ∷ [] })
     ≡ codes "processes 3 active 0 idle 3 deadlocked 3" ++ lf
     ++ codes "deadlocked p group 1" ++ lf
@@ -189,7 +189,7 @@ unfolding report_text totals_line deadlocked_line free_line group_line digits re
     distance_of
 told_by_no_dependent_report = refl
 
--- a message from p to r is in transit
+-- r waits for p, and a message from p to r is in transit, so that r is free
 pub follower_woken_report : report_text (record { processes = cycle_and_follower; in_transit = (0, 2) ∷ [] })
     ≡ codes "processes 3 active 0 idle 3 deadlocked 2" ++ lf
     ++ codes "deadlocked p group 1" ++ lf

@@ -44,7 +44,7 @@ collected {X} E f xs items made (Ok v) shown each all =
     all.2 ∙ each_text E f items all.0 (subst of_each all.1 each) ∙ ap (map f) shown
 collected E f xs items made (Err e) shown each all = tt
 
--- a map of what is turned around
+-- to turn a list around and map it is to map it and turn it around
 map_reverse : {X Y : Type 0} (f : X → Y) (xs : List X) → map f (reverse xs) ≡ reverse (map f xs)
 map_reverse f [] = refl
 map_reverse f (x ∷ xs) =
@@ -94,7 +94,7 @@ all_pieces P size xs h = by_fuel P size (length xs) xs h
         All-cons (All P) (take size (x ∷ xs)) (chunks_from fuel size (drop size (x ∷ xs)))
         (All-take P size (x ∷ xs) h) (by_fuel P size fuel (drop size (x ∷ xs)) (All-drop P size (x ∷ xs) h))
 
--- and of the list from its end on
+-- what all items of a list pass, those of the list from its end on pass
 pub all_turned : {X : Type 0} (P : X → Type 0) (xs ys : List X) → ys ≡ reverse xs → All P xs → All P ys
 all_turned P xs ys turned h = subst (All P) (sym turned) (in_turn P xs h)
   where

@@ -16,7 +16,7 @@ use Rattle.cmh_report.specs.Group.{is_led_by}
 use Rattle.cmh_report.proofs.JoinedTexts.{leaders_lead}
 use Rattle.cmh_report.proofs.Numbers.{led_test}
 
--- both parts hold
+-- where two tests both hold, the second does
 both : (a b : Bool) → (a && b) ≡ true → b ≡ true
 both true b e = e
 both false b e = absurd cc

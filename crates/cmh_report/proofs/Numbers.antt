@@ -19,7 +19,7 @@ use Rattle.cmh_work.specs.Leaders.{group_leader}
 use Rattle.cmh_graph.proofs.Groups.{leader_in_core, same_leader, same_test}
 use Rattle.cmh_work.proofs.Cores.{reached_deadlocked}
 
--- a leader leads itself
+-- whether a process is deadlocked and leads itself
 abbrev pub leads_itself : Graph → ℕ → Bool
 leads_itself g p = is_deadlocked g p && eqb (leader_of g p) p
 
@@ -29,7 +29,7 @@ leaders_below g n = filter (leads_itself g) (range_with_len 0 n)
 
 -- ---- how many leaders there are up to a place
 
--- the leaders up to p, among one process more
+-- one place more adds 1 to how many places up to p are kept, where it is kept and is up to p
 kept_more : (t : ℕ → Bool) (p n : ℕ) (b : Bool) → t n ≡ b
     → count_by (λ q. leb q p) (filter t (range_with_len 0 (n + 1)))
     ≡ count_by (λ q. leb q p) (filter t (range_with_len 0 n)) + cond b (cond (leb n p) 1 0) 0
@@ -38,7 +38,7 @@ kept_more t p n true e =
     ∙ omega (arith, sum_by-append (λ q. cond {A = ℕ} (leb q p) 1 0) (filter t (range_with_len 0 n)) (n ∷ []))
 kept_more t p n false e = ap (count_by (λ q. leb q p)) (filter_indices_passed t n e) ∙ omega arith
 
--- the length of a filter of one place more
+-- one place more adds 1 to how many places are kept, where it is kept
 length_more : (t : ℕ → Bool) (n : ℕ) (b : Bool) → t n ≡ b
     → length (filter t (range_with_len 0 (n + 1))) ≡ length (filter t (range_with_len 0 n)) + cond b 1 0
 length_more t n true e = ap length (filter_indices_kept t n e) ∙ length-append (filter t (range_with_len 0 n)) (n ∷ [])
@@ -62,7 +62,7 @@ above : (n p : ℕ) → p < n → (b : Bool) → leb n p ≡ b → b ≡ false
 above n p l true e = let z : n ≤ p = leb-true n p e in absurd (omega arith)
 above n p l false e = refl
 
--- and none that is kept from p + 1 on
+-- of the places from p + 1 on, none that is kept is up to p
 high : (t : ℕ → Bool) (p m : ℕ)
     → count_by (λ q. leb q p) (filter t (range_with_len 0 ((p + 1) + m))) ≡ length (filter t (range_with_len 0 (p + 1)))
 high t p zero =
@@ -108,7 +108,7 @@ leaders_few g n =
 
 -- ---- the table of leaders
 
--- the test of the table, by cases of the process
+-- by whether a process is deadlocked, the test whether l leads it is whether it is and its leader is l
 led_by : (dead : Bool) (leader l : ℕ)
     → option_eq eqb (cond {A = Option ℕ} dead (Some leader) None) (Some l) ≡ (dead && eqb leader l)
 led_by true leader l = refl
@@ -128,13 +128,13 @@ own_number g list l are i leads =
     let itself = and_true (is_deadlocked g l) (eqb (leader_of g l) l) (sym (led_test g list l l are i) ∙ leads) in
     ap (leaders_up_to g) (sym (eqb-true (leader_of g l) l itself.1)) ∙ number_is g l
 
--- the same for a test and a leader
+-- where a test gives a leader or none, and l is given, the test holds and the leader is l
 leader_known_by : (dead : Bool) (leader l : ℕ) → cond {A = Option ℕ} dead (Some leader) None ≡ Some l
     → (dead ≡ true) × (leader ≡ l)
 leader_known_by true leader l e = (refl, cc)
 leader_known_by false leader l e = cc
 
--- the same for a test and a leader
+-- where a test gives a leader or none, and none is given, the test fails
 no_leader_by : (dead : Bool) (leader : ℕ) → cond {A = Option ℕ} dead (Some leader) None ≡ None → dead ≡ false
 no_leader_by true leader e = cc
 no_leader_by false leader e = refl
@@ -144,12 +144,12 @@ pub leader_known : (g : Graph) (p l : ℕ) → group_leader g p ≡ Some l → (
 unfolding group_leader
 leader_known g p l e = leader_known_by (is_deadlocked g p) (leader_of g p) l e
 
--- a process without one isn't
+-- a process without a leader isn't deadlocked
 pub no_leader : (g : Graph) (p : ℕ) → group_leader g p ≡ None → is_deadlocked g p ≡ false
 unfolding group_leader
 no_leader g p e = no_leader_by (is_deadlocked g p) (leader_of g p) e
 
--- one leader more
+-- where p leads itself, there is one leader more below p + 1 than below p
 pub leaders_one_more : (g : Graph) (list : List (Option ℕ)) (p count : ℕ) → list ≡ map (group_leader g) (indices g)
     → p < process_count g → count ≡ length (leaders_below g p) → is_led_by list p p ≡ true
     → count + 1 ≡ length (leaders_below g (p + 1))
@@ -157,7 +157,7 @@ leaders_one_more g list p count are i is so =
     let itself : leads_itself g p ≡ true = sym (led_test g list p p are i) ∙ so in
     omega (arith, length_more (leads_itself g) p true itself)
 
--- and none
+-- where p doesn't lead itself, there are as many leaders below p + 1 as below p
 pub leaders_no_more : (g : Graph) (list : List (Option ℕ)) (p count : ℕ) → list ≡ map (group_leader g) (indices g)
     → p < process_count g → count ≡ length (leaders_below g p) → is_led_by list p p ≡ false
     → count ≡ length (leaders_below g (p + 1))
@@ -186,7 +186,7 @@ leads_back g list l q w i are leads c =
     (subst (Contains (core_of g q)) (eqb-true (leader_of g q) l e) (leader_in_core g q w j))).0)
     (λ e. eq-eqb (leader_of g q) l (same_leader g q l w j ((core_law g q l w j).1 (reaches_then g q l e, there)) ∙ own))
 
--- so the led ones are the core
+-- of those that a leader reaches, the ones that it leads are its core
 pub led_core : (g : Graph) (list : List (Option ℕ)) (l : ℕ) (reach : List ℕ) → IsWithinGraph g → l < process_count g
     → list ≡ map (group_leader g) (indices g) → is_led_by list l l ≡ true → reach ≡ reach_of g l
     → filter (is_led_by list l) reach ≡ core_of g l
@@ -195,7 +195,7 @@ led_core g list l reach w i are leads is =
     ∙ filter_agree_on (is_led_by list l) (λ q. reaches g q l) (reach_of g l)
     (λ q c. leads_back g list l q w i are leads c)
 
--- and the others the rest
+-- of those that a leader reaches, the ones that it doesn't lead are its rest
 pub led_rest : (g : Graph) (list : List (Option ℕ)) (l : ℕ) (reach : List ℕ) → IsWithinGraph g → l < process_count g
     → list ≡ map (group_leader g) (indices g) → is_led_by list l l ≡ true → reach ≡ reach_of g l
     → filter (λ q. not (is_led_by list l q)) reach ≡ rest_of g l

@@ -31,7 +31,7 @@ pub records_count : {L : Type 0} (g : Graph) (records : List (Record Run L)) →
     → length records ≡ length (idle_list g)
 records_count g records are = sym (length-map records initiator_of) ∙ ap length are.order
 
--- and no more than processes
+-- there are no more records than processes
 pub records_few : {L : Type 0} (g : Graph) (records : List (Record Run L)) → AreRecordsOf g records
     → length records ≤ process_count g
 records_few g records are = omega (arith, records_count g records are, active_and_idle g)
@@ -44,14 +44,14 @@ initiator_at g records i r are l is =
     ∙ get_or-map initiator_of records i r 0 l
     ∙ ap initiator_of is
 
--- and tells of it
+-- each of the records tells the verdict and the leader of an idle process as they are
 pub tells_at : {L : Type 0} (g : Graph) (records : List (Record Run L)) (i : ℕ) (r : Record Run L)
     → AreRecordsOf g records → i < length records → get_or records i r ≡ r → TellsOf g r
 tells_at g records i r are l is = subst (TellsOf g) is (are.tell i r l)
 
 -- ---- verdicts
 
--- the same by cases of the test
+-- a process that isn't deadlocked doesn't pass the test of deadlocked ones
 freed : (g : Graph) (p : ℕ) (b : Bool) → IsWithinGraph g → ¬ (IsDeadlocked g p) → is_deadlocked g p ≡ b → b ≡ false
 freed g p true w free e = absurd (free (test_then g p w e))
 freed g p false w free e = refl
@@ -62,12 +62,12 @@ verdict_test : (g : Graph) (p : ℕ) (v : Verdict) → IsWithinGraph g → IsVer
 verdict_test g p Deadlocked w is = then_test g p is
 verdict_test g p Free w is = freed g p (is_deadlocked g p) w is refl
 
--- a count of one element more
+-- an element in front adds 1 to a count, where it passes the test
 count_cons : {X : Type 0} (p : X → Bool) (x : X) (xs : List X)
     → count_by p (x ∷ xs) ≡ cond {A = ℕ} (p x) 1 0 + count_by p xs
 count_cons p x xs = sum_by-cons (λ y. cond {A = ℕ} (p y) 1 0) x xs
 
--- so many records tell of a deadlocked process as are of one
+-- as many records tell of a deadlocked process as are of one
 counted : {L : Type 0} (g : Graph) (records : List (Record Run L)) → IsWithinGraph g → All (TellsOf g) records
     → count_by tells_deadlocked records ≡ count_by (is_deadlocked g) (map initiator_of records)
 counted g [] w tell = refl
@@ -84,7 +84,7 @@ active_free : (g : Graph) (p : ℕ) → is_idle g p ≡ false → is_deadlocked 
 unfolding is_deadlocked
 active_free g p e = rw e refl
 
--- one process before the others
+-- where idle processes count as many deadlocked ones as all do, it is so with one process in front
 count_more : (g : Graph) (p : ℕ) (ps : List ℕ) (b : Bool) → is_idle g p ≡ b
     → count_by (is_deadlocked g) (filter (is_idle g) ps) ≡ count_by (is_deadlocked g) ps
     → count_by (is_deadlocked g) (cond b (p ∷ filter (is_idle g) ps) (filter (is_idle g) ps))
@@ -103,7 +103,7 @@ count_idle : (g : Graph) (ps : List ℕ)
 count_idle g [] = refl
 count_idle g (p ∷ ps) = count_more g p ps (is_idle g p) refl (count_idle g ps)
 
--- so many processes are deadlocked as records tell
+-- as many processes are deadlocked as records tell of one
 pub deadlocked_told : {L : Type 0} (g : Graph) (records : List (Record Run L)) → IsWithinGraph g
     → AreRecordsOf g records → count_by tells_deadlocked records ≡ deadlocked_count g
 deadlocked_told g records w are =
@@ -140,7 +140,7 @@ pub record AreLeadersOf (g : Graph) (done : List ℕ) (list : List (Option ℕ))
   pub named : (p : ℕ) → Contains done p → leader_at list p ≡ group_leader g p
   pub other : (p : ℕ) → (Contains done p → ⊥) → leader_at list p ≡ None
 
--- at first it has nothing
+-- at first the table of leaders has nothing
 pub leaders_none : (g : Graph) (n : ℕ) (list : List (Option ℕ)) → n ≡ process_count g → list ≡ replicate n None
     → length list ≡ n → AreLeadersOf g [] list
 leaders_none g n list size none long = record {
@@ -149,7 +149,7 @@ leaders_none g n list size none long = record {
   other = λ p n'. ap (λ xs. leader_at xs p) none ∙ none_at n p;
 }
 
--- one process more
+-- once the next process has its leader, the table of leaders has those of the processes up to it
 pub leaders_more : (g : Graph) (ps : List ℕ) (i p : ℕ) (list : List (Option ℕ)) (leader : Option ℕ) → i < length ps
     → get_or ps i 0 ≡ p → p < length list → leader ≡ group_leader g p → AreLeadersOf g (take i ps) list
     → AreLeadersOf g (take (i + 1) ps) (set list p leader)
@@ -191,7 +191,7 @@ leader_stands g p false list l e h =
     h.other p (λ c. not_both (is_idle g p) (filter_contains (is_idle g) (indices g) p c).1 e)
     ∙ rw (active_free g p e) refl
 
--- all idle processes done, it is the table of all leaders
+-- once all idle processes are done, the table has all leaders
 pub leaders_all : (g : Graph) (i : ℕ) (list : List (Option ℕ)) → length (idle_list g) ≤ i
     → AreLeadersOf g (take i (idle_list g)) list → list ≡ map (group_leader g) (indices g)
 leaders_all g i list l h =

@@ -23,13 +23,13 @@ pub record AreSeen (bound : ℕ) (seen : List Bool) (sites all : List ℕ) : Typ
   pub marked : (s : ℕ) → is_marked seen s ≡ is_member nat_eq sites s
   pub count : unmarked_count seen + length sites ≡ bound
 
--- nothing is marked in a list of nothing
+-- in a list without a mark no place is marked
 none_marked : (n s : ℕ) → is_marked (replicate n false) s ≡ false
 none_marked zero s = refl
 none_marked (suc n) zero = refl
 none_marked (suc n) (suc s) = none_marked n s
 
--- and all are unmarked
+-- in a list of n places without a mark n places are unmarked
 none_counted : (n : ℕ) → unmarked_count (replicate n false) ≡ n
 none_counted zero = refl
 none_counted (suc n) =
@@ -45,7 +45,7 @@ all_marked (true ∷ marks) (suc s) e l =
     all_marked marks s (omega (arith, e, sum_by-cons (λ mark. cond {A = ℕ} (not mark) 1 0) true marks))
     (omega (arith, l))
 
--- at first there is none
+-- at first no site is seen
 pub seen_none : (bound : ℕ) (seen : List Bool) → seen ≡ replicate bound false → AreSeen bound seen [] []
 unfolding IsDistinct
 seen_none bound seen is = record {
@@ -61,12 +61,12 @@ or_false : (b : Bool) → (b || false) ≡ b
 or_false true = refl
 or_false false = refl
 
--- a site more is a member too
+-- a site is in a list with one more where it was in the list or is that one
 member_push : (xs : List ℕ) (x s : ℕ) → is_member nat_eq (xs ++ x ∷ []) s ≡ (is_member nat_eq xs s || nat_eq s x)
 member_push xs x s =
     list_any-append (nat_eq s) xs (x ∷ []) ∙ ap (λ b. list_any (nat_eq s) xs || b) (or_false (nat_eq s x))
 
--- what follows from one part adds nothing
+-- where the second of two parts implies the first, the first says what both say
 or_known : (a b : Bool) → (b ≡ true → a ≡ true) → a ≡ (a || b)
 or_known true b h = refl
 or_known false true h = h refl
@@ -77,7 +77,7 @@ other_false : (b : Bool) → (b ≡ true → ⊥) → b ≡ false
 other_false true h = absurd (h refl)
 other_false false h = refl
 
--- a site more that is marked already
+-- with a site more that is marked already, the same sites are seen
 pub seen_again : (bound : ℕ) (seen : List Bool) (sites all : List ℕ) (x : ℕ) → AreSeen bound seen sites all
     → is_marked seen x ≡ true → AreSeen bound seen sites (all ++ x ∷ [])
 seen_again bound seen sites all x h m = record {
@@ -91,7 +91,7 @@ seen_again bound seen sites all x h m = record {
   count = h.count;
 }
 
--- a site more that is marked now
+-- with a site more that wasn't marked, it is seen too once it is marked
 pub seen_more : (bound : ℕ) (seen : List Bool) (sites all : List ℕ) (x : ℕ) → AreSeen bound seen sites all → x < bound
     → is_marked seen x ≡ false → AreSeen bound (set seen x true) (sites ++ x ∷ []) (all ++ x ∷ [])
 seen_more bound seen sites all x h l m = record {
@@ -118,7 +118,7 @@ seen_more bound seen sites all x h l m = record {
   );
 }
 
--- the sites of one process more
+-- the sites of the first processes and of one more are theirs, and then its site
 pub sites_more : (site : ℕ → ℕ) (list : List ℕ) (i : ℕ) → i < length list
     → map site (take (i + 1) list) ≡ map site (take i list) ++ site (get_or list i 0) ∷ []
 sites_more site list i l = ap (map site) (take_more list i 0 l) ∙ map-append site (take i list) (get_or list i 0 ∷ [])

@@ -6,18 +6,18 @@ use Rattle.cmh_graph.specs.Graph.{Graph, name_of}
 use Rattle.cmh_report.specs.Names.{SharesEnd}
 use Rattle.cmh_report.specs.Report.{names, spaced}
 
--- the names of two lists
+-- the names of two lists together are those of the one and then of the other
 names_parts : (g : Graph) (xs ys : List ℕ)
     → spaced (names g (xs ++ ys)) ≡ spaced (names g xs) ++ spaced (names g ys)
 names_parts g xs ys =
     ap spaced (map-append (name_of g) xs ys) ∙ flat_map-append (λ word. 32 ∷ word) (names g xs) (names g ys)
 
--- the names of a list that is cut
+-- the names of a list that is cut are those of both parts
 names_cut : (g : Graph) (xs : List ℕ) (n : ℕ)
     → spaced (names g xs) ≡ spaced (names g (take n xs)) ++ spaced (names g (drop n xs))
 names_cut g xs n = ap (λ ys. spaced (names g ys)) (sym (take-append-drop n xs)) ∙ names_parts g (take n xs) (drop n xs)
 
--- the length of the names of one process more
+-- the names of one process more are longer by a space and its name
 pub names_more : (g : Graph) (xs : List ℕ) (i : ℕ) → i < length xs
     → length (spaced (names g (take (i + 1) xs)))
     ≡ length (spaced (names g (take i xs))) + 1 + length (name_of g (get_or xs i 0))
@@ -63,7 +63,7 @@ names_before g list n count text of_list few is =
           omega (arith, cut.1 (omega (arith, short, same, ap length parts)), byte, here),
     )
 
--- the same for all names but the last k, of a list that is shown
+-- all names of a list but the last k are as long as counted, and the text may be cut behind them
 pub names_but : (g : Graph) (list shown : List ℕ) (size k count : ℕ) (text : List ℕ) → shown ≡ list
     → size ≡ length list → text ≡ spaced (names g list) → length text < 2 ^ 64
     → count ≡ min (length (spaced (names g (take (size - k) shown)))) (2 ^ 64 - 1)
@@ -73,7 +73,7 @@ names_but g list shown size k count text same long of_list few is =
     names_before g list (length list - k) count text of_list few
     (is ∙ (λ i. min (length (spaced (names g (take (long i - k) (same i))))) (2 ^ 64 - 1)))
 
--- names that are new, before those that both lists end with
+-- new names, put before those that both lists end with, make the names of the new list
 pub names_renewed : (g : Graph) (old new : List ℕ) (k cut : ℕ) (before front after : List ℕ) → SharesEnd k old new
     → before ≡ spaced (names g old) → front ≡ spaced (names g (take (length new - k) new))
     → length (spaced (names g (take (length old - k) old))) ≡ cut → after ≡ front ++ drop cut before

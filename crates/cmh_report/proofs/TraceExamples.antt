@@ -27,7 +27,7 @@ waits_for_nobody_trace : trace_text (record { processes = waits_for_nobody; in_t
 unfolding trace_text message_line
 waits_for_nobody_trace = refl
 
--- p and q wait for each other
+-- the trace of p, where p and q wait for each other: two queries, two replies, and p is declared
 two_in_a_cycle_trace : trace_text (record { processes = two_in_a_cycle; in_transit = [] })
     (run_of (query 0 1 0 1 ∷ query 0 1 1 0 ∷ reply 0 1 0 1 ∷ reply 0 1 1 0 ∷ []) Declared)
     ≡ codes "query p q" ++ lf

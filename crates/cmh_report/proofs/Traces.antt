@@ -62,7 +62,7 @@ run_between : (rule : Rule) (g : Graph) (i : ℕ) (log : List Delivery) (end : G
 run_between rule g i log end ok idle =
     by_test (is_awake g i)
     (λ b. DeliveriesLead rule g i (cond b (going_from (nothing_yet g) []) (going_from (start g i (nothing_yet g)) []))
-        log end
+    log end
     → All (λ d. IsBetween g d.message) log)
     (λ e l. nothing_between rule g i log end l)
     (λ e l. leads_between rule g i ok (idle_within g i idle) e log (going_from (start g i (nothing_yet g)) []) end
@@ -74,7 +74,7 @@ run_between rule g i log end ok idle =
 abbrev IsUncut : Option Ending → Type 0
 IsUncut o = (k : ℕ) → o ≡ Some (CutFree k) → ⊥
 
--- no action is a hint
+-- no action ends a run as a hint does
 action_uncut : (a : Action) → IsUncut (ended_by a)
 action_uncut Nothing k e = cc
 action_uncut Engage k e = cc
@@ -84,7 +84,7 @@ action_uncut Declare k e = cc
 none_uncut : IsUncut None
 none_uncut k e = cc
 
--- what a message does without a hint
+-- what a message does without a hint doesn't end the run as a hint does
 received_uncut : (g : Graph) (i : ℕ) (c : Config) (m : Message) (kind : Kind)
     → IsUncut (received g i c m kind None).ended
 received_uncut g i c m Reply = action_uncut (reply_action (proc_at c.procs m.to) m.number)
@@ -94,7 +94,7 @@ received_uncut g i c m Query =
     (λ e. none_uncut)
     (λ e. action_uncut (query_action (proc_at c.procs m.to) m.number m.from 0))
 
--- a delivery without a hint
+-- a delivery without a hint doesn't end a run as a hint does
 delivered_uncut : (g : Graph) (i : ℕ) (c : Config) (x : ℕ) (m : Message) (hint : Option Verdict) → c.ended ≡ None
     → hint ≡ None
     → IsUncut (delivered g i c x m hint).ended
@@ -105,7 +105,7 @@ delivered_uncut g i c x m hint going none =
     (λ e. subst IsUncut (sym going) none_uncut)
     (λ e. received_uncut g i (without c x) m m.kind))
 
--- a restart
+-- a restart doesn't end a run as a hint does
 ready_uncut : (g : Graph) (i : ℕ) (s : Going) (restarts : List ℕ) → IsUncut s.config.ended
     → IsUncut (restarted_at g i s restarts).config.ended
 ready_uncut g i s [] h = h
@@ -115,7 +115,7 @@ ready_uncut g i s (n ∷ rest) h =
     (λ e. action_uncut (start_action (length (dependents_of g i))))
     (λ e. h)
 
--- whatever comes without hints
+-- deliveries without hints don't end a run as a hint does
 leads_uncut : (rule : Rule) (g : Graph) (i : ℕ) (log : List Delivery) (s end : Going) → HasNoHints log
     → IsUncut s.config.ended → DeliveriesLead rule g i s log end
     → IsUncut end.config.ended
@@ -125,7 +125,7 @@ leads_uncut rule g i (d ∷ log) s end none h l =
     leads_uncut rule g i log (after g i (ready g i s) l.0 d) end none.1
     (delivered_uncut g i (ready g i s).config l.0 d.message d.hint l.1.going none.0) l.3
 
--- the start
+-- the start doesn't end a run as a hint does
 begun_uncut : (g : Graph) (i : ℕ) (restarts : List ℕ) → IsUncut (begun g i restarts).config.ended
 begun_uncut g i restarts =
     by_test (is_awake g i)
@@ -180,7 +180,7 @@ text_by_parts : (g : Graph) (r t : Run) → r.initiator ≡ t.initiator → r.lo
 unfolding trace_text
 text_by_parts g r t a b c = rw (a, b, c) refl
 
--- name and choices leave one trace
+-- a name and choices leave one trace
 pub one_trace : OneTrace
 one_trace name choices g text other ending last a b =
     let r = a.run in
@@ -190,7 +190,7 @@ one_trace name choices g text other ending last a b =
     subst (λ (i : ℕ). IsRun (chosen_place choices) g i [] t.log t.ending b.plain.legal.end)
     (sym same) b.plain.legal.legal in
     let one = runs_are_deterministic choices g r.initiator [] r.log t.log r.ending t.ending a.plain.legal.end
-        b.plain.legal.end
+    b.plain.legal.end
     a.plain.legal.legal its a.plain.unhinted b.plain.unhinted in
     let ended : r.ending ≡ t.ending = one_ending b.plain.legal.end.config r.ending t.ending
     (subst (λ (s : Going). EndsAs s.config r.ending) one.1 a.plain.legal.legal.ends) b.plain.legal.legal.ends in

@@ -21,20 +21,20 @@ join_spaced word (next ∷ words) = ap (λ xs. word ++ (32 ∷ xs)) (join_spaced
 line_spaced : (word : List ℕ) (words : List (List ℕ)) → line (word ∷ words) ≡ word ++ (spaced words ++ 10 ∷ [])
 line_spaced word words = ap (λ xs. xs ++ 10 ∷ []) (join_spaced word words) ∙ append_assoc word (spaced words) (10 ∷ [])
 
--- the pieces of a free process's line
+-- the pieces of a free process's line, put one behind the other, are the line
 pub free_pieces : (old name : List ℕ) (path : List (List ℕ)) (a b new : List ℕ)
     → a ≡ old ++ (codes "free " ++ (name ++ codes " path")) → b ≡ a ++ spaced path → new ≡ b ++ 10 ∷ []
     → new ≡ old ++ line (codes "free" ∷ name ∷ codes "path" ∷ path)
 free_pieces old name path a b new e f h = h ∙ rw (f, e, line_spaced) (simp append_assoc)
 
--- the words of three lists
+-- the words of three lists, each after a space, are those of the three, one list after the other
 spaced_parts : (front middle back : List (List ℕ))
     → spaced (front ++ middle ++ back) ≡ spaced front ++ spaced middle ++ spaced back
 spaced_parts front middle back =
     flat_map-append (λ word. 32 ∷ word) (front ++ middle) back
     ∙ ap (λ xs. xs ++ spaced back) (flat_map-append (λ word. 32 ∷ word) front middle)
 
--- the pieces of a group's line
+-- the pieces of a group's line, put one behind the other, are the line
 pub group_pieces : (old number sites : List ℕ) (core rest : List (List ℕ)) (a b d e new : List ℕ)
     → a ≡ old ++ (codes "group " ++ (number ++ codes " |")) → b ≡ a ++ spaced core → d ≡ b ++ codes " |"
     → e ≡ d ++ spaced rest → new ≡ e ++ (codes " | sites " ++ (sites ++ 10 ∷ []))
@@ -57,19 +57,19 @@ group_pieces old number sites core rest a b d e new h1 h2 h3 h4 h5 =
 
 -- ---- whose words they are
 
--- the words of a deadlocked process
+-- the words of a deadlocked process are those of its line
 pub deadlocked_words : (g : Graph) (p number : ℕ) (name : List ℕ) → is_deadlocked g p ≡ true → name ≡ name_of g p
     → number ≡ group_number g p → codes "deadlocked" ∷ name ∷ codes "group" ∷ decimal number ∷ [] ≡ process_line g p
 unfolding deadlocked_line
 deadlocked_words g p number name dead named numbered = rw (named, numbered, dead) refl
 
--- the words of a free process
+-- the words of a free process are those of its line
 pub free_words : (g : Graph) (p : ℕ) (name path : List ℕ) → is_deadlocked g p ≡ false → name ≡ name_of g p
     → path ≡ unwrap_or (chosen_path g p) [] → codes "free" ∷ name ∷ codes "path" ∷ names g path ≡ process_line g p
 unfolding free_line
 free_words g p name path free named chosen = rw (named, chosen, free) refl
 
--- the words of a group
+-- the words of a group are those of its line
 pub group_words : (g : Graph) (p number sites : ℕ) (core rest : List ℕ) → number ≡ group_number g p → core ≡ core_of g p
     → rest ≡ rest_of g p → sites ≡ site_count g (reach_of g p)
     → codes "group" ∷ decimal number ∷ codes "|" ∷ names g core ++ codes "|" ∷ names_or_dash g rest

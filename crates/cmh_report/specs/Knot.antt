@@ -6,7 +6,7 @@ use Rattle.cmh_report.specs.Known.{IsKnownOf}
 use Rattle.cmh_report.specs.Sites.{AreSitesBelow}
 use Rattle.cmh_report.specs.declared.knot.Knot.{Knot}
 
--- it is known whom the group's leader reaches, if there is one, and the sites are below the bound
+-- whom the group's leader reaches is known, if there is one, and all sites are below the bound
 pub record IsKnotOf (g : Graph) (knot : Knot) : Type 0 where
   pub most : IfSome knot.most (IsKnownOf g)
   pub sites : AreSitesBelow g knot.site_bound

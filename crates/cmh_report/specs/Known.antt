@@ -13,7 +13,7 @@ pub record IsKnownOf (g : Graph) (known : Known) : Type 0 where
   pub marks : known.marks.items ≡ map (reaches g known.leader) (indices g)
   pub reach : known.reach.items ≡ reach_of g known.leader
 
--- the same of this leader, with its core and its rest
+-- the parts are what this leader reaches, its core and its rest
 pub record ArePartsOf (g : Graph) (leader : ℕ) (parts : Parts) : Type 0 where
   pub named : parts.known.leader ≡ leader
   pub known : IsKnownOf g parts.known

@@ -10,7 +10,7 @@ use Rattle.cmh_work.specs.declared.record.Shape.TheVariants.{Path, Leader}
 use Rattle.cmh_work.specs.Analysis.{IsAnalysisOf, initiator_of}
 use Rattle.cmh_work.specs.Leaders.{group_leader, says_deadlocked}
 
--- it is an analysis of this graph, by some choices, whose paths are kept in some way
+-- the analysis is one of this graph, by some choices, whose paths are kept in some way
 abbrev pub IsSomeAnalysisOf : {L : Type 0} → Graph → Analysis Run L → Type 0
 IsSomeAnalysisOf {L = L} g a =
     (listed : L → List ℕ) × (choices : List ℕ) × IsAnalysisOf listed g choices a
@@ -26,7 +26,7 @@ pub record TellsOf {L : Type 0} (g : Graph) (r : Record Run L) : Type 0 where
   pub verdict : IsVerdict g r.initiator r.verdict
   pub leader : IsWithinGraph g → leader_in r.shape ≡ group_leader g r.initiator
 
--- such a record of each idle process, by rising index
+-- the records tell of the idle processes, one of each, by rising index
 pub record AreRecordsOf {L : Type 0} (g : Graph) (records : List (Record Run L)) : Type 0 where
   pub order : map initiator_of records ≡ idle_list g
   pub tell : All (TellsOf g) records

@@ -72,7 +72,7 @@ group_line g p =
     ++ codes "|" ∷ names_or_dash g (rest_of g p)
     ++ codes "|" ∷ codes "sites" ∷ decimal (site_count g (reach_of g p)) ∷ []
 
--- the words of each line
+-- the words of each line of the report
 abbrev pub report_lines : Graph → List (List (List ℕ))
 report_lines g =
     totals_line g ∷ map (process_line g) (idle_list g) ++ map (group_line g) (leaders g)
@@ -85,6 +85,6 @@ report_text g = flat_map line (report_lines g)
 abbrev pub IsReport : Graph → List ℕ → Type 0
 IsReport g text = text ≡ report_text g
 
--- it is, and so many processes of the graph are deadlocked
+-- the text is the report on the graph, of which so many processes are deadlocked
 abbrev pub IsCountedReport : ℕ → Graph → List ℕ → Type 0
 IsCountedReport deadlocked g text = IsReport g text × (deadlocked ≡ deadlocked_count g)

@@ -30,7 +30,7 @@ ending_lines name Declared = (codes "declared" ∷ name ∷ []) ∷ []
 ending_lines name AtRest = (codes "at" ∷ codes "rest" ∷ name ∷ []) ∷ []
 ending_lines name (CutFree k) = []
 
--- the words of each line
+-- the words of each line of the trace
 abbrev pub trace_lines : Graph → Run → List (List (List ℕ))
 trace_lines g r =
     map (λ d. message_line g d.message) r.log ++ ending_lines (name_of g r.initiator) r.ending

@@ -47,7 +47,7 @@ sent_own i k ds n e Engage = queries ds
 sent_own i k ds n e (ReplyTo to) = (record { mine = refl; first = e }, tt)
 sent_own i k ds n e Declare = tt
 
--- a delivery keeps it so
+-- a delivery leaves all messages of the bag in the first computation of initiator i
 delivered_own : (g : Graph) (i : ℕ) (c : Config) (x : ℕ) (m : Message) (hint : Option Verdict)
     → slice_get c.bag x ≡ Some m → Each (Own i) c.bag → Each (Own i) (delivered g i c x m hint).bag
 delivered_own g i c x m hint there own =
@@ -89,7 +89,7 @@ leads_own g i (d ∷ log) s end none own l =
     (delivered_own g i (ready g i s).config l.0 d.message d.hint l.1.there
     (subst (λ (t : Going). Each (Own i) t.config.bag) (sym same) own)) l.3
 
--- without restarts the number stays 1
+-- without restarts to come, the number of the last start stays the same
 leads_first : (g : Graph) (i : ℕ) (log : List Delivery) (s end : Going) → s.restarts ≡ []
     → DeliveriesLead any_place g i s log end → end.config.number ≡ s.config.number
 leads_first g i [] s end none l =
@@ -113,7 +113,7 @@ pub record Firm (g : Graph) (i : ℕ) (s : Going) : Type 0 where
   pub number : (m : Message) → IsUndelivered s.config m → s.config.number ≡ 1
 
 module _ (g : Graph) (i : ℕ) (w : IsWellFormed g) (idle : is_idle g i ≡ true) where
-  -- an initiator that isn't awake
+  -- where the initiator isn't awake, what an auditor may count on is true wherever deliveries lead from its start
   firm_asleep : is_awake g i ≡ false → (log : List Delivery) (s : Going)
       → DeliveriesLead any_place g i (going_from (start g i (nothing_yet g)) []) log s → Firm g i s
   firm_asleep rests log s l =
@@ -137,7 +137,7 @@ module _ (g : Graph) (i : ℕ) (w : IsWellFormed g) (idle : is_idle g i ≡ true
         number = λ m h. leads_first g i log (going_from (start g i (nothing_yet g)) []) s refl l ∙ first;
       }
 
-  -- an initiator that is awake
+  -- where nothing was started, as by an awake initiator, what an auditor may count on is true
   firm_awake : (s : Going) → s ≡ going_from (nothing_yet g) [] → Firm g i s
   firm_awake s e = subst (λ (t : Going). Firm g i t) (sym e) (record {
     size = length-replicate (process_count g) fresh;
@@ -148,7 +148,7 @@ module _ (g : Graph) (i : ℕ) (w : IsWellFormed g) (idle : is_idle g i ≡ true
     number = λ m h. absurd (in_nothing m h);
   })
 
-  -- either
+  -- wherever the deliveries of a log lead, what an auditor may count on is true
   pub firm : (log : List Delivery) (s : Going) → LeadTo g i log s → Firm g i s
   firm log s l = by_awake (is_awake g i) refl
     where
@@ -177,11 +177,11 @@ received_bag g i c bag m Query hint =
     by_hint (Some Deadlocked) = refl
     by_hint (Some Free) = rw (append-nil bag) refl
 
--- the network after a delivery with an empty bag
+-- the network after m is delivered, where its bag was emptied before
 abbrev pub carried : Graph → ℕ → Config → Message → Option Verdict → Config
 carried g i c m hint = cond (is_awake g m.to) (with_bag c []) (received g i (with_bag c []) m m.kind hint)
 
--- has what the run has after the delivery, and its bag has what was sent
+-- a delivery does what it does with an emptied bag, and its bag is then the rest with what was sent
 delivered_is : (g : Graph) (i : ℕ) (c : Config) (x : ℕ) (m : Message) (hint : Option Verdict)
     → ◌≡◌ {A = Config} (delivered g i c x m hint)
     (with_bag (carried g i c m hint) (remove c.bag x ++ (carried g i c m hint).bag))
@@ -228,7 +228,7 @@ goes_equal i a b oa ob h =
 
 -- ---- what is kept
 
--- at first nothing is waiting, and the network has all
+-- where nothing waits and the network has all messages, what is kept agrees with the start of the run
 pub agrees_first : (g : Graph) (i : ℕ) (a : Audit) → IsWellFormed g → is_idle g i ≡ true
     → a.network ≡ (begun g i []).config → ((m : Message) → is_waiting a.undelivered m ≡ false)
     → Agrees g i [] (begun g i []) a
@@ -250,7 +250,7 @@ module _ (g : Graph) (i : ℕ) (log : List Delivery) (s : Going) (a b : Audit) (
   own : (m : Message) → IsUndelivered s.config m → Own i m
   own m u = each_at (Own i) s.config.bag u.0 m (firm g i h.graph h.idle log s h.leads).own u.1
 
-  -- a message is taken off the network and is waiting now
+  -- what is kept still agrees with the run once a message is taken off the network's bag and waits instead
   pub agrees_on : (y : ℕ) (m : Message) → slice_get a.network.bag y ≡ Some m → b.network ≡ without a.network y
       → ((x : Message) → is_waiting b.undelivered x ≡ (goes_like m x || is_waiting a.undelivered x))
       → Agrees g i log s b
@@ -290,7 +290,7 @@ module _ (g : Graph) (i : ℕ) (log : List Delivery) (s : Going) (a b : Audit) (
       by_place x n (inr d) =
           inr (subst (λ (c : Config). IsUndelivered c x) (sym moved) (was_left a.network.bag y n.0 x n.1 d))
 
-  -- a waiting message is delivered, and the network has carried it
+  -- once a waiting message is delivered and the network has carried it, what is kept agrees with the longer run
   pub agrees_after : (x : ℕ) (d : Delivery) → IsSettled a → MayCome g s.config x d
       → b.network ≡ carried g i s.config d.message d.hint
       → ((y : Message) → is_waiting b.undelivered y ≡ (not (goes_like d.message y) && is_waiting a.undelivered y))

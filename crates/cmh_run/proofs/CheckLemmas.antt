@@ -37,19 +37,19 @@ bag_fit g c bag m None h = h
 bag_fit g c bag m (Some v) h = h
 
 module _ (g : Graph) (i : ℕ) (log : List Delivery) (s : Going) (a : Audit) (h : Agrees g i log s a) where
-  -- what may be counted on
+  -- where what is kept agrees with the run, what an auditor may count on is true of the run
   here : Firm g i s
   here = firm g i h.graph h.idle log s h.leads
 
-  -- the network has ended as the run has
+  -- the network that is kept has ended as the run has
   same_ended : a.network.ended ≡ s.config.ended
   same_ended = ap (λ (c : Config). c.ended) h.network
 
-  -- there are as many processes as the graph has
+  -- the network that is kept has as many processes as the graph
   pub audit_size : length a.network.procs ≡ process_count g
   audit_size = ap (λ (c : Config). length c.procs) h.network ∙ here.size
 
-  -- an ending of the network is the run's
+  -- where the network that is kept has an ending, the run has ended so
   pub ended_as : (e : Ending) → a.network.ended ≡ Some e → EndsAs s.config e
   ended_as Declared e = sym same_ended ∙ e
   ended_as (CutFree k) e = sym same_ended ∙ e
@@ -92,7 +92,7 @@ module _ (g : Graph) (i : ℕ) (log : List Delivery) (s : Going) (a : Audit) (h 
     pub rests : a.network.ended ≡ None → ((m : Message) → is_waiting a.undelivered m ≡ false) → EndsAs s.config AtRest
     rests e none = (sym same_ended ∙ e, none_in s.config.bag (λ m u. true≢false (sym (awaited m u).waits ∙ none m)))
 
-    -- where something is, the run hasn't ended unless it was ended
+    -- where some message is waiting and nothing has ended the network, the run hasn't ended
     pub goes_on : a.network.ended ≡ None → (((m : Message) → is_waiting a.undelivered m ≡ false) → ⊥)
         → ¬ (HasEnded s.config)
     goes_on e some end = by_ending end.0 end.1
@@ -134,7 +134,7 @@ fit_where_true g c m hint v d truth b w is asked all within test = (
 
 -- ---- a delivery
 
--- where no ending is answered, it is as is said of no ending
+-- where the test says that there is no answer, what is true of no answer is true
 pub where_none : (o : Option Ending) (P : Type 0) → false ≡ is_some o → IfNone o P → P
 where_none None P e h = h
 where_none (Some x) P e h = absurd (true≢false (sym e))
@@ -145,11 +145,11 @@ module _ (g : Graph) (i : ℕ) (log : List Delivery) (s : Going) (a : Audit) (d 
   pub is_there : IsUndelivered s.config d.message
   is_there = h.waiting d.message aw.mine aw.first aw.waits
 
-  -- its receiver is a process of the graph
+  -- an awaited message of a run that hasn't ended goes to a process of the graph
   pub delivery_within : d.message.to < process_count g
   delivery_within = audit_receiver g i log s a h d.message is_there (is_going g i log s a h going)
 
-  -- what it sends has room in words
+  -- what the receiver of an awaited message sends has room in a word
   pub delivery_sender : CanSend i d.message.number d.message.to
   delivery_sender = record {
     initiator = omega (arith, h.graph.processes, idle_within g i h.idle);
@@ -157,7 +157,7 @@ module _ (g : Graph) (i : ℕ) (log : List Delivery) (s : Going) (a : Audit) (d 
     from = omega (arith, h.graph.processes, delivery_within);
   }
 
-  -- so has its sender
+  -- the sender of an awaited message is below 4096, so its number has room in a word
   pub delivery_from : d.message.from < 4096
   delivery_from =
       let live = (here g i log s a h).live d.message is_there (is_going g i log s a h going) in
@@ -169,17 +169,17 @@ module _ (g : Graph) (i : ℕ) (log : List Delivery) (s : Going) (a : Audit) (d 
             is_there.1).from_in,
       )
 
-  -- and whoever engaged a process
+  -- while a message is awaited, whoever engaged a process has room in a word
   pub delivery_engagers : EngagersHaveRoom a.network.procs
   delivery_engagers = rw h.network (λ k e is.
       let live = (here g i log s a h).live d.message is_there (is_going g i log s a h going) in
       omega (arith, h.graph.processes, live.in_range k e is))
 
-  -- the network hasn't ended
+  -- where the run hasn't ended, the network that is kept hasn't
   pub network_going : a.network.ended ≡ None
   network_going = ap (λ (c : Config). c.ended) h.network ∙ is_going g i log s a h going
 
-  -- and after the delivery what is kept agrees with the run
+  -- once an awaited message is delivered with a fit hint, what is kept agrees with the longer run
   pub after_delivery : (t b : Audit) → t.network ≡ a.network
       → ((m : Message) → is_waiting t.undelivered m ≡ (not (goes_like d.message m) && is_waiting a.undelivered m))
       → HintIsFit g t.network d.message d.hint
@@ -233,7 +233,7 @@ flaw_is_fault g i log t d s NotIdle idle there leads f = absurd f
 flaw_is_fault g i log t d s NotEnded idle there leads f = absurd f
 flaw_is_fault g i log t d s Memory idle there leads f = absurd f
 
--- an ending tells the truth
+-- an idle process is deadlocked just where a legal run of it ends with its declaration
 ending_tells : (g : Graph) (i : ℕ) (log : List Delivery) (s : Going) (e : Ending) → IsWellFormed g → is_idle g i ≡ true
     → LeadTo g i log s → EndsAs s.config e → (e ≡ Declared) ↔ IsDeadlocked g i
 ending_tells g i log s e w idle leads ends =
@@ -246,21 +246,21 @@ ending_tells g i log s e w idle leads ends =
     by_ending (CutFree k) h = absurd (h (λ q. cc))
 
 module _ (g : Graph) (i : ℕ) (log : List Delivery) (a : Audit) (audited : IsAudited g i log a) where
-  -- all that the auditor answers of an ending
+  -- where the auditor answers an ending, each run that agrees with what it keeps has ended so
   abbrev pub IsAnswer : Option Ending → Type 0
   IsAnswer o =
       IfSome o
       (λ e. (g : Graph) (i : ℕ) (log : List Delivery) (s : Going) → Agrees g i log s a → IsSettled a
       → EndsAs s.config e)
 
-  -- and of none
+  -- where the auditor answers no ending, no run that agrees with what it keeps has ended
   abbrev pub IsNoAnswer : Option Ending → Type 0
   IsNoAnswer o =
       IfNone o
       ((g : Graph) (i : ℕ) (log : List Delivery) (s : Going) → Agrees g i log s a → IsSettled a
       → ¬ (HasEnded s.config))
 
-  -- an ending makes the log a legal run
+  -- where the auditor answers an ending, the log is a legal run that has ended so
   pub answer_legal : (o : Option Ending) → IsAnswer o → IfOk (ok_or o NotEnded) (IsLegalRun g i log)
   answer_legal None f = tt
   answer_legal (Some e) f =
@@ -270,14 +270,14 @@ module _ (g : Graph) (i : ℕ) (log : List Delivery) (a : Audit) (audited : IsAu
         legal = record { leads = audited.1.leads; ends = f g i log audited.0 audited.1 audited.2 };
       }
 
-  -- which tells the truth
+  -- where the auditor answers an ending, it is a declaration just where the initiator is deadlocked
   pub answer_true : (o : Option Ending) → IsAnswer o → IfOk (ok_or o NotEnded) (λ e. (e ≡ Declared) ↔ IsDeadlocked g i)
   answer_true None f = tt
   answer_true (Some e) f =
       ending_tells g i log audited.0 e audited.1.graph audited.1.idle audited.1.leads
       (f g i log audited.0 audited.1 audited.2)
 
-  -- without an ending the log is cut short
+  -- where the auditor answers no ending, the first fault of the log is that it is cut short
   pub answer_cut : (o : Option Ending) → IsNoAnswer o
       → IfErr (ok_or o NotEnded) (λ e. (e ≡ Memory) ⊎ IsFirstCheckFault g i log e)
   answer_cut None f =

@@ -102,7 +102,7 @@ module _ (g : Graph) (i : ℕ) (c : Config) (ok : IsWithinGraph g) (size : lengt
       (λ q. absurd (let h : (proc_at c.procs i).latest < c.number = rw q before in omega (arith, L.sound.root_in)))
       (λ w. refl)
 
-  -- engaging, with these dependents
+  -- where a query engages its receiver, which asks these dependents, what is true of a configuration stays true
   engaging : (ds : List ℕ) → m.kind ≡ Query → engages (proc_at c.procs m.to) m.number ≡ true → is_awake g m.to ≡ false
       → ((r : ℕ) → 0 < tally r ds → Depends g m.to r) → ((r : ℕ) → tally r ds ≤ tally r (dependents_of g m.to))
       → IsDeadlocked g m.to ⊎ ((r : ℕ) → Contains (dependents_of g m.to) r → 0 < tally r ds)
@@ -155,7 +155,7 @@ module _ (g : Graph) (i : ℕ) (c : Config) (ok : IsWithinGraph g) (size : lengt
       (subst (λ (G : ℕ → Proc). Status g i c.number G (remove c.bag x) c.engaged None)
       (sym (upd_self (proc_at c.procs) k)) (l, more)))
 
-  -- a query that engages nobody
+  -- what is true of a configuration stays true after a query that engages nobody
   not_engaging : m.kind ≡ Query → engages (proc_at c.procs m.to) m.number ≡ false
       → Stands g i
       (acted i (without c x) m.number m.to [] (proc_queried (proc_at c.procs m.to) m.number m.from 0)
@@ -203,7 +203,7 @@ module _ (g : Graph) (i : ℕ) (c : Config) (ok : IsWithinGraph g) (size : lengt
     wait = (proc_at c.procs m.to).wait;
   }
 
-  -- a reply
+  -- what is true of a configuration stays true after a reply
   replying : m.kind ≡ Reply
       → Stands g i
       (acted i (without c x) m.number m.to [] (proc_replied (proc_at c.procs m.to) m.number)
@@ -270,7 +270,7 @@ module _ (g : Graph) (i : ℕ) (c : Config) (ok : IsWithinGraph g) (size : lengt
           (eq-eqb (proc_at c.procs m.to).latest m.number (latest ∙ sym parts.0))
           (lt-ltb 0 (proc_at c.procs m.to).num some))) ∙ e)
 
-      -- the initiator still waits where it is no reply to it, or not the last
+      -- after a reply the initiator still waits, if it isn't the receiver or this wasn't its last reply
       still_waits : (0 < (proc_at c.procs m.to).num - 1) ⊎ (m.to ≡ i → ⊥) → 0 < (upd (proc_at c.procs) m.to lower i).num
       still_waits h = place m.to i (λ b. 0 < (cond b lower (proc_at c.procs i)).num)
           (λ q. ⊎_elim (λ (v : 0 < (proc_at c.procs m.to).num - 1). v) (λ (w : m.to ≡ i → ⊥). absurd (w (sym q))) h)
@@ -301,7 +301,7 @@ module _ (g : Graph) (i : ℕ) (c : Config) (ok : IsWithinGraph g) (size : lengt
             (λ w. absurd (w (sym (L.sound.tops m.to (heard l) top)))),
       )
 
-  -- what the hint leads to, where the query would engage
+  -- what is true of a configuration stays true after a query that would engage, with any fit hint
   asked : m.kind ≡ Query → engages (proc_at c.procs m.to) m.number ≡ true → is_awake g m.to ≡ false
       → (hint : Option Verdict) → HintIsFit g c m hint → Stands g i (hinted g i (without c x) m hint)
   asked kind new rests None fit =
@@ -321,7 +321,7 @@ module _ (g : Graph) (i : ℕ) (c : Config) (ok : IsWithinGraph g) (size : lengt
     };
   }
 
-  -- what m does to a receiver that isn't awake, with a fit hint, keeps it true
+  -- what m does to a receiver that isn't awake, with a fit hint, keeps what is true of a configuration
   receiving : is_awake g m.to ≡ false → (k : Kind) → m.kind ≡ k → (hint : Option Verdict) → HintIsFit g c m hint
       → Stands g i (received g i (without c x) m k hint)
   receiving rests Query kind hint fit =
@@ -347,7 +347,7 @@ module _ (g : Graph) (i : ℕ) (c : Config) (ok : IsWithinGraph g) (size : lengt
       })
       (λ e. receiving e m.kind refl hint fit)
 
--- a start
+-- what is true of a configuration is true after a start of the initiator with a greater number
 pub starting : (g : Graph) (i : ℕ) (c : Config) → IsWithinGraph g → i < process_count g → is_awake g i ≡ false
     → length c.procs ≡ process_count g → Calm g i c.number (proc_at c.procs) → c.number ≤ (proc_at c.procs i).latest
     → Each (Fine g i c.number (proc_at c.procs)) c.bag
@@ -414,7 +414,7 @@ pub status_none : (g : Graph) (i : ℕ) (c : Config) → Stands g i c → c.ende
 status_none g i c s e =
     subst (λ (o : Option Ending). Status g i c.number (proc_at c.procs) c.bag c.engaged o) e s.status
 
--- a start of the initiator keeps it true while the run isn't over
+-- while the run isn't over, a start of the initiator keeps what is true of a configuration
 restarting : (g : Graph) (i : ℕ) (c : Config) → IsWithinGraph g → i < process_count g → is_awake g i ≡ false
     → Stands g i c → c.ended ≡ None → Stands g i (start g i c)
 restarting g i c ok within rests s e =
@@ -423,7 +423,7 @@ restarting g i c ok within rests s e =
     (calm g i c.number (proc_at c.procs) (tokens c.number c.bag) l.0.out l.0.rank l.0.clock l.0.sound)
     (omega (arith, l.0.sound.root_in)) l.0.fine l.0.in_range
 
--- a restart that is due keeps it true
+-- a restart that is due keeps what is true of a configuration
 pub ready_stands : (g : Graph) (i : ℕ) (s : Going) → IsWithinGraph g → i < process_count g → is_awake g i ≡ false
     → Stands g i s.config → (ns : List ℕ) → Stands g i (restarted_at g i s ns).config
 ready_stands g i s ok within rests h [] = h
@@ -436,7 +436,7 @@ ready_stands g i s ok within rests h (n ∷ ns) =
     (is_none_true s.config.ended (and_parts (is_none s.config.ended) (eqb n s.done) e).0))
     (λ e. h)
 
--- it is true wherever deliveries lead from where it was true
+-- what is true of a configuration stays true wherever deliveries lead
 pub leads_stands : (rule : ℕ → Config → ℕ → Bool) (g : Graph) (i : ℕ) → IsWithinGraph g → i < process_count g
     → is_awake g i ≡ false → (log : List Delivery) (s end : Going) → Stands g i s.config
     → DeliveriesLead rule g i s log end

@@ -255,7 +255,7 @@ width_small g p w h =
     (λ e. omega (arith, w.dependencies, get_or-le-sum_by (λ (q : Process). length q.dependents) g.processes p nobody h))
     (λ e. omega arith)
 
--- nor do the first processes have more than so many each
+-- the first n processes have together at most n times as many dependencies as a graph may have
 widths_small : (g : Graph) (n : ℕ) → IsWellFormed g → n ≤ process_count g → width_below g n ≤ MAX_DEPENDENCIES * n
 widths_small g zero w h = omega arith
 widths_small g (suc n) w h = omega (arith, widths_small g n w (omega arith), width_small g n w (omega arith))
@@ -275,7 +275,7 @@ width_edges g n m F (suc l) h =
     mul-le-mul_left (width g l) later in
     omega (arith, width_edges g n m F l h, less, mul-suc (width g l) (n - (F l).latest))
 
--- a start raises it by two for each dependency
+-- a start raises the measure by at most two for each dependency
 start_raises : (g : Graph) (i : ℕ) (c : Config) → i < process_count g → is_idle g i ≡ true
     → length c.procs ≡ process_count g → (proc_at c.procs i).latest ≤ c.number
     → phi g (start g i c).number (proc_at (start g i c).procs) (start g i c).bag
@@ -402,7 +402,7 @@ unfolding phi_of
 first_raised g i within idle low =
     start_raises g i (nothing_yet g) within idle (length-replicate (process_count g) fresh) low
 
--- whatever led from the start had few deliveries
+-- wherever deliveries lead from the start, they are at most two for each dependency and start
 pub leads_are_short : (rule : ℕ → Config → ℕ → Bool) (g : Graph) (i : ℕ) (restarts : List ℕ) (log : List Delivery)
     (end : Going)
     → IsWithinGraph g → is_idle g i ≡ true → DeliveriesLead rule g i (begun g i restarts) log end
@@ -434,7 +434,7 @@ leads_are_short rule g i restarts log end ok idle all = by_awake (is_awake g i) 
     awake : is_awake g i ≡ true → length log ≤ 2 * dependency_count g * (end.restarted + 1)
     awake up =
         let leads : DeliveriesLead rule g i
-            (record { config = nothing_yet g; done = 0; restarts = []; restarted = 0 }) log end =
+        (record { config = nothing_yet g; done = 0; restarts = []; restarted = 0 }) log end =
         rw up at all in
         omega (arith, empty_log rule g i log end leads)
 
@@ -442,7 +442,7 @@ leads_are_short rule g i restarts log end ok idle all = by_awake (is_awake g i) 
     by_awake true e = awake e
     by_awake false e = resting e
 
--- so is each run that has ended
+-- a run that has ended has at most two deliveries for each dependency and start
 pub deliveries_are_bounded : DeliveriesAreBounded
 deliveries_are_bounded rule g i restarts log ending end ok idle run =
     leads_are_short rule g i restarts log end ok idle run.leads

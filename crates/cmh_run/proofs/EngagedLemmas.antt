@@ -29,7 +29,7 @@ module _ (g : Graph) (i n : ℕ) (F : ℕ → Proc) (engaged : List ℕ) (p : Pa
     out = λ c. omega (arith, h.before, p.engaged_in k (tally_from_contains k engaged c));
   }
 
-  -- what holds of the engaged, but for what the ending says
+  -- those who are engaged are as they should be, where what the ending says of them is true
   engaged_by_ending : (ending : Ending) → (ending ≡ Declared → (k : ℕ) → Contains engaged k → IsDeadlocked g k)
       → ((k : ℕ) → ending ≡ CutFree k → IsCutAt g i k engaged) → AreEngaged g i ending engaged
   engaged_by_ending ending deadlocked cut = record {
@@ -102,7 +102,7 @@ who_engages rule g i restarts log ending end ok idle run = by_awake (is_awake g 
     resting : is_awake g i ≡ false → AreEngaged g i ending end.config.engaged
     resting rests =
         let leads : DeliveriesLead rule g i (going_from (start g i (nothing_yet g)) restarts) log end = rw rests at
-            run.leads in
+        run.leads in
         engaged_at g i ending end.config
         (leads_stands rule g i ok (idle_within g i idle) rests log (going_from (start g i (nothing_yet g)) restarts) end
         (first_start g i ok (idle_within g i idle) rests) leads)

@@ -22,22 +22,22 @@ two_in_a_cycle = record {
   in_transit = [];
 }
 
--- the run without restarts
+-- the deliveries of a run of two processes that wait for each other, without restarts
 abbrev deliveries : List Delivery
 deliveries =
     plain (query 0 1 0 1) ∷ plain (query 0 1 1 0) ∷ plain (reply 0 1 0 1) ∷ plain (reply 0 1 1 0) ∷ []
 
--- the run that starts again after two deliveries
+-- the deliveries of a run of two processes that wait for each other, which starts again after two of them
 abbrev restarted : List Delivery
 restarted =
     plain (query 0 1 0 1) ∷ plain (query 0 1 1 0) ∷ plain (reply 0 1 0 1) ∷ plain (query 0 2 0 1)
     ∷ plain (reply 0 1 1 0) ∷ plain (query 0 2 1 0) ∷ plain (reply 0 2 0 1) ∷ plain (reply 0 2 1 0) ∷ []
 
--- its last computation, taken alone, is the run without restarts
+-- the last computation of the run with a restart, taken alone, is the run without restarts
 last_alone : alone 2 restarted ≡ deliveries
 last_alone = refl
 
--- the run is legal, and declared
+-- the run without restarts is legal, and declared
 legal : (end : Going) × IsRun any_place two_in_a_cycle 0 [] deliveries Declared end
 legal = (
   _,
@@ -62,7 +62,7 @@ legal = (
   },
 )
 
--- so is the one with a restart
+-- the run with a restart after two deliveries is legal, and declared
 legal_again : (end : Going) × IsRun any_place two_in_a_cycle 0 (2 ∷ []) restarted Declared end
 legal_again = (
   _,

@@ -12,12 +12,12 @@ pub record Took {A : Type 0} (old new : List A) (x : ℕ) (r : Option A) : Type 
   pub rest : IfSome r (λ m. new ≡ remove old x)
   pub unchanged : IfNone r (new ≡ old)
 
--- of nothing nothing is taken
+-- of an empty list nothing is taken
 took_none : {A : Type 0} (new : List A) (x : ℕ) (r : Option A) → [] ≡ option_to_list r ++ new → Took [] new x r
 took_none new x None e = record { none = (λ n. λ i. [], λ n. search rules); taken = tt; rest = tt; unchanged = sym e }
 took_none new x (Some m) e = cc
 
--- where there are some, the first of those that were put in order is taken
+-- where the one at place x was put first and then the first was taken, it is that one, and the others are left
 took_one : {A : Type 0} (old mid new : List A) (x : ℕ) (m : A) (r : Option A) → 0 < length old
     → slice_get old x ≡ Some m
     → mid ≡ m ∷ remove old x → mid ≡ option_to_list r ++ new → new ≡ drop 1 mid → Took old new x r
@@ -32,7 +32,7 @@ took_one old mid new x m (Some a) l there put popped rest =
       unchanged = tt;
     }
 
--- both
+-- where the one at place x, if there is one, was put first and then the first was taken, it was that one
 pub took : {A : Type 0} (old mid new : List A) (x : ℕ) (r : Option A)
     → (0 < length old → x < length old) → (old ≡ [] → mid ≡ [])
     → ((m : A) → slice_get old x ≡ Some m → mid ≡ m ∷ remove old x)
@@ -58,19 +58,19 @@ before_at [] (suc x) = refl
 before_at (y ∷ ys) zero = refl
 before_at (y ∷ ys) (suc x) = ap (λ l. y ∷ l) (before_at ys x)
 
--- the last of those up to a place, put first, stands before the others
+-- the last of those up to a place, put first, stands before all others, which stay in order
 brought : {A : Type 0} (xs : List A) (x : ℕ) (m : A) → slice_get xs x ≡ Some m
     → (drop x (take (suc x) xs) ++ take x (take (suc x) xs)) ++ drop (suc x) xs ≡ m ∷ remove xs x
 brought xs x m there =
     ap (λ l. (l ++ take x (take (suc x) xs)) ++ drop (suc x) xs) (alone_at xs x m there)
     ∙ ap (λ l. m ∷ (l ++ drop (suc x) xs)) (before_at xs x)
 
--- past what was taken come the others
+-- behind the first t of a list come the others that are put behind them
 past_taken : {A : Type 0} (xs rest : List A) (t : ℕ) → t ≤ length xs → drop t (take t xs ++ rest) ≡ rest
 past_taken xs rest t l =
     ap (λ n. drop n (take t xs ++ rest)) (sym (length-take-le t xs l)) ∙ drop-append_seam (take t xs) rest
 
--- so it is where they stand behind some that were taken
+-- put first behind those that were taken before, the one at place x comes next, and then the others
 pub brought_in : {A : Type 0} (xs turned now : List A) (t x k : ℕ) (m : A) → t ≤ length xs → drop t xs ≡ now
     → x < length now → k ≡ suc x → slice_get now x ≡ Some m
     → turned
@@ -87,7 +87,7 @@ brought_in xs turned now t x k m l are within is there by =
     ∙ ap (λ n. (drop n (take (suc x) now) ++ take n (take (suc x) now)) ++ drop (suc x) now) last
     ∙ brought now x m there
 
--- nor does it change how many there are
+-- putting one first behind those that were taken doesn't change how many there are
 pub turned_length : {A : Type 0} (xs turned : List A) (t k : ℕ) → t ≤ length xs → k ≤ length (drop t xs)
     → length turned ≡ k
     → length (take t xs ++ (turned ++ drop k (drop t xs))) ≡ length xs

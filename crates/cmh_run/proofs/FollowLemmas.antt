@@ -39,7 +39,7 @@ restart_keeps_count g i s (n ∷ ns) =
     by_test (is_none s.config.ended && eqb n s.done) (λ b. (cond b (restart g i s ns) s).done ≡ s.done) (λ e. refl)
     (λ e. refl)
 
--- one delivery more
+-- deliveries that lead somewhere lead on by one more that may come there and that the rule allows
 pub leads_on : (rule : Rule) (g : Graph) (i : ℕ) (log : List Delivery) (s mid : Going) (x : ℕ) (d : Delivery)
     → DeliveriesLead rule g i s log mid → MayCome g mid.config x d → rule mid.done mid.config x ≡ true
     → DeliveriesLead rule g i s (log ++ d ∷ []) (ready g i (after g i mid x d))
@@ -76,7 +76,7 @@ leads_restarts rule g i (d ∷ log) s end l =
     omega (arith, now, rest)
 
 module _ (g : Graph) (i : ℕ) (ok : IsWithinGraph g) (within : i < process_count g) (rests : is_awake g i ≡ false) where
-  -- a restart keeps it so
+  -- a restart keeps the number of the last start one more than the restarts
   ready_numbered : (s : Going) (ns : List ℕ) → Stands g i s.config → s.config.number ≡ s.restarted + 1
       → (restarted_at g i s ns).config.number ≡ (restarted_at g i s ns).restarted + 1
   ready_numbered s [] h e = e
@@ -88,7 +88,7 @@ module _ (g : Graph) (i : ℕ) (ok : IsWithinGraph g) (within : i < process_coun
       omega (arith, live.0.sound.root_in, e))
       (λ t. e)
 
-  -- deliveries keep it so
+  -- deliveries keep the number of the last start one more than the restarts
   leads_numbered : (rule : Rule) (log : List Delivery) (s end : Going) → Stands g i s.config
       → s.config.number ≡ s.restarted + 1
       → DeliveriesLead rule g i s log end → end.config.number ≡ end.restarted + 1
@@ -116,13 +116,13 @@ module _ (g : Graph) (i : ℕ) (ok : IsWithinGraph g) (within : i < process_coun
   pub first_stands : Stands g i (start g i (nothing_yet g))
   first_stands = first_start g i ok within rests
 
-  -- it is true wherever deliveries lead from the first start
+  -- what is true of a configuration is true wherever deliveries lead from the first start
   pub follows_stands : (rule : Rule) (restarts : List ℕ) (log : List Delivery) (s : Going)
       → DeliveriesLead rule g i (going_from (start g i (nothing_yet g)) restarts) log s → Stands g i s.config
   follows_stands rule restarts log s l =
       leads_stands rule g i ok within rests log (going_from (start g i (nothing_yet g)) restarts) s first_stands l
 
-  -- there the number of the last start is one more than the restarts
+  -- wherever deliveries lead from the first start, the number of the last start is one more than the restarts
   follows_numbered : (rule : Rule) (restarts : List ℕ) (log : List Delivery) (s : Going)
       → DeliveriesLead rule g i (going_from (start g i (nothing_yet g)) restarts) log s
       → s.config.number ≡ s.restarted + 1
@@ -172,7 +172,7 @@ module _ (g : Graph) (i : ℕ) (choices restarts : List ℕ) (s : Stage) (ok : I
         numbered = follows_numbered g i ok within e (chosen_place choices) restarts s.log s.going (asleep_leads e);
       }
 
-  -- there are as many processes as the graph has
+  -- wherever the run is, there are as many processes as the graph has
   all_there : length s.going.config.procs ≡ process_count g
   all_there = by_awake (is_awake g i) refl
     where
@@ -221,7 +221,7 @@ module _ (g : Graph) (i : ℕ) (choices restarts : List ℕ) (s : Stage) (ok : I
       (stepped g i s.going.config ok firm.stands.size may.going live.0 live.1 x d.message may.there d.hint may.hint)
       (number_kept g i s.going.config x d.message d.hint ∙ firm.numbered) (few_restarts few) going
 
-  -- where none were given, none are to come
+  -- where no restarts were given, none are to come
   pub none_to_come : restarts ≡ [] → s.going.restarts ≡ []
   none_to_come none = by_awake (is_awake g i) refl
     where
@@ -245,7 +245,7 @@ module _ (g : Graph) (i : ℕ) (choices restarts : List ℕ) (s : Stage) (ok : I
                 (asleep_leads e),
           ))
 
-  -- the deliveries are few
+  -- the deliveries are at most two for each dependency and each start that a run may have
   log_bound : length restarts ≤ MAX_RESTARTS → length s.log ≤ 2 * dependency_count g * (MAX_RESTARTS + 1)
   log_bound few =
       let short = leads_are_short (chosen_place choices) g i restarts s.log s.going ok idle f.leads in
@@ -285,7 +285,7 @@ may_start_first g i restarts ok idle =
     (first_stands g i ok (idle_within g i idle) e) (first_number g i ok (idle_within g i idle) e)
     (omega arith) going)
 
--- a log without hints, and one delivery more without one
+-- a log without hints, with one delivery more that has none, is a log without hints
 pub no_hints_on : (log : List Delivery) (d : Delivery) → HasNoHints log → d.hint ≡ None → HasNoHints (log ++ d ∷ [])
 no_hints_on [] d h e = (e, tt)
 no_hints_on (x ∷ log) d h e = (h.0, no_hints_on log d h.1 e)
@@ -298,13 +298,13 @@ pub next_is : (choices left : List ℕ) (n choice : ℕ) → left ≡ drop n cho
 next_is choices left n choice are is =
     is ∙ ap (λ xs. slice_index xs 0) are ∙ get_or-drop n choices 0 0 ∙ ap (slice_index choices) (omega arith)
 
--- without it the rest are left
+-- without the next choice, what is left are the choices behind it
 pub next_left : (choices left rest : List ℕ) (n m : ℕ) → left ≡ drop n choices → rest ≡ drop 1 left → m ≡ n + 1
     → rest ≡ drop m choices
 next_left choices left rest n m are is more =
     is ∙ ap (drop 1) are ∙ drop-drop 1 n choices ∙ ap (λ k. drop k choices) (sym more)
 
--- where there are none, each that comes is 0
+-- where no choices are given, each choice that comes is 0
 pub no_choice : (choices : List ℕ) (n : ℕ) → choices ≡ [] → 0 ≡ slice_index choices n
 no_choice choices n none = rw none refl
 
@@ -317,19 +317,19 @@ told_empty b (x ∷ xs) is empty = absurd (omega (arith, eqb-true (length (x ∷
 
 module _ (g : Graph) (i : ℕ) (choices restarts : List ℕ) (s t : Stage) (m : Message) (ok : IsWithinGraph g)
     (idle : is_idle g i ≡ true) (f : Follows g i choices restarts s) (taken : IsTakenBy choices s t (Some m)) where
-  -- there are as many processes as the graph has
+  -- once a message is taken, there are as many processes as the graph has
   pub taken_size : length t.going.config.procs ≡ process_count g
   taken_size = rw taken.2 (steady g i choices restarts s ok idle f (place_in choices s) m taken.1).stands.size
 
-  -- the run isn't over
+  -- once a message is taken, the run isn't over
   pub taken_going : t.going.config.ended ≡ None
   taken_going = rw taken.2 taken.0
 
-  -- its receiver is one of them
+  -- the receiver of the message that was taken is a process of the graph
   pub taken_within : m.to < process_count g
   taken_within = receiver_within g i choices restarts s ok idle f (place_in choices s) m taken.0 taken.1
 
-  -- what it sends has room in words
+  -- what the receiver of the message that was taken sends has room in a word
   pub taken_sender : IsWellFormed g → m.number < 2 ^ 27 → CanSend i m.number m.to
   taken_sender w low = record {
     initiator = omega (arith, w.processes, idle_within g i idle);
@@ -337,20 +337,20 @@ module _ (g : Graph) (i : ℕ) (choices restarts : List ℕ) (s t : Stage) (m : 
     from = omega (arith, w.processes, taken_within);
   }
 
-  -- and so has whoever engaged a process
+  -- once a message is taken, whoever engaged a process has room in a word
   pub taken_engagers : IsWellFormed g → EngagersHaveRoom t.going.config.procs
   taken_engagers w = rw taken.2 (λ k e is.
       let firm = steady g i choices restarts s ok idle f (place_in choices s) m taken.1 in
       let live = status_none g i s.going.config firm.stands taken.0 in
       omega (arith, w.processes, live.0.in_range k e is))
 
-  -- it can be counted
+  -- the delivery of the message that was taken can be counted, since there were few before it
   pub taken_room : IsWellFormed g → length restarts ≤ MAX_RESTARTS → t.going.done + 1 < 2 ^ 64
   taken_room w few =
       let same : t.going.done ≡ s.going.done = rw taken.2 refl in
       omega (arith, same, f.count, log_bound g i choices restarts s ok idle f few, few_dependencies g w)
 
-  -- it may be delivered with what the hints say
+  -- the message that was taken may be delivered, with a hint that fits
   taken_may : (hint : Option Verdict) → HintIsFit g t.going.config m hint
       → MayCome g s.going.config (place_in choices s) (record { message = m; hint = hint })
   taken_may hint fit =
@@ -371,7 +371,7 @@ module _ (g : Graph) (i : ℕ) (choices restarts : List ℕ) (s t : Stage) (m : 
     d : Delivery
     d = record { message = m; hint = hint }
 
-    -- the stage is then the one after this delivery, which ends its log
+    -- once m is delivered, the stage is the one after this delivery, which is the last of its log
     is_after : u
         ≡ record {
           going = after g i s.going (place_in choices s) (record { message = m; hint = hint });
@@ -379,13 +379,13 @@ module _ (g : Graph) (i : ℕ) (choices restarts : List ℕ) (s t : Stage) (m : 
         }
     is_after = step ∙ ap (λ (w : Stage). delivered_to g i w (record { message = m; hint = hint })) taken.2
 
-    -- the initiator may start again after it
+    -- once m is delivered the initiator may start again, if the run isn't over
     pub taken_may_start : length restarts ≤ MAX_RESTARTS → u.going.config.ended ≡ None → MayStart g i u.going
     taken_may_start few = subst (λ (w : Stage). w.going.config.ended ≡ None → MayStart g i w.going) (sym is_after)
         (may_start_after g i choices restarts s ok idle f (place_in choices s) (record { message = m; hint = hint }) few
         (taken_may hint fit))
 
-    -- the run goes on
+    -- once m is delivered, and a restart has come if one is due, the run follows the choices
     pub taken_follows : (v : Stage) → v ≡ record { going = ready g i u.going; log = u.log }
         → Follows g i choices restarts v
     taken_follows v e =
@@ -394,27 +394,27 @@ module _ (g : Graph) (i : ℕ) (choices restarts : List ℕ) (s t : Stage) (m : 
         (λ (w : Stage). let z : Stage = record { going = ready g i w.going; log = w.log } in z) is_after))
         (follows_on g i choices restarts s ok idle f (record { message = m; hint = hint }) (taken_may hint fit))
 
-    -- there is one delivery more
+    -- once m is delivered, there was one delivery more, whether or not a restart is due
     pub taken_done : (v : Stage) → v ≡ record { going = ready g i u.going; log = u.log }
         → v.going.done ≡ s.going.done + 1
     taken_done v e =
         ap (λ (w : Stage). w.going.done) e ∙ restart_keeps_count g i u.going u.going.restarts
         ∙ ap (λ (w : Stage). w.going.done) is_after
 
-    -- the log is one delivery longer
+    -- once m is delivered, the log is longer by this delivery, whether or not a restart is due
     pub taken_log : (v : Stage) → v ≡ record { going = ready g i u.going; log = u.log }
         → v.log ≡ s.log ++ (record { message = m; hint = hint }) ∷ []
     taken_log v e = ap (λ (w : Stage). w.log) e ∙ ap (λ (w : Stage). w.log) is_after
 
-    -- the restarts to come are the same
+    -- where no restarts are to come, none are once m is delivered
     pub taken_restarts : s.going.restarts ≡ [] → u.going.restarts ≡ []
     taken_restarts none = ap (λ (w : Stage). w.going.restarts) is_after ∙ none
 
-    -- where there are none, the initiator doesn't start again
+    -- where no restarts are to come, the initiator doesn't start again once m is delivered
     pub taken_rests : s.going.restarts ≡ [] → u ≡ record { going = ready g i u.going; log = u.log }
     taken_rests none = rw (taken_restarts none) refl
 
-    -- the measure of the run falls
+    -- once m is delivered, fewer deliveries may still come
     pub taken_falls : (v : Stage) → v ≡ record { going = ready g i u.going; log = u.log }
         → length restarts ≤ MAX_RESTARTS
         → 2 * dependency_count g * (MAX_RESTARTS + 1) + 1 - length v.log
@@ -453,11 +453,11 @@ ends_as g i choices restarts s ok idle f over = by_ended s.going.config.ended re
     by_ended (Some (CutFree k)) e = e
     by_ended (Some AtRest) e = absurd (not_at_rest (is_awake g i) refl e)
 
--- it has no delivery more
+-- where there is no message to take, the log is as it was
 pub over_log : (choices : List ℕ) (s t : Stage) → IsTakenBy choices s t None → t.log ≡ s.log
 over_log choices s t over = ap (λ (w : Stage). w.log) over.0
 
--- its network is then as at first
+-- a network that is cleared when there is no message to take is as at first
 pub cleared : (g : Graph) (i : ℕ) (choices restarts : List ℕ) (s t : Stage) (c : Config) → IsWithinGraph g
     → is_idle g i ≡ true → Follows g i choices restarts s
     → IsTakenBy choices s t None → c ≡ blank (length t.going.config.procs) → c ≡ nothing_yet g
@@ -465,7 +465,7 @@ cleared g i choices restarts s t c ok idle f over e =
     e ∙ ap (λ (w : Stage). blank (length w.going.config.procs)) over.0
     ∙ ap blank (all_there g i choices restarts s ok idle f)
 
--- what is kept of it is a legal run
+-- what is kept of a run when there is no message to take is a legal run that followed the choices
 pub finished : (g : Graph) (i : ℕ) (choices restarts : List ℕ) (s t : Stage) (r : Run) → IsWithinGraph g
     → is_idle g i ≡ true → Follows g i choices restarts s
     → IsTakenBy choices s t None

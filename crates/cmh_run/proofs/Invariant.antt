@@ -91,7 +91,7 @@ module _ (g : Graph) (i m : ℕ) (P : ℕ → Proc) (T : ℕ → ℕ → ℕ) (o
   none_waits : (P i).num ≡ 0 → (k : ℕ) → (P k).latest ≡ m → (P k).num ≡ 0
   none_waits top k l = none_waits_below top (suc (rank k)) k (omega arith) l
 
-  -- then nobody awake can be reached from one that is engaged
+  -- once the initiator waits for no reply, nobody awake can be reached from one that is engaged
   all_rest : (P i).num ≡ 0 → (path : List ℕ) (k q : ℕ) → (P k).latest ≡ m → Leads g k path q → is_awake g q ≡ false
   all_rest top [] k q l e = subst (λ (x : ℕ). is_awake g x ≡ false) e (s.rests k (omega (arith, s.positive, l)))
   all_rest top (r ∷ rest) k q l h =
@@ -105,7 +105,7 @@ module _ (g : Graph) (i m : ℕ) (P : ℕ → Proc) (T : ℕ → ℕ → ℕ) (o
       (all r h.0.1))
       (s.settled k l)
 
-  -- then everyone in its computation is deadlocked
+  -- once the initiator waits for no reply, everyone in its computation is deadlocked
   pub engaged_deadlocked : (P i).num ≡ 0 → (k : ℕ) → (P k).latest ≡ m → IsDeadlocked g k
   engaged_deadlocked top k l = (
     asleep_is_idle g k (s.rests k (omega (arith, s.positive, l))),
@@ -113,7 +113,7 @@ module _ (g : Graph) (i m : ℕ) (P : ℕ → Proc) (T : ℕ → ℕ → ℕ) (o
         all_rest top on.0 k q l on.1,
   )
 
-  -- nothing of this computation is on its way then
+  -- once the initiator waits for no reply, no message of its computation is on its way
   pub none_on_way : (P i).num ≡ 0 → (k r : ℕ) → T k r ≡ 0
   none_on_way top k r =
       ⊎_elim

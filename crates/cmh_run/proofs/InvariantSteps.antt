@@ -23,7 +23,7 @@ place k x M here there = go (eqb x k) refl
 
 module _ (g : Graph) (i m : ℕ) (P : ℕ → Proc) (T : ℕ → ℕ → ℕ) (out : ℕ → List ℕ) (rank : ℕ → ℕ) (clock : ℕ)
     (s : Sound g i m P T out rank clock) where
-  -- a message is discarded, or answered, or belongs to an older computation
+  -- what is true of a run stays true where fewer messages go along dependencies on awake processes alone
   pub fewer : (T' : ℕ → ℕ → ℕ) → ((k r : ℕ) → T' k r ≤ T k r) → ((k r : ℕ) → is_awake g r ≡ false → T k r ≤ T' k r)
       → Sound g i m P T' out rank clock
   fewer T' less same = record {
@@ -46,7 +46,7 @@ module _ (g : Graph) (i m : ℕ) (P : ℕ → Proc) (T : ℕ → ℕ → ℕ) (o
     few = s.few;
   }
 
-  -- k takes part in an older computation
+  -- what is true of a run stays true where k takes part in an older computation
   pub older : (k : ℕ) (p : Proc) → (P k).latest < m → p.latest < m → p.wait ≡ true → (p.engager ≡ None → k ≡ i)
       → is_awake g k ≡ false → Reaches g i k
       → Sound g i m (upd P k p) T out rank clock
@@ -116,7 +116,7 @@ module _ (g : Graph) (i m : ℕ) (P : ℕ → Proc) (T : ℕ → ℕ → ℕ) (o
           place k r (λ b. (cond b p (P r)).latest ≡ m)
           (λ e. absurd (let low : (P r).latest < m = rw e before in omega (arith, l))) (λ n. l)
 
-  -- k is engaged by e, with these dependents
+  -- what is true of a run stays true where k is engaged by e, with these dependents
   pub engaged : (k e : ℕ) (p : Proc) (ds : List ℕ) (T' : ℕ → ℕ → ℕ) → (P k).latest < m → p.latest ≡ m
       → p.engager ≡ Some e → p.num ≡ length ds → p.wait ≡ true
       → (P e).latest ≡ m → is_awake g k ≡ false → Reaches g i k → ((r : ℕ) → 0 < tally r ds → Depends g k r)
@@ -225,7 +225,7 @@ module _ (g : Graph) (i m : ℕ) (P : ℕ → Proc) (T : ℕ → ℕ → ℕ) (o
           (λ n h. omega arith)
           (moved x r)
 
-  -- k receives a reply from r that it waited for
+  -- what is true of a run stays true where k receives a reply from r that it waited for
   pub replied : (k r : ℕ) (p : Proc) (T' : ℕ → ℕ → ℕ) → (P k).latest ≡ m → p.latest ≡ m → p.engager ≡ (P k).engager
       → p.wait ≡ true → p.num + 1 ≡ (P k).num
       → 0 < tally r (out k) → (P r).latest ≡ m
@@ -315,7 +315,7 @@ module _ (g : Graph) (i m : ℕ) (P : ℕ → Proc) (T : ℕ → ℕ → ℕ) (o
           (let gone = tally-without_one r y (out k) there in omega (arith, rw (ne_eqb r y other) at gone)))
           (cases_eq r y)
 
--- what a start needs of what was before
+-- what a start with a greater number needs of the processes before it
 pub record Calm (g : Graph) (i m : ℕ) (P : ℕ → Proc) : Type 0 where
   pub latest : (k : ℕ) → (P k).latest ≤ m
   pub waits : (k : ℕ) → 0 < (P k).latest → (P k).wait ≡ true
@@ -323,13 +323,13 @@ pub record Calm (g : Graph) (i m : ℕ) (P : ℕ → Proc) : Type 0 where
   pub rests : (k : ℕ) → 0 < (P k).latest → is_awake g k ≡ false
   pub reached : (k : ℕ) → 0 < (P k).latest → Reaches g i k
 
--- what stays true of a run gives what a start needs
+-- where what stays true of a run is true, there is what a start needs
 pub calm : (g : Graph) (i m : ℕ) (P : ℕ → Proc) (T : ℕ → ℕ → ℕ) (out : ℕ → List ℕ) (rank : ℕ → ℕ) (clock : ℕ)
     → Sound g i m P T out rank clock → Calm g i m P
 calm g i m P T out rank clock s =
     record { latest = s.latest; waits = s.waits; tops = s.tops; rests = s.rests; reached = s.reached }
 
--- a start with a greater number makes it true of the new computation
+-- a start with a greater number makes what is true of a run true of the new computation
 pub starts : (g : Graph) (i m m' : ℕ) (P : ℕ → Proc) (p : Proc) (ds : List ℕ) (T' : ℕ → ℕ → ℕ) → Calm g i m P → m < m'
     → p.latest ≡ m' → p.engager ≡ None → p.num ≡ length ds → p.wait ≡ true
     → is_awake g i ≡ false → ((r : ℕ) → 0 < tally r ds → Depends g i r)

@@ -52,7 +52,7 @@ module _ (rule : Rule) (g : Graph) (i : ℕ) (ok : IsWithinGraph g) (within : i 
       omega (arith, live.0.sound.root_in))
       (λ t. omega arith)
 
-  -- the number never falls
+  -- deliveries and restarts never lower the number of the last start
   leads_rises : (log : List Delivery) (s end : Going) → Stands g i s.config → DeliveriesLead rule g i s log end
       → s.config.number ≤ end.config.number
   leads_rises [] s end h l = subst (λ (t : Going). s.config.number ≤ t.config.number) l (ready_rises s s.restarts h)
@@ -69,7 +69,7 @@ module _ (rule : Rule) (g : Graph) (i : ℕ) (ok : IsWithinGraph g) (within : i 
       )
 
   module _ (n : ℕ) where
-    -- what a start of the last computation is, seen alone
+    -- a start that begins computation n, seen from it alone, is the first start
     started : (c : Config) → Stands g i c → c.ended ≡ None → c.number + 1 ≡ n
         → ◌≡◌ {A = Config} (shadow n (start g i c) (start g i c).ended) (start g i (nothing_yet g))
     started c h going next =
@@ -78,7 +78,7 @@ module _ (rule : Rule) (g : Graph) (i : ℕ) (ok : IsWithinGraph g) (within : i 
         (each_more (Fine g i c.number (proc_at c.procs)) (λ m. m.number < n) c.bag
         (λ m f. omega (arith, f.low)) live.0.fine)
 
-    -- a restart changes nothing of it
+    -- a restart changes nothing of where the run of computation n alone is
     ready_shadows : (s : Going) (a : Config) → Stands g i s.config → Shadows g i n s.config a → (ns : List ℕ)
         → (restarted_at g i s ns).config.number ≤ n
         → Shadows g i n (restarted_at g i s ns).config a
@@ -119,7 +119,7 @@ module _ (rule : Rule) (g : Graph) (i : ℕ) (ok : IsWithinGraph g) (within : i 
       fine : Fine g i s.config.number (proc_at s.config.procs) d.message
       fine = each_at (Fine g i s.config.number (proc_at s.config.procs)) s.config.bag x d.message live.fine may.there
 
-      -- the delivery of an older message leaves it as it is
+      -- the delivery of a message of another computation leaves the run of computation n alone where it is
       older_shadows : (d.message.number ≡ n → ⊥) → (a : Config) → Shadows g i n s.config a
           → Shadows g i n (after g i s x d).config a
       older_shadows other a sh = record {
@@ -154,14 +154,14 @@ module _ (rule : Rule) (g : Graph) (i : ℕ) (ok : IsWithinGraph g) (within : i 
                   (eqb (proc_at s.config.procs d.message.to).latest d.message.number
                   && ltb 0 (proc_at s.config.procs d.message.to).num) c).1).0
 
-      -- while the whole run goes on, so does it
+      -- while the whole run goes on, the run of computation n alone goes on too
       at_shadow : d.message.number ≡ n → (a : Config) (e : Option Ending) → SameEnd s.config.ended e
           → a ≡ shadow n s.config e → a ≡ shadow d.message.number s.config None
       at_shadow is_n a e same here =
           here ∙ ap (λ (o : Option Ending). shadow n s.config o) (still_going s.config.ended e may.going same)
           ∙ ap (λ (z : ℕ). shadow z s.config None) (sym is_n)
 
-      -- after one of its own messages it is where the whole run is, seen alone
+      -- after a message of computation n its run alone is where the whole run is, seen from it
       after_own : d.message.number ≡ n → (b : Config) (e : Option Ending) → SameEnd (after g i s x d).config.ended e
           → b ≡ shadow d.message.number (after g i s x d).config e
           → Shadows g i n (after g i s x d).config b
@@ -170,7 +170,7 @@ module _ (rule : Rule) (g : Graph) (i : ℕ) (ok : IsWithinGraph g) (within : i 
         before = λ q. absurd (omega (arith, fine.low, number_kept g i s.config x d.message d.hint));
       }
 
-      -- the delivery of one of its own messages leads it on
+      -- the delivery of a message of computation n leads its run alone on
       own_leads : d.message.number ≡ n → (log : List Delivery) (end : Going) (k : ℕ)
           → ((b : Config) → Shadows g i n (after g i s x d).config b → Alone log b (k + 1) end)
           → (a : Config) → Shadows g i n s.config a → Alone (d ∷ log) a k end
@@ -211,7 +211,7 @@ module _ (rule : Rule) (g : Graph) (i : ℕ) (ok : IsWithinGraph g) (within : i 
             shadows = next.shadows;
           }
 
-    -- the deliveries of the last computation lead on by themselves
+    -- the deliveries of computation n, the last one, lead its run alone on by themselves
     chain : (log : List Delivery) (s end : Going) (a : Config) (k : ℕ) → Stands g i s.config → end.config.number ≡ n
         → Shadows g i n s.config a → DeliveriesLead rule g i s log end → Alone log a k end
     chain [] s end a k h is_end sh l = record {
@@ -267,7 +267,7 @@ module _ (rule : Rule) (g : Graph) (i : ℕ) (ok : IsWithinGraph g) (within : i 
     leads : DeliveriesLead any_place g i (plain c k) rest end
     ends : EndsAs end.config ending
 
-  -- it is finished, or a message is undelivered
+  -- a run can be finished, if it can be where it isn't over and a message is undelivered
   finished_or : (c : Config) (k : ℕ) → Stands g i c
       → ((m : Message) → c.ended ≡ None → slice_get c.bag 0 ≡ Some m → Finish c k) → Finish c k
   finished_or c k h on = by_ended c.ended refl
@@ -283,7 +283,7 @@ module _ (rule : Rule) (g : Graph) (i : ℕ) (ok : IsWithinGraph g) (within : i 
       by_ended (Some AtRest) e =
           absurd (subst (λ (o : Option Ending). Status g i c.number (proc_at c.procs) c.bag c.engaged o) e h.status)
 
-  -- so it is finished by the delivery of the first message, again and again
+  -- a run can be finished by the delivery of the first message, again and again
   finish : (fuel : ℕ) (c : Config) (k : ℕ) → Stands g i c → phi_of g c ≤ fuel → Finish c k
   finish zero c k h enough =
       finished_or c k h
@@ -302,7 +302,7 @@ module _ (rule : Rule) (g : Graph) (i : ℕ) (ok : IsWithinGraph g) (within : i 
         ends = next.ends;
       })
 
-  -- the first start, seen as the start of the last computation
+  -- at the first start the run of each computation alone is at the first start
   first_shadows : (n : ℕ) → Shadows g i n (start g i (nothing_yet g)) (start g i (nothing_yet g))
   first_shadows n = record {
     newest = λ q. (
@@ -314,7 +314,7 @@ module _ (rule : Rule) (g : Graph) (i : ℕ) (ok : IsWithinGraph g) (within : i 
     before = λ q. refl;
   }
 
-  -- a whole run of an initiator that isn't awake
+  -- where the initiator isn't awake, the last computation of a run, taken alone, begins a run
   last_is_run : (restarts : List ℕ) (log : List Delivery) (ending : Ending) (end : Going)
       → DeliveriesLead rule g i (going_from (start g i (nothing_yet g)) restarts) log end → EndsAs end.config ending
       → LastIsRun g i log ending end
@@ -361,7 +361,7 @@ module _ (rule : Rule) (g : Graph) (i : ℕ) (ok : IsWithinGraph g) (within : i 
             ∙ ap (λ (bag : List Message). kept end.config.number bag) f.1,
       )
 
--- the empty run of an awake initiator
+-- where nothing was started, as by an awake initiator, the last computation, taken alone, begins a run
 awake_is_run : (rule : Rule) (g : Graph) (i : ℕ) (log : List Delivery) (ending : Ending) (end : Going)
     → is_awake g i ≡ true
     → DeliveriesLead rule g i (going_from (nothing_yet g) []) log end → EndsAs end.config ending

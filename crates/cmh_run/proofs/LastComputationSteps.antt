@@ -29,7 +29,7 @@ SameEnd (Some Declared) e = e ≡ Some Declared
 SameEnd (Some AtRest) e = ⊥
 SameEnd (Some (CutFree k)) e = Unit {0}
 
--- what an action ends, it ends alone too
+-- an action that ends the run ends the computation alone in the same way
 pub same_end : (action : Action) → SameEnd (ended_by action) (ended_by action)
 same_end Nothing = refl
 same_end Engage = refl
@@ -57,11 +57,11 @@ both_tests false true e M f g = absurd (true≢false (sym e))
 module _ (g : Graph) (i : ℕ) (c : Config) (x : ℕ) (m : Message) (there : slice_get c.bag x ≡ Some m)
     (newest : m.number ≡ c.number) (going : c.ended ≡ None)
     (low : (proc_at c.procs m.to).latest ≤ m.number) (positive : 0 < m.number) where
-  -- the receiver as the computation has it
+  -- in the receiver's place the computation alone has the receiver as seen from it
   here : proc_at (map (recast m.number) c.procs) m.to ≡ recast m.number (proc_at c.procs m.to)
   here = recast_at m.number c.procs m.to positive
 
-  -- one change of the receiver, and what it sends
+  -- a change of the receiver, and what it sends, lead to the same, seen from the computation alone
   moved : (p q : Proc) (new also : List Message) (engaged : List ℕ) (e o : Option Ending) → recast m.number p ≡ q
       → kept m.number new ≡ also
       → ◌≡◌ {A = Config}
@@ -89,11 +89,11 @@ module _ (g : Graph) (i : ℕ) (c : Config) (x : ℕ) (m : Message) (there : sli
         nn,
       ) refl
 
-  -- the delivery leads to the same configuration, seen from the computation alone
+  -- the second configuration is the first one, seen from the computation alone
   abbrev pub IsAlike : Config → Config → Type 0
   IsAlike next far = (e : Option Ending) × SameEnd next.ended e × (far ≡ shadow m.number next e)
 
-  -- an action of the receiver
+  -- where the receiver acts alike, the computation alone is led to the same as seen from it
   acting : (act also : Action) (p q : Proc) → also ≡ act → recast m.number p ≡ q
       → IsAlike (acted i (without c x) m.number m.to [] p act)
       (acted i (without (shadow m.number c None) (place_among m.number c.bag x)) 1 m.to [] q also)
@@ -104,7 +104,7 @@ module _ (g : Graph) (i : ℕ) (c : Config) (x : ℕ) (m : Message) (there : sli
         (kept_sent m.number i m.to [] act ∙ ap (λ (z : Action). sent i 1 m.to [] z) (sym same)),
   )
 
-  -- after a query the receiver is still the same
+  -- after a query the receiver is the same, seen from the computation alone
   queried_alike : (size : ℕ)
       → recast m.number (proc_queried (proc_at c.procs m.to) m.number m.from size)
       ≡ proc_queried (proc_at (map (recast m.number) c.procs) m.to) 1 m.from size
@@ -112,14 +112,14 @@ module _ (g : Graph) (i : ℕ) (c : Config) (x : ℕ) (m : Message) (there : sli
       sym (ap (λ (z : Proc). proc_queried z 1 m.from size) here
       ∙ same_queried m.number (proc_at c.procs m.to) low positive m.from size)
 
-  -- and acts alike
+  -- on a query the receiver acts as it does in the computation alone
   query_action_alike : (size : ℕ)
       → query_action (proc_at (map (recast m.number) c.procs) m.to) 1 m.from size
       ≡ query_action (proc_at c.procs m.to) m.number m.from size
   query_action_alike size = ap (λ (z : Proc). query_action z 1 m.from size) here
       ∙ same_query_action m.number (proc_at c.procs m.to) low positive m.from size
 
-  -- a query engages it
+  -- a query that engages its receiver leads to the same, seen from the computation alone
   engaging : (ds : List ℕ)
       → IsAlike (engaged_by i (without c x) m ds)
       (engaged_by i (without (shadow m.number c None) (place_among m.number c.bag x)) (renumbered m) ds)
@@ -136,12 +136,12 @@ module _ (g : Graph) (i : ℕ) (c : Config) (x : ℕ) (m : Message) (there : sli
         ∙ ap (λ (z : Action). sent i 1 m.to ds z) (sym (query_action_alike (length ds))))),
   )
 
-  -- a hint ends the run
+  -- a hint that ends the run ends the computation alone too
   cut_alike : IsAlike (cut (without c x) m.to)
       (cut (without (shadow m.number c None) (place_among m.number c.bag x)) m.to)
   cut_alike = (Some (CutFree m.to), tt, rw (kept_taken m.number c.bag x m there refl) refl)
 
-  -- a query that would engage it, with a hint
+  -- a query that would engage its receiver leads to the same, with any hint, seen from the computation alone
   asked_alike : (hint : Option Verdict)
       → IsAlike (hinted g i (without c x) m hint)
       (hinted g i (without (shadow m.number c None) (place_among m.number c.bag x)) (renumbered m) hint)
@@ -149,7 +149,7 @@ module _ (g : Graph) (i : ℕ) (c : Config) (x : ℕ) (m : Message) (there : sli
   asked_alike (Some Deadlocked) = engaging []
   asked_alike (Some Free) = cut_alike
 
-  -- a message that an awake process discards
+  -- a message that an awake process discards leads to the same, seen from the computation alone
   discarded_alike : IsAlike (without c x) (without (shadow m.number c None) (place_among m.number c.bag x))
   discarded_alike = (
     None,
@@ -157,7 +157,7 @@ module _ (g : Graph) (i : ℕ) (c : Config) (x : ℕ) (m : Message) (there : sli
     rw (kept_taken m.number c.bag x m there refl) refl,
   )
 
-  -- a message to a receiver that isn't awake
+  -- a message to a receiver that isn't awake leads to the same, seen from the computation alone
   received_alike : (k : Kind) (hint : Option Verdict)
       → IsAlike (received g i (without c x) m k hint)
       (received g i (without (shadow m.number c None) (place_among m.number c.bag x)) (renumbered m) k hint)
@@ -180,7 +180,7 @@ module _ (g : Graph) (i : ℕ) (c : Config) (x : ℕ) (m : Message) (there : sli
       (proc_queried (proc_at (map (recast m.number) c.procs) m.to) 1 m.from 0)
       (query_action_alike 0) (queried_alike 0))
 
-  -- a delivery
+  -- a delivery leads to the same, seen from the computation alone
   pub delivered_alike : (hint : Option Verdict)
       → IsAlike (delivered g i c x m hint)
       (delivered g i (shadow m.number c None) (place_among m.number c.bag x) (renumbered m) hint)
@@ -191,7 +191,7 @@ module _ (g : Graph) (i : ℕ) (c : Config) (x : ℕ) (m : Message) (there : sli
       (received g i (without (shadow m.number c None) (place_among m.number c.bag x)) (renumbered m) m.kind hint)))
       (λ e. discarded_alike) (λ e. received_alike m.kind hint)
 
-  -- a hint that is fit is so for the computation alone
+  -- a hint that is fit for a configuration is fit for it as the computation alone has it
   pub fit_alike : (hint : Option Verdict) → HintIsFit g c m hint
       → HintIsFit g (shadow m.number c None) (renumbered m) hint
   fit_alike None fit = tt
@@ -211,7 +211,7 @@ no_declaration p number from size =
     (λ e. by_test (p.wait && eqb p.latest number) (λ b. ended_by (cond b (ReplyTo from) Nothing) ≡ None) (λ q. refl)
     (λ q. refl))
 
--- nor does a reply, unless it counts for a process without an engager
+-- a reply makes nobody declare, unless it counts for a process without an engager
 no_declaration_yet : (p : Proc) (number : ℕ) → (counts p number ≡ true → p.engager ≡ None → ⊥)
     → ended_by (reply_action p number) ≡ None
 no_declaration_yet p number no_top =
@@ -228,7 +228,7 @@ no_declaration_yet p number no_top =
 module _ (n : ℕ) (g : Graph) (i : ℕ) (c : Config) (x : ℕ) (m : Message) (there : slice_get c.bag x ≡ Some m)
     (newest : c.number ≡ n) (below : m.number < n) (going : c.ended ≡ None)
     (no_top : counts (proc_at c.procs m.to) m.number ≡ true → (proc_at c.procs m.to).engager ≡ None → ⊥) where
-  -- m is of another computation
+  -- m, whose number is below n, isn't a message of computation n
   other : m.number ≡ n → ⊥
   other e = omega arith
 
@@ -236,7 +236,7 @@ module _ (n : ℕ) (g : Graph) (i : ℕ) (c : Config) (x : ℕ) (m : Message) (t
   abbrev pub IsUnseen : Config → Type 0
   IsUnseen next = SameEnd next.ended None × (shadow n c None ≡ shadow n next None)
 
-  -- the receiver changes in its older computation, and sends in it
+  -- where the receiver changes in an older computation and sends in it, nothing changes as seen from computation n
   unseen : (p : Proc) (ds : List ℕ) (act : Action) (o : Option Ending) → recast n p ≡ recast n (proc_at c.procs m.to)
       → ◌≡◌ {A = Config} (shadow n c None)
       (shadow n
@@ -256,7 +256,7 @@ module _ (n : ℕ) (g : Graph) (i : ℕ) (c : Config) (x : ℕ) (m : Message) (t
         map-set_same (recast n) c.procs m.to p fresh same,
       ) refl
 
-  -- a query engages it
+  -- where an older query engages its receiver, nothing changes as seen from computation n
   unseen_engaging : (ds : List ℕ) → IsUnseen (engaged_by i (without c x) m ds)
   unseen_engaging ds = (
     refl,
@@ -266,28 +266,28 @@ module _ (n : ℕ) (g : Graph) (i : ℕ) (c : Config) (x : ℕ) (m : Message) (t
         (queried_below n m.number (proc_at c.procs m.to) below m.from (length ds))),
   )
 
-  -- a hint ends the run
+  -- where a hint about an older query ends the run, nothing changes as seen from computation n
   unseen_cut : IsUnseen (cut (without c x) m.to)
   unseen_cut = (tt, rw (kept_other n c.bag x m there other) refl)
 
-  -- a query that would engage it, with a hint
+  -- an older query that would engage changes nothing as seen from computation n, whatever the hint
   unseen_asked : (hint : Option Verdict) → IsUnseen (hinted g i (without c x) m hint)
   unseen_asked None = unseen_engaging (dependents_of g m.to)
   unseen_asked (Some Deadlocked) = unseen_engaging []
   unseen_asked (Some Free) = unseen_cut
 
-  -- an action that doesn't end the run
+  -- an action in an older computation that doesn't end the run changes nothing as seen from computation n
   unseen_acting : (p : Proc) (act : Action) → ended_by act ≡ None → recast n p ≡ recast n (proc_at c.procs m.to)
       → IsUnseen (acted i (without c x) m.number m.to [] p act)
   unseen_acting p act calm same =
       (subst (λ (z : Option Ending). SameEnd z None) (sym calm) refl, unseen p [] act (ended_by act) same)
 
-  -- an awake process discards it
+  -- an older message that an awake process discards changes nothing as seen from computation n
   unseen_discarded : IsUnseen (without c x)
   unseen_discarded =
       (subst (λ (z : Option Ending). SameEnd z None) (sym going) refl, rw (kept_other n c.bag x m there other) refl)
 
-  -- a message to a receiver that isn't awake
+  -- an older message to a receiver that isn't awake changes nothing as seen from computation n
   unseen_received : (k : Kind) (hint : Option Verdict) → IsUnseen (received g i (without c x) m k hint)
   unseen_received Reply hint =
       unseen_acting (proc_replied (proc_at c.procs m.to) m.number) (reply_action (proc_at c.procs m.to) m.number)
@@ -302,7 +302,7 @@ module _ (n : ℕ) (g : Graph) (i : ℕ) (c : Config) (x : ℕ) (m : Message) (t
       (no_declaration (proc_at c.procs m.to) m.number m.from 0)
       (queried_below n m.number (proc_at c.procs m.to) below m.from 0))
 
-  -- a delivery
+  -- the delivery of an older message changes nothing as seen from computation n
   pub unseen_delivered : (hint : Option Verdict) → IsUnseen (delivered g i c x m hint)
   unseen_delivered hint =
       by_test (is_awake g m.to) (λ b. IsUnseen (cond b (without c x) (received g i (without c x) m m.kind hint)))

@@ -133,7 +133,7 @@ module _ (g : Graph) (i n : ℕ) (F : ℕ → Proc) (bag : List Message) (engage
     begins = L.begins;
   }
 
-  -- an awake process discards it
+  -- a message to an awake process may be dropped, and the run stays live
   pub discarded : is_awake g m.to ≡ true → Live g i n F (remove bag x) engaged
   discarded awake = dropped (λ a r rest y. by_kind a r rest y m.kind refl)
     where
@@ -149,7 +149,7 @@ module _ (g : Graph) (i n : ℕ) (F : ℕ → Proc) (bag : List Message) (engage
           true≢false
           (sym awake ∙ ap (is_awake g) (sym same) ∙ L.sound.rests a (omega (arith, in_it.0, L.sound.positive)))
 
-  -- a query is answered at once
+  -- a query to a process of its own computation is answered at once, and the run stays live
   pub repeated : m.kind ≡ Query → (F m.to).latest ≡ m.number
       → Live g i n F (remove bag x ++ reply i m.number m.to m.from ∷ []) engaged
   repeated is_query latest = record {
@@ -191,7 +191,7 @@ module _ (g : Graph) (i n : ℕ) (F : ℕ → Proc) (bag : List Message) (engage
             token_same a r,
           )
 
-  -- the receiver takes part in an older computation
+  -- where the receiver takes part in an older computation, the run stays live
   pub older : (p : Proc) (new : List Message) → m.number < n → (F m.to).latest < n → p.latest < n → p.wait ≡ true
       → (p.engager ≡ None → m.to ≡ i) → is_awake g m.to ≡ false → Reaches g i m.to
       → ((e : ℕ) → p.engager ≡ Some e → e < process_count g) → Each (Fine g i n (upd F m.to p)) new
@@ -230,7 +230,7 @@ module _ (g : Graph) (i n : ℕ) (F : ℕ → Proc) (bag : List Message) (engage
           place m.to k (λ b. (cond b p (F k)).latest ≡ n)
           (λ q. absurd (let h : (F k).latest < n = rw q before in omega (arith, l))) (λ w. l)
 
-  -- the receiver engages in the newest computation
+  -- where the receiver engages in the newest computation, the run stays live
   pub engages : (ds : List ℕ) → m.kind ≡ Query → m.number ≡ n → (F m.to).latest < n → is_awake g m.to ≡ false
       → ((r : ℕ) → 0 < tally r ds → Depends g m.to r) → ((r : ℕ) → tally r ds ≤ tally r (dependents_of g m.to))
       → IsDeadlocked g m.to ⊎ ((r : ℕ) → Contains (dependents_of g m.to) r → 0 < tally r ds)
@@ -340,7 +340,7 @@ module _ (g : Graph) (i n : ℕ) (F : ℕ → Proc) (bag : List Message) (engage
   lowered =
       record { latest = (F m.to).latest; engager = (F m.to).engager; num = (F m.to).num - 1; wait = (F m.to).wait }
 
-  -- the messages of an older computation that it engages in
+  -- where the receiver engages in an older computation, the run stays live
   pub engages_older : (ds : List ℕ) → m.kind ≡ Query → m.number < n → (F m.to).latest < n → is_awake g m.to ≡ false
       → ((r : ℕ) → 0 < tally r ds → Depends g m.to r)
       → Live g i n (upd F m.to (proc_engaged m.number m.from (length ds)))
@@ -389,7 +389,7 @@ module _ (g : Graph) (i n : ℕ) (F : ℕ → Proc) (bag : List Message) (engage
           (each_map (λ (y : Message). y.number ≡ n → ⊥) (λ (r : ℕ). query i m.number m.to r) (e ∷ es)
           (each_from (λ (r : ℕ). m.number ≡ n → ⊥) (e ∷ es) (λ r h q. omega arith)))
 
-  -- a reply of the newest computation
+  -- where a reply of the newest computation is received, the run stays live
   pub replied : m.kind ≡ Reply → m.number ≡ n
       → Live g i n (upd F m.to lowered)
       (remove bag x
@@ -493,7 +493,7 @@ module _ (g : Graph) (i n : ℕ) (F : ℕ → Proc) (bag : List Message) (engage
         tt,
       )
 
-  -- a reply of an older computation
+  -- where a reply of an older computation is received, the run stays live
   pub replied_older : m.number < n → (F m.to).wait ≡ true → (F m.to).latest ≡ m.number → (b : Bool)
       → Live g i n (upd F m.to lowered)
       (remove bag x ++ sent i m.number m.to [] (cond b (last_action (F m.to).engager) Nothing)) engaged
@@ -528,7 +528,7 @@ module _ (g : Graph) (i n : ℕ) (F : ℕ → Proc) (bag : List Message) (engage
       old None true = tt
       old (Some e) true = (λ q. omega arith, tt)
 
--- the initiator starts
+-- where the initiator starts with a greater number, the run is live in the new computation
 pub started : (g : Graph) (i n n' : ℕ) (F : ℕ → Proc) (bag : List Message) (p : Proc) (ds : List ℕ) → IsWithinGraph g
     → i < process_count g → is_awake g i ≡ false → steps.Calm g i n F → n < n'
     → Each (Fine g i n F) bag → ((k e : ℕ) → (F k).engager ≡ Some e → e < process_count g) → ds ≡ dependents_of g i

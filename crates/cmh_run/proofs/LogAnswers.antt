@@ -31,7 +31,7 @@ first_of_first log (suc t) zero h = absurd (omega arith)
 first_of_first [] (suc t) (suc n) h = refl
 first_of_first (x ∷ log) (suc t) (suc n) h = ap (λ (xs : List Delivery). x ∷ xs) (first_of_first log t n (omega arith))
 
--- where the deliveries before one have led, it may come
+-- d may come where the first t deliveries lead from s
 record Reached (g : Graph) (i : ℕ) (log : List Delivery) (t : ℕ) (d : Delivery) (s : Going) : Type 0 where
   at : Going
   leads : DeliveriesLead any_place g i s (take t log) at
@@ -59,7 +59,7 @@ record BadAt (g : Graph) (i : ℕ) (log : List Delivery) (t : ℕ) : Type 0 wher
   comes : ComesAt g i log t delivery state
   cannot : (x : ℕ) → MayCome g state.config x delivery → ⊥
 
--- so it is after the end
+-- a delivery after the end is one that may not come
 after_end_bad : (g : Graph) (i : ℕ) (log : List Delivery) (t : ℕ) → IsAfterEnd g i log t → BadAt g i log t
 after_end_bad g i log t h =
     record {
@@ -69,18 +69,18 @@ after_end_bad g i log t h =
       cannot = λ x may. over g h.state.config x h.delivery h.ended.0 h.ended.1 may;
     }
 
--- where its message isn't undelivered
+-- a delivery whose message isn't undelivered is one that may not come
 stray_bad : (g : Graph) (i : ℕ) (log : List Delivery) (t : ℕ) → IsStray g i log t → BadAt g i log t
 stray_bad g i log t h =
     record { delivery = h.delivery; state = h.state; comes = h.comes; cannot = λ x may. h.stray (x, may.there) }
 
--- and where its hint isn't fit
+-- a delivery whose hint isn't fit is one that may not come
 misled_bad : (g : Graph) (i : ℕ) (log : List Delivery) (t : ℕ) → IsMisled g i log t → BadAt g i log t
 misled_bad g i log t h =
     record { delivery = h.delivery; state = h.state; comes = h.comes; cannot = λ x may. h.misled may.hint }
 
 module _ (g : Graph) (i : ℕ) (w : IsWellFormed g) where
-  -- the deliveries lead on to one state
+  -- from where deliveries have led, the same deliveries lead on to one state
   one_way : is_idle g i ≡ true → (log before : List Delivery) (r s u : Going) → LeadTo g i before r
       → DeliveriesLead any_place g i r log s → DeliveriesLead any_place g i r log u → s ≡ u
   one_way idle [] before r s u leads l k = sym l ∙ k
@@ -103,7 +103,7 @@ module _ (g : Graph) (i : ℕ) (w : IsWellFormed g) where
       (leads_on any_place g i before (begun g i []) r a.0 d leads a.1 refl))
       a.3 (subst (λ (x : ℕ). DeliveriesLead any_place g i (after g i r x d) log u) (sym place) b.3)
 
-  -- so they lead to one state from the start
+  -- from the start the same deliveries lead to one state
   one_state : is_idle g i ≡ true → (log : List Delivery) (s u : Going) → LeadTo g i log s → LeadTo g i log u → s ≡ u
   one_state idle log s u l k = one_way idle log [] (begun g i []) s u (begins (is_awake g i) refl) l k
     where
@@ -135,14 +135,14 @@ module _ (g : Graph) (i : ℕ) (w : IsWellFormed g) where
         cannot = a.cannot;
       })
 
-  -- so two bad deliveries are one
+  -- two deliveries of a log that may not come are one
   one_bad : (log : List Delivery) (t n : ℕ) → BadAt g i log t → BadAt g i log n → t ≡ n
   one_bad log t n a b =
       let one : t < n → ⊥ = λ h. not_before log t n a b h in
       let other : n < t → ⊥ = λ h. not_before log n t b a h in
       omega arith
 
-  -- there the state and the delivery are the same
+  -- at one place of a log there is one delivery, and one state that those before it led to
   one_there : (log : List Delivery) (t n : ℕ) (d e : Delivery) (s u : Going) → t ≡ n → ComesAt g i log t d s
       → ComesAt g i log n e u → (s ≡ u) × (d ≡ e)
   one_there log t n d e s u same a b = (
@@ -159,7 +159,7 @@ module _ (g : Graph) (i : ℕ) (w : IsWellFormed g) where
       (one_bad log t n (after_end_bad g i log t h) b) h.comes b.comes in
       going (subst (λ (u : Going). HasEnded u.config) same.0 h.ended)
 
-  -- nor is its message both undelivered and not
+  -- a delivery of no undelivered message and one with an unfit hint aren't both the first bad one of a log
   stray_not : (log : List Delivery) (t n : ℕ) → IsStray g i log t → IsMisled g i log n → ⊥
   stray_not log t n h m =
       let same =
@@ -191,7 +191,7 @@ module _ (g : Graph) (i : ℕ) (w : IsWellFormed g) where
       )
   legal_not log a Memory r h = h
 
-  -- the first fault is one
+  -- a log has one first fault at most
   one_fault : (log : List Delivery) (e f : CheckFault) → IsFirstCheckFault g i log e → IsFirstCheckFault g i log f
       → e ≡ f
   unfolding stray_bad misled_bad

@@ -50,7 +50,7 @@ kept_at n (y ∷ bag) (suc x) m h e =
     (cond b (suc (place_among n bag x)) (place_among n bag x)) ≡ Some (renumbered m))
     (λ t. kept_at n bag x m h e) (λ t. kept_at n bag x m h e)
 
--- once it is taken, the others are those without it
+-- once a message of computation n is taken, the others of that computation are those without it
 pub kept_taken : (n : ℕ) (bag : List Message) (x : ℕ) (m : Message) → slice_get bag x ≡ Some m → m.number ≡ n
     → kept n (remove bag x) ≡ remove (kept n bag) (place_among n bag x)
 kept_taken n [] x m h e = absurd (cc)
@@ -64,7 +64,7 @@ kept_taken n (y ∷ bag) (suc x) m h e =
     (cond b (suc (place_among n bag x)) (place_among n bag x)))
     (λ t. ap (λ (zs : List Message). renumbered y ∷ zs) (kept_taken n bag x m h e)) (λ t. kept_taken n bag x m h e)
 
--- a message of another computation may be taken, and they stay the same
+-- once a message of another computation is taken, those of computation n are the same
 pub kept_other : (n : ℕ) (bag : List Message) (x : ℕ) (m : Message) → slice_get bag x ≡ Some m → (m.number ≡ n → ⊥)
     → kept n (remove bag x) ≡ kept n bag
 kept_other n [] x m h e = absurd (cc)
@@ -77,25 +77,25 @@ kept_other n (y ∷ bag) (suc x) m h e =
     ≡ cond b (renumbered y ∷ kept n bag) (kept n bag))
     (λ t. ap (λ (zs : List Message). renumbered y ∷ zs) (kept_other n bag x m h e)) (λ t. kept_other n bag x m h e)
 
--- queries of computation n, as it has them
+-- the queries of computation n are, as that computation has them, those with the number 1
 kept_queries : (n i k : ℕ) (ds : List ℕ)
     → kept n (map (λ (r : ℕ). query i n k r) ds) ≡ map (λ (r : ℕ). query i 1 k r) ds
 kept_queries n i k [] = refl
 kept_queries n i k (d ∷ ds) = rw (eq-eqb n n refl, kept_queries n i k ds) refl
 
--- what is sent in computation n, as it has it
+-- what is sent in computation n is, as that computation has it, sent with the number 1
 pub kept_sent : (n i k : ℕ) (ds : List ℕ) (action : Action) → kept n (sent i n k ds action) ≡ sent i 1 k ds action
 kept_sent n i k ds Nothing = refl
 kept_sent n i k ds Engage = kept_queries n i k ds
 kept_sent n i k ds (ReplyTo to) = rw (eq-eqb n n refl) refl
 kept_sent n i k ds Declare = refl
 
--- queries of another computation are none of its messages
+-- queries of another computation are none of the messages of computation n
 kept_other_queries : (n l i k : ℕ) (ds : List ℕ) → (l ≡ n → ⊥) → kept n (map (λ (r : ℕ). query i l k r) ds) ≡ []
 kept_other_queries n l i k [] e = refl
 kept_other_queries n l i k (d ∷ ds) e = rw (ne_eqb l n e) (kept_other_queries n l i k ds e)
 
--- nor is what is sent in another computation
+-- what is sent in another computation is none of the messages of computation n
 pub kept_other_sent : (n l i k : ℕ) (ds : List ℕ) (action : Action) → (l ≡ n → ⊥) → kept n (sent i l k ds action) ≡ []
 kept_other_sent n l i k ds Nothing e = refl
 kept_other_sent n l i k ds Engage e = kept_other_queries n l i k ds e
@@ -105,7 +105,7 @@ kept_other_sent n l i k ds Declare e = refl
 -- ---- a process and a message of computation n
 
 module _ (n : ℕ) (p : Proc) (low : p.latest ≤ n) (positive : 0 < n) where
-  -- a query engages it as it does the process as computation n has it
+  -- a query engages a process just if it engages the process as computation n has it
   pub same_engages : engages (recast n p) 1 ≡ engages p n
   same_engages =
       ⊎_elim
@@ -117,14 +117,14 @@ module _ (n : ℕ) (p : Proc) (low : p.latest ≤ n) (positive : 0 < n) where
   in_it : engages p n ≡ false → p.latest ≡ n
   in_it e = let h = ltb-false p.latest n e in omega arith
 
-  -- after a query they are still the same
+  -- a query changes a process as computation n has it just as it changes the process
   pub same_queried : (from size : ℕ) → proc_queried (recast n p) 1 from size ≡ recast n (proc_queried p n from size)
   same_queried from size = rw same_engages
       (by_test (engages p n)
       (λ b. cond b (proc_engaged 1 from size) (recast n p) ≡ recast n (cond b (proc_engaged n from size) p))
       (λ e. rw (eq-eqb n n refl) refl) (λ e. refl))
 
-  -- and act alike
+  -- on a query a process as computation n has it acts just as the process does
   pub same_query_action : (from size : ℕ) → query_action (recast n p) 1 from size ≡ query_action p n from size
   same_query_action from size = rw same_engages
       (by_test (engages p n)
@@ -132,7 +132,7 @@ module _ (n : ℕ) (p : Proc) (low : p.latest ≤ n) (positive : 0 < n) where
       ≡ cond b (engage_action from size) (repeat_action p n from))
       (λ e. refl) (λ e. rw (eq-eqb p.latest n (in_it e)) refl))
 
-  -- a reply counts for both or for neither
+  -- a reply counts for a process just if it counts for the process as computation n has it
   same_counts : counts (recast n p) 1 ≡ counts p n
   same_counts =
       ⊎_elim
@@ -146,14 +146,14 @@ module _ (n : ℕ) (p : Proc) (low : p.latest ≤ n) (positive : 0 < n) where
       eqb-true p.latest n
       (and_parts (eqb p.latest n) (ltb 0 p.num) (and_parts p.wait (eqb p.latest n && ltb 0 p.num) e).1).0
 
-  -- after a reply they are still the same
+  -- a reply changes a process as computation n has it just as it changes the process
   pub same_replied : proc_replied (recast n p) 1 ≡ recast n (proc_replied p n)
   same_replied = rw same_counts
       (by_test (counts p n)
       (λ b. cond b (lowered (recast n p)) (recast n p) ≡ recast n (cond b (lowered p) p))
       (λ e. rw (eq-eqb p.latest n (counts_in e)) refl) (λ e. refl))
 
-  -- and act alike
+  -- on a reply a process as computation n has it acts just as the process does
   pub same_reply_action : reply_action (recast n p) 1 ≡ reply_action p n
   same_reply_action = rw same_counts
       (by_test (counts p n)
@@ -164,7 +164,7 @@ module _ (n : ℕ) (p : Proc) (low : p.latest ≤ n) (positive : 0 < n) where
 -- ---- a process and a message of an older computation
 
 module _ (n l : ℕ) (p : Proc) (below : l < n) where
-  -- a query of it changes nothing of the process as computation n has it
+  -- a query of an older computation changes nothing of the process as computation n has it
   pub queried_below : (from size : ℕ) → recast n (proc_queried p l from size) ≡ recast n p
   queried_below from size =
       by_test (engages p l)
@@ -173,7 +173,7 @@ module _ (n l : ℕ) (p : Proc) (below : l < n) where
       rw (ne_eqb l n (λ q. omega arith), ne_eqb p.latest n (λ q. omega arith)) refl)
       (λ e. refl)
 
-  -- nor does a reply
+  -- a reply of an older computation changes nothing of the process as computation n has it
   pub replied_below : recast n (proc_replied p l) ≡ recast n p
   replied_below =
       by_test (counts p l)

@@ -59,7 +59,7 @@ queries_are i number from (r ∷ rs) can room =
     (packed_parts Query i number from r can.initiator can.from (room 0 (omega arith)))
     ∙ ap (λ ms. query i number from r ∷ ms) (queries_are i number from rs can (λ k l. room (suc k) (omega (arith, l))))
 
--- so many words more are so many queries more
+-- with the words of a sender's queries added, there are so many queries more
 pub queries_more : (words new rs : List ℕ) (head i number from : ℕ) → CanSend i number from → HaveRoom rs
     → head ≡ head_of Query i number from → new ≡ words ++ map (λ (r : ℕ). head + r) rs
     → map message_of new ≡ map message_of words ++ map (λ (r : ℕ). query i number from r) rs
@@ -71,7 +71,7 @@ queries_more words new rs head i number from can room is more =
 
 -- ---- a word is taken
 
--- the others are left
+-- once the chosen word is taken, the messages of the other words are left
 pub taken_rest : (words left : List ℕ) (choice : ℕ) → left ≡ remove words (choice % length words)
     → map message_of left ≡ remove (map message_of words) (choice % length (map message_of words))
 taken_rest words left choice is =

@@ -24,13 +24,13 @@ in_nothing m h = absurd (cc)
 in_rest : (y : Message) (bag : List Message) (m : Message) → IsIn bag m → IsIn (y ∷ bag) m
 in_rest y bag m h = (suc h.0, h.1)
 
--- what stands in a list stands in what begins with it
+-- what stands in a list stands in each list that begins with it
 pub in_first : (xs ys : List Message) (m : Message) → IsIn xs m → IsIn (xs ++ ys) m
 in_first [] ys m h = absurd (in_nothing m h)
 in_first (x ∷ xs) ys m (zero, e) = (zero, e)
 in_first (x ∷ xs) ys m (suc k, e) = in_rest x (xs ++ ys) m (in_first xs ys m (k, e))
 
--- and in what ends with it
+-- what stands in a list stands in each list that ends with it
 pub in_last : (xs ys : List Message) (m : Message) → IsIn ys m → IsIn (xs ++ ys) m
 in_last [] ys m h = h
 in_last (x ∷ xs) ys m h = in_rest x (xs ++ ys) m (in_last xs ys m h)

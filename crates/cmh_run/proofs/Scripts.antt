@@ -47,7 +47,7 @@ pub out_of_range : (count : ℕ) (entries : List ScriptLine) (i : ℕ) (d : Scri
     → count ≤ (get_or entries i d).1 → IsOutOfRange count entries i
 out_of_range count entries i d h l = (get_or entries i d, slice_get-get_or entries i d h, l)
 
--- an entry about a lesser number isn't
+-- an entry about a number below the count isn't out of range
 pub in_range : (count : ℕ) (entries : List ScriptLine) (i : ℕ) (d : ScriptLine) → i < length entries
     → (get_or entries i d).1 < count → IsOutOfRange count entries i → ⊥
 in_range count entries i d h l o =
@@ -63,7 +63,7 @@ each_in_range count entries i d h never =
 
 -- ---- entries that aren't true
 
--- an entry that tells another verdict than the list
+-- an entry that tells another verdict than stands in the list differs from it
 pub differs : (truth : List Verdict) (entries : List ScriptLine) (i : ℕ) (d : ScriptLine) (v : Verdict)
     → i < length entries → (get_or entries i d).1 < length truth
     → get_or truth (get_or entries i d).1 v ≢ (get_or entries i d).2 → Differs truth entries i
@@ -74,7 +74,7 @@ differs truth entries i d v h l other = (
       (sym (slice_get-get_or truth (get_or entries i d).1 v l) ∙ same)),
 )
 
--- an entry that tells the verdict that stands in the list
+-- an entry that tells the verdict that stands in the list doesn't differ from it
 pub agrees : (truth : List Verdict) (entries : List ScriptLine) (i : ℕ) (d : ScriptLine) (v : Verdict)
     → i < length entries → (get_or entries i d).1 < length truth
     → get_or truth (get_or entries i d).1 v ≡ (get_or entries i d).2 → Differs truth entries i → ⊥
@@ -88,7 +88,7 @@ verdict_at g p h =
     slice_get-get_or (verdicts g) p Free (subst (λ (n : ℕ). p < n) (sym (length-by_index g (verdict g))) h)
     ∙ ap Some (by_index g (verdict g) (verdicts g) p Free refl h)
 
--- there are as many verdicts as processes
+-- the list of all verdicts is as long as the graph has processes
 pub verdict_count : (g : Graph) → length (verdicts g) ≡ process_count g
 verdict_count g = length-by_index g (verdict g)
 
@@ -145,12 +145,12 @@ all_true g entries w never none i e s =
 
 module _ (g : Graph) (truth : List Verdict) (entries : List ScriptLine) (w : IsWithinGraph g)
     (is : truth ≡ verdicts g) where
-  -- each entry is about a place of that list
+  -- entries about processes of the graph alone are about places of the list of all verdicts alone
   pub never_beyond : IsNever (IsOutOfRange (process_count g) entries) → IsNever (IsOutOfRange (length truth) entries)
   never_beyond never =
       subst (λ (n : ℕ). IsNever (IsOutOfRange n entries)) (sym (ap length is ∙ verdict_count g)) never
 
-  -- the first entry that differs from it is the first that isn't true
+  -- the first entry that differs from the list of all verdicts is the first that isn't true
   pub first_untrue : (i : ℕ) → IsNever (IsOutOfRange (process_count g) entries)
       → IsFirst (Differs truth entries) i → IsFirst (IsUntrue g entries) i
   first_untrue i never f =
@@ -158,7 +158,7 @@ module _ (g : Graph) (truth : List Verdict) (entries : List ScriptLine) (w : IsW
       (λ k h. untrue g entries k w never h) (λ k h. untrue_differs g entries k w never h)
       (subst (λ (xs : List Verdict). IsFirst (Differs xs entries) i) is f)
 
-  -- entries that agree with it are true
+  -- entries of which none differs from the list of all verdicts are true
   pub true_of : IsNever (IsOutOfRange (process_count g) entries) → IsNever (Differs truth entries)
       → AreTrueOf g entries
   true_of never none =

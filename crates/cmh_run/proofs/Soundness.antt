@@ -80,7 +80,7 @@ module _ (g : Graph) (i : ℕ) (c : Config) (ok : IsWithinGraph g)
       (λ (other : m.number ≡ c.number → ⊥). omega (arith, fine.low))
       (cases_eq m.number c.number)
 
-  -- then each process in the newest computation is deadlocked
+  -- once the initiator waits for no reply, each process in the newest computation is deadlocked
   all_deadlocked : (proc_at c.procs i).num ≡ 0 → (k : ℕ) → (proc_at c.procs k).latest ≡ c.number → IsDeadlocked g k
   all_deadlocked top k l =
       engaged_deadlocked g i c.number (proc_at c.procs) (tokens c.number c.bag) L.out L.rank L.clock L.sound top k l
@@ -91,7 +91,7 @@ module _ (g : Graph) (i : ℕ) (c : Config) (ok : IsWithinGraph g)
       at_rest_free g i c.number (proc_at c.procs) (tokens c.number c.bag) L.out L.rank L.clock L.sound
       (λ k r. rw empty refl) more
 
--- a list in which nothing stands
+-- a bag that contains no message is empty
 no_member : (bag : List Message) → ((m : Message) → Contains bag m → ⊥) → bag ≡ []
 no_member [] none = refl
 no_member (m ∷ bag) none = absurd (none m (0, omega arith, refl))
@@ -193,7 +193,7 @@ runs_are_sound rule g i restarts log ending end ok idle run =
     awake : is_awake g i ≡ true → IsRight g i restarts ending end
     awake up =
         let leads : DeliveriesLead rule g i
-            (record { config = nothing_yet g; done = 0; restarts = []; restarted = 0 }) log end =
+        (record { config = nothing_yet g; done = 0; restarts = []; restarted = 0 }) log end =
         rw up at run.leads in
         empty_run rule g i restarts log ending end up leads run.ends
 

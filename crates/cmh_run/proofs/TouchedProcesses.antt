@@ -10,7 +10,7 @@ use Rattle.cmh_run.specs.Config.{proc_at}
 use Rattle.cmh_run.specs.Procs.{AreTouched}
 use Rattle.cmh_run.proofs.Configurations.{fresh_at}
 
--- of processes that have heard of nothing, none
+-- where all processes have heard of nothing, none of them has taken part
 pub none_touched : (n : ℕ) → AreTouched [] (replicate n fresh)
 none_touched n = record { within = λ k d l. absurd (omega arith); others = λ k out. fresh_at n k }
 
@@ -25,7 +25,7 @@ one_in : (k j : ℕ) → Contains (k ∷ []) j → j ≡ k
 one_in k j (zero, l, e) = sym e
 one_in k j (suc i, l, e) = absurd (omega (arith, l))
 
--- once a process has taken part it is one of them
+-- once process k has changed and is added to those that have taken part, no other has heard of anything
 pub one_touched : (touched : List ℕ) (procs : List Proc) (k : ℕ) (p : Proc) → AreTouched touched procs
     → k < length procs → AreTouched (touched ++ k ∷ []) (slice_set procs k p)
 one_touched touched procs k p h l = record {
@@ -56,13 +56,13 @@ replied_in_vain touched procs k number h l = record {
   ];
 }
 
--- the last of them is a process
+-- the last of those that have taken part is a process
 last_within : (touched : List ℕ) (procs : List Proc) (k : ℕ) → AreTouched (touched ++ k ∷ []) procs → k < length procs
 last_within touched procs k h =
     subst (λ j. j < length procs) (get_or-append-add touched (k ∷ []) 0 0)
     (h.within (length touched + 0) 0 (omega (arith, length-append touched (k ∷ []))))
 
--- the last of them has heard of nothing again
+-- once the last of those that have taken part is fresh again, the others are all that have
 pub last_cleared : (touched : List ℕ) (procs : List Proc) (k : ℕ) → AreTouched (touched ++ k ∷ []) procs
     → AreTouched touched (slice_set procs k fresh)
 last_cleared touched procs k h = record {

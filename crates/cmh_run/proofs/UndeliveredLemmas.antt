@@ -19,7 +19,7 @@ is_eq_nat x y =
     (λ h. let l = ltb-true x y h in sym (ne_eqb x y (λ e. omega arith)))
     (λ h. by_test (eqb x y) (λ b. is_eq (cond b Equal Greater) ≡ b) (λ e. refl) (λ e. refl))
 
--- two pairs do where both parts are
+-- two pairs compare as equal where both parts are tested to be equal
 is_at_pair : (a b : ℕ × ℕ) → is_at (pair_cmp a) b ≡ (eqb a.0 b.0 && eqb a.1 b.1)
 is_at_pair a b = sym (tied_then (nat_cmp a.0 b.0) (nat_cmp a.1 b.1)) ∙ rw (is_eq_nat a.0 b.0, is_eq_nat a.1 b.1) refl
 
@@ -28,23 +28,23 @@ abbrev pub Updated : List (ℕ × ℕ) → List (ℕ × ℕ) → ℕ × ℕ → 
 Updated old new k b =
     (q : ℕ × ℕ) → list_any (is_at (pair_cmp q)) new ≡ cond (is_at (pair_cmp k) q) b (list_any (is_at (pair_cmp q)) old)
 
--- one choice or the other, by what is added
+-- true where a is, and else b, is that a or b holds
 chosen_or : (a b : Bool) → cond a true b ≡ (a || b)
 chosen_or true b = refl
 chosen_or false b = refl
 
--- or by what is taken
+-- false where a is true, and else b, is that b holds without a
 chosen_and : (a b : Bool) → cond a false b ≡ (not a && b)
 chosen_and true b = refl
 chosen_and false b = refl
 
--- in the set of the message's own kind
+-- in the changed set a message's ends are as b says where they are those of x, and else as before
 same_set : (o n : List (ℕ × ℕ)) (x m : Message) (b : Bool) → Updated o n (x.from, x.to) b
     → list_any (is_at (pair_cmp (m.from, m.to))) n
     ≡ cond (eqb x.from m.from && eqb x.to m.to) b (list_any (is_at (pair_cmp (m.from, m.to))) o)
 same_set o n x m b h = rw (← is_at_pair (x.from, x.to) (m.from, m.to)) (h (m.from, m.to))
 
--- a query was added
+-- once a query was added, those messages wait that waited before or go like it
 pub query_added : (o n r : List (ℕ × ℕ)) (x : Message) → x.kind ≡ Query → Updated o n (x.from, x.to) true
     → (m : Message)
     → is_waiting (record { queries = n; replies = r }) m
@@ -58,7 +58,7 @@ query_added o n r x is h m = rw is (by_kind m.kind)
         ∙ chosen_or (eqb x.from m.from && eqb x.to m.to) (list_any (is_at (pair_cmp (m.from, m.to))) o)
     by_kind Reply = refl
 
--- a reply was added
+-- once a reply was added, those messages wait that waited before or go like it
 pub reply_added : (o n q : List (ℕ × ℕ)) (x : Message) → x.kind ≡ Reply → Updated o n (x.from, x.to) true
     → (m : Message)
     → is_waiting (record { queries = q; replies = n }) m
@@ -72,7 +72,7 @@ reply_added o n q x is h m = rw is (by_kind m.kind)
     by_kind Reply = same_set o n x m true h
         ∙ chosen_or (eqb x.from m.from && eqb x.to m.to) (list_any (is_at (pair_cmp (m.from, m.to))) o)
 
--- a query was taken
+-- once a query was taken, those messages wait that waited before and don't go like it
 pub query_taken : (o n r : List (ℕ × ℕ)) (x : Message) → x.kind ≡ Query → Updated o n (x.from, x.to) false
     → (m : Message)
     → is_waiting (record { queries = n; replies = r }) m
@@ -86,7 +86,7 @@ query_taken o n r x is h m = rw is (by_kind m.kind)
         ∙ chosen_and (eqb x.from m.from && eqb x.to m.to) (list_any (is_at (pair_cmp (m.from, m.to))) o)
     by_kind Reply = refl
 
--- a reply was taken
+-- once a reply was taken, those messages wait that waited before and don't go like it
 pub reply_taken : (o n q : List (ℕ × ℕ)) (x : Message) → x.kind ≡ Reply → Updated o n (x.from, x.to) false
     → (m : Message)
     → is_waiting (record { queries = q; replies = n }) m
@@ -119,7 +119,7 @@ no_ends (e ∷ es) h = absurd (true≢false (sym (first_in e es) ∙ h e))
 pub no_queries : (w : Waiting) → ((m : Message) → is_waiting w m ≡ false) → length w.queries ≡ 0
 no_queries w h = ap length (no_ends w.queries (λ e. h (message Query e)))
 
--- nor replies
+-- where no message is waiting, there are no replies
 pub no_replies : (w : Waiting) → ((m : Message) → is_waiting w m ≡ false) → length w.replies ≡ 0
 no_replies w h = ap length (no_ends w.replies (λ e. h (message Reply e)))
 

@@ -12,7 +12,7 @@ unlike Deadlocked Free h = λ e. cc
 unlike Free Deadlocked h = λ e. cc
 unlike Free Free h = absurd (cc)
 
--- two verdicts that don't are equal
+-- two verdicts that don't compare as unlike are equal
 pub alike : (a b : Verdict) → false ≡ not (sameb the_type a b) → a ≡ b
 alike Deadlocked Deadlocked h = refl
 alike Deadlocked Free h = absurd (cc)

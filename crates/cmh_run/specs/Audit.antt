@@ -30,15 +30,15 @@ pub record Waiting : Type 0 where
   pub queries : List (ℕ × ℕ)
   pub replies : List (ℕ × ℕ)
 
--- a message with this kind and these ends is among them
+-- a message with this kind and these ends is among the undelivered ones
 abbrev pub is_waiting : Waiting → Message → Bool
 is_waiting w m = list_any (is_at (pair_cmp (m.from, m.to))) (of_kind m.kind w.queries w.replies)
 
--- both are queries, or both are replies
+-- both kinds are queries, or both are replies
 abbrev pub is_same_kind : Kind → Kind → Bool
 is_same_kind a b = of_kind a (of_kind b true false) (of_kind b false true)
 
--- both are queries or both are replies, from the same process to the same
+-- both messages are queries or both are replies, from the same process to the same
 abbrev pub goes_like : Message → Message → Bool
 goes_like a b = is_same_kind a.kind b.kind && (a.from == b.from && a.to == b.to)
 
@@ -78,7 +78,7 @@ pub record IsAwaited (i : ℕ) (a : Audit) (m : Message) : Type 0 where
   pub first : m.number ≡ 1
   pub waits : IsTrue (is_waiting a.undelivered m)
 
--- nothing was just sent
+-- nothing that was just sent is left in the bag of the network
 abbrev pub IsSettled : Audit → Type 0
 IsSettled a = a.network.bag ≡ []
 

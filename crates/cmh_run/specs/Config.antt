@@ -51,7 +51,7 @@ ended_by Nothing = None
 ended_by Engage = None
 ended_by (ReplyTo to) = None
 
--- none of so many processes has heard of anything
+-- the configuration in which none of so many processes has heard of anything
 abbrev pub blank : ℕ → Config
 blank count = record {
   bag = [];
@@ -61,11 +61,11 @@ blank count = record {
   ended = None;
 }
 
--- nobody has heard of anything
+-- the configuration in which nobody of the graph has heard of anything
 abbrev pub nothing_yet : Graph → Config
 nothing_yet g = blank (process_count g)
 
--- the initiator starts with its next number
+-- the configuration once the initiator starts with its next number
 abbrev pub start : Graph → ℕ → Config → Config
 start g i c =
     let p = proc_at c.procs i in
@@ -107,7 +107,7 @@ acted i c number k dependents p action = does i (becomes c k p) number k depende
 abbrev pub engaged_after : Config → ℕ → ℕ → List ℕ
 engaged_after c number k = if number == c.number then c.engaged ++ k ∷ [] else c.engaged
 
--- a query engages its receiver, which asks these
+-- the configuration once a query engages its receiver, which asks these
 abbrev pub engaged_by : ℕ → Config → Message → List ℕ → Config
 engaged_by i c m dependents =
     let p = proc_at c.procs m.to in
@@ -137,14 +137,14 @@ hinted g i c m None = engaged_by i c m (dependents_of g m.to)
 hinted g i c m (Some Deadlocked) = engaged_by i c m []
 hinted g i c m (Some Free) = cut c m.to
 
--- a query engages nobody
+-- the configuration after a query that engages nobody
 abbrev pub answered : ℕ → Config → Message → Config
 answered i c m =
     let p = proc_at c.procs m.to in
     let next = proc_queried p m.number m.from 0 in
     acted i c m.number m.to [] next (query_action p m.number m.from 0)
 
--- once the receiver has got a reply
+-- the configuration once the receiver has got a reply
 abbrev pub replied : ℕ → Config → Message → Config
 replied i c m =
     let p = proc_at c.procs m.to in
@@ -156,7 +156,7 @@ received g i c m Query hint =
     if engages (proc_at c.procs m.to) m.number then hinted g i c m hint else answered i c m
 received g i c m Reply hint = replied i c m
 
--- the message at place x is taken
+-- the configuration once the message at place x is taken
 abbrev pub without : Config → ℕ → Config
 without c x = record {
   bag = remove c.bag x;

@@ -27,7 +27,7 @@ pub record AreEngaged (g : Graph) (i : ℕ) (ending : Ending) (engaged : List �
   pub deadlocked : ending ≡ Declared → (k : ℕ) → Contains engaged k → IsDeadlocked g k
   pub cut : (k : ℕ) → ending ≡ CutFree k → IsCutAt g i k engaged
 
--- the engaged of every legal run are those
+-- whenever a legal run of an idle process has ended, those are engaged who should be
 abbrev pub WhoEngages : Type 0
 WhoEngages =
     (rule : Rule) (g : Graph) (i : ℕ) (restarts : List ℕ)

@@ -38,17 +38,17 @@ restart g i s rest = record {
   restarted = s.restarted + 1;
 }
 
--- once the first of these restarts has come, if the run goes on and it is due now
+-- the run once the first of these restarts has come, if the run goes on and it is due now
 abbrev pub restarted_at : Graph → ℕ → Going → List ℕ → Going
 restarted_at g i s [] = s
 restarted_at g i s (n ∷ rest) =
     if is_none s.config.ended && n == s.done then restart g i s rest else s
 
--- once the restart that is due now has come, if one is
+-- the run once the restart that is due now has come, if one is
 abbrev pub ready : Graph → ℕ → Going → Going
 ready g i s = restarted_at g i s s.restarts
 
--- once the message at place x of the bag is delivered
+-- the run once the message at place x of the bag is delivered
 abbrev pub after : Graph → ℕ → Going → ℕ → Delivery → Going
 after g i s x d = record {
   config = delivered g i s.config x d.message d.hint;

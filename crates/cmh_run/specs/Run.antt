@@ -84,7 +84,7 @@ pub record Run : Type 0 where
   pub engaged : List ℕ
   pub restarted : ℕ
 
--- it is a legal run that followed the choices, with these restarts
+-- the run is legal, followed the choices, and started again as these restarts say
 pub record IsRunOf (g : Graph) (choices restarts : List ℕ) (r : Run) : Type 0 where
   pub end : Going
   pub legal : IsRun (chosen_place choices) g r.initiator restarts r.log r.ending end

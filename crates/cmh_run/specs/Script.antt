@@ -53,7 +53,7 @@ abbrev pub Differs : List Verdict → List ScriptLine → ℕ → Type 0
 Differs truth entries k =
     (e : ScriptLine) × (slice_get entries k ≡ Some e) × (slice_get truth e.1 ≢ Some e.2)
 
--- it holds of no place
+-- what is said of places holds of none
 abbrev pub IsNever : (ℕ → Type 0) → Type 0
 IsNever Holds = (k : ℕ) → Holds k → ⊥
 

@@ -17,7 +17,7 @@ use Rattle.cmh_rw.proofs.Lawful.{total-in}
 use Rattle.cmh_rw.proofs.LoadSteps.{history-true, history-few, history-row}
 use Rattle.cmh_rw.proofs.Lock.{alone}
 
--- each view has a share or is spent, and a spent one has added nothing
+-- the view has a share or is spent, and where it is spent it has added nothing
 abbrev Shares : Graph → View → Type 0
 Shares key v = HasLockShare key v.lock × (v.lock.state ≡ Spent → v.mine ≡ [])
 
@@ -69,7 +69,7 @@ adds_all key s b id v at whole h = let few = b.lock.shares in
     (λ i u e. (b.lock.each i u.lock (at_map lock_of s.views i u e), (b.each i u e).gone)) at (omega arith))
     ∙ b.owners h
 
--- and nobody holds the lock
+-- where a seat that is away has the whole share, nobody holds the lock
 nobody_holds : (key : Graph) (s : Moment) (b : WordsRule key s) (id : ℕ) (v : View) → get_elem? s.views id ≡ some v
     → v.lock.state ≡ Away → v.lock.share ≡ MAX_SEATS
     → total writes (map state_of (map lock_of s.views)) + total reads (map state_of (map lock_of s.views)) +
@@ -78,7 +78,7 @@ nobody_holds key s b id v at away whole = let few = b.lock.shares in
     alone key (map lock_of s.views) id v.lock b.lock.each (at_map lock_of s.views id v at) (omega arith)
     ∙ ap (λ a. writes a + reads a + retreats a) away
 
--- so the words are the history and no more
+-- where a seat that is away has the whole share, the words are the history and no more
 whole_words : (key : Graph) (s : Moment) (b : WordsRule key s) (id : ℕ) (v : View) → get_elem? s.views id ≡ some v
     → v.lock.state ≡ Away → v.lock.share ≡ MAX_SEATS → IsWhole v b.postings s.words
 whole_words key s b id v at away whole =
@@ -109,7 +109,7 @@ shows key s b id v at away = record {
   with_each_share = whole_words key s b id v at away;
 }
 
--- the same of the words at the end
+-- what the words at the end show to a seat that is away
 pub closed_shows : (key : Graph) (s : Moment) (words : List ℕ) (b : WordsRule key s) (id : ℕ) (v : View)
     → get_elem? s.views id ≡ some v → v.lock.state ≡ Away → s.words ≡ words → ClosedHistory key v words
 closed_shows key s words b id v at away is = subst (ClosedHistory key v) is (shows key s b id v at away)

@@ -6,7 +6,7 @@ use Rattle.cmh_rw.specs.declared.TheConstants.{FIRST_VERDICT}
 use Rattle.cmh_rw.specs.History.{bit, free_bit, verdict_code, verdict_from_code, RowCodeLaw}
 use Rattle.cmh_rw.specs.View.{mark}
 
--- the three parts of a code
+-- the three parts of a row's word can be told from it
 parts : (p a b : ℕ) → a ≤ 1 → b ≤ 1
     → ((4 * p + 2 * a + b) / 4 ≡ p) × ((4 * p + 2 * a + b) / 2 % 2 ≡ a) × ((4 * p + 2 * a + b) % 2 ≡ b)
 parts p a b ha hb = (omega arith, omega arith, omega arith)
@@ -16,7 +16,7 @@ pub bit-small : (b : Bool) → bit b ≤ 1
 bit-small true = omega arith
 bit-small false = omega arith
 
--- so is a verdict's
+-- the number of a verdict is at most 1
 pub free_bit-small : (v : Verdict) → free_bit v ≤ 1
 free_bit-small Deadlocked = omega arith
 free_bit-small Free = omega arith
@@ -26,7 +26,7 @@ eqb-bit : (b : Bool) → eqb (bit b) 1 ≡ b
 eqb-bit true = refl
 eqb-bit false = refl
 
--- the verdict of a row's last part
+-- a verdict can be told from its number
 free-verdict : (v : Verdict) → cond (eqb (free_bit v) 1) Free Deadlocked ≡ v
 free-verdict Deadlocked = refl
 free-verdict Free = refl
@@ -51,14 +51,14 @@ pub mark_of : (p : ℕ) (v : Verdict)
     → mark (FIRST_VERDICT + p - FIRST_VERDICT) (verdict_from_code (verdict_code (Some v))) ≡ mark p v
 mark_of p v = let e : FIRST_VERDICT + p - FIRST_VERDICT ≡ p = omega arith in λ k. mark (e k) (verdict_of-code v k)
 
--- the last of a list that one more ends
+-- with one more put behind a list, it stands at the list's end
 pub get-seam : (l : List ℕ) (a n : ℕ) → n ≡ length l → get_or (l ++ a ∷ []) n 0 ≡ a
 get-seam [] a zero e = refl
 get-seam [] a (suc n) e = absurd (omega arith)
 get-seam (x ∷ xs) a zero e = absurd (omega arith)
 get-seam (x ∷ xs) a (suc n) e = get-seam xs a n (omega arith)
 
--- the others are as before
+-- with one more put behind a list, all other places are as before
 pub get-else : (l : List ℕ) (a n : ℕ) → n ≢ length l → get_or (l ++ a ∷ []) n 0 ≡ get_or l n 0
 get-else [] a zero e = absurd (e refl)
 get-else [] a (suc n) e = refl

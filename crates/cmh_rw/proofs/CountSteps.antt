@@ -17,7 +17,7 @@ use Rattle.cmh_rw.proofs.Lawful.{total-set, total-append}
 use Rattle.cmh_rw.proofs.Moments.{writes-Writing, beside_writer, lock_beside}
 use Rattle.cmh_rw.proofs.Postings.{laid-snoc, whole-snoc, seen-grows, posting_from, ends-some}
 
--- a writer stores the count
+-- where a writer stores the count, the rule is kept, and its staged rows are the next posting
 pub counts_in : (key : Graph) (slots id n : ℕ) (me : TableSeat) → me.0.lock.state ≡ Writing → EndsLast me.0.staged
     → AreTold me.0.staged me.0.told
     → n ≡ length me.0.seen + length me.0.staged

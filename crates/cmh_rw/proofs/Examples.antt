@@ -34,7 +34,7 @@ rows_of_codes : map row_of (0 ∷ 6 ∷ 16383 ∷ [])
     ≡ row 0 Deadlocked false ∷ row 1 Deadlocked true ∷ row 4095 Free true ∷ []
 rows_of_codes = refl
 
--- no verdict, deadlocked, free
+-- no verdict is stored as 0, deadlocked as 1, and free as 2
 verdict_codes : map verdict_code (None ∷ Some Deadlocked ∷ Some Free ∷ []) ≡ 0 ∷ 1 ∷ 2 ∷ []
 verdict_codes = refl
 
@@ -45,7 +45,7 @@ abbrev idle : List ℕ → ℕ → List ℕ → Process
 idle name site dependents =
     record { name = name; site = site; state = Idle; dependents = dependents }
 
--- the graph
+-- the graph of p and q, which wait for each other, and r, which waits for p
 abbrev cycle_and_follower : Graph
 cycle_and_follower = record {
   processes = idle (codes "p") 0 (1 ∷ []) ∷ idle (codes "q") 0 (0 ∷ []) ∷ idle (codes "r") 1 (0 ∷ []) ∷ [];
@@ -56,18 +56,18 @@ cycle_and_follower = record {
 abbrev postings : List (List Row)
 postings = (row 0 Deadlocked false ∷ row 1 Deadlocked true ∷ []) ∷ (row 2 Deadlocked true ∷ []) ∷ []
 
--- the row words
+-- the words of the rows of both postings
 codes_of_postings : map row_code (laid postings) ≡ 0 ∷ 6 ∷ 10 ∷ []
 codes_of_postings = refl
 
--- both are postings
+-- the rows of p and q are a posting, and the row of r is one
 are_postings : ArePostings postings
 are_postings = (
   (row 0 Deadlocked false ∷ [], row 1 Deadlocked true, refl, (refl, tt), refl),
   (([], row 2 Deadlocked true, refl, tt, refl), tt),
 )
 
--- and all rows are true
+-- the rows of p, q and r are true for the graph
 true_postings : IsTrueOf cycle_and_follower (laid postings)
 unfolding reaches is_deadlocked
 true_postings = (refl, refl, refl, (refl, refl, refl, (refl, refl, refl, tt)))
@@ -83,12 +83,12 @@ false_row : IsTrueOf cycle_and_follower (row 2 Free true ∷ []) → ⊥
 unfolding reaches is_deadlocked
 false_row h = let e = h.1 in cc
 
--- nor is one that stands twice
+-- rows in which the row of r stands twice aren't true
 repeated_row : IsTrueOf cycle_and_follower (row 2 Deadlocked true ∷ row 2 Deadlocked true ∷ []) → ⊥
 unfolding reaches is_deadlocked
 repeated_row h = let e = h.2 in cc
 
--- q is deadlocked
+-- the rows of p, q and r say that q is deadlocked
 says_of_q : fold_at (laid postings) 1 ≡ Some Deadlocked
 says_of_q = refl
 
@@ -96,7 +96,7 @@ says_of_q = refl
 says_of_nobody : fold_at (laid postings) 3 ≡ None
 says_of_nobody = refl
 
--- a writer stages p and q, and counts them
+-- a writer that has staged the rows of p and q and counted them has seen both
 posting_p_and_q :
     (posted
     (with_row (with_row (opening_view cycle_and_follower) (row 0 Deadlocked false)) (row 1 Deadlocked true))).seen
@@ -111,11 +111,11 @@ longer_of_two = refl
 -- ---- events on a lock with two seats: a writer has to wait for a reader, and the reader, who comes
 -- again, retreats from the writer
 
--- the events
+-- seat 0 comes, seat 1 tries to write, seat 0 leaves, seat 1 tries again, and seat 0 comes again
 abbrev lock_events : List Event
 lock_events = Admit 0 ∷ TryWrite 1 ∷ Leave 0 ∷ TryWrite 1 ∷ Admit 0 ∷ []
 
--- the first retreats, the second writes
+-- after the events seat 0 retreats and seat 1 writes
 after_lock_events : run_from (new_world 2) lock_events ≡ world 4294967297 (Retreating ∷ Writing ∷ [])
 after_lock_events = refl
 

@@ -11,11 +11,11 @@ use Rattle.cmh_graph.proofs.Verdicts.{idle_within}
 use Rattle.cmh_rw.specs.declared.row.Row.{Row}
 use Rattle.cmh_rw.specs.History.{fold_at, IsTrueOf, AreTold}
 
--- a row says something
+-- to say a verdict isn't to say nothing
 some_none : (v : Verdict) → Some v ≡ None → ⊥
 some_none v e = cc
 
--- cases of a fold: a row in front hides nothing that isn't there
+-- where rest n says nothing if rest m does, and a row before m says nothing, it says nothing before n
 cond-none : (b : Bool) (v : Verdict) (m n : Option Verdict) → (m ≡ None → n ≡ None) → cond b (Some v) m ≡ None
     → cond b (Some v) n ≡ None
 cond-none true v m n h e = e
@@ -33,13 +33,13 @@ cond-none_right : (b : Bool) (v : Verdict) (m n : Option Verdict) → (m ≡ Non
 cond-none_right true v m n h e = absurd (some_none v e)
 cond-none_right false v m n h e = h e
 
--- and an end that says nothing of it
+-- rows that say nothing of a process have an end that says nothing of it
 fold-right : (xs ys : List Row) (p : ℕ) → fold_at (xs ++ ys) p ≡ None → fold_at ys p ≡ None
 fold-right [] ys p e = e
 fold-right (x ∷ xs) ys p e =
     cond-none_right (eqb x.process p) x.verdict (fold_at (xs ++ ys) p) (fold_at ys p) (fold-right xs ys p) e
 
--- a row in front that says nothing is passed over
+-- where rest n says k if rest m says nothing, and a row before m says nothing, the row before n says k
 cond-skip : (b : Bool) (v : Verdict) (m n k : Option Verdict) → (m ≡ None → n ≡ k) → cond b (Some v) m ≡ None
     → cond b (Some v) n ≡ k
 cond-skip true v m n k h e = absurd (some_none v e)
@@ -56,7 +56,7 @@ pub fold-else : (xs : List Row) (r : Row) (p : ℕ) → eqb r.process p ≡ fals
 fold-else [] r p n = ap (λ b. cond b (Some r.verdict) None) n
 fold-else (x ∷ xs) r p n = ap (λ m. cond (eqb x.process p) (Some x.verdict) m) (fold-else xs r p n)
 
--- a row in front keeps what is said
+-- where rest m says nothing or n says the same, it is so with a row before both
 cond-keeps : (b : Bool) (v m n : Option Verdict) → ((m ≡ None) ⊎ (n ≡ m))
     → (cond b v m ≡ None) ⊎ (cond b v n ≡ cond b v m)
 cond-keeps true v m n h = inr refl
@@ -68,13 +68,13 @@ fold-keeps [] ys p = inl refl
 fold-keeps (x ∷ xs) ys p =
     cond-keeps (eqb x.process p) (Some x.verdict) (fold_at xs p) (fold_at (xs ++ ys) p) (fold-keeps xs ys p)
 
--- behind the same rows, rows that say the same of a process
+-- rows that say the same of a process say the same of it behind other rows
 pub fold-same : (xs ys zs : List Row) (p : ℕ) → fold_at ys p ≡ fold_at zs p
     → fold_at (xs ++ ys) p ≡ fold_at (xs ++ zs) p
 fold-same [] ys zs p e = e
 fold-same (r ∷ rs) ys zs p e = ap (λ n. cond (eqb r.process p) (Some r.verdict) n) (fold-same rs ys zs p e)
 
--- a row says what it says of its process
+-- a single row says its own verdict of its process
 fold-one : (r : Row) → fold_at (r ∷ []) r.process ≡ Some r.verdict
 fold-one r = ap (λ b. cond b (Some r.verdict) None) (eq-eqb r.process r.process refl)
 
@@ -97,7 +97,7 @@ cond-false_none : (b : Bool) (v : Verdict) (n : Option Verdict) → cond b (Some
 cond-false_none true v n e = absurd (some_none v e)
 cond-false_none false v n e = (refl, e)
 
--- one more true row
+-- true rows stay true with a row behind them of an idle process that has no row, with its verdict
 pub true-snoc : (g : Graph) (xs : List Row) (r : Row) → IsTrueOf g xs → is_idle g r.process ≡ true
     → r.verdict ≡ verdict g r.process → fold_at xs r.process ≡ None → IsTrueOf g (xs ++ r ∷ [])
 true-snoc g [] r h idle says new = (idle, says, refl, tt)
@@ -131,12 +131,12 @@ true-idle g (x ∷ xs) p v h e = ⊎_elim
     (λ later. true-idle g xs p v h.3 later)
     (cond-says (eqb x.process p) x.verdict v (fold_at xs p) e)
 
--- what rows say of behind others they say
+-- true rows have true ends
 pub true-right : (g : Graph) (xs ys : List Row) → IsTrueOf g (xs ++ ys) → IsTrueOf g ys
 true-right g [] ys h = h
 true-right g (x ∷ xs) ys h = true-right g xs ys h.3
 
--- the processes of rows that say nothing of this one
+-- the processes of rows that say nothing of p are other than p
 none_apart : (p : ℕ) (xs : List Row) → fold_at xs p ≡ None
     → AllByRecursion (λ q. eqb p q ≡ false) (map (λ (r : Row). r.process) xs)
 none_apart p [] e = tt
@@ -149,12 +149,12 @@ unfolding IsDistinct
 true-distinct g [] h = tt
 true-distinct g (x ∷ xs) h = (none_apart x.process xs h.2, true-distinct g xs h.3)
 
--- where one of two tests holds
+-- where one of two tests holds, the first does or the second
 pub or_cases : (a b : Bool) → (a || b) ≡ true → (a ≡ true) ⊎ (b ≡ true)
 or_cases true b e = inl refl
 or_cases false b e = inr e
 
--- and processes of the graph
+-- true rows name processes of the graph alone
 true-within : (g : Graph) (xs : List Row) → IsTrueOf g xs → (q : ℕ)
     → list_any (eqb q) (map (λ (r : Row). r.process) xs) ≡ true → q < process_count g
 true-within g [] h q e = absurd (cc)
@@ -163,7 +163,7 @@ true-within g (x ∷ xs) h q e = ⊎_elim
     (λ later. true-within g xs h.3 q later)
     (or_cases (eqb q x.process) (list_any (eqb q) (map (λ (r : Row). r.process) xs)) e)
 
--- so there are no more of them than processes
+-- there are no more true rows than processes
 pub true-few : (g : Graph) (xs : List Row) → IsTrueOf g xs → length xs ≤ process_count g
 true-few g xs h =
     subst (λ n. n ≤ process_count g) (length-map xs (λ (r : Row). r.process))
@@ -179,7 +179,7 @@ told-all staged told each all p = ⊎_elim (λ none. by_staged (fold_at staged p
     by_staged None e none = none ∙ sym e
     by_staged (Some v) e none = all p v e ∙ sym e
 
--- what is told once one more verdict is
+-- once the verdict of a staged row is told, what is told says it of the row's process
 pub told-now : (told staged : List Row) (r : Row) → fold_at staged r.process ≡ Some r.verdict
     → (fold_at told r.process ≡ None) ⊎ (fold_at told r.process ≡ fold_at staged r.process)
     → fold_at (told ++ r ∷ []) r.process ≡ Some r.verdict

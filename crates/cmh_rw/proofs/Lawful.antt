@@ -11,7 +11,7 @@ use Rattle.cmh_rw.specs.declared.machine.Event.{Event}
 use Rattle.cmh_rw.specs.declared.machine.Event.TheVariants.{Admit, Leave, TryWrite, EndWrite}
 use Rattle.cmh_rw.specs.Machine.{World, world, total, writes, reads, retreats, IsBadCount, IsLawful, IsLock, StepLaw, turn, seat_of, step_of, run_from, new_world}
 
--- a sum over a list in which one item changes
+-- a sum over a list changes by as much as the one item that changes
 pub total-set : {A : Type 0} (f : A → ℕ) (l : List A) (i : ℕ) (a b : A) → get_elem? l i ≡ some a
     → total f (set l i b) + f a ≡ total f l + f b
 total-set f [] i a b e = absurd (some-ne-none a (sym e))
@@ -46,13 +46,13 @@ pub total-snoc : {A : Type 0} (f : A → ℕ) (l : List A) (a : A) → total f (
 total-snoc f [] a = omega arith
 total-snoc f (x ∷ xs) a = omega (arith, total-snoc f xs a)
 
--- an item counts in the sum
+-- an item of a list counts no more than the sum over the list
 pub total-in : {A : Type 0} (f : A → ℕ) (l : List A) (i : ℕ) (a : A) → get_elem? l i ≡ some a → f a ≤ total f l
 total-in f [] i a e = absurd (some-ne-none a (sym e))
 total-in f (x ∷ xs) zero a e = let is : f x ≡ f a = ap f (some-injective x a e) in omega arith
 total-in f (x ∷ xs) (suc i) a e = let r = total-in f xs i a e in omega arith
 
--- a seat that stays changes nothing
+-- a lawful world stays lawful where a seat is set to the state that it has
 unmoved : (word : ℕ) (l : List SeatState) (i : ℕ) (a : SeatState) → get_elem? l i ≡ some a → IsLawful (world word l)
     → IsLawful (world word (set l i a))
 unmoved word l i a at h = subst (λ (m : List SeatState). IsLawful (world word m)) (sym (set_again l i a at)) h
@@ -99,12 +99,12 @@ few_hold (Reading ∷ xs) = omega (arith, few_hold xs)
 few_hold (Writing ∷ xs) = omega (arith, few_hold xs)
 few_hold (Spent ∷ xs) = omega (arith, few_hold xs)
 
--- so a lock word is far from the end of its range
+-- the word of a lock is far from the end of its range
 pub lock_word-small : (w : World) → IsLock w → w.word < 8589934592
 lock_word-small w h =
     let k = h.lawful.word in let o = h.lawful.one_writer in let f = few_hold w.seats in let n = h.few in omega arith
 
--- the same of a lock
+-- an event of one seat keeps a lock a lock
 pub lock-turn : (e : Event) (word i : ℕ) (l : List SeatState) (a : SeatState) → get_elem? l i ≡ some a
     → IsLock (world word l) → IsLock (world (turn e word a).0 (set l i (turn e word a).1))
 lock-turn e word i l a at h =
@@ -113,19 +113,19 @@ lock-turn e word i l a at h =
       few = subst (λ (n : ℕ). n ≤ 64) (sym (length-set l i (turn e word a).1)) h.few;
     }
 
--- an item at a place
+-- at a place within a list stands the item that is got there
 at_get : {A : Type 0} (l : List A) (i : ℕ) (d : A) → i < length l → get_elem? l i ≡ some (get_or l i d)
 at_get [] i d h = absurd (omega arith)
 at_get (x ∷ xs) zero d h = refl
 at_get (x ∷ xs) (suc i) d h = at_get xs i d (omega arith)
 
--- an event on no seat
+-- past the end of the seats a spent one is got
 past : (l : List SeatState) (n : ℕ) → length l ≤ n → get_or l n Spent ≡ Spent
 past [] n h = refl
 past (x ∷ xs) zero h = absurd (omega arith)
 past (x ∷ xs) (suc n) h = past xs n (omega arith)
 
--- a change at no place
+-- a change past the end of a list changes nothing
 set-past : (l : List SeatState) (n : ℕ) (b : SeatState) → length l ≤ n → set l n b ≡ l
 set-past [] n b h = refl
 set-past (x ∷ xs) zero b h = absurd (omega arith)
@@ -164,7 +164,7 @@ step-lawful w e h =
           (sym (length-set w.seats (seat_of e) (turn e w.word (get_or w.seats (seat_of e) Spent)).1)) h.few;
     }
 
--- all away
+-- a sum over seats that are all away is 0, where each of them counts 0
 away-none : (f : SeatState → ℕ) (n : ℕ) → f Away ≡ 0 → total f (replicate n Away) ≡ 0
 away-none f zero z = refl
 away-none f (suc n) z = omega (arith, away-none f n z)
@@ -178,11 +178,11 @@ new-lawful n le =
       few = subst (λ (k : ℕ). k ≤ 64) (sym (length-replicate n Away)) le;
     }
 
--- a number of seats that isn't bad
+-- a number of seats that isn't bad is at most 64
 pub few_enough : (n : ℕ) → ¬ IsBadCount n → n ≤ 64
 few_enough n good = elim (cases_lt 64 n) as (λ d. n ≤ 64) [ inl more ↦ absurd (good (inr more)) | inr few ↦ few ]
 
--- one more event
+-- one more event goes on from where the events before it led
 pub run-snoc : (w : World) (es : List Event) (e : Event) → run_from w (es ++ e ∷ []) ≡ step_of (run_from w es) e
 run-snoc w [] e = refl
 run-snoc w (x ∷ xs) e = run-snoc (step_of w x) xs e

@@ -16,11 +16,11 @@ use Rattle.cmh_rw.proofs.Folds.{true-left, true-few}
 use Rattle.cmh_rw.proofs.Postings.{seen-prefix, all-seen}
 use Rattle.cmh_rw.proofs.Moments.{held_graph, own_rows, reviewed}
 
--- the rows of the history, and there is room for all of them
+-- the rows of the history are true for the graph
 pub history-true : (key : Graph) (s : Moment) (b : WordsRule key s) → IsTrueOf key (laid b.postings)
 history-true key s b = true-left key (laid b.postings) b.staged b.true_of
 
--- so there are no more of them than processes
+-- there are no more rows of the history than the words have room for
 pub history-few : (key : Graph) (s : Moment) (b : WordsRule key s) → length (laid b.postings) ≤ MAX_PROCESSES
 history-few key s b =
     let few = true-few key (laid b.postings) (history-true key s b) in let small = b.small in omega arith

@@ -34,7 +34,7 @@ holds_one key v h = let P : SeatState → Type 0 = λ s. HasShare key v.graph v.
       | Spent ↦ λ h. omega arith
     ] h
 
--- so readers and retreaters are no more than the shares
+-- readers and retreaters together are no more than the shares of all seats
 holders : (key : Graph) (views : List LockView)
     → ((i : ℕ) (v : LockView) → get_elem? views i ≡ some v → HasLockShare key v)
     → total reads (map state_of views) + total retreats (map state_of views) ≤ total share_of views
@@ -51,7 +51,7 @@ word-small key s h =
     let n = h.shares in
     omega arith
 
--- whoever is held counts in the word
+-- what a seat's state counts is no more than the lock word
 pub counts : (key : Graph) (s : LockMoment) (id : ℕ) (v : LockView) → LockRule key s → get_elem? s.views id ≡ some v
     → 4294967296 * writes v.state + reads v.state + retreats v.state ≤ get_or s.words 0 0
 counts key s id v h at = let k = h.lock.word in let e = at_map state_of s.views id v at in
@@ -60,7 +60,7 @@ counts key s id v h at = let k = h.lock.word in let e = at_map state_of s.views 
     let c = total-in retreats (map state_of s.views) id v.state e in
     omega arith
 
--- a step on word 0 that is an event of this seat, and changes neither its share nor its graph
+-- an event of this seat on word 0 that leaves its share and its graph keeps the lock's part of the rule
 placed : (key : Graph) (e : Event) (s : LockMoment) (n id : ℕ) (me : LockSeat) (w : LockView) → LockRule key s
     → get_elem? s.views id ≡ some me.0
     → n ≡ (turn e (get_or s.words 0 0) me.0.state).0 → w.state ≡ (turn e (get_or s.words 0 0) me.0.state).1
@@ -106,16 +106,16 @@ has_same key v b h here there = let Q : Type 0 = (0 < v.share) × (v.graph ≡ k
       | Spent ↦ λ n. absurd (n refl)
     ] there
 
--- a seat that is away is not spent
+-- a seat whose state is one that isn't spent isn't spent
 not_spent : (a b : SeatState) → a ≡ b → b ≢ Spent → a ≢ Spent
 not_spent a b is n e = n (sym is ∙ e)
 
--- neither of two states is a spent one
+-- of two states that aren't spent, neither choice is a spent one
 cond-not_spent : (b : Bool) (x y : SeatState) → x ≢ Spent → y ≢ Spent → cond b x y ≢ Spent
 cond-not_spent true x y p q = p
 cond-not_spent false x y p q = q
 
--- the rule after the step, with the view that the step tells: what a rule over more of a view stands on
+-- where a seat that is away counts itself in, the lock's part of the rule is kept
 pub enter_kept : (key : Graph) (s : LockMoment) (id : ℕ) (me : LockSeat) → me.0.state ≡ Away → LockRule key s
     → get_elem? s.views id ≡ some me.0
     → LockRule key
@@ -144,7 +144,7 @@ leave_turn word Spent is = absurd (omega arith)
 in-not_spent : (a : SeatState) → reads a + retreats a ≡ 1 → a ≢ Spent
 in-not_spent a is e = let z : reads a + retreats a ≡ 0 = ap (λ b. reads b + retreats b) e in absurd (omega arith)
 
--- a reader leaves, or a seat retreats
+-- where a reader leaves or a seat retreats, the lock's part of the rule is kept
 pub leave_kept : (key : Graph) (s : LockMoment) (id : ℕ) (me : LockSeat) → reads me.0.state + retreats me.0.state ≡ 1
     → LockRule key s → get_elem? s.views id ≡ some me.0
     → LockRule key
@@ -157,7 +157,7 @@ leave_kept key s id me inside h at =
     placed key (Leave 0) s ((x + 18446744073709551615) % 18446744073709551616) id me (away me.0) h at n
     (sym (ap (λ p. p.1) t)) refl (has_same key me.0 Away (h.each id me.0 at) (in-not_spent me.0.state inside) (λ e. cc))
 
--- a writer ends its hold
+-- where a writer ends its hold, the lock's part of the rule is kept
 pub end_kept : (key : Graph) (s : LockMoment) (id : ℕ) (me : LockSeat) → me.0.state ≡ Writing → LockRule key s
     → get_elem? s.views id ≡ some me.0
     → LockRule key
@@ -176,7 +176,7 @@ end_kept key s id me writing h at =
 abbrev tried : Bool → ℕ → ℕ × SeatState
 tried b x = cond b (4294967296, Writing) (x, Away)
 
--- the word after a try to write
+-- the word after a try to write is the word that the try makes
 either_cond : (b : Bool) (x : ℕ) → either b 4294967296 x ≡ (tried b x).0
 either_cond true x = refl
 either_cond false x = refl
@@ -186,7 +186,7 @@ pair-not_spent : (b : Bool) (x : ℕ) → (tried b x).1 ≢ Spent
 pair-not_spent true x = λ e. cc
 pair-not_spent false x = λ e. cc
 
--- a seat becomes the writer where the word is 0
+-- where a seat that is away tries to become the writer, the lock's part of the rule is kept
 pub take_kept : (key : Graph) (s : LockMoment) (id : ℕ) (me : LockSeat) → me.0.state ≡ Away → LockRule key s
     → get_elem? s.views id ≡ some me.0
     → LockRule key
@@ -201,7 +201,7 @@ take_kept key s id me away h at = let x = get_or s.words 0 0 in let w = after_tr
     placed key (TryWrite 0) s (either (eqb x 0) 4294967296 x) id me w h at n refl refl
     (has_same key me.0 w.state (h.each id me.0 at) (not_spent me.0.state Away away (λ e. cc)) there)
 
--- a seat that is away comes, or goes on with another view
+-- a lawful world stays lawful with one more seat that is away
 lawful-snoc : (word : ℕ) (l : List SeatState) → IsLawful (world word l) → IsLawful (world word (l ++ Away ∷ []))
 lawful-snoc word l h =
     let w = total-snoc writes l Away in
@@ -225,11 +225,11 @@ quiet word l i a b at away light h =
 has_share : (key : Graph) (v : LockView) → HasLockShare key v → v.state ≡ Away → (0 < v.share) × (v.graph ≡ key)
 has_share key v h away = subst (λ s. HasShare key v.graph v.share s) away h
 
--- and is known by it
+-- a view that is away, with a share and the graph of the table, is as the rule of shares asks
 has_from : (key : Graph) (v : LockView) → v.state ≡ Away → (0 < v.share) × (v.graph ≡ key) → HasLockShare key v
 has_from key v away h = subst (λ s. HasShare key v.graph v.share s) (sym away) h
 
--- a seat that is away is split
+-- where a seat that is away is split, the lock's part of the rule is kept
 pub split_kept : (key : Graph) (id : ℕ) (v : LockView) → v.state ≡ Away → 1 < v.share
     → Splits (LockRule key) id v (less_share v) (new_lock v)
 split_kept key id v away more s h at =
@@ -256,7 +256,7 @@ split_kept key id v away more s h at =
           (at_snoc (set s.views id (less_share v)) (new_lock v) u i g);
     }
 
--- a seat that is away is joined into another
+-- where a seat that is away is joined into another that is, the lock's part of the rule is kept
 pub join_kept : (key : Graph) (id : ℕ) (v : LockView) (other : ℕ) (w : LockView) → v.state ≡ Away → w.state ≡ Away
     → Joins (LockRule key) id v other w (both_shares v w) spent_lock
 join_kept key id v other w away away' s h at apart there = let mid = set s.views id (both_shares v w) in
@@ -285,7 +285,7 @@ join_kept key id v other w away away' s h at apart there = let mid = set s.views
           (at_set mid other i spent_lock u g);
     }
 
--- a seat with each share is the only one that is not spent
+-- a view without a share neither writes nor reads nor retreats
 spent_one : (key : Graph) (v : LockView) → HasLockShare key v → v.share ≡ 0
     → writes v.state + reads v.state + retreats v.state ≡ 0
 spent_one key v h z =

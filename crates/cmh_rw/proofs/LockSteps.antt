@@ -28,7 +28,7 @@ use Rattle.cmh_rw.proofs.Moments.{away_writing, away_spent, no_true, not_held, i
 abbrev lock_me : TableSeat → Me (Unit {0}) LockView
 lock_me me = (me.0.lock, me.1)
 
--- a step on word 0 that keeps the lock's part
+-- a step on word 0 that keeps the lock's part of the rule, and what the seat must know, keeps the whole rule
 locked : (key : Graph) (s : Moment) (b : WordsRule key s) (n id : ℕ) (me : TableSeat) (w : View)
     → get_elem? s.views id ≡ some me.0 → LockRule key (stepped (lock_moment s) 0 n id me.1 w.lock keeps)
     → w.mine ≡ me.0.mine
@@ -65,7 +65,7 @@ cond-not_writing : (b : Bool) → cond b Reading Retreating ≢ Writing
 cond-not_writing true = λ e. cc
 cond-not_writing false = λ e. cc
 
--- nor is it spent
+-- a seat that counts itself in isn't spent
 cond-not_spent : (b : Bool) → cond b Reading Retreating ≢ Spent
 cond-not_spent true = λ e. cc
 cond-not_spent false = λ e. cc
@@ -85,7 +85,7 @@ entering key s b id v l at is not_spent clear =
       gone = λ e. absurd (not_spent e);
     }
 
--- a seat counts itself in
+-- where a seat that is away counts itself in, the rule is kept
 pub enters : (key : Graph) (slots id : ℕ) (me : TableSeat) → me.0.lock.state ≡ Away
     → Allows (WordsRule key) slots id me 0 (λ n. (n + 1) % 2 ^ 64) (Entered (step slots 0 1 0 none) me)
 enters key slots id me is s b homes at small =
@@ -106,7 +106,7 @@ enters key slots id me is s b homes at small =
       refl,
     )
 
--- a seat that holds nothing any more, and has nothing staged
+-- a seat that ends its hold with nothing staged knows what the rule asks
 leaving : (key : Graph) (s : Moment) (b : WordsRule key s) (id : ℕ) (v : View) → get_elem? s.views id ≡ some v
     → v.staged ≡ [] → SeatRule b.postings b.staged b.told (ended v)
 leaving key s b id v at clear = let k = b.each id v at in record {
@@ -127,7 +127,7 @@ inside-not_writing Reading h = (λ e. cc, refl)
 inside-not_writing Writing h = absurd (omega arith)
 inside-not_writing Spent h = (λ e. cc, refl)
 
--- a reader ends its hold, or a seat retreats
+-- where a reader ends its hold or a seat retreats, the rule is kept
 pub leaves : (key : Graph) (slots id : ℕ) (me : TableSeat) → reads me.0.lock.state + retreats me.0.lock.state ≡ 1
     → Allows (WordsRule key) slots id me 0 (λ n. (n + (2 ^ 64 - 1)) % 2 ^ 64) (Ended (step slots 0 1 0 none) me)
 leaves key slots id me inside s b homes at small =
@@ -146,7 +146,7 @@ leaves key slots id me inside s b homes at small =
       refl,
     )
 
--- a writer with nothing staged ends its hold
+-- where a writer with nothing staged ends its hold, the rule is kept
 pub ends : (key : Graph) (slots id : ℕ) (me : TableSeat) → me.0.lock.state ≡ Writing → me.0.staged ≡ []
     → Allows (WordsRule key) slots id me 0 (λ n. (n + (2 ^ 64 - 4294967296)) % 2 ^ 64)
     (Ended (step slots 0 4294967296 0 none) me)
@@ -169,17 +169,17 @@ ends key slots id me is clear s b homes at small =
 abbrev taken : Bool → ℕ → ℕ × SeatState
 taken b x = cond b (WRITER, Writing) (x, Away)
 
--- it spends no seat
+-- a try to write spends no seat
 taken-not_spent : (b : Bool) (x : ℕ) → (taken b x).1 ≢ Spent
 taken-not_spent true x = λ e. cc
 taken-not_spent false x = λ e. cc
 
--- and makes a writer only where the word was 0
+-- a try to write makes a writer only where the word was found to be 0
 taken-writing : (b : Bool) (x : ℕ) → (taken b x).1 ≡ Writing → b ≡ true
 taken-writing true x e = refl
 taken-writing false x e = absurd (cc)
 
--- a seat tries to become the writer
+-- where a seat that is away tries to become the writer, the rule is kept
 pub takes_lock : (key : Graph) (slots id : ℕ) (me : TableSeat) → me.0.lock.state ≡ Away
     → Allows (WordsRule key) slots id me 0 (λ n. either (eqb n 0) 4294967296 n)
     (Taken (step slots 0 0 4294967296 none) me)

@@ -14,15 +14,15 @@ use Rattle.cmh_rw.specs.View.{IsHeld}
 use Rattle.cmh_rw.specs.Rule.{Moment, lock_of, state_of, HasShare, HasLockShare, LockRule, SeatRule, WordsRule}
 use Rattle.cmh_rw.proofs.Lawful.{total-set, total-in}
 
--- states that differ
+-- to be away isn't to write
 pub away_writing : Away ≢ Writing
 away_writing e = cc
 
--- and these
+-- to be away isn't to be spent
 pub away_spent : Away ≢ Spent
 away_spent e = cc
 
--- and these flags
+-- false isn't true
 pub no_true : false ≢ true
 no_true e = cc
 
@@ -30,7 +30,7 @@ no_true e = cc
 pub not_held : (a : SeatState) → a ≡ Away → IsHeld a → ⊥
 not_held a is held = let z = ap (λ s. writes s + reads s) is in absurd (omega arith)
 
--- a writer counts as one
+-- a seat that writes doesn't count as 0 writers
 pub writes-Writing : (a : SeatState) → a ≡ Writing → writes a ≡ 0 → ⊥
 writes-Writing a is z = let one = ap writes is in omega arith
 
@@ -50,7 +50,7 @@ held_graph key l h held = let P : SeatState → Type 0 = λ s. HasShare key l.gr
       | Spent ↦ λ h e. absurd (omega arith)
     ] h held
 
--- and so does who is away
+-- who is away names the graph of the table
 pub away_graph : (key : Graph) (l : LockView) → HasLockShare key l → l.state ≡ Away → l.graph ≡ key
 away_graph key l h is =
     let k : HasShare key l.graph l.share Away = subst (λ s. HasShare key l.graph l.share s) is h in k.1
@@ -62,12 +62,12 @@ same_views views id v w at same =
     map-set lock_of views id w ∙ ap (set (map lock_of views) id) same
     ∙ set_again (map lock_of views) id v.lock (at_map lock_of views id v at)
 
--- a seat that comes to write no more than it did leaves the others as they were
+-- where nobody writes once a seat that didn't write has changed, nobody wrote before
 pub idle_still : (l : List SeatState) (id : ℕ) (a b : SeatState) → get_elem? l id ≡ some a → writes a ≡ 0
     → total writes (set l id b) ≡ 0 → total writes l ≡ 0
 idle_still l id a b at none_in z = let t = total-set writes l id a b at in omega arith
 
--- two places count both
+-- two items of a list together count no more than the sum over the list
 both_in : {A : Type 0} (f : A → ℕ) (l : List A) (i j : ℕ) (a b : A) → i ≢ j → get_elem? l i ≡ some a
     → get_elem? l j ≡ some b → f a + f b ≤ total f l
 both_in f [] i j a b n p q = absurd (some-ne-none a (sym p))
@@ -90,7 +90,7 @@ none_beside word l i j a b law at is at' apart =
     let theirs = total-in reads l j b at' in
     (omega arith, omega arith)
 
--- the same of a seat beside one that writes
+-- where the rule holds and a seat writes, no other seat holds the lock
 pub beside_writer : (key : Graph) (s : Moment) (b : WordsRule key s) (id i : ℕ) (v u : View)
     → get_elem? s.views id ≡ some v
     → v.lock.state ≡ Writing → get_elem? s.views i ≡ some u → i ≢ id
@@ -99,7 +99,7 @@ beside_writer key s b id i v u at writing at' apart =
     none_beside (get_or s.words 0 0) (map state_of (map lock_of s.views)) id i v.lock.state u.lock.state b.lock.lock
     (state_at s.views id v at) writing (state_at s.views i u at') apart
 
--- while a seat writes, some seat does
+-- where a seat's view changes and its lock doesn't, and it writes, somebody writes
 pub some_writer : (key : Graph) (s : Moment) (id : ℕ) (v w : View) → get_elem? s.views id ≡ some v → w.lock ≡ v.lock
     → v.lock.state ≡ Writing → total writes (map state_of (map lock_of (set s.views id w))) ≡ 0 → ⊥
 some_writer key s id v w at same writing z =
@@ -122,7 +122,7 @@ lock_beside key s b id v w i n at same past = let views = map lock_of s.views in
       each = b.lock.each;
     }
 
--- the rule, where a seat's view changes, and neither its lock nor what it added
+-- the rule stays where a seat's view changes, but neither its lock nor what it added
 pub reviewed : (key : Graph) (s : Moment) (b : WordsRule key s) (id : ℕ) (v w : View) → get_elem? s.views id ≡ some v
     → w.lock ≡ v.lock → w.mine ≡ v.mine → SeatRule b.postings b.staged b.told w
     → WordsRule key record { words = s.words; homes = s.homes; views = set s.views id w }

@@ -5,16 +5,16 @@ use Rattle.std.proofs.lemmas.Bool.{ltb-true, ltb-false, cond_both}
 use Rattle.cmh_rw.specs.View.{longer}
 use Rattle.cmh_rw.specs.History.{laid, IsOpen, IsPosting, EndsLast, ArePostings, IsSeen, StartsWith}
 
--- postings and more postings
+-- postings and more postings, laid end to end, are the rows of the one and then of the other
 laid-append : (xs ys : List (List Row)) → laid (xs ++ ys) ≡ laid xs ++ laid ys
 laid-append [] ys = refl
 laid-append (x ∷ xs) ys = ap (λ l. x ++ l) (laid-append xs ys) ∙ sym (append_assoc x (laid xs) (laid ys))
 
--- one more posting
+-- postings and one more, laid end to end, are their rows and then the rows of that one
 pub laid-snoc : (xs : List (List Row)) (x : List Row) → laid (xs ++ x ∷ []) ≡ laid xs ++ x
 laid-snoc xs x = laid-append xs (x ∷ []) ∙ ap (λ l. laid xs ++ l) (append-nil x)
 
--- the postings and one more
+-- postings and one more posting are postings
 pub whole-snoc : (xs : List (List Row)) (x : List Row) → ArePostings xs → IsPosting x → ArePostings (xs ++ x ∷ [])
 whole-snoc [] x h p = (p, tt)
 whole-snoc (y ∷ ys) x h p = (h.0, whole-snoc ys x h.1 p)
@@ -24,11 +24,11 @@ pub seen-prefix : (seen : List Row) (postings : List (List Row)) → IsSeen seen
     → StartsWith (laid postings) seen
 seen-prefix seen postings h = (laid h.1, ap laid h.2 ∙ laid-append h.0 h.1 ∙ ap (λ l. l ++ laid h.1) (sym h.3))
 
--- the whole history was seen
+-- who has seen the whole history has seen a beginning of its postings
 pub all-seen : (postings : List (List Row)) → IsSeen (laid postings) postings
 all-seen postings = (postings, [], sym (append-nil postings), refl)
 
--- nothing was seen
+-- who has seen nothing has seen a beginning of the postings
 pub none-seen : (postings : List (List Row)) → IsSeen [] postings
 none-seen postings = ([], postings, refl, refl)
 
@@ -62,7 +62,7 @@ seen_compare postings s t h g = ⊎_elim
 starts-same : (xs : List Row) → StartsWith xs xs
 starts-same xs = ([], sym (append-nil xs))
 
--- a list of no length
+-- a list of length 0 is empty
 none_left : (rest : List Row) → length rest ≡ 0 → rest ≡ []
 none_left [] e = refl
 none_left (x ∷ xs) e = absurd (omega arith)
@@ -84,29 +84,29 @@ longer-begins xs ys starts = let P : List Row → Type 0 = λ l. StartsWith l xs
         let le : length ys ≤ length xs = ltb-false (length xs) (length ys) more in
         let empty = none_left h.0 (omega arith) in sym (append-nil ys ∙ h.1 ∙ ap (λ l. xs ++ l) empty ∙ append-nil xs)
 
--- one more row that isn't a last one
+-- rows of which none is a last one, and one more that isn't, have no last one
 open-snoc : (xs : List Row) (r : Row) → IsOpen xs → r.last ≡ false → IsOpen (xs ++ r ∷ [])
 open-snoc [] r h e = (e, tt)
 open-snoc (x ∷ xs) r h e = (h.0, open-snoc xs r h.1 e)
 
--- one more row after some that aren't last ones
+-- rows of which none is a last one, and one more row, have no last one or are a posting
 pub part-snoc : (xs : List Row) (r : Row) → IsOpen xs → (r.last ≡ true) ⊎ (r.last ≡ false)
     → IsOpen (xs ++ r ∷ []) ⊎ IsPosting (xs ++ r ∷ [])
 part-snoc xs r h (inl e) = inr (xs, r, refl, h, e)
 part-snoc xs r h (inr e) = inl (open-snoc xs r h e)
 
--- the final one of rows that are no last ones
+-- where none of the rows is a last one, the final one isn't
 open-last : (xs : List Row) (r : Row) → IsOpen (xs ++ r ∷ []) → r.last ≡ false
 open-last [] r h = h.0
 open-last (x ∷ xs) r h = open-last xs r h.1
 
--- rows of which at most the final one is a last one, and which end with a last one
+-- rows of which at most the final one is a last one, and which end with a last one, are a posting
 pub posting_from : (rows : List Row) → IsOpen rows ⊎ IsPosting rows → EndsLast rows → IsPosting rows
 posting_from rows (inl open_rows) ends =
     absurd (let e = open-last ends.0 ends.1 (subst IsOpen ends.2 open_rows) in let f = ends.3 in cc)
 posting_from rows (inr posting) ends = posting
 
--- what ends with a row isn't empty
+-- rows that end with a last one aren't empty
 pub ends-some : (rows : List Row) → EndsLast rows → rows ≡ [] → ⊥
 ends-some rows ends e = snoc_some ends.0 ends.1 (sym ends.2 ∙ e)
   where

@@ -17,7 +17,7 @@ use Rattle.cmh_rw.proofs.Postings.{longer-begins}
 abbrev pub Fits : View → Type 0
 Fits v = ∥ FitsIn v.lock.graph (v.seen ++ v.staged) ∥₁
 
--- the rows with one more
+-- rows that fit the graph, with one more that may be staged, fit it too
 fits_row : (v : View) (r : Row) → CanStage v r → FitsIn v.lock.graph (v.seen ++ v.staged)
     → FitsIn v.lock.graph (v.seen ++ (v.staged ++ r ∷ []))
 fits_row v r can f =
@@ -28,11 +28,11 @@ fits_row v r can f =
           (true-snoc v.lock.graph (v.seen ++ v.staged) r f.true_of can.idle can.true_verdict can.fresh);
     }
 
--- the same of what a seat knows
+-- where what a seat has seen and staged fits the graph, it fits with one more row that may be staged
 pub fits_with_row : (v : View) (r : Row) → CanStage v r → Fits v → Fits (with_row v r)
 fits_with_row v r can fits = ∥∥₁_map fits (fits_row v r can)
 
--- so the next row has a word
+-- behind rows that fit the graph, a row that may be staged has a number below that of the row words
 row_within : (v : View) (r : Row) (n : ℕ) → CanStage v r → n ≡ length v.seen + length v.staged
     → FitsIn v.lock.graph (v.seen ++ v.staged) → n < MAX_PROCESSES
 row_within v r n can is f =
@@ -41,23 +41,23 @@ row_within v r n can is f =
     let small = more.small in
     let a = length-append v.seen (v.staged ++ r ∷ []) in let b = length-append v.staged (r ∷ []) in omega arith
 
--- the same of a seat
+-- where what a seat knows of its rows fits, a row that it may stage has a row word
 pub row_has_word : (v : View) (r : Row) (n : ℕ) → CanStage v r → n ≡ length v.seen + length v.staged → Fits v
     → n < MAX_PROCESSES
 row_has_word v r n can is fits = ∥∥₁_elim fits le_prop (row_within v r n can is)
 
--- and so has the verdict of a staged row
+-- in rows that fit the graph, a process with a staged row has a number below that of the verdict words
 verdict_within : (v : View) (p : ℕ) (says : Verdict) → fold_at v.staged p ≡ Some says
     → FitsIn v.lock.graph (v.seen ++ v.staged) → p < MAX_PROCESSES
 verdict_within v p says e f =
     let idle = true-idle v.lock.graph v.staged p says (true-right v.lock.graph v.seen v.staged f.true_of) e in
     let within = idle_within v.lock.graph p idle in let small = f.small in omega arith
 
--- the same of a seat
+-- where what a seat knows of its rows fits, a process with a row that it has staged has a verdict word
 pub verdict_has_word : (v : View) (p : ℕ) (says : Verdict) → fold_at v.staged p ≡ Some says → Fits v → p < MAX_PROCESSES
 verdict_has_word v p says e fits = ∥∥₁_elim fits le_prop (verdict_within v p says e)
 
--- after a load
+-- after a load the rows that are seen and staged still fit the graph
 loaded_fits : (v : View) (word found : ℕ) (w : View) → AfterLoad v word found w
     → FitsIn v.lock.graph (v.seen ++ v.staged) → FitsIn w.lock.graph (w.seen ++ w.staged)
 loaded_fits v word found w after f =
@@ -70,20 +70,20 @@ loaded_fits v word found w after f =
           (subst (λ l. IsTrueOf v.lock.graph (w.seen ++ l)) (sym staged) after.staged_true);
     }
 
--- the same of a seat
+-- where what a seat knows of its rows fits, it fits after a load
 pub fits_loaded : (v : View) (word found : ℕ) (w : View) → AfterLoad v word found w → Fits v → Fits w
 fits_loaded v word found w after fits = ∥∥₁_map fits (loaded_fits v word found w after)
 
--- what was seen fits where a new seat has seen it too
+-- where what is seen and staged fits the graph, what is seen alone fits it
 seen_fits : (g : Graph) (seen staged : List Row) → FitsIn g (seen ++ staged) → FitsIn g (seen ++ [])
 seen_fits g seen staged f =
     record { small = f.small; true_of = subst (IsTrueOf g) (sym (append-nil seen)) (true-left g seen staged f.true_of) }
 
--- the same of a seat
+-- where rows seen and staged are known to fit, those seen, which a new seat has alone, are known to fit
 pub fits_newcomer : (g : Graph) (seen staged : List Row) → ∥ FitsIn g (seen ++ staged) ∥₁ → ∥ FitsIn g (seen ++ []) ∥₁
 fits_newcomer g seen staged fits = ∥∥₁_map fits (seen_fits g seen staged)
 
--- after a join
+-- after a join the rows that are seen and staged fit the graph
 joined_fits : (v w : View) (mid : View) (end : View) → mid ≡ joining v w → end ≡ compared (joining v w)
     → IsTrueOf mid.lock.graph (end.seen ++ end.staged) → FitsIn v.lock.graph (v.seen ++ v.staged)
     → FitsIn end.lock.graph (end.seen ++ end.staged)
@@ -95,12 +95,12 @@ joined_fits v w mid end first told h f =
       true_of = subst (λ g. IsTrueOf g (end.seen ++ end.staged)) same h;
     }
 
--- the same of a seat
+-- where what a seat knows of its rows fits, it fits after a join
 pub fits_joined : (v w : View) (mid : View) (end : View) → mid ≡ joining v w → end ≡ compared (joining v w)
     → IsTrueOf mid.lock.graph (end.seen ++ end.staged) → Fits v → Fits end
 fits_joined v w mid end first told h fits = ∥∥₁_map fits (joined_fits v w mid end first told h)
 
--- and the new seat has seen what either had seen
+-- after a join the seat has seen what either had seen
 pub joined_begins : (v w : View) (mid : View) (end : View) → mid ≡ joining v w → end ≡ compared (joining v w)
     → StartsWith mid.seen mid.other ⊎ StartsWith mid.other mid.seen
     → StartsWith end.seen v.seen × StartsWith end.seen w.seen

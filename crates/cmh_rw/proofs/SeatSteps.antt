@@ -26,7 +26,7 @@ use Rattle.cmh_rw.proofs.LoadSteps.{history-true}
 use Rattle.cmh_rw.proofs.Moments.{away_writing, away_spent, no_true, not_held, idle_still, state_at, away_graph, reviewed}
 use Rattle.cmh_rw.proofs.Postings.{none-seen, seen-prefix, seen_compare}
 
--- a view that knows nothing, away or spent
+-- a view that doesn't write, and has loaded, staged, told and added nothing, is as the rule asks
 blank : (postings : List (List Row)) (staged told : List Row) (v : View) → v.lock.state ≢ Writing → v.staged ≡ []
     → v.told ≡ [] → v.mine ≡ [] → v.loaded ≡ false → v.other ≡ [] → IsSeen v.seen postings
     → SeatRule postings staged told v
@@ -44,7 +44,7 @@ blank postings staged told v not bare none_told none_mine fresh other seen = rec
 spent_writing : Spent ≢ Writing
 spent_writing e = cc
 
--- all words are 0, and there is one seat
+-- the opening moment, in which all words are 0 and there is one seat, meets the rule
 pub opens : (key : Graph) → process_count key ≤ MAX_PROCESSES
     → WordsRule key (opening (replicate BOARD_WORDS 0) [] (opening_view key))
 opens key small = record {
@@ -85,7 +85,7 @@ opens key small = record {
         (blank [] [] [] (opening_view key) away_writing refl refl refl refl refl (none-seen []))
     first (suc i) v e = absurd (some-ne-none v (sym e))
 
--- a seat that is away is split
+-- where a seat that is away is split, the rule is kept
 pub splits : (key : Graph) (id : ℕ) (v : View) → v.lock.state ≡ Away → 1 < v.lock.share
     → Splits (WordsRule key) id v (less_one v) (newcomer v)
 splits key id v away more s b at =
@@ -138,7 +138,7 @@ splits key id v away more s b at =
           omega (arith, b.owners h);
     }
 
--- a seat that is away is joined into another
+-- where a seat that is away is joined into another that is, the rule is kept
 pub joins : (key : Graph) (id : ℕ) (v : View) (other : ℕ) (w : View) → v.lock.state ≡ Away → w.lock.state ≡ Away
     → Joins (WordsRule key) id v other w (joining v w) spent_view
 joins key id v other w away away' s b at apart there =
@@ -203,7 +203,7 @@ joins key id v other w away away' s b at apart there =
           let mine = total-append h v.mine w.mine in omega (arith, b.owners h);
     }
 
--- a load after a join: one of the two histories begins the other, and the longer is kept
+-- a load after a join keeps the rule: one of the two histories begins the other, and the longer is kept
 pub compares : (key : Graph) (slots id : ℕ) (me : TableSeat) → me.0.lock.state ≡ Away
     → Allows (WordsRule key) slots id me 0 (λ n. n) (Compared (step slots 0 0 0 none) me)
 compares key slots id me away s b _ at _ =

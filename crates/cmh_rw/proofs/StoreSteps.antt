@@ -39,7 +39,7 @@ still postings staged told more_staged more_told u not k =
       gone = k.gone;
     }
 
--- a writer stores a row
+-- where a writer stores a row that it may stage, the rule is kept
 pub stages : (key : Graph) (slots id n : ℕ) (r : Row) (me : TableSeat) → me.0.lock.state ≡ Writing → me.0.loaded ≡ true
     → CanStage me.0 r → n ≡ length me.0.seen + length me.0.staged → n < MAX_PROCESSES
     → Allows (WordsRule key) slots id me (FIRST_ROW + n) (λ _. row_code r)
@@ -110,7 +110,7 @@ stages key slots id n r me writing loaded can is low s b _ at _ =
       ap (λ q. (with_row v q, me.1)) (sym (row_code_law r)),
     )
 
--- a writer stores the verdict of a staged row
+-- where a writer stores the verdict of a staged row, the rule is kept
 pub tells : (key : Graph) (slots id p : ℕ) (says : Verdict) (me : TableSeat) → me.0.lock.state ≡ Writing
     → fold_at me.0.staged p ≡ Some says → p < MAX_PROCESSES
     → Allows (WordsRule key) slots id me (FIRST_VERDICT + p) (λ _. verdict_code (Some says))

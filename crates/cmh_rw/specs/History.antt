@@ -62,7 +62,7 @@ abbrev pub IsPosting : List Row → Type 0
 IsPosting rows = (before : List Row) × (r : Row) × (rows ≡ before ++ r ∷ [])
     × IsOpen before × (r.last ≡ true)
 
--- each is a posting
+-- each of these lists of rows is a posting
 abbrev pub ArePostings : List (List Row) → Type 0
 ArePostings [] = Unit {0}
 ArePostings (x ∷ xs) = IsPosting x × ArePostings xs
@@ -76,7 +76,7 @@ laid (x ∷ xs) = x ++ laid xs
 abbrev pub IsHistory : List Row → Type 0
 IsHistory rows = (postings : List (List Row)) × (rows ≡ laid postings) × ArePostings postings
 
--- each process is idle, stands once, and has its verdict
+-- the rows are true for the graph: each process in them is idle, stands once, and has its verdict
 abbrev pub IsTrueOf : Graph → List Row → Type 0
 IsTrueOf g [] = Unit {0}
 IsTrueOf g (r ∷ rs) = IsTrue (is_idle g r.process) × (r.verdict ≡ verdict g r.process)
@@ -91,7 +91,7 @@ pub record FitsIn (g : Graph) (rows : List Row) : Type 0 where
 abbrev pub StartsWith : List Row → List Row → Type 0
 StartsWith rows before = (rest : List Row) × (rows ≡ before ++ rest)
 
--- the first of these postings, laid end to end
+-- what was seen is the first of these postings, laid end to end
 abbrev pub IsSeen : List Row → List (List Row) → Type 0
 IsSeen seen postings = (before : List (List Row)) × (after : List (List Row))
     × (postings ≡ before ++ after) × (seen ≡ laid before)

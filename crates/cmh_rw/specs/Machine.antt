@@ -15,7 +15,7 @@ pub record World : Type 0 where
 abbrev pub world : ℕ → List SeatState → World
 world word seats = record { word = word; seats = seats }
 
--- f of each, added up
+-- f of each item of a list, added up
 abbrev pub total : {A : Type 0} → (A → ℕ) → List A → ℕ
 total f [] = 0
 total f (x ∷ xs) = f x + total f xs
@@ -25,12 +25,12 @@ abbrev pub writes : SeatState → ℕ
 writes Writing = 1
 writes _ = 0
 
--- whether it reads
+-- whether a seat reads, as a number
 abbrev pub reads : SeatState → ℕ
 reads Reading = 1
 reads _ = 0
 
--- whether it retreats
+-- whether a seat retreats, as a number
 abbrev pub retreats : SeatState → ℕ
 retreats Retreating = 1
 retreats _ = 0
@@ -82,6 +82,6 @@ abbrev pub run_from : World → List Event → World
 run_from w [] = w
 run_from w (e ∷ es) = run_from (step_of w e) es
 
--- all seats are away
+-- a world with so many seats, all away
 abbrev pub new_world : ℕ → World
 new_world seats = world 0 (replicate seats Away)

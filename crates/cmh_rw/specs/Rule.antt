@@ -19,7 +19,7 @@ use Rattle.cmh_rw.specs.View.{IsHeld}
 abbrev pub Moment : Type 0
 Moment = State (Unit {0}) View
 
--- the same, with what the seats know of the lock alone
+-- the words, and what all seats know of the lock alone, between two steps
 abbrev pub LockMoment : Type 0
 LockMoment = State (Unit {0}) LockView
 
@@ -44,7 +44,7 @@ abbrev pub HasShare : Graph → Graph → ℕ → SeatState → Type 0
 HasShare key graph share Spent = share ≡ 0
 HasShare key graph share _ = (0 < share) × (graph ≡ key)
 
--- the same of what a seat knows of the lock
+-- a spent seat has no share of the lock; each other one has some, and names the graph of the table
 abbrev pub HasLockShare : Graph → LockView → Type 0
 HasLockShare key l = HasShare key l.graph l.share l.state
 
@@ -62,12 +62,12 @@ pub record SeatRule (postings : List (List Row)) (staged told : List Row) (v : V
   -- only a writer has staged rows
   pub writing : v.lock.state ≡ Writing → (v.staged ≡ staged) × (v.told ≡ told)
   pub bare : v.lock.state ≢ Writing → (v.staged ≡ []) × (v.told ≡ [])
-  -- and it has loaded the history before
+  -- who has staged rows has loaded the history before
   pub ready : (v.staged ≡ []) ⊎ (v.loaded ≡ true)
-  -- what it has seen is a beginning of whole postings
+  -- what a seat has seen is a beginning of whole postings
   pub seen : IsSeen v.seen postings
   pub other : IsSeen v.other postings
-  -- and the whole history from the first load of a hold on
+  -- from the first load of a hold on a seat has seen the whole history
   pub fresh : v.loaded ≡ true → IsHeld v.lock.state × (v.seen ≡ laid postings)
   -- a spent view holds nothing
   pub gone : v.lock.state ≡ Spent → v.mine ≡ []

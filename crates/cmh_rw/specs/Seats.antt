@@ -36,7 +36,7 @@ words_graph w = w.table.shared.key
 abbrev pub words_of : Closed → List ℕ
 words_of c = slots_items c.inner.words
 
--- these are the words of a moment that meets the rule, in which some seat has this view
+-- the words are those of a moment that meets the rule, in which some seat has this view
 pub record ClosedBy (key : Graph) (v : View) (words : List ℕ) : Type 0 where
   pub moment : Moment
   pub rule : WordsRule key moment

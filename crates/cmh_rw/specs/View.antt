@@ -19,11 +19,11 @@ use Rattle.cmh_rw.specs.History.{row_code, verdict_code, fold_at, IsHistory, IsO
 abbrev pub IsHeld : SeatState → Type 0
 IsHeld state = writes state + reads state ≡ 1
 
--- the whole share
+-- what the first seat knows of the lock: it is away, and has the whole share
 abbrev pub opening_lock : Graph → LockView
 opening_lock g = record { graph = g; state = Away; share = MAX_SEATS; tries = 0; found = 0 }
 
--- nothing seen, nothing added
+-- what the first seat knows: it has seen nothing and added nothing
 abbrev pub opening_view : Graph → View
 opening_view g = record {
   lock = opening_lock g;
@@ -40,11 +40,11 @@ opening_view g = record {
 abbrev pub tried_lock : LockView → SeatState → ℕ → LockView
 tried_lock l state found = record l { state = state; tries = l.tries + 1; found = found }
 
--- the same of the whole view
+-- the view of a seat whose try to get the lock found this word and left it in this state
 abbrev pub tried : View → SeatState → ℕ → View
 tried v state found = record v { lock = tried_lock v.lock state found }
 
--- the lock is left
+-- what a seat knows of the lock once it has left it
 abbrev pub away : LockView → LockView
 away l = record l { state = Away }
 
@@ -62,7 +62,7 @@ abbrev pub AfterWrite : View → Entry → View → Type 0
 AfterWrite v Held w = (w ≡ tried v Writing 0) × (v.staged ≡ []) × (v.told ≡ [])
 AfterWrite v (Busy n) w = (0 < n) × (w ≡ tried v Away n)
 
--- a word was loaded, and this is the history
+-- the view once a word was loaded, where this is the history
 abbrev pub loaded : View → List Row → View
 loaded v rows = record v { loaded = true; seen = rows; loads = v.loads + 1 }
 
@@ -95,7 +95,7 @@ pub record CanStage (v : View) (r : Row) : Type 0 where
 abbrev pub row : ℕ → Verdict → Bool → Row
 row p verdict last = record { process = p; verdict = verdict; last = last }
 
--- one more row is staged
+-- the view once one more row is staged
 abbrev pub with_row : View → Row → View
 with_row v r = record v { staged = v.staged ++ r ∷ [] }
 
@@ -103,7 +103,7 @@ with_row v r = record v { staged = v.staged ++ r ∷ [] }
 abbrev pub mark : ℕ → Verdict → Row
 mark p verdict = row p verdict false
 
--- one more verdict is stored
+-- the view once one more verdict is stored
 abbrev pub with_told : View → Row → View
 with_told v r = record v { told = v.told ++ r ∷ [] }
 
@@ -116,15 +116,15 @@ posted v = record v {
   mine = v.mine ++ v.staged ∷ [];
 }
 
--- one share is given away
+-- what a seat knows of the lock once it has given one share away
 abbrev pub less_share : LockView → LockView
 less_share l = record l { share = l.share - 1 }
 
--- the same of the whole view
+-- the view of a seat that has given one share away
 abbrev pub less_one : View → View
 less_one v = record v { lock = less_share v.lock }
 
--- and a new seat has it
+-- what a new seat knows of the lock, which was given one share
 abbrev pub new_lock : LockView → LockView
 new_lock l = record (opening_lock l.graph) { share = 1 }
 
@@ -132,7 +132,7 @@ new_lock l = record (opening_lock l.graph) { share = 1 }
 abbrev pub newcomer : View → View
 newcomer v = record (opening_view v.lock.graph) { lock = new_lock v.lock; seen = v.seen }
 
--- the shares of two seats
+-- what a seat knows of the lock once it has the shares of two
 abbrev pub both_shares : LockView → LockView → LockView
 both_shares l m = record l { share = l.share + m.share }
 
@@ -152,7 +152,7 @@ longer xs ys = if nat_lt (length xs) (length ys) then ys else xs
 abbrev pub compared : View → View
 compared v = record v { seen = longer v.seen v.other; other = [] }
 
--- two seats made one
+-- the view of two seats made one
 abbrev pub joined : View → View → View
 joined v w = compared (joining v w)
 
@@ -164,6 +164,6 @@ no_graph = record { processes = []; in_transit = [] }
 abbrev pub spent_lock : LockView
 spent_lock = record (opening_lock no_graph) { state = Spent; share = 0 }
 
--- and nothing that it knew
+-- the view of a seat that was joined into another: it knows nothing any more
 abbrev pub spent_view : View
 spent_view = record (opening_view no_graph) { lock = spent_lock }

@@ -34,15 +34,13 @@ speaks_of_initiator Declared i engaged begins = contains_first engaged i (begins
 speaks_of_initiator AtRest i engaged begins = contains_first (i ∷ []) i refl
 speaks_of_initiator (CutFree k) i engaged begins = contains_first (i ∷ []) i refl
 
-}
-
 -- a posting that a seat added is its next one, if it has rows
 next_posting : (mine more : List (List Row)) (rows : List Row) → more ≡ with_posting mine rows
     → (more ≡ mine) ⊎ (more ≡ mine ++ rows ∷ [])
 next_posting mine more [] e = inl e
 next_posting mine more (r ∷ rs) e = inr e
 
--- so is what a run tells, once it is posted
+-- what a run tells, once it is posted, is an answer
 pub ran : (g : Graph) (choices : List ℕ) (p : ℕ) (v v1 v2 w : View) (run : Run) → SeesMore v v1 → SeesMore v1 v2
     → IsRunFor g choices p (verdict_of run.ending) run → TellsTruth g run → Posts (posting_of run) v2 w
     → IsAnswered g choices p v w record { verdict = verdict_of run.ending; run = Some run }
@@ -106,7 +104,7 @@ explained_more a b found all m h more (f, there, run, is, from) = (
   record { before = from.before; place = starts_trans a b (from.before ++ m) h from.place; posted = from.posted },
 )
 
--- so do all
+-- explained postings stay explained when more is seen, by more findings
 pub all_explained_more : {L : Type 0} (a b : List Row) (found all : List (Finding Run L)) (ms : List (List Row))
     → StartsWith a b → ((f : Finding Run L) → Contains found f → Contains all f) → AreExplained b found ms
     → AreExplained a all ms
@@ -114,7 +112,7 @@ all_explained_more a b found all [] h more e = tt
 all_explained_more a b found all (m ∷ ms) h more e =
     (explained_more a b found all m h more e.0, all_explained_more a b found all ms h more e.1)
 
--- two lists of explained postings are one
+-- two lists of explained postings, one behind the other, are explained
 all_explained_append : {L : Type 0} (a : List Row) (found : List (Finding Run L)) (ms ns : List (List Row))
     → AreExplained a found ms → AreExplained a found ns → AreExplained a found (ms ++ ns)
 all_explained_append a found [] ns e f = f
@@ -125,7 +123,7 @@ all_one : {L : Type 0} (P : Finding Run L → Type 0) (f : Finding Run L) → P 
 all_one P f p zero d low = p
 all_one P f p (suc k) d low = absurd (omega arith)
 
--- one finding more
+-- findings that account for what a seat added do so with one more that was recorded
 pub accounts_more : {L : Type 0} (listed : L → List ℕ) (g : Graph) (choices : List ℕ) (v w : View)
     (found : List (Finding Run L)) (f : Finding Run L) → Accounts listed g choices v found
     → IsRecorded listed g choices v w f → Accounts listed g choices w (found ++ f ∷ [])
@@ -145,7 +143,7 @@ accounts_more listed g choices v w found f a h =
           h.mine;
     }
 
--- the findings of two workers whose seats are joined
+-- once the seats of two workers are joined, the findings of both account for what both added
 pub accounts_joined : {L : Type 0} (listed : L → List ℕ) (g : Graph) (choices : List ℕ) (v w u : View)
     (xs ys : List (Finding Run L)) → StartsWith u.seen v.seen → StartsWith u.seen w.seen → u.mine ≡ v.mine ++ w.mine
     → Accounts listed g choices v xs → Accounts listed g choices w ys → Accounts listed g choices u (xs ++ ys)

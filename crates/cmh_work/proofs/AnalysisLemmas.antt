@@ -65,7 +65,7 @@ record_agrees : {L : Type 0} (listed : L → List ℕ) (g : Graph) (choices : Li
     → fold_at rows r.initiator ≡ Some r.verdict
 record_agrees listed g choices rows f r s n = ap (fold_at rows) n.initiator ∙ s.stands ∙ ap Some (sym n.verdict)
 
--- what each sound finding gives its record, all have
+-- what is true of the record of each sound finding is true of all records
 each_record : {L : Type 0} (listed : L → List ℕ) (g : Graph) (choices : List ℕ) (rows : List Row)
     (P : Record Run L → Type 0)
     → ((f : Finding Run L) (r : Record Run L) → IsSound listed g choices rows f → IsNumbered rows f r → P r)
@@ -77,7 +77,7 @@ each_record listed g choices rows P each (f ∷ fs) (r ∷ rs) sound n =
     All-cons P r rs (each f r (sound 0 f (omega arith)) n.0)
     (each_record listed g choices rows P each fs rs (λ k d low. sound (suc k) d (omega arith)) n.1)
 
--- records are of those of whom findings are
+-- the records are of the processes that the findings are about, in the same order
 same_order : {L : Type 0} (rows : List Row) (fs : List (Finding Run L)) (rs : List (Record Run L))
     → AreNumbered rows fs rs → map initiator_of rs ≡ map finding_initiator fs
 same_order rows [] [] n = refl

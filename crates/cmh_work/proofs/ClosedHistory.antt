@@ -17,11 +17,11 @@ use Rattle.cmh_work.specs.Numbering.{AreNumbered, IsNamed}
 
 -- ---- one place
 
--- the first of two equal lists is the same
+-- two equal lists of rows have the same first row
 cons_first : (x y : Row) (xs ys : List Row) → x ∷ xs ≡ y ∷ ys → x ≡ y
 cons_first x y xs ys e = ap (λ l. get_or l 0 x) e
 
--- and so is the rest
+-- two equal lists of rows have the same rest
 cons_rest : (x y : Row) (xs ys : List Row) → x ∷ xs ≡ y ∷ ys → xs ≡ ys
 cons_rest x y xs ys e = ap (λ l. drop 1 l) e
 
@@ -119,7 +119,7 @@ of_records g rows found records before (m ∷ ms) true_of e whole explained n =
           (e ∙ sym (append_assoc before m (laid ms))) whole.1 explained.1 n,
     )
 
--- the order of findings is of no matter
+-- postings that findings explain are explained by them in any order
 pub explained_permuted : {L : Type 0} (rows : List Row) (found sorted : List (Finding Run L))
     (postings : List (List Row)) → IsPermutation found sorted → AreExplained rows found postings
     → AreExplained rows sorted postings

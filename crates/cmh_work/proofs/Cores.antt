@@ -20,12 +20,12 @@ members_within g p size xs is full k d l =
     subst (λ ys. Contains ys (get_or xs k d)) is (k, l, get_or_default xs k (get_or xs k d) d l) in
     omega (arith, core_within g p (get_or xs k d) there)
 
--- each is in the other's core
+-- a process is in the core of each member of its core
 pub core_back : (g : Graph) (p q : ℕ) → IsWithinGraph g → p < process_count g → Contains (core_of g p) q
     → Contains (core_of g q) p
 core_back g p q w i c = subst (λ xs. Contains xs p) (same_core g p q w i c) (in_own_core g p w i)
 
--- places rise
+-- the numbers below n rise
 pub rising : (n : ℕ) → AllPairs (λ x y. x < y) (range_with_len 0 n)
 rising n = AllPairs-from_increasing (range_with_len 0 n) (indices_rise n)
 
@@ -40,7 +40,7 @@ reached_deadlocked g p q w e a =
 pub deadlocked_within : (g : Graph) (p : ℕ) → IsWithinGraph g → is_deadlocked g p ≡ true → p < process_count g
 deadlocked_within g p w e = idle_within g p (test_then g p w e).0
 
--- a core with one deadlocked member is deadlocked
+-- where one member of a core is deadlocked, each is
 pub core_deadlocked : (g : Graph) (p q : ℕ) → IsWithinGraph g → is_deadlocked g p ≡ true → Contains (core_of g p) q
     → is_deadlocked g q ≡ true
 core_deadlocked g p q w e c =

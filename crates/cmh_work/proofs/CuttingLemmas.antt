@@ -1,5 +1,5 @@
 -- What is gathered from each chunk once is the list.
-use Rattle.std.proofs.Common.{◌≡◌, ℕ, zero, suc, ◌+◌, ◌-◌, ◌<◌, ◌≤◌, min, List, [], ◌∷◌, ◌++◌, length, take, drop, get_or, append_assoc, append-nil, sym, refl, ap, subst, ◌∙◌, arith}
+use Rattle.std.proofs.Common.{◌≡◌, ℕ, zero, suc, ◌+◌, ◌-◌, ◌<◌, ◌≤◌, min, List, [], ◌∷◌, ◌++◌, length, take, drop, flat_map, get_or, append_assoc, append-nil, sym, refl, ap, subst, ◌∙◌, arith}
 use Rattle.std.specs.Prelude.{All, IsTrue, slice_index, slice_range}
 use Rattle.std.proofs.lemmas.List.{take-append-drop, get_or_default, take_rest, take_min, drop_min, drop-drop, length-drop}
 use Rattle.std.proofs.lemmas.List.Elements.{All-nil, All-take, All-drop}
@@ -10,13 +10,13 @@ use Rattle.cmh_work.specs.Tickets.{sum_below}
 use Rattle.cmh_work.specs.Cutting.{bounds_of, chunks_of, ends_from, gathered, ChunksLaw}
 use Rattle.cmh_rw.proofs.Lawful.{total-append}
 
--- what is gathered by two lists of numbers
+-- what two lists of numbers gather together is what the one gathers, and then the other
 pub gathered-append : (cs : List (List ℕ)) (a b : List ℕ) → gathered cs (a ++ b) ≡ gathered cs a ++ gathered cs b
 gathered-append cs [] b = refl
 gathered-append cs (x ∷ xs) b = ap (λ l. get_or cs x [] ++ l) (gathered-append cs xs b)
     ∙ sym (append_assoc (get_or cs x []) (gathered cs xs) (gathered cs b))
 
--- what is gathered by one number more
+-- one number more gathers its chunk behind what was gathered
 pub gathered_snoc : (cs : List (List ℕ)) (a : List ℕ) (n : ℕ)
     → gathered cs (a ++ n ∷ []) ≡ gathered cs a ++ get_or cs n []
 gathered_snoc cs a n = gathered-append cs a (n ∷ []) ∙ ap (λ l. gathered cs a ++ l) (append-nil (get_or cs n []))
@@ -27,12 +27,12 @@ total-gathered : (h : ℕ → ℕ) (cs : List (List ℕ)) (ds : List ℕ)
 total-gathered h cs [] = refl
 total-gathered h cs (d ∷ ds) = omega (arith, total-gathered h cs ds, total-append h (get_or cs d []) (gathered cs ds))
 
--- a sum by its first number and the rest
+-- a sum below n + 1 is its first number and the sum of the rest
 sum-shift : (f : ℕ → ℕ) (n : ℕ) → sum_below f (suc n) ≡ f 0 + sum_below (λ k. f (suc k)) n
 sum-shift f zero = omega arith
 sum-shift f (suc n) = let a = sum-shift f n in omega arith
 
--- the weights of all chunks, by their numbers
+-- the weights of all chunks, added up by their numbers, are the total of the chunks
 sum-each : (h : ℕ → ℕ) (cs : List (List ℕ)) → sum_below (λ c. total h (get_or cs c [])) (length cs) ≡ total (total h) cs
 sum-each h [] = refl
 sum-each h (x ∷ xs) = let a = sum-shift (λ c. total h (get_or (x ∷ xs) c [])) (length xs) in let b =
@@ -54,7 +54,7 @@ length_chunks : (cuts xs : List ℕ) → length (chunks_of cuts xs) ≡ length c
 length_chunks [] xs = refl
 length_chunks (c ∷ cs) xs = omega (arith, length_chunks cs (drop c xs))
 
--- each chunk gathered once
+-- what is gathered from each chunk once weighs what the list does
 pub gathered_once : (h : ℕ → ℕ) (cuts xs ds : List ℕ) → ((f : ℕ → ℕ) → total f ds ≡ sum_below f (length cuts + 1))
     → total h (gathered (chunks_of cuts xs) ds) ≡ total h xs
 gathered_once h cuts xs ds all = let cs = chunks_of cuts xs in
@@ -86,7 +86,7 @@ chunk_between (c ∷ cs) xs begin (suc n) low =
     chunk_between cs xs (min (begin + c) (length xs)) n (omega (arith, low))
     ∙ ap (λ ys. get_or (chunks_of cs ys) n []) (drop_min (begin + c) xs ∙ sym (drop-drop c begin xs))
 
--- there are two bounds more than cuts
+-- there is one end of a chunk more than cuts
 length_ends : (size begin : ℕ) (cuts : List ℕ) → length (ends_from size begin cuts) ≡ length cuts + 1
 length_ends size begin [] = refl
 length_ends size begin (c ∷ cs) = omega (arith, length_ends size (min (begin + c) size) cs)
@@ -110,7 +110,7 @@ chunk_is cuts xs bounds n e low =
     slice_range xs (slice_index b n) (slice_index b k) ≡ get_or (chunks_of cuts xs) n [] in
     subst (λ b. Is b (n + 1)) (sym e) (subst (Is all) {x = suc n} (omega arith) (chunk_between cuts xs 0 n low))
 
--- both are there, the next is no less, and it lies within the list
+-- a chunk's bound and the next are there, the next is no less, and it lies within the list
 pub bounds_lie : (cuts bounds : List ℕ) (size n : ℕ) → bounds ≡ bounds_of cuts size → n ≤ length cuts
     → (n + 1 < length bounds) × (slice_index bounds n ≤ slice_index bounds (n + 1))
     × (slice_index bounds (n + 1) ≤ size)

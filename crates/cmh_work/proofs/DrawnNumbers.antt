@@ -11,7 +11,7 @@ use Rattle.cmh_work.proofs.RisingLists.{total-sum_by}
 abbrev hit : ℕ → ℕ → ℕ
 hit n k = cond (eqb k n) 1 0
 
--- what a test counts
+-- what a test counts: 1 where it holds, else 0
 abbrev counted : Bool → ℕ
 counted b = cond b 1 0
 
@@ -21,7 +21,7 @@ none_below n zero le = refl
 none_below n (suc b) le = let r = none_below n b (omega arith) in let m =
     ap counted (ne_eqb b n (λ e. omega arith)) in omega arith
 
--- it is once among those below a bound that is above it
+-- a number is once among those below a bound that is above it
 once_below : (n b : ℕ) → n < b → sum_below (hit n) b ≡ 1
 once_below n zero low = absurd (omega arith)
 once_below n (suc b) low = ⊎_elim

@@ -104,14 +104,14 @@ p_and_q = row 0 Deadlocked false ∷ row 1 Deadlocked true ∷ []
 pub first_posting : IsPostedBy [] p_and_q run_of_p
 first_posting = refl
 
--- the next is r alone, since p stands in a row
+-- the second posting is r alone, since p stands in a row
 abbrev r_alone : List Row
 r_alone = row 2 Deadlocked true ∷ []
 
 pub next_posting : IsPostedBy p_and_q r_alone run_of_r
 next_posting = refl
 
--- the history
+-- the history: the rows of p and q, and then that of r
 abbrev rows : List Row
 rows = row 0 Deadlocked false ∷ row 1 Deadlocked true ∷ row 2 Deadlocked true ∷ []
 
@@ -130,7 +130,7 @@ of_q = found 1 (FromBoard 1) 0
 abbrev of_r : Record Run (Vec ℕ)
 of_r = found 2 (FromRun run_of_r) 2
 
--- each dependent is a process
+-- each dependent of p, q and r is a process of the graph
 within : IsWithinGraph cycle_and_follower
 within zero zero h = omega arith
 within (suc zero) zero h = omega arith
@@ -140,7 +140,7 @@ within (suc zero) (suc j) h = absurd (omega (arith, h))
 within (suc (suc zero)) (suc j) h = absurd (omega (arith, h))
 within (suc (suc (suc i))) j h = absurd (omega (arith, h))
 
--- all three are deadlocked
+-- p, q and r are deadlocked
 dead_p : IsDeadlocked cycle_and_follower 0
 unfolding reaches is_deadlocked
 dead_p = (verdict_law cycle_and_follower 0 within).0 refl
@@ -184,7 +184,7 @@ legal_p = record {
   tells = refl;
 }
 
--- and so is that of r, whose hint is true
+-- the run of r, whose hint is true, is legal
 legal_r : IsRunFor cycle_and_follower [] 2 Deadlocked run_of_r
 legal_r = record {
   initiator = refl;
@@ -205,7 +205,7 @@ legal_r = record {
   tells = refl;
 }
 
--- each of these records is true
+-- the records of p, of q and of r are true
 true_p : IsTrueRecord (λ path. path.items) cycle_and_follower [] rows of_p
 unfolding reaches
 true_p = record { idle = refl; verdict = dead_p; shape = refl; source = legal_p }
@@ -218,12 +218,12 @@ true_r : IsTrueRecord (λ path. path.items) cycle_and_follower [] rows of_r
 unfolding reaches
 true_r = record { idle = refl; verdict = dead_r; shape = refl; source = legal_r }
 
--- the history is true
+-- the rows of p, q and r are true for the graph
 true_rows : IsTrueOf cycle_and_follower rows
 unfolding reaches is_deadlocked
 true_rows = (refl, refl, refl, (refl, refl, refl, (refl, refl, refl, tt)))
 
--- it is whole
+-- the history has the verdict of each idle process
 whole_rows : (p : ℕ) → IsTrue (is_idle cycle_and_follower p) → fold_at rows p ≡ Some (verdict cycle_and_follower p)
 unfolding reaches is_deadlocked
 whole_rows zero idle = refl
@@ -231,7 +231,7 @@ whole_rows (suc zero) idle = refl
 whole_rows (suc (suc zero)) idle = refl
 whole_rows (suc (suc (suc p))) idle = cc
 
--- two postings, each of the run of a record
+-- the history is two postings, each of the run of a record
 posted : IsPostedByRecords (of_p ∷ of_q ∷ of_r ∷ []) rows
 posted = (
   p_and_q ∷ r_alone ∷ [],
@@ -247,7 +247,7 @@ posted = (
 all_three : (P : Record Run (Vec ℕ) → Type 0) (a b c : Record Run (Vec ℕ)) → P a → P b → P c → All P (a ∷ b ∷ c ∷ [])
 all_three P a b c x y z = All-cons P a (b ∷ c ∷ []) x (All-cons P b (c ∷ []) y (All-cons P c [] z (All-nil P)))
 
--- these records with this history are an analysis
+-- the records of p, q and r with this history are an analysis
 pub is_analysis : (a : Analysis Run (Vec ℕ)) → records_of a ≡ of_p ∷ of_q ∷ of_r ∷ [] → history_of a ≡ rows
     → IsAnalysisOf (λ path. path.items) cycle_and_follower [] a
 unfolding reaches
@@ -268,13 +268,13 @@ is_analysis a is has = record {
       subst (λ h. IsPostedByRecords (records_of a) h) (sym has) (subst (λ l. IsPostedByRecords l rows) (sym is) posted);
 }
 
--- without the record of r they are none
+-- without the record of r the records are no analysis
 pub lost_record : (a : Analysis Run (Vec ℕ)) → records_of a ≡ of_p ∷ of_q ∷ []
     → IsAnalysisOf (λ path. path.items) cycle_and_follower [] a → ⊥
 lost_record a is h = let e : ◌≡◌ {A = List ℕ} (0 ∷ 1 ∷ []) (0 ∷ 1 ∷ 2 ∷ []) =
     sym (ap (map initiator_of) is) ∙ h.order in cc
 
--- the posting of p and q, cut in two
+-- the history with the posting of p and q cut in two
 abbrev cut_rows : List Row
 cut_rows = row 0 Deadlocked true ∷ row 1 Deadlocked true ∷ row 2 Deadlocked true ∷ []
 
@@ -294,7 +294,7 @@ begins_open r posting rest run (suc (suc zero), low, is) source told =
     subst (IsPostedBy [] posting) e told in ap (λ l. is_cut (l ++ rest)) p
 begins_open r posting rest run (suc (suc (suc k)), low, is) source told = absurd (omega arith)
 
--- with a posting cut in two they are none
+-- the records with a history in which a posting is cut in two are no analysis
 pub cut_posting : (a : Analysis Run (Vec ℕ)) → records_of a ≡ of_p ∷ of_q ∷ of_r ∷ [] → history_of a ≡ cut_rows
     → IsAnalysisOf (λ path. path.items) cycle_and_follower [] a → ⊥
 cut_posting a is has h =
@@ -318,7 +318,7 @@ y_seat = with_drawn (ticket_newcomer (ticket_opening_view 2)) 1
 abbrev table : ℕ → List TicketView → State (Unit {0}) TicketView
 table word views = record { words = word ∷ []; homes = []; views = views }
 
--- the rule holds
+-- the rule of the tickets holds where x drew 0 and y drew 1
 pub dealt : Dealt 2 (table 2 (x_seat ∷ y_seat ∷ []))
 dealt = record {
   reached = 2;
@@ -342,7 +342,7 @@ dealt = record {
         { bare = λ z. absurd (omega arith); knows = λ some. refl; past = λ done. omega arith }
     each (suc (suc i)) v at = absurd (some-ne-none v (sym at))
 
--- it doesn't where both drew 0
+-- the rule of the tickets doesn't hold where both seats drew 0
 pub drawn_twice : Dealt 2 (table 2 (x_seat ∷ with_drawn (ticket_newcomer (ticket_opening_view 2)) 0 ∷ [])) → ⊥
 drawn_twice h =
     no 2 (omega arith)

@@ -27,7 +27,7 @@ use Rattle.cmh_work.proofs.CuttingLemmas.{gathered-append, gathered_snoc, gather
 abbrev Found : Type 0 → Type 0
 Found L = Result (Vec (Finding Run L)) WorkFault
 
--- where both have an answer, what holds of the two holds of what is made of them
+-- where what two workers gave back is put together, what follows from both holds of the whole
 pub collected : {L : Type 0} (r first second : Found L) (P Q : Vec (Finding Run L) → Type 0)
     (S : List (Finding Run L) → Type 0) → IfOk first P → IfOk second Q
     → IfOk r (λ v. IsOkAnd first (λ a. IsOkAnd second (λ b. v.items ≡ a.items ++ b.items)))
@@ -37,7 +37,7 @@ collected (Ok v) (Ok a) (Ok b) P Q S p q c f = subst S (sym c) (f a b p q)
 collected (Ok v) (Ok a) (Err e) P Q S p q c f = absurd c
 collected (Ok v) (Err e) second P Q S p q c f = absurd c
 
--- the findings of two workers, once their seats are joined
+-- once the seats of two workers are joined, the findings of both are what the joined seats found
 pub joined_worked : {L : Type 0} (listed : L → List ℕ) (g : Graph) (plan : Setup) (j : Shared) (s t u : Seats)
     (a b : List (Finding Run L)) → view u.tickets ≡ joined_views (view s.tickets) (view t.tickets)
     → known u.board ≡ joined (known s.board) (known t.board)
@@ -55,7 +55,7 @@ joined_worked listed g plan j s t u a b is jo first second w x = record {
   done = ap (λ v. v.done) is ∙ ap (λ d. d || (view t.tickets).done) w.done;
 }
 
--- at first nothing is found
+-- new seats have found nothing
 pub nothing_found : {L : Type 0} (listed : L → List ℕ) (g : Graph) (plan : Setup) (j : Shared) (s : Seats) → AreNew s
     → AreOf listed g plan j s []
 nothing_found listed g plan j s new = record {
@@ -63,7 +63,7 @@ nothing_found listed g plan j s new = record {
   order = rw new.drawn refl;
 }
 
--- a chunk more
+-- with one chunk more drawn and its findings added, the findings are of the chunks drawn, in order
 pub drawn_more : {L : Type 0} (plan : Setup) (j : Shared) (s u : TicketSeat) (n : ℕ) (a b : List (Finding Run L))
     → view u ≡ with_drawn (view s) n → map finding_initiator a ≡ gathered (chunks_in plan j) (view s).drawn
     → map finding_initiator b ≡ map finding_initiator a ++ slice_index_or (chunks_in plan j) n []
@@ -76,7 +76,7 @@ drawn_more plan j s u n a b is was more =
 -- with the whole share, the findings weigh what the idle processes do
 pub all_worked : {L : Type 0} (listed : L → List ℕ) (g : Graph) (plan : Setup) (j : Shared) (s : Seats)
     (found : List (Finding Run L)) → IsMadeFor g plan j → IsTicketSeatOf j.tickets s.tickets
-        → (view s.tickets).share ≡ 64
+    → (view s.tickets).share ≡ 64
     → IsWorked listed g plan j s found
     → (weight : ℕ → ℕ) → total weight (map finding_initiator found) ≡ total weight j.idle.items
 all_worked listed g plan j s found made own whole w weight =

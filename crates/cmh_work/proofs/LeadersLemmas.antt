@@ -63,11 +63,11 @@ led_leads_nobody g p w less q e same =
 
 -- ---- a leader for each member
 
--- no member, no change
+-- to lead no member changes nothing
 pub leads_none : (leader : ℕ) (list : List (Option ℕ)) → LeadsEach leader [] list list
 leads_none leader list = record { size = refl; led = λ p c. absurd (omega (arith, c.1)); kept = λ p n. refl }
 
--- one member more
+-- where the members before one are led, and then that one, the members up to it are led
 pub leads_more : (leader i : ℕ) (members : List ℕ) (old list : List (Option ℕ)) → i < length members
     → get_or members i 0 < length list → LeadsEach leader (take i members) old list
     → LeadsEach leader (take (i + 1) members) old (set list (get_or members i 0) (Some leader))
@@ -97,7 +97,7 @@ below_yes : (dead : Bool) (leader bound : ℕ) → dead ≡ true → leader < bo
     → cond (dead && ltb leader bound) (Some leader) None ≡ Some leader
 below_yes dead leader bound e l = rw (e, lt-ltb leader bound l) refl
 
--- one that has a leader has it below the bound
+-- where a deadlocked process's leader below the bound is asked for and given, it is below the bound
 below_some : (dead : Bool) (leader bound : ℕ)
     → is_some (cond {A = Option ℕ} (dead && ltb leader bound) (Some leader) None) ≡ true → leader < bound
 below_some false leader bound e = cc
@@ -112,28 +112,28 @@ below_some true leader bound e = below_some_by (ltb leader bound) leader bound r
 abbrev pub AreLeadersBelow : Graph → ℕ → List (Option ℕ) → Type 0
 AreLeadersBelow g bound list = list ≡ map (leader_below g bound) (indices g)
 
--- it has a place for each process
+-- the table of leaders below a bound has a place for each process
 pub leaders_size : (g : Graph) (bound : ℕ) (list : List (Option ℕ)) → AreLeadersBelow g bound list
     → length list ≡ process_count g
 leaders_size g bound list are = ap length are ∙ length-by_index g (leader_below g bound)
 
--- what the table has at a place
+-- at a process's place the table of leaders below a bound has its leader, if that is below the bound
 leader_read : (g : Graph) (bound p : ℕ) (list : List (Option ℕ)) → AreLeadersBelow g bound list
     → p < process_count g → leader_at list p ≡ leader_below g bound p
 leader_read g bound p list are i = by_index g (leader_below g bound) list p None are i
 
--- nobody is below zero
+-- no leader is below 0
 none_below : (leader : ℕ) (b : Bool) → ltb leader 0 ≡ b → None ≡ cond {A = Option ℕ} b (Some leader) None
 none_below leader true e = absurd (omega (arith, ltb-true leader 0 e))
 none_below leader false e = refl
 
--- a table of nothing
+-- a table of nothing has no leader at any place
 pub none_at : (n p : ℕ) → leader_at (replicate n None) p ≡ None
 none_at zero p = refl
 none_at (suc n) zero = refl
 none_at (suc n) (suc p) = none_at n p
 
--- at first there is none
+-- a table without a leader is that of the leaders below 0
 pub leaders_start : (g : Graph) (list : List (Option ℕ)) → length list ≡ process_count g
     → ((p : ℕ) → leader_at list p ≡ None) → AreLeadersBelow g 0 list
 unfolding leader_below
@@ -145,13 +145,13 @@ leaders_start g list size none =
     below_zero false leader = refl
     below_zero true leader = none_below leader (ltb leader 0) refl
 
--- a process that leads nobody changes nothing
+-- where p leads nobody, the table of leaders below p is that below p + 1
 leaders_kept : (g : Graph) (p : ℕ) (list : List (Option ℕ)) → AreLeadersBelow g p list
     → ((q : ℕ) → is_deadlocked g q ≡ true → leader_of g q ≢ p) → AreLeadersBelow g (p + 1) list
 leaders_kept g p list are nobody =
     are ∙ by_index_agree g (leader_below g p) (leader_below g (p + 1)) None (λ q l. not_led g p q (nobody q))
 
--- a process that has a leader changes nothing
+-- where p has a leader in the table of leaders below p, that is the table below p + 1
 leaders_led : (g : Graph) (p : ℕ) (list : List (Option ℕ)) → IsWithinGraph g → p < process_count g
     → AreLeadersBelow g p list → is_some (leader_at list p) ≡ true → AreLeadersBelow g (p + 1) list
 unfolding leader_below
@@ -185,7 +185,7 @@ cases_led g p q false e = inr (λ f. cc)
 cases_led g p q true e =
     elim (cases_eq (leader_of g q) p) [ inl same ↦ inl (refl, same) | inr other ↦ inr (λ f. other) ]
 
--- the core of a new leader is led
+-- once the core of a new leader p is led, the table of leaders below p has become that below p + 1
 pub leaders_more : (g : Graph) (p : ℕ) (core : List ℕ) (list new : List (Option ℕ)) → IsWithinGraph g
     → AreLeadersBelow g p list → is_deadlocked g p ≡ true → leader_at list p ≡ None → core ≡ core_of g p
     → LeadsEach p core list new → AreLeadersBelow g (p + 1) new
@@ -208,7 +208,7 @@ leaders_more g p core list new w are dead none is each =
           ∙ not_led g p q other
     ])
 
--- below the number of processes are all leaders
+-- the table of leaders below the number of processes has all leaders
 pub leaders_all : (g : Graph) (bound : ℕ) (list : List (Option ℕ)) → IsWithinGraph g → process_count g ≤ bound
     → AreLeadersBelow g bound list → list ≡ map (group_leader g) (indices g)
 unfolding leader_below group_leader
@@ -225,7 +225,7 @@ leaders_all g bound list w l are =
 
 -- ---- the step of the search for leaders
 
--- the word of a verdict is its test
+-- a verdict that is chosen by a test says what the test says
 says_chosen : (b : Bool) → says_deadlocked (cond b Deadlocked Free) ≡ b
 says_chosen true = refl
 says_chosen false = refl
@@ -235,19 +235,19 @@ says_at : (g : Graph) (known : List Verdict) (p : ℕ) → known ≡ verdicts g 
     → is_deadlocked_at known p ≡ is_deadlocked g p
 says_at g known p are i = ap says_deadlocked (verdict_listed g known p Free are i) ∙ says_chosen (is_deadlocked g p)
 
--- what a new leader passes
+-- where the test of a new leader holds, the process is deadlocked and has no leader yet
 new_leader_by : (dead : Bool) (o : Option ℕ) → (dead && is_none o) ≡ true → (dead ≡ true) × (o ≡ None)
 new_leader_by false o e = cc
 new_leader_by true (Some l) e = cc
 new_leader_by true None e = (refl, refl)
 
--- what any other process fails
+-- where the test of a new leader fails, the process isn't deadlocked or has a leader
 no_leader_by : (dead : Bool) (o : Option ℕ) → (dead && is_none o) ≡ false → (dead ≡ false) ⊎ (is_some o ≡ true)
 no_leader_by false o e = inl refl
 no_leader_by true (Some l) e = inr refl
 no_leader_by true None e = cc
 
--- a process that is no new leader changes nothing
+-- where p is no new leader, the table of leaders below p is that below p + 1
 pub leaders_passed : (g : Graph) (known : List Verdict) (p : ℕ) (list : List (Option ℕ)) (test : Bool) → IsWithinGraph g
     → p < process_count g → known ≡ verdicts g → AreLeadersBelow g p list
     → test ≡ (is_deadlocked_at known p && is_none (leader_at list p)) → test ≡ false → AreLeadersBelow g (p + 1) list
@@ -257,7 +257,7 @@ leaders_passed g known p list test w i are table is not_so =
       | inr led ↦ leaders_led g p list w i table led
     ]
 
--- a new leader's core is led
+-- where p is a new leader and its core is led, the table of leaders below p has become that below p + 1
 pub leaders_led_more : (g : Graph) (known : List Verdict) (p : ℕ) (core : List ℕ) (list new : List (Option ℕ))
     (test : Bool) → IsWithinGraph g → p < process_count g → known ≡ verdicts g → AreLeadersBelow g p list
     → test ≡ (is_deadlocked_at known p && is_none (leader_at list p)) → test ≡ true → core ≡ core_of g p

@@ -5,7 +5,7 @@ use Rattle.cmh_board.specs.declared.hints.BoardHints.{BoardHints}
 use Rattle.cmh_board.specs.Board.{board_graph, SitsAt, IsAway}
 use Rattle.cmh_board.specs.Hints.{SpeaksOf, Keeps}
 
--- it sits at the board afterwards, and holds nothing
+-- a seat that was lent to hints sits at the board afterwards, and holds nothing
 pub still_sits : (b : Board) (h after : BoardHints) → h.board.now ≡ b → SpeaksOf h (board_graph b) → Keeps h after
     → SitsAt b after.seat.now × IsAway after.seat.now
 still_sits b h after is s k =

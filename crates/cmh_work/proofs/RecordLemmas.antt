@@ -15,7 +15,7 @@ use Rattle.cmh_work.specs.declared.record.Record.{Record}
 use Rattle.cmh_work.specs.Record.{IsRowFor}
 use Rattle.cmh_work.specs.Numbering.{IsNumbered, AreNumbered, AreRowNumbers}
 
--- a finding and its record more
+-- numbered findings with one more, and its record, are numbered
 pub numbered_more : {L : Type 0} {R : Type 0} (rows : List Row) (fs : List (Finding R L)) (rs : List (Record R L))
     (f : Finding R L) (r : Record R L) → AreNumbered rows fs rs → IsNumbered rows f r
     → AreNumbered rows (fs ++ f ∷ []) (rs ++ r ∷ [])
@@ -24,11 +24,11 @@ numbered_more rows [] (x ∷ xs) f r h k = absurd h
 numbered_more rows (y ∷ ys) [] f r h k = absurd h
 numbered_more rows (y ∷ ys) (x ∷ xs) f r h k = (h.0, numbered_more rows ys xs f r h.1 k)
 
--- what a row that is p's says, the rows say that begin with it
+-- what a row of p says, the rows say of p that begin with it
 said_here : (r : Row) (rest : List Row) (p : ℕ) → eqb r.process p ≡ true → fold_at (r ∷ rest) p ≡ Some r.verdict
 said_here r rest p e = ap (λ b. cond b (Some r.verdict) (fold_at rest p)) e
 
--- and what a row that isn't p's says is of no matter
+-- a row in front of another process than p changes nothing of what the rows say of p
 said_later : (r : Row) (rest : List Row) (p : ℕ) → eqb r.process p ≡ false → fold_at (r ∷ rest) p ≡ fold_at rest p
 said_later r rest p e = ap (λ b. cond b (Some r.verdict) (fold_at rest p)) e
 
@@ -54,7 +54,7 @@ pub record NumbersFrom (rows : List Row) (count n : ℕ) (numbers : List ℕ) : 
   pub few : n ≤ length rows
   pub each : (p : ℕ) (v : Verdict) → fold_at (drop n rows) p ≡ Some v → IsRowFor rows (get_or numbers p 0) p v
 
--- past the last row there is none
+-- past the last row there is nothing to number
 pub numbers_start : (rows : List Row) (count n : ℕ) (numbers : List ℕ) → n ≡ length rows → length numbers ≡ count
     → NumbersFrom rows count n numbers
 numbers_start rows count n numbers end size = record {
@@ -74,7 +74,7 @@ row_for rows n p r v low at process verdict =
     λ i. record { process = process i; verdict = verdict i; last = r.last } in
     (r.last, slice_get_read rows (length rows) n r refl low at ∙ ap Some row)
 
--- the row before these gets its number
+-- once the row before the numbered ones has its number, the rows from it on are numbered
 pub numbers_more : (rows : List Row) (count k n : ℕ) (d : Row) (numbers : List ℕ) → k ≡ n + 1
     → All (λ (r : Row). r.process < count) rows → NumbersFrom rows count k numbers
     → NumbersFrom rows count n (set numbers (get_or rows n d).process n)
@@ -107,7 +107,7 @@ numbers_more rows count k n d numbers next w s =
           ];
     }
 
--- from the first row on, these are the numbers of all rows
+-- numbers from the first row on are the numbers of all rows
 pub numbers_all : (rows : List Row) (count n : ℕ) (numbers : List ℕ) → n ≡ 0
     → All (λ (r : Row). r.process < count) rows → NumbersFrom rows count n numbers → AreRowNumbers rows numbers
 numbers_all rows count n numbers first w s = record {

@@ -11,7 +11,7 @@ use Rattle.std.specs.List.Sorted.{IsNonDecreasingBy, IsPermutation}
 use Rattle.std.proofs.lemmas.List.Sorted.{sum_by-IsPermutation}
 use Rattle.cmh_rw.specs.Machine.{total}
 
--- 1 where the test passes
+-- 1 where the test passes, else 0
 abbrev bit : Bool → ℕ
 bit true = 1
 bit false = 0
@@ -26,7 +26,7 @@ abbrev pub Rises : List ℕ → Type 0
 Rises [] = Unit {0}
 Rises (x ∷ xs) = AllFrom x xs × Rises xs
 
--- none of those is below a lesser bound
+-- of numbers that are no less than x, none is below a bound up to x
 low_none : (x z : ℕ) (xs : List ℕ) → AllFrom x xs → z ≤ x → total (λ k. bit (ltb k z)) xs ≡ 0
 low_none x z [] all le = refl
 low_none x z (y ∷ ys) all le = let r = low_none x z ys all.1 le in let a = all.0 in let b =
@@ -53,7 +53,7 @@ same_rising (x ∷ xs) (y ∷ ys) up up' same = let a = first_least x xs y ys up
     first_least y ys x xs up.0 (λ h. sym (same h)) in let e : x ≡ y = omega arith in
     let rest = same_rising xs ys up.1 up'.1 (λ h. let w = same h in let f = ap h e in omega arith) in λ k. e k ∷ rest k
 
--- where each number is less than those after it, they rise
+-- where x is no greater than any number of a list, no number of it is less than x
 all_above : (x : ℕ) (xs : List ℕ) → ((k d : ℕ) → k < length xs → x ≤ get_or xs k d) → AllFrom x xs
 all_above x [] h = tt
 all_above x (y ∷ ys) h = (h 0 y (omega arith), all_above x ys (λ k d low. h (suc k) d (omega arith)))
@@ -88,7 +88,7 @@ module _ {X : Type 0} where
   total-sum_by f [] = refl
   total-sum_by f (x ∷ xs) = omega (arith, total-sum_by f xs, sum_by-cons f x xs)
 
-  -- the total of what is mapped
+  -- the total of a mapped list is that of the list by what each is mapped to
   total-map : (h : ℕ → ℕ) (f : X → ℕ) (xs : List X) → total h (map f xs) ≡ total (λ x. h (f x)) xs
   total-map h f [] = refl
   total-map h f (x ∷ xs) = omega (arith, total-map h f xs)
@@ -103,7 +103,7 @@ module _ {X : Type 0} where
   sorted_same f xs ys zs p up up' same = same_rising (map f ys) zs (rises_by f ys up) up'
       (λ h. total-map h f ys ∙ total-permutation (λ x. h (f x)) xs ys p ∙ sym (total-map h f xs) ∙ same h)
 
--- the idle processes rise
+-- the list of the idle processes rises
 pub rises_from : (g : Graph) → Rises (idle_list g)
 rises_from g =
     rises_pairs (idle_list g) (AllPairs-filter (λ x y. x < y) (is_idle g) (indices g) (rising (process_count g)))

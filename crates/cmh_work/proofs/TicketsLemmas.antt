@@ -21,22 +21,22 @@ St = State (Unit {0}) TicketView
 abbrev Sat : Type 0
 Sat = Me (Unit {0}) TicketView
 
--- what is set stands there
+-- what is set at a place of a list stands there
 set_at : {A : Type 0} (l : List A) (i : ℕ) (a b : A) → get_elem? l i ≡ some a → get_elem? (set l i b) i ≡ some b
 set_at [] i a b e = absurd (some-ne-none a (sym e))
 set_at (x ∷ xs) zero a b e = refl
 set_at (x ∷ xs) (suc i) a b e = set_at xs i a b e
 
--- one number more below the bound
+-- with a bound one greater the sum is greater by the weight of the old bound
 sum-step : (h : ℕ → ℕ) (n : ℕ) → sum_below h (n + 1) ≡ sum_below h n + h n
 sum-step h n = simp unary_clauses refl
 
--- how many there are, as a total
+-- the length of a list is its total, where each number weighs 1
 total-ones : (l : List ℕ) → total (λ _. 1) l ≡ length l
 total-ones [] = refl
 total-ones (x ∷ xs) = omega (arith, total-ones xs)
 
--- how many numbers are below the bound, as a sum
+-- the sum below a bound is the bound, where each number weighs 1
 sum-ones : (n : ℕ) → sum_below (λ _. 1) n ≡ n
 sum-ones zero = refl
 sum-ones (suc n) = omega (arith, sum-ones n)
@@ -51,7 +51,7 @@ done-le : (views : List TicketView) → total done_share views ≤ total ticket_
 done-le [] = omega arith
 done-le (v ∷ vs) = omega (arith, done-le vs, share_if-le v.done v.share)
 
--- the word is far from the end of its range
+-- the word of the tickets is far from the end of its range
 small-word : (key : ℕ) (s : St) → Dealt key s → get_or s.words 0 0 < 4294967361
 small-word key s h = let d = done-le s.views in let a = h.over in let b = h.small in let c = h.shares in omega arith
 
@@ -59,7 +59,7 @@ small-word key s h = let d = done-le s.views in let a = h.over in let b = h.smal
 later : (key x y : ℕ) (v : TicketView) → x ≤ y → IsTicketSeat key x v → IsTicketSeat key y v
 later key x y v le h = record { bare = h.bare; knows = h.knows; past = λ d. let p = h.past d in omega arith }
 
--- a seat with each share is the only one that has drawn
+-- where nobody has a share, nobody has drawn a number
 none_drawn : (key x : ℕ) (views : List TicketView) (f : ℕ → ℕ)
     → ((i : ℕ) (v : TicketView) → get_elem? views i ≡ some v → IsTicketSeat key x v) → total ticket_share views ≡ 0
     → total (λ v. total f v.drawn) views ≡ 0
@@ -127,7 +127,7 @@ drawn_kept key s id me h at mine fresh some_share low = let x = get_or s.words 0
     no_true : false ≢ true
     no_true e = cc
 
--- so does a draw past the end
+-- a draw past the end keeps the rule
 done_kept : (key : ℕ) (s : St) (id : ℕ) (me : Sat) → Dealt key s → get_elem? s.views id ≡ some me.0 → me.0.chunks ≡ key
     → me.0.done ≡ false → 0 < me.0.share → key ≤ get_or s.words 0 0
     → Dealt key (stepped s 0 ((get_or s.words 0 0 + 1) % 18446744073709551616) id me.1 (with_done me.0) keeps)
@@ -179,7 +179,7 @@ draws key slots id me mine fresh some_share s h _ at _ =
       ),
     )
 
--- a load changes no view
+-- a load keeps the rule, and changes no view
 pub measures : (key slots id : ℕ) (me : Sat)
     → Allows (Dealt key) slots id me 0 (λ n. n) (Measured (step slots 0 0 0 none) me)
 measures key slots id me s h _ at _ = let few = h.shares in let mine = total-in ticket_share s.views id me.0 at in (
@@ -274,7 +274,7 @@ joins key id v other w some_share s h at apart there = let x = get_or s.words 0 
     no_true : false ≢ true
     no_true e = cc
 
--- at first the rule holds
+-- the opening state of the tickets meets the rule
 pub opens : (key : ℕ) → key < 2 ^ 32 → Dealt key (opening (0 ∷ []) [] (ticket_opening_view key))
 opens key small = record {
   reached = 0;

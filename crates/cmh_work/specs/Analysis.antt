@@ -29,7 +29,7 @@ abbrev pub IsPostedBy : List Row → List Row → Run → Type 0
 IsPostedBy before posting run = let told = posting_of run in
     posting ≡ rows_of told.verdict (unposted before told.processes)
 
--- and the run is that of a record
+-- the posting is what the run of a record tells, but for whom stood in a row before
 abbrev pub IsOfRecord : {L : Type 0} → List (Record Run L) → List Row → List Row → Type 0
 IsOfRecord {L = L} records before posting = (r : Record Run L) × Contains records r
     × (run : Run) × (r.source ≡ FromRun run) × IsPostedBy before posting run

@@ -15,7 +15,7 @@ abbrev pub says_deadlocked : Verdict → Bool
 says_deadlocked Deadlocked = true
 says_deadlocked Free = false
 
--- whether the verdict at that place says so; past the end it doesn't
+-- whether the verdict at that place is that the process is deadlocked; past the end it isn't
 abbrev pub is_deadlocked_at : List Verdict → ℕ → Bool
 is_deadlocked_at known p = says_deadlocked (slice_index_or known p Free)
 

@@ -19,7 +19,7 @@ pub record IsAcceptedPlan (s : Setup) : Type 0 where
   pub cuts_few : length s.cuts ≤ MAX_CUTS
   pub choices_few : length s.choices ≤ MAX_CHOICES
 
--- there is a worker, and there aren't too many
+-- the plan has a worker, and not too many
 abbrev pub AreWorkers : Setup → Type 0
 AreWorkers s = (0 < s.workers) × (s.workers ≤ MAX_WORKERS)
 

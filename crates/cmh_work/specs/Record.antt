@@ -22,7 +22,7 @@ abbrev pub IsRowFor : List Row → ℕ → ℕ → Verdict → Type 0
 IsRowFor history n p verdict = (last : Bool)
     × (slice_get history n ≡ Some (record { process = p; verdict = verdict; last = last }))
 
--- the verdict of p is known by such a run, or by that row
+-- the verdict of p is known by a run of p that tells it, or by a row of the history
 abbrev pub IsSource : Graph → List ℕ → List Row → ℕ → Verdict → Origin Run → Type 0
 IsSource g choices history p verdict (FromRun run) = IsRunFor g choices p verdict run
 IsSource g choices history p verdict (FromBoard n) = IsRowFor history n p verdict

@@ -19,7 +19,7 @@ sum_below weight (suc n) = sum_below weight n + weight n
 abbrev pub ticket_opening_view : ℕ → TicketView
 ticket_opening_view chunks = record { chunks = chunks; share = 64; drawn = []; done = false }
 
--- it gave 1 of its share away
+-- what a seat knows once it gave 1 of its share away
 abbrev pub ticket_less_one : TicketView → TicketView
 ticket_less_one v = record v { share = v.share - 1 }
 
@@ -27,7 +27,7 @@ ticket_less_one v = record v { share = v.share - 1 }
 abbrev pub ticket_newcomer : TicketView → TicketView
 ticket_newcomer v = record { chunks = v.chunks; share = 1; drawn = []; done = v.done }
 
--- it took another seat in
+-- what a seat knows once it took another seat in
 abbrev pub joined_views : TicketView → TicketView → TicketView
 joined_views v w = record v {
   share = v.share + w.share;
@@ -61,11 +61,11 @@ KnowsAll v = v.done ≡ true → v.share ≡ 64 → DrewAll v
 abbrev pub ticket_share : TicketView → ℕ
 ticket_share v = v.share
 
--- these shares where the test holds, else none
+-- the shares where the test holds, else none
 abbrev pub share_if : Bool → ℕ → ℕ
 share_if done share = if done then share else 0
 
--- the share of a seat that got none
+-- the share of a seat, where it found no chunk left, else none
 abbrev pub done_share : TicketView → ℕ
 done_share v = share_if v.done v.share
 
@@ -121,10 +121,10 @@ Sitting = Me (Unit {0}) TicketView
 abbrev pub after_draw : ℕ → TicketView → TicketView
 after_draw n v = if nat_lt n v.chunks then with_drawn v n else with_done v
 
--- what a draw tells
+-- what a draw tells the seat that draws
 abbrev pub Drew : Step (Unit {0}) → Sitting → ℕ → Sitting → Type 0
 Drew st m n m' = (m' ≡ (after_draw n m.0, m.1)) × (length m.0.drawn ≤ n) × KnowsAll m'.0
 
--- what a load tells
+-- what a load tells the seat that loads
 abbrev pub Measured : Step (Unit {0}) → Sitting → ℕ → Sitting → Type 0
 Measured st m n m' = (m' ≡ m) × (m.0.share ≤ 64) × KnowsAll m.0

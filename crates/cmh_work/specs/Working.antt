@@ -13,7 +13,7 @@ use Rattle.cmh_work.specs.Seats.{view, IsTicketSeatOf}
 use Rattle.cmh_work.specs.Shape.{AreShapesOf}
 use Rattle.cmh_work.specs.Finding.{finding_initiator, Accounts}
 
--- it was made for this graph and this plan
+-- what the workers share was made for this graph and this plan
 pub record IsMadeFor (g : Graph) (plan : Setup) (s : Shared) : Type 0 where
   pub idle : s.idle.items ≡ idle_list g
   pub bounds : s.bounds.items ≡ bounds_of plan.cuts (length s.idle.items)
@@ -35,7 +35,7 @@ pub record AreSeated (s : Shared) (seats : Seats) : Type 0 where
   pub board : SitsIn s seats.board
   pub tickets : IsTicketSeatOf s.tickets seats.tickets
 
--- nothing is drawn and nothing added yet
+-- the seats have drawn nothing and added nothing yet
 pub record AreNew (seats : Seats) : Type 0 where
   pub drawn : (view seats.tickets).drawn ≡ []
   pub mine : (known seats.board).mine ≡ []
@@ -53,7 +53,7 @@ pub record AreOf {L : Type 0} (listed : L → List ℕ) (g : Graph) (plan : Setu
   pub accounts : Accounts listed g plan.choices (known seats.board) found
   pub order : map finding_initiator found ≡ gathered (chunks_in plan s) (view seats.tickets).drawn
 
--- and no chunk is left
+-- what was found is of the chunks that the seat drew, in order, and no chunk is left
 pub record IsWorked {L : Type 0} (listed : L → List ℕ) (g : Graph) (plan : Setup) (s : Shared) (seats : Seats)
     (found : List (Finding Run L))
     : Type 0 where

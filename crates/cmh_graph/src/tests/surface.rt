@@ -5,9 +5,9 @@ use super::{
     parts_of,
 };
 use crate::laws::{
-    law_built_graph, law_chosen_path, law_closed_set, law_core, law_distance, law_group_number,
-    law_leader, law_leaders, law_chosen_path_exists, law_path_length, law_reach, law_rest, law_rising,
-    law_verdict, law_well_formed,
+    law_built_graph, law_chosen_path, law_chosen_path_exists, law_closed_set, law_core,
+    law_distance, law_group_number, law_leader, law_leaders, law_path_length, law_reach, law_rest,
+    law_rising, law_verdict, law_well_formed,
 };
 use crate::{GraphFault, Part, Predecessors, State, Verdict, WaitGraph};
 

@@ -20,5 +20,5 @@ pub prove-unreachable-requires : goal.prove-unreachable-requires
 prove-unreachable-requires c =
     let memory = refused_for_memory_alone (view c.args.tree.now) _ c.in-Err.fault c.in_ok-parts.ensures.0
     (ap (parts_graph c.in_ok-parts.parts.items) c.deref.ensures.value ∙ c.in_ok-parts.ensures.1)
-        c.in-Err.ensures.fault in
+    c.in-Err.ensures.fault in
     elim c.match-matches.branch [ in-Memory w ↦ (cc) | in_default w ↦ w.in_default.not-Memory memory ]

@@ -15,7 +15,7 @@ returns-in-Some-2-clause-fault c =
     let few : length parts ≤ MAX_PROCESSES = c.if-parts-gt-MAX_PROCESSES.false in
     let found =
     subst (λ o. IfSome o (λ at. IsFirstEntry (λ i j. HasGraphFault (parts_graph parts []) (RepeatedDependent i j))
-        at.0 at.1))
+    at.0 at.1))
     c.in-Some-2.is c.in_ok-i.ensures.some in
     inr (first_repeat g _ _ (omega (arith, few, as_many parts))
     (few_entries (dependent_count g) MAX_DEPENDENCIES c.if-has_too_many_dependents.ensures) c.in_default.ensures.none
@@ -29,7 +29,7 @@ returns-in-Some-active_with_dependents-clause-fault c =
     let few : length parts ≤ MAX_PROCESSES = c.if-parts-gt-MAX_PROCESSES.false in
     let distinct =
     subst (λ o. IfNone o ((i j : ℕ) → HasGraphFault (parts_graph parts []) (RepeatedDependent i j) → ⊥))
-        c.in_default-2.is
+    c.in_default-2.is
     c.in_ok-i.ensures.none in
     inr (first_active g _ (omega (arith, few, as_many parts))
     (few_entries (dependent_count g) MAX_DEPENDENCIES c.if-has_too_many_dependents.ensures) c.in_default.ensures.none
@@ -43,7 +43,7 @@ returns-then-in_transit-gt-MAX_IN_TRANSIT-clause-fault c =
     let few : length parts ≤ MAX_PROCESSES = c.if-parts-gt-MAX_PROCESSES.false in
     let distinct =
     subst (λ o. IfNone o ((i j : ℕ) → HasGraphFault (parts_graph parts []) (RepeatedDependent i j) → ⊥))
-        c.in_default-2.is
+    c.in_default-2.is
     c.in_ok-i.ensures.none in
     inr (first_in_transit g (omega (arith, few, as_many parts))
     (few_entries (dependent_count g) MAX_DEPENDENCIES c.if-has_too_many_dependents.ensures) c.in_default.ensures.none
@@ -57,7 +57,7 @@ returns-in-Some-transit_out_of_range-clause-fault c =
     let few : length parts ≤ MAX_PROCESSES = c.if-parts-gt-MAX_PROCESSES.false in
     let distinct =
     subst (λ o. IfNone o ((i j : ℕ) → HasGraphFault (parts_graph parts []) (RepeatedDependent i j) → ⊥))
-        c.in_default-2.is
+    c.in_default-2.is
     c.in_ok-i.ensures.none in
     inr (first_transit g _ (omega (arith, few, as_many parts))
     (few_entries (dependent_count g) MAX_DEPENDENCIES c.if-has_too_many_dependents.ensures) c.in_default.ensures.none
@@ -71,7 +71,7 @@ returns-in-None-clause-ok c =
     let few : length parts ≤ MAX_PROCESSES = c.if-parts-gt-MAX_PROCESSES.false in
     let distinct =
     subst (λ o. IfNone o ((i j : ℕ) → HasGraphFault (parts_graph parts []) (RepeatedDependent i j) → ⊥))
-        c.in_default-2.is
+    c.in_default-2.is
     c.in_ok-i.ensures.none in
     well_formed_then g (omega (arith, few, as_many parts))
     (few_entries (dependent_count g) MAX_DEPENDENCIES c.if-has_too_many_dependents.ensures) c.in_default.ensures.none

@@ -13,7 +13,7 @@ use Rattle.cmh_report.proofs.Words.{deadlocked_words, free_words}
 use Rattle.cmh_report.proofs.parallel.line_of_process.Goals as goal
 use Rattle.cmh_report.proofs.parallel.line_of_process.Goals.{in-Some+in_ok-push_deadlocked-in-Some, in-None+in_ok-path-in-None+in_ok-push_free-in-None}
 
--- there is a place for each process
+-- the table of leaders has a place for the process
 pub index-requires : goal.index-requires
 index-requires c =
     omega (
@@ -23,7 +23,7 @@ index-requires c =
       c.requires.within,
     )
 
--- the leader is a process too
+-- the leader of the process is a process of the graph
 pub index-requires-in-Some : goal.index-requires-in-Some
 index-requires-in-Some c =
     let g = c.args.graph.now in
@@ -42,7 +42,7 @@ index-requires-in-Some c =
       c.args.groups.now.numbers.ok.0,
     )
 
--- nobody leads a process that is free
+-- a process without a leader isn't deadlocked
 pub path_of-requires-clause-free : goal.path_of-requires-clause-free
 path_of-requires-clause-free c =
     let g = c.args.graph.now in

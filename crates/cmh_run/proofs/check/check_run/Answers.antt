@@ -14,7 +14,7 @@ use Rattle.cmh_run.specs.Audit.{Agrees, IsSettled, IsAudited, IsFlaw}
 use Rattle.cmh_run.proofs.CheckLemmas.{flaw_is_fault, answer_legal, answer_true, answer_cut}
 use Rattle.cmh_run.proofs.check.check_run.Goals as goal
 
--- what is wrong with a delivery is the first fault
+-- what is wrong with a delivery is the first fault of the log, unless memory was refused
 pub returns-in_err-deliver-clause-fault : goal.returns-in_err-deliver-clause-fault
 returns-in_err-deliver-clause-fault c =
     let p = err_from_is_err_and c.from_residual-in_err-deliver.result c.from_residual-in_err-deliver.ensures.1 in
@@ -47,7 +47,7 @@ returns-clause-legal c =
     (take_all c.loop-t.t c.args.log.now c.loop-t-test.false) c.loop-t.invariant)
     c.ending.result c.ending.ensures.some)
 
--- the ending tells the truth
+-- the ending that is answered tells the truth
 pub returns-clause-true_verdict : goal.returns-clause-true_verdict
 returns-clause-true_verdict c =
     subst (λ r. IfOk r (λ ending. (ending ≡ Declared) ↔ IsDeadlocked c.args.graph.now c.args.initiator))
@@ -57,7 +57,7 @@ returns-clause-true_verdict c =
     (take_all c.loop-t.t c.args.log.now c.loop-t-test.false) c.loop-t.invariant)
     c.ending.result c.ending.ensures.some)
 
--- without one the log is cut short
+-- where no ending is answered, the first fault of the log is that it is cut short
 pub returns-clause-fault : goal.returns-clause-fault
 returns-clause-fault c =
     subst (λ r. IfErr r (λ e. (e ≡ Memory) ⊎ IsFirstCheckFault c.args.graph.now c.args.initiator c.args.log.now e))

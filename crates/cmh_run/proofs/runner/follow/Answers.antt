@@ -30,7 +30,7 @@ deliver-requires-clause-within g c =
     (next_is c.args.choices.now c.loop-message.left c.loop-message.progress.going.done c.next.result
     c.loop-message.invariant.left c.next.ensures.first))
 
--- what it sends has room in words
+-- when a message is delivered, what its receiver sends has room in a word
 pub deliver-requires-clause-sender : goal.deliver-requires-clause-sender
 deliver-requires-clause-sender g c =
     taken_sender c.args.graph.now c.args.initiator c.args.choices.now c.args.restarts.now c.loop-message.progress
@@ -154,7 +154,7 @@ returns-clause-true_verdict g c =
     (next_is c.args.choices.now c.loop-message.left c.loop-message.progress.going.done c.next.result
     c.loop-message.invariant.left c.next.ensures.first)) c.finish.ensures.log)
 
--- it started again no more often than it was to
+-- a run that is kept started again no more often than it was to
 pub returns-clause-restarted : goal.returns-clause-restarted
 returns-clause-restarted g c =
     restarted_few c.args.graph.now c.args.choices.now c.args.restarts.now c.finish.result.0
@@ -177,7 +177,7 @@ returns-clause-engaged g c =
     (next_is c.args.choices.now c.loop-message.left c.loop-message.progress.going.done c.next.result
     c.loop-message.invariant.left c.next.ensures.first)) c.finish.ensures.log)
 
--- no hint stands in it where nobody answers
+-- where nobody answers, no hint stands in the log that is kept
 pub returns-clause-silent : goal.returns-clause-silent
 returns-clause-silent g c q =
     subst (λ (xs : List Delivery). HasNoHints xs)
@@ -187,7 +187,7 @@ returns-clause-silent g c q =
     c.loop-message.invariant.left c.next.ensures.first))))
     (c.loop-message.invariant.silent q)
 
--- the network is as at first
+-- at the end the network is as at first
 pub returns-clause-blank : goal.returns-clause-blank
 returns-clause-blank g c =
     cleared c.args.graph.now c.args.initiator c.args.choices.now c.args.restarts.now c.loop-message.progress

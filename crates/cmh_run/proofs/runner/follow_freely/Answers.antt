@@ -22,7 +22,7 @@ deliver-requires-clause-within g c =
     c.args.choices.now
     (no_choice c.args.choices.now c.loop-message.progress.going.done c.loop-message.invariant.none))
 
--- what it sends has room in words
+-- when a message is delivered, what its receiver sends has room in a word
 pub deliver-requires-clause-sender : goal.deliver-requires-clause-sender
 deliver-requires-clause-sender g c =
     taken_sender c.args.graph.now c.args.initiator c.args.choices.now c.args.restarts.now c.loop-message.progress
@@ -141,7 +141,7 @@ deliver-requires-clause-speaks g c =
     (g.met.H.Hints.keeps_graphs c.args.hints.now c.loop-message.hints c.args.graph.now
     c.loop-message.invariant.kept).0 c.requires.speaks
 
--- at first it is so
+-- at first the run follows the choices, of which there are none, and no restart is to come
 pub loop-message-init : goal.loop-message-init
 loop-message-init g c = record {
   follows = c.requires.follows;

@@ -51,7 +51,7 @@ returns-clause-text c =
     whatever (Ok v) P h = h
     whatever (Err e) P h = tt
 
--- and the list is the new one
+-- once the list is replaced, the names that are kept are those of the new list
 pub returns-clause-known : goal.returns-clause-known
 returns-clause-known c =
     known c.extend_from_slice.result c.args.graph.now _ c.clear.new.self.items c.args.list.now

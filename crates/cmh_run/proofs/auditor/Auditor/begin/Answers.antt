@@ -3,7 +3,7 @@ use Rattle.cmh_run.specs.Legal.{begun}
 use Rattle.cmh_run.proofs.AuditLemmas.{agrees_first}
 use Rattle.cmh_run.proofs.auditor.Auditor.begin.Goals as goal
 
--- at first nothing was delivered
+-- at first what is kept agrees with a run of which nothing was delivered
 pub returns : goal.returns
 returns c = record {
   ok = (

@@ -19,14 +19,14 @@ returns-then-not-take-clause-fault c = inr (λ log s h settled. (
       (awaited c.args.graph.now c.args.initiator log s c.args.self.now h settled c.args.delivery.message u))),
 ))
 
--- there are as many processes as the graph has
+-- when a hint is judged, the network has as many processes as the graph
 pub is_fit-requires-clause-size : goal.is_fit-requires-clause-size
 is_fit-requires-clause-size c =
     ap (λ (n : Config). length n.procs) c.if-not-take.ensures.network
     ∙ audit_size c.args.graph.now c.args.initiator c.requires.audited.0 c.requires.audited.1.0 c.args.self.now
     c.requires.audited.1.1
 
--- the receiver is one of them
+-- when a hint is judged, the receiver is a process of the graph
 pub is_fit-requires-clause-within : goal.is_fit-requires-clause-within
 is_fit-requires-clause-within c =
     delivery_within c.args.graph.now c.args.initiator c.requires.audited.0 c.requires.audited.1.0 c.args.self.now
@@ -35,7 +35,7 @@ is_fit-requires-clause-within c =
     c.requires.audited.0 c.requires.audited.1.0 c.requires.audited.1.1 c.requires.audited.1.2)
     (c.if-not-take.ensures.found.0 refl)
 
--- the same of the network in its place
+-- when a message is delivered, the network has as many processes as the graph
 pub deliver-requires-clause-size : goal.deliver-requires-clause-size
 deliver-requires-clause-size c =
     ap (λ (a : Audit). length a.network.procs) c.self.view_is
@@ -51,7 +51,7 @@ deliver-requires-clause-within c =
     c.requires.audited.0 c.requires.audited.1.0 c.requires.audited.1.1 c.requires.audited.1.2)
     (c.if-not-take.ensures.found.0 refl)
 
--- what it sends has room in words
+-- when a message is delivered, what its receiver sends has room in a word
 pub deliver-requires-clause-sender : goal.deliver-requires-clause-sender
 deliver-requires-clause-sender c =
     delivery_sender c.args.graph.now c.args.initiator c.requires.audited.0 c.requires.audited.1.0 c.args.self.now
@@ -78,7 +78,7 @@ deliver-requires-clause-engagers c =
     c.requires.audited.0 c.requires.audited.1.0 c.requires.audited.1.1 c.requires.audited.1.2)
     (c.if-not-take.ensures.found.0 refl))
 
--- the run hasn't ended
+-- when a message is delivered, the network hasn't ended
 pub deliver-requires-clause-going : goal.deliver-requires-clause-going
 deliver-requires-clause-going c =
     ap (λ (a : Audit). a.network.ended) c.self.view_is

@@ -4,7 +4,7 @@ use Rattle.cmh_run.specs.Legal.{HintIsFit}
 use Rattle.cmh_run.proofs.CheckLemmas.{truth_at, fit_where_true}
 use Rattle.cmh_run.proofs.auditor.Auditor.is_fit.Goals as goal
 
--- there is a verdict of the receiver
+-- the receiver of the delivery has a verdict in the list
 pub bounds-truth-delivery : goal.bounds-truth-delivery
 bounds-truth-delivery c =
     truth_at c.args.graph.now c.args.truth.now c.args.delivery.message.to c.requires.truth c.requires.within

@@ -2,7 +2,7 @@ use Rattle.std.proofs.Common.{◌%◌, length}
 use Rattle.cmh_run.proofs.AuditLemmas.{agrees_on}
 use Rattle.cmh_run.proofs.auditor.Auditor.settle.Goals as goal
 
--- what was just sent is awaited then
+-- once a message that was just sent is added to the awaited ones, what is kept still agrees with the run
 pub loop-message-preserved : goal.loop-message-preserved
 loop-message-preserved c g i log s h =
     agrees_on g i log s

@@ -4,7 +4,7 @@ use Rattle.cmh_run.specs.Procs.{AreTouched}
 use Rattle.cmh_run.proofs.TouchedProcesses.{one_touched}
 use Rattle.cmh_run.proofs.procs.Procs.start.Goals as goal
 
--- it is one of those that have taken part
+-- a process that starts becomes one of those that have taken part
 pub invariant_of-self-2 : goal.invariant_of-self-2
 invariant_of-self-2 c =
     subst (λ ts. AreTouched ts (slice_set c.self.inside.all.items c.args.k c.start.new.self))

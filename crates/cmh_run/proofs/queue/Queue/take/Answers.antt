@@ -4,7 +4,7 @@ use Rattle.cmh_run.proofs.PackedLemmas.{taken_rest}
 use Rattle.cmh_run.proofs.queue.Queue.take.Goals.{in-Some, in-None}
 use Rattle.cmh_run.proofs.queue.Queue.take.Goals as goal
 
--- the others are left
+-- once a message is taken, the others are left
 pub returns-clause-rest : goal.returns-clause-rest
 returns-clause-rest c = elim c.match-take.branch [
   | in-Some w ↦ rw w.result-is

@@ -1,7 +1,7 @@
 use Rattle.cmh_run.proofs.UndeliveredLemmas.{query_added, reply_added}
 use Rattle.cmh_run.proofs.undelivered.Undelivered.add.Goals as goal
 
--- a query is among the queries then
+-- once a query is added, it is among the queries
 pub returns-in_ok-insert-in-Query : goal.returns-in_ok-insert-in-Query
 returns-in_ok-insert-in-Query c =
     record {
@@ -11,7 +11,7 @@ returns-in_ok-insert-in-Query c =
           c.in_ok-insert-in-Query.ensures.updates.0);
     }
 
--- a reply is among the replies then
+-- once a reply is added, it is among the replies
 pub returns-in_ok-insert-in-Reply : goal.returns-in_ok-insert-in-Reply
 returns-in_ok-insert-in-Reply c =
     record {

@@ -5,7 +5,7 @@ use Rattle.cmh_run.specs.Audit.{Waiting, is_waiting}
 use Rattle.cmh_run.proofs.UndeliveredLemmas.{no_queries, no_replies, none_waiting}
 use Rattle.cmh_run.proofs.undelivered.Undelivered.is_empty.Goals as goal
 
--- there are no queries: it is empty where there are no replies
+-- where there are no queries, nothing is undelivered just if there are no replies
 pub returns-then-is_empty : goal.returns-then-is_empty
 returns-then-is_empty c = (
   λ h. subst (λ (w : Waiting). (m : Message) → is_waiting w m ≡ false) c.self.view_is
@@ -16,7 +16,7 @@ returns-then-is_empty c = (
       (subst (λ (w : Waiting). (m : Message) → is_waiting w m ≡ false) (sym c.self.view_is) none)),
 )
 
--- there are queries
+-- where there are queries, something is undelivered
 pub returns-else-is_empty : goal.returns-else-is_empty
 returns-else-is_empty c = (
   λ h. absurd (true≢false (sym h ∙ c.if-is_empty.false)),

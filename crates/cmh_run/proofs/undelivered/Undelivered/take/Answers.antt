@@ -1,7 +1,7 @@
 use Rattle.cmh_run.proofs.UndeliveredLemmas.{query_taken, reply_taken}
 use Rattle.cmh_run.proofs.undelivered.Undelivered.take.Goals as goal
 
--- a query isn't among the queries then
+-- once a query is taken, it isn't among the queries
 pub returns-in-Query-clause-rest : goal.returns-in-Query-clause-rest
 returns-in-Query-clause-rest c =
     rw (← c.self.view_is)
@@ -9,7 +9,7 @@ returns-in-Query-clause-rest c =
     c.in-Query.is
     c.remove.ensures.updates.0)
 
--- a reply isn't among the replies then
+-- once a reply is taken, it isn't among the replies
 pub returns-in-Reply-clause-rest : goal.returns-in-Reply-clause-rest
 returns-in-Reply-clause-rest c =
     rw (← c.self.view_is)

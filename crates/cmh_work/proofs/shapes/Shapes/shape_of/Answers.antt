@@ -9,7 +9,7 @@ use Rattle.cmh_work.specs.Shape.{IsShape}
 use Rattle.cmh_work.proofs.ShapeLemmas.{leader_stands, way_out}
 use Rattle.cmh_work.proofs.shapes.Shapes.shape_of.Goals as goal
 
--- there is a place for each process
+-- the table of leaders has a place for the process
 pub index-requires : goal.index-requires
 index-requires g c =
     omega (
