@@ -1,11 +1,22 @@
-//! The wait graph.
+//! The wait graph: how it is built, what it holds, and the questions to it: who reaches whom, cores,
+//! distances, paths and verdicts. The steps of its searches are in `search`.
 
-ghost use Rattle.std.specs.Prelude.{◌≡◌, ◌⊎◌, ◌<◌, ◌↔◌, map, [], IfOk, IfErr, IsTrue, not};
+ghost use Rattle.std.specs.Prelude.{◌≡◌, ◌⊎◌, ◌<◌, ◌↔◌, map, [], IfOk, IfErr, IsTrue, not, ◌+◌, length, Some, option_map, All, ◌==◌, ◌≤◌, OnOk, ◌∷◌, None};
 ghost use Rattle.cmh_graph.specs.Graph.{indices, process_count, is_idle, is_idle_state, is_awake, site_of, name_of, dependents_of, idle_list};
 ghost use Rattle.cmh_graph.specs.Build.{parts_graph, IsWellFormed, IsFirstGraphFault};
+ghost use Rattle.cmh_graph.specs.Path.{reach_of, reaches, Reaches, steps_to};
+ghost use Rattle.cmh_graph.specs.Core.{core_of};
+ghost use Rattle.cmh_graph.specs.Search.{ArePredecessors, IsLeastAt, is_marked, predecessors_at, SpreadsFrom};
+ghost use Rattle.cmh_graph.specs.ChosenPath.{distance_of, chosen_path};
+ghost use Rattle.cmh_graph.specs.Verdict.{verdict, verdicts};
+ghost use Rattle.cmh_graph.specs.Alone.{AreAlone, IsTrimming};
 
 use crate::judge::judge;
-use crate::{GraphFault, Part, State};
+use crate::search::{
+    first_distances, least_at, mark_alone, mark_each, mark_each_within, marked, marked_from,
+    next_level,
+};
+use crate::{GraphFault, MAX_PROCESSES, Part, Predecessors, State, Verdict};
 use std::alloc::{AllocError, Global};
 use std::marker::Model;
 
@@ -137,7 +148,11 @@ impl WaitGraph {
     {
         &self.parts[p as usize].name
     }
+}
 
+// Questions to the graph.
+
+impl WaitGraph {
     /// The idle processes, by rising index.
     #[tactic(auto, using(crate::proofs::IndexLists::filter_indices_kept, crate::proofs::IndexLists::filter_indices_passed))]
     pub fn idle_list(&self, alloc: Global) -> Result<Vec<u32>, GraphFault>
@@ -151,6 +166,414 @@ impl WaitGraph {
             }
         }
         Ok(list)
+    }
+
+    /// The processes that `p` reaches, itself among them, by rising index. It takes time and
+    /// memory linear in processes and dependencies; where `p` reaches few, time linear in these and
+    /// their dependencies, beside clearing a mark for each process.
+    pub fn reach_of(&self, alloc: Global, p: u32) -> Result<Vec<u32>, GraphFault>
+        requires { p < process_count self.now }
+        ensures ok { IfOk result (λ list. list.items ≡ reach_of self.now p) }
+        ensures memory { IfErr result (λ e. e ≡ GraphFault.Memory) }
+    {
+        Ok(self.reach_from(alloc, p)?)
+    }
+
+    /// For each process whether `p` reaches it. It takes the time and memory of `reach_of`.
+    pub fn reached(&self, alloc: Global, p: u32) -> Result<Vec<bool>, GraphFault>
+        requires { p < process_count self.now }
+        ensures ok { IfOk result (λ marks.
+            marks.items ≡ map (reaches self.now p) (indices self.now)) }
+        ensures memory { IfErr result (λ e. e ≡ GraphFault.Memory) }
+    {
+        Ok(self.reached_from(alloc, p)?)
+    }
+
+    /// For each process whether `p` reaches it, as `reached` gives it, by those that `q` reaches,
+    /// where `p` reaches `q`. It takes time linear in the processes and in the dependencies of those
+    /// that `p` reaches and `q` doesn't.
+    pub fn reached_by(
+        &self,
+        alloc: Global,
+        p: u32,
+        q: u32,
+        known: &[bool],
+    ) -> Result<Vec<bool>, GraphFault>
+        requires within { p < process_count self.now }
+        requires beyond { Reaches self.now p q }
+        requires known { known.now ≡ map (reaches self.now q) (indices self.now) }
+        ensures ok { IfOk result (λ marks.
+            marks.items ≡ map (reaches self.now p) (indices self.now)) }
+        ensures memory { IfErr result (λ e. e ≡ GraphFault.Memory) }
+    {
+        self.has_no_fault();
+        let mut marks = Vec::from_slice(alloc, known)?;
+        marks[p as usize] = true;
+        Ok(self.spread(alloc, p, marks)?)
+    }
+
+    /// The processes that `p` reaches and that reach `p`, by rising index. It takes time linear in
+    /// processes and dependencies, beside sorting the core, and memory linear in both.
+    pub fn core_of(&self, alloc: Global, p: u32) -> Result<Vec<u32>, GraphFault>
+        requires { p < process_count self.now }
+        ensures ok { IfOk result (λ list. list.items ≡ core_of self.now p) }
+        ensures memory { IfErr result (λ e. e ≡ GraphFault.Memory) }
+    {
+        let predecessors = Predecessors::of_graph(alloc, self)?;
+        self.core_by(alloc, &predecessors, p)
+    }
+
+    /// The core of `p`, as `core_of` gives it, by the predecessors of all processes. It takes time
+    /// linear in the processes, the dependencies of those that `p` reaches and the predecessors of
+    /// those in the core, beside sorting the core, and memory linear in the processes.
+    pub fn core_by(
+        &self,
+        alloc: Global,
+        predecessors: &Predecessors,
+        p: u32,
+    ) -> Result<Vec<u32>, GraphFault>
+        requires within { p < process_count self.now }
+        requires known { ArePredecessors self.now predecessors.now }
+        ensures ok { IfOk result (λ list. list.items ≡ core_of self.now p) }
+        ensures memory { IfErr result (λ e. e ≡ GraphFault.Memory) }
+    {
+        Ok(self.core_from(alloc, predecessors, p)?)
+    }
+
+    /// Marks processes that are a core by themselves: those that nobody depends on, and those whose
+    /// dependents are all marked. There may be others. It takes time linear in processes and
+    /// dependencies, and memory linear in the processes.
+    pub fn alone(&self, alloc: Global, predecessors: &Predecessors) -> Result<Vec<bool>, GraphFault>
+        requires known { ArePredecessors self.now predecessors.now }
+        ensures ok { IfOk result (λ marks. AreAlone self.now marks.items) }
+        ensures memory { IfErr result (λ e. e ≡ GraphFault.Memory) }
+    {
+        Ok(self.trimmed(alloc, predecessors)?)
+    }
+
+    /// For each process the least number of dependencies to an awake process, where there is one.
+    /// It takes time and memory linear in processes and dependencies.
+    pub fn distances(&self, alloc: Global) -> Result<Vec<Option<u32>>, GraphFault>
+        ensures ok { IfOk result (λ list.
+            list.items ≡ map (distance_of self.now) (indices self.now)) }
+        ensures memory { IfErr result (λ e. e ≡ GraphFault.Memory) }
+    {
+        let predecessors = Predecessors::of_graph(alloc, self)?;
+        self.distances_by(alloc, &predecessors)
+    }
+
+    /// The distances, as `distances` gives them, by the predecessors of all processes. It takes time
+    /// linear in processes and dependencies, and memory linear in the processes.
+    pub fn distances_by(
+        &self,
+        alloc: Global,
+        predecessors: &Predecessors,
+    ) -> Result<Vec<Option<u32>>, GraphFault>
+        requires { ArePredecessors self.now predecessors.now }
+        ensures ok { IfOk result (λ list.
+            list.items ≡ map (distance_of self.now) (indices self.now)) }
+        ensures memory { IfErr result (λ e. e ≡ GraphFault.Memory) }
+    {
+        Ok(self.steps_to(alloc, predecessors, self.awake())?)
+    }
+
+    /// Of the shortest paths from `p` to an awake process the one whose indices are least, from
+    /// the front. There is none where `p` is deadlocked, and it is `p` alone where `p` is awake.
+    /// It takes time and memory linear in processes and dependencies.
+    pub fn chosen_path(&self, alloc: Global, p: u32) -> Result<Option<Vec<u32>>, GraphFault>
+        requires { p < process_count self.now }
+        ensures ok { IfOk result (λ path.
+            option_map (λ v. v.items) path ≡ chosen_path self.now p) }
+        ensures memory { IfErr result (λ e. e ≡ GraphFault.Memory) }
+    {
+        let distances = self.distances(alloc)?;
+        self.path_by(alloc, &distances, p)
+    }
+
+    /// The chosen path of `p`, as `chosen_path` gives it, by the distances of all processes. It
+    /// takes time linear in the dependencies of the processes on the path.
+    pub fn path_by(
+        &self,
+        alloc: Global,
+        distances: &[Option<u32>],
+        p: u32,
+    ) -> Result<Option<Vec<u32>>, GraphFault>
+        requires within { p < process_count self.now }
+        requires known { distances.now ≡ map (distance_of self.now) (indices self.now) }
+        ensures ok { IfOk result (λ path.
+            option_map (λ v. v.items) path ≡ chosen_path self.now p) }
+        ensures memory { IfErr result (λ e. e ≡ GraphFault.Memory) }
+    {
+        self.has_no_fault();
+        let Some(distance) = distances[p as usize] else {
+            return Ok(None);
+        };
+        let mut path = Vec::with_capacity(alloc, distance as usize + 1)?;
+        path.push_reserved(p);
+        let mut last = p;
+        for nearer in (0..distance).rev() {
+            last = self.next_at(nearer, last, distances);
+            path.push_reserved(last);
+        }
+        Ok(Some(path))
+    }
+
+    /// The verdict of each process, by one search of the graph. It takes time and memory linear in
+    /// processes and dependencies.
+    pub fn verdicts_plain(&self, alloc: Global) -> Result<Vec<Verdict>, GraphFault>
+        ensures ok { IfOk result (λ list. list.items ≡ verdicts self.now) }
+        ensures memory { IfErr result (λ e. e ≡ GraphFault.Memory) }
+    {
+        let distances = self.distances(alloc)?;
+        self.verdicts_by(alloc, &distances)
+    }
+
+    /// The verdict of each process, as `verdicts_plain` gives it, by the distances of all processes.
+    /// It takes time and memory linear in the processes.
+    pub fn verdicts_by(
+        &self,
+        alloc: Global,
+        distances: &[Option<u32>],
+    ) -> Result<Vec<Verdict>, GraphFault>
+        requires { distances.now ≡ map (distance_of self.now) (indices self.now) }
+        ensures ok { IfOk result (λ list. list.items ≡ verdicts self.now) }
+        ensures memory { IfErr result (λ e. e ≡ GraphFault.Memory) }
+    {
+        let mut verdicts = Vec::new(alloc);
+        for p in 0..self.len() {
+            verdicts.push(self.verdict_by(distances, p))?;
+        }
+        Ok(verdicts)
+    }
+}
+
+// The searches that answer them.
+
+impl WaitGraph {
+    /// For each process whether `p` reaches it. The search goes along the dependencies.
+    pub(crate) fn reached_from(&self, alloc: Global, p: u32) -> Result<Vec<bool>, AllocError>
+        requires { p < process_count self.now }
+        ensures marks { IfOk result (λ marks.
+            marks.items ≡ map (reaches self.now p) (indices self.now)) }
+        ensures few { process_count self.now ≤ MAX_PROCESSES }
+    {
+        let marks = mark_alone(alloc, self.len(), p)?;
+        self.spread(alloc, p, marks)
+    }
+
+    /// The processes that `p` reaches, by rising index. Few are sorted: read off the marks of all
+    /// processes, a reach of one would take most of its time for that.
+    pub(crate) fn reach_from(&self, alloc: Global, p: u32) -> Result<Vec<u32>, AllocError>
+        requires { p < process_count self.now }
+        ensures { IfOk result (λ list. list.items ≡ reach_of self.now p) }
+    {
+        self.has_no_fault();
+        let mut marks = mark_alone(alloc, self.len(), p)?;
+        let mut pending = Vec::new(alloc);
+        pending.push(p)?;
+        let mut list = Vec::new(alloc);
+        while let Some(q) = pending.pop() {
+            list.push(q)?;
+            mark_each(self.dependents(q), &mut marks, &mut pending)?;
+        }
+        if list.len() > marks.len() / 32 {
+            return marked(alloc, &marks);
+        }
+        list.sort_unstable();
+        Ok(list)
+    }
+
+    /// Marks what `p` reaches beside those that are marked, whose dependencies are marked too.
+    pub(crate) fn spread(
+        &self,
+        alloc: Global,
+        p: u32,
+        marks: Vec<bool>,
+    ) -> Result<Vec<bool>, AllocError>
+        requires within { p < process_count self.now }
+        requires spreads { SpreadsFrom self.now p marks.items (p ∷ []) }
+        ensures marks { IfOk result (λ all. all.items ≡ map (reaches self.now p) (indices self.now)) }
+        ensures few { process_count self.now ≤ MAX_PROCESSES }
+    {
+        self.has_no_fault();
+        let mut marks = marks;
+        let mut pending = Vec::new(alloc);
+        pending.push(p)?;
+        while let Some(q) = pending.pop() {
+            mark_each(self.dependents(q), &mut marks, &mut pending)?;
+        }
+        Ok(marks)
+    }
+
+    /// The core of `p`, by rising index. The search goes against the dependencies, and stays among
+    /// those that `p` reaches: each on a way from `p` back to `p` is one of them, so it visits the
+    /// core alone.
+    pub(crate) fn core_from(
+        &self,
+        alloc: Global,
+        predecessors: &Predecessors,
+        p: u32,
+    ) -> Result<Vec<u32>, AllocError>
+        requires within { p < process_count self.now }
+        requires known { ArePredecessors self.now predecessors.now }
+        ensures { IfOk result (λ core. core.items ≡ core_of self.now p) }
+    {
+        let reached = self.reached_from(alloc, p)?;
+        let mut marks = mark_alone(alloc, self.len(), p)?;
+        let mut pending = Vec::new(alloc);
+        pending.push(p)?;
+        let mut core = Vec::new(alloc);
+        while let Some(q) = pending.pop() {
+            core.push(q)?;
+            mark_each_within(predecessors.at(q), &reached, &mut marks, &mut pending)?;
+        }
+        core.sort_unstable();
+        Ok(core)
+    }
+
+    /// Marks as `alone` does. Each process is pending once at most.
+    fn trimmed(&self, alloc: Global, predecessors: &Predecessors) -> Result<Vec<bool>, AllocError>
+        requires known { ArePredecessors self.now predecessors.now }
+        ensures { IfOk result (λ marks. AreAlone self.now marks.items) }
+    {
+        self.has_no_fault();
+        let mut marks = self.unnamed(alloc, predecessors)?;
+        let mut passed = vec![in alloc; 0; self.len() as usize]?;
+        let mut pending = self.waiting_for_nobody(alloc, &mut marks, &mut passed)?;
+        for _ in 0..self.len() {
+            let Some(q) = pending.pop() else {
+                break;
+            };
+            self.trim_each(predecessors.at(q), &mut marks, &mut passed, &mut pending)?;
+        }
+        Ok(marks)
+    }
+
+    /// For each process whether nobody depends on it.
+    fn unnamed(&self, alloc: Global, predecessors: &Predecessors) -> Result<Vec<bool>, AllocError>
+        requires known { ArePredecessors self.now predecessors.now }
+        ensures { IfOk result (λ marks. marks.items
+            ≡ map (λ p. length (predecessors_at predecessors.now p) == 0) (indices self.now)) }
+    {
+        let mut marks = Vec::new(alloc);
+        for p in 0..self.len() {
+            marks.push(predecessors.at(p).is_empty())?;
+        }
+        Ok(marks)
+    }
+
+    /// Tries each process once, and lists those that it has marked.
+    fn waiting_for_nobody(
+        &self,
+        alloc: Global,
+        marks: &mut [bool],
+        passed: &mut [usize],
+    ) -> Result<Vec<u32>, AllocError>
+        requires trimming { IsTrimming self.now marks.old passed.old }
+        ensures trimming { OnOk result (IsTrimming self.now marks.new passed.new) }
+        ensures within { IfOk result (λ list. All (λ p. p < process_count self.now) list.items) }
+    {
+        let mut list = Vec::new(alloc);
+        for p in 0..self.len() {
+            if self.trim(p, marks, passed) {
+                list.push(p)?;
+            }
+        }
+        Ok(list)
+    }
+
+    /// Tries each process of the list. Those that it has marked become pending.
+    fn trim_each(
+        &self,
+        list: &[u32],
+        marks: &mut [bool],
+        passed: &mut [usize],
+        pending: &mut Vec<u32>,
+    ) -> Result<(), AllocError>
+        requires listed { All (λ p. p < process_count self.now) list.now }
+        requires pending { All (λ p. p < process_count self.now) pending.old.items }
+        requires trimming { IsTrimming self.now marks.old passed.old }
+        ensures trimming { OnOk result (IsTrimming self.now marks.new passed.new) }
+        ensures pending { OnOk result (All (λ p. p < process_count self.now) pending.new.items) }
+    {
+        for p in list {
+            if self.trim(*p, marks, passed) {
+                pending.push(*p)?;
+            }
+        }
+        Ok(())
+    }
+
+    /// Marks a process whose dependents are all marked, and says whether it has. It looks at no
+    /// marked dependent again that it has passed before.
+    fn trim(&self, p: u32, marks: &mut [bool], passed: &mut [usize]) -> bool
+        requires within { p < process_count self.now }
+        requires trimming { IsTrimming self.now marks.old passed.old }
+        ensures trimming { IsTrimming self.now marks.new passed.new }
+    {
+        self.has_no_fault();
+        let row = self.dependents(p);
+        let count = marked_from(row, marks, passed[p as usize]);
+        passed[p as usize] = count;
+        if count < row.len() || marks[p as usize] {
+            return false;
+        }
+        marks[p as usize] = true;
+        true
+    }
+
+    /// For each process the least number of dependencies to a marked one, where there is one. The
+    /// search goes against the dependencies, from each distance to the next.
+    pub(crate) fn steps_to(
+        &self,
+        alloc: Global,
+        predecessors: &Predecessors,
+        marks: &[bool],
+    ) -> Result<Vec<Option<u32>>, AllocError>
+        requires known { ArePredecessors self.now predecessors.now }
+        requires size { length marks.now ≡ process_count self.now }
+        ensures { IfOk result (λ distances.
+            distances.items ≡ map (steps_to self.now (is_marked marks.now)) (indices self.now)) }
+    {
+        self.has_no_fault();
+        let mut distances = first_distances(alloc, marks)?;
+        let mut level = marked(alloc, marks)?;
+        let mut distance = 0;
+        while !level.is_empty() {
+            distance += 1;
+            level = next_level(alloc, predecessors, &level, distance, &mut distances)?;
+        }
+        Ok(distances)
+    }
+
+    /// The dependent of `p` by which its chosen path goes on: the least at this distance. Where there
+    /// is only one, its distance isn't looked up: `p` is one further away, so some dependent has it.
+    fn next_at(&self, distance: u32, p: u32, distances: &[Option<u32>]) -> u32
+        requires within { p < process_count self.now }
+        requires known { distances.now ≡ map (distance_of self.now) (indices self.now) }
+        requires further { distance_of self.now p ≡ Some (distance + 1) }
+        ensures { IsLeastAt distance (dependents_of self.now p) distances.now (Some result) }
+    {
+        self.has_no_fault();
+        let dependents = self.dependents(p);
+        if dependents.len() == 1 {
+            return dependents[0];
+        }
+        least_at(distance, dependents, distances).unwrap()
+    }
+
+    /// The verdict of `p`, by the distances of all processes.
+    #[tactic(auto, using(crate::proofs::Distances::has_distance, crate::proofs::Distances::free_at, crate::proofs::Distances::deadlocked_at))]
+    fn verdict_by(&self, distances: &[Option<u32>], p: u32) -> Verdict
+        requires within { p < process_count self.now }
+        requires known { distances.now ≡ map (distance_of self.now) (indices self.now) }
+        ensures { result ≡ verdict self.now p }
+    {
+        self.has_no_fault();
+        match distances[p as usize] {
+            Some(_) => Verdict::Free,
+            None => Verdict::Deadlocked,
+        }
     }
 }
 

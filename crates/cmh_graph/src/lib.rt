@@ -5,15 +5,12 @@
 //! Detection", ACM TOCS 1(2), 1983.
 #![tactic(auto)]
 
-mod alone;
-mod distance;
 mod fault;
 mod graph;
 mod judge;
 pub mod laws;
 mod part;
 mod predecessors;
-mod reach;
 mod search;
 #[cfg(test)]
 mod tests;

@@ -1,121 +1,11 @@
-//! Searches along dependencies.
+//! The steps of searches along dependencies: over marks, over lists of processes, over distances.
 
-ghost use Rattle.std.specs.Prelude.{◌≡◌, ◌==◌, ◌<◌, ◌≤◌, ◌^◌, ℕ, [], ◌∷◌, map, length, filter, if◌then◌else◌, All, Contains, IfOk, OnOk, Some, None};
+ghost use Rattle.std.specs.Prelude.{◌≡◌, ◌==◌, ◌<◌, ◌^◌, ℕ, [], map, length, filter, if◌then◌else◌, All, Contains, IfOk, OnOk, Some, None, ◌≤◌, slice_index, IsTrue, MatchOption, ◌↔◌};
 ghost use Rattle.std.specs.List.{range_with_len};
-ghost use Rattle.cmh_graph.specs.Graph.{indices, process_count};
-ghost use Rattle.cmh_graph.specs.Path.{reach_of, reaches, steps_to};
-ghost use Rattle.cmh_graph.specs.Core.{core_of};
-ghost use Rattle.cmh_graph.specs.Search.{is_marked, predecessors_at, ArePredecessors, IsNamedBy, MarksEach, Numbers, SpreadsFrom};
+ghost use Rattle.cmh_graph.specs.Search.{is_marked, predecessors_at, IsNamedBy, MarksEach, Numbers, IsLeastAt};
 
-use crate::{MAX_PROCESSES, Predecessors, WaitGraph};
+use crate::Predecessors;
 use std::alloc::{AllocError, Global};
-
-impl WaitGraph {
-    /// For each process whether `p` reaches it. The search goes along the dependencies.
-    pub(crate) fn reached_from(&self, alloc: Global, p: u32) -> Result<Vec<bool>, AllocError>
-        requires { p < process_count self.now }
-        ensures marks { IfOk result (λ marks.
-            marks.items ≡ map (reaches self.now p) (indices self.now)) }
-        ensures few { process_count self.now ≤ MAX_PROCESSES }
-    {
-        let marks = mark_alone(alloc, self.len(), p)?;
-        self.spread(alloc, p, marks)
-    }
-
-    /// The processes that `p` reaches, by rising index. Few are sorted: read off the marks of all
-    /// processes, a reach of one would take most of its time for that.
-    pub(crate) fn reach_from(&self, alloc: Global, p: u32) -> Result<Vec<u32>, AllocError>
-        requires { p < process_count self.now }
-        ensures { IfOk result (λ list. list.items ≡ reach_of self.now p) }
-    {
-        self.has_no_fault();
-        let mut marks = mark_alone(alloc, self.len(), p)?;
-        let mut pending = Vec::new(alloc);
-        pending.push(p)?;
-        let mut list = Vec::new(alloc);
-        while let Some(q) = pending.pop() {
-            list.push(q)?;
-            mark_each(self.dependents(q), &mut marks, &mut pending)?;
-        }
-        if list.len() > marks.len() / 32 {
-            return marked(alloc, &marks);
-        }
-        list.sort_unstable();
-        Ok(list)
-    }
-
-    /// Marks what `p` reaches beside those that are marked, whose dependencies are marked too.
-    pub(crate) fn spread(
-        &self,
-        alloc: Global,
-        p: u32,
-        marks: Vec<bool>,
-    ) -> Result<Vec<bool>, AllocError>
-        requires within { p < process_count self.now }
-        requires spreads { SpreadsFrom self.now p marks.items (p ∷ []) }
-        ensures marks { IfOk result (λ all. all.items ≡ map (reaches self.now p) (indices self.now)) }
-        ensures few { process_count self.now ≤ MAX_PROCESSES }
-    {
-        self.has_no_fault();
-        let mut marks = marks;
-        let mut pending = Vec::new(alloc);
-        pending.push(p)?;
-        while let Some(q) = pending.pop() {
-            mark_each(self.dependents(q), &mut marks, &mut pending)?;
-        }
-        Ok(marks)
-    }
-
-    /// The core of `p`, by rising index. The search goes against the dependencies, and stays among
-    /// those that `p` reaches: each on a way from `p` back to `p` is one of them, so it visits the
-    /// core alone.
-    pub(crate) fn core_from(
-        &self,
-        alloc: Global,
-        predecessors: &Predecessors,
-        p: u32,
-    ) -> Result<Vec<u32>, AllocError>
-        requires within { p < process_count self.now }
-        requires known { ArePredecessors self.now predecessors.now }
-        ensures { IfOk result (λ core. core.items ≡ core_of self.now p) }
-    {
-        let reached = self.reached_from(alloc, p)?;
-        let mut marks = mark_alone(alloc, self.len(), p)?;
-        let mut pending = Vec::new(alloc);
-        pending.push(p)?;
-        let mut core = Vec::new(alloc);
-        while let Some(q) = pending.pop() {
-            core.push(q)?;
-            mark_each_within(predecessors.at(q), &reached, &mut marks, &mut pending)?;
-        }
-        core.sort_unstable();
-        Ok(core)
-    }
-
-    /// For each process the least number of dependencies to a marked one, where there is one. The
-    /// search goes against the dependencies, from each distance to the next.
-    pub(crate) fn steps_to(
-        &self,
-        alloc: Global,
-        predecessors: &Predecessors,
-        marks: &[bool],
-    ) -> Result<Vec<Option<u32>>, AllocError>
-        requires known { ArePredecessors self.now predecessors.now }
-        requires size { length marks.now ≡ process_count self.now }
-        ensures { IfOk result (λ distances.
-            distances.items ≡ map (steps_to self.now (is_marked marks.now)) (indices self.now)) }
-    {
-        self.has_no_fault();
-        let mut distances = first_distances(alloc, marks)?;
-        let mut level = marked(alloc, marks)?;
-        let mut distance = 0;
-        while !level.is_empty() {
-            distance += 1;
-            level = next_level(alloc, predecessors, &level, distance, &mut distances)?;
-        }
-        Ok(distances)
-    }
-}
 
 /// The marked places, by rising index.
 #[tactic(auto, using(crate::proofs::IndexLists::filter_indices_kept, crate::proofs::IndexLists::filter_indices_passed))]
@@ -145,7 +35,11 @@ pub(crate) fn mark_alone(alloc: Global, count: u32, p: u32) -> Result<Vec<bool>,
 }
 
 /// Marks each process of the list. Those that were not marked become pending.
-fn mark_each(list: &[u32], marks: &mut [bool], pending: &mut Vec<u32>) -> Result<(), AllocError>
+pub(crate) fn mark_each(
+    list: &[u32],
+    marks: &mut [bool],
+    pending: &mut Vec<u32>,
+) -> Result<(), AllocError>
     requires { All (λ p. p < length marks.old) list.now }
     ensures { OnOk result (MarksEach list.now
         marks.old marks.new pending.old.items pending.new.items) }
@@ -160,7 +54,7 @@ fn mark_each(list: &[u32], marks: &mut [bool], pending: &mut Vec<u32>) -> Result
 }
 
 /// Marks each process of the list that is inside. Those that were not marked become pending.
-fn mark_each_within(
+pub(crate) fn mark_each_within(
     list: &[u32],
     inside: &[bool],
     marks: &mut [bool],
@@ -181,7 +75,7 @@ fn mark_each_within(
 }
 
 /// The distance 0 for each marked process, and none yet for another.
-fn first_distances(alloc: Global, marks: &[bool]) -> Result<Vec<Option<u32>>, AllocError>
+pub(crate) fn first_distances(alloc: Global, marks: &[bool]) -> Result<Vec<Option<u32>>, AllocError>
     ensures { IfOk result (λ distances.
         distances.items ≡ map (λ mark. if mark then Some 0 else None) marks.now) }
 {
@@ -209,7 +103,7 @@ fn number_each(
 }
 
 /// The processes without a distance that depend on one of the level. They get this one.
-fn next_level(
+pub(crate) fn next_level(
     alloc: Global,
     predecessors: &Predecessors,
     level: &[u32],
@@ -227,4 +121,38 @@ fn next_level(
         number_each(predecessors.at(*q), distance, distances, &mut next)?;
     }
     Ok(next)
+}
+
+/// How far the marked ones of the list go on from this place.
+pub(crate) fn marked_from(list: &[u32], marks: &[bool], from: usize) -> usize
+    requires { All (λ p. p < length marks.now) list.now }
+    ensures { (k : ℕ) → from ≤ k → k < result
+        → IsTrue (is_marked marks.now (slice_index list.now k)) }
+{
+    let mut at = from;
+    while at < list.len() && marks[list[at] as usize] {
+        at += 1;
+    }
+    at
+}
+
+/// The least process of the list that is at this distance.
+pub(crate) fn least_at(distance: u32, list: &[u32], distances: &[Option<u32>]) -> Option<u32>
+    requires { All (λ q. q < length distances.now) list.now }
+    ensures { IsLeastAt distance list.now distances.now result }
+{
+    let mut least: Option<u32> = None;
+    for q in list {
+        if is_below(*q, least) && distances[*q as usize] == Some(distance) {
+            least = Some(*q);
+        }
+    }
+    least
+}
+
+/// Whether `q` is below the other number, if there is one.
+fn is_below(q: u32, other: Option<u32>) -> bool
+    ensures { MatchOption other (IsTrue result) (λ r. IsTrue result ↔ (q < r)) }
+{
+    other.is_none_or(|r| q < r)
 }

@@ -2,8 +2,8 @@ use Rattle.std.proofs.Common.{subst}
 use Rattle.std.proofs.lemmas.List.{take_all}
 use Rattle.cmh_graph.specs.Search.{IsLeastAt}
 use Rattle.cmh_graph.proofs.PositionLemmas.{least_above, least_more, least_other}
-use Rattle.cmh_graph.proofs.distance.least_at.Goals as goal
-use Rattle.cmh_graph.proofs.distance.least_at.Goals.{then-is_below+then-eq, else-is_below, else-is_below-via-then-is_below+else-eq, else-is_below-via-else-is_below}
+use Rattle.cmh_graph.proofs.search.least_at.Goals as goal
+use Rattle.cmh_graph.proofs.search.least_at.Goals.{then-is_below+then-eq, else-is_below, else-is_below-via-then-is_below+else-eq, else-is_below-via-else-is_below}
 
 pub loop-q-preserved : goal.loop-q-preserved
 loop-q-preserved c =
