@@ -15,10 +15,10 @@ use Rattle.cmh_rw.specs.View.{row}
 use Rattle.cmh_rw.specs.Seats as words
 use Rattle.cmh_board.specs.declared.board.Board.{Board}
 use Rattle.cmh_board.specs.declared.board.BoardSeat.{BoardSeat}
-use Rattle.cmh_board.specs.declared.answer.Look.{Look}
-use Rattle.cmh_board.specs.declared.answer.Look.TheVariants.{Known, Unknown, Busy}
-use Rattle.cmh_board.specs.declared.answer.Post.{Post}
-use Rattle.cmh_board.specs.declared.answer.Post.TheVariants as post
+use Rattle.cmh_board.specs.declared.board.Look.{Look}
+use Rattle.cmh_board.specs.declared.board.Look.TheVariants.{Known, Unknown, Busy}
+use Rattle.cmh_board.specs.declared.board.Post.{Post}
+use Rattle.cmh_board.specs.declared.board.Post.TheVariants as post
 use Rattle.cmh_board.specs.declared.fault.BoardFault.{BoardFault}
 use Rattle.cmh_board.specs.declared.fault.BoardFault.TheVariants as fault
 use Rattle.cmh_board.specs.Posting.{PostingValue}

@@ -1,11 +1,19 @@
-//! The board and its seats as types.
+//! The board and its seats: opening, looks, postings, and the close.
 
 ghost use Rattle.std.specs.Prelude.{◌≡◌, ◌≤◌};
 ghost use Rattle.cmh_graph.specs.declared.TheConstants.{MAX_PROCESSES};
 ghost use Rattle.cmh_graph.specs.Graph.{process_count, IsWithinGraph};
 ghost use Rattle.cmh_rw.specs.Seats.{words_graph};
 
-use cmh_rw::{RwSeat, RwWords};
+use crate::fault::unopened;
+use crate::post::add;
+use crate::reading::read_closed;
+use crate::{BoardFault, Posting, Snap};
+use cmh_graph::{Verdict, WaitGraph};
+use cmh_rw::{Entry, FIRST_ROW, FIRST_VERDICT, ROW_COUNT, Row, RwSeat, RwWords, verdict_from_code};
+use std::alloc::Global;
+use std::sync::Wait;
+use std::thread::yield_now;
 
 /// A board of verdicts on the processes of one wait graph.
 #[derive(Drop)]
@@ -22,4 +30,307 @@ pub struct Board {
 #[derive(Drop)]
 pub struct BoardSeat {
     pub(crate) seat: RwSeat,
+}
+
+/// What a look at one process found.
+#[derive(Clone, Copy, PartialEq, Eq, Hash, Debug)]
+pub enum Look {
+    /// The process has been posted, with this verdict.
+    Known(Verdict),
+    /// No posting has named it yet.
+    Unknown,
+    /// Somebody was posting: the lock word that was found.
+    Busy(u64),
+}
+
+/// What became of one try to post.
+#[derive(Clone, Copy, PartialEq, Eq, Hash, Debug)]
+pub enum Post {
+    /// Each process of the posting is on the board.
+    Done,
+    /// The board was held: the lock word that was found. Nothing was posted.
+    Busy(u64),
+}
+
+impl Board {
+    ghost use Rattle.std.specs.Prelude.{◌≡◌, ◌≤◌, ◌<◌, IfOk, IfErr, IfSome, IfNone, length, true, [], vec_capacity, slice_get, Some};
+    ghost use Rattle.cmh_graph.specs.Graph.{process_count};
+    ghost use Rattle.cmh_rw.specs.declared.TheConstants.{MAX_SEATS};
+    ghost use Rattle.cmh_rw.specs.History.{StartsWith, fold_at, IsHistory, IsTrueOf};
+    ghost use Rattle.cmh_rw.specs.View.{opening_view, less_one, newcomer, joined, ended};
+    ghost use Rattle.cmh_board.specs.Board.{known, board_graph, SitsAt, IsAway, IsHolding, SeesMore, TriesOnce, AnswersLook, IsTrueLook, AnswersHold, ReadsHistory, AnswersPost, Posts, IsReadOnce, ExplainsReadFault, IsMadeOf};
+    ghost use Rattle.cmh_graph.specs.Verdict.{IsVerdict};
+    ghost use Rattle.cmh_board.specs.Posting.{IsTruth};
+    ghost use Rattle.cmh_board.specs.Snap.{Shows, IsTrueSnap};
+
+    /// A board on which nothing is posted. The seat has the whole share, which is 64.
+    pub fn open(alloc: Global, graph: &WaitGraph) -> Result<(Board, BoardSeat), BoardFault>
+        ensures sits { IfOk result (λ r. SitsAt r.0 r.1 × IsAway r.1) }
+        ensures graph { IfOk result (λ r. board_graph r.0 ≡ graph.now) }
+        ensures view { IfOk result (λ r. known r.1 ≡ opening_view graph.now) }
+        ensures memory { IfErr result (λ e. e ≡ BoardFault.Memory) }
+    {
+        let processes = graph.len();
+        let (words, seat) = RwWords::open(alloc, graph).map_err(unopened)?;
+        Ok((Board { words, processes }, BoardSeat { seat }))
+    }
+
+    /// Gives one share to a new seat, which has seen the same and added nothing, where the seat
+    /// keeps one.
+    pub fn split(&self, seat: &mut BoardSeat) -> Option<BoardSeat>
+        requires sits { SitsAt self.now seat.old }
+        requires away { IsAway seat.old }
+        ensures sits { SitsAt self.now seat.new × IsAway seat.new }
+        ensures new { IfSome result (λ s. SitsAt self.now s × IsAway s) }
+        ensures some { IfSome result (λ s. (1 < (known seat.old).lock.share)
+            × (known s ≡ newcomer (known seat.old))
+            × (known seat.new ≡ less_one (known seat.old))) }
+        ensures none { IfNone result (((known seat.old).lock.share ≡ 1)
+            × (known seat.new ≡ known seat.old)) }
+    {
+        let seat = self.words.split(&mut seat.seat)?;
+        Some(BoardSeat { seat })
+    }
+
+    /// The seat has the shares and the postings of both afterwards, and has seen what either had
+    /// seen: the longer of the two, which begins with the other.
+    pub fn join(&self, seat: &mut BoardSeat, other: BoardSeat)
+        requires sits { SitsAt self.now seat.old × SitsAt self.now other }
+        requires away { IsAway seat.old × IsAway other }
+        ensures sits { SitsAt self.now seat.new × IsAway seat.new }
+        ensures joined { known seat.new ≡ joined (known seat.old) (known other) }
+        ensures begins { StartsWith (known seat.new).seen (known seat.old).seen
+            × StartsWith (known seat.new).seen (known other).seen }
+        ensures few { (known seat.new).lock.share ≤ MAX_SEATS }
+    {
+        let BoardSeat { seat: other } = other;
+        self.words.join(&mut seat.seat, other);
+    }
+
+    /// What is known of process `p`. One try.
+    pub fn look(&self, seat: &mut BoardSeat, p: u32) -> Look
+        requires sits { SitsAt self.now seat.old }
+        requires away { IsAway seat.old }
+        requires process { p < process_count (board_graph self.now) }
+        ensures sits { SitsAt self.now seat.new × IsAway seat.new }
+        ensures sees { SeesMore (known seat.old) (known seat.new) }
+        ensures tried { TriesOnce (known seat.old) (known seat.new) }
+        ensures answer { AnswersLook p (known seat.old) (known seat.new) result }
+        ensures true_verdict { IsTrueLook (board_graph self.now) p result }
+    {
+        if let Entry::Busy(found) = self.hold(seat) {
+            return Look::Busy(found);
+        }
+        let verdict = self.held_verdict(seat, p);
+        self.release(seat);
+        match verdict {
+            Some(verdict) => Look::Known(verdict),
+            None => Look::Unknown,
+        }
+    }
+
+    /// Holds the board for as many looks as wanted. One try. While anybody holds it nobody can
+    /// post, so `release` it soon. A seat that is dropped in a hold keeps the hold for ever.
+    pub fn hold(&self, seat: &mut BoardSeat) -> Entry
+        requires sits { SitsAt self.now seat.old }
+        requires away { IsAway seat.old }
+        ensures sits { SitsAt self.now seat.new }
+        ensures sees { SeesMore (known seat.old) (known seat.new) }
+        ensures tried { TriesOnce (known seat.old) (known seat.new) }
+        ensures loads { (known seat.new).loads ≡ (known seat.old).loads }
+        ensures answer { AnswersHold (known seat.old) (known seat.new) result }
+    {
+        self.words.try_read(&mut seat.seat)
+    }
+
+    /// What is known of process `p`, in a hold.
+    pub fn held_verdict(&self, seat: &mut BoardSeat, p: u32) -> Option<Verdict>
+        requires sits { SitsAt self.now seat.old }
+        requires holding { IsHolding seat.old }
+        requires process { p < process_count (board_graph self.now) }
+        ensures sits { SitsAt self.now seat.new }
+        ensures sees { SeesMore (known seat.old) (known seat.new) }
+        ensures reads { ReadsHistory (known seat.old) (known seat.new) }
+        ensures answer { result ≡ fold_at (known seat.new).seen p }
+        ensures true_verdict { IfSome result (λ v. IsVerdict (board_graph self.now) p v) }
+    {
+        let code = self.words.load(&mut seat.seat, FIRST_VERDICT + p as usize);
+        verdict_from_code(code)
+    }
+
+    /// Ends a hold.
+    pub fn release(&self, seat: &mut BoardSeat)
+        requires sits { SitsAt self.now seat.old }
+        requires holding { IsHolding seat.old }
+        ensures sits { SitsAt self.now seat.new × IsAway seat.new }
+        ensures ended { known seat.new ≡ ended (known seat.old) }
+    {
+        self.words.end_read(&mut seat.seat);
+    }
+
+    /// Adds a row for each process of the posting that stands in none yet: one posting, or none
+    /// where nothing is new. One try; where it finds the board held, nothing changes.
+    pub fn try_post(&self, seat: &mut BoardSeat, posting: &Posting) -> Post
+        requires sits { SitsAt self.now seat.old }
+        requires away { IsAway seat.old }
+        requires truth { IsTruth (board_graph self.now) posting.now }
+        ensures sits { SitsAt self.now seat.new × IsAway seat.new }
+        ensures tried { TriesOnce (known seat.old) (known seat.new) }
+        ensures answer { AnswersPost posting.now (known seat.old) (known seat.new) result }
+    {
+        match self.words.try_write(&mut seat.seat) {
+            Entry::Busy(found) => Post::Busy(found),
+            Entry::Held => {
+                add(&self.words, &mut seat.seat, posting);
+                self.words.end_write(&mut seat.seat);
+                Post::Done
+            }
+        }
+    }
+
+    /// Tries to post until it is done, and gives way to other threads after each try that finds the
+    /// board held: who holds it may need the same processor to let go. It may wait for ever, since
+    /// nothing makes others let go.
+    pub fn post<R: Wait>(&self, rt: &R, seat: &mut BoardSeat, posting: &Posting)
+        requires sits { SitsAt self.now seat.old }
+        requires away { IsAway seat.old }
+        requires truth { IsTruth (board_graph self.now) posting.now }
+        ensures sits { SitsAt self.now seat.new × IsAway seat.new }
+        ensures tried { (known seat.old).lock.tries < (known seat.new).lock.tries }
+        ensures found { (known seat.new).lock.found ≡ 0 }
+        ensures posts { Posts posting.now (known seat.old) (known seat.new) }
+    {
+        for _ in rt.forever() {
+            if let Post::Done = self.try_post(seat, posting) {
+                return;
+            }
+            yield_now();
+        }
+        unreachable!()
+    }
+
+    /// The verdicts of all processes that are posted. One try, made once there is room for them.
+    pub fn snapshot(&self, alloc: Global, seat: &mut BoardSeat) -> Result<Snap, BoardFault>
+        requires sits { SitsAt self.now seat.old }
+        requires away { IsAway seat.old }
+        ensures sits { SitsAt self.now seat.new × IsAway seat.new }
+        ensures sees { SeesMore (known seat.old) (known seat.new) }
+        ensures read { IfOk result (λ snap. IsReadOnce (known seat.old) (known seat.new)) }
+        ensures shows { IfOk result (λ snap. Shows snap (known seat.new).seen) }
+        ensures true_verdicts { IfOk result (λ snap. IsTrueSnap (board_graph self.now) snap) }
+        ensures fault { IfErr result (ExplainsReadFault (known seat.old) (known seat.new)) }
+    {
+        let mut verdicts = Vec::with_capacity(alloc, self.processes as usize)?;
+        if let Entry::Busy(found) = self.hold(seat) {
+            return Err(BoardFault::Busy(found));
+        }
+        self.read_verdicts(seat, &mut verdicts);
+        self.release(seat);
+        Ok(Snap { verdicts })
+    }
+
+    /// The history so far, row by row. One try, made once there is room for it.
+    pub fn history(&self, alloc: Global, seat: &mut BoardSeat) -> Result<Vec<Row>, BoardFault>
+        requires sits { SitsAt self.now seat.old }
+        requires away { IsAway seat.old }
+        ensures sits { SitsAt self.now seat.new × IsAway seat.new }
+        ensures sees { SeesMore (known seat.old) (known seat.new) }
+        ensures read { IfOk result (λ rows. IsReadOnce (known seat.old) (known seat.new)) }
+        ensures whole { IfOk result (λ rows. rows.items ≡ (known seat.new).seen) }
+        ensures fault { IfErr result (ExplainsReadFault (known seat.old) (known seat.new)) }
+    {
+        let mut rows = Vec::with_capacity(alloc, self.processes as usize)?;
+        if let Entry::Busy(found) = self.hold(seat) {
+            return Err(BoardFault::Busy(found));
+        }
+        self.read_rows(seat, &mut rows);
+        self.release(seat);
+        Ok(rows)
+    }
+
+    /// The whole history at the end. With the whole share no other seat is left, so that the
+    /// postings are the seat's own.
+    pub fn close(self, alloc: Global, seat: BoardSeat) -> Result<Vec<Row>, BoardFault>
+        requires sits { SitsAt self seat }
+        requires away { IsAway seat }
+        ensures begins { IfOk result (λ rows. StartsWith rows.items (known seat).seen) }
+        ensures whole { IfOk result (λ rows. IsHistory rows.items) }
+        ensures true_of { IfOk result (λ rows. IsTrueOf (board_graph self) rows.items) }
+        ensures own { IfOk result (λ rows. (known seat).lock.share ≡ MAX_SEATS
+            → IsMadeOf (known seat).mine rows.items) }
+        ensures memory { IfErr result (λ e. e ≡ BoardFault.Memory) }
+    {
+        let mut rows = Vec::with_capacity(alloc, self.processes as usize)?;
+        let Board {
+            words,
+            processes: _processes,
+        } = self;
+        let BoardSeat { seat } = seat;
+        let closed = words.close_with(seat);
+        read_closed(&closed, &mut rows);
+        Ok(rows)
+    }
+
+    /// How many rows there are, in a hold.
+    fn held_count(&self, seat: &mut BoardSeat) -> usize
+        requires sits { SitsAt self.now seat.old }
+        requires holding { IsHolding seat.old }
+        ensures sits { SitsAt self.now seat.new }
+        ensures sees { SeesMore (known seat.old) (known seat.new) }
+        ensures reads { ReadsHistory (known seat.old) (known seat.new) }
+        ensures count { result ≡ length (known seat.new).seen }
+    {
+        self.words.load(&mut seat.seat, ROW_COUNT) as usize
+    }
+
+    /// Adds the verdict of each process, in a hold.
+    fn read_verdicts(&self, seat: &mut BoardSeat, verdicts: &mut Vec<Option<Verdict>>)
+        requires sits { SitsAt self.now seat.old }
+        requires holding { IsHolding seat.old }
+        requires empty { verdicts.old.items ≡ [] }
+        requires room { process_count (board_graph self.now) ≤ vec_capacity verdicts.old }
+        ensures sits { SitsAt self.now seat.new }
+        ensures sees { SeesMore (known seat.old) (known seat.new) }
+        ensures reads { ReadsHistory (known seat.old) (known seat.new) }
+        ensures shows { Shows verdicts.new.items (known seat.new).seen }
+    {
+        // A graph without processes is looked at too: a look loads at least one word.
+        let _rows = self.held_count(seat);
+        for p in 0..self.processes {
+            verdicts.push_reserved(self.held_verdict(seat, p));
+        }
+    }
+
+    /// Adds the rows of the history, in a hold.
+    fn read_rows(&self, seat: &mut BoardSeat, rows: &mut Vec<Row>)
+        requires sits { SitsAt self.now seat.old }
+        requires holding { IsHolding seat.old }
+        requires empty { rows.old.items ≡ [] }
+        requires room { process_count (board_graph self.now) ≤ vec_capacity rows.old }
+        ensures sits { SitsAt self.now seat.new }
+        ensures sees { SeesMore (known seat.old) (known seat.new) }
+        ensures reads { ReadsHistory (known seat.old) (known seat.new) }
+        ensures whole { rows.new.items ≡ (known seat.new).seen }
+    {
+        let count = self.held_count(seat);
+        for n in 0..count {
+            let row = self.held_row(seat, n);
+            rows.push_reserved(row);
+        }
+    }
+
+    /// Row `n` of the history, in a hold in which words were loaded.
+    fn held_row(&self, seat: &mut BoardSeat, n: usize) -> Row
+        requires sits { SitsAt self.now seat.old }
+        requires holding { IsHolding seat.old }
+        requires loaded { (known seat.old).loaded ≡ true }
+        requires there { n < length (known seat.old).seen }
+        ensures sits { SitsAt self.now seat.new }
+        ensures sees { SeesMore (known seat.old) (known seat.new) }
+        ensures reads { ReadsHistory (known seat.old) (known seat.new) }
+        ensures row { slice_get (known seat.new).seen n ≡ Some result }
+    {
+        let code = self.words.load(&mut seat.seat, FIRST_ROW + n);
+        Row::from_code(code)
+    }
 }

@@ -6,21 +6,17 @@
 //! the lock of `cmh_rw`. Whoever finds it locked is told so at once: no call waits but `post`.
 #![tactic(auto)]
 
-mod answer;
 mod board;
 mod fault;
 mod hints;
-mod look;
 mod post;
 mod posting;
 mod reading;
-mod seating;
 mod snap;
 #[cfg(test)]
 mod tests;
 
-pub use answer::{Look, Post};
-pub use board::{Board, BoardSeat};
+pub use board::{Board, BoardSeat, Look, Post};
 pub use cmh_rw::{Entry, Row};
 pub use fault::BoardFault;
 pub use hints::BoardHints;

@@ -1,66 +1,19 @@
-//! Posting: one try, and as many as it takes.
+//! Adding the rows of a posting, in a hold for writing.
 
 ghost use Rattle.std.specs.Prelude.{◌≡◌, ◌+◌, ◌<◌, ◌++◌, length, is_none, true};
 ghost use Rattle.cmh_graph.specs.declared.TheConstants.{MAX_PROCESSES};
 ghost use Rattle.cmh_rw.specs.declared.machine.SeatState.TheVariants.{Writing};
 ghost use Rattle.cmh_rw.specs.History.{fold_at};
 ghost use Rattle.cmh_rw.specs.Seats.{view, IsSeatOf};
-ghost use Rattle.cmh_board.specs.Board.{known, board_graph, SitsAt, IsAway, TriesOnce, AnswersPost, Posts, unposted};
+ghost use Rattle.cmh_board.specs.Board.{unposted};
 ghost use Rattle.cmh_board.specs.Adding.{AreIdle, CanPost, IsWriter, OnlyLoads, Stages, Adds};
-ghost use Rattle.cmh_board.specs.Posting.{IsTruth};
 
-use crate::reading::ROW_COUNT;
-use crate::{Board, BoardSeat, Post, Posting};
+use crate::Posting;
 use cmh_graph::Verdict;
-use cmh_rw::{Entry, FIRST_VERDICT, RwSeat, RwWords};
-use std::sync::Wait;
-use std::thread::yield_now;
-
-impl Board {
-    /// Adds a row for each process of the posting that stands in none yet: one posting, or none
-    /// where nothing is new. One try; where it finds the board held, nothing changes.
-    pub fn try_post(&self, seat: &mut BoardSeat, posting: &Posting) -> Post
-        requires sits { SitsAt self.now seat.old }
-        requires away { IsAway seat.old }
-        requires truth { IsTruth (board_graph self.now) posting.now }
-        ensures sits { SitsAt self.now seat.new × IsAway seat.new }
-        ensures tried { TriesOnce (known seat.old) (known seat.new) }
-        ensures answer { AnswersPost posting.now (known seat.old) (known seat.new) result }
-    {
-        match self.words.try_write(&mut seat.seat) {
-            Entry::Busy(found) => Post::Busy(found),
-            Entry::Held => {
-                add(&self.words, &mut seat.seat, posting);
-                self.words.end_write(&mut seat.seat);
-                Post::Done
-            }
-        }
-    }
-
-    /// Tries to post until it is done, and gives way to other threads after each try that finds the
-    /// board held: who holds it may need the same processor to let go. It may wait for ever, since
-    /// nothing makes others let go.
-    pub fn post<R: Wait>(&self, rt: &R, seat: &mut BoardSeat, posting: &Posting)
-        requires sits { SitsAt self.now seat.old }
-        requires away { IsAway seat.old }
-        requires truth { IsTruth (board_graph self.now) posting.now }
-        ensures sits { SitsAt self.now seat.new × IsAway seat.new }
-        ensures tried { (known seat.old).lock.tries < (known seat.new).lock.tries }
-        ensures found { (known seat.new).lock.found ≡ 0 }
-        ensures posts { Posts posting.now (known seat.old) (known seat.new) }
-    {
-        for _ in rt.forever() {
-            if let Post::Done = self.try_post(seat, posting) {
-                return;
-            }
-            yield_now();
-        }
-        unreachable!()
-    }
-}
+use cmh_rw::{FIRST_VERDICT, ROW_COUNT, RwSeat, RwWords};
 
 /// Adds the posting's new rows to the history, if there are any.
-fn add(words: &RwWords, seat: &mut RwSeat, posting: &Posting)
+pub(crate) fn add(words: &RwWords, seat: &mut RwSeat, posting: &Posting)
     requires own { IsSeatOf words.now seat.old }
     requires writer { IsWriter (view seat.old) }
     requires can { CanPost (view seat.old).lock.graph posting.now.verdict posting.now.processes }

@@ -9,9 +9,9 @@ use Rattle.cmh_rw.specs.declared.TheConstants.{MAX_SEATS, FIRST_ROW, FIRST_VERDI
 use Rattle.cmh_rw.specs.declared.machine.SeatState.TheVariants.{Away}
 use Rattle.cmh_rw.specs.declared.row.Row.{Row}
 use Rattle.cmh_rw.specs.declared.view.View.{View}
-use Rattle.cmh_rw.specs.declared.seat.RwWords.{RwWords}
-use Rattle.cmh_rw.specs.declared.seat.RwSeat.{RwSeat}
-use Rattle.cmh_rw.specs.declared.seat.Closed.{Closed}
+use Rattle.cmh_rw.specs.declared.words.RwWords.{RwWords}
+use Rattle.cmh_rw.specs.declared.words.RwSeat.{RwSeat}
+use Rattle.cmh_rw.specs.declared.words.Closed.{Closed}
 use Rattle.cmh_rw.specs.History.{row_code, verdict_code, fold_at, laid, ArePostings, IsTrueOf, IsSeen}
 use Rattle.cmh_rw.specs.Machine.{total}
 use Rattle.cmh_rw.specs.Rule.{Moment, WordsRule}

@@ -1,7 +1,7 @@
 //! A reader and writer lock over atomic words, and under it a history of verdicts that only grows.
 //!
 //! Word 0 is the lock: `WRITER` while a seat writes, plus the number of seats that read or retreat.
-//! Word 1 is how many rows the history has. The words from `FIRST_ROW` on are the rows, and those
+//! Word `ROW_COUNT` is how many rows the history has. The words from `FIRST_ROW` on are the rows, and those
 //! from `FIRST_VERDICT` on the verdicts by process. A thread steps on the words with a seat, whose
 //! view is what the thread knows.
 #![tactic(auto)]
@@ -10,9 +10,7 @@ mod fault;
 pub mod laws;
 mod machine;
 mod row;
-mod rows;
 mod rule;
-mod seat;
 #[cfg(test)]
 mod tests;
 mod view;
@@ -21,16 +19,18 @@ mod words;
 use cmh_graph::MAX_PROCESSES;
 pub use fault::RwFault;
 pub use machine::{Event, LockWorld, SeatState, run_events};
-pub use row::Row;
-pub use seat::{Closed, RwSeat, RwWords};
+pub use row::{Row, verdict_from_code};
 pub use view::{LockView, View};
-pub use words::Entry;
+pub use words::{Closed, Entry, RwSeat, RwWords};
 
 /// What the lock word counts a writer as.
 pub const WRITER: u64 = 4_294_967_296;
 
 /// The most seats that a lock may have.
 pub const MAX_SEATS: u32 = 64;
+
+/// The word that counts the rows.
+pub const ROW_COUNT: usize = 1;
 
 /// The word of the first row.
 pub const FIRST_ROW: usize = 2;

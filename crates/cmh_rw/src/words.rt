@@ -1,17 +1,49 @@
-//! The lock on the words: seats, tries, and the end.
+//! The words of the lock and of the history, their seats, and what a seat does with them.
 
-ghost use Rattle.std.specs.Prelude.{◌≡◌, ◌+◌, ◌<◌, ◌≤◌, [], IfOk, IfErr, IfSome, IfNone, slice_get};
-ghost use Rattle.cmh_rw.specs.declared.machine.SeatState.TheVariants.{Reading, Writing};
-ghost use Rattle.cmh_rw.specs.History.{StartsWith};
-ghost use Rattle.cmh_rw.specs.View.{opening_view, AfterRead, AfterWrite, ended, less_one, newcomer, joined};
-ghost use Rattle.cmh_rw.specs.Seats.{view, IsSeatOf, IsAway, words_graph, words_of, ClosedBy, ClosedHistory};
+ghost use Rattle.std.specs.Prelude.{◌≡◌, ◌<◌, ◌≤◌, ◌++◌, [], ◌+◌};
+ghost use Rattle.std.specs.Slots.{slots_len, IsFull};
+ghost use Rattle.cmh_rw.specs.declared.TheConstants.{BOARD_WORDS, MAX_SEATS};
+ghost use Rattle.cmh_rw.specs.History.{FitsIn};
 
-use crate::rule::{Compare, End, Enter, Shares, Take};
-use crate::{BOARD_WORDS, Closed, MAX_SEATS, RwFault, RwSeat, RwWords, WRITER};
-use atomic_table::Table;
-use cmh_graph::WaitGraph;
+use crate::row::verdict_code;
+use crate::rule::{
+    BoardRule, Compare, End, Enter, Load, Shares, StoreCount, StoreRow, StoreVerdict, Take,
+};
+use crate::view::View;
+use crate::{BOARD_WORDS, FIRST_ROW, FIRST_VERDICT, MAX_SEATS, ROW_COUNT, Row, RwFault, WRITER};
+use atomic_table::{Seat, Table};
 use cmh_graph::laws::law_built_graph;
+use cmh_graph::{Verdict, WaitGraph};
 use std::alloc::Global;
+
+/// A lock, and the history of verdicts of one wait graph that it guards.
+#[derive(Drop)]
+pub struct RwWords {
+    pub(crate) table: Table<(), View, WaitGraph, BoardRule, Global>,
+    pub ghost wide: { table.shared.table_id.words ≡ BOARD_WORDS },
+    pub ghost bare: { table.shared.table_id.slots ≡ 0 },
+}
+
+/// A seat of these words, with which one thread steps on them. A seat that is dropped in a hold
+/// keeps the hold for ever.
+#[derive(Drop)]
+pub struct RwSeat {
+    pub(crate) seat: Seat<(), View>,
+    pub(crate) share: u32,
+    pub ghost shared: { share ≡ seat.me.0.lock.share },
+    pub ghost some: { 0 < share },
+    pub ghost few: { share ≤ MAX_SEATS },
+    pub ghost bare: { seat.me.1 ≡ [] },
+    pub ghost fits: { ∥ FitsIn seat.me.0.lock.graph (seat.me.0.seen ++ seat.me.0.staged) ∥₁ },
+}
+
+/// The words, which no thread shares any more.
+pub struct Closed {
+    pub(crate) inner: atomic_table::Closed<(), Global>,
+    pub ghost full: { IsFull inner.words },
+    pub ghost wide: { slots_len inner.words ≡ BOARD_WORDS },
+    pub ghost bare: { slots_len inner.slots ≡ 0 },
+}
 
 /// Whether a try got the lock, and else the word that it found.
 #[derive(Clone, Copy, PartialEq, Eq, Hash, Debug)]
@@ -20,7 +52,16 @@ pub enum Entry {
     Busy(u64),
 }
 
+// Seats, tries, and the end.
+
 impl RwWords {
+    ghost use Rattle.std.specs.Prelude.{◌≡◌, ◌<◌, ◌≤◌, [], IfOk, IfErr, IfSome, IfNone};
+    ghost use Rattle.cmh_rw.specs.declared.TheConstants.{MAX_SEATS};
+    ghost use Rattle.cmh_rw.specs.History.{StartsWith};
+    ghost use Rattle.cmh_rw.specs.declared.machine.SeatState.TheVariants.{Reading, Writing};
+    ghost use Rattle.cmh_rw.specs.View.{opening_view, AfterRead, AfterWrite, ended, less_one, newcomer, joined};
+    ghost use Rattle.cmh_rw.specs.Seats.{view, IsSeatOf, IsAway, words_graph, words_of, ClosedBy, ClosedHistory};
+
     /// All words are 0. The seat is away and has the whole share.
     pub fn open(alloc: Global, graph: &WaitGraph) -> Result<(RwWords, RwSeat), RwFault>
         ensures seat { IfOk result (λ r. IsSeatOf r.0 r.1) }
@@ -158,7 +199,84 @@ impl RwWords {
     }
 }
 
+// The history: loads, and the stores of a posting.
+
+impl RwWords {
+    ghost use Rattle.std.specs.Prelude.{◌≡◌, ◌<◌, ◌+◌, length, Some, IsTrue};
+    ghost use Rattle.cmh_rw.specs.declared.TheConstants.{BOARD_WORDS};
+    ghost use Rattle.cmh_rw.specs.History.{fold_at, EndsLast, IsPosting, AreTold};
+    ghost use Rattle.cmh_rw.specs.declared.machine.SeatState.TheVariants.{Writing};
+    ghost use Rattle.cmh_rw.specs.View.{IsHeld, AfterLoad, CanStage, row, with_row, mark, with_told, posted};
+    ghost use Rattle.cmh_rw.specs.Seats.{view, IsSeatOf};
+    ghost use Rattle.cmh_graph.specs.declared.TheConstants.{MAX_PROCESSES};
+
+    /// The value of a word, in a hold. Nothing is said of the value of word 0.
+    pub fn load(&self, seat: &mut RwSeat, word: usize) -> u64
+        requires own { IsSeatOf self.now seat.old }
+        requires held { IsHeld (view seat.old).lock.state }
+        requires within { word < BOARD_WORDS }
+        ensures own { IsSeatOf self.now seat.new }
+        ensures loaded { AfterLoad (view seat.old) word result (view seat.new) }
+    {
+        self.table.shared.load::<Load>(&mut seat.seat, word)
+    }
+
+    /// Stages row `n` of the history, after those that are there and those that are staged.
+    pub fn store_row(&self, seat: &mut RwSeat, n: usize, p: u32, verdict: Verdict, last: bool)
+        requires own { IsSeatOf self.now seat.old }
+        requires writing { (view seat.old).lock.state ≡ Writing }
+        requires loaded { IsTrue (view seat.old).loaded }
+        requires end { n ≡ length (view seat.old).seen + length (view seat.old).staged }
+        requires can { CanStage (view seat.old) (row p verdict last) }
+        ensures own { IsSeatOf self.now seat.new }
+        ensures staged { view seat.new ≡ with_row (view seat.old) (row p verdict last) }
+        ensures room { n < MAX_PROCESSES }
+    {
+        let row = Row {
+            process: p,
+            verdict,
+            last,
+        };
+        self.table
+            .shared
+            .store::<StoreRow>(&mut seat.seat, FIRST_ROW + n, row.code());
+    }
+
+    /// Stores the verdict of a process that a staged row names.
+    pub fn store_verdict(&self, seat: &mut RwSeat, p: u32, verdict: Verdict)
+        requires own { IsSeatOf self.now seat.old }
+        requires writing { (view seat.old).lock.state ≡ Writing }
+        requires says { fold_at (view seat.old).staged p ≡ Some verdict }
+        ensures own { IsSeatOf self.now seat.new }
+        ensures told { view seat.new ≡ with_told (view seat.old) (mark p verdict) }
+    {
+        let word = FIRST_VERDICT + p as usize;
+        self.table
+            .shared
+            .store::<StoreVerdict>(&mut seat.seat, word, verdict_code(verdict));
+    }
+
+    /// Stores how many rows the history has from now on: the staged rows become a posting of it.
+    pub fn store_count(&self, seat: &mut RwSeat, n: usize)
+        requires own { IsSeatOf self.now seat.old }
+        requires writing { (view seat.old).lock.state ≡ Writing }
+        requires ended { EndsLast (view seat.old).staged }
+        requires told { AreTold (view seat.old).staged (view seat.old).told }
+        requires end { n ≡ length (view seat.old).seen + length (view seat.old).staged }
+        ensures own { IsSeatOf self.now seat.new }
+        ensures posted { view seat.new ≡ posted (view seat.old) }
+        ensures posting { IsPosting (view seat.old).staged }
+    {
+        self.table
+            .shared
+            .store::<StoreCount>(&mut seat.seat, ROW_COUNT, n as u64);
+    }
+}
+
 impl RwSeat {
+    ghost use Rattle.std.specs.Prelude.{◌≡◌};
+    ghost use Rattle.cmh_rw.specs.Seats.{view};
+
     /// The same as `RwWords::share` of this seat.
     pub fn share(&self) -> u32
         ensures { result ≡ (view self.now).lock.share }
@@ -168,6 +286,9 @@ impl RwSeat {
 }
 
 impl Closed {
+    ghost use Rattle.std.specs.Prelude.{◌≡◌, slice_get};
+    ghost use Rattle.cmh_rw.specs.Seats.{words_of};
+
     /// The word of that number, where there is one.
     pub fn word(&self, n: usize) -> Option<u64>
         ensures { result ≡ slice_get (words_of self.now) n }
@@ -177,5 +298,12 @@ impl Closed {
         } else {
             None
         }
+    }
+}
+
+impl Drop for Closed {
+    fn drop(self) {
+        let Closed { inner } = self;
+        inner.free();
     }
 }

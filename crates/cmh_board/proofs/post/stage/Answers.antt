@@ -1,7 +1,7 @@
 use Rattle.std.proofs.Common.{◌≡◌, ℕ, ◌+◌, arith, sym, subst, ◌∙◌, true, false, length, get_or, eqb}
 use Rattle.std.proofs.lemmas.List.Elements.{Contains-get_or}
 use Rattle.cmh_graph.proofs.Verdicts.{idle_within}
-use Rattle.cmh_rw.specs.declared.seat.RwSeat.{RwSeat}
+use Rattle.cmh_rw.specs.declared.words.RwSeat.{RwSeat}
 use Rattle.cmh_rw.specs.Seats.{view, IsSeatOf}
 use Rattle.cmh_board.specs.Board.{unposted}
 use Rattle.cmh_board.proofs.StagedRows.{Staging, found_new, below_end, next_number, can_stage, can_tell, is_last, staging-old, staging-new}

@@ -10,9 +10,10 @@ loop-n-preserved c = (
   λ (list : List Row) (shows : Show (words_of c.args.closed.now) list).
       let below : c.loop-n.n < length list = omega (arith, c.loop-n-test.true, c.word_of-count.ensures, shows.count) in
       let code = c.word_of-code.ensures ∙ shows.row c.loop-n.n below in
-      let row = row_back list c.loop-n.n c.word_of-code.result below code ∙ ap (λ r. Some r) (sym c.row_from.ensures) in
-      c.push_reserved.ensures.items ∙ ap (λ l. l ++ c.row_from.result ∷ []) (c.loop-n.invariant.0 list shows)
-      ∙ sym (take_got list c.loop-n.n c.row_from.result row),
+      let row = row_back list c.loop-n.n c.word_of-code.result below code
+      ∙ ap (λ r. Some r) (sym c.from_code.ensures) in
+      c.push_reserved.ensures.items ∙ ap (λ l. l ++ c.from_code.result ∷ []) (c.loop-n.invariant.0 list shows)
+      ∙ sym (take_got list c.loop-n.n c.from_code.result row),
   (
     c.loop-n.invariant.1.0,
     c.loop-n.invariant.1.1,

@@ -23,8 +23,8 @@ load-code-requires-clause-within c =
     let small = c.args.self.now.small in
     omega arith
 
-pub row_from-requires : goal.row_from-requires
-row_from-requires c =
+pub from_code-requires : goal.from_code-requires
+from_code-requires c =
     let told = c.load-code.ensures.loaded in
     let seen = (view c.load-code.new.seat).seen in
     let same = told.same c.requires.loaded in
@@ -43,4 +43,4 @@ returns-clause-row c =
     let same = told.same c.requires.loaded in
     let there : c.args.n < length seen = subst (λ l. c.args.n < length l) (sym same) c.requires.there in
     row_back seen c.args.n c.load-code.result there (told.row c.args.n refl there)
-    ∙ ap (λ r. Some r) (sym c.row_from.ensures)
+    ∙ ap (λ r. Some r) (sym c.from_code.ensures)

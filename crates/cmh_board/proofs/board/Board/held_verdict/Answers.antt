@@ -9,6 +9,6 @@ use Rattle.cmh_board.proofs.board.Board.held_verdict.Goals as goal
 pub returns-clause-true_verdict : goal.returns-clause-true_verdict
 returns-clause-true_verdict c =
     let seen = (view c.load-code.new.seat).seen in
-    let says : c.verdict_from.result ≡ fold_at seen c.args.p = grind (arith, common_steps) in
-    truth_in (board_graph c.args.self.now) seen c.args.p c.verdict_from.result c.args.self.now.within
+    let says : c.verdict_from_code.result ≡ fold_at seen c.args.p = grind (arith, common_steps) in
+    truth_in (board_graph c.args.self.now) seen c.args.p c.verdict_from_code.result c.args.self.now.within
     (subst (λ g. IsTrueOf g seen) c.requires.sits.graph c.load-code.ensures.loaded.true_of) says

@@ -5,7 +5,7 @@ use Rattle.cmh_rw.specs.declared.machine.SeatState.TheVariants.{Reading, Retreat
 use Rattle.cmh_rw.specs.declared.machine.Event.TheVariants.{Admit}
 use Rattle.cmh_rw.specs.Machine.{reads, retreats, turn}
 use Rattle.cmh_rw.proofs.LockSteps.{enters, leaves}
-use Rattle.cmh_rw.proofs.seat.RwWords.try_read.Goals as goal
+use Rattle.cmh_rw.proofs.words.RwWords.try_read.Goals as goal
 
 pub fetch_add-found-requires : goal.fetch_add-found-requires
 fetch_add-found-requires c = (search rules, search rules, enters _ _ _ _ c.requires.away)

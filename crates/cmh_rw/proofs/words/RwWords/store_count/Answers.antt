@@ -1,6 +1,6 @@
 use Rattle.std.proofs.Common.{rules, arith}
 use Rattle.cmh_rw.proofs.CountSteps.{counts_in}
-use Rattle.cmh_rw.proofs.seat.RwWords.store_count.Goals as goal
+use Rattle.cmh_rw.proofs.words.RwWords.store_count.Goals as goal
 
 pub store-requires : goal.store-requires
 store-requires c =

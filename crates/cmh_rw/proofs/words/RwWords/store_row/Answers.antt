@@ -6,7 +6,7 @@ use Rattle.cmh_rw.specs.Steps.{TableSeat}
 use Rattle.cmh_rw.proofs.Codes.{row_code_law}
 use Rattle.cmh_rw.proofs.StoreSteps.{stages}
 use Rattle.cmh_rw.proofs.Room.{Fits, row_has_word, fits_with_row}
-use Rattle.cmh_rw.proofs.seat.RwWords.store_row.Goals as goal
+use Rattle.cmh_rw.proofs.words.RwWords.store_row.Goals as goal
 
 pub overflow_add-n : goal.overflow_add-n
 overflow_add-n c = let s = c.args.seat.now in

@@ -2,7 +2,7 @@ use Rattle.std.proofs.Common.{rules, ap, sym, ◌∙◌}
 use Rattle.cmh_rw.specs.declared.view.View.{View}
 use Rattle.cmh_rw.proofs.LoadSteps.{loads}
 use Rattle.cmh_rw.proofs.Room.{fits_loaded}
-use Rattle.cmh_rw.proofs.seat.RwWords.load.Goals as goal
+use Rattle.cmh_rw.proofs.words.RwWords.load.Goals as goal
 
 pub load-requires : goal.load-requires
 load-requires c = (search rules, search rules, loads _ _ _ _ _ c.requires.held)

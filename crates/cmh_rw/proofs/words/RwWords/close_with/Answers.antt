@@ -1,5 +1,5 @@
 use Rattle.cmh_rw.proofs.ClosedWords.{closed_shows}
-use Rattle.cmh_rw.proofs.seat.RwWords.close_with.Goals as goal
+use Rattle.cmh_rw.proofs.words.RwWords.close_with.Goals as goal
 
 pub returns-clause-history : goal.returns-clause-history
 returns-clause-history c =

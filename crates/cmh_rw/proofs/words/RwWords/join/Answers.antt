@@ -3,7 +3,7 @@ use Rattle.cmh_rw.specs.View.{compared, joining}
 use Rattle.cmh_rw.specs.Steps.{TableSeat}
 use Rattle.cmh_rw.proofs.Room.{fits_joined, joined_begins}
 use Rattle.cmh_rw.proofs.SeatSteps.{joins, compares}
-use Rattle.cmh_rw.proofs.seat.RwWords.join.Goals as goal
+use Rattle.cmh_rw.proofs.words.RwWords.join.Goals as goal
 
 pub join_seat-requires : goal.join_seat-requires
 join_seat-requires c =

@@ -3,7 +3,7 @@ use Rattle.std.proofs.lemmas.Option.{slice_get_past}
 use mathlib.Core.Option.{some, some-injective, some-ne-none}
 use lib.ListN.{get_elem?}
 use Rattle.std.specs.Slots.{slots_items, slots_counts}
-use Rattle.cmh_rw.proofs.seat.Closed.word.Goals as goal
+use Rattle.cmh_rw.proofs.words.Closed.word.Goals as goal
 
 got : (l : List ℕ) (i a : ℕ) → get_elem? l i ≡ some a → Some a ≡ slice_get l i
 got [] i a e = absurd (some-ne-none a (sym e))

@@ -2,7 +2,7 @@ use Rattle.std.proofs.Common.{rules, arith, ap, sym, subst}
 use Rattle.cmh_rw.specs.Steps.{TableSeat}
 use Rattle.cmh_rw.proofs.Room.{Fits, fits_newcomer}
 use Rattle.cmh_rw.proofs.SeatSteps.{splits}
-use Rattle.cmh_rw.proofs.seat.RwWords.split.Goals as goal
+use Rattle.cmh_rw.proofs.words.RwWords.split.Goals as goal
 
 pub split_seat-other-requires : goal.split_seat-other-requires
 split_seat-other-requires c = let s = c.args.seat.now in let share = s.shared in let some = s.some in
