@@ -15,6 +15,7 @@ use Rattle.cmh_run.specs.Run.{Run}
 use Rattle.cmh_rw.specs.declared.row.Row.{Row}
 use Rattle.cmh_rw.specs.History.{StartsWith, IsTrueOf, fold_at}
 use Rattle.cmh_board.specs.Board.{known, IsMadeOf}
+use Rattle.cmh_work.specs.declared.TheConstants.{MAX_WORKERS}
 use Rattle.cmh_work.specs.declared.finding.Finding.{Finding}
 use Rattle.cmh_work.specs.declared.job.Shared.{Shared}
 use Rattle.cmh_work.specs.declared.job.Seats.{Seats}
@@ -22,7 +23,7 @@ use Rattle.cmh_work.specs.declared.record.Record.{Record}
 use Rattle.cmh_work.specs.declared.record.Origin.{Origin}
 use Rattle.cmh_work.specs.declared.record.Analysis.{Analysis}
 use Rattle.cmh_work.specs.Plan.{Setup}
-use Rattle.cmh_work.specs.Seats.{view}
+use Rattle.cmh_work.specs.TicketSeats.{ticket_view}
 use Rattle.cmh_work.specs.Shape.{IsShape}
 use Rattle.cmh_work.specs.Record.{IsRunFor, IsSource, IsTrueRecord}
 use Rattle.cmh_work.specs.Analysis.{initiator_of, records_of, history_of, IsAnalysisOf}
@@ -116,7 +117,7 @@ all_stand listed g choices rows seen found sorted p begins sound =
 pub analysed : {L : Type 0} (listed : L → List ℕ) (g : Graph) (plan : Setup) (j : Shared) (s : Seats)
     (found sorted : List (Finding Run L)) (a : Analysis Run L) → IsWellFormed g → IsMadeFor g plan j
     → IsPermutation found sorted → IsNonDecreasingBy finding_initiator sorted
-    → AreSeated j s → (view s.tickets).share ≡ 64 → IsWorked listed g plan j s found
+    → AreSeated j s → (ticket_view s.tickets).share ≡ MAX_WORKERS → IsWorked listed g plan j s found
     → StartsWith (history_of a) (known s.board).seen → IsTrueOf g (history_of a)
     → IsMadeOf (known s.board).mine (history_of a)
     → AreNumbered (history_of a) sorted (records_of a) → IsAnalysisOf listed g plan.choices a

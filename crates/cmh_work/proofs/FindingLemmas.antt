@@ -4,20 +4,21 @@ use Rattle.std.specs.Prelude.{IsOkAnd}
 use Rattle.std.specs.Global.{Vec}
 use Rattle.std.proofs.lemmas.List.{map-append}
 use Rattle.cmh_run.specs.Run.{Run}
+use Rattle.cmh_work.specs.declared.TheConstants.{MAX_WORKERS}
 use Rattle.cmh_work.specs.declared.fault.WorkFault.{WorkFault}
 use Rattle.cmh_work.specs.declared.finding.Finding.{Finding}
 use Rattle.cmh_graph.specs.Graph.{Graph}
 use Rattle.cmh_work.specs.Plan.{Setup}
 use Rattle.cmh_work.specs.declared.job.Shared.{Shared}
 use Rattle.cmh_work.specs.declared.job.Seats.{Seats}
-use Rattle.cmh_work.specs.declared.seats.TicketSeat.{TicketSeat}
+use Rattle.cmh_work.specs.declared.tickets.TicketSeat.{TicketSeat}
 use Rattle.cmh_rw.specs.History.{StartsWith}
 use Rattle.cmh_rw.specs.View.{joined}
 use Rattle.cmh_board.specs.Board.{known}
 use Rattle.cmh_rw.specs.Machine.{total}
 use Rattle.cmh_work.specs.Tickets.{sum_below, joined_views, with_drawn}
 use Rattle.cmh_work.specs.Cutting.{gathered}
-use Rattle.cmh_work.specs.Seats.{view, IsTicketSeatOf}
+use Rattle.cmh_work.specs.TicketSeats.{ticket_view, IsTicketSeatOf}
 use Rattle.cmh_work.specs.Finding.{finding_initiator}
 use Rattle.cmh_work.specs.Working.{chunks_in, AreNew, AreOf, IsMadeFor, IsWorked}
 use Rattle.cmh_work.proofs.AccountsLemmas.{accounts_joined}
@@ -39,7 +40,7 @@ collected (Ok v) (Err e) second P Q S p q c f = absurd c
 
 -- once the seats of two workers are joined, the findings of both are what the joined seats found
 pub joined_worked : {L : Type 0} (listed : L → List ℕ) (g : Graph) (plan : Setup) (j : Shared) (s t u : Seats)
-    (a b : List (Finding Run L)) → view u.tickets ≡ joined_views (view s.tickets) (view t.tickets)
+    (a b : List (Finding Run L)) → ticket_view u.tickets ≡ joined_views (ticket_view s.tickets) (ticket_view t.tickets)
     → known u.board ≡ joined (known s.board) (known t.board)
     → StartsWith (known u.board).seen (known s.board).seen → StartsWith (known u.board).seen (known t.board).seen
     → IsWorked listed g plan j s a → IsWorked listed g plan j t b → IsWorked listed g plan j u (a ++ b)
@@ -49,10 +50,10 @@ joined_worked listed g plan j s t u a b is jo first second w x = record {
         accounts_joined listed g plan.choices (known s.board) (known t.board) (known u.board) a b first second
         (ap (λ v. v.mine) jo) w.of.accounts x.of.accounts;
     order = map-append finding_initiator a b ∙ (λ k. w.of.order k ++ x.of.order k)
-        ∙ sym (gathered-append (chunks_in plan j) (view s.tickets).drawn (view t.tickets).drawn)
+        ∙ sym (gathered-append (chunks_in plan j) (ticket_view s.tickets).drawn (ticket_view t.tickets).drawn)
         ∙ ap (λ v. gathered (chunks_in plan j) v.drawn) (sym is);
   };
-  done = ap (λ v. v.done) is ∙ ap (λ d. d || (view t.tickets).done) w.done;
+  done = ap (λ v. v.done) is ∙ ap (λ d. d || (ticket_view t.tickets).done) w.done;
 }
 
 -- new seats have found nothing
@@ -65,22 +66,23 @@ nothing_found listed g plan j s new = record {
 
 -- with one chunk more drawn and its findings added, the findings are of the chunks drawn, in order
 pub drawn_more : {L : Type 0} (plan : Setup) (j : Shared) (s u : TicketSeat) (n : ℕ) (a b : List (Finding Run L))
-    → view u ≡ with_drawn (view s) n → map finding_initiator a ≡ gathered (chunks_in plan j) (view s).drawn
+    → ticket_view u ≡ with_drawn (ticket_view s) n
+    → map finding_initiator a ≡ gathered (chunks_in plan j) (ticket_view s).drawn
     → map finding_initiator b ≡ map finding_initiator a ++ slice_index_or (chunks_in plan j) n []
-    → map finding_initiator b ≡ gathered (chunks_in plan j) (view u).drawn
+    → map finding_initiator b ≡ gathered (chunks_in plan j) (ticket_view u).drawn
 drawn_more plan j s u n a b is was more =
     more ∙ ap (λ l. l ++ slice_index_or (chunks_in plan j) n []) was
-    ∙ sym (gathered_snoc (chunks_in plan j) (view s).drawn n)
+    ∙ sym (gathered_snoc (chunks_in plan j) (ticket_view s).drawn n)
     ∙ ap (λ v. gathered (chunks_in plan j) v.drawn) (sym is)
 
 -- with the whole share, the findings weigh what the idle processes do
 pub all_worked : {L : Type 0} (listed : L → List ℕ) (g : Graph) (plan : Setup) (j : Shared) (s : Seats)
     (found : List (Finding Run L)) → IsMadeFor g plan j → IsTicketSeatOf j.tickets s.tickets
-    → (view s.tickets).share ≡ 64
+    → (ticket_view s.tickets).share ≡ MAX_WORKERS
     → IsWorked listed g plan j s found
     → (weight : ℕ → ℕ) → total weight (map finding_initiator found) ≡ total weight j.idle.items
 all_worked listed g plan j s found made own whole w weight =
     let all = s.tickets.knows w.done whole in
-    let n : (view s.tickets).chunks ≡ length plan.cuts + 1 = own.1 ∙ made.tickets in
+    let n : (ticket_view s.tickets).chunks ≡ length plan.cuts + 1 = own.1 ∙ made.tickets in
     ap (total weight) w.of.order
-    ∙ gathered_once weight plan.cuts j.idle.items (view s.tickets).drawn (λ f. all f ∙ ap (sum_below f) n)
+    ∙ gathered_once weight plan.cuts j.idle.items (ticket_view s.tickets).drawn (λ f. all f ∙ ap (sum_below f) n)

@@ -6,7 +6,7 @@ pub mod Leaders
 pub mod Numbering
 pub mod Plan
 pub mod Record
-pub mod Seats
 pub mod Shape
+pub mod TicketSeats
 pub mod Tickets
 pub mod Working

@@ -4,6 +4,7 @@ use mathlib.Core.Option.{some}
 use lib.ListN.{get_elem?}
 use Rattle.atomic_table.specs.Table.{State, Me, Step}
 use Rattle.cmh_rw.specs.Machine.{total}
+use Rattle.cmh_work.specs.declared.TheConstants.{MAX_WORKERS}
 use Rattle.cmh_work.specs.declared.ticket_rule.TicketView.{TicketView}
 
 -- ---- weights
@@ -17,7 +18,7 @@ sum_below weight (suc n) = sum_below weight n + weight n
 
 -- what the first seat knows: it has all shares, and has drawn none of these chunks
 abbrev pub ticket_opening_view : ℕ → TicketView
-ticket_opening_view chunks = record { chunks = chunks; share = 64; drawn = []; done = false }
+ticket_opening_view chunks = record { chunks = chunks; share = MAX_WORKERS; drawn = []; done = false }
 
 -- what a seat knows once it gave 1 of its share away
 abbrev pub ticket_less_one : TicketView → TicketView
@@ -53,11 +54,11 @@ DrewAll v = (weight : ℕ → ℕ) → total weight v.drawn ≡ sum_below weight
 
 -- with the whole share and after none, the seat drew all
 abbrev pub KnowsAll : TicketView → Type 0
-KnowsAll v = v.done ≡ true → v.share ≡ 64 → DrewAll v
+KnowsAll v = v.done ≡ true → v.share ≡ MAX_WORKERS → DrewAll v
 
 -- ---- the rule
 
--- how many of the 64 shares the seat has
+-- how many of all shares the seat has
 abbrev pub ticket_share : TicketView → ℕ
 ticket_share v = v.share
 
@@ -86,7 +87,7 @@ pub record Dealt (chunks : ℕ) (s : State (Unit {0}) TicketView) : Type 0 where
   pub before_end : slice_index s.words 0 ≤ chunks → reached ≡ slice_index s.words 0
   pub at_end : chunks ≤ slice_index s.words 0 → reached ≡ chunks
   pub small : chunks < 2 ^ 32
-  pub shares : total ticket_share s.views ≤ 64
+  pub shares : total ticket_share s.views ≤ MAX_WORKERS
   pub over : slice_index s.words 0 ≤ chunks + total done_share s.views
   pub each : (i : ℕ) (v : TicketView) → get_elem? s.views i ≡ some v
       → IsTicketSeat chunks (slice_index s.words 0) v
@@ -127,4 +128,4 @@ Drew st m n m' = (m' ≡ (after_draw n m.0, m.1)) × (length m.0.drawn ≤ n) ×
 
 -- what a load tells the seat that loads
 abbrev pub Measured : Step (Unit {0}) → Sitting → ℕ → Sitting → Type 0
-Measured st m n m' = (m' ≡ m) × (m.0.share ≤ 64) × KnowsAll m.0
+Measured st m n m' = (m' ≡ m) × (m.0.share ≤ MAX_WORKERS) × KnowsAll m.0

@@ -9,7 +9,7 @@ use Rattle.cmh_work.specs.declared.job.Shared.{Shared}
 use Rattle.cmh_work.specs.declared.job.Seats.{Seats}
 use Rattle.cmh_work.specs.Plan.{Setup}
 use Rattle.cmh_work.specs.Cutting.{chunks_of, bounds_of, gathered}
-use Rattle.cmh_work.specs.Seats.{view, IsTicketSeatOf}
+use Rattle.cmh_work.specs.TicketSeats.{ticket_view, IsTicketSeatOf}
 use Rattle.cmh_work.specs.Shape.{AreShapesOf}
 use Rattle.cmh_work.specs.Finding.{finding_initiator, Accounts}
 
@@ -37,13 +37,13 @@ pub record AreSeated (s : Shared) (seats : Seats) : Type 0 where
 
 -- the seats have drawn nothing and added nothing yet
 pub record AreNew (seats : Seats) : Type 0 where
-  pub drawn : (view seats.tickets).drawn ≡ []
+  pub drawn : (ticket_view seats.tickets).drawn ≡ []
   pub mine : (known seats.board).mine ≡ []
 
 -- the seats are in their places afterwards, with the shares that they had
 pub record AreBack (s : Shared) (old new : Seats) : Type 0 where
   pub sit : AreSeated s new
-  pub tickets : (view new.tickets).share ≡ (view old.tickets).share
+  pub tickets : (ticket_view new.tickets).share ≡ (ticket_view old.tickets).share
   pub board : (known new.board).lock.share ≡ (known old.board).lock.share
 
 -- what was found is of the chunks that the seat drew, in order, and explains what it added
@@ -51,11 +51,11 @@ pub record AreOf {L : Type 0} (listed : L → List ℕ) (g : Graph) (plan : Setu
     (found : List (Finding Run L))
     : Type 0 where
   pub accounts : Accounts listed g plan.choices (known seats.board) found
-  pub order : map finding_initiator found ≡ gathered (chunks_in plan s) (view seats.tickets).drawn
+  pub order : map finding_initiator found ≡ gathered (chunks_in plan s) (ticket_view seats.tickets).drawn
 
 -- what was found is of the chunks that the seat drew, in order, and no chunk is left
 pub record IsWorked {L : Type 0} (listed : L → List ℕ) (g : Graph) (plan : Setup) (s : Shared) (seats : Seats)
     (found : List (Finding Run L))
     : Type 0 where
   pub of : AreOf listed g plan s seats found
-  pub done : (view seats.tickets).done ≡ true
+  pub done : (ticket_view seats.tickets).done ≡ true

@@ -2,9 +2,11 @@
 
 ghost use Rattle.std.specs.Prelude.{◌≡◌, ◌+◌, ◌<◌, length, IfOk, IfErr};
 ghost use Rattle.cmh_work.specs.Analysis.{IsAnalysisOf};
-ghost use Rattle.cmh_work.specs.Seats.{view, IsTicketSeatOf, chunk_count};
+ghost use Rattle.cmh_work.specs.TicketSeats.{ticket_view, IsTicketSeatOf, chunk_count};
 ghost use Rattle.cmh_work.specs.Tickets.{ticket_opening_view};
 ghost use Rattle.cmh_work.specs.Working.{IsMadeFor, AreSeated, AreNew};
+ghost use Rattle.cmh_work.specs.declared.TheConstants.{MAX_WORKERS};
+ghost use Rattle.cmh_rw.specs.declared.TheConstants.{MAX_SEATS};
 ghost use Rattle.cmh_board.specs.Board.{known};
 
 use crate::chunks::chunk_bounds;
@@ -12,8 +14,8 @@ use crate::fault::{want_at_board, want_in_graph, want_of_tickets};
 use crate::job::{Seats, Shared};
 use crate::number::number_all;
 use crate::record::Analysis;
-use crate::seats::{TicketSeat, Tickets};
 use crate::shapes::Shapes;
+use crate::tickets::{TicketSeat, Tickets};
 use crate::workers::workers;
 use crate::{Gate, Plan, WorkFault};
 use cmh_board::Board;
@@ -37,12 +39,12 @@ use std::thread::Threads;
 /// # Errors
 ///
 /// `Memory`, where memory is refused. `WorkerLost` isn't answered today.
-pub fn analyse<R: Threads + Wait + Sync, P: Gate>(
+pub fn analyse<R: Threads + Wait + Sync, G: Gate>(
     rt: &R,
     alloc: Global,
     graph: &WaitGraph,
     plan: &Plan,
-    gate: &P,
+    gate: &G,
 ) -> Result<Analysis, WorkFault>
     ensures ok { IfOk result (IsAnalysisOf (λ path. path.items) graph.now plan.now.choices) }
     ensures memory { IfErr result (λ e. e ≡ WorkFault.Memory) }
@@ -56,12 +58,12 @@ pub fn analyse<R: Threads + Wait + Sync, P: Gate>(
 /// # Errors
 ///
 /// As `analyse`.
-pub fn analyse_keeping<L: Log + Send, E: ProcessList + Send, R: Threads + Wait + Sync, P: Gate>(
+pub fn analyse_keeping<L: Log + Send, E: ProcessList + Send, R: Threads + Wait + Sync, G: Gate>(
     rt: &R,
     alloc: Global,
     graph: &WaitGraph,
     plan: &Plan,
-    gate: &P,
+    gate: &G,
 ) -> Result<Analysis<RunLog<L, E>, E>, WorkFault>
     ensures ok { IfOk result (IsAnalysisOf E.processes graph.now plan.now.choices) }
     ensures memory { IfErr result (λ e. e ≡ WorkFault.Memory) }
@@ -88,7 +90,7 @@ pub fn analyse_keeping<L: Log + Send, E: ProcessList + Send, R: Threads + Wait +
 /// A number for each chunk of the plan: there is one more than cuts.
 fn open_tickets(alloc: Global, plan: &Plan) -> Result<(Tickets, TicketSeat), WorkFault>
     ensures open { IfOk result (λ r. IsTicketSeatOf r.0 r.1 × (chunk_count r.0 ≡ length plan.now.cuts + 1)
-        × (view r.1 ≡ ticket_opening_view (length plan.now.cuts + 1))) }
+        × (ticket_view r.1 ≡ ticket_opening_view (length plan.now.cuts + 1))) }
     ensures memory { IfErr result (λ e. e ≡ WorkFault.Memory) }
 {
     let chunks = plan.cuts().len() as u32 + 1;
@@ -96,20 +98,20 @@ fn open_tickets(alloc: Global, plan: &Plan) -> Result<(Tickets, TicketSeat), Wor
 }
 
 /// The analysis, by workers that share this.
-fn finish<L: Log + Send, E: ProcessList + Send, R: Threads + Wait + Sync, P: Gate>(
+fn finish<L: Log + Send, E: ProcessList + Send, R: Threads + Wait + Sync, G: Gate>(
     rt: &R,
     alloc: Global,
     graph: &WaitGraph,
     plan: &Plan,
     shared: Shared,
-    gate: &P,
+    gate: &G,
     seats: Seats,
 ) -> Result<Analysis<RunLog<L, E>, E>, WorkFault>
     requires made { IsMadeFor graph.now plan.now shared }
     requires sit { AreSeated shared seats }
     requires new { AreNew seats }
-    requires tickets { (view seats.tickets).share ≡ 64 }
-    requires board { (known seats.board).lock.share ≡ 64 }
+    requires tickets { (ticket_view seats.tickets).share ≡ MAX_WORKERS }
+    requires board { (known seats.board).lock.share ≡ MAX_SEATS }
     ensures ok { IfOk result (IsAnalysisOf E.processes graph.now plan.now.choices) }
     ensures memory { IfErr result (λ e. e ≡ WorkFault.Memory) }
 {

@@ -8,8 +8,8 @@ ghost use Rattle.cmh_work.specs.Cutting.{bounds_of};
 ghost use Rattle.cmh_work.specs.Leaders.{group_leader};
 
 use crate::Plan;
-use crate::seats::{TicketSeat, Tickets};
 use crate::shapes::Shapes;
+use crate::tickets::{TicketSeat, Tickets};
 use cmh_board::{Board, BoardSeat};
 use cmh_graph::WaitGraph;
 

@@ -12,7 +12,6 @@ mod leaders;
 mod number;
 mod plan;
 mod record;
-mod seats;
 mod shapes;
 #[cfg(test)]
 mod tests;
@@ -27,7 +26,7 @@ pub use fault::{PlanFault, WorkFault};
 pub use gate::{Gate, NoGate};
 pub use plan::Plan;
 pub use record::{Analysis, Origin, Record, Shape};
-pub use seats::{TicketSeat, Tickets};
+pub use tickets::{TicketSeat, Tickets};
 
 /// The most workers of a plan, and the most seats of anything that they share.
 pub const MAX_WORKERS: u32 = 64;

@@ -7,7 +7,7 @@ use std::collections::LinkedList;
 pub struct TicketView {
     /// How many numbers there are.
     pub chunks: u32,
-    /// Of how many seats it may be the source.
+    /// How many seats can still come of it by splits, itself among them.
     pub share: u64,
     /// What it drew, in order.
     pub drawn: LinkedList<u32>,

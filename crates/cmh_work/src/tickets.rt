@@ -1,20 +1,49 @@
-//! The calls of the tickets. None of them waits.
+//! Tickets and their seats: numbers that threads draw. No call waits.
 
-ghost use Rattle.std.specs.Prelude.{◌≡◌, ◌+◌, ◌<◌, ◌≤◌, true, length, IfOk, IfErr, IfSome, IfNone, IsNone};
-ghost use Rattle.cmh_work.specs.Tickets.{ticket_opening_view, ticket_less_one, ticket_newcomer, joined_views, with_drawn, with_done, DrewAll};
-ghost use Rattle.cmh_work.specs.Seats.{view, IsTicketSeatOf, chunk_count};
+ghost use Rattle.std.specs.Prelude.{◌≡◌, ◌<◌, ◌≤◌, []};
+ghost use Rattle.cmh_work.specs.declared.TheConstants.{MAX_WORKERS};
+ghost use Rattle.cmh_work.specs.Tickets.{KnowsAll};
 
-use crate::PlanFault;
-use crate::seats::{TicketSeat, Tickets};
-use crate::ticket_rule::{Draw, Measure, Parts};
-use atomic_table::Table;
+use crate::ticket_rule::{Draw, Measure, Parts, TicketRule, TicketView};
+use crate::{MAX_WORKERS, PlanFault};
+use atomic_table::{Seat, Table};
 use std::alloc::Global;
 
+/// The numbers below some bound, from 0. Each is drawn once, by whichever seat comes first.
+#[derive(Drop)]
+pub struct Tickets {
+    pub(crate) table: Table<(), TicketView, u32, TicketRule, Global>,
+    pub(crate) chunks: u32,
+    pub ghost wide: { table.shared.table_id.words ≡ 1 },
+    pub ghost bare: { table.shared.table_id.slots ≡ 0 },
+    pub ghost counted: { table.shared.key ≡ chunks },
+}
+
+/// The right to draw. A seat has a share of all seats, and with the whole share it knows what was
+/// drawn.
+#[derive(Drop)]
+pub struct TicketSeat {
+    pub(crate) seat: Seat<(), TicketView>,
+    pub(crate) share: u32,
+    pub(crate) done: bool,
+    pub ghost shared: { share ≡ seat.me.0.share },
+    pub ghost ended: { done ≡ seat.me.0.done },
+    pub ghost some: { 0 < share },
+    pub ghost few: { share ≤ MAX_WORKERS },
+    pub ghost bare: { seat.me.1 ≡ [] },
+    pub ghost knows: { KnowsAll seat.me.0 },
+}
+
 impl Tickets {
-    /// Nothing is drawn yet, and the seat has the whole share, of 64.
+    ghost use Rattle.std.specs.Prelude.{◌≡◌, ◌<◌, ◌≤◌, true, length, IfOk, IfErr, IfSome, IfNone, IsNone};
+    ghost use Rattle.cmh_work.specs.Tickets.{ticket_opening_view, ticket_less_one, ticket_newcomer, joined_views, with_drawn, with_done, DrewAll};
+    ghost use Rattle.cmh_work.specs.declared.TheConstants.{MAX_WORKERS};
+    ghost use Rattle.cmh_work.specs.TicketSeats.{ticket_view, IsTicketSeatOf, chunk_count};
+
+    /// Nothing is drawn yet, and the seat has the whole share, of `MAX_WORKERS`.
     pub fn open(alloc: Global, chunks: u32) -> Result<(Tickets, TicketSeat), PlanFault>
         ensures ok { IfOk result (λ r.
-            IsTicketSeatOf r.0 r.1 × (chunk_count r.0 ≡ chunks) × (view r.1 ≡ ticket_opening_view chunks)) }
+            IsTicketSeatOf r.0 r.1 × (chunk_count r.0 ≡ chunks) × (ticket_view r.1 ≡ ticket_opening_view chunks)) }
         ensures memory { IfErr result (λ e. e ≡ PlanFault.Memory) }
     {
         let (table, seat) = Table::of_words(alloc, &[0], &chunks)?;
@@ -22,7 +51,7 @@ impl Tickets {
             Tickets { table, chunks },
             TicketSeat {
                 seat,
-                share: 64,
+                share: MAX_WORKERS,
                 done: false,
             },
         ))
@@ -32,10 +61,10 @@ impl Tickets {
     pub fn split(&self, seat: &mut TicketSeat) -> Option<TicketSeat>
         requires own { IsTicketSeatOf self.now seat.old }
         ensures own { IsTicketSeatOf self.now seat.new }
-        ensures new { IfSome result (λ s. IsTicketSeatOf self.now s × (view s ≡ ticket_newcomer (view seat.old))) }
-        ensures less { IfSome result (λ s. view seat.new ≡ ticket_less_one (view seat.old)) }
-        ensures some { IfSome result (λ s. 1 < (view seat.old).share) }
-        ensures none { IfNone result (seat.new ≡ seat.old × ((view seat.old).share ≡ 1)) }
+        ensures new { IfSome result (λ s. IsTicketSeatOf self.now s × (ticket_view s ≡ ticket_newcomer (ticket_view seat.old))) }
+        ensures less { IfSome result (λ s. ticket_view seat.new ≡ ticket_less_one (ticket_view seat.old)) }
+        ensures some { IfSome result (λ s. 1 < (ticket_view seat.old).share) }
+        ensures none { IfNone result (seat.new ≡ seat.old × ((ticket_view seat.old).share ≡ 1)) }
     {
         if seat.share <= 1 {
             return None;
@@ -53,9 +82,9 @@ impl Tickets {
     pub fn join(&self, seat: &mut TicketSeat, other: TicketSeat)
         requires own { IsTicketSeatOf self.now seat.old × IsTicketSeatOf self.now other }
         ensures own { IsTicketSeatOf self.now seat.new }
-        ensures both { view seat.new ≡ joined_views (view seat.old) (view other) }
-        ensures all { (view seat.new).done ≡ true → (view seat.new).share ≡ 64
-            → DrewAll (view seat.new) }
+        ensures both { ticket_view seat.new ≡ joined_views (ticket_view seat.old) (ticket_view other) }
+        ensures all { (ticket_view seat.new).done ≡ true → (ticket_view seat.new).share ≡ MAX_WORKERS
+            → DrewAll (ticket_view seat.new) }
     {
         let share = seat.share + other.share;
         let done = seat.done || other.done;
@@ -75,11 +104,11 @@ impl Tickets {
         requires own { IsTicketSeatOf self.now seat.old }
         ensures own { IsTicketSeatOf self.now seat.new }
         ensures within { IfSome result (λ n. n < chunk_count self.now) }
-        ensures few { IfSome result (λ n. length (view seat.old).drawn ≤ n) }
-        ensures some { IfSome result (λ n. view seat.new ≡ with_drawn (view seat.old) n) }
-        ensures none { IfNone result (view seat.new ≡ with_done (view seat.old)) }
-        ensures after { (view seat.old).done ≡ true → IsNone result × (seat.new ≡ seat.old) }
-        ensures all { IfNone result ((view seat.new).share ≡ 64 → DrewAll (view seat.new)) }
+        ensures few { IfSome result (λ n. length (ticket_view seat.old).drawn ≤ n) }
+        ensures some { IfSome result (λ n. ticket_view seat.new ≡ with_drawn (ticket_view seat.old) n) }
+        ensures none { IfNone result (ticket_view seat.new ≡ with_done (ticket_view seat.old)) }
+        ensures after { (ticket_view seat.old).done ≡ true → IsNone result × (seat.new ≡ seat.old) }
+        ensures all { IfNone result ((ticket_view seat.new).share ≡ MAX_WORKERS → DrewAll (ticket_view seat.new)) }
     {
         if seat.done {
             return None;
@@ -94,9 +123,12 @@ impl Tickets {
 }
 
 impl TicketSeat {
-    /// Of how many seats this one may be the source, itself among them.
+    ghost use Rattle.std.specs.Prelude.{◌≡◌};
+    ghost use Rattle.cmh_work.specs.TicketSeats.{ticket_view};
+
+    /// How many seats can still come of this one by splits, itself among them.
     pub fn share(&self) -> u32
-        ensures { result ≡ (view self.now).share }
+        ensures { result ≡ (ticket_view self.now).share }
     {
         self.share
     }

@@ -78,11 +78,11 @@ fn ask<L: Log, E: ProcessList, R: Wait>(
 }
 
 /// What is found of one initiator.
-fn find_one<L: Log, E: ProcessList, R: Wait, P: Gate>(
+fn find_one<L: Log, E: ProcessList, R: Wait, G: Gate>(
     rt: &R,
     alloc: Global,
     job: &Job,
-    gate: &P,
+    gate: &G,
     runner: &mut Runner,
     seat: &mut BoardSeat,
     initiator: u32,
@@ -114,11 +114,11 @@ fn find_one<L: Log, E: ProcessList, R: Wait, P: Gate>(
 
 /// Adds what is found of each initiator of the chunk, in order. After the first of all it gives way
 /// once, so that workers who are far off can post what cuts its later runs short.
-fn find_each<L: Log, E: ProcessList, R: Wait, P: Gate>(
+fn find_each<L: Log, E: ProcessList, R: Wait, G: Gate>(
     rt: &R,
     alloc: Global,
     job: &Job,
-    gate: &P,
+    gate: &G,
     runner: &mut Runner,
     seat: &mut BoardSeat,
     found: &mut Vec<Finding<RunLog<L, E>, E>>,
@@ -149,11 +149,11 @@ fn find_each<L: Log, E: ProcessList, R: Wait, P: Gate>(
 }
 
 /// Works on chunks until there are no more, or memory is refused.
-fn draw_all<L: Log, E: ProcessList, R: Wait, P: Gate>(
+fn draw_all<L: Log, E: ProcessList, R: Wait, G: Gate>(
     rt: &R,
     alloc: Global,
     job: &Job,
-    gate: &P,
+    gate: &G,
     seats: &mut Seats,
 ) -> Result<Vec<Finding<RunLog<L, E>, E>>, WorkFault>
     requires sit { AreSeated job.now.shared.now seats.old }
@@ -182,13 +182,13 @@ fn draw_all<L: Log, E: ProcessList, R: Wait, P: Gate>(
 }
 
 /// One worker. Its seats come back on every path.
-pub(crate) fn work<L: Log, E: ProcessList, R: Wait, P: Gate>(
+pub(crate) fn work<L: Log, E: ProcessList, R: Wait, G: Gate>(
     rt: &R,
     alloc: Global,
     graph: &WaitGraph,
     plan: &Plan,
     shared: &Shared,
-    gate: &P,
+    gate: &G,
     seats: Seats,
 ) -> (Seats, Result<Vec<Finding<RunLog<L, E>, E>>, WorkFault>)
     requires made { IsMadeFor graph.now plan.now shared.now }

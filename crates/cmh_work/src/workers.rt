@@ -5,7 +5,7 @@ ghost use Rattle.std.specs.Thread.{IsSync};
 ghost use Rattle.cmh_rw.specs.History.{StartsWith};
 ghost use Rattle.cmh_rw.specs.View.{joined};
 ghost use Rattle.cmh_board.specs.Board.{known};
-ghost use Rattle.cmh_work.specs.Seats.{view};
+ghost use Rattle.cmh_work.specs.TicketSeats.{ticket_view};
 ghost use Rattle.cmh_work.specs.Tickets.{joined_views};
 ghost use Rattle.cmh_work.specs.Working.{IsMadeFor, AreSeated, AreNew, AreBack, IsWorked};
 
@@ -20,7 +20,7 @@ use std::sync::Wait;
 use std::thread::{Threads, join};
 
 /// What both found, or the fault of one.
-fn both<L: Log, E: ProcessList>(
+fn concat_findings<L: Log, E: ProcessList>(
     first: Result<Vec<Finding<RunLog<L, E>, E>>, WorkFault>,
     second: Result<Vec<Finding<RunLog<L, E>, E>>, WorkFault>,
 ) -> Result<Vec<Finding<RunLog<L, E>, E>>, WorkFault>
@@ -40,15 +40,15 @@ fn both<L: Log, E: ProcessList>(
 fn split_off(shared: &Shared, seats: &mut Seats) -> Option<Seats>
     requires sit { AreSeated shared.now seats.old }
     requires new { AreNew seats.old }
-    requires share { (known seats.old.board).lock.share ≡ (view seats.old.tickets).share }
+    requires share { (known seats.old.board).lock.share ≡ (ticket_view seats.old.tickets).share }
     ensures sit { AreSeated shared.now seats.new × AreNew seats.new }
-    ensures share { (known seats.new.board).lock.share ≡ (view seats.new.tickets).share }
+    ensures share { (known seats.new.board).lock.share ≡ (ticket_view seats.new.tickets).share }
     ensures new { IfSome result (λ s. AreSeated shared.now s × AreNew s
-        × ((known s.board).lock.share ≡ 1) × ((view s.tickets).share ≡ 1)) }
+        × ((known s.board).lock.share ≡ 1) × ((ticket_view s.tickets).share ≡ 1)) }
     ensures less { IfSome result (λ s.
-        (view seats.new.tickets).share + 1 ≡ (view seats.old.tickets).share) }
-    ensures none { IfNone result (((view seats.old.tickets).share ≤ 1)
-        × ((view seats.new.tickets).share ≡ (view seats.old.tickets).share)) }
+        (ticket_view seats.new.tickets).share + 1 ≡ (ticket_view seats.old.tickets).share) }
+    ensures none { IfNone result (((ticket_view seats.old.tickets).share ≤ 1)
+        × ((ticket_view seats.new.tickets).share ≡ (ticket_view seats.old.tickets).share)) }
 {
     if seats.tickets.share() <= 1 {
         return None;
@@ -62,8 +62,8 @@ fn split_off(shared: &Shared, seats: &mut Seats) -> Option<Seats>
 fn take_back(shared: &Shared, seats: &mut Seats, other: Seats)
     requires sit { AreSeated shared.now seats.old × AreSeated shared.now other }
     ensures sit { AreSeated shared.now seats.new }
-    ensures tickets { view seats.new.tickets
-        ≡ joined_views (view seats.old.tickets) (view other.tickets) }
+    ensures tickets { ticket_view seats.new.tickets
+        ≡ joined_views (ticket_view seats.old.tickets) (ticket_view other.tickets) }
     ensures board { known seats.new.board
         ≡ joined (known seats.old.board) (known other.board) }
     ensures begins { StartsWith (known seats.new.board).seen (known seats.old.board).seen
@@ -76,21 +76,21 @@ fn take_back(shared: &Shared, seats: &mut Seats, other: Seats)
 
 /// So many workers in threads of their own, and one in this thread. All are joined on every path,
 /// and their seats come back.
-pub(crate) fn workers<L: Log + Send, E: ProcessList + Send, R: Threads + Wait + Sync, P: Gate>(
+pub(crate) fn workers<L: Log + Send, E: ProcessList + Send, R: Threads + Wait + Sync, G: Gate>(
     rt: &R,
     alloc: Global,
     graph: &WaitGraph,
     plan: &Plan,
     shared: &Shared,
-    gate: &P,
+    gate: &G,
     seats: Seats,
     others: u32,
 ) -> (Seats, Result<Vec<Finding<RunLog<L, E>, E>>, WorkFault>)
     requires made { IsMadeFor graph.now plan.now shared.now }
     requires sit { AreSeated shared.now seats }
-    requires same { (known seats.board).lock.share ≡ (view seats.tickets).share }
+    requires same { (known seats.board).lock.share ≡ (ticket_view seats.tickets).share }
     requires new { AreNew seats }
-    requires share { others < (view seats.tickets).share }
+    requires share { others < (ticket_view seats.tickets).share }
     ensures back { AreBack shared.now seats result.0 }
     ensures worked { IfOk result.1 (λ found.
         IsWorked E.processes graph.now plan.now shared.now result.0 found.items) }
@@ -116,13 +116,13 @@ pub(crate) fn workers<L: Log + Send, E: ProcessList + Send, R: Threads + Wait + 
         || -> (Seats, Result<Vec<Finding<RunLog<L, E>, E>>, WorkFault>)
             requires { IsSync R.row × IsMadeFor graph.now plan.now shared.now
                 × AreSeated shared.now rest
-                × ((known rest.board).lock.share ≡ (view rest.tickets).share)
-                × AreNew rest × (fewer < (view rest.tickets).share) }
+                × ((known rest.board).lock.share ≡ (ticket_view rest.tickets).share)
+                × AreNew rest × (fewer < (ticket_view rest.tickets).share) }
             ensures { AreBack shared.entry.now rest result.0 × IfOk result.1 (λ found. IsWorked E.processes
                 graph.entry.now plan.entry.now shared.entry.now result.0 found.items)
                 × IfErr result.1 (λ e. e ≡ WorkFault.Memory) }
         { workers(rt, alloc, graph, plan, shared, gate, rest, fewer) },
     );
     take_back(shared, &mut rest, one);
-    (rest, both(more, found))
+    (rest, concat_findings(more, found))
 }

@@ -1,6 +1,6 @@
 use Rattle.std.proofs.Common.{◌≡◌, ◌+◌, ap, arith}
 use Rattle.cmh_board.specs.Board.{known}
-use Rattle.cmh_work.specs.Seats.{view}
+use Rattle.cmh_work.specs.TicketSeats.{ticket_view}
 use Rattle.cmh_work.specs.Working.{AreBack, IsWorked}
 use Rattle.cmh_work.proofs.FindingLemmas.{collected, joined_worked}
 use Rattle.cmh_work.proofs.workers.+fn-workers-join+arg3+workers.Goals as goal
@@ -17,8 +17,8 @@ returns-clause-back g t c =
     let first : AreBack c.args.shared.now c.in-Some.one c.join-one.result.0.0 = (c.join-one.ensures.first).0 in
     let second : AreBack c.args.shared.now c.split_off.new.seats c.join-one.result.1.0 =
     (c.join-one.ensures.second).0 in
-    let tickets : (view c.take_back.new.seats.tickets).share
-    ≡ (view c.join-one.result.1.0.tickets).share + (view c.join-one.result.0.0.tickets).share =
+    let tickets : (ticket_view c.take_back.new.seats.tickets).share
+    ≡ (ticket_view c.join-one.result.1.0.tickets).share + (ticket_view c.join-one.result.0.0.tickets).share =
     ap (λ v. v.share) c.take_back.ensures.tickets in
     let board : (known c.take_back.new.seats.board).lock.share
     ≡ (known c.join-one.result.1.0.board).lock.share + (known c.join-one.result.0.0.board).lock.share =
