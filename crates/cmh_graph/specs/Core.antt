@@ -1,5 +1,5 @@
 -- The groups of deadlocked processes: cores, rests, leaders and numbers.
-use Rattle.std.specs.Prelude.{◌≡◌, ℕ, not, ◌<◌, ◌≤◌, ◌↔◌, ◌&&◌, ◌==◌, nat_le, List, length, Contains, filter, slice_index, count_by}
+use Rattle.std.specs.Prelude.{◌≡◌, ℕ, not, ◌<◌, ◌≤◌, ◌↔◌, ◌&&◌, ◌==◌, nat_le, List, length, Contains, filter, slice_index, count_by, if◌then◌else◌, Option, Some, None}
 use Rattle.std.specs.List.Sorted.{IsStrictlyIncreasing}
 use Rattle.cmh_graph.specs.Graph.{Graph, indices, process_count, IsWithinGraph}
 use Rattle.cmh_graph.specs.Path.{Reaches, reaches, reach_of}
@@ -20,6 +20,10 @@ leader_of g p = slice_index (core_of g p) 0
 -- the leaders of all deadlocked processes, by rising index: one for each group
 abbrev pub leaders : Graph → List ℕ
 leaders g = filter (λ p. is_deadlocked g p && leader_of g p == p) (indices g)
+
+-- the leader of p's group, if p is deadlocked
+unfoldable pub group_leader : Graph → ℕ → Option ℕ
+group_leader g p = if is_deadlocked g p then Some (leader_of g p) else None
 
 -- the number of the group of a deadlocked p, from 1: how many leaders stand up to its own
 abbrev pub group_number : Graph → ℕ → ℕ

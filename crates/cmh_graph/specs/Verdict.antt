@@ -1,5 +1,5 @@
 -- Which processes are deadlocked: by paths, and by deadlocked sets.
-use Rattle.std.specs.Prelude.{ℕ, Bool, not, ◌&&◌, ◌↔◌, List, map, Contains, IsTrue, IsFalse, if◌then◌else◌}
+use Rattle.std.specs.Prelude.{ℕ, Bool, true, false, not, ◌&&◌, ◌↔◌, List, map, Contains, IsTrue, IsFalse, if◌then◌else◌}
 use Rattle.std.specs.List.{list_all}
 use Rattle.cmh_graph.specs.declared.verdict.Verdict.{Verdict}
 use Rattle.cmh_graph.specs.declared.verdict.Verdict.TheVariants.{Deadlocked, Free}
@@ -18,6 +18,11 @@ is_deadlocked g p = is_idle g p && list_all (λ q. not (is_awake g q)) (reach_of
 -- deadlocked or free, by the test
 abbrev pub verdict : Graph → ℕ → Verdict
 verdict g p = if is_deadlocked g p then Deadlocked else Free
+
+-- the verdict is that the process is deadlocked
+abbrev pub says_deadlocked : Verdict → Bool
+says_deadlocked Deadlocked = true
+says_deadlocked Free = false
 
 -- the verdict is the truth about p
 abbrev pub IsVerdict : Graph → ℕ → Verdict → Type 0

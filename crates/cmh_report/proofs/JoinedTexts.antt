@@ -11,10 +11,9 @@ use Rattle.std.proofs.lemmas.List.{get_or_default, map-append, reverse-append, r
 use Rattle.rayon.specs.Lists.{chunks_from, chunks_of}
 use Rattle.rayon.proofs.ToStd.{chunks_of-concat}
 use Rattle.cmh_graph.specs.Graph.{is_idle, Graph, indices, process_count, idle_list}
-use Rattle.cmh_graph.specs.Core.{leaders}
+use Rattle.cmh_graph.specs.Core.{leaders, group_leader}
 use Rattle.cmh_graph.proofs.PathLemmas.{index_within}
 use Rattle.cmh_graph.proofs.Verdicts.{filter_contains}
-use Rattle.cmh_work.specs.Leaders.{group_leader}
 use Rattle.cmh_report.specs.Group.{is_led_by}
 use Rattle.cmh_report.specs.Lines.{AreLines}
 use Rattle.cmh_report.specs.Report.{line, report_text, totals_line, process_line, group_line}

@@ -3,7 +3,7 @@ use Rattle.std.proofs.Common.{◌≡◌, ℕ, ◌<◌, ◌&&◌, Bool, true, fal
 use Rattle.std.specs.Prelude.{Contains, IfSome, IsTrue, None, Option, Some}
 use Rattle.std.proofs.lemmas.List.Elements.{All-contains}
 use Rattle.cmh_graph.specs.Build.{IsWellFormed}
-use Rattle.cmh_graph.specs.Core.{leader_of, leaders}
+use Rattle.cmh_graph.specs.Core.{leader_of, leaders, group_leader}
 use Rattle.cmh_graph.specs.Graph.{Graph, dependents_of, indices, process_count}
 use Rattle.cmh_graph.specs.Path.{Reaches}
 use Rattle.cmh_graph.specs.Verdict.{is_deadlocked}
@@ -11,7 +11,6 @@ use Rattle.cmh_graph.proofs.Cores.{core_law}
 use Rattle.cmh_graph.proofs.Groups.{leader_in_core, reaches_on}
 use Rattle.cmh_graph.proofs.PathLemmas.{depends_within}
 use Rattle.cmh_graph.proofs.PositionLemmas.{waits}
-use Rattle.cmh_work.specs.Leaders.{group_leader}
 use Rattle.cmh_report.specs.Group.{is_led_by}
 use Rattle.cmh_report.proofs.JoinedTexts.{leaders_lead}
 use Rattle.cmh_report.proofs.Numbers.{led_test}

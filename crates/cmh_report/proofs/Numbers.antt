@@ -9,13 +9,12 @@ use Rattle.std.proofs.lemmas.List.FromFn.{length-range_with_len}
 use Rattle.cmh_graph.specs.Graph.{Graph, process_count, indices, IsWithinGraph}
 use Rattle.cmh_graph.specs.Path.{reaches, reach_of}
 use Rattle.cmh_graph.specs.Verdict.{is_deadlocked}
-use Rattle.cmh_graph.specs.Core.{core_of, rest_of, leader_of, group_number}
+use Rattle.cmh_graph.specs.Core.{core_of, rest_of, leader_of, group_number, group_leader}
 use Rattle.cmh_graph.proofs.Cores.{core_law}
 use Rattle.cmh_graph.proofs.IndexLists.{by_index, filter_agree_on, filter_indices_kept, filter_indices_passed}
 use Rattle.cmh_graph.proofs.PathLemmas.{index_within, reaches_then, then_reaches}
 use Rattle.cmh_graph.proofs.Verdicts.{and_true, filter_contains}
 use Rattle.cmh_report.specs.Group.{is_led_by, leaders_up_to}
-use Rattle.cmh_work.specs.Leaders.{group_leader}
 use Rattle.cmh_graph.proofs.Groups.{leader_in_core, same_leader, same_test}
 use Rattle.cmh_work.proofs.Cores.{reached_deadlocked}
 

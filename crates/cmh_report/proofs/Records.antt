@@ -9,7 +9,7 @@ use Rattle.std.proofs.lemmas.List.Sums.{sum_by-cons}
 use Rattle.cmh_graph.specs.declared.verdict.Verdict.{Verdict}
 use Rattle.cmh_graph.specs.declared.verdict.Verdict.TheVariants.{Deadlocked, Free}
 use Rattle.cmh_graph.specs.Graph.{Graph, process_count, indices, is_idle, idle_list, IsWithinGraph}
-use Rattle.cmh_graph.specs.Verdict.{is_deadlocked, IsDeadlocked, IsVerdict}
+use Rattle.cmh_graph.specs.Verdict.{is_deadlocked, IsDeadlocked, IsVerdict, says_deadlocked}
 use Rattle.cmh_graph.proofs.PositionLemmas.{taken_last, taken_more, taken_stays}
 use Rattle.cmh_graph.proofs.PathLemmas.{contains_index}
 use Rattle.cmh_graph.proofs.Verdicts.{contains_filter, filter_contains, then_test, test_then}
@@ -19,7 +19,8 @@ use Rattle.cmh_work.specs.declared.record.Record.{Record}
 use Rattle.cmh_work.specs.declared.record.Shape.{Shape}
 use Rattle.cmh_work.specs.declared.record.Shape.TheVariants.{Path, Leader}
 use Rattle.cmh_work.specs.Analysis.{records_of, initiator_of}
-use Rattle.cmh_work.specs.Leaders.{group_leader, leader_at, says_deadlocked}
+use Rattle.cmh_work.specs.Leaders.{leader_at}
+use Rattle.cmh_graph.specs.Core.{group_leader}
 use Rattle.cmh_work.specs.Shape.{IsShape}
 use Rattle.cmh_work.proofs.LeadersLemmas.{none_at}
 use Rattle.cmh_report.specs.Records.{AreRecordsOf, IsSomeAnalysisOf, leader_in, tells_deadlocked, TellsOf}

@@ -4,8 +4,8 @@ use Rattle.std.specs.Option.{option_eq}
 use Rattle.cmh_graph.specs.Graph.{Graph, indices}
 use Rattle.cmh_graph.specs.Build.{IsWellFormed}
 use Rattle.cmh_graph.specs.Path.{reach_of}
-use Rattle.cmh_graph.specs.Core.{core_of, rest_of, leaders as all_leaders, group_number}
-use Rattle.cmh_work.specs.Leaders.{group_leader, leader_at}
+use Rattle.cmh_graph.specs.Core.{core_of, rest_of, leaders as all_leaders, group_number, group_leader}
+use Rattle.cmh_work.specs.Leaders.{leader_at}
 use Rattle.cmh_report.specs.Report.{site_count}
 use Rattle.cmh_report.specs.declared.group.Group.{Group}
 use Rattle.cmh_report.specs.declared.groups.Groups.{Groups}

@@ -1,14 +1,14 @@
 -- The records from which a report is written.
 use Rattle.std.specs.Prelude.{◌≡◌, ℕ, Bool, List, map, All, IsTrue, Option, Some, None}
 use Rattle.cmh_graph.specs.Graph.{Graph, is_idle, idle_list, IsWithinGraph}
-use Rattle.cmh_graph.specs.Verdict.{IsVerdict}
+use Rattle.cmh_graph.specs.Verdict.{IsVerdict, says_deadlocked}
 use Rattle.cmh_run.specs.Run.{Run}
 use Rattle.cmh_work.specs.declared.record.Analysis.{Analysis}
 use Rattle.cmh_work.specs.declared.record.Record.{Record}
 use Rattle.cmh_work.specs.declared.record.Shape.{Shape}
 use Rattle.cmh_work.specs.declared.record.Shape.TheVariants.{Path, Leader}
 use Rattle.cmh_work.specs.Analysis.{IsAnalysisOf, initiator_of}
-use Rattle.cmh_work.specs.Leaders.{group_leader, says_deadlocked}
+use Rattle.cmh_graph.specs.Core.{group_leader}
 
 -- the analysis is one of this graph, by some choices, whose paths are kept in some way
 abbrev pub IsSomeAnalysisOf : {L : Type 0} → Graph → Analysis Run L → Type 0

@@ -2,9 +2,8 @@
 
 ghost use Rattle.std.specs.Prelude.{◌≡◌, ◌<◌, map, length, replicate, None, IfOk};
 ghost use Rattle.cmh_graph.specs.Build.{IsWellFormed};
-ghost use Rattle.cmh_graph.specs.Core.{leaders as all_leaders};
+ghost use Rattle.cmh_graph.specs.Core.{leaders as all_leaders, group_leader};
 ghost use Rattle.cmh_graph.specs.Graph.{indices};
-ghost use Rattle.cmh_work.specs.Leaders.{group_leader};
 ghost use Rattle.cmh_report.specs.Group.{is_led_by, leaders_up_to};
 ghost use Rattle.cmh_report.specs.Records.{AreRecordsOf, leader_in};
 

@@ -8,13 +8,13 @@ use Rattle.std.proofs.lemmas.List.FromFn.{fill_by_all}
 use Rattle.cmh_graph.specs.Graph.{Graph, process_count, indices, IsWithinGraph}
 use Rattle.cmh_graph.specs.declared.verdict.Verdict.{Verdict}
 use Rattle.cmh_graph.specs.declared.verdict.Verdict.TheVariants.{Deadlocked, Free}
-use Rattle.cmh_graph.specs.Verdict.{is_deadlocked, verdicts}
-use Rattle.cmh_graph.specs.Core.{core_of, leader_of}
+use Rattle.cmh_graph.specs.Verdict.{is_deadlocked, verdicts, says_deadlocked}
+use Rattle.cmh_graph.specs.Core.{core_of, leader_of, group_leader}
 use Rattle.cmh_graph.proofs.Groups.{in_own_core, leader_in_core, leader_least, same_leader, same_test}
 use Rattle.cmh_graph.proofs.IndexLists.{by_index, by_index_agree, length-by_index}
 use Rattle.cmh_graph.proofs.PositionLemmas.{taken_last, taken_more, taken_stays}
 use Rattle.cmh_graph.proofs.Verdicts.{verdict_listed}
-use Rattle.cmh_work.specs.Leaders.{group_leader, is_deadlocked_at, leader_at, says_deadlocked, LeadsEach}
+use Rattle.cmh_work.specs.Leaders.{is_deadlocked_at, leader_at, LeadsEach}
 use Rattle.cmh_work.proofs.Cores.{core_back, core_deadlocked, deadlocked_within}
 
 -- a deadlocked process's leader is deadlocked, and leads itself

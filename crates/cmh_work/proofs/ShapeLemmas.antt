@@ -5,11 +5,10 @@ use Rattle.cmh_graph.specs.Graph.{Graph, process_count, indices, is_awake, IsWit
 use Rattle.cmh_graph.specs.Path.{Reaches}
 use Rattle.cmh_graph.specs.Verdict.{IsDeadlocked}
 use Rattle.cmh_graph.specs.ChosenPath.{chosen_path}
-use Rattle.cmh_graph.specs.Core.{leader_of}
+use Rattle.cmh_graph.specs.Core.{leader_of, group_leader}
 use Rattle.cmh_graph.proofs.ChosenPathLemmas.{chosen_path_exists_law}
 use Rattle.cmh_graph.proofs.IndexLists.{by_index}
 use Rattle.cmh_graph.proofs.Verdicts.{asleep_is_idle, then_test}
-use Rattle.cmh_work.specs.Leaders.{group_leader}
 
 -- the leader of a deadlocked process stands in the table of leaders
 pub leader_stands : (g : Graph) (p : ℕ) (leaders : List (Option ℕ)) (d : Option ℕ)

@@ -1,19 +1,8 @@
 -- Who leads the group of a process, while leaders are found by rising index.
-use Rattle.std.specs.Prelude.{◌≡◌, ℕ, Bool, true, false, List, length, slice_index_or, if◌then◌else◌, Contains, Option, Some, None}
+use Rattle.std.specs.Prelude.{◌≡◌, ℕ, Bool, List, length, slice_index_or, Contains, Option, Some, None}
 use Rattle.cmh_graph.specs.declared.verdict.Verdict.{Verdict}
-use Rattle.cmh_graph.specs.declared.verdict.Verdict.TheVariants.{Deadlocked, Free}
-use Rattle.cmh_graph.specs.Graph.{Graph}
-use Rattle.cmh_graph.specs.Verdict.{is_deadlocked}
-use Rattle.cmh_graph.specs.Core.{leader_of}
-
--- the leader of p's group, if p is deadlocked
-unfoldable pub group_leader : Graph → ℕ → Option ℕ
-group_leader g p = if is_deadlocked g p then Some (leader_of g p) else None
-
--- the verdict is that the process is deadlocked
-abbrev pub says_deadlocked : Verdict → Bool
-says_deadlocked Deadlocked = true
-says_deadlocked Free = false
+use Rattle.cmh_graph.specs.declared.verdict.Verdict.TheVariants.{Free}
+use Rattle.cmh_graph.specs.Verdict.{says_deadlocked}
 
 -- whether the verdict at that place is that the process is deadlocked; past the end it isn't
 abbrev pub is_deadlocked_at : List Verdict → ℕ → Bool

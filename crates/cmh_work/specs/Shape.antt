@@ -4,11 +4,10 @@ use Rattle.cmh_graph.specs.declared.verdict.Verdict.{Verdict}
 use Rattle.cmh_graph.specs.declared.verdict.Verdict.TheVariants.{Deadlocked, Free}
 use Rattle.cmh_graph.specs.Graph.{Graph, indices}
 use Rattle.cmh_graph.specs.ChosenPath.{distance_of, chosen_path}
-use Rattle.cmh_graph.specs.Core.{leader_of}
+use Rattle.cmh_graph.specs.Core.{leader_of, group_leader}
 use Rattle.cmh_work.specs.declared.record.Shape.{Shape}
 use Rattle.cmh_work.specs.declared.record.Shape.TheVariants.{Path, Leader}
 use Rattle.cmh_work.specs.declared.shapes.Shapes.{Shapes}
-use Rattle.cmh_work.specs.Leaders.{group_leader}
 
 -- a free process has its chosen path, as it is listed, and a deadlocked one the leader of its group
 abbrev pub IsShape : {L : Type 0} → (L → List ℕ) → Graph → ℕ → Verdict → Shape L → Type 0

@@ -5,7 +5,7 @@ ghost use Rattle.cmh_graph.specs.Graph.{indices, idle_list};
 ghost use Rattle.cmh_graph.specs.ChosenPath.{distance_of};
 ghost use Rattle.cmh_board.specs.Board.{board_graph};
 ghost use Rattle.cmh_work.specs.Cutting.{bounds_of};
-ghost use Rattle.cmh_work.specs.Leaders.{group_leader};
+ghost use Rattle.cmh_graph.specs.Core.{group_leader};
 
 use crate::Plan;
 use crate::shapes::Shapes;

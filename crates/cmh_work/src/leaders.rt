@@ -4,11 +4,11 @@
 ghost use Rattle.std.specs.Prelude.{◌≡◌, ◌<◌, ◌&&◌, is_none, map, length, All, IfOk, IfErr};
 ghost use Rattle.cmh_graph.specs.Build.{IsWellFormed};
 ghost use Rattle.cmh_graph.specs.Alone.{AreAlone};
-ghost use Rattle.cmh_graph.specs.Core.{core_of};
+ghost use Rattle.cmh_graph.specs.Core.{core_of, group_leader};
 ghost use Rattle.cmh_graph.specs.Graph.{indices, process_count};
 ghost use Rattle.cmh_graph.specs.Search.{ArePredecessors};
 ghost use Rattle.cmh_graph.specs.Verdict.{verdicts};
-ghost use Rattle.cmh_work.specs.Leaders.{group_leader, is_deadlocked_at, leader_at, LeadsEach};
+ghost use Rattle.cmh_work.specs.Leaders.{is_deadlocked_at, leader_at, LeadsEach};
 
 use crate::WorkFault;
 use crate::fault::want_in_graph;

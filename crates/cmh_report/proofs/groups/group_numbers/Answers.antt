@@ -3,7 +3,7 @@ use Rattle.std.proofs.lemmas.List.FromFn.{map-range_with_len_more}
 use Rattle.cmh_graph.specs.Graph.{process_count}
 use Rattle.cmh_graph.proofs.IndexLists.{length-by_index}
 use Rattle.cmh_report.specs.Group.{leaders_up_to}
-use Rattle.cmh_work.specs.Leaders.{group_leader}
+use Rattle.cmh_graph.specs.Core.{group_leader}
 use Rattle.cmh_report.proofs.Numbers.{leaders_below, leaders_few, leaders_no_more, leaders_one_more, up_to_is}
 use Rattle.cmh_report.proofs.groups.group_numbers.Goals as goal
 use Rattle.cmh_report.proofs.groups.group_numbers.Goals.{then-is_led_by, else-is_led_by}

@@ -2,7 +2,7 @@ use Rattle.std.proofs.Common.{◌∙◌, ap, length, subst}
 use Rattle.std.specs.Prelude.{Contains}
 use Rattle.cmh_graph.proofs.IndexLists.{length-by_index}
 use Rattle.cmh_graph.proofs.ForwardSearch.{dependents_within}
-use Rattle.cmh_work.specs.Leaders.{group_leader}
+use Rattle.cmh_graph.specs.Core.{group_leader}
 use Rattle.cmh_report.specs.Knot.{HasLed}
 use Rattle.cmh_report.proofs.Knots.{leads_to}
 use Rattle.cmh_report.proofs.knot.waits_for.Goals as goal

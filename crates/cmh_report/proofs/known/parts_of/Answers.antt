@@ -1,7 +1,7 @@
 use Rattle.std.proofs.Common.{◌∙◌, ap, length, not, refl}
 use Rattle.std.specs.Prelude.{filter}
 use Rattle.cmh_graph.proofs.IndexLists.{length-by_index}
-use Rattle.cmh_work.specs.Leaders.{group_leader}
+use Rattle.cmh_graph.specs.Core.{group_leader}
 use Rattle.cmh_report.specs.Group.{is_led_by}
 use Rattle.cmh_report.proofs.Members.{reach_within}
 use Rattle.cmh_report.proofs.Numbers.{led_core, led_rest}

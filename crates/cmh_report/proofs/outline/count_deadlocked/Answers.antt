@@ -1,7 +1,7 @@
 use Rattle.std.proofs.Common.{◌∙◌, ◌+◌, ap, arith, sym, take_all}
 use Rattle.std.specs.Prelude.{count_by}
 use Rattle.std.proofs.lemmas.List.Sums.{count_by_more_yes, count_by_more_no}
-use Rattle.cmh_work.specs.Leaders.{says_deadlocked}
+use Rattle.cmh_graph.specs.Verdict.{says_deadlocked}
 use Rattle.cmh_report.specs.Records.{tells_deadlocked}
 use Rattle.cmh_report.proofs.outline.count_deadlocked.Goals as goal
 use Rattle.cmh_report.proofs.outline.count_deadlocked.Goals.{in-Deadlocked, in-Free}

@@ -3,7 +3,7 @@ use Rattle.std.specs.Prelude.{string_bytes, unwrap_or, Some}
 use Rattle.cmh_graph.specs.Graph.{process_count}
 use Rattle.cmh_graph.specs.Verdict.{is_deadlocked}
 use Rattle.cmh_graph.proofs.IndexLists.{by_index, length-by_index}
-use Rattle.cmh_work.specs.Leaders.{group_leader}
+use Rattle.cmh_graph.specs.Core.{group_leader}
 use Rattle.cmh_graph.proofs.Groups.{in_own_core, leader_least}
 use Rattle.cmh_report.specs.Group.{leaders_up_to}
 use Rattle.cmh_report.specs.Report.{line, process_line}
