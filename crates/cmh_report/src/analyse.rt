@@ -24,7 +24,7 @@ use std::thread::Threads;
 
 /// The report on a graph, in pieces, and how many of its processes are deadlocked.
 #[derive(Drop)]
-struct Report {
+struct CountedText {
     text: Pieces,
     deadlocked: u32,
 }
@@ -62,14 +62,14 @@ fn text_and_count<R: Threads + Sync>(
     alloc: Global,
     graph: &WaitGraph,
     analysis: Analysis<RunLog<NoLog, NoList>, NoList>,
-) -> Result<Report, AllocError>
+) -> Result<CountedText, AllocError>
     requires { IsSomeAnalysisOf graph.now analysis }
     ensures text { IfOk result (λ r. r.text ≡ report_text graph.now) }
     ensures deadlocked { IfOk result (λ r. r.deadlocked ≡ deadlocked_count graph.now) }
 {
     let outline = outlined(alloc, graph, analysis)?;
     let text = text_of(rt, alloc, graph, &outline)?;
-    Ok(Report {
+    Ok(CountedText {
         text,
         deadlocked: outline.deadlocked,
     })
@@ -81,7 +81,7 @@ fn reported<R: Threads + Sync>(
     alloc: Global,
     graph: &WaitGraph,
     analysis: Analysis<RunLog<NoLog, NoList>, NoList>,
-) -> Result<Report, AppFault>
+) -> Result<CountedText, AppFault>
     requires { IsSomeAnalysisOf graph.now analysis }
     ensures text { IfOk result (λ r. r.text ≡ report_text graph.now) }
     ensures deadlocked { IfOk result (λ r. r.deadlocked ≡ deadlocked_count graph.now) }
