@@ -16,10 +16,10 @@ pub struct WriteFault {
 }
 
 impl fmt::Display for WriteFault {
-    ghost output = { λ e. Some (codes "writing failed after " ++ decimal e.written ++ codes " bytes") };
+    ghost output = { λ e. Some (codes "write fault after " ++ decimal e.written ++ codes " bytes") };
 
     fn fmt<W: fmt::Write>(&self, f: &mut fmt::Formatter<W>) -> fmt::Result {
-        write!(f, "writing failed after {} bytes", self.written)
+        write!(f, "write fault after {} bytes", self.written)
     }
 }
 
