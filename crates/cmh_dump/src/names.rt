@@ -1,4 +1,4 @@
-//! Names of sites and processes.
+//! Which texts are names of sites and processes.
 
 ghost use Rattle.std.specs.Prelude.{◌≡◌, not, position};
 ghost use Rattle.std.specs.List.{list_all};

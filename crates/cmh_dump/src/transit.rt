@@ -1,4 +1,5 @@
-//! Messages in transit.
+//! Messages in transit: each is written as the names of its sender and its receiver, and read by the
+//! places of these.
 
 ghost use Rattle.std.specs.Prelude.{◌≡◌, ◌<◌, ◌^◌, not, [], length, map, position, slice_index_or, is_some, IfOk};
 ghost use Rattle.std.specs.List.{list_all};

@@ -1,4 +1,4 @@
-//! The dump that comes in.
+//! From a source to the graph that its bytes mean.
 
 ghost use Rattle.std.specs.Prelude.{◌+◌, Ok, IfOk, IfErr};
 ghost use Rattle.cmh_dump.specs.Source.{GaveAtMost};
