@@ -1,4 +1,4 @@
--- The sink took the front of the text, a sink that had failed before took nothing, and one that took
+-- The sink took a prefix of the text, a sink that had failed before took nothing, and one that took
 -- something isn't finished.
 use Rattle.std.proofs.Common.{◌≡◌, ◌-◌, ◌≤◌, ◌++◌, length, take, true}
 use Rattle.std.specs.Io.KnownBytes.{Appends}
