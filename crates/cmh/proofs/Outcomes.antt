@@ -325,7 +325,7 @@ trace_failed name list choices e (WriteFault n) listed few refused nobody no_run
 
 -- ---- a text that was asked for
 
--- where a text that was asked for is out, or its front as the output failed, the outcome fits the status
+-- where a text that was asked for is out, or a prefix of it as the output failed, the outcome fits the status
 pub shown : (text : String Global) (s : ℕ) (e : Ends) → (s ≡ FREE) ⊎ (s ≡ FAILED) → IsUnread e
     → (s ≡ FREE → e.taken_new ≡ e.taken_old ++ string_bytes text) → (s ≡ FREE → e.is_finished ≡ true)
     → (s ≡ FAILED

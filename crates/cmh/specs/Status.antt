@@ -83,7 +83,7 @@ abbrev pub HasAnswered : (Graph → List ℕ → Type 0) → Ends → Type 0
 HasAnswered Fits e =
     IsAnswer Fits e.given_old e.given_new e.has_ended e.taken_old e.taken_new e.is_finished
 
--- the source gave a dump, and the output failed after it had taken the front of a text that fits its graph
+-- the source gave a dump, and the output failed after it had taken a prefix of a text that fits its graph
 abbrev pub HasStopped : (Graph → List ℕ → Type 0) → Ends → Type 0
 HasStopped Fits e = (e.out_failed ≡ true) × ((written : ℕ)
     × IsCutShort Fits e.given_old e.given_new e.has_ended e.taken_old e.taken_new written)
@@ -171,7 +171,7 @@ HasDeadlock (Analyse plan) e = (d : ℕ) × (0 < d) × HasAnswered (IsCountedRep
 HasDeadlock request e = ⊥
 
 -- Memory was refused, a worker was lost or the source failed, and nothing was written; or the output
--- failed, after it had taken the front of the text.
+-- failed, after it had taken a prefix of the text.
 abbrev pub HasFailed : Request → Ends → Type 0
 HasFailed (Analyse plan) e = IsUnwritten e ⊎ HasStopped IsReport e
 HasFailed (Trace name choices) e = IsUnwritten e ⊎ HasStopped (FitsTrace name.now choices.now) e

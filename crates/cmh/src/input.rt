@@ -16,6 +16,7 @@ pub(crate) struct Input<I, E> {
 }
 
 impl<I, E> Input<I, E> {
+    /// An input of which nothing was read, and where the line is written if it is a terminal.
     pub(crate) fn new(input: I, err: E) -> Input<I, E> {
         Input {
             input,

@@ -1,4 +1,4 @@
-//! Lists of numbers and plans, read from the words of the command line.
+//! The plan that the words ask for: its lists, read in order.
 
 ghost use Rattle.std.specs.Prelude.{◌≡◌, ◌≤◌, length, IfOk, IfErr, OnOk};
 ghost use Rattle.cmh_command.specs.List.{IsListOf};

@@ -11,7 +11,7 @@ use std::error::Error;
 use std::fmt;
 
 /// The first fault of a list from the left. Places count from 0.
-#[derive(Clone, Copy, Debug, PartialEq, Eq)]
+#[derive(Clone, Copy, PartialEq, Eq, Hash, Debug)]
 pub enum ListFault {
     /// This item is no number.
     BadNumber(usize),

@@ -1,4 +1,4 @@
--- The tree of bytes, and the entries and texts of its arrays, from what the reader says of them.
+-- The tree of bytes, and the elements and texts of its arrays, from what the reader says of them.
 use Rattle.std.proofs.Common.{◌≡◌, ℕ, List, [], ◌∷◌, ◌&&◌, map, length, get_or, nat_lt, eqb, Bool, true, false, cond, Option, Some, None, refl, sym, ap, ◌∙◌, Bor}
 use Rattle.std.specs.Str.{IsUtf8, is_utf8}
 use Rattle.std.proofs.lemmas.Str.{IsUtf8-from_is_utf8, is_utf8-from_IsUtf8}
@@ -13,7 +13,7 @@ use Rattle.serde_json.specs.Find.{as_array, as_str}
 use Rattle.serde_json.specs.View.{items_of}
 use Rattle.serde_json.specs.Read.{read}
 use Rattle.cmh_dump.specs.Dump.{tree_of}
-use Rattle.cmh_dump.specs.Tree.{list_of, entries_of, text_of, texts_of}
+use Rattle.cmh_dump.specs.Tree.{list_of, elements_of, text_of, texts_of}
 use Rattle.cmh_dump.specs.Entry.{is_pair}
 use Rattle.cmh_dump.proofs.Taken.{at_place, get-past}
 
@@ -34,27 +34,27 @@ list_of-items_of : (ds : List Data) → list_of (items_of ds) ≡ ds
 list_of-items_of [] = refl
 list_of-items_of (d ∷ ds) = ap (λ es. d ∷ es) (list_of-items_of ds)
 
--- the entries of an array are the items that the reader gives
-entries_of_items : (d : Data) (ds : List Data) → Some (items_of ds) ≡ as_array d → ds ≡ entries_of d
-entries_of_items d ds e =
+-- the elements of an array are the items that the reader gives
+elements_of_items : (d : Data) (ds : List Data) → Some (items_of ds) ≡ as_array d → ds ≡ elements_of d
+elements_of_items d ds e =
     sym (list_of-items_of ds) ∙ ap (λ (o : Option Items). option_map_or list_of o []) e
 
--- the entries of what may be an array, as the reader gives it, or none
-pub entries_or_none : {V : Type 0} (view : V → Data) (d : Data) (r : Option (Bor (List V))) (b : Bor (List V))
+-- the elements of what may be an array, as the reader gives it, or none
+pub elements_or_none : {V : Type 0} (view : V → Data) (d : Data) (r : Option (Bor (List V))) (b : Bor (List V))
     → option_map (λ v. items_of (map view v.now)) r ≡ as_array d → b.now ≡ []
-    → map view (unwrap_or r b).now ≡ entries_of d
-entries_or_none view d None b h none =
+    → map view (unwrap_or r b).now ≡ elements_of d
+elements_or_none view d None b h none =
     ap (map view) none ∙ ap (λ (o : Option Items). option_map_or list_of o []) h
-entries_or_none view d (Some v) b h none = entries_of_items d (map view v.now) h
+elements_or_none view d (Some v) b h none = elements_of_items d (map view v.now) h
 
 -- a list mapped by one function after another is mapped by both at once
 pub map-map : {X Y Z : Type 0} (g : Y → Z) (f : X → Y) (xs : List X) → map (λ x. g (f x)) xs ≡ map g (map f xs)
 map-map g f [] = refl
 map-map g f (x ∷ xs) = ap (λ ys. g (f x) ∷ ys) (map-map g f xs)
 
--- the texts of values are those of the entries that they are seen as
-pub texts_of_views : {V : Type 0} (view : V → Data) (vs : List V) (d : Data) → map view vs ≡ entries_of d
-    → map (λ v. text_of (view v)) vs ≡ map text_of (entries_of d)
+-- the texts of values are those of the elements that they are seen as
+pub texts_of_views : {V : Type 0} (view : V → Data) (vs : List V) (d : Data) → map view vs ≡ elements_of d
+    → map (λ v. text_of (view v)) vs ≡ map text_of (elements_of d)
 texts_of_views view vs d e = map-map text_of view vs ∙ ap (map text_of) e
 
 -- a test of what a function makes of each element is a test of the mapped list
@@ -63,34 +63,35 @@ pub all-map : {X Y : Type 0} (test : Y → Bool) (f : X → Y) (xs : List X)
 all-map test f [] = refl
 all-map test f (x ∷ xs) = ap (λ b. test (f x) && b) (all-map test f xs)
 
--- a test of the texts of values is one of the texts of the entries
+-- a test of the texts of values is one of the texts of the elements
 pub all_of_views : {V : Type 0} (test : List ℕ → Bool) (view : V → Data) (vs : List V) (d : Data)
-    → map view vs ≡ entries_of d
-    → list_all (λ v. test (text_of (view v))) vs ≡ list_all test (map text_of (entries_of d))
+    → map view vs ≡ elements_of d
+    → list_all (λ v. test (text_of (view v))) vs ≡ list_all test (map text_of (elements_of d))
 all_of_views test view vs d e =
     all-map test (λ v. text_of (view v)) vs ∙ ap (list_all test) (texts_of_views view vs d e)
 
 -- the text of the value at a place of an array is the text at that place of its data
-pub text_at_place : {V : Type 0} (view : V → Data) (vs : List V) (d : Data) (i : ℕ) (v : V) → map view vs ≡ entries_of d
-    → true ≡ nat_lt i (length vs) → v ≡ get_or vs i v → text_of (view v) ≡ get_or (texts_of d) i []
+pub text_at_place : {V : Type 0} (view : V → Data) (vs : List V) (d : Data) (i : ℕ) (v : V)
+    → map view vs ≡ elements_of d → true ≡ nat_lt i (length vs) → v ≡ get_or vs i v
+    → text_of (view v) ≡ get_or (texts_of d) i []
 text_at_place view vs d i v e within is =
     sym (sym (unwrap_or-slice_get (texts_of d) i []) ∙ ap (λ (o : Option (List ℕ)). unwrap_or o [])
     (ap (λ ts. slice_get ts i) (sym (texts_of_views view vs d e))
     ∙ at_place (λ w. text_of (view w)) vs i v (ltb-true i (length vs) (sym within)) is))
 
 -- past the end of an array there is no text
-pub text_past : {V : Type 0} (view : V → Data) (vs : List V) (d : Data) (i : ℕ) → map view vs ≡ entries_of d
+pub text_past : {V : Type 0} (view : V → Data) (vs : List V) (d : Data) (i : ℕ) → map view vs ≡ elements_of d
     → false ≡ nat_lt i (length vs) → [] ≡ get_or (texts_of d) i []
 text_past view vs d i e past =
     sym (sym (unwrap_or-slice_get (texts_of d) i []) ∙ ap (λ (o : Option (List ℕ)). unwrap_or o [])
     (ap (λ ts. slice_get ts i) (sym (texts_of_views view vs d e))
     ∙ get-past (map (λ w. text_of (view w)) vs) i (rw length-map (ltb-false i (length vs) (sym past)))))
 
--- an array of two entries is a pair just where all its values are texts
-pub is_pair_of : {V : Type 0} (view : V → Data) (vs : List V) (d : Data) → map view vs ≡ entries_of d → length vs ≡ 2
+-- an array of two elements is a pair just where all its values are texts
+pub is_pair_of : {V : Type 0} (view : V → Data) (vs : List V) (d : Data) → map view vs ≡ elements_of d → length vs ≡ 2
     → list_all (λ v. is_some (as_str (view v))) vs ≡ is_pair d
 is_pair_of view vs d e two =
     all-map (λ x. is_some (as_str x)) view vs ∙ ap (list_all (λ x. is_some (as_str x))) e
     ∙ sym
-    (ap (λ n. eqb n 2 && list_all (λ x. is_some (as_str x)) (entries_of d))
+    (ap (λ n. eqb n 2 && list_all (λ x. is_some (as_str x)) (elements_of d))
     (ap length (sym e) ∙ length-map vs view ∙ two))

@@ -18,7 +18,7 @@ use Rattle.cmh_graph.specs.Build.{IsFirstGraphFault, IsWellFormed, dependent_cou
 use Rattle.cmh_dump.specs.declared.fault.DumpFault.{DumpFault}
 use Rattle.cmh_dump.specs.declared.fault.DumpFault.TheVariants.{TooManyProcesses, UnknownDependent, RepeatedDependent, ActiveWithDependents, TooManyDependencies, TooManyInTransit, BadInTransit, UnknownInTransit}
 use Rattle.cmh_dump.specs.Name.{is_among, place_of}
-use Rattle.cmh_dump.specs.Tree.{text_of, texts_of, entries_of}
+use Rattle.cmh_dump.specs.Tree.{text_of, texts_of, elements_of}
 use Rattle.cmh_dump.specs.Entry.{sites, processes, transits, Entry, entry_of, entries, entry, names, is_pair}
 use Rattle.cmh_dump.specs.Dump.{holds, in_order, first_of, process_by, places_in_pair, tree_graph}
 use Rattle.cmh_dump.specs.FirstFault.{IsOfTree, HasTreeFault, AreNone, HasDependent, DumpWellFormedLaw}
@@ -151,8 +151,8 @@ known_in_pair : (d : Data) → IsClean d → (i k : ℕ) → i < length (transit
 known_in_pair d clean i k h l =
     let t = get_or (transits d) i null in
     let pair : is_pair t ≡ true = not-false (is_pair t) (clean (BadInTransit i) h) in
-    let two = eqb-true (length (entries_of t)) 2 (and_parts (length (entries_of t) == 2) _ pair).0 in
-    let size : length (texts_of t) ≡ length (entries_of t) = length-map (entries_of t) text_of in
+    let two = eqb-true (length (elements_of t)) 2 (and_parts (length (elements_of t) == 2) _ pair).0 in
+    let size : length (texts_of t) ≡ length (elements_of t) = length-map (elements_of t) text_of in
     let all : list_all (is_among (names d)) (texts_of t) ≡ true =
     not-false (list_all (is_among (names d)) (texts_of t)) (clean (UnknownInTransit i) h) in
     let one : is_among (names d) (get_or (texts_of t) k []) ≡ true =

@@ -7,7 +7,7 @@ use Rattle.serde_json.specs.Find.{get, as_number, as_u64, as_str}
 use Rattle.cmh_graph.specs.declared.part.State.{State}
 use Rattle.cmh_graph.specs.declared.part.State.TheVariants.{Idle, Active}
 use Rattle.cmh_dump.specs.Name.{is_name}
-use Rattle.cmh_dump.specs.Tree.{text_of, texts_of, entries_of, at_key, has_array, has_keys}
+use Rattle.cmh_dump.specs.Tree.{text_of, texts_of, elements_of, at_key, has_array, has_keys}
 
 -- the tree has this version: a number, as `as_u64` answers it
 abbrev pub is_version : ℕ → Data → Bool
@@ -20,11 +20,11 @@ sites d = texts_of (at_key (codes "sites") d)
 
 -- the processes as trees
 abbrev pub processes : Data → List Data
-processes d = entries_of (at_key (codes "processes") d)
+processes d = elements_of (at_key (codes "processes") d)
 
 -- the messages in transit as trees
 abbrev pub transits : Data → List Data
-transits d = entries_of (at_key (codes "in_transit") d)
+transits d = elements_of (at_key (codes "in_transit") d)
 
 -- ---- a process
 
@@ -78,4 +78,4 @@ is_process p =
 
 -- an array of exactly two texts
 abbrev pub is_pair : Data → Bool
-is_pair t = (length (entries_of t) == 2) && list_all (λ x. is_some (as_str x)) (entries_of t)
+is_pair t = (length (elements_of t) == 2) && list_all (λ x. is_some (as_str x)) (elements_of t)

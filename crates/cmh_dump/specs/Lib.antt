@@ -1,12 +1,14 @@
+-- the words of public contracts
 pub mod Dump
 pub mod Entry
 pub mod Fault
 pub mod FirstFault
-pub mod Index
 pub mod Name
+pub mod Source
+pub mod Tree
+-- the words of private functions
+pub mod Index
 pub mod Places
 pub mod Read
-pub mod Source
 pub mod Texts
-pub mod Tree
 pub mod View

@@ -7,7 +7,7 @@ use Rattle.serde_json.specs.Data.{Data, null, Items, no_items, item, Members, no
 use Rattle.serde_json.specs.Find.{get, as_str, as_array, as_object}
 use Rattle.cmh_dump.specs.Name.{is_among}
 
--- the entries of an array as a list
+-- the elements of an array as a list
 abbrev pub list_of : Items → List Data
 list_of no_items = []
 list_of (item d ds) = d ∷ list_of ds
@@ -21,13 +21,13 @@ keys_of (member k d ms) = k ∷ keys_of ms
 abbrev pub text_of : Data → List ℕ
 text_of d = unwrap_or (as_str d) []
 
--- the entries of the array that the data are, or none
-abbrev pub entries_of : Data → List Data
-entries_of d = option_map_or list_of (as_array d) []
+-- the elements of the array that the data are, or none
+abbrev pub elements_of : Data → List Data
+elements_of d = option_map_or list_of (as_array d) []
 
--- the entries of the array that the data are, as texts
+-- the elements of the array that the data are, as texts
 abbrev pub texts_of : Data → List (List ℕ)
-texts_of d = map text_of (entries_of d)
+texts_of d = map text_of (elements_of d)
 
 -- the member of the object at the key, or null
 abbrev pub at_key : List ℕ → Data → Data

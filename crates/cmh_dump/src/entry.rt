@@ -8,7 +8,7 @@ ghost use Rattle.cmh_dump.specs.Read.{entry_view};
 ghost use Rattle.cmh_dump.specs.Texts.{texts};
 
 use crate::names::{are_names_at, is_name};
-use crate::tree::{entries_at, has_array, has_keys, has_member, text_at};
+use crate::tree::{elements_at, has_array, has_keys, has_member, text_at};
 use cmh_graph::State;
 use json::Value;
 use std::alloc::{AllocError, Global};
@@ -59,7 +59,7 @@ fn entry_of<'v, 'a>(process: &'v Value<'a>) -> Entry<'v, 'a>
         name: text_at(process, "name"),
         site: text_at(process, "site"),
         state: state_of(process),
-        dependents: entries_at(process, "dependents"),
+        dependents: elements_at(process, "dependents"),
     }
 }
 

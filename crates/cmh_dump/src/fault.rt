@@ -23,9 +23,9 @@ pub enum DumpFault {
     BadTop,
     /// The version is neither 1 nor 2.
     BadVersion,
-    /// This entry of `sites` is no name.
+    /// This element of `sites` is no name.
     BadSites(usize),
-    /// This entry of `sites` equals an earlier one.
+    /// This element of `sites` equals an earlier one.
     RepeatedSite(usize),
     /// There are more than `MAX_SITES` sites.
     TooManySites,

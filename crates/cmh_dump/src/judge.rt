@@ -17,7 +17,7 @@ use crate::index::{IndexFault, index_of, is_known};
 use crate::names::first_bad_name;
 use crate::parts::parts_of;
 use crate::repeats::first_repeated_dependent;
-use crate::tree::{entries_at, has_array, has_keys, is_number_at, texts_at};
+use crate::tree::{elements_at, has_array, has_keys, is_number_at, texts_at};
 use crate::{DumpFault, MAX_SITES};
 use cmh_graph::{MAX_DEPENDENCIES, MAX_PROCESSES, Part, State};
 use indexmap::IndexSet;
@@ -96,7 +96,7 @@ pub(crate) fn read_processes<'v, 'a>(
     ensures read { IfOk result (λ v. map entry_view v.items ≡ entries_lem (view tree.now)) }
     ensures few { IfOk result (λ v. vec_len v ≤ MAX_PROCESSES) }
 {
-    let processes = entries_at(tree, "processes");
+    let processes = elements_at(tree, "processes");
     if processes.len() > MAX_PROCESSES {
         return Err(DumpFault::TooManyProcesses);
     }

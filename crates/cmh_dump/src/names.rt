@@ -1,4 +1,4 @@
-//! Names of sites and processes.
+//! Which texts are names of sites and processes.
 
 ghost use Rattle.std.specs.Prelude.{◌≡◌, not, position};
 ghost use Rattle.std.specs.List.{list_all};
@@ -7,7 +7,7 @@ ghost use Rattle.cmh_dump.specs.Tree.{text_of, texts_of, at_key};
 ghost use Rattle.cmh_dump.specs.View.{view};
 
 use crate::MAX_NAME;
-use crate::tree::{entries_at, text_in};
+use crate::tree::{elements_at, text_in};
 use json::Value;
 
 fn is_name_byte(byte: u8) -> bool
@@ -41,11 +41,11 @@ fn are_names_in(values: &[Value<'_>]) -> bool
     values.iter().all(|value| is_name(text_in(value)))
 }
 
-/// All entries of the array at a key are names.
+/// All elements of the array at a key are names.
 pub(crate) fn are_names_at(value: &Value<'_>, key: &str) -> bool
     ensures { result ≡ list_all is_name_lem (texts_of (at_key key.now (view value.now))) }
 {
-    are_names_in(entries_at(value, key))
+    are_names_in(elements_at(value, key))
 }
 
 /// The place of the first text that is no name.

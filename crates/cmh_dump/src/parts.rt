@@ -1,4 +1,4 @@
-//! The parts of the wait graph that a dump means.
+//! From processes as they are written to the parts of the wait graph: names become indices.
 
 ghost use Rattle.std.specs.Prelude.{◌<◌, ◌^◌, length};
 ghost use Rattle.cmh_dump.specs.Places.{PartOrUnknown, PartsOrUnknown};

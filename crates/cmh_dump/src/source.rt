@@ -1,4 +1,4 @@
-//! All the bytes of a source.
+//! From a source to all its bytes, if they aren't too many for a dump.
 
 ghost use Rattle.std.specs.Io.KnownBytes.{Consumes, IsAtEnd};
 ghost use Rattle.std.specs.Prelude.{◌≡◌, ◌↔◌, ◌≤◌, ◌+◌, ◌++◌, length, vec_len, true, IfOk, OnOk, IsErrOf};

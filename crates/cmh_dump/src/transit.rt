@@ -1,4 +1,5 @@
-//! Messages in transit.
+//! Messages in transit: each is written as the names of its sender and its receiver, and read by the
+//! places of these.
 
 ghost use Rattle.std.specs.Prelude.{◌≡◌, ◌<◌, ◌^◌, not, [], length, map, position, slice_index_or, is_some, IfOk};
 ghost use Rattle.std.specs.List.{list_all};
@@ -13,7 +14,7 @@ ghost use Rattle.cmh_dump.specs.Tree.{text_of, texts_of};
 
 use crate::DumpFault;
 use crate::index::{is_known, place_of};
-use crate::tree::{entries_at, entries_in, str_in, text_in};
+use crate::tree::{elements_at, elements_in, str_in, text_in};
 use cmh_graph::MAX_IN_TRANSIT;
 use indexmap::IndexSet;
 use json::Value;
@@ -29,8 +30,8 @@ fn are_texts(values: &[Value<'_>]) -> bool
 fn is_pair(message: &Value<'_>) -> bool
     ensures { result ≡ is_pair_lem (view message.now) }
 {
-    let entries = entries_in(message);
-    entries.len() == 2 && are_texts(entries)
+    let elements = elements_in(message);
+    elements.len() == 2 && are_texts(elements)
 }
 
 /// The place of the first message that is no pair of names.
@@ -50,7 +51,7 @@ fn are_known(names: &IndexSet<&str>, values: &[Value<'_>]) -> bool
 fn is_among_processes(names: &IndexSet<&str>, message: &Value<'_>) -> bool
     ensures { result ≡ list_all (is_among (texts names.now.keys)) (texts_of (view message.now)) }
 {
-    are_known(names, entries_in(message))
+    are_known(names, elements_in(message))
 }
 
 /// The place of the first message with a sender or a receiver that is no process.
@@ -64,10 +65,10 @@ fn first_unknown_pair(names: &IndexSet<&str>, messages: &[Value<'_>]) -> Option<
 }
 
 /// The sender of a message, at 0, or its receiver, at 1; the empty text where it is none.
-fn name_in_pair<'a>(message: &Value<'a>, entry: usize) -> &'a str
-    ensures { result.now ≡ slice_index_or (texts_of (view message.now)) entry [] }
+fn name_in_pair<'a>(message: &Value<'a>, place: usize) -> &'a str
+    ensures { result.now ≡ slice_index_or (texts_of (view message.now)) place [] }
 {
-    match entries_in(message).get(entry) {
+    match elements_in(message).get(place) {
         Some(value) => text_in(value),
         None => "",
     }
@@ -105,7 +106,7 @@ pub(crate) fn read_in_transit(
         → IfOk result (λ v.
         v.items ≡ map (places_in_pair (names_lem (view tree.now))) (transits (view tree.now))) }
 {
-    let messages = entries_at(tree, "in_transit");
+    let messages = elements_at(tree, "in_transit");
     if messages.len() > MAX_IN_TRANSIT {
         return Err(DumpFault::TooManyInTransit);
     }

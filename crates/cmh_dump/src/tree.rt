@@ -10,7 +10,7 @@ ghost use Rattle.serde_json.specs.Find.{get, as_array, as_number, as_str, as_u64
 ghost use Rattle.serde_json.specs.Read.{read};
 ghost use Rattle.serde_json.specs.View.{items_of};
 ghost use Rattle.cmh_dump.specs.Dump.{tree_of as tree_of_lem};
-ghost use Rattle.cmh_dump.specs.Tree.{text_of, texts_of, entries_of, at_key, has_array as has_array_lem, has_keys as has_keys_lem};
+ghost use Rattle.cmh_dump.specs.Tree.{text_of, texts_of, elements_of, at_key, has_array as has_array_lem, has_keys as has_keys_lem};
 ghost use Rattle.cmh_dump.specs.Texts.{texts};
 ghost use Rattle.cmh_dump.specs.View.{view};
 
@@ -89,7 +89,7 @@ fn items_in<'v, 'a>(value: &'v Value<'a>) -> Option<&'v [Value<'a>]>
     }
 }
 
-/// The entries of the array, if the value is one.
+/// The elements of the array, if the value is one.
 fn array_in<'v, 'a>(value: &'v Value<'a>) -> Option<&'v [Value<'a>]>
     ensures { option_map (λ v. items_of (map view v.now)) result ≡ as_array (view value.now) }
 {
@@ -140,14 +140,14 @@ fn none_beside<'v, 'a>(value: &'v Value<'a>) -> &'v [Value<'a>]
     &std::slice::from_ref(value)[..0]
 }
 
-/// The entries of an array, or none where the value is none.
-pub(crate) fn entries_in<'v, 'a>(value: &'v Value<'a>) -> &'v [Value<'a>]
-    ensures { map view result.now ≡ entries_of (view value.now) }
+/// The elements of an array, or none where the value is none.
+pub(crate) fn elements_in<'v, 'a>(value: &'v Value<'a>) -> &'v [Value<'a>]
+    ensures { map view result.now ≡ elements_of (view value.now) }
 {
     array_in(value).unwrap_or(none_beside(value))
 }
 
-/// The entries of the array at a key, if one is there.
+/// The elements of the array at a key, if one is there.
 fn array_at<'v, 'a>(value: &'v Value<'a>, key: &str) -> Option<&'v [Value<'a>]>
     ensures { option_map (λ v. items_of (map view v.now)) result
         ≡ as_array (at_key key.now (view value.now)) }
@@ -158,9 +158,9 @@ fn array_at<'v, 'a>(value: &'v Value<'a>, key: &str) -> Option<&'v [Value<'a>]>
     }
 }
 
-/// The entries of the array at a key, or none where no array is there.
-pub(crate) fn entries_at<'v, 'a>(value: &'v Value<'a>, key: &str) -> &'v [Value<'a>]
-    ensures { map view result.now ≡ entries_of (at_key key.now (view value.now)) }
+/// The elements of the array at a key, or none where no array is there.
+pub(crate) fn elements_at<'v, 'a>(value: &'v Value<'a>, key: &str) -> &'v [Value<'a>]
+    ensures { map view result.now ≡ elements_of (at_key key.now (view value.now)) }
 {
     array_at(value, key).unwrap_or(none_beside(value))
 }
@@ -176,7 +176,7 @@ fn texts_in<'a>(alloc: Global, values: &[Value<'a>]) -> Result<Vec<&'a str>, All
     Ok(texts)
 }
 
-/// The entries of the array at a key as texts.
+/// The elements of the array at a key as texts.
 pub(crate) fn texts_at<'a>(
     alloc: Global,
     value: &Value<'a>,
@@ -184,7 +184,7 @@ pub(crate) fn texts_at<'a>(
 ) -> Result<Vec<&'a str>, AllocError>
     ensures { IfOk result (λ v. texts v.items ≡ texts_of (at_key key.now (view value.now))) }
 {
-    texts_in(alloc, entries_at(value, key))
+    texts_in(alloc, elements_at(value, key))
 }
 
 /// An array stands at the key.

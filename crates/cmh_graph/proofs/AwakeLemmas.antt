@@ -20,7 +20,7 @@ pub record AwakeUpTo (g : Graph) (n : ℕ) (marks : List Bool) : Type 0 where
       → is_marked marks p ≡ (not (is_idle g p) || list_any (wakes g p) (take n g.in_transit))
 
 -- an "or" with false is the other
-or_none : (a : Bool) → (a || false) ≡ a
+pub or_none : (a : Bool) → (a || false) ≡ a
 or_none true = refl
 or_none false = refl
 

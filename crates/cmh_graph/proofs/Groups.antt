@@ -23,7 +23,7 @@ use Rattle.cmh_graph.proofs.Verdicts.{and_true, asleep_is_idle, contains_filter,
 -- ---- rests
 
 -- what isn't true is false
-other_false : (b : Bool) → (b ≡ true → ⊥) → b ≡ false
+pub other_false : (b : Bool) → (b ≡ true → ⊥) → b ≡ false
 other_false true h = absurd (h refl)
 other_false false h = refl
 

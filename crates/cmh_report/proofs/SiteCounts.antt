@@ -12,7 +12,8 @@ use Rattle.std.proofs.lemmas.List.Sums.{sum_by-cons}
 use Rattle.std.proofs.lemmas.Map.Keys.{IsDistinct-push}
 use Rattle.std.proofs.lemmas.Map.Made.{length-from_keys}
 use Rattle.cmh_graph.specs.Search.{is_marked, unmarked_count}
-use Rattle.cmh_graph.proofs.Groups.{same_test}
+use Rattle.cmh_graph.proofs.AwakeLemmas.{or_none}
+use Rattle.cmh_graph.proofs.Groups.{other_false, same_test}
 use Rattle.cmh_graph.proofs.PositionLemmas.{count_marked}
 
 -- The sites are those of so many processes, each once, and are marked alone.
@@ -56,26 +57,16 @@ seen_none bound seen is = record {
   count = omega (arith, ap unmarked_count is, none_counted bound);
 }
 
--- a disjunction with false is its first part
-or_false : (b : Bool) → (b || false) ≡ b
-or_false true = refl
-or_false false = refl
-
 -- a site is in a list with one more where it was in the list or is that one
 member_push : (xs : List ℕ) (x s : ℕ) → is_member nat_eq (xs ++ x ∷ []) s ≡ (is_member nat_eq xs s || nat_eq s x)
 member_push xs x s =
-    list_any-append (nat_eq s) xs (x ∷ []) ∙ ap (λ b. list_any (nat_eq s) xs || b) (or_false (nat_eq s x))
+    list_any-append (nat_eq s) xs (x ∷ []) ∙ ap (λ b. list_any (nat_eq s) xs || b) (or_none (nat_eq s x))
 
 -- where the second of two parts implies the first, the first says what both say
 or_known : (a b : Bool) → (b ≡ true → a ≡ true) → a ≡ (a || b)
 or_known true b h = refl
 or_known false true h = h refl
 or_known false false h = refl
-
--- what isn't true is false
-other_false : (b : Bool) → (b ≡ true → ⊥) → b ≡ false
-other_false true h = absurd (h refl)
-other_false false h = refl
 
 -- with a site more that is marked already, the same sites are seen
 pub seen_again : (bound : ℕ) (seen : List Bool) (sites all : List ℕ) (x : ℕ) → AreSeen bound seen sites all
@@ -108,7 +99,7 @@ seen_more bound seen sites all x h l m = record {
         ∙ h.marked s
         ∙ sym (member_push sites x s
         ∙ ap (λ b. is_member nat_eq sites s || b) (other_false (eqb s x) (λ e. other (eqb-true s x e)))
-        ∙ or_false (is_member nat_eq sites s))
+        ∙ or_none (is_member nat_eq sites s))
   ];
   count = omega (
     arith,

@@ -32,7 +32,7 @@ pub record IsAnswer (Fits : Graph → List ℕ → Type 0) (given_old given_new 
   pub taken : taken_new ≡ taken_old ++ text
   pub finished : is_finished ≡ true
 
--- The source gave a dump as above, and the sink took the front of its text, so many bytes of it.
+-- The source gave a dump as above, and the sink took a prefix of its text, so many bytes of it.
 pub record IsCutShort (Fits : Graph → List ℕ → Type 0) (given_old given_new : List ℕ)
     (has_ended : Bool) (taken_old taken_new : List ℕ) (written : ℕ) : Type 0 where
   pub graph : Graph

@@ -1,5 +1,10 @@
+-- the words of public contracts
 pub mod Ends
 pub mod Fault
+pub mod Records
+pub mod Report
+pub mod Trace
+-- the words of private functions
 pub mod Group
 pub mod Knot
 pub mod Known
@@ -7,7 +12,4 @@ pub mod Lines
 pub mod Names
 pub mod Outline
 pub mod Paths
-pub mod Records
-pub mod Report
 pub mod Sites
-pub mod Trace

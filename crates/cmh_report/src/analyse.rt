@@ -13,10 +13,9 @@ use crate::fault::{AppFault, ReportFault};
 use crate::input::read_graph;
 use crate::outline::Outline;
 use crate::text::text_of;
-use cmh_dump::Source;
 use cmh_graph::WaitGraph;
 use cmh_run::{NoList, NoLog, RunLog};
-use cmh_stream::{Pieces, Sink, put_pieces};
+use cmh_stream::{Pieces, Sink, Source, put_pieces};
 use cmh_work::{Analysis, Gate, Plan, WorkFault, analyse_keeping};
 use std::alloc::{AllocError, Global};
 use std::sync::Wait;
@@ -24,7 +23,7 @@ use std::thread::Threads;
 
 /// The report on a graph, in pieces, and how many of its processes are deadlocked.
 #[derive(Drop)]
-struct Report {
+struct CountedText {
     text: Pieces,
     deadlocked: u32,
 }
@@ -62,14 +61,14 @@ fn text_and_count<R: Threads + Sync>(
     alloc: Global,
     graph: &WaitGraph,
     analysis: Analysis<RunLog<NoLog, NoList>, NoList>,
-) -> Result<Report, AllocError>
+) -> Result<CountedText, AllocError>
     requires { IsSomeAnalysisOf graph.now analysis }
     ensures text { IfOk result (λ r. r.text ≡ report_text graph.now) }
     ensures deadlocked { IfOk result (λ r. r.deadlocked ≡ deadlocked_count graph.now) }
 {
     let outline = outlined(alloc, graph, analysis)?;
     let text = text_of(rt, alloc, graph, &outline)?;
-    Ok(Report {
+    Ok(CountedText {
         text,
         deadlocked: outline.deadlocked,
     })
@@ -81,7 +80,7 @@ fn reported<R: Threads + Sync>(
     alloc: Global,
     graph: &WaitGraph,
     analysis: Analysis<RunLog<NoLog, NoList>, NoList>,
-) -> Result<Report, AppFault>
+) -> Result<CountedText, AppFault>
     requires { IsSomeAnalysisOf graph.now analysis }
     ensures text { IfOk result (λ r. r.text ≡ report_text graph.now) }
     ensures deadlocked { IfOk result (λ r. r.deadlocked ≡ deadlocked_count graph.now) }

@@ -1,12 +1,13 @@
-//! The dump that comes in.
+//! From a source to the graph that its bytes mean.
 
 ghost use Rattle.std.specs.Prelude.{◌+◌, Ok, IfOk, IfErr};
 ghost use Rattle.cmh_dump.specs.Source.{GaveAtMost};
 ghost use Rattle.cmh_dump.specs.declared.TheConstants.{MAX_BYTES};
 ghost use Rattle.cmh_report.specs.Ends.{GaveDump, IsRefused};
 
-use cmh_dump::{DumpFault, Source, read_all, read_dump};
+use cmh_dump::{DumpFault, read_all, read_dump};
 use cmh_graph::WaitGraph;
+use cmh_stream::Source;
 use std::alloc::Global;
 
 /// The graph that the bytes of the source mean.

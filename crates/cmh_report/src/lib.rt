@@ -1,5 +1,4 @@
-//! The report on a wait graph and the trace of a run, and both from end to end: a dump comes in, and
-//! a text goes out.
+//! From a dump to a report or a trace, as bytes in and bytes out.
 #![tactic(auto)]
 
 mod analyse;

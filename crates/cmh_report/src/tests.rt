@@ -46,6 +46,15 @@ const CYCLE_AND_FOLLOWER: [Row; 3] = [
     ("r", 1, Some(&[0])),
 ];
 
+const TWO_IN_A_CYCLE_DUMP: &str = r#"{"version":1,"sites":["a"],"processes":[
+    {"name":"p","site":"a","state":"idle","dependents":["q"]},
+    {"name":"q","site":"a","state":"idle","dependents":["p"]}]}"#;
+
+const KNOT_OF_THREE_DUMP: &str = r#"{"version":1,"sites":["a"],"processes":[
+    {"name":"p","site":"a","state":"idle","dependents":["q","r"]},
+    {"name":"q","site":"a","state":"idle","dependents":["r"]},
+    {"name":"r","site":"a","state":"idle","dependents":["q"]}]}"#;
+
 const TWO_IN_A_CYCLE_REPORT: &str = "processes 2 active 0 idle 2 deadlocked 2
 deadlocked p group 1
 deadlocked q group 1

@@ -1,4 +1,4 @@
-//! The report as text.
+//! The whole report, put together: the line of counts, those of processes and those of groups.
 
 ghost use Rattle.std.specs.Prelude.{◌≡◌, ◌++◌, IfOk, flat_map, reverse, string_bytes};
 ghost use Rattle.cmh_report.specs.Outline.{IsOutlineOf};

@@ -12,12 +12,11 @@ ghost use Rattle.cmh_report.specs.Trace.{ending_lines, message_line, trace_text,
 
 use crate::fault::{AppFault, ReportFault};
 use crate::input::read_graph;
-use cmh_dump::Source;
 use cmh_graph::WaitGraph;
 use cmh_graph::laws::law_built_graph;
 use cmh_process::{Kind, Message};
 use cmh_run::{Ending, NoHints, RunLog, run};
-use cmh_stream::{Sink, put_all};
+use cmh_stream::{Sink, Source, put_all};
 use std::alloc::{AllocError, Global};
 
 /// The trace of a run, and how the run has ended.

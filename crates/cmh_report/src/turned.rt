@@ -33,6 +33,7 @@ impl Model for Turned {
 }
 
 impl Turned {
+    /// No line, which takes no memory.
     pub(crate) fn new(alloc: Global) -> Turned
         ensures { result ≡ [] }
     {

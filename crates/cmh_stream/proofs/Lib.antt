@@ -1,2 +1,2 @@
 pub mod Blank
-pub mod Fronts
+pub mod Prefixes

@@ -17,6 +17,7 @@ pub(crate) struct NotedReader<R> {
 }
 
 impl<R: Read> NotedReader<R> {
+    /// Makes no call of the reader.
     pub(crate) fn new(reader: R) -> NotedReader<R>
         ensures fresh { result.reader ≡ reader }
         ensures nothing { result.tape.bytes ≡ [] }
@@ -57,12 +58,14 @@ impl<R: Read> NotedReader<R> {
         answer
     }
 
+    /// Whether a call has given nothing for a buffer with room.
     pub(crate) fn has_ended(&self) -> bool
         ensures { result ≡ self.now.ended }
     {
         self.ended
     }
 
+    /// Whether a call was answered by an error.
     pub(crate) fn has_failed(&self) -> bool
         ensures { result ≡ self.now.failed }
     {

@@ -17,6 +17,7 @@ pub(crate) struct NotedWriter<W> {
 }
 
 impl<W: Write> NotedWriter<W> {
+    /// Makes no call of the writer.
     pub(crate) fn new(writer: W) -> NotedWriter<W>
         ensures fresh { result.writer ≡ writer }
         ensures nothing { result.tape.bytes ≡ [] }
@@ -77,6 +78,7 @@ impl<W: Write> NotedWriter<W> {
         answer
     }
 
+    /// Whether a call was answered by an error, or took nothing where there was something.
     pub(crate) fn has_failed(&self) -> bool
         ensures { result ≡ self.now.failed }
     {

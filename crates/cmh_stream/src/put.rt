@@ -16,10 +16,10 @@ pub struct WriteFault {
 }
 
 impl fmt::Display for WriteFault {
-    ghost output = { λ e. Some (codes "writing failed after " ++ decimal e.written ++ codes " bytes") };
+    ghost output = { λ e. Some (codes "write fault after " ++ decimal e.written ++ codes " bytes") };
 
     fn fmt<W: fmt::Write>(&self, f: &mut fmt::Formatter<W>) -> fmt::Result {
-        write!(f, "writing failed after {} bytes", self.written)
+        write!(f, "write fault after {} bytes", self.written)
     }
 }
 
@@ -31,22 +31,22 @@ impl Error for WriteFault {}
 ///
 /// `WriteFault` where the sink fails. Its count is the whole length where all was taken and the
 /// sink failed to hand it on.
-pub fn put_all<S: Sink>(sink: &mut S, bytes: &[u8]) -> Result<(), WriteFault>
-    ensures written { OnOk result (S.taken sink.new ≡ S.taken sink.old ++ bytes.now) }
-    ensures finished { OnOk result (S.is_finished sink.new ≡ true) }
-    ensures works { OnOk result (S.has_failed sink.new ≡ false) }
+pub fn put_all<K: Sink>(sink: &mut K, bytes: &[u8]) -> Result<(), WriteFault>
+    ensures written { OnOk result (K.taken sink.new ≡ K.taken sink.old ++ bytes.now) }
+    ensures finished { OnOk result (K.is_finished sink.new ≡ true) }
+    ensures works { OnOk result (K.has_failed sink.new ≡ false) }
 
     ensures within { IfErr result (λ e. e.written ≤ length bytes.now) }
     ensures front { IfErr result (λ e.
-        S.taken sink.new ≡ S.taken sink.old ++ take e.written bytes.now) }
-    ensures stops { OnErr result (S.has_failed sink.new ≡ true) }
-    ensures unfinished { IfErr result (λ e. S.is_finished sink.new ≡ true
-        → (S.is_finished sink.old ≡ true) × (e.written ≡ 0)) }
-    ensures stays { S.has_failed sink.old ≡ true → IsErrAnd result (λ e. e.written ≡ 0) }
+        K.taken sink.new ≡ K.taken sink.old ++ take e.written bytes.now) }
+    ensures stops { OnErr result (K.has_failed sink.new ≡ true) }
+    ensures unfinished { IfErr result (λ e. K.is_finished sink.new ≡ true
+        → (K.is_finished sink.old ≡ true) × (e.written ≡ 0)) }
+    ensures stays { K.has_failed sink.old ≡ true → IsErrAnd result (λ e. e.written ≡ 0) }
 
     ensures known { MatchResult result
-        (λ _. Appends (S.contents sink.old) (S.contents sink.new) bytes.now)
-        (λ e. Appends (S.contents sink.old) (S.contents sink.new) (take e.written bytes.now)) }
+        (λ _. Appends (K.contents sink.old) (K.contents sink.new) bytes.now)
+        (λ e. Appends (K.contents sink.old) (K.contents sink.new) (take e.written bytes.now)) }
 {
     put_text(sink, bytes)?;
     finish(sink, bytes.len())
@@ -57,22 +57,22 @@ pub fn put_all<S: Sink>(sink: &mut S, bytes: &[u8]) -> Result<(), WriteFault>
 /// # Errors
 ///
 /// `WriteFault` where the sink fails. Its count is of the bytes of all pieces, as that of `put_all`.
-pub fn put_pieces<S: Sink>(sink: &mut S, text: &Pieces) -> Result<(), WriteFault>
-    ensures written { OnOk result (S.taken sink.new ≡ S.taken sink.old ++ text.now) }
-    ensures finished { OnOk result (S.is_finished sink.new ≡ true) }
-    ensures works { OnOk result (S.has_failed sink.new ≡ false) }
+pub fn put_pieces<K: Sink>(sink: &mut K, text: &Pieces) -> Result<(), WriteFault>
+    ensures written { OnOk result (K.taken sink.new ≡ K.taken sink.old ++ text.now) }
+    ensures finished { OnOk result (K.is_finished sink.new ≡ true) }
+    ensures works { OnOk result (K.has_failed sink.new ≡ false) }
 
     ensures within { IfErr result (λ e. e.written ≤ length text.now) }
     ensures front { IfErr result (λ e.
-        S.taken sink.new ≡ S.taken sink.old ++ take e.written text.now) }
-    ensures stops { OnErr result (S.has_failed sink.new ≡ true) }
-    ensures unfinished { IfErr result (λ e. S.is_finished sink.new ≡ true
-        → (S.is_finished sink.old ≡ true) × (e.written ≡ 0)) }
-    ensures stays { S.has_failed sink.old ≡ true → IsErrAnd result (λ e. e.written ≡ 0) }
+        K.taken sink.new ≡ K.taken sink.old ++ take e.written text.now) }
+    ensures stops { OnErr result (K.has_failed sink.new ≡ true) }
+    ensures unfinished { IfErr result (λ e. K.is_finished sink.new ≡ true
+        → (K.is_finished sink.old ≡ true) × (e.written ≡ 0)) }
+    ensures stays { K.has_failed sink.old ≡ true → IsErrAnd result (λ e. e.written ≡ 0) }
 
     ensures known { MatchResult result
-        (λ _. Appends (S.contents sink.old) (S.contents sink.new) text.now)
-        (λ e. Appends (S.contents sink.old) (S.contents sink.new) (take e.written text.now)) }
+        (λ _. Appends (K.contents sink.old) (K.contents sink.new) text.now)
+        (λ e. Appends (K.contents sink.old) (K.contents sink.new) (take e.written text.now)) }
 {
     let pieces = text.list();
     let mut written = 0;
@@ -88,24 +88,24 @@ pub fn put_pieces<S: Sink>(sink: &mut S, text: &Pieces) -> Result<(), WriteFault
 }
 
 /// Puts the text into the sink, and doesn't finish it.
-fn put_text<S: Sink>(sink: &mut S, bytes: &[u8]) -> Result<(), WriteFault>
-    ensures written { OnOk result (S.taken sink.new ≡ S.taken sink.old ++ bytes.now) }
-    ensures opens { OnOk result (S.is_finished sink.new ≡ true
-        → (S.is_finished sink.old ≡ true) × (length bytes.now ≡ 0)) }
+fn put_text<K: Sink>(sink: &mut K, bytes: &[u8]) -> Result<(), WriteFault>
+    ensures written { OnOk result (K.taken sink.new ≡ K.taken sink.old ++ bytes.now) }
+    ensures opens { OnOk result (K.is_finished sink.new ≡ true
+        → (K.is_finished sink.old ≡ true) × (length bytes.now ≡ 0)) }
 
     ensures within { IfErr result (λ e. e.written ≤ length bytes.now) }
     ensures front { IfErr result (λ e.
-        S.taken sink.new ≡ S.taken sink.old ++ take e.written bytes.now) }
-    ensures stops { OnErr result (S.has_failed sink.new ≡ true) }
-    ensures unfinished { IfErr result (λ e. S.is_finished sink.new ≡ true
-        → (S.is_finished sink.old ≡ true) × (e.written ≡ 0)) }
-    ensures stays { S.has_failed sink.old ≡ true → MatchResult result
-        (λ _. (S.has_failed sink.new ≡ true) × (length bytes.now ≡ 0))
+        K.taken sink.new ≡ K.taken sink.old ++ take e.written bytes.now) }
+    ensures stops { OnErr result (K.has_failed sink.new ≡ true) }
+    ensures unfinished { IfErr result (λ e. K.is_finished sink.new ≡ true
+        → (K.is_finished sink.old ≡ true) × (e.written ≡ 0)) }
+    ensures stays { K.has_failed sink.old ≡ true → MatchResult result
+        (λ _. (K.has_failed sink.new ≡ true) × (length bytes.now ≡ 0))
         (λ e. e.written ≡ 0) }
 
     ensures known { MatchResult result
-        (λ _. Appends (S.contents sink.old) (S.contents sink.new) bytes.now)
-        (λ e. Appends (S.contents sink.old) (S.contents sink.new) (take e.written bytes.now)) }
+        (λ _. Appends (K.contents sink.old) (K.contents sink.new) bytes.now)
+        (λ e. Appends (K.contents sink.old) (K.contents sink.new) (take e.written bytes.now)) }
 {
     let mut written = 0;
     while written < bytes.len() {
@@ -118,16 +118,16 @@ fn put_text<S: Sink>(sink: &mut S, bytes: &[u8]) -> Result<(), WriteFault>
 }
 
 /// Finishes the sink, which was given so many bytes.
-fn finish<S: Sink>(sink: &mut S, written: usize) -> Result<(), WriteFault>
-    ensures takes_nothing { S.taken sink.new ≡ S.taken sink.old }
-    ensures known { Keeps (S.contents sink.old) (S.contents sink.new) }
+fn finish<K: Sink>(sink: &mut K, written: usize) -> Result<(), WriteFault>
+    ensures takes_nothing { K.taken sink.new ≡ K.taken sink.old }
+    ensures known { Keeps (K.contents sink.old) (K.contents sink.new) }
 
-    ensures finishes { OnOk result (S.is_finished sink.new ≡ true) }
-    ensures keeps_finish { OnErr result (S.is_finished sink.new ≡ S.is_finished sink.old) }
+    ensures finishes { OnOk result (K.is_finished sink.new ≡ true) }
+    ensures keeps_finish { OnErr result (K.is_finished sink.new ≡ K.is_finished sink.old) }
 
-    ensures works { OnOk result (S.has_failed sink.new ≡ false) }
-    ensures stops { OnErr result (S.has_failed sink.new ≡ true) }
-    ensures stays { S.has_failed sink.old ≡ true → IsErr result }
+    ensures works { OnOk result (K.has_failed sink.new ≡ false) }
+    ensures stops { OnErr result (K.has_failed sink.new ≡ true) }
+    ensures stays { K.has_failed sink.old ≡ true → IsErr result }
     ensures count { IfErr result (λ e. e.written ≡ written) }
 {
     sink.finish().map_err(|_| WriteFault { written })

@@ -6,7 +6,7 @@ ghost use Rattle.std.specs.Borrow.{ftrue};
 
 use std::marker::Model;
 
-// It has no bytes of its own, and its methods do nothing when they run.
+/// A record that takes no memory: its methods do nothing when they run.
 #[derive(Drop)]
 pub(crate) struct Tape {
     ghost bytes: { List ℕ } by { coded_list coded_ℕ },
@@ -17,12 +17,14 @@ impl Model for Tape {
 }
 
 impl Tape {
+    /// The record of a device that was not called yet.
     pub(crate) fn new() -> Tape
         ensures { result.bytes ≡ [] }
     {
         Tape {}
     }
 
+    /// The record after one call more. That these bytes went by is for the caller to see.
     pub(crate) fn then(&self, _bytes: &[u8]) -> Tape
         ensures { result.bytes ≡ self.now.bytes ++ _bytes.now }
     {

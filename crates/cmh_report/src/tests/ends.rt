@@ -4,7 +4,10 @@ use super::cases::CASES;
 use super::devices::{Cut, Page};
 use super::more_cases::MORE_CASES;
 use super::plans::PLANS;
-use super::{CYCLE_AND_FOLLOWER_REPORT, KNOT_OF_THREE_REPORT, TWO_IN_A_CYCLE_REPORT, expect, page};
+use super::{
+    CYCLE_AND_FOLLOWER_REPORT, KNOT_OF_THREE_DUMP, KNOT_OF_THREE_REPORT, TWO_IN_A_CYCLE_DUMP,
+    TWO_IN_A_CYCLE_REPORT, expect, page,
+};
 use crate::{AppFault, analyse_bytes};
 use cmh_dump::DumpFault;
 use cmh_stream::{ReadOf, WriteOf};
@@ -13,19 +16,10 @@ use std::io::Read;
 use std::sync::Wait;
 use std::thread::Threads;
 
-pub const TWO_IN_A_CYCLE_DUMP: &str = r#"{"version":1,"sites":["a"],"processes":[
-    {"name":"p","site":"a","state":"idle","dependents":["q"]},
-    {"name":"q","site":"a","state":"idle","dependents":["p"]}]}"#;
-
 const CYCLE_AND_FOLLOWER_DUMP: &str = r#"{"version":1,"sites":["a","b"],"processes":[
     {"name":"p","site":"a","state":"idle","dependents":["q"]},
     {"name":"q","site":"a","state":"idle","dependents":["p"]},
     {"name":"r","site":"b","state":"idle","dependents":["p"]}]}"#;
-
-const KNOT_OF_THREE_DUMP: &str = r#"{"version":1,"sites":["a"],"processes":[
-    {"name":"p","site":"a","state":"idle","dependents":["q","r"]},
-    {"name":"q","site":"a","state":"idle","dependents":["r"]},
-    {"name":"r","site":"a","state":"idle","dependents":["q"]}]}"#;
 
 /// Analyses what a reader gives by a plan, onto a page.
 fn analyse_by<R: AllocGlobal + Threads + Wait + Sync, I: Read + Drop>(

@@ -3,9 +3,9 @@
 ghost use Rattle.cmh_report.specs.Records.{IsSomeAnalysisOf};
 
 use super::devices::Page;
-use super::ends::TWO_IN_A_CYCLE_DUMP;
 use super::{
-    CYCLE_AND_FOLLOWER, CYCLE_AND_FOLLOWER_REPORT, TWO_IN_A_CYCLE_REPORT, expect_eq, graph, page,
+    CYCLE_AND_FOLLOWER, CYCLE_AND_FOLLOWER_REPORT, TWO_IN_A_CYCLE_DUMP, TWO_IN_A_CYCLE_REPORT,
+    expect_eq, graph, page,
 };
 use crate::{AppFault, ReportFault, analyse_bytes, report, trace_bytes};
 use cmh_dump::DumpFault;

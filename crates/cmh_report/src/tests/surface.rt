@@ -1,8 +1,9 @@
 //! Every public call of the crate, as a caller writes it who knows it by its name alone.
 
 use super::devices::Cut;
-use super::ends::TWO_IN_A_CYCLE_DUMP;
-use super::{TWO_IN_A_CYCLE, TWO_IN_A_CYCLE_REPORT, expect, expect_eq, graph, page};
+use super::{
+    TWO_IN_A_CYCLE, TWO_IN_A_CYCLE_DUMP, TWO_IN_A_CYCLE_REPORT, expect, expect_eq, graph, page,
+};
 use crate::laws::law_one_trace;
 use crate::{
     AppFault, ReadOf, ReportFault, Sink, Source, Stopped, WriteOf, analyse_bytes, report,

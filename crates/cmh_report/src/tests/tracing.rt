@@ -2,7 +2,7 @@
 
 use super::devices::{Cut, Page};
 use super::traces::TRACES;
-use super::{expect, page};
+use super::{KNOT_OF_THREE_DUMP, TWO_IN_A_CYCLE_DUMP, expect, page};
 use crate::{AppFault, trace_bytes};
 use cmh_dump::DumpFault;
 use cmh_run::{Ending, MAX_CHOICES, RunFault};
@@ -16,19 +16,10 @@ const WAITS_FOR_NOBODY: &str = r#"{"version":1,"sites":["a"],"processes":[
 const WAITS_FOR_ITSELF: &str = r#"{"version":1,"sites":["a"],"processes":[
     {"name":"p","site":"a","state":"idle","dependents":["p"]}]}"#;
 
-const TWO_IN_A_CYCLE: &str = r#"{"version":1,"sites":["a"],"processes":[
-    {"name":"p","site":"a","state":"idle","dependents":["q"]},
-    {"name":"q","site":"a","state":"idle","dependents":["p"]}]}"#;
-
 const ONE_FREE_ONE_STUCK: &str = r#"{"version":1,"sites":["a"],"processes":[
     {"name":"p","site":"a","state":"idle","dependents":["q","r"]},
     {"name":"q","site":"a","state":"idle","dependents":["q"]},
     {"name":"r","site":"a","state":"active"}]}"#;
-
-const KNOT_OF_THREE: &str = r#"{"version":1,"sites":["a"],"processes":[
-    {"name":"p","site":"a","state":"idle","dependents":["q","r"]},
-    {"name":"q","site":"a","state":"idle","dependents":["r"]},
-    {"name":"r","site":"a","state":"idle","dependents":["q"]}]}"#;
 
 const IN_TRANSIT: &str = r#"{"version":2,"sites":["a"],"processes":[
     {"name":"p","site":"a","state":"idle","dependents":["q"]},
@@ -116,7 +107,7 @@ declared p
 ";
     expect(
         &rt,
-        traces(rt, TWO_IN_A_CYCLE, "p", &[], text, Ending::Declared),
+        traces(rt, TWO_IN_A_CYCLE_DUMP, "p", &[], text, Ending::Declared),
     );
 }
 
@@ -165,7 +156,7 @@ declared p
     ];
     for (choices, text) in rows {
         assert!(rt;
-            traces(rt, KNOT_OF_THREE, "p", choices, text, Ending::Declared),
+            traces(rt, KNOT_OF_THREE_DUMP, "p", choices, text, Ending::Declared),
             "{text}"
         );
     }

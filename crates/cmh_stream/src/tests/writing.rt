@@ -220,7 +220,7 @@ fn faults_have_texts(rt: HostRuntime) -> Result<(), std::alloc::AllocError> {
     expect_eq(
         &rt,
         text.as_str(),
-        "writing failed after 7 bytes; the device has failed",
+        "write fault after 7 bytes; the device has failed",
     );
     Ok(())
 }

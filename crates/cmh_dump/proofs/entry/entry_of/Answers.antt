@@ -7,8 +7,8 @@ use Rattle.cmh_dump.proofs.entry.entry_of.Goals as goal
 pub returns : goal.returns
 returns c =
     let dependents =
-    texts_of_views view c.entries_at.result.now (at_key (codes "dependents") (view c.args.process.now))
-    c.entries_at.ensures in
+    texts_of_views view c.elements_at.result.now (at_key (codes "dependents") (view c.args.process.now))
+    c.elements_at.ensures in
     λ i. record {
       name = c.text_at.ensures i;
       site = c.text_at-2.ensures i;

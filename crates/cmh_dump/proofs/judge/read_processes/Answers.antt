@@ -8,17 +8,17 @@ use Rattle.cmh_dump.proofs.judge.read_processes.Goals as goal
 
 pub returns-in-Some-clause-judges : goal.returns-in-Some-clause-judges
 returns-in-Some-clause-judges c =
-    let few : length c.entries_at-processes.result.now ≤ MAX_PROCESSES = omega arith in
-    λ _. process_bad view (view c.args.tree.now) c.entries_at-processes.result.now c.entries_at-processes.ensures
+    let few : length c.elements_at-processes.result.now ≤ MAX_PROCESSES = omega arith in
+    λ _. process_bad view (view c.args.tree.now) c.elements_at-processes.result.now c.elements_at-processes.ensures
     c.in-Some.i few (sym c.first_bad_process.ensures ∙ c.in-Some.is)
 
 pub returns-clause-judges : goal.returns-clause-judges
 returns-clause-judges c =
-    let few : length c.entries_at-processes.result.now ≤ MAX_PROCESSES = omega arith in
-    processes_judged view (view c.args.tree.now) c.entries_at-processes.result.now c.entries_at-processes.ensures few
+    let few : length c.elements_at-processes.result.now ≤ MAX_PROCESSES = omega arith in
+    processes_judged view (view c.args.tree.now) c.elements_at-processes.result.now c.elements_at-processes.ensures few
     (sym c.first_bad_process.ensures ∙ c.in_default.is)
 
 pub returns-clause-read : goal.returns-clause-read
 returns-clause-read c =
-    c.in_ok-entries_of.ensures ∙ map-map entry_of view c.entries_at-processes.result.now
-    ∙ ap (map entry_of) c.entries_at-processes.ensures
+    c.in_ok-entries_of.ensures ∙ map-map entry_of view c.elements_at-processes.result.now
+    ∙ ap (map entry_of) c.elements_at-processes.ensures

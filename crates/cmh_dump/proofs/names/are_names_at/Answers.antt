@@ -8,5 +8,5 @@ use Rattle.cmh_dump.proofs.names.are_names_at.Goals as goal
 pub returns : goal.returns
 returns c =
     c.are_names_in.ensures
-    ∙ all_of_views is_name view c.entries_at.result.now (at_key c.args.key.now (view c.args.value.now))
-    c.entries_at.ensures
+    ∙ all_of_views is_name view c.elements_at.result.now (at_key c.args.key.now (view c.args.value.now))
+    c.elements_at.ensures

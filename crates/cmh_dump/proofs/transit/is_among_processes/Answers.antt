@@ -8,5 +8,5 @@ use Rattle.cmh_dump.proofs.transit.is_among_processes.Goals as goal
 pub returns : goal.returns
 returns c =
     c.are_known.ensures
-    ∙ all_of_views (is_among (texts c.args.names.now.keys)) view c.entries_in.result.now (view c.args.message.now)
-    c.entries_in.ensures
+    ∙ all_of_views (is_among (texts c.args.names.now.keys)) view c.elements_in.result.now (view c.args.message.now)
+    c.elements_in.ensures

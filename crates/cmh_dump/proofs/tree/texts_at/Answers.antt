@@ -9,6 +9,6 @@ use Rattle.cmh_dump.proofs.tree.texts_at.Goals as goal
 pub returns : goal.returns
 returns c =
     let same =
-    texts_of_views view c.entries_at.result.now (at_key c.args.key.now (view c.args.value.now))
-    c.entries_at.ensures in
+    texts_of_views view c.elements_at.result.now (at_key c.args.key.now (view c.args.value.now))
+    c.elements_at.ensures in
     subst (λ (ts : List (List ℕ)). IfOk c.texts_in.result (λ v. texts v.items ≡ ts)) same c.texts_in.ensures

@@ -3,7 +3,7 @@ use Rattle.std.proofs.Common.{rules, sym}
 use Rattle.std.specs.Prelude.{string_bytes}
 use Rattle.std.proofs.KnownBytes.{Appends-trans}
 use Rattle.std.proofs.lemmas.List.Folds.{length-flat_map-take}
-use Rattle.cmh_stream.proofs.Fronts.{grown-by_next, take_next}
+use Rattle.cmh_stream.proofs.Prefixes.{grown-by_next, take_next}
 use Rattle.cmh_stream.proofs.put.put_pieces.Goals as goal
 
 pub overflow_add-result : goal.overflow_add-result

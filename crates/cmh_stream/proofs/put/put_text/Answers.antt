@@ -2,7 +2,7 @@
 use Rattle.std.proofs.Common.{rules, sym, ◌∙◌}
 use Rattle.std.proofs.KnownBytes.{Appends-trans}
 use Rattle.std.proofs.lemmas.Bool.{false≢true}
-use Rattle.cmh_stream.proofs.Fronts.{take-others, grown-by_others}
+use Rattle.cmh_stream.proofs.Prefixes.{take-others, grown-by_others}
 use Rattle.cmh_stream.proofs.put.put_text.Goals as goal
 
 pub loop-written-preserved : goal.loop-written-preserved

@@ -1,4 +1,4 @@
--- The sink took the front of the text, a sink that had failed before took nothing, and one that took
+-- The sink took a prefix of the text, a sink that had failed before took nothing, and one that took
 -- something isn't finished.
 use Rattle.std.proofs.Common.{◌≡◌, ◌-◌, ◌≤◌, ◌++◌, length, take, true}
 use Rattle.std.specs.Io.KnownBytes.{Appends}
@@ -7,13 +7,13 @@ use Rattle.cmh_stream.proofs.put.put_text.Given as goal
 abbrev pub invariant-loop-written : goal.invariant-loop-written
 invariant-loop-written g l = record {
   within : l.written ≤ length l.bytes;
-  taken : g.S.Sink.taken l.sink ≡ g.S.Sink.taken l.initial.sink ++ take l.written l.bytes;
-  known : Appends (g.S.Sink.contents l.initial.sink) (g.S.Sink.contents l.sink)
+  taken : g.K.Sink.taken l.sink ≡ g.K.Sink.taken l.initial.sink ++ take l.written l.bytes;
+  known : Appends (g.K.Sink.contents l.initial.sink) (g.K.Sink.contents l.sink)
       (take l.written l.bytes);
-  failed : g.S.Sink.has_failed l.initial.sink ≡ true
-      → (l.written ≡ 0) × (g.S.Sink.has_failed l.sink ≡ true);
-  finished : g.S.Sink.is_finished l.sink ≡ true
-      → (g.S.Sink.is_finished l.initial.sink ≡ true) × (l.written ≡ 0);
+  failed : g.K.Sink.has_failed l.initial.sink ≡ true
+      → (l.written ≡ 0) × (g.K.Sink.has_failed l.sink ≡ true);
+  finished : g.K.Sink.is_finished l.sink ≡ true
+      → (g.K.Sink.is_finished l.initial.sink ≡ true) × (l.written ≡ 0);
 }
 
 abbrev pub decreases-loop-written : goal.decreases-loop-written

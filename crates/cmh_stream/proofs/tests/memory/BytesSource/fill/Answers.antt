@@ -1,7 +1,7 @@
 -- The front of the buffer holds the next of the bytes.
 use Rattle.std.proofs.Common.{◌≡◌, length, take, drop, ◌++◌, arith, sym, ap, ◌∙◌}
 use Rattle.std.proofs.lemmas.List.{take_at, length-take-le}
-use Rattle.cmh_stream.proofs.Fronts.{take-others}
+use Rattle.cmh_stream.proofs.Prefixes.{take-others}
 use Rattle.cmh_stream.proofs.tests.memory.BytesSource.fill.Goals as goal
 
 pub returns-clause-gives : goal.returns-clause-gives

@@ -1,4 +1,4 @@
--- The front of a list, which grows by the front of the others; and of one that is made of pieces.
+-- A prefix of a list, which grows by a prefix of the others; and one of a list that is made of pieces.
 use Rattle.std.proofs.Common.{◌≡◌, ℕ, suc, ◌+◌, ◌-◌, ◌<◌, ◌≤◌, List, ◌++◌, ◌∷◌, length, take, drop, flat_map, get_or, arith, length-drop, append_assoc, ap, sym, ◌∙◌}
 use Rattle.std.proofs.Math.Seq.{drop-cons, take-add, take-append-add}
 use Rattle.std.proofs.lemmas.Grind.{flat_map-append}
@@ -36,7 +36,7 @@ take_next f xs i x w n in_xs is so_far few =
     ∙ take-append-add (flat_map f (take i xs)) _ n
     ∙ ap (λ ys. flat_map f (take i xs) ++ ys) (take-append-le n (f x) _ few)
 
--- what grew by the pieces so far, and then by the front of the next one, grew by the front of all
+-- what grew by the pieces so far, and then by a prefix of the next one, grew by a prefix of all
 pub grown-by_next : {X : Type 0} (f : X → List ℕ) (xs : List X) (i : ℕ) (x : X) (w n : ℕ)
     (start old new : List ℕ)
     → i < length xs → x ≡ get_or xs i x → w ≡ length (flat_map f (take i xs)) → n ≤ length (f x)
