@@ -9,7 +9,7 @@ use Rattle.cmh_rw.specs.declared.view.View.{View}
 use Rattle.cmh_rw.specs.History.{fold_at, EndsLast, IsPosting, IsHistory, IsTrueOf, AreTold}
 use Rattle.cmh_rw.specs.declared.machine.SeatState.TheVariants.{Writing}
 use Rattle.cmh_rw.specs.View.{AfterLoad, posted, tried, ended}
-use Rattle.cmh_board.specs.Board.{unposted, rows_of, with_posting, times, IsWritten, Posts}
+use Rattle.cmh_board.specs.Board.{unposted, rows_of, with_posting, row_times, IsWritten, Posts}
 use Rattle.cmh_board.specs.Posting.{PostingValue, IsTruth}
 use Rattle.cmh_board.specs.Adding.{CanPost, IsWriter, OnlyLoads, Stages, Adds}
 use Rattle.cmh_board.proofs.PostingRows.{rows_end, rows_told, true_behind, said_behind, once_behind, history-snoc, length-rows_of}
@@ -34,7 +34,7 @@ adds_from t v a w found can h seen mine lock staged loads history =
       lock = lock;
       staged = staged;
       loads = (let e = ap (λ (u : View). u.loads) h.view in omega arith);
-      once = λ p c. ap (times p) seen ∙ once_behind g t.verdict t.processes a.seen h.true_of can p c;
+      once = λ p c. ap (row_times p) seen ∙ once_behind g t.verdict t.processes a.seen h.true_of can p c;
       says = λ p c. ap (λ l. fold_at l p) seen ∙ said_behind g t.verdict t.processes a.seen h.true_of can p c;
       whole = history;
       true_of = subst (IsTrueOf g) (sym seen) (true_behind g t.verdict t.processes a.seen h.true_of can);
@@ -131,7 +131,7 @@ posts_from t v u a w took adds ended =
         new = adds.new ∙ ap (λ l. rows_of t.verdict (unposted (l ++ adds.between) t.processes)) before;
         seen = seen ∙ adds.seen ∙ ap (λ l. (l ++ adds.between) ++ adds.rows) before;
         mine = ap (λ (x : View). x.mine) ended ∙ adds.mine ∙ ap (λ (x : View). with_posting x.mine adds.rows) took;
-        once = λ p c. ap (times p) seen ∙ adds.once p c;
+        once = λ p c. ap (row_times p) seen ∙ adds.once p c;
         says = λ p c. ap (λ l. fold_at l p) seen ∙ adds.says p c;
         share = ap (λ (x : View). x.lock.share) ended ∙ ap (λ l. l.share) lock;
         graph = ap (λ (x : View). x.lock.graph) ended ∙ ap (λ l. l.graph) lock;

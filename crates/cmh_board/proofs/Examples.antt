@@ -6,7 +6,7 @@ use Rattle.cmh_run.specs.declared.delivery.Ending.TheVariants.{Declared, AtRest,
 use Rattle.cmh_rw.specs.declared.row.Row.{Row}
 use Rattle.cmh_rw.specs.History.{fold_at, row_code}
 use Rattle.cmh_rw.specs.View.{row}
-use Rattle.cmh_board.specs.Board.{unposted, rows_of, with_posting, times}
+use Rattle.cmh_board.specs.Board.{unposted, rows_of, with_posting, row_times}
 use Rattle.cmh_board.specs.Posting.{PostingValue, posting_of}
 use Rattle.cmh_board.specs.Snap.{verdict_at}
 
@@ -44,10 +44,10 @@ known_of_q = refl
 unknown_of_r : fold_at p_and_q 2 ≡ None
 unknown_of_r = refl
 
-stands_once : times 1 p_and_q ≡ 1
+stands_once : row_times 1 p_and_q ≡ 1
 stands_once = refl
 
-stands_nowhere : times 2 p_and_q ≡ 0
+stands_nowhere : row_times 2 p_and_q ≡ 0
 stands_nowhere = refl
 
 -- the row of process 0 alone, which is free, is stored as 3

@@ -10,7 +10,7 @@ use Rattle.cmh_graph.proofs.Verdicts.{verdict_true}
 use Rattle.cmh_run.proofs.Configurations.{by_test}
 use Rattle.cmh_rw.specs.declared.row.Row.{Row}
 use Rattle.cmh_rw.specs.History.{fold_at, IsTrueOf}
-use Rattle.cmh_board.specs.Board.{times}
+use Rattle.cmh_board.specs.Board.{row_times}
 
 -- ---- what rows say of a process
 
@@ -48,28 +48,28 @@ truth_in g rows p (Some v) within t e =
 
 -- a row in front adds 1 to how often its own process stands, and nothing for another
 times-cons : (r : Row) (rs : List Row) (p : ℕ)
-    → times p (r ∷ rs) ≡ cond {A = ℕ} (eqb r.process p) 1 0 + times p rs
+    → row_times p (r ∷ rs) ≡ cond {A = ℕ} (eqb r.process p) 1 0 + row_times p rs
 times-cons r rs p =
     sum_by-append (λ (x : Row). cond {A = ℕ} (eqb x.process p) 1 0) (r ∷ []) rs
-    ∙ ap (λ n. n + times p rs) (zero-add (cond {A = ℕ} (eqb r.process p) 1 0))
+    ∙ ap (λ n. n + row_times p rs) (zero-add (cond {A = ℕ} (eqb r.process p) 1 0))
 
 -- a process of which the rows say nothing stands nowhere in them
-times-absent : (rows : List Row) (p : ℕ) → fold_at rows p ≡ None → times p rows ≡ 0
+times-absent : (rows : List Row) (p : ℕ) → fold_at rows p ≡ None → row_times p rows ≡ 0
 times-absent [] p e = refl
 times-absent (r ∷ rs) p e = times-cons r rs p ∙
     by_test (eqb r.process p)
-    (λ b. cond b (Some r.verdict) (fold_at rs p) ≡ None → cond {A = ℕ} b 1 0 + times p rs ≡ 0)
+    (λ b. cond b (Some r.verdict) (fold_at rs p) ≡ None → cond {A = ℕ} b 1 0 + row_times p rs ≡ 0)
     (λ yes h. absurd (cc))
     (λ no h. let rest = times-absent rs p h in omega arith)
     e
 
 -- in true rows a process of which something is said stands once
 pub times-present : (g : Graph) (rows : List Row) (p : ℕ) (v : Verdict) → IsTrueOf g rows
-    → fold_at rows p ≡ Some v → times p rows ≡ 1
+    → fold_at rows p ≡ Some v → row_times p rows ≡ 1
 times-present g [] p v t e = absurd (cc)
 times-present g (r ∷ rs) p v t e = times-cons r rs p ∙
     by_test (eqb r.process p)
-    (λ b. cond b (Some r.verdict) (fold_at rs p) ≡ Some v → cond {A = ℕ} b 1 0 + times p rs ≡ 1)
+    (λ b. cond b (Some r.verdict) (fold_at rs p) ≡ Some v → cond {A = ℕ} b 1 0 + row_times p rs ≡ 1)
     (λ yes h. let none = ap (fold_at rs) (sym (eqb-true r.process p yes)) ∙ t.2 in
     let rest = times-absent rs p none in omega arith)
     (λ no h. let rest = times-present g rs p v t.3 h in omega arith)

@@ -12,7 +12,7 @@ use Rattle.cmh_run.proofs.Configurations.{by_test}
 use Rattle.cmh_rw.specs.declared.row.Row.{Row}
 use Rattle.cmh_rw.specs.History.{fold_at, IsOpen, EndsLast, IsPosting, IsHistory, IsTrueOf, AreTold}
 use Rattle.cmh_rw.specs.View.{row, mark}
-use Rattle.cmh_board.specs.Board.{is_empty, rows_of, unposted, times}
+use Rattle.cmh_board.specs.Board.{is_empty, rows_of, unposted, row_times}
 use Rattle.cmh_board.specs.Adding.{marks, CanPost}
 use Rattle.cmh_rw.proofs.Folds.{fold-skip, true-snoc}
 use Rattle.cmh_rw.proofs.Postings.{laid-snoc, whole-snoc}
@@ -187,7 +187,7 @@ said_behind g v ps xs t can p c =
 -- with the new rows of a posting behind a true history, each process of the posting stands once
 pub once_behind : (g : Graph) (v : Verdict) (ps : List ℕ) (xs : List Row) → IsTrueOf g xs
     → CanPost g v ps → (p : ℕ) → Contains ps p
-    → times p (xs ++ rows_of v (unposted xs ps)) ≡ 1
+    → row_times p (xs ++ rows_of v (unposted xs ps)) ≡ 1
 once_behind g v ps xs t can p c =
     times-present g (xs ++ rows_of v (unposted xs ps)) p v (true_behind g v ps xs t can)
     (said_behind g v ps xs t can p c)

@@ -10,7 +10,7 @@ use Rattle.cmh_rw.specs.declared.row.Row.{Row}
 use Rattle.cmh_rw.specs.declared.view.View.{View}
 use Rattle.cmh_rw.specs.History.{fold_at, IsHistory, IsTrueOf}
 use Rattle.cmh_rw.specs.View.{mark}
-use Rattle.cmh_board.specs.Board.{unposted, rows_of, with_posting, times}
+use Rattle.cmh_board.specs.Board.{unposted, rows_of, with_posting, row_times}
 use Rattle.cmh_board.specs.Posting.{PostingValue}
 
 -- each of the processes is idle
@@ -63,7 +63,7 @@ pub record Adds (t : PostingValue) (v w : View) : Type 0 where
   pub lock : w.lock ≡ v.lock
   pub staged : w.staged ≡ []
   pub loads : v.loads < w.loads
-  pub once : (p : ℕ) → Contains t.processes p → times p w.seen ≡ 1
+  pub once : (p : ℕ) → Contains t.processes p → row_times p w.seen ≡ 1
   pub says : (p : ℕ) → Contains t.processes p → fold_at w.seen p ≡ Some t.verdict
   pub whole : IsHistory w.seen
   pub true_of : IsTrueOf v.lock.graph w.seen

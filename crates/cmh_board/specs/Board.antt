@@ -125,8 +125,8 @@ with_posting postings [] = postings
 with_posting postings (r ∷ rs) = postings ++ (r ∷ rs) ∷ []
 
 -- how often p stands in the rows
-abbrev pub times : ℕ → List Row → ℕ
-times p rows = count_by (λ r. r.process == p) rows
+abbrev pub row_times : ℕ → List Row → ℕ
+row_times p rows = count_by (λ r. r.process == p) rows
 
 -- What is told is on the board. Beside what others had added, the rows that came are those of the
 -- processes that stood in no row, and they are the seat's next posting, if there are any.
@@ -136,7 +136,7 @@ pub record Posts (t : PostingValue) (v w : View) : Type 0 where
   pub new : rows ≡ rows_of t.verdict (unposted (v.seen ++ between) t.processes)
   pub seen : w.seen ≡ (v.seen ++ between) ++ rows
   pub mine : w.mine ≡ with_posting v.mine rows
-  pub once : (p : ℕ) → Contains t.processes p → times p w.seen ≡ 1
+  pub once : (p : ℕ) → Contains t.processes p → row_times p w.seen ≡ 1
   pub says : (p : ℕ) → Contains t.processes p → fold_at w.seen p ≡ Some t.verdict
   pub share : w.lock.share ≡ v.lock.share
   pub graph : w.lock.graph ≡ v.lock.graph

@@ -12,7 +12,7 @@ pub record PostingValue : Type 0 where
   pub processes : List ℕ
   pub verdict : Verdict
 
--- of the deadlocked all who are engaged, of the free the initiator alone
+-- whom a verdict of a run is about: all engaged processes if it is deadlocked, else the initiator
 abbrev pub spoken_of : Verdict → List ℕ → List ℕ → List ℕ
 spoken_of Deadlocked initiator engaged = engaged
 spoken_of Free initiator engaged = initiator

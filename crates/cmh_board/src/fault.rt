@@ -20,9 +20,9 @@ pub enum BoardFault {
 
 impl fmt::Display for BoardFault {
     ghost use Rattle.std.specs.Prelude.{Some};
-    ghost use Rattle.cmh_board.specs.Fault.{fault_text};
+    ghost use Rattle.cmh_board.specs.Fault.{board_fault_text};
 
-    ghost output = { λ e. Some (fault_text e) };
+    ghost output = { λ e. Some (board_fault_text e) };
 
     fn fmt<W: fmt::Write>(&self, f: &mut fmt::Formatter<W>) -> fmt::Result {
         match self {

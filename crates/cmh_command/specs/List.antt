@@ -44,7 +44,7 @@ IsFirstListFault text TooManyNumbers =
 IsFirstListFault text Memory = ⊥
 
 -- what is printed of a fault
-abbrev pub fault_text : ListFault → List ℕ
-fault_text (BadNumber i) = codes "bad number " ++ decimal i
-fault_text TooManyNumbers = codes "too many numbers"
-fault_text Memory = codes "out of memory"
+abbrev pub list_fault_text : ListFault → List ℕ
+list_fault_text (BadNumber i) = codes "bad number " ++ decimal i
+list_fault_text TooManyNumbers = codes "too many numbers"
+list_fault_text Memory = codes "out of memory"

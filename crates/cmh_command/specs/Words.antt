@@ -52,8 +52,8 @@ program = with_subcommand (with_subcommand top_app analyse_app.top) trace_app.to
 -- ---- what the words ask for
 
 -- what stands with an option or a name, the empty text where it isn't given
-abbrev pub text_of : List ℕ → List Row → Text
-text_of name options = unwrap_or (first_of name options) []
+abbrev pub given_text : List ℕ → List Row → Text
+given_text name options = unwrap_or (first_of name options) []
 
 -- the number of workers is written as in a list, and fits; without the option it is the default
 abbrev pub HasWorkers : ℕ → List Row → Type 0
@@ -69,12 +69,12 @@ HasBadWorkers options = (text : Text) × (first_of (codes "workers") options ≡
 pub record ArePlanWords (words : PlanWords) (options : List Row) : Type 0 where
   pub workers : HasWorkers words.workers options
   pub cuts : option_map (λ text. text.now) words.cuts ≡ first_of (codes "cuts") options
-  pub choices : words.choices.now ≡ text_of (codes "choices") options
+  pub choices : words.choices.now ≡ given_text (codes "choices") options
 
 -- the name and the choices of a trace are these
 pub record AreTraceWords (name choices : Text) (options : List Row) : Type 0 where
-  pub named : name ≡ text_of (codes "NAME") options
-  pub listed : choices ≡ text_of (codes "choices") options
+  pub named : name ≡ given_text (codes "NAME") options
+  pub listed : choices ≡ given_text (codes "choices") options
 
 -- what is asked for by the command `analyse` with these options
 abbrev pub IsAnalysis : List Row → Request → Type 0

@@ -23,9 +23,9 @@ pub enum ListFault {
 
 impl fmt::Display for ListFault {
     ghost use Rattle.std.specs.Prelude.{Some};
-    ghost use Rattle.cmh_command.specs.List.{fault_text};
+    ghost use Rattle.cmh_command.specs.List.{list_fault_text};
 
-    ghost output = { λ e. Some (fault_text e) };
+    ghost output = { λ e. Some (list_fault_text e) };
 
     fn fmt<W: fmt::Write>(&self, f: &mut fmt::Formatter<W>) -> fmt::Result {
         match self {

@@ -53,5 +53,5 @@ place_text None = []
 place_text (Some i) = codes " " ++ decimal i
 
 -- what is printed of a fault
-abbrev pub fault_text : DumpFault → List ℕ
-fault_text fault = kind_text fault ++ place_text (first_place fault) ++ place_text (second_place fault)
+abbrev pub dump_fault_text : DumpFault → List ℕ
+dump_fault_text fault = kind_text fault ++ place_text (first_place fault) ++ place_text (second_place fault)

@@ -134,9 +134,9 @@ impl fmt::Display for Place {
 
 impl fmt::Display for DumpFault {
     ghost use Rattle.std.specs.Prelude.{Some};
-    ghost use Rattle.cmh_dump.specs.Fault.{fault_text};
+    ghost use Rattle.cmh_dump.specs.Fault.{dump_fault_text};
 
-    ghost output = { λ e. Some (fault_text e) };
+    ghost output = { λ e. Some (dump_fault_text e) };
 
     fn fmt<W: fmt::Write>(&self, f: &mut fmt::Formatter<W>) -> fmt::Result {
         let (first, second) = (Place(self.first_place()), Place(self.second_place()));

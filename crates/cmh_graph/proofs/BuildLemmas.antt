@@ -12,7 +12,7 @@ use Rattle.cmh_graph.specs.declared.fault.GraphFault.TheVariants.{TooManyProcess
 use Rattle.cmh_graph.specs.Build.{graph_fault_rank, dependent_count, message_at, HasGraphFault, IsFirstGraphFault, IsWellFormed, WellFormedLaw}
 use Rattle.cmh_graph.specs.First.{comes_before}
 use Rattle.cmh_graph.specs.Graph.{Process, Graph, process_count, dependents_of, is_idle, nobody, dependent_at, IsWithinGraph}
-use Rattle.cmh_graph.specs.Judge.{IsFirst, IsFirstEntry}
+use Rattle.cmh_graph.specs.Judge.{IsFirst, IsFirstDependent}
 
 -- in a graph without a fault an active process has no dependents
 empty_by : (g : Graph) (i : ℕ) (ds : List ℕ) → dependents_of g i ≡ ds → is_idle g i ≡ false
@@ -90,7 +90,7 @@ pair_first k i j a b (inr h) = rw (cmp_same k, sym (nat_cmp_is a i Equal (sym h.
 
 -- where no fault of an earlier kind holds, none comes before the first repeated dependent
 first_repeat_by : (g : Graph) (i j : ℕ) → process_count g ≤ MAX_PROCESSES → dependent_count g ≤ MAX_DEPENDENCIES
-    → IsWithinGraph g → IsFirstEntry (λ i j. HasGraphFault g (RepeatedDependent i j)) i j → (other : GraphFault)
+    → IsWithinGraph g → IsFirstDependent (λ i j. HasGraphFault g (RepeatedDependent i j)) i j → (other : GraphFault)
     → HasGraphFault g other
     → IsFalse (comes_before (graph_fault_rank other) (graph_fault_rank (RepeatedDependent i j)))
 first_repeat_by g i j np nd nr f TooManyProcesses h = absurd (omega (arith, np, h))
@@ -104,7 +104,7 @@ first_repeat_by g i j np nd nr f Memory h = absurd h
 
 -- where no fault of an earlier kind holds, the first repeated dependent is the first fault of the graph
 pub first_repeat : (g : Graph) (i j : ℕ) → process_count g ≤ MAX_PROCESSES → dependent_count g ≤ MAX_DEPENDENCIES
-    → IsWithinGraph g → IsFirstEntry (λ i j. HasGraphFault g (RepeatedDependent i j)) i j
+    → IsWithinGraph g → IsFirstDependent (λ i j. HasGraphFault g (RepeatedDependent i j)) i j
     → IsFirstGraphFault g (RepeatedDependent i j)
 first_repeat g i j np nd nr f = record { had = f.holds; first = first_repeat_by g i j np nd nr f }
 

@@ -8,7 +8,7 @@ use Rattle.cmh_graph.specs.declared.part.Part.{Part}
 use Rattle.cmh_graph.specs.declared.fault.GraphFault.TheVariants.{DependentOutOfRange, RepeatedDependent, TransitOutOfRange}
 use Rattle.cmh_graph.specs.Build.{process_of, parts_graph, HasGraphFault}
 use Rattle.cmh_graph.specs.Graph.{process_count, dependents_of, is_idle, is_idle_state, nobody, IsWithinGraph}
-use Rattle.cmh_graph.specs.Judge.{IsAtLeast, IsFirst, IsFirstEntry, IsRepeat}
+use Rattle.cmh_graph.specs.Judge.{IsAtLeast, IsFirst, IsFirstDependent, IsRepeat}
 use Rattle.cmh_graph.specs.Search.{is_marked}
 use Rattle.cmh_graph.proofs.LevelSearch.{marked_within}
 use Rattle.cmh_graph.proofs.PositionLemmas.{taken_last, taken_more, taken_stays}
@@ -30,19 +30,19 @@ first_place P i before h = record {
   first = λ k g. elim (cases_lt k i) [ inl m ↦ absurd (before k m g) | inr m ↦ m ];
 }
 
--- what holds at no entry of a process before i, nor at one of i, holds at no entry before i + 1
-entries_more : (P : ℕ → ℕ → Type 0) (i : ℕ) → ((k j : ℕ) → k < i → P k j → ⊥) → ((j : ℕ) → P i j → ⊥) → (k j : ℕ)
+-- what holds at no dependent of a process before i, nor at one of i, holds at no dependent before i + 1
+dependents_more : (P : ℕ → ℕ → Type 0) (i : ℕ) → ((k j : ℕ) → k < i → P k j → ⊥) → ((j : ℕ) → P i j → ⊥) → (k j : ℕ)
     → k < i + 1 → P k j → ⊥
-entries_more P i before here k j l h =
+dependents_more P i before here k j l h =
     elim (cases_lt k i) [
       | inl m ↦ before k j m h
       | inr m ↦ let same : k ≡ i = omega (arith, m, l) in here j (subst (λ z. P z j) same h)
     ]
 
--- what holds at an entry of i, and nowhere before, holds first there
-first_entry : (P : ℕ → ℕ → Type 0) (i j : ℕ) → ((k l : ℕ) → k < i → P k l → ⊥) → P i j → ((l : ℕ) → P i l → j ≤ l)
-    → IsFirstEntry P i j
-first_entry P i j before h least = record {
+-- what holds at a dependent of i, and nowhere before, holds first there
+first_dependent : (P : ℕ → ℕ → Type 0) (i j : ℕ) → ((k l : ℕ) → k < i → P k l → ⊥) → P i j → ((l : ℕ) → P i l → j ≤ l)
+    → IsFirstDependent P i j
+first_dependent P i j before h least = record {
   holds = h;
   first = λ k l g. elim (cases_order k i) [
     | inl same ↦ inr (sym same, least l (subst (λ z. P z l) same g))
@@ -69,26 +69,26 @@ pub idle_at : (parts : List Part) (t : List (ℕ × ℕ)) (i : ℕ) (part : Part
 idle_at parts t i part e l = ap (λ p. is_idle_state p.state) e
     ∙ sym (ap (λ p. is_idle_state p.state) (get_or-map process_of parts i part nobody l))
 
--- ---- entries out of range
+-- ---- dependents out of range
 
--- a dependent out of range is an entry of its row that is too large
+-- a dependent out of range is a dependent of its row that is too large
 then_out : (parts : List Part) (i j : ℕ) (row : List ℕ) → row ≡ dependents_of (parts_graph parts []) i
     → HasGraphFault (parts_graph parts []) (DependentOutOfRange i j) → IsAtLeast (length parts) row j
 then_out parts i j row same h =
     subst (λ r. IsAtLeast (length parts) r j) (sym same) (h.0.1, omega (arith, h.1, as_many parts))
 
--- where no row before i has an entry out of range, nor has row i, none before i + 1 has
+-- where no row before i has a dependent out of range, nor has row i, none before i + 1 has
 pub out_more : (parts : List Part) (i : ℕ) (row : List ℕ) → row ≡ dependents_of (parts_graph parts []) i
     → ((k j : ℕ) → k < i → HasGraphFault (parts_graph parts []) (DependentOutOfRange k j) → ⊥)
     → ((j : ℕ) → IsAtLeast (length parts) row j → ⊥) → (k j : ℕ) → k < i + 1
     → HasGraphFault (parts_graph parts []) (DependentOutOfRange k j) → ⊥
 out_more parts i row same before none =
-    entries_more (λ k j. HasGraphFault (parts_graph parts []) (DependentOutOfRange k j)) i before
+    dependents_more (λ k j. HasGraphFault (parts_graph parts []) (DependentOutOfRange k j)) i before
     (λ j h. none j (then_out parts i j row same h))
 
 -- ---- repeats
 
--- The first n entries are marked, and none of them equals an earlier one.
+-- The first n dependents are marked, and none of them equals an earlier one.
 pub record SeenUpTo (n : ℕ) (list : List ℕ) (count : ℕ) (seen : List Bool) : Type 0 where
   pub size : length seen ≡ count
   pub marked : (r : ℕ) → is_marked seen r ≡ true → Contains (take n list) r
@@ -110,7 +110,7 @@ stamped_read : (stamp : ℕ) (stamps : List ℕ) (r : ℕ) → r < length stamps
     → is_marked (stamped stamp stamps) r ≡ eqb (get_or stamps r 0) stamp
 stamped_read stamp stamps r l = get_or-map (λ s. eqb s stamp) stamps r 0 false l
 
--- where a stamp is above all that stand, no entry is marked by it yet
+-- where a stamp is above all that stand, no dependent is marked by it yet
 pub seen_none : (list : List ℕ) (stamp : ℕ) (stamps : List ℕ) → All (λ s. s < stamp) stamps
     → SeenUpTo 0 list (length stamps) (stamped stamp stamps)
 seen_none list stamp stamps fresh = record {
@@ -124,13 +124,13 @@ seen_none list stamp stamps fresh = record {
   none = λ j l h. absurd (omega (arith, l));
 }
 
--- the first n entries of a list have the entry at each place before n
+-- the first n dependents of a list have the dependent at each place before n
 contains_taken : (list : List ℕ) (n k : ℕ) → k < n → k < length list → Contains (take n list) (get_or list k 0)
 contains_taken list n k l m =
     let size : k < length (take n list) = omega (arith, length-take n list, l, m) in
     subst (λ x. Contains (take n list) x) (get_or-take n list k 0 l) (Contains-get_or (take n list) k 0 size)
 
--- what the first n entries of a list have stands at a place before n
+-- what the first n dependents of a list have stands at a place before n
 taken_at : (list : List ℕ) (n r : ℕ) → Contains (take n list) r
     → (k : ℕ) × (k < n) × (k < length list) × (get_or list k 0 ≡ r)
 taken_at list n r c =
@@ -138,14 +138,14 @@ taken_at list n r c =
     let m : c.0 < length list = omega (arith, c.1, length-take n list) in
     (c.0, l, m, sym (get_or-take n list c.0 0 l) ∙ get_or_default (take n list) c.0 0 r c.1 ∙ c.2)
 
--- a marked entry is a repeat
+-- a marked dependent is a repeat
 seen_repeat : (list : List ℕ) (n count : ℕ) (seen : List Bool) → n < length list → SeenUpTo n list count seen
     → is_marked seen (get_or list n 0) ≡ true → IsRepeat list n
 seen_repeat list n count seen l s m =
     let t = taken_at list n (get_or list n 0) (s.marked (get_or list n 0) m) in
     (l, t.0, t.1, t.3)
 
--- an unmarked entry is no repeat, and is marked next
+-- an unmarked dependent is no repeat, and is marked next
 pub seen_more : (list : List ℕ) (n count : ℕ) (seen : List Bool) → n < length list → SeenUpTo n list count seen
     → get_or list n 0 < count → is_marked seen (get_or list n 0) ≡ false
     → SeenUpTo (n + 1) list count (set seen (get_or list n 0) true)
@@ -177,7 +177,7 @@ seen_more list n count seen l s m f =
       ];
     }
 
--- an entry whose place has the stamp already is a repeat
+-- a dependent whose place has the stamp already is a repeat
 pub stamp_repeat : (list : List ℕ) (n stamp : ℕ) (stamps : List ℕ) → n < length list → get_or list n 0 < length stamps
     → SeenUpTo n list (length stamps) (stamped stamp stamps) → get_or stamps (get_or list n 0) 0 ≡ stamp
     → IsRepeat list n
@@ -185,7 +185,7 @@ stamp_repeat list n stamp stamps l m s e =
     seen_repeat list n (length stamps) (stamped stamp stamps) l s
     (stamped_read stamp stamps (get_or list n 0) m ∙ eq-eqb (get_or stamps (get_or list n 0) 0) stamp e)
 
--- an entry whose place doesn't have the stamp is no repeat, and its place is stamped next
+-- a dependent whose place doesn't have the stamp is no repeat, and its place is stamped next
 pub stamp_more : (list : List ℕ) (n stamp : ℕ) (stamps : List ℕ) → n < length list → get_or list n 0 < length stamps
     → SeenUpTo n list (length stamps) (stamped stamp stamps) → (get_or stamps (get_or list n 0) 0 ≡ stamp → ⊥)
     → SeenUpTo (n + 1) list (length (set stamps (get_or list n 0) stamp))
@@ -215,15 +215,16 @@ pub repeat_more : (parts : List Part) (i : ℕ) (row : List ℕ) → row ≡ dep
     → ((j : ℕ) → IsRepeat row j → ⊥)
     → (k j : ℕ) → k < i + 1 → HasGraphFault (parts_graph parts []) (RepeatedDependent k j) → ⊥
 repeat_more parts i row same before none =
-    entries_more (λ k j. HasGraphFault (parts_graph parts []) (RepeatedDependent k j)) i before
+    dependents_more (λ k j. HasGraphFault (parts_graph parts []) (RepeatedDependent k j)) i before
     (λ j h. none j (then_repeat parts i j row same h))
 
 -- the first repeat of the first row that has one is the first repeated dependent of the graph
 pub repeat_first : (parts : List Part) (i j : ℕ) (row : List ℕ) → row ≡ dependents_of (parts_graph parts []) i
     → i < length parts → ((k j : ℕ) → k < i → HasGraphFault (parts_graph parts []) (RepeatedDependent k j) → ⊥)
-    → IsFirst (IsRepeat row) j → IsFirstEntry (λ k l. HasGraphFault (parts_graph parts []) (RepeatedDependent k l)) i j
+    → IsFirst (IsRepeat row) j
+    → IsFirstDependent (λ k l. HasGraphFault (parts_graph parts []) (RepeatedDependent k l)) i j
 repeat_first parts i j row same l before f =
-    first_entry (λ k l. HasGraphFault (parts_graph parts []) (RepeatedDependent k l)) i j before
+    first_dependent (λ k l. HasGraphFault (parts_graph parts []) (RepeatedDependent k l)) i j before
     (repeat_then parts i j row same l f.holds) (λ m h. f.first m (then_repeat parts i m row same h))
 
 -- where no row of a part has a repeat, the graph has no repeated dependent
@@ -232,7 +233,7 @@ pub repeat_none : (parts : List Part) (n : ℕ) → length parts ≤ n
     → HasGraphFault (parts_graph parts []) (RepeatedDependent i j) → ⊥
 repeat_none parts n l before i j h = before i j (omega (arith, h.0.0, as_many parts, l)) h
 
--- where each dependent is a process of the graph, the entries of a row are below the number of parts
+-- where each dependent is a process of the graph, the dependents of a row are below the number of parts
 pub row_within : (parts : List Part) (i : ℕ) (row : List ℕ) → row ≡ dependents_of (parts_graph parts []) i
     → i < length parts → IsWithinGraph (parts_graph parts []) → (k d : ℕ) → k < length row
     → get_or row k d < length parts
@@ -246,8 +247,8 @@ row_within parts i row same l w k d m =
 -- ---- counts and messages
 
 -- where the test for more than a limit fails, the count is within the limit
-pub few_entries : (n m : ℕ) → (false ≡ true) ↔ (m < n) → n ≤ m
-few_entries n m h = elim (cases_lt m n) [
+pub few_dependents : (n m : ℕ) → (false ≡ true) ↔ (m < n) → n ≤ m
+few_dependents n m h = elim (cases_lt m n) [
   | inl l ↦ let bad = h.1 l in absurd cc
   | inr l ↦ l
 ]

@@ -28,7 +28,7 @@ dependent_count g = sum_by (λ p. length p.dependents) g.processes
 abbrev pub message_at : Graph → ℕ → ℕ × ℕ
 message_at g i = slice_index_or g.in_transit i (0, 0)
 
--- the graph has no process at that place
+-- the graph has no process of that index
 abbrev pub IsOutOfRange : Graph → ℕ → Type 0
 IsOutOfRange g p = process_count g ≤ p
 

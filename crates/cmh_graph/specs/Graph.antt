@@ -5,20 +5,20 @@ use Rattle.cmh_graph.specs.declared.part.State.{State}
 use Rattle.cmh_graph.specs.declared.part.State.TheVariants.{Idle, Active}
 
 -- A process. Its dependents are the processes from any one of which a message lets it go on, by
--- their places in the dump.
+-- their indices.
 pub record Process : Type 0 where
   pub name : List ℕ
   pub site : ℕ
   pub state : State
   pub dependents : List ℕ
 
--- A wait graph: the processes of a dump in its order, and the messages in transit, each by the
--- places of its sender and its receiver.
+-- A wait graph: the processes of a dump in its order, where each has its index, from 0; and the
+-- messages in transit, each by the indices of its sender and its receiver.
 pub record Graph : Type 0 where
   pub processes : List Process
   pub in_transit : List (ℕ × ℕ)
 
--- what stands at a place past the end: an active process that waits for nobody
+-- what stands at an index past the end: an active process that waits for nobody
 abbrev pub nobody : Process
 nobody = record { name = []; site = 0; state = Active; dependents = [] }
 
@@ -71,7 +71,7 @@ Depends g p r = IsTrue (is_idle g p) × Contains (dependents_of g p) r
 abbrev pub dependencies_of : Graph → ℕ → List ℕ
 dependencies_of g p = if is_idle g p then dependents_of g p else []
 
--- the places of all processes
+-- the indices of all processes
 abbrev pub indices : Graph → List ℕ
 indices g = range_with_len 0 (process_count g)
 

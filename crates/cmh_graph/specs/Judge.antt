@@ -8,15 +8,15 @@ pub record IsFirst (Holds : ℕ → Type 0) (i : ℕ) : Type 0 where
 
 -- a condition of dependents holds at dependent j of i, at no earlier one of i, and at none of a process
 -- before i
-pub record IsFirstEntry (Holds : ℕ → ℕ → Type 0) (i j : ℕ) : Type 0 where
+pub record IsFirstDependent (Holds : ℕ → ℕ → Type 0) (i j : ℕ) : Type 0 where
   pub holds : Holds i j
   pub first : (k l : ℕ) → Holds k l → (i < k) ⊎ ((i ≡ k) × (j ≤ l))
 
--- the list has an entry j, which is the bound or more
+-- the list has a dependent j, which is the bound or more
 abbrev pub IsAtLeast : ℕ → List ℕ → ℕ → Type 0
 IsAtLeast bound list j = (j < length list) × (bound ≤ slice_index list j)
 
--- the list has an entry j, which equals an earlier one
+-- the list has a dependent j, which equals an earlier one
 abbrev pub IsRepeat : List ℕ → ℕ → Type 0
 IsRepeat list j =
     (j < length list) × (k : ℕ) × (k < j) × (slice_index list k ≡ slice_index list j)

@@ -12,11 +12,11 @@ use std::fmt;
 pub enum GraphFault {
     /// There are more than `MAX_PROCESSES` parts.
     TooManyProcesses,
-    /// The dependent sets have more than `MAX_DEPENDENCIES` entries together.
+    /// The dependent sets have more than `MAX_DEPENDENCIES` dependents together.
     TooManyDependencies,
-    /// Of this part this entry names no part.
+    /// Of this part this dependent names no part.
     DependentOutOfRange(usize, usize),
-    /// Of this part this entry equals an earlier one.
+    /// Of this part this dependent equals an earlier one.
     RepeatedDependent(usize, usize),
     /// This part is active and has dependents.
     ActiveWithDependents(usize),
@@ -30,9 +30,9 @@ pub enum GraphFault {
 
 impl fmt::Display for GraphFault {
     ghost use Rattle.std.specs.Prelude.{Some};
-    ghost use Rattle.cmh_graph.specs.Fault.{fault_text};
+    ghost use Rattle.cmh_graph.specs.Fault.{graph_fault_text};
 
-    ghost output = { λ e. Some (fault_text e) };
+    ghost output = { λ e. Some (graph_fault_text e) };
 
     fn fmt<W: fmt::Write>(&self, f: &mut fmt::Formatter<W>) -> fmt::Result {
         match self {

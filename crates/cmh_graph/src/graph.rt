@@ -21,7 +21,7 @@ use std::alloc::{AllocError, Global};
 use std::marker::Model;
 
 /// A wait graph: who waits for whom, and which messages are in transit. Processes are named by
-/// their places in the dump, from 0.
+/// their indices in the dump, from 0.
 #[derive(Debug, Drop)]
 pub struct WaitGraph {
     parts: Vec<Part>,
@@ -54,7 +54,7 @@ impl WaitGraph {
 
     /// The graph of the parts, with messages in transit, each by its sender and its receiver. A
     /// message may be there more than once. Neither names nor sites are judged. It takes time linear
-    /// in parts, entries and, for each message, the dependents of its receiver.
+    /// in parts, dependents and, for each message, the dependents of its receiver.
     pub fn build_with(
         alloc: Global,
         parts: Vec<Part>,

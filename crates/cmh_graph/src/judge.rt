@@ -4,7 +4,7 @@ ghost use Rattle.std.specs.Prelude.{◌≡◌, ◌⊎◌, ◌<◌, ◌≤◌, �
 ghost use Rattle.cmh_graph.specs.declared.fault.GraphFault.TheVariants.{DependentOutOfRange, RepeatedDependent, ActiveWithDependents};
 ghost use Rattle.cmh_graph.specs.Graph.{IsWithinGraph};
 ghost use Rattle.cmh_graph.specs.Build.{dependent_count, parts_graph, HasGraphFault, IsFirstGraphFault, IsWellFormed};
-ghost use Rattle.cmh_graph.specs.Judge.{IsAtLeast, IsFirst, IsFirstEntry, IsRepeat};
+ghost use Rattle.cmh_graph.specs.Judge.{IsAtLeast, IsFirst, IsFirstDependent, IsRepeat};
 
 use crate::{GraphFault, MAX_DEPENDENCIES, MAX_IN_TRANSIT, MAX_PROCESSES, Part, State};
 use std::alloc::{AllocError, Global};
@@ -43,7 +43,7 @@ pub(crate) fn judge(
     }
 }
 
-/// Whether the dependent sets have more than `MAX_DEPENDENCIES` entries together.
+/// Whether the dependent sets have more than `MAX_DEPENDENCIES` dependents together.
 fn has_too_many_dependents(parts: &[Part]) -> bool
     ensures { IsTrue result ↔ (MAX_DEPENDENCIES < dependent_count (parts_graph parts.now [])) }
 {
@@ -57,9 +57,9 @@ fn has_too_many_dependents(parts: &[Part]) -> bool
     false
 }
 
-/// The first entry that names no part, by the places of the part and of the entry.
+/// The first dependent that names no part, by the places of the part and of the dependent.
 fn out_of_range(parts: &[Part]) -> Option<(usize, usize)>
-    ensures some { IfSome result (λ at. IsFirstEntry
+    ensures some { IfSome result (λ at. IsFirstDependent
         (λ i j. HasGraphFault (parts_graph parts.now []) (DependentOutOfRange i j)) at.0 at.1) }
     ensures none { IfNone result (IsWithinGraph (parts_graph parts.now [])) }
 {
@@ -71,24 +71,24 @@ fn out_of_range(parts: &[Part]) -> Option<(usize, usize)>
     None
 }
 
-/// The first entry that is `bound` or more.
+/// The first dependent that is `bound` or more.
 fn first_at_least(bound: usize, list: &[u32]) -> Option<usize>
     ensures some { IfSome result (IsFirst (IsAtLeast bound list.now)) }
     ensures none { IfNone result ((j : ℕ) → IsAtLeast bound list.now j → ⊥) }
 {
-    for (j, entry) in list.iter().enumerate() {
-        if *entry as usize >= bound {
+    for (j, dependent) in list.iter().enumerate() {
+        if *dependent as usize >= bound {
             return Some(j);
         }
     }
     None
 }
 
-/// The first entry that equals an earlier one of its part, by the places of the part and of the
-/// entry. Each process keeps the number of the last part that named it, counted from 1.
+/// The first dependent that equals an earlier one of its part, by the places of the part and of the
+/// dependent. Each process keeps the number of the last part that named it, counted from 1.
 fn repeated(alloc: Global, parts: &[Part]) -> Result<Option<(usize, usize)>, AllocError>
     requires { IsWithinGraph (parts_graph parts.now []) }
-    ensures some { IfOk result (λ found. IfSome found (λ at. IsFirstEntry
+    ensures some { IfOk result (λ found. IfSome found (λ at. IsFirstDependent
         (λ i j. HasGraphFault (parts_graph parts.now []) (RepeatedDependent i j)) at.0 at.1)) }
     ensures none { IfOk result (λ found. IfNone found
         ((i j : ℕ) → HasGraphFault (parts_graph parts.now []) (RepeatedDependent i j) → ⊥)) }
@@ -102,7 +102,7 @@ fn repeated(alloc: Global, parts: &[Part]) -> Result<Option<(usize, usize)>, All
     Ok(None)
 }
 
-/// The first entry that equals an earlier one. The places that the list names are stamped.
+/// The first dependent that equals an earlier one. The places that the list names are stamped.
 fn first_repeat(stamp: usize, list: &[u32], stamps: &mut [usize]) -> Option<usize>
     requires within { All (λ r. r < length stamps.old) list.now }
     requires fresh { All (λ s. s < stamp) stamps.old }
@@ -110,11 +110,11 @@ fn first_repeat(stamp: usize, list: &[u32], stamps: &mut [usize]) -> Option<usiz
     ensures none { IfNone result ((j : ℕ) → IsRepeat list.now j → ⊥) }
     ensures stamps { All (λ s. s ≤ stamp) stamps.new }
 {
-    for (j, entry) in list.iter().enumerate() {
-        if stamps[*entry as usize] == stamp {
+    for (j, dependent) in list.iter().enumerate() {
+        if stamps[*dependent as usize] == stamp {
             return Some(j);
         }
-        stamps[*entry as usize] = stamp;
+        stamps[*dependent as usize] = stamp;
     }
     None
 }

@@ -25,7 +25,7 @@ pub use verdict::Verdict;
 /// The most processes that a graph may have.
 pub const MAX_PROCESSES: usize = 4_096;
 
-/// The most entries that all dependent sets may have together.
+/// The most dependents that all dependent sets may have together.
 pub const MAX_DEPENDENCIES: usize = 65_536;
 
 /// The most messages that may be in transit.

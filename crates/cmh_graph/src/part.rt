@@ -9,7 +9,7 @@ pub enum State {
     Active,
 }
 
-/// One process of a dump. Processes are named by their places in it, from 0.
+/// One process of a dump. Processes are named by their indices in it, from 0.
 #[derive(PartialEq, Eq, Debug, Drop)]
 pub struct Part {
     pub name: String,

@@ -58,7 +58,7 @@ fn empty_lists(alloc: Global, count: u32) -> Result<Vec<Vec<u32>>, AllocError>
     Ok(lists)
 }
 
-/// Adds `p` to the list of each of these places.
+/// Adds `p` to the list of each of these processes.
 fn join_each(p: u32, places: &[u32], lists: &mut [Vec<u32>]) -> Result<(), AllocError>
     requires { All (λ r. r < length lists.old) places.now }
     ensures { OnOk result (JoinsEach p places.now lists.old lists.new) }

@@ -7,7 +7,7 @@ ghost use Rattle.cmh_graph.specs.Search.{is_marked, predecessors_at, IsNamedBy, 
 use crate::Predecessors;
 use std::alloc::{AllocError, Global};
 
-/// The marked places, by rising index.
+/// The marked processes, by rising index.
 #[tactic(auto, using(crate::proofs::IndexLists::filter_indices_kept, crate::proofs::IndexLists::filter_indices_passed))]
 pub(crate) fn marked(alloc: Global, marks: &[bool]) -> Result<Vec<u32>, AllocError>
     requires { length marks.now < 2 ^ 32 }
@@ -23,7 +23,7 @@ pub(crate) fn marked(alloc: Global, marks: &[bool]) -> Result<Vec<u32>, AllocErr
     Ok(list)
 }
 
-/// Marks one place of so many.
+/// Marks one process of so many.
 pub(crate) fn mark_alone(alloc: Global, count: u32, p: u32) -> Result<Vec<bool>, AllocError>
     requires { p < count }
     ensures size { IfOk result (λ marks. length marks.items ≡ count) }

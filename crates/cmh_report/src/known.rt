@@ -203,7 +203,7 @@ fn reach_of(
     marked(alloc, marks)
 }
 
-/// The marked places, by rising index.
+/// The marked processes, by rising index.
 #[tactic(auto, using(cmh_graph::proofs::IndexLists::filter_indices_kept, cmh_graph::proofs::IndexLists::filter_indices_passed))]
 fn marked(alloc: Global, marks: &[bool]) -> Result<Vec<u32>, AllocError>
     requires { length marks.now < 2 ^ 32 }

@@ -5,7 +5,7 @@ ghost use Rattle.cmh_run.specs.Packed.{CanSend, head_of, message_of};
 
 use cmh_process::{Kind, Message};
 
-/// The word of such a message to process 0. The word of one to another is greater by its place.
+/// The word of such a message to process 0. The word of one to another is greater by its index.
 #[inline(always)]
 pub(crate) fn head(kind: Kind, initiator: u32, number: u32, from: u32) -> u64
     requires { CanSend initiator number from }

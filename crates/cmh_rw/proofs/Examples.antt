@@ -103,13 +103,13 @@ posting_p_and_q :
     ≡ row 0 Deadlocked false ∷ row 1 Deadlocked true ∷ []
 posting_p_and_q = refl
 
--- of two beginnings the longer is kept
+-- of two prefixes the longer is kept
 longer_of_two : longer (row 0 Deadlocked true ∷ []) (row 0 Deadlocked true ∷ row 1 Free true ∷ [])
     ≡ row 0 Deadlocked true ∷ row 1 Free true ∷ []
 longer_of_two = refl
 
 -- ---- events on a lock with two seats: a writer has to wait for a reader, and the reader, who comes
--- again, retreats from the writer
+-- the seat retreats from the writer again
 
 -- seat 0 comes, seat 1 tries to write, seat 0 leaves, seat 1 tries again, and seat 0 comes again
 abbrev lock_events : List Event

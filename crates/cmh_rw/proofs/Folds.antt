@@ -21,7 +21,7 @@ cond-none : (b : Bool) (v : Verdict) (m n : Option Verdict) → (m ≡ None → 
 cond-none true v m n h e = e
 cond-none false v m n h e = h e
 
--- rows that say nothing of a process have a beginning that says nothing of it
+-- rows that say nothing of a process have only prefixes that say nothing of it
 fold-left : (xs ys : List Row) (p : ℕ) → fold_at (xs ++ ys) p ≡ None → fold_at xs p ≡ None
 fold-left [] ys p h = refl
 fold-left (r ∷ rs) ys p h =
@@ -87,7 +87,7 @@ fold-nothing (x ∷ xs) h =
     (sym (ap (λ b. cond b (Some x.verdict) (fold_at xs x.process)) (eq-eqb x.process x.process refl))
     ∙ h x.process))
 
--- true rows have true beginnings
+-- true rows have true prefixes
 pub true-left : (g : Graph) (xs ys : List Row) → IsTrueOf g (xs ++ ys) → IsTrueOf g xs
 true-left g [] ys h = tt
 true-left g (r ∷ rs) ys h = (h.0, h.1, fold-left rs ys r.process h.2, true-left g rs ys h.3)

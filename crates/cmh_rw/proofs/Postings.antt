@@ -24,11 +24,11 @@ pub seen-prefix : (seen : List Row) (postings : List (List Row)) → IsSeen seen
     → StartsWith (laid postings) seen
 seen-prefix seen postings h = (laid h.1, ap laid h.2 ∙ laid-append h.0 h.1 ∙ ap (λ l. l ++ laid h.1) (sym h.3))
 
--- who has seen the whole history has seen a beginning of its postings
+-- who has seen the whole history has seen a prefix of its postings
 pub all-seen : (postings : List (List Row)) → IsSeen (laid postings) postings
 all-seen postings = (postings, [], sym (append-nil postings), refl)
 
--- who has seen nothing has seen a beginning of the postings
+-- who has seen nothing has seen a prefix of the postings
 pub none-seen : (postings : List (List Row)) → IsSeen [] postings
 none-seen postings = ([], postings, refl, refl)
 
@@ -40,7 +40,7 @@ seen-grows seen xs x h = (h.0, h.1 ++ x ∷ [], ap (λ l. l ++ x ∷ []) h.2 ∙
 cons_parts : (x y : List Row) (xs ys : List (List Row)) → x ∷ xs ≡ y ∷ ys → (x ≡ y) × (xs ≡ ys)
 cons_parts x y xs ys e = (ap (λ l. get_or l 0 x) e, ap (λ l. drop 1 l) e)
 
--- of two beginnings of one list, one begins the other
+-- of two prefixes of one list, one is a prefix of the other
 prefixes : (a c b d : List (List Row)) → a ++ b ≡ c ++ d
     → ((r : List (List Row)) × (c ≡ a ++ r)) ⊎ ((r : List (List Row)) × (a ≡ c ++ r))
 prefixes [] c b d e = inl (c, refl)

@@ -64,7 +64,7 @@ pub record SeatRule (postings : List (List Row)) (staged told : List Row) (v : V
   pub bare : v.lock.state ≢ Writing → (v.staged ≡ []) × (v.told ≡ [])
   -- who has staged rows has loaded the history before
   pub ready : (v.staged ≡ []) ⊎ (v.loaded ≡ true)
-  -- what a seat has seen is a beginning of whole postings
+  -- what a seat has seen is a prefix of whole postings
   pub seen : IsSeen v.seen postings
   pub other : IsSeen v.other postings
   -- from the first load of a hold on a seat has seen the whole history

@@ -148,7 +148,7 @@ joining v w = record v {
 abbrev pub longer : List Row → List Row → List Row
 longer xs ys = if nat_lt (length xs) (length ys) then ys else xs
 
--- of two that have seen one history, the longer beginning is kept
+-- of two that have seen one history, the longer prefix is kept
 abbrev pub compared : View → View
 compared v = record v { seen = longer v.seen v.other; other = [] }
 

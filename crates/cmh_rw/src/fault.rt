@@ -18,9 +18,9 @@ pub enum RwFault {
 
 impl fmt::Display for RwFault {
     ghost use Rattle.std.specs.Prelude.{Some};
-    ghost use Rattle.cmh_rw.specs.Fault.{fault_text};
+    ghost use Rattle.cmh_rw.specs.Fault.{rw_fault_text};
 
-    ghost output = { λ e. Some (fault_text e) };
+    ghost output = { λ e. Some (rw_fault_text e) };
 
     fn fmt<W: fmt::Write>(&self, f: &mut fmt::Formatter<W>) -> fmt::Result {
         match self {

@@ -4,9 +4,10 @@ use crate::view::View;
 use atomic_table::{Join, Play, Split, TableRule};
 use cmh_graph::WaitGraph;
 
-pub(crate) struct BoardRule;
+/// The rule of all words: the lock counts its seats, and what the rows say is a history.
+pub(crate) struct HistoryRule;
 
-impl TableRule<(), View, WaitGraph> for BoardRule {
+impl TableRule<(), View, WaitGraph> for HistoryRule {
     ghost use Rattle.cmh_rw.specs.Rule.{WordsRule};
     ghost use Rattle.cmh_rw.specs.View.{opening_view};
 

@@ -7,7 +7,7 @@ ghost use Rattle.cmh_rw.specs.History.{FitsIn};
 
 use crate::row::verdict_code;
 use crate::rule::{
-    BoardRule, Compare, End, Enter, Load, Shares, StoreCount, StoreRow, StoreVerdict, Take,
+    Compare, End, Enter, HistoryRule, Load, Shares, StoreCount, StoreRow, StoreVerdict, Take,
 };
 use crate::view::View;
 use crate::{BOARD_WORDS, FIRST_ROW, FIRST_VERDICT, MAX_SEATS, ROW_COUNT, Row, RwFault, WRITER};
@@ -19,7 +19,7 @@ use std::alloc::Global;
 /// A lock, and the history of verdicts of one wait graph that it guards.
 #[derive(Drop)]
 pub struct RwWords {
-    pub(crate) table: Table<(), View, WaitGraph, BoardRule, Global>,
+    pub(crate) table: Table<(), View, WaitGraph, HistoryRule, Global>,
     pub ghost wide: { table.shared.table_id.words ≡ BOARD_WORDS },
     pub ghost bare: { table.shared.table_id.slots ≡ 0 },
 }

@@ -38,7 +38,7 @@ sum-each h [] = refl
 sum-each h (x ∷ xs) = let a = sum-shift (λ c. total h (get_or (x ∷ xs) c [])) (length xs) in let b =
     sum-each h xs in omega arith
 
--- a front and the rest weigh what the list does
+-- a prefix and the rest weigh what the list does
 total-parts : (h : ℕ → ℕ) (c : ℕ) (xs : List ℕ) → total h (take c xs) + total h (drop c xs) ≡ total h xs
 total-parts h zero xs = omega arith
 total-parts h (suc c) [] = refl

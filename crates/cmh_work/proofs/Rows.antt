@@ -13,6 +13,6 @@ starts_same a = ([], sym (append-nil a))
 pub starts_trans : (a b c : List Row) → StartsWith a b → StartsWith b c → StartsWith a c
 starts_trans a b c h k = (k.0 ++ h.0, h.1 ∙ ap (λ l. l ++ h.0) k.1 ∙ append_assoc c k.0 h.0)
 
--- what a beginning of the rows says of a process, the rows say
+-- what a prefix of the rows says of a process, the rows say
 pub fold_more : (a b : List Row) (p : ℕ) (v : Verdict) → StartsWith a b → fold_at b p ≡ Some v → fold_at a p ≡ Some v
 fold_more a b p v h e = ap (λ l. fold_at l p) h.1 ∙ present-append b h.0 p v e

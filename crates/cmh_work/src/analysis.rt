@@ -27,9 +27,9 @@ use std::sync::Wait;
 use std::thread::Threads;
 
 /// Finds out about each idle process of the graph, by as many workers as the plan says. Each draws
-/// chunks of initiators until there are no more. Of each initiator in order it tells the gate, then
-/// looks at the board, and where that doesn't answer, it runs the initiator's computation and posts
-/// what the run tells. Each worker has a thread of its own, where one can be had; the last works in
+/// chunks of initiators until there are no more. For each initiator in order it calls the gate and
+/// looks at the board; where that doesn't answer, it runs the initiator's computation and posts what
+/// the run tells. Each worker has a thread of its own, where one can be had; the last works in
 /// this thread. All are joined before the answer.
 ///
 /// One run may serve all members of a deadlocked knot. A run takes time linear in dependencies at
