@@ -1,5 +1,5 @@
 -- The first fault of a list of faults by number.
-use Rattle.std.proofs.Common.{◌≡◌, ℕ, zero, suc, ◌+◌, ◌-◌, ◌<◌, List, [], ◌∷◌, ◌++◌, Bool, true, false, cond, Some, None, refl, sym, ap, ◌∙◌, arith}
+use Rattle.std.proofs.Common.{◌≡◌, ℕ, zero, suc, ◌+◌, ◌-◌, ◌<◌, List, [], ◌∷◌, ◌++◌, Bool, true, false, cond, Some, None, refl, sym, ap, ◌∙◌, arith, map-id}
 use Rattle.std.specs.Prelude.{find, map}
 use Rattle.std.specs.Option.{option_or}
 use Rattle.std.specs.List.{range_with_len}
@@ -77,20 +77,15 @@ found_at test f n i lt before now =
     let e : suc i + (n - suc i) ≡ n = omega arith in
     ap (λ m. find test (map f (below m))) (sym e) ∙ found_below test f i (n - suc i) before now
 
--- a list mapped by a function that changes nothing is the list itself
-map-same : (xs : List ℕ) → map (λ x. x) xs ≡ xs
-map-same [] = refl
-map-same (x ∷ xs) = ap (λ ys. x ∷ ys) (map-same xs)
-
 -- where i below n passes and no number before it does, a search of the numbers below n finds i
 pub least_found : (test : ℕ → Bool) (n i : ℕ) → i < n → ((k : ℕ) → k < i → test k ≡ false) → test i ≡ true
     → find test (below n) ≡ Some i
 least_found test n i lt before now =
-    ap (find test) (sym (map-same (below n))) ∙ found_at test (λ k. k) n i lt before now
+    ap (find test) (sym (map-id (below n))) ∙ found_at test (λ k. k) n i lt before now
 
 -- where no number below n passes, a search of them finds none
 pub none_found : (test : ℕ → Bool) (n : ℕ) → ((k : ℕ) → k < n → test k ≡ false) → find test (below n) ≡ None
-none_found test n h = ap (find test) (sym (map-same (below n))) ∙ none_below test (λ k. k) n h
+none_found test n h = ap (find test) (sym (map-id (below n))) ∙ none_below test (λ k. k) n h
 
 -- two tests that agree below n have one least number there
 pub find_alike : (test other : ℕ → Bool) (n : ℕ) → ((k : ℕ) → k < n → test k ≡ other k)

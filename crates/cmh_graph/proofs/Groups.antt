@@ -3,7 +3,7 @@ use Rattle.std.proofs.Common.{◌≡◌, ℕ, zero, suc, ◌+◌, ◌<◌, ◌�
 use Rattle.std.specs.Prelude.{Contains, AllPairs, filter, count_by}
 use Rattle.std.specs.List.{range_with_len}
 use Rattle.std.specs.List.Sorted.{IsStrictlyIncreasing}
-use Rattle.std.proofs.lemmas.Bool.{leb-true, le-leb}
+use Rattle.std.proofs.lemmas.Bool.{leb-true, le-leb, false_from_ne_true}
 use Rattle.std.proofs.lemmas.List.{get_or_default}
 use Rattle.std.proofs.lemmas.List.Elements.{filter_agree, Contains-get_or}
 use Rattle.std.proofs.lemmas.List.FromFn.{length-range_with_len, get_or-range_with_len}
@@ -21,11 +21,6 @@ use Rattle.cmh_graph.proofs.PathLemmas.{cons_contains, contains_cons, contains_i
 use Rattle.cmh_graph.proofs.Verdicts.{and_true, asleep_is_idle, contains_filter, filter_contains, idle_within, reached_within, reaches_more, test_then, then_test}
 
 -- ---- rests
-
--- what isn't true is false
-pub other_false : (b : Bool) → (b ≡ true → ⊥) → b ≡ false
-other_false true h = absurd (h refl)
-other_false false h = refl
 
 -- what is false isn't true
 never_both : (b : Bool) → not b ≡ true → b ≡ true → ⊥
@@ -46,7 +41,8 @@ rest_law = λ g p q w i. (
       contains_filter (reaches g p) (indices g) q (contains_index (process_count g) q j)
       (then_reaches g p q w i both.0) in
       contains_filter (λ r. not (reaches g r p)) (reach_of g p) q listed
-      (ap not (other_false (reaches g q p) (λ e. both.1 ((core_law g p q w i).1 (both.0, reaches_then g q p e))))),
+      (ap not (false_from_ne_true (reaches g q p)
+      (λ e. both.1 ((core_law g p q w i).1 (both.0, reaches_then g q p e))))),
 )
 
 -- ---- rising lists

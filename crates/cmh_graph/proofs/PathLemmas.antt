@@ -6,6 +6,7 @@ use Rattle.std.proofs.lemmas.List.FromFn.{length-range_with_len, get_or-range_wi
 use Rattle.std.proofs.lemmas.List.{get_or_default}
 use Rattle.std.proofs.lemmas.Map.Keys.{IsDistinct-cons, IsDistinct-tail}
 use Rattle.std.proofs.lemmas.Map.Steps.{length-le_from_distinct_below}
+use Rattle.std.proofs.lemmas.Bool.{or_parts}
 use Rattle.cmh_graph.specs.Graph.{IsWithinGraph, Graph, process_count, dependents_of, dependencies_of, is_idle, Depends, indices}
 use Rattle.cmh_graph.specs.Path.{Leads, Reaches, paths_to, is_nonempty, reaches, ReachLaw}
 
@@ -129,15 +130,10 @@ listed g test p (r ∷ rest) q l t =
 
 -- ---- a path without repeats
 
--- neither holds where an "or" doesn't
-or_false : (a b : Bool) → (a || b) ≡ false → (a ≡ false) × (b ≡ false)
-or_false true b e = absurd cc
-or_false false b e = (refl, e)
-
 -- where no member passes, each fails
 each_fails : (t : ℕ → Bool) (xs : List ℕ) → list_any t xs ≡ false → AllByRecursion (λ x. t x ≡ false) xs
 each_fails t [] e = tt
-each_fails t (x ∷ xs) e = let both = or_false (t x) (list_any t xs) e in (both.0, each_fails t xs both.1)
+each_fails t (x ∷ xs) e = let both = or_parts (t x) (list_any t xs) e in (both.0, each_fails t xs both.1)
 
 -- p is led to q without passing a process twice
 unfoldable pub Simple : Graph → ℕ → ℕ → Type 0

@@ -3,6 +3,7 @@ use Rattle.std.proofs.Common.{◌≡◌, ℕ, zero, suc, ◌<◌, Bool, true, fa
 use Rattle.std.specs.Prelude.{Contains, filter}
 use Rattle.std.specs.List.{list_all}
 use Rattle.std.proofs.lemmas.List.FromFn.{get_or-map-range_with_len}
+use Rattle.std.proofs.lemmas.Bool.{not-true, not_from_false}
 use Rattle.cmh_graph.specs.Graph.{IsWithinGraph, Graph, Process, process_count, is_idle, is_awake, is_woken, is_idle_state, nobody, Depends, indices}
 use Rattle.cmh_graph.specs.Path.{Leads, Reaches, reaches, reach_of}
 use Rattle.cmh_graph.specs.declared.verdict.Verdict.{Verdict}
@@ -142,15 +143,6 @@ list_all_contains t (x ∷ xs) y e c =
     let both = and_true (t x) (list_all t xs) e in
     elim (cons_contains x xs y c) [ inl s ↦ ap t (sym s) ∙ both.0 | inr d ↦ list_all_contains t xs y both.1 d ]
 
--- what is not true is false
-not_true : (b : Bool) → not b ≡ true → b ≡ false
-not_true true e = absurd cc
-not_true false e = refl
-
--- what is false is not true
-not_false : (b : Bool) → b ≡ false → not b ≡ true
-not_false b e = rw e refl
-
 -- where the test of deadlock holds the process is deadlocked
 pub test_then : (g : Graph) (p : ℕ) → IsWithinGraph g → is_deadlocked g p ≡ true → IsDeadlocked g p
 unfolding is_deadlocked
@@ -158,7 +150,7 @@ test_then g p w e =
     let both = and_true (is_idle g p) (list_all (λ q. not (is_awake g q)) (reach_of g p)) e in
     let i = idle_within g p both.0 in (
       both.0,
-      λ q r. not_true (is_awake g q)
+      λ q r. not-true (is_awake g q)
           (list_all_contains (λ q. not (is_awake g q)) (reach_of g p) q both.1
           (contains_filter (reaches g p) (indices g) q (contains_index (process_count g) q (reached_within g w p q i r))
           (then_reaches g p q w i r))),
@@ -171,7 +163,7 @@ then_test g p d =
     rw (
       d.0,
       all_pass (λ q. not (is_awake g q)) (reaches g p) (indices g)
-          (λ q m. not_false (is_awake g q) (d.1 q (reaches_then g p q m))),
+          (λ q m. not_from_false (is_awake g q) (d.1 q (reaches_then g p q m))),
     ) refl
 
 -- the test of deadlock says what the relation says

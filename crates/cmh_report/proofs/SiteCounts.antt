@@ -4,7 +4,7 @@ use Rattle.std.specs.Prelude.{All, nat_eq}
 use Rattle.std.specs.Set.{is_member, distinct_count}
 use Rattle.std.specs.List.{IsDistinct, list_any}
 use Rattle.std.specs.Cmp.{nat_eq_equiv}
-use Rattle.std.proofs.lemmas.Bool.{cases_eq, or_right}
+use Rattle.std.proofs.lemmas.Bool.{cases_eq, or_right, false_from_ne_true}
 use Rattle.std.proofs.lemmas.List.{get_or-set_other, get_or-set_same, length-replicate, length-set, map-append, take-append-drop, take_more}
 use Rattle.std.proofs.lemmas.List.Elements.{All-head, All-tail}
 use Rattle.std.proofs.lemmas.List.Folds.{list_any-append}
@@ -13,7 +13,7 @@ use Rattle.std.proofs.lemmas.Map.Keys.{IsDistinct-push}
 use Rattle.std.proofs.lemmas.Map.Made.{length-from_keys}
 use Rattle.cmh_graph.specs.Search.{is_marked, unmarked_count}
 use Rattle.cmh_graph.proofs.AwakeLemmas.{or_none}
-use Rattle.cmh_graph.proofs.Groups.{other_false, same_test}
+use Rattle.cmh_graph.proofs.Groups.{same_test}
 use Rattle.cmh_graph.proofs.PositionLemmas.{count_marked}
 
 -- The sites are those of so many processes, each once, and are marked alone.
@@ -98,7 +98,7 @@ seen_more bound seen sites all x h l m = record {
         get_or-set_other seen x s true false other
         ∙ h.marked s
         ∙ sym (member_push sites x s
-        ∙ ap (λ b. is_member nat_eq sites s || b) (other_false (eqb s x) (λ e. other (eqb-true s x e)))
+        ∙ ap (λ b. is_member nat_eq sites s || b) (false_from_ne_true (eqb s x) (λ e. other (eqb-true s x e)))
         ∙ or_none (is_member nat_eq sites s))
   ];
   count = omega (

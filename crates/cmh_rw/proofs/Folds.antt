@@ -1,7 +1,7 @@
 -- What rows say of each process, and how many of them are true for a graph.
-use Rattle.std.proofs.Common.{◌≡◌, ◌⊎◌, ℕ, ◌<◌, ◌≤◌, Bool, true, false, cond, eqb, ◌||◌, Option, Some, None, List, [], ◌∷◌, ◌++◌, map, length, sym, refl, ap, ◌∙◌, subst, inl, inr, ⊎_elim}
+use Rattle.std.proofs.Common.{◌≡◌, ◌⊎◌, ℕ, ◌<◌, ◌≤◌, Bool, true, false, cond, eqb, Option, Some, None, List, [], ◌∷◌, ◌++◌, map, length, sym, refl, ap, ◌∙◌, subst, inl, inr, ⊎_elim}
 use Rattle.std.specs.List.{IsDistinct, AllByRecursion, list_any}
-use Rattle.std.proofs.lemmas.Bool.{cases_eq, ne_eqb, eq-eqb, eqb-true, eqb-false}
+use Rattle.std.proofs.lemmas.Bool.{cases_eq, ne_eqb, eq-eqb, eqb-true, eqb-false, or_cases}
 use Rattle.std.proofs.lemmas.List.{length-map}
 use Rattle.std.proofs.lemmas.Map.Steps.{length-le_from_distinct_below}
 use Rattle.cmh_graph.specs.declared.verdict.Verdict.{Verdict}
@@ -148,11 +148,6 @@ true-distinct : (g : Graph) (xs : List Row) → IsTrueOf g xs → IsDistinct eqb
 unfolding IsDistinct
 true-distinct g [] h = tt
 true-distinct g (x ∷ xs) h = (none_apart x.process xs h.2, true-distinct g xs h.3)
-
--- where one of two tests holds, the first does or the second
-pub or_cases : (a b : Bool) → (a || b) ≡ true → (a ≡ true) ⊎ (b ≡ true)
-or_cases true b e = inl refl
-or_cases false b e = inr e
 
 -- true rows name processes of the graph alone
 true-within : (g : Graph) (xs : List Row) → IsTrueOf g xs → (q : ℕ)

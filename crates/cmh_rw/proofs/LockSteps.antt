@@ -1,6 +1,6 @@
 -- Steps on word 0 keep the whole rule, where they keep the lock's part.
 use Rattle.std.proofs.Common.{◌≡◌, ◌≢◌, ℕ, ◌+◌, ◌-◌, ◌%◌, ◌^◌, Bool, true, false, cond, eqb, ltb, [], map, get_or, set, sym, refl, ap, ◌∙◌, subst, arith, get_or-set_other, ⊎_elim, inl}
-use Rattle.std.proofs.lemmas.Bool.{eqb-true}
+use Rattle.std.proofs.lemmas.Bool.{eqb-true, false≢true}
 use Rattle.std.proofs.lemmas.List.{map-set}
 use mathlib.Core.Option.{none, some}
 use lib.ListN.{get_elem?}
@@ -22,7 +22,7 @@ use Rattle.cmh_rw.specs.Steps.{TableSeat, after_try, with_lock, Entered, Ended, 
 use Rattle.cmh_rw.proofs.Folds.{fold-nothing}
 use Rattle.cmh_rw.proofs.Lawful.{total-set}
 use Rattle.cmh_rw.proofs.Lock.{enter_kept, leave_kept, take_kept, end_kept}
-use Rattle.cmh_rw.proofs.Moments.{away_writing, away_spent, no_true, not_held, idle_still, state_at}
+use Rattle.cmh_rw.proofs.Moments.{away_writing, away_spent, not_held, idle_still, state_at}
 
 -- the lock's part of a seat
 abbrev lock_me : TableSeat → Me (Unit {0}) LockView
@@ -115,7 +115,7 @@ leaving key s b id v at clear = let k = b.each id v at in record {
   ready = inl clear;
   seen = k.seen;
   other = k.other;
-  fresh = λ yes. absurd (no_true yes);
+  fresh = λ yes. absurd (false≢true yes);
   gone = λ e. absurd (away_spent e);
 }
 

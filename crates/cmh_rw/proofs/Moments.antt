@@ -1,5 +1,5 @@
 -- What the rule says of one seat, and how it stands where one view or one word changes.
-use Rattle.std.proofs.Common.{◌≡◌, ◌≢◌, ℕ, zero, suc, ◌+◌, ◌<◌, ◌≤◌, true, false, List, [], ◌∷◌, map, get_or, set, sym, refl, ap, ◌∙◌, subst, arith, length-set, get_or-set_other, ⊎_elim}
+use Rattle.std.proofs.Common.{◌≡◌, ◌≢◌, ℕ, zero, suc, ◌+◌, ◌<◌, ◌≤◌, List, [], ◌∷◌, map, get_or, set, sym, refl, ap, ◌∙◌, subst, arith, length-set, get_or-set_other, ⊎_elim}
 use Rattle.std.proofs.lemmas.List.{map-set}
 use mathlib.Core.Option.{some, some-injective, some-ne-none}
 use lib.ListN.{get_elem?}
@@ -21,10 +21,6 @@ away_writing e = cc
 -- to be away isn't to be spent
 pub away_spent : Away ≢ Spent
 away_spent e = cc
-
--- false isn't true
-pub no_true : false ≢ true
-no_true e = cc
 
 -- a seat that is away holds nothing
 pub not_held : (a : SeatState) → a ≡ Away → IsHeld a → ⊥

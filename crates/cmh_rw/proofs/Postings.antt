@@ -59,8 +59,8 @@ seen_compare postings s t h g = ⊎_elim
     (prefixes h.0 g.0 h.1 g.1 (sym h.2 ∙ g.2))
 
 -- rows begin with themselves
-starts-same : (xs : List Row) → StartsWith xs xs
-starts-same xs = ([], sym (append-nil xs))
+pub starts_same : (xs : List Row) → StartsWith xs xs
+starts_same xs = ([], sym (append-nil xs))
 
 -- a list of length 0 is empty
 none_left : (rest : List Row) → length rest ≡ 0 → rest ≡ []
@@ -75,9 +75,9 @@ longer-begins xs ys starts = let P : List Row → Type 0 = λ l. StartsWith l xs
     (λ less. let lt = ltb-true (length xs) (length ys) less in (
       ⊎_elim (λ (h : StartsWith xs ys). absurd (let e = ap length h.1 in let n = length-append ys h.0 in omega arith))
           (λ h. h) starts,
-      starts-same ys,
+      starts_same ys,
     ))
-    (λ more. (starts-same xs, ⊎_elim (λ h. h) (λ (h : StartsWith ys xs). ([], back h more)) starts))
+    (λ more. (starts_same xs, ⊎_elim (λ h. h) (λ (h : StartsWith ys xs). ([], back h more)) starts))
   where
     back : (h : StartsWith ys xs) → ltb (length xs) (length ys) ≡ false → xs ≡ ys ++ []
     back h more = let e = ap length h.1 in let n = length-append xs h.0 in

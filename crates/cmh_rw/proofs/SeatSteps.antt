@@ -1,7 +1,7 @@
 -- The opening moment meets the rule, and a split and a join of seats that are away keep it.
 use Rattle.std.proofs.Common.{◌≡◌, ◌≢◌, ℕ, zero, suc, ◌+◌, ◌<◌, ◌≤◌, false, ltb, List, [], ◌∷◌, ◌++◌, map, length, replicate, set, sym, refl, ap, ◌∙◌, subst, arith, append-nil, inl, ⊎_elim}
 use Rattle.std.proofs.lemmas.List.{map-set, set-get_or, length-replicate, get_or-replicate}
-use Rattle.std.proofs.lemmas.Bool.{cond_both}
+use Rattle.std.proofs.lemmas.Bool.{cond_both, false≢true}
 use mathlib.Core.List.{map-append}
 use mathlib.Core.Option.{none, some, some-injective, some-ne-none}
 use lib.ListN.{get_elem?}
@@ -23,7 +23,7 @@ use Rattle.cmh_rw.proofs.Folds.{true-left}
 use Rattle.cmh_rw.proofs.Lawful.{total-set, total-append, total-snoc, total-in}
 use Rattle.cmh_rw.proofs.Lock.{split_kept, join_kept}
 use Rattle.cmh_rw.proofs.LoadSteps.{history-true}
-use Rattle.cmh_rw.proofs.Moments.{away_writing, away_spent, no_true, not_held, idle_still, state_at, away_graph, reviewed}
+use Rattle.cmh_rw.proofs.Moments.{away_writing, away_spent, not_held, idle_still, state_at, away_graph, reviewed}
 use Rattle.cmh_rw.proofs.Postings.{none-seen, seen-prefix, seen_compare}
 
 -- a view that doesn't write, and has loaded, staged, told and added nothing, is as the rule asks
@@ -36,7 +36,7 @@ blank postings staged told v not bare none_told none_mine fresh other seen = rec
   ready = inl bare;
   seen = seen;
   other = subst (λ l. IsSeen l postings) (sym other) (none-seen postings);
-  fresh = λ yes. absurd (no_true (sym fresh ∙ yes));
+  fresh = λ yes. absurd (false≢true (sym fresh ∙ yes));
   gone = λ _. none_mine;
 }
 

@@ -19,7 +19,8 @@ use Rattle.cmh_work.specs.declared.finding.Finding.{Finding}
 use Rattle.cmh_work.specs.Shape.{IsShape}
 use Rattle.cmh_work.specs.Record.{IsRunFor}
 use Rattle.cmh_work.specs.Finding.{IsAnswered, IsSound, IsRecorded, IsExplained, AreExplained, Accounts}
-use Rattle.cmh_work.proofs.Rows.{starts_same, starts_trans, fold_more}
+use Rattle.cmh_rw.proofs.Postings.{starts_same}
+use Rattle.cmh_work.proofs.Rows.{starts_trans, fold_more}
 
 -- ---- one initiator
 

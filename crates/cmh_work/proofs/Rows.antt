@@ -1,13 +1,9 @@
 -- Rows that begin with others, and what they say of a process.
-use Rattle.std.proofs.Common.{◌≡◌, ℕ, List, [], ◌++◌, append_assoc, append-nil, Some, sym, ap, ◌∙◌}
+use Rattle.std.proofs.Common.{◌≡◌, ℕ, List, ◌++◌, append_assoc, Some, ap, ◌∙◌}
 use Rattle.cmh_graph.specs.declared.verdict.Verdict.{Verdict}
 use Rattle.cmh_rw.specs.declared.row.Row.{Row}
 use Rattle.cmh_rw.specs.History.{StartsWith, fold_at}
 use Rattle.cmh_board.proofs.Histories.{present-append}
-
--- rows begin with themselves
-pub starts_same : (a : List Row) → StartsWith a a
-starts_same a = ([], sym (append-nil a))
 
 -- what begins with b begins with what b begins with
 pub starts_trans : (a b c : List Row) → StartsWith a b → StartsWith b c → StartsWith a c

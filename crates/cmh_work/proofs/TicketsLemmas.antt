@@ -1,6 +1,6 @@
 -- Each step of the tickets keeps their rule.
 use Rattle.std.proofs.Common.{◌≡◌, ◌≢◌, ℕ, zero, suc, ◌+◌, ◌-◌, ◌%◌, ◌^◌, ◌<◌, ◌≤◌, Bool, true, false, ltb, ◌||◌, List, [], ◌∷◌, length, get_or, set, sym, refl, ap, ◌∙◌, subst, arith, length-set, get_or-set_same, ⊎_elim}
-use Rattle.std.proofs.lemmas.Bool.{cond_both, ltb-true, ltb-false}
+use Rattle.std.proofs.lemmas.Bool.{cond_both, ltb-true, ltb-false, or_cases, false≢true}
 use native.Mathlib.Numerals.{unary_clauses}
 use mathlib.Core.Option.{none, some, some-injective, some-ne-none}
 use lib.ListN.{get_elem?}
@@ -8,7 +8,6 @@ use Rattle.std.proofs.lemmas.List.{set-get_or}
 use Rattle.atomic_table.specs.Table.{State, Me, step, keeps, stepped, Allows, Splits, Joins, opening}
 use Rattle.atomic_table.proofs.Lists.{at_set, at_snoc, set_again}
 use Rattle.cmh_work.specs.declared.ticket_rule.TicketView.{TicketView}
-use Rattle.cmh_rw.proofs.Folds.{or_cases}
 use Rattle.cmh_rw.specs.Machine.{total}
 use Rattle.cmh_rw.proofs.Lawful.{total-set, total-in, total-append, total-snoc}
 use Rattle.cmh_work.specs.Tickets.{sum_below, share_if, done_share, ticket_share, ticket_opening_view, ticket_less_one, ticket_newcomer, joined_views, spent, with_drawn, with_done, IsTicketSeat, Dealt, KnowsAll, after_draw, Drew, Measured}
@@ -116,16 +115,13 @@ drawn_kept key s id me h at mine fresh some_share low = let x = get_or s.words 0
       over = omega arith;
       each = λ i u g. ⊎_elim
           (λ t. subst (IsTicketSeat key (get_or (set s.words 0 n) 0 0)) t.1 record
-          { bare = λ z. absurd (omega arith); knows = λ _. mine; past = λ d. absurd (no_true (sym fresh ∙ d)) })
+          { bare = λ z. absurd (omega arith); knows = λ _. mine; past = λ d. absurd (false≢true (sym fresh ∙ d)) })
           (λ t. later key x (get_or (set s.words 0 n) 0 0) u (omega arith) (h.each i u t.1))
           (at_set s.views id i w u g);
       numbers = λ f. let t = total-set (λ (u : TicketView). total f u.drawn) s.views id me.0 w at in let l =
           total-snoc f me.0.drawn x in let k = h.numbers f in let e = ap f r in
           omega (arith, sum-step f h.reached);
     }
-  where
-    no_true : false ≢ true
-    no_true e = cc
 
 -- a draw past the end keeps the rule
 done_kept : (key : ℕ) (s : St) (id : ℕ) (me : Sat) → Dealt key s → get_elem? s.views id ≡ some me.0 → me.0.chunks ≡ key
@@ -256,7 +252,7 @@ joins key id v other w some_share s h at apart there = let x = get_or s.words 0 
       over = omega arith;
       each = λ i u g. ⊎_elim
           (λ t. subst (IsTicketSeat key x) t.1 record
-          { bare = λ z. refl; knows = λ some. absurd (omega arith); past = λ d. absurd (no_true d) })
+          { bare = λ z. refl; knows = λ some. absurd (omega arith); past = λ d. absurd (false≢true d) })
           (λ t. ⊎_elim
           (λ t'. subst (IsTicketSeat key x) t'.1 record {
             bare = λ z. absurd (omega arith);
@@ -270,9 +266,6 @@ joins key id v other w some_share s h at apart there = let x = get_or s.words 0 
           total-set (λ (u : TicketView). total f u.drawn) mid other w spent there in
           let k = h.numbers f in let l = total-append f v.drawn w.drawn in omega arith;
     }
-  where
-    no_true : false ≢ true
-    no_true e = cc
 
 -- the opening state of the tickets meets the rule
 pub opens : (key : ℕ) → key < 2 ^ 32 → Dealt key (opening (0 ∷ []) [] (ticket_opening_view key))
@@ -289,11 +282,8 @@ opens key small = record {
   numbers = λ f. refl;
 }
   where
-    no_true : false ≢ true
-    no_true e = cc
-
     one : (i : ℕ) (u : TicketView) → get_elem? (ticket_opening_view key ∷ []) i ≡ some u → IsTicketSeat key 0 u
     one zero u g =
         subst (IsTicketSeat key 0) (some-injective (ticket_opening_view key) u g) record
-        { bare = λ z. refl; knows = λ _. refl; past = λ d. absurd (no_true d) }
+        { bare = λ z. refl; knows = λ _. refl; past = λ d. absurd (false≢true d) }
     one (suc i) u g = absurd (some-ne-none u (sym g))
