@@ -3,9 +3,9 @@ use Rattle.std.proofs.Common.{arith, refl, ◌≡◌, ℕ, ◌+◌, ◌||◌, Li
 use Rattle.std.specs.Prelude.{IsOkAnd}
 use Rattle.std.specs.Global.{Vec}
 use Rattle.std.proofs.lemmas.List.{map-append}
+use Rattle.std.specs.declared.alloc.AllocError.{AllocError}
 use Rattle.cmh_run.specs.Run.{Run}
 use Rattle.cmh_work.specs.declared.TheConstants.{MAX_WORKERS}
-use Rattle.cmh_work.specs.declared.fault.WorkFault.{WorkFault}
 use Rattle.cmh_work.specs.declared.finding.Finding.{Finding}
 use Rattle.cmh_graph.specs.Graph.{Graph}
 use Rattle.cmh_work.specs.Plan.{Setup}
@@ -26,7 +26,7 @@ use Rattle.cmh_work.proofs.CuttingLemmas.{gathered-append, gathered_snoc, gather
 
 -- what a worker gives back
 abbrev Found : Type 0 → Type 0
-Found L = Result (Vec (Finding Run L)) WorkFault
+Found L = Result (Vec (Finding Run L)) AllocError
 
 -- where what two workers gave back is put together, what follows from both holds of the whole
 pub collected : {L : Type 0} (r first second : Found L) (P Q : Vec (Finding Run L) → Type 0)

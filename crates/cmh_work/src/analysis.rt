@@ -22,7 +22,7 @@ use cmh_board::Board;
 use cmh_graph::WaitGraph;
 use cmh_graph::laws::law_built_graph;
 use cmh_run::{Log, ProcessList, RunLog};
-use std::alloc::Global;
+use std::alloc::{AllocError, Global};
 use std::sync::Wait;
 use std::thread::Threads;
 
@@ -84,14 +84,13 @@ pub fn analyse_keeping<L: Log + Send, E: ProcessList + Send, R: Threads + Wait +
         board: board_seat,
         tickets: ticket_seat,
     };
-    finish(rt, alloc, graph, plan, shared, gate, seats)
+    Ok(finish(rt, alloc, graph, plan, shared, gate, seats)?)
 }
 
 /// A number for each chunk of the plan: there is one more than cuts.
-fn open_tickets(alloc: Global, plan: &Plan) -> Result<(Tickets, TicketSeat), WorkFault>
+fn open_tickets(alloc: Global, plan: &Plan) -> Result<(Tickets, TicketSeat), AllocError>
     ensures open { IfOk result (λ r. IsTicketSeatOf r.0 r.1 × (chunk_count r.0 ≡ length plan.now.cuts + 1)
         × (ticket_view r.1 ≡ ticket_opening_view (length plan.now.cuts + 1))) }
-    ensures memory { IfErr result (λ e. e ≡ WorkFault.Memory) }
 {
     let chunks = plan.cuts().len() as u32 + 1;
     Tickets::open(alloc, chunks).map_err(want_of_tickets)
@@ -106,14 +105,13 @@ fn finish<L: Log + Send, E: ProcessList + Send, R: Threads + Wait + Sync, G: Gat
     shared: Shared,
     gate: &G,
     seats: Seats,
-) -> Result<Analysis<RunLog<L, E>, E>, WorkFault>
+) -> Result<Analysis<RunLog<L, E>, E>, AllocError>
     requires made { IsMadeFor graph.now plan.now shared }
     requires sit { AreSeated shared seats }
     requires new { AreNew seats }
     requires tickets { (ticket_view seats.tickets).share ≡ MAX_WORKERS }
     requires board { (known seats.board).lock.share ≡ MAX_SEATS }
     ensures ok { IfOk result (IsAnalysisOf E.processes graph.now plan.now.choices) }
-    ensures memory { IfErr result (λ e. e ≡ WorkFault.Memory) }
 {
     law_built_graph(graph);
     let others = plan.workers() - 1;

@@ -1,11 +1,10 @@
 //! Where a list is cut into chunks.
 
-ghost use Rattle.std.specs.Prelude.{◌≡◌, ◌+◌, ◌<◌, ◌≤◌, [], min, length, slice_index, slice_index_or, slice_range, IfOk, IfErr};
+ghost use Rattle.std.specs.Prelude.{◌≡◌, ◌+◌, ◌<◌, ◌≤◌, [], min, length, slice_index, slice_index_or, slice_range, IfOk};
 ghost use Rattle.cmh_work.specs.Cutting.{chunks_of, bounds_of};
 
-use crate::WorkFault;
 use crate::job::Job;
-use std::alloc::Global;
+use std::alloc::{AllocError, Global};
 
 /// Where each chunk of a list of this length begins, and where the last one ends. The sum of the
 /// cuts may be any: a cut takes at most what is left.
@@ -13,9 +12,8 @@ pub(crate) fn chunk_bounds(
     alloc: Global,
     cuts: &[u64],
     size: usize,
-) -> Result<Vec<usize>, WorkFault>
+) -> Result<Vec<usize>, AllocError>
     ensures ok { IfOk result (λ bounds. bounds.items ≡ bounds_of cuts.now size) }
-    ensures memory { IfErr result (λ e. e ≡ WorkFault.Memory) }
 {
     let mut bounds = Vec::with_capacity(alloc, cuts.len() + 2)?;
     bounds.push_reserved(0);

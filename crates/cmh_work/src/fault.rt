@@ -100,45 +100,41 @@ impl<T: Drop> From<AllocFailed<T>> for WorkFault {
 }
 
 /// The want of memory that a question to a graph met.
-pub(crate) fn want_in_graph(fault: GraphFault) -> WorkFault
+pub(crate) fn want_in_graph(fault: GraphFault) -> AllocError
     requires { fault ≡ graph.Memory }
-    ensures { result ≡ work.Memory }
 {
     match fault {
-        GraphFault::Memory => WorkFault::Memory,
+        GraphFault::Memory => AllocError,
         _ => unreachable!(),
     }
 }
 
 /// The want of memory that a run met.
-pub(crate) fn want_in_run(fault: RunFault) -> WorkFault
+pub(crate) fn want_in_run(fault: RunFault) -> AllocError
     requires { fault ≡ run.Memory }
-    ensures { result ≡ work.Memory }
 {
     match fault {
-        RunFault::Memory => WorkFault::Memory,
+        RunFault::Memory => AllocError,
         _ => unreachable!(),
     }
 }
 
 /// The want of memory that a board met at its opening or its close.
-pub(crate) fn want_at_board(fault: BoardFault) -> WorkFault
+pub(crate) fn want_at_board(fault: BoardFault) -> AllocError
     requires { fault ≡ board.Memory }
-    ensures { result ≡ work.Memory }
 {
     match fault {
-        BoardFault::Memory => WorkFault::Memory,
+        BoardFault::Memory => AllocError,
         BoardFault::Busy(_) => unreachable!(),
     }
 }
 
 /// The want of memory that tickets met at their opening.
-pub(crate) fn want_of_tickets(fault: PlanFault) -> WorkFault
+pub(crate) fn want_of_tickets(fault: PlanFault) -> AllocError
     requires { fault ≡ Memory }
-    ensures { result ≡ work.Memory }
 {
     match fault {
-        PlanFault::Memory => WorkFault::Memory,
+        PlanFault::Memory => AllocError,
         _ => unreachable!(),
     }
 }

@@ -1,7 +1,7 @@
 //! Who leads the group of each deadlocked process: the least of those that it reaches and that reach
 //! it.
 
-ghost use Rattle.std.specs.Prelude.{◌≡◌, ◌<◌, ◌&&◌, is_none, map, length, All, IfOk, IfErr};
+ghost use Rattle.std.specs.Prelude.{◌≡◌, ◌<◌, ◌&&◌, is_none, map, length, All, IfOk};
 ghost use Rattle.cmh_graph.specs.Build.{IsWellFormed};
 ghost use Rattle.cmh_graph.specs.Alone.{AreAlone};
 ghost use Rattle.cmh_graph.specs.Core.{core_of, group_leader};
@@ -10,10 +10,9 @@ ghost use Rattle.cmh_graph.specs.Search.{ArePredecessors};
 ghost use Rattle.cmh_graph.specs.Verdict.{verdicts};
 ghost use Rattle.cmh_work.specs.Leaders.{is_deadlocked_at, leader_at, LeadsEach};
 
-use crate::WorkFault;
 use crate::fault::want_in_graph;
 use cmh_graph::{Predecessors, Verdict, WaitGraph};
-use std::alloc::Global;
+use std::alloc::{AllocError, Global};
 
 /// For each process the leader of its group, if it is deadlocked. One core is computed for each
 /// group that isn't seen to be one process alone: it takes the time of a reach for each of these, and
@@ -23,13 +22,12 @@ pub(crate) fn group_leaders(
     graph: &WaitGraph,
     predecessors: &Predecessors,
     known: &[Verdict],
-) -> Result<Vec<Option<u32>>, WorkFault>
+) -> Result<Vec<Option<u32>>, AllocError>
     requires predecessors { ArePredecessors graph.now predecessors.now }
     requires verdicts { known.now ≡ verdicts graph.now }
     ensures leaders { IfOk result (λ list.
         list.items ≡ map (group_leader graph.now) (indices graph.now)) }
     ensures well_formed { IfOk result (λ _. IsWellFormed graph.now) }
-    ensures memory { IfErr result (λ e. e ≡ WorkFault.Memory) }
 {
     let alone = graph.alone(alloc, predecessors).map_err(want_in_graph)?;
     let mut leaders = vec![in alloc; None; known.len()]?;
@@ -49,12 +47,11 @@ fn core_by(
     predecessors: &Predecessors,
     alone: &[bool],
     p: u32,
-) -> Result<Vec<u32>, WorkFault>
+) -> Result<Vec<u32>, AllocError>
     requires within { p < process_count graph.now }
     requires known { ArePredecessors graph.now predecessors.now }
     requires alone { AreAlone graph.now alone.now }
     ensures ok { IfOk result (λ core. core.items ≡ core_of graph.now p) }
-    ensures memory { IfErr result (λ e. e ≡ WorkFault.Memory) }
 {
     if alone[p as usize] {
         return Ok(Vec::from_slice(alloc, &[p])?);

@@ -1,11 +1,10 @@
 //! Records as they are given out: each names its run, or its row of the closed history.
 
-ghost use Rattle.std.specs.Prelude.{◌<◌, ◌≡◌, ◌^◌, List, length, All, IfOk, IfErr};
+ghost use Rattle.std.specs.Prelude.{◌<◌, ◌^◌, List, length, All, IfOk};
 ghost use Rattle.cmh_rw.specs.declared.row.Row.{Row};
 ghost use Rattle.cmh_work.specs.Record.{IsRowFor};
 ghost use Rattle.cmh_work.specs.Numbering.{Stands, IsNumbered, AreNumbered, AreRowNumbers};
 
-use crate::WorkFault;
 use crate::finding::Finding;
 use crate::record::{Origin, Record};
 use cmh_board::Row;
@@ -54,12 +53,11 @@ pub(crate) fn number_all<R: Drop, P: Drop>(
     history: &[Row],
     count: u32,
     found: Vec<Finding<R, P>>,
-) -> Result<Vec<Record<R, P>>, WorkFault>
+) -> Result<Vec<Record<R, P>>, AllocError>
     requires within { All (λ row. row.process < count) history.now }
     requires few { length history.now < 2 ^ 32 }
     requires stand { All (Stands history.now) found.items }
     ensures ok { IfOk result (λ records. AreNumbered history.now found.items records.items) }
-    ensures memory { IfErr result (λ e. e ≡ WorkFault.Memory) }
 {
     let numbers = row_numbers(alloc, history, count)?;
     let mut records = Vec::new(alloc);

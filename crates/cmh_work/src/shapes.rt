@@ -1,16 +1,15 @@
 //! The shapes of records, by what is found once for all of them.
 
-ghost use Rattle.std.specs.Prelude.{◌≡◌, ◌<◌, IfOk, IfErr};
+ghost use Rattle.std.specs.Prelude.{◌<◌, IfOk};
 ghost use Rattle.cmh_graph.specs.Graph.{process_count};
 
-use crate::WorkFault;
 use crate::fault::want_in_graph;
 use crate::leaders::group_leaders;
 use crate::record::Shape;
 use cmh_graph::laws::law_built_graph;
 use cmh_graph::{Predecessors, Verdict, WaitGraph};
 use cmh_run::ProcessList;
-use std::alloc::Global;
+use std::alloc::{AllocError, Global};
 
 /// What the shapes of all records are read from. It is found once, and the workers share it.
 #[derive(Drop)]
@@ -27,9 +26,8 @@ impl Shapes {
 
     /// Searches the graph once for all distances, and twice for each group that isn't soon seen to be
     /// one process alone.
-    pub(crate) fn of_graph(alloc: Global, graph: &WaitGraph) -> Result<Shapes, WorkFault>
+    pub(crate) fn of_graph(alloc: Global, graph: &WaitGraph) -> Result<Shapes, AllocError>
         ensures ok { IfOk result (AreShapesOf graph.now) }
-        ensures memory { IfErr result (λ e. e ≡ WorkFault.Memory) }
     {
         let predecessors = Predecessors::of_graph(alloc, graph).map_err(want_in_graph)?;
         let distances = graph
@@ -48,12 +46,11 @@ impl Shapes {
         graph: &WaitGraph,
         p: u32,
         known: Verdict,
-    ) -> Result<Shape<P>, WorkFault>
+    ) -> Result<Shape<P>, AllocError>
         requires shapes { AreShapesOf graph.now self.now }
         requires within { p < process_count graph.now }
         requires known { IsVerdict graph.now p known }
         ensures ok { IfOk result (IsShape P.processes graph.now p known) }
-        ensures memory { IfErr result (λ e. e ≡ WorkFault.Memory) }
     {
         law_built_graph(graph);
         match known {

@@ -1,6 +1,6 @@
 //! One worker, who draws chunks until there are no more.
 
-ghost use Rattle.std.specs.Prelude.{◌≡◌, ◌++◌, map, All, IfOk, IfErr, OnOk, IsTrue};
+ghost use Rattle.std.specs.Prelude.{◌≡◌, ◌++◌, map, All, IfOk, OnOk, IsTrue};
 ghost use Rattle.cmh_graph.specs.Graph.{is_idle};
 ghost use Rattle.cmh_run.specs.Run.{TellsTruth};
 ghost use Rattle.cmh_board.specs.Board.{known, SeesMore};
@@ -13,11 +13,11 @@ use crate::chunks::chunk_at;
 use crate::fault::want_in_run;
 use crate::finding::{Answer, Finding};
 use crate::job::{Job, Seats, Shared};
-use crate::{Gate, Plan, WorkFault};
+use crate::{Gate, Plan};
 use cmh_board::{BoardHints, BoardSeat, Look, Posting};
 use cmh_graph::WaitGraph;
 use cmh_run::{Log, ProcessList, RunLog, Runner};
-use std::alloc::Global;
+use std::alloc::{AllocError, Global};
 use std::sync::Wait;
 use std::thread::yield_now;
 
@@ -28,7 +28,7 @@ fn run_of<L: Log>(
     runner: &mut Runner,
     seat: &mut BoardSeat,
     initiator: u32,
-) -> Result<RunLog<L>, WorkFault>
+) -> Result<RunLog<L>, AllocError>
     requires runner { runner.old ≡ job.now.graph.now }
     requires sits { SitsIn job.now.shared.now seat.old }
     requires idle { IsTrue (is_idle job.now.graph.now initiator) }
@@ -38,7 +38,6 @@ fn run_of<L: Log>(
     ensures run { IfOk result (λ r. IsRunFor
         job.now.graph.now job.now.plan.now.choices initiator (verdict_of r.ending) r) }
     ensures truth { IfOk result (TellsTruth job.now.graph.now) }
-    ensures memory { IfErr result (λ e. e ≡ WorkFault.Memory) }
 {
     let mut hints = BoardHints::new(&job.shared.board, seat);
     match runner.run(alloc, initiator, job.plan.choices(), &mut hints) {
@@ -55,7 +54,7 @@ fn ask<L: Log, E: ProcessList, R: Wait>(
     runner: &mut Runner,
     seat: &mut BoardSeat,
     initiator: u32,
-) -> Result<Answer<RunLog<L, E>>, WorkFault>
+) -> Result<Answer<RunLog<L, E>>, AllocError>
     requires runner { runner.old ≡ job.now.graph.now }
     requires sits { SitsIn job.now.shared.now seat.old }
     requires idle { IsTrue (is_idle job.now.graph.now initiator) }
@@ -64,7 +63,6 @@ fn ask<L: Log, E: ProcessList, R: Wait>(
     ensures share { (known seat.new).lock.share ≡ (known seat.old).lock.share }
     ensures answered { IfOk result (IsAnswered
         job.now.graph.now job.now.plan.now.choices initiator (known seat.old) (known seat.new)) }
-    ensures memory { IfErr result (λ e. e ≡ WorkFault.Memory) }
 {
     if let Look::Known(verdict) = job.shared.board.look(seat, initiator) {
         return Ok(Answer { verdict, run: None });
@@ -86,7 +84,7 @@ fn find_one<L: Log, E: ProcessList, R: Wait, G: Gate>(
     runner: &mut Runner,
     seat: &mut BoardSeat,
     initiator: u32,
-) -> Result<Finding<RunLog<L, E>, E>, WorkFault>
+) -> Result<Finding<RunLog<L, E>, E>, AllocError>
     requires runner { runner.old ≡ job.now.graph.now }
     requires sits { SitsIn job.now.shared.now seat.old }
     requires idle { IsTrue (is_idle job.now.graph.now initiator) }
@@ -96,7 +94,6 @@ fn find_one<L: Log, E: ProcessList, R: Wait, G: Gate>(
     ensures is { IfOk result (λ f. f.initiator ≡ initiator) }
     ensures recorded { IfOk result (IsRecorded E.processes
         job.now.graph.now job.now.plan.now.choices (known seat.old) (known seat.new)) }
-    ensures memory { IfErr result (λ e. e ≡ WorkFault.Memory) }
 {
     gate.pass(initiator);
     let Answer { verdict, run } = ask(rt, alloc, job, runner, seat, initiator)?;
@@ -123,7 +120,7 @@ fn find_each<L: Log, E: ProcessList, R: Wait, G: Gate>(
     seat: &mut BoardSeat,
     found: &mut Vec<Finding<RunLog<L, E>, E>>,
     chunk: &[u32],
-) -> Result<(), WorkFault>
+) -> Result<(), AllocError>
     requires runner { runner.old ≡ job.now.graph.now }
     requires sits { SitsIn job.now.shared.now seat.old }
     requires idle { All (λ p. IsTrue (is_idle job.now.graph.now p)) chunk.now }
@@ -136,7 +133,6 @@ fn find_each<L: Log, E: ProcessList, R: Wait, G: Gate>(
         job.now.graph.now job.now.plan.now.choices (known seat.new) found.new.items) }
     ensures order { OnOk result (map finding_initiator found.new.items
         ≡ map finding_initiator found.old.items ++ chunk.now) }
-    ensures memory { IfErr result (λ e. e ≡ WorkFault.Memory) }
 {
     for initiator in chunk {
         let finding = find_one(rt, alloc, job, gate, runner, seat, *initiator)?;
@@ -155,13 +151,12 @@ fn draw_all<L: Log, E: ProcessList, R: Wait, G: Gate>(
     job: &Job,
     gate: &G,
     seats: &mut Seats,
-) -> Result<Vec<Finding<RunLog<L, E>, E>>, WorkFault>
+) -> Result<Vec<Finding<RunLog<L, E>, E>>, AllocError>
     requires sit { AreSeated job.now.shared.now seats.old }
     requires new { AreNew seats.old }
     ensures back { AreBack job.now.shared.now seats.old seats.new }
     ensures worked { IfOk result (λ found. IsWorked E.processes
         job.now.graph.now job.now.plan.now job.now.shared.now seats.new found.items) }
-    ensures memory { IfErr result (λ e. e ≡ WorkFault.Memory) }
 {
     let mut runner = Runner::new(job.graph);
     let mut found = Vec::new(alloc);
@@ -190,14 +185,13 @@ pub(crate) fn work<L: Log, E: ProcessList, R: Wait, G: Gate>(
     shared: &Shared,
     gate: &G,
     seats: Seats,
-) -> (Seats, Result<Vec<Finding<RunLog<L, E>, E>>, WorkFault>)
+) -> (Seats, Result<Vec<Finding<RunLog<L, E>, E>>, AllocError>)
     requires made { IsMadeFor graph.now plan.now shared.now }
     requires sit { AreSeated shared.now seats }
     requires new { AreNew seats }
     ensures back { AreBack shared.now seats result.0 }
     ensures worked { IfOk result.1 (λ found.
         IsWorked E.processes graph.now plan.now shared.now result.0 found.items) }
-    ensures memory { IfErr result.1 (λ e. e ≡ WorkFault.Memory) }
 {
     let job = Job {
         graph,

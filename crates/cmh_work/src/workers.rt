@@ -1,6 +1,6 @@
 //! Workers, each in a thread of its own but the last, which works in the thread of the caller.
 
-ghost use Rattle.std.specs.Prelude.{◌≡◌, ◌+◌, ◌<◌, ◌≤◌, ◌++◌, IfOk, IfErr, IfSome, IfNone, IsOkAnd};
+ghost use Rattle.std.specs.Prelude.{◌≡◌, ◌+◌, ◌<◌, ◌≤◌, ◌++◌, IfOk, IfSome, IfNone, IsOkAnd};
 ghost use Rattle.std.specs.Thread.{IsSync};
 ghost use Rattle.cmh_rw.specs.History.{StartsWith};
 ghost use Rattle.cmh_rw.specs.View.{joined};
@@ -12,23 +12,20 @@ ghost use Rattle.cmh_work.specs.Working.{IsMadeFor, AreSeated, AreNew, AreBack, 
 use crate::finding::Finding;
 use crate::job::{Seats, Shared};
 use crate::worker::work;
-use crate::{Gate, Plan, WorkFault};
+use crate::{Gate, Plan};
 use cmh_graph::WaitGraph;
 use cmh_run::{Log, ProcessList, RunLog};
-use std::alloc::Global;
+use std::alloc::{AllocError, Global};
 use std::sync::Wait;
 use std::thread::{Threads, join};
 
 /// What both found, or the fault of one.
 fn concat_findings<L: Log, E: ProcessList>(
-    first: Result<Vec<Finding<RunLog<L, E>, E>>, WorkFault>,
-    second: Result<Vec<Finding<RunLog<L, E>, E>>, WorkFault>,
-) -> Result<Vec<Finding<RunLog<L, E>, E>>, WorkFault>
-    requires first { IfErr first (λ e. e ≡ WorkFault.Memory) }
-    requires second { IfErr second (λ e. e ≡ WorkFault.Memory) }
+    first: Result<Vec<Finding<RunLog<L, E>, E>>, AllocError>,
+    second: Result<Vec<Finding<RunLog<L, E>, E>>, AllocError>,
+) -> Result<Vec<Finding<RunLog<L, E>, E>>, AllocError>
     ensures all { IfOk result (λ v.
         IsOkAnd first (λ a. IsOkAnd second (λ b. v.items ≡ a.items ++ b.items))) }
-    ensures memory { IfErr result (λ e. e ≡ WorkFault.Memory) }
 {
     let mut all = first?;
     let mut more = second?;
@@ -85,7 +82,7 @@ pub(crate) fn workers<L: Log + Send, E: ProcessList + Send, R: Threads + Wait + 
     gate: &G,
     seats: Seats,
     others: u32,
-) -> (Seats, Result<Vec<Finding<RunLog<L, E>, E>>, WorkFault>)
+) -> (Seats, Result<Vec<Finding<RunLog<L, E>, E>>, AllocError>)
     requires made { IsMadeFor graph.now plan.now shared.now }
     requires sit { AreSeated shared.now seats }
     requires same { (known seats.board).lock.share ≡ (ticket_view seats.tickets).share }
@@ -94,7 +91,6 @@ pub(crate) fn workers<L: Log + Send, E: ProcessList + Send, R: Threads + Wait + 
     ensures back { AreBack shared.now seats result.0 }
     ensures worked { IfOk result.1 (λ found.
         IsWorked E.processes graph.now plan.now shared.now result.0 found.items) }
-    ensures memory { IfErr result.1 (λ e. e ≡ WorkFault.Memory) }
 {
     if others == 0 {
         return work(rt, alloc, graph, plan, shared, gate, seats);
@@ -106,21 +102,19 @@ pub(crate) fn workers<L: Log + Send, E: ProcessList + Send, R: Threads + Wait + 
     };
     let ((one, found), (mut rest, more)) = join(
         rt,
-        || -> (Seats, Result<Vec<Finding<RunLog<L, E>, E>>, WorkFault>)
+        || -> (Seats, Result<Vec<Finding<RunLog<L, E>, E>>, AllocError>)
             requires { IsSync R.row × IsMadeFor graph.now plan.now shared.now
                 × AreSeated shared.now one × AreNew one }
             ensures { AreBack shared.entry.now one result.0 × IfOk result.1 (λ found. IsWorked E.processes
-                graph.entry.now plan.entry.now shared.entry.now result.0 found.items)
-                × IfErr result.1 (λ e. e ≡ WorkFault.Memory) }
+                graph.entry.now plan.entry.now shared.entry.now result.0 found.items) }
         { work(rt, alloc, graph, plan, shared, gate, one) },
-        || -> (Seats, Result<Vec<Finding<RunLog<L, E>, E>>, WorkFault>)
+        || -> (Seats, Result<Vec<Finding<RunLog<L, E>, E>>, AllocError>)
             requires { IsSync R.row × IsMadeFor graph.now plan.now shared.now
                 × AreSeated shared.now rest
                 × ((known rest.board).lock.share ≡ (ticket_view rest.tickets).share)
                 × AreNew rest × (fewer < (ticket_view rest.tickets).share) }
             ensures { AreBack shared.entry.now rest result.0 × IfOk result.1 (λ found. IsWorked E.processes
-                graph.entry.now plan.entry.now shared.entry.now result.0 found.items)
-                × IfErr result.1 (λ e. e ≡ WorkFault.Memory) }
+                graph.entry.now plan.entry.now shared.entry.now result.0 found.items) }
         { workers(rt, alloc, graph, plan, shared, gate, rest, fewer) },
     );
     take_back(shared, &mut rest, one);

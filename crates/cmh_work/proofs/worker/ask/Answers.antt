@@ -25,5 +25,4 @@ returns g c =
       answered =
           subst (λ kept. IsAnswered gr choices p (known c.args.seat.now) w record
           { verdict = c.verdict.result; run = Some kept }) (sym c.keeping.ensures) answered;
-      memory = tt;
     }
