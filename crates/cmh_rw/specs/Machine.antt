@@ -1,5 +1,7 @@
 -- The lock as a machine: one word beside the states of all seats, and what one event does.
 use Rattle.std.specs.Prelude.{◌≡◌, ◌⊎◌, ℕ, ◌+◌, ◌-◌, ◌*◌, ◌<◌, ◌≤◌, ◌==◌, nat_lt, if◌then◌else◌, List, [], ◌∷◌, length, replicate, slice_index_or, slice_set}
+use mathlib.Core.Option.{some}
+use lib.ListN.{get_elem?}
 use Rattle.cmh_rw.specs.declared.TheConstants.{WRITER, MAX_SEATS}
 use Rattle.cmh_rw.specs.declared.machine.SeatState.{SeatState}
 use Rattle.cmh_rw.specs.declared.machine.SeatState.TheVariants.{Away, Retreating, Reading, Writing, Spent}
@@ -19,6 +21,10 @@ world word seats = record { word = word; seats = seats }
 abbrev pub total : {A : Type 0} → (A → ℕ) → List A → ℕ
 total f [] = 0
 total f (x ∷ xs) = f x + total f xs
+
+-- seat i of those whose views these are has this view
+abbrev pub IsSeat : {V : Type 0} → List V → ℕ → V → Type 0
+IsSeat views i view = get_elem? views i ≡ some view
 
 -- whether a seat writes, as a number
 abbrev pub writes : SeatState → ℕ

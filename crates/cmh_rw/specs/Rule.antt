@@ -1,7 +1,5 @@
 -- The rule of the words: what holds between any two steps, of the words and the views of all seats.
 use Rattle.std.specs.Prelude.{◌≡◌, ◌≢◌, ◌⊎◌, ℕ, ◌+◌, ◌<◌, ◌≤◌, true, List, [], ◌++◌, map, length, slice_index, None}
-use mathlib.Core.Option.{some}
-use lib.ListN.{get_elem?}
 use Rattle.atomic_table.specs.Table.{State}
 use Rattle.cmh_graph.specs.declared.TheConstants.{MAX_PROCESSES}
 use Rattle.cmh_graph.specs.Graph.{Graph, process_count}
@@ -11,7 +9,7 @@ use Rattle.cmh_rw.specs.declared.machine.SeatState.TheVariants.{Writing, Spent}
 use Rattle.cmh_rw.specs.declared.row.Row.{Row}
 use Rattle.cmh_rw.specs.declared.view.LockView.{LockView}
 use Rattle.cmh_rw.specs.declared.view.View.{View}
-use Rattle.cmh_rw.specs.Machine.{world, total, writes, IsLawful}
+use Rattle.cmh_rw.specs.Machine.{IsSeat, world, total, writes, IsLawful}
 use Rattle.cmh_rw.specs.History.{row_code, verdict_code, fold_at, laid, IsOpen, IsPosting, ArePostings, IsTrueOf, IsSeen}
 use Rattle.cmh_rw.specs.View.{IsHeld}
 
@@ -54,7 +52,7 @@ pub record LockRule (key : Graph) (s : LockMoment) : Type 0 where
   pub wide : length s.words ≡ BOARD_WORDS
   pub lock : IsLawful (world (slice_index s.words 0) (map state_of s.views))
   pub shares : total share_of s.views ≤ MAX_SEATS
-  pub each : (i : ℕ) (l : LockView) → get_elem? s.views i ≡ some l → HasLockShare key l
+  pub each : (i : ℕ) (l : LockView) → IsSeat s.views i l → HasLockShare key l
 
 -- What one seat knows, where these are the postings of the history, and these the rows and the
 -- verdicts that the writer has stored since.
@@ -96,6 +94,6 @@ pub record WordsRule (key : Graph) (s : Moment) : Type 0 where
   pub told_of : (p : ℕ) → (fold_at told p ≡ None) ⊎ (fold_at told p ≡ fold_at staged p)
   -- without a writer nothing is staged
   pub idle : total writes (map state_of (map lock_of s.views)) ≡ 0 → (staged ≡ []) × (told ≡ [])
-  pub each : (i : ℕ) (v : View) → get_elem? s.views i ≡ some v → SeatRule postings staged told v
+  pub each : (i : ℕ) (v : View) → IsSeat s.views i v → SeatRule postings staged told v
   -- each posting stands in the `mine` of one view, and nothing else does, however postings weigh
   pub owners : (h : List Row → ℕ) → total (λ v. total h v.mine) s.views ≡ total h postings

@@ -1,8 +1,6 @@
 -- What clauses see of the words, of a seat, and of the words once they are closed.
 use Rattle.std.specs.Prelude.{◌≡◌, ℕ, ◌+◌, ◌<◌, ◌≤◌, List, map, length, slice_index}
 use Rattle.std.specs.Slots.{slots_items}
-use mathlib.Core.Option.{some}
-use lib.ListN.{get_elem?}
 use Rattle.cmh_graph.specs.declared.TheConstants.{MAX_PROCESSES}
 use Rattle.cmh_graph.specs.Graph.{Graph}
 use Rattle.cmh_rw.specs.declared.TheConstants.{MAX_SEATS, FIRST_ROW, FIRST_VERDICT}
@@ -13,7 +11,7 @@ use Rattle.cmh_rw.specs.declared.words.RwWords.{RwWords}
 use Rattle.cmh_rw.specs.declared.words.RwSeat.{RwSeat}
 use Rattle.cmh_rw.specs.declared.words.Closed.{Closed}
 use Rattle.cmh_rw.specs.History.{row_code, verdict_code, fold_at, laid, ArePostings, IsTrueOf, IsSeen}
-use Rattle.cmh_rw.specs.Machine.{total}
+use Rattle.cmh_rw.specs.Machine.{IsSeat, total}
 use Rattle.cmh_rw.specs.Rule.{Moment, WordsRule}
 
 -- what the seat knows
@@ -41,7 +39,7 @@ pub record ClosedBy (key : Graph) (v : View) (words : List ℕ) : Type 0 where
   pub moment : Moment
   pub rule : WordsRule key moment
   pub here : moment.words ≡ words
-  pub seat : (id : ℕ) × (get_elem? moment.views id ≡ some v)
+  pub seat : (id : ℕ) × IsSeat moment.views id v
 
 -- Nobody holds the lock and nothing is staged: past the history the row words are 0, and the
 -- verdict words are what it says. The postings are the seat's own, however they weigh.

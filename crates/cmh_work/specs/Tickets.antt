@@ -1,9 +1,7 @@
 -- Numbers that threads draw: the rule of their word, over what all seats know, and each step.
 use Rattle.std.specs.Prelude.{◌≡◌, ℕ, zero, suc, ◌+◌, ◌-◌, ◌<◌, ◌≤◌, ◌||◌, ◌^◌, ◌==◌, ◌⊎◌, Bool, true, false, nat_lt, if◌then◌else◌, List, [], ◌∷◌, ◌++◌, length, count_by, slice_index}
-use mathlib.Core.Option.{some}
-use lib.ListN.{get_elem?}
 use Rattle.atomic_table.specs.Table.{State, Me, Step}
-use Rattle.cmh_rw.specs.Machine.{total}
+use Rattle.cmh_rw.specs.Machine.{IsSeat, total}
 use Rattle.cmh_work.specs.declared.TheConstants.{MAX_WORKERS}
 use Rattle.cmh_work.specs.declared.ticket_rule.TicketView.{TicketView}
 
@@ -89,7 +87,7 @@ pub record Dealt (chunks : ℕ) (s : State (Unit {0}) TicketView) : Type 0 where
   pub small : chunks < 2 ^ 32
   pub shares : total ticket_share s.views ≤ MAX_WORKERS
   pub over : slice_index s.words 0 ≤ chunks + total done_share s.views
-  pub each : (i : ℕ) (v : TicketView) → get_elem? s.views i ≡ some v
+  pub each : (i : ℕ) (v : TicketView) → IsSeat s.views i v
       → IsTicketSeat chunks (slice_index s.words 0) v
   pub numbers : (weight : ℕ → ℕ)
       → total (λ v. total weight v.drawn) s.views ≡ sum_below weight reached
