@@ -50,13 +50,7 @@ pub record Audit : Type 0 where
 
 -- the configuration with another bag
 abbrev pub with_bag : Config → List Message → Config
-with_bag c bag = record {
-  bag = bag;
-  procs = c.procs;
-  number = c.number;
-  engaged = c.engaged;
-  ended = c.ended;
-}
+with_bag c bag = record c { bag = bag }
 
 -- The deliveries have led to s, and what is kept agrees with it: the network but for its bag, and
 -- all that is undelivered, in the one place or in the other.

@@ -81,23 +81,14 @@ start g i c =
 
 -- process k does this: it sends, or it ends the run
 abbrev pub does : ℕ → Config → ℕ → ℕ → List ℕ → Action → Config
-does i c number k dependents action = record {
+does i c number k dependents action = record c {
   bag = c.bag ++ sent i number k dependents action;
-  procs = c.procs;
-  number = c.number;
-  engaged = c.engaged;
   ended = ended_by action;
 }
 
 -- process k becomes p
 abbrev pub becomes : Config → ℕ → Proc → Config
-becomes c k p = record {
-  bag = c.bag;
-  procs = slice_set c.procs k p;
-  number = c.number;
-  engaged = c.engaged;
-  ended = c.ended;
-}
+becomes c k p = record c { procs = slice_set c.procs k p }
 
 -- process k becomes p, and does this
 abbrev pub acted : ℕ → Config → ℕ → ℕ → List ℕ → Proc → Action → Config
@@ -122,13 +113,7 @@ engaged_by i c m dependents =
 
 -- the run is over, since process k is known to be free
 abbrev pub cut : Config → ℕ → Config
-cut c k = record {
-  bag = c.bag;
-  procs = c.procs;
-  number = c.number;
-  engaged = c.engaged;
-  ended = Some (CutFree k);
-}
+cut c k = record c { ended = Some (CutFree k) }
 
 -- A query would engage its receiver, and this is the hint about it. Who is known to be deadlocked
 -- engages as a process that has nobody to ask; who is known to be free ends the run.
@@ -158,13 +143,7 @@ received g i c m Reply hint = replied i c m
 
 -- the configuration once the message at place x is taken
 abbrev pub without : Config → ℕ → Config
-without c x = record {
-  bag = remove c.bag x;
-  procs = c.procs;
-  number = c.number;
-  engaged = c.engaged;
-  ended = c.ended;
-}
+without c x = record c { bag = remove c.bag x }
 
 -- The delivery of m, which stood at place x, with this hint. An awake process discards it.
 abbrev pub delivered : Graph → ℕ → Config → ℕ → Message → Option Verdict → Config

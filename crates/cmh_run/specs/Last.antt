@@ -9,13 +9,7 @@ use Rattle.cmh_run.specs.Legal.{Going, Rule, any_place, IsRun}
 
 -- the message as one of the first computation
 abbrev pub renumbered : Message → Message
-renumbered m = record {
-  kind = m.kind;
-  initiator = m.initiator;
-  number = 1;
-  from = m.from;
-  to = m.to;
-}
+renumbered m = record m { number = 1 }
 
 -- the deliveries of computation n, renumbered 1; their hints stay as they stood
 abbrev pub alone : ℕ → List Delivery → List Delivery

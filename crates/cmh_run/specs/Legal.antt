@@ -31,9 +31,8 @@ begun g i restarts =
 
 -- the initiator has started again, and these restarts are still to come
 abbrev pub restart : Graph → ℕ → Going → List ℕ → Going
-restart g i s rest = record {
+restart g i s rest = record s {
   config = start g i s.config;
-  done = s.done;
   restarts = rest;
   restarted = s.restarted + 1;
 }
@@ -50,11 +49,9 @@ ready g i s = restarted_at g i s s.restarts
 
 -- the run once the message at place x of the bag is delivered
 abbrev pub after : Graph → ℕ → Going → ℕ → Delivery → Going
-after g i s x d = record {
+after g i s x d = record s {
   config = delivered g i s.config x d.message d.hint;
   done = s.done + 1;
-  restarts = s.restarts;
-  restarted = s.restarted;
 }
 
 -- a hint stands only where hints are asked, and is true

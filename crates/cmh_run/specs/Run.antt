@@ -35,15 +35,7 @@ place_in choices s = slice_index choices s.going.done % length s.going.config.ba
 
 -- the stage with another configuration
 abbrev pub with_config : Stage → Config → Stage
-with_config s c = record {
-  going = record {
-    config = c;
-    done = s.going.done;
-    restarts = s.going.restarts;
-    restarted = s.going.restarted;
-  };
-  log = s.log;
-}
+with_config s c = record s { going = record s.going { config = c } }
 
 -- the message that the choices name was taken, or there is none to take
 abbrev pub IsTakenBy : List ℕ → Stage → Stage → Option Message → Type 0
@@ -57,13 +49,11 @@ IsTakenBy choices old new (Some m) =
 -- the stage after the delivery of a message that was taken
 abbrev pub delivered_to : Graph → ℕ → Stage → Delivery → Stage
 delivered_to g i s d = record {
-  going = record {
+  going = record s.going {
     config = if is_awake g d.message.to
         then s.going.config
         else received g i s.going.config d.message d.message.kind d.hint;
     done = s.going.done + 1;
-    restarts = s.going.restarts;
-    restarted = s.going.restarted;
   };
   log = s.log ++ d ∷ [];
 }

@@ -31,10 +31,7 @@ answer_of s p = if nat_lt s.asked 4294967295 then told_at s.entries s.asked p el
 
 -- the script after an ask
 abbrev pub after_ask : Script → Script
-after_ask s = record {
-  entries = s.entries;
-  asked = if nat_lt s.asked 4294967295 then s.asked + 1 else s.asked;
-}
+after_ask s = record s { asked = if nat_lt s.asked 4294967295 then s.asked + 1 else s.asked }
 
 -- each entry tells the truth about a process
 abbrev pub AreTrueOf : Graph → List ScriptLine → Type 0
