@@ -17,8 +17,7 @@ use Rattle.cmh_run.specs.Config.{Config, blank, proc_at, nothing_yet, start, wit
 use Rattle.cmh_run.specs.Legal.{Going, going_from, begun, restart, restarted_at, ready, after, Rule, MayCome, DeliveriesLead, EndsAs, IsRun, HintIsFit, IsRight}
 use Rattle.cmh_run.specs.Choices.{chosen_place, HasNoHints}
 use Rattle.cmh_run.specs.Engaged.{AreEngaged}
-use Rattle.cmh_run.specs.Run.{Stage, Run, IsRunOf, TellsTruth, empty_run_of, verdict_of, MayStart, place_in, IsTakenBy, delivered_to, ending_of}
-use Rattle.cmh_run.specs.Follow.{Follows}
+use Rattle.cmh_run.specs.Run.{Stage, Follows, Run, IsRunOf, TellsTruth, empty_run_of, verdict_of, MayStart, place_in, IsTakenBy, delivered_to, ending_of}
 use Rattle.cmh_run.specs.Packed.{CanSend, EngagersHaveRoom}
 use Rattle.cmh_run.specs.declared.TheConstants.{MAX_RESTARTS}
 use Rattle.cmh_graph.specs.Verdict.{IsVerdict}

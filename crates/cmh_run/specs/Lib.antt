@@ -4,7 +4,6 @@ pub mod Choices
 pub mod Config
 pub mod Engaged
 pub mod Fault
-pub mod Follow
 pub mod Last
 pub mod Legal
 pub mod Packed

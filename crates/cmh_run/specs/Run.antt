@@ -13,7 +13,7 @@ use Rattle.cmh_run.specs.declared.fault.RunFault.TheVariants.{NotIdle, TooManyCh
 use Rattle.cmh_run.specs.declared.TheConstants.{MAX_CHOICES, MAX_RESTARTS}
 use Rattle.cmh_run.specs.Config.{Config, proc_at, without, received}
 use Rattle.cmh_graph.specs.Verdict.{IsDeadlocked, IsVerdict}
-use Rattle.cmh_run.specs.Legal.{Going, Rule, HintIsFit, IsRun, IsRight}
+use Rattle.cmh_run.specs.Legal.{Going, begun, Rule, HintIsFit, DeliveriesLead, IsRun, IsRight}
 use Rattle.cmh_run.specs.Choices.{chosen_place, HasNoHints}
 use Rattle.cmh_run.specs.Last.{LastIsRun}
 
@@ -21,6 +21,11 @@ use Rattle.cmh_run.specs.Last.{LastIsRun}
 pub record Stage : Type 0 where
   pub going : Going
   pub log : List Delivery
+
+-- the deliveries lead from the start to where the run is, by the choices
+pub record Follows (g : Graph) (i : ℕ) (choices restarts : List ℕ) (s : Stage) : Type 0 where
+  pub leads : DeliveriesLead (chosen_place choices) g i (begun g i restarts) s.log s.going
+  pub count : s.going.done ≡ length s.log
 
 -- the initiator may start again: its number grows, and has room in a word
 pub record MayStart (g : Graph) (i : ℕ) (s : Going) : Type 0 where
