@@ -10,4 +10,5 @@ pub mod Packed
 pub mod Procs
 pub mod Run
 pub mod Script
+pub mod ScriptProofs
 pub mod Tape

@@ -1,6 +1,5 @@
 -- Scripted hints: what is told at which ask, and what makes no script.
-use Rattle.std.specs.Prelude.{◌≡◌, ◌≢◌, ◌↔◌, [], ℕ, ◌+◌, ◌≤◌, Bool, ◌&&◌, ◌==◌, nat_lt, if◌then◌else◌, List, find, slice_get, Option, Some, None, option_map}
-use Rattle.std.proofs.Common.{sym, subst, ◌∙◌}
+use Rattle.std.specs.Prelude.{◌≡◌, ◌≢◌, ℕ, ◌+◌, ◌≤◌, Bool, ◌&&◌, ◌==◌, nat_lt, if◌then◌else◌, List, find, slice_get, Option, Some, None, option_map}
 use Rattle.cmh_graph.specs.declared.verdict.Verdict.{Verdict}
 use Rattle.cmh_graph.specs.Graph.{Graph, process_count}
 use Rattle.cmh_run.specs.declared.fault.ScriptFault.{ScriptFault}
@@ -61,15 +60,3 @@ IsFirstScriptFault g entries (ProcessOutOfRange i) =
 IsFirstScriptFault g entries (FalseVerdict i) =
     IsNever (IsOutOfRange (process_count g) entries) × IsFirst (IsUntrue g entries) i
 IsFirstScriptFault g entries Memory = ⊥
-
--- with the same entries two scripts speak of the same graphs
-pub scripts_keep_graphs : (a b : Script) (g : Graph) → a.entries ≡ b.entries
-    → AreTrueOf g a.entries ↔ AreTrueOf g b.entries
-scripts_keep_graphs a b g e = (
-  λ h. subst (λ (xs : List ScriptLine). AreTrueOf g xs) e h,
-  λ h. subst (λ (xs : List ScriptLine). AreTrueOf g xs) (sym e) h,
-)
-
--- with the same entries both or neither are silent
-pub scripts_keep_silent : (a b : Script) → a.entries ≡ b.entries → a.entries ≡ [] → b.entries ≡ []
-scripts_keep_silent a b e h = sym e ∙ h

@@ -11,7 +11,8 @@ ghost use Rattle.cmh_graph.specs.contracts.verdict.VerdictPartialEq.TheImpl as v
 ghost use Rattle.cmh_graph.specs.Judge.{IsFirst};
 ghost use Rattle.cmh_graph.specs.Graph.{Graph, process_count};
 ghost use Rattle.cmh_graph.specs.Verdict.{IsVerdict};
-ghost use Rattle.cmh_run.specs.Script.{AreTrueOf, scripts_keep_graphs, scripts_keep_silent, IsOutOfRange, Differs, IsNever, IsFirstScriptFault, told_at, answer_of, after_ask};
+ghost use Rattle.cmh_run.specs.Script.{AreTrueOf, IsOutOfRange, Differs, IsNever, IsFirstScriptFault, told_at, answer_of, after_ask};
+ghost use Rattle.cmh_run.specs.ScriptProofs.{scripts_keep_graphs, scripts_keep_silent};
 
 use crate::truth::truth_of;
 use crate::{Hints, ScriptFault};
