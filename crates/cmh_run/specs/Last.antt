@@ -33,7 +33,7 @@ IsUncut AtRest = ⊤
 IsUncut (CutFree k) = ⊥
 
 -- the deliveries are a whole run without restarts, with this ending and these engaged
-pub record IsWhole (g : Graph) (i : ℕ) (log : List Delivery)
+pub record IsWholeComputation (g : Graph) (i : ℕ) (log : List Delivery)
     (ending : Ending) (those : List ℕ) : Type 0 where
   pub end : Going
   pub legal : IsRun any_place g i [] log ending end
@@ -45,7 +45,7 @@ pub record LastIsRun (g : Graph) (i : ℕ) (log : List Delivery)
     (ending : Ending) (end : Going) : Type 0 where
   pub begins : BeginsRun g i (alone end.config.number log)
   pub whole : IsUncut ending
-      → IsWhole g i (alone end.config.number log) ending end.config.engaged
+      → IsWholeComputation g i (alone end.config.number log) ending end.config.engaged
 
 -- messages of older numbers have no part in what the last computation tells
 abbrev pub LastComputationIsARun : Type 0

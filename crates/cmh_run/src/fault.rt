@@ -59,13 +59,13 @@ impl<T: Drop> From<AllocFailed<T>> for RunFault {
     }
 }
 
-/// Why entries make no script, by their places.
+/// Why lines make no script, by their places.
 #[derive(Clone, Copy, PartialEq, Eq, Hash, Debug)]
 pub enum ScriptFault {
-    /// This entry is about no process of the graph.
+    /// This line is about no process of the graph.
     ProcessOutOfRange(usize),
 
-    /// This entry isn't true.
+    /// This line isn't true.
     FalseVerdict(usize),
 
     /// Memory was refused.

@@ -44,7 +44,7 @@ enum Call {
     /// The judgement of the log of the run of the cycle.
     CheckRun,
 
-    /// A script of two entries about the cycle.
+    /// A script of two lines about the cycle.
     Script,
 
     /// 16 messages, put into a bag one by one.

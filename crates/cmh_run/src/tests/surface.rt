@@ -128,8 +128,8 @@ fn judgements(rt: HostRuntime) -> Result<(), RunFault> {
 fn hints(rt: HostRuntime) -> Result<(), RunFault> {
     let alloc = rt.alloc();
     let graph = graph_of(alloc, &TWO_IN_A_CYCLE, &[])?;
-    let entries: [(u32, u32, Verdict); 1] = [(0, 1, Verdict::Deadlocked)];
-    let mut hints = Scripted::new(alloc, &graph, &entries).map_err(|_| RunFault::Memory)?;
+    let lines: [(u32, u32, Verdict); 1] = [(0, 1, Verdict::Deadlocked)];
+    let mut hints = Scripted::new(alloc, &graph, &lines).map_err(|_| RunFault::Memory)?;
     expect_eq(&rt, hints.hint(1), Some(Verdict::Deadlocked));
     expect_eq(&rt, hints.hint(1), None);
     expect_eq(&rt, NoHints.hint(1), None);
