@@ -1,6 +1,6 @@
-pub mod AuditLemmas
 pub mod Blank
 pub mod CheckLemmas
+pub mod CheckStateLemmas
 pub mod Configurations
 pub mod DeliveryBound
 pub mod Determinism

@@ -9,7 +9,7 @@ use Rattle.std.specs.BTreeMap.{is_at}
 use Rattle.cmh_process.specs.declared.message.Kind.{Kind}
 use Rattle.cmh_process.specs.declared.message.Kind.TheVariants.{Query, Reply}
 use Rattle.cmh_process.specs.declared.message.Message.{Message}
-use Rattle.cmh_run.specs.Audit.{pair_cmp, of_kind, Waiting, is_waiting, is_same_kind, goes_like}
+use Rattle.cmh_run.specs.CheckState.{pair_cmp, of_kind, Waiting, is_waiting, is_same_kind, goes_like}
 use Rattle.cmh_run.proofs.Configurations.{by_test}
 
 -- two numbers compare as equal where they are tested to be

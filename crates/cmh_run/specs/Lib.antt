@@ -1,5 +1,5 @@
-pub mod Audit
 pub mod Check
+pub mod CheckState
 pub mod Choices
 pub mod Config
 pub mod Engaged

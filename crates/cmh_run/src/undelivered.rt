@@ -2,7 +2,7 @@
 
 ghost use Rattle.std.specs.Prelude.{◌≡◌, ◌↔◌, false, not, ◌&&◌, ◌||◌, IsTrue, OnOk};
 ghost use Rattle.cmh_process.specs.declared.message.Message.{Message};
-ghost use Rattle.cmh_run.specs.Audit.{goes_like, is_waiting};
+ghost use Rattle.cmh_run.specs.CheckState.{goes_like, is_waiting};
 
 use cmh_process::{Kind, Message};
 use std::alloc::{AllocError, Global};
@@ -18,7 +18,7 @@ pub(crate) struct Undelivered {
 }
 
 impl Model for Undelivered {
-    ghost use Rattle.cmh_run.specs.Audit.{Waiting};
+    ghost use Rattle.cmh_run.specs.CheckState.{Waiting};
 
     ghost Value = { Waiting };
 

@@ -68,7 +68,7 @@ fn refused_runs(rt: HostRuntime) -> Result<(), RunFault> {
 }
 
 #[test]
-fn judgements(rt: HostRuntime) -> Result<(), RunFault> {
+fn checks(rt: HostRuntime) -> Result<(), RunFault> {
     let alloc = rt.alloc();
     let graph = graph_of(alloc, &TWO_IN_A_CYCLE, &[])?;
     let known = [
