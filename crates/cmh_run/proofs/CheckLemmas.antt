@@ -24,7 +24,7 @@ use Rattle.cmh_run.specs.declared.fault.CheckFault.TheVariants.{NotIdle, NotUnde
 use Rattle.cmh_run.specs.Packed.{CanSend, EngagersHaveRoom}
 use Rattle.cmh_run.specs.Check.{LeadTo, HasEnded, IsUndelivered, IsLegalRun, IsAfterEnd, IsStray, IsMisled, IsFirstCheckFault}
 use Rattle.cmh_run.proofs.Soundness.{runs_are_sound}
-use Rattle.cmh_run.specs.CheckState.{is_waiting, goes_like, Waiting, CheckState, with_bag, Agrees, IsSettled, IsAwaited, IsChecked, IsFlaw}
+use Rattle.cmh_run.specs.CheckState.{is_waiting, goes_like, UndeliveredState, CheckState, with_bag, Agrees, IsSettled, IsAwaited, IsChecked, IsFlaw}
 use Rattle.cmh_run.proofs.Tokens.{each_at}
 use Rattle.cmh_run.proofs.LiveInvariant.{Fine}
 use Rattle.cmh_run.proofs.Places.{IsIn, in_nothing, none_in}
@@ -196,7 +196,7 @@ module _ (g : Graph) (i : ℕ) (log : List Delivery) (s : Going) (a : CheckState
       })
       (moved ∙ ap
       (λ (c : Config). cond (is_awake g d.message.to) c (received g i c d.message d.message.kind d.hint)) whole)
-      (λ m. ap (λ (w : Waiting). is_waiting w m) kept ∙ fewer m)
+      (λ m. ap (λ (w : UndeliveredState). is_waiting w m) kept ∙ fewer m)
     where
       whole : t.network ≡ with_bag s.config []
       whole = same ∙ h.network ∙ ap (λ (bag : List Message). with_bag s.config bag) settled

@@ -26,12 +26,12 @@ of_kind Query queries replies = queries
 of_kind Reply queries replies = replies
 
 -- the ends of the queries and of the replies that are undelivered
-pub record Waiting : Type 0 where
+pub record UndeliveredState : Type 0 where
   pub queries : List (ℕ × ℕ)
   pub replies : List (ℕ × ℕ)
 
 -- a message with this kind and these ends is among the undelivered ones
-abbrev pub is_waiting : Waiting → Message → Bool
+abbrev pub is_waiting : UndeliveredState → Message → Bool
 is_waiting w m = list_any (is_at (pair_cmp (m.from, m.to))) (of_kind m.kind w.queries w.replies)
 
 -- both kinds are queries, or both are replies
@@ -46,7 +46,7 @@ goes_like a b = is_same_kind a.kind b.kind && (a.from == b.from && a.to == b.to)
 -- beside those
 pub record CheckState : Type 0 where
   pub network : Config
-  pub undelivered : Waiting
+  pub undelivered : UndeliveredState
 
 -- the configuration with another bag
 abbrev pub with_bag : Config → List Message → Config

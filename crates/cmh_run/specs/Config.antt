@@ -1,4 +1,6 @@
 -- Configurations of one initiator's computations, and what a start and a delivery do to them.
+-- 'Configuration' is the literature's word for the state of a network: its processes, each in its
+-- state, and the messages under way.
 use Rattle.std.specs.Prelude.{ℕ, ◌+◌, Bool, true, false, not, ◌&&◌, ◌==◌, if◌then◌else◌, List, [], ◌∷◌, ◌++◌, length, map, remove, replicate, slice_set, slice_index_or, Option, Some, None}
 use Rattle.cmh_graph.specs.declared.verdict.Verdict.{Verdict}
 use Rattle.cmh_graph.specs.declared.verdict.Verdict.TheVariants.{Deadlocked, Free}

@@ -18,9 +18,9 @@ pub(crate) struct Undelivered {
 }
 
 impl Model for Undelivered {
-    ghost use Rattle.cmh_run.specs.CheckState.{Waiting};
+    ghost use Rattle.cmh_run.specs.CheckState.{UndeliveredState};
 
-    ghost Value = { Waiting };
+    ghost Value = { UndeliveredState };
 
     ghost view = { λ u. record { queries = u.queries.keys; replies = u.replies.keys } };
 }
