@@ -18,7 +18,7 @@ use Rattle.cmh_run.specs.declared.delivery.Delivery.{Delivery}
 use Rattle.cmh_run.specs.declared.delivery.Ending.{Ending}
 use Rattle.cmh_run.specs.declared.delivery.Ending.TheVariants.{CutFree}
 use Rattle.cmh_run.specs.Choices.{chosen_place, HasNoHints}
-use Rattle.cmh_run.specs.Config.{Config, proc_at, ended_by, nothing_yet, start, delivered, received, without, hinted, answered}
+use Rattle.cmh_run.specs.Config.{Config, proc_at, ended_by, nothing_yet, start, delivered, received, without, hinted, after_answer}
 use Rattle.cmh_run.specs.Legal.{Going, Rule, begun, going_from, ready, restart, restarted_at, after, DeliveriesLead, EndsAs, IsRun}
 use Rattle.cmh_run.specs.Run.{Run, IsRunOf}
 use Rattle.cmh_run.proofs.Determinism.{runs_are_deterministic, one_ending}
@@ -90,7 +90,7 @@ received_uncut : (g : Graph) (i : ℕ) (c : Config) (m : Message) (kind : Kind)
 received_uncut g i c m Reply = action_uncut (reply_action (proc_at c.procs m.to) m.number)
 received_uncut g i c m Query =
     by_test (engages (proc_at c.procs m.to) m.number)
-    (λ b. IsUncut (cond b (hinted g i c m None) (answered i c m)).ended)
+    (λ b. IsUncut (cond b (hinted g i c m None) (after_answer i c m)).ended)
     (λ e. none_uncut)
     (λ e. action_uncut (query_action (proc_at c.procs m.to) m.number m.from 0))
 

@@ -17,7 +17,7 @@ use Rattle.cmh_graph.proofs.Verdicts.{idle_within}
 use Rattle.cmh_run.specs.declared.delivery.Delivery.{Delivery}
 use Rattle.cmh_run.specs.declared.delivery.Ending.{Ending}
 use Rattle.cmh_run.specs.declared.delivery.Ending.TheVariants.{AtRest}
-use Rattle.cmh_run.specs.Config.{Config, proc_at, sent, nothing_yet, start, hinted, answered, received, without, delivered}
+use Rattle.cmh_run.specs.Config.{Config, proc_at, sent, nothing_yet, start, hinted, after_answer, received, without, delivered}
 use Rattle.cmh_run.specs.Legal.{Going, going_from, begun, ready, after, MayCome, any_place, DeliveriesLead}
 use Rattle.cmh_run.specs.Check.{LeadTo, IsUndelivered}
 use Rattle.cmh_run.specs.CheckState.{is_waiting, is_same_kind, goes_like, CheckState, with_bag, Agrees, IsSettled}
@@ -73,7 +73,7 @@ delivered_own g i c x m hint there own =
     by_kind Reply h = more [] (reply_action (proc_at c.procs m.to) m.number)
     by_kind Query h =
         by_test (engages (proc_at c.procs m.to) m.number)
-        (λ b. Each (Own i) (cond b (hinted g i (without c x) m h) (answered i (without c x) m)).bag)
+        (λ b. Each (Own i) (cond b (hinted g i (without c x) m h) (after_answer i (without c x) m)).bag)
         (λ e. by_hint h) (λ e. more [] (query_action (proc_at c.procs m.to) m.number m.from 0))
 
 -- without restarts, what is true of a run's start is kept: its messages are its own, and no restart is to come
@@ -165,9 +165,9 @@ received_bag : (g : Graph) (i : ℕ) (c : Config) (bag : List Message) (m : Mess
 received_bag g i c bag m Reply hint = refl
 received_bag g i c bag m Query hint =
     by_test (engages (proc_at c.procs m.to) m.number)
-    (λ b. ◌≡◌ {A = Config} (cond b (hinted g i (with_bag c bag) m hint) (answered i (with_bag c bag) m))
-    (with_bag (cond b (hinted g i (with_bag c []) m hint) (answered i (with_bag c []) m))
-    (bag ++ (cond b (hinted g i (with_bag c []) m hint) (answered i (with_bag c []) m)).bag)))
+    (λ b. ◌≡◌ {A = Config} (cond b (hinted g i (with_bag c bag) m hint) (after_answer i (with_bag c bag) m))
+    (with_bag (cond b (hinted g i (with_bag c []) m hint) (after_answer i (with_bag c []) m))
+    (bag ++ (cond b (hinted g i (with_bag c []) m hint) (after_answer i (with_bag c []) m)).bag)))
     (λ e. by_hint hint) (λ e. refl)
   where
     by_hint : (h : Option Verdict)
