@@ -1,4 +1,4 @@
-//! The check of logs.
+//! Whether a log from anywhere is that of a legal run, and if not, what is wrong with it first.
 
 ghost use Rattle.std.specs.Prelude.{◌≡◌, ◌⊎◌, ◌↔◌, IfOk, IfErr};
 ghost use Rattle.cmh_graph.specs.Verdict.{IsDeadlocked};

@@ -143,6 +143,7 @@ fn judge(
     Ok(())
 }
 
+/// Whether each is greater than the one before it.
 fn is_rising(list: &[u32]) -> bool
     ensures { IsTrue result ↔ IsRising list.now }
 {

@@ -1,4 +1,4 @@
-//! Hints by a script.
+//! Hints that are written down before the run, each with the ask at which it is told.
 
 ghost use Rattle.std.specs.Prelude.{◌==◌, ◌≡◌, ◌⊎◌, ◌<◌, [], None, IfOk, IfErr, IfSome, IfNone, length, refl};
 ghost use Rattle.std.proofs.Common.{◌∙◌};

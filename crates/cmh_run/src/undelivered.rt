@@ -36,12 +36,15 @@ impl Undelivered {
         }
     }
 
+    /// Whether there is no message.
     pub(crate) fn is_empty(&self) -> bool
         ensures { IsTrue result ↔ ((m : Message) → is_waiting self.now m ≡ false) }
     {
         self.queries.is_empty() && self.replies.is_empty()
     }
 
+    /// Adds a message, in time logarithmic in their number. Where it is there already, nothing
+    /// changes.
     pub(crate) fn add(&mut self, message: Message) -> Result<(), AllocError>
         ensures ok { OnOk result ((m : Message) →
             is_waiting self.new m ≡ (goes_like message m || is_waiting self.old m)) }
@@ -54,7 +57,7 @@ impl Undelivered {
         Ok(())
     }
 
-    /// Takes the message out, if it is there.
+    /// Takes the message out, if it is there, in time logarithmic in their number.
     pub(crate) fn take(&mut self, message: Message) -> bool
         ensures found { result ≡ is_waiting self.old message }
         ensures rest { (m : Message) → is_waiting self.new m

@@ -37,16 +37,12 @@ fn take_all(alloc: Global, blocks: &mut Vec<Vec<u8>>) {
 enum Call {
     /// The run of the follower of the cycle.
     Run,
-
     /// The run that starts again after two deliveries.
     RunAgain,
-
     /// The check of the log of the run of the cycle.
     CheckRun,
-
     /// A script of two lines about the cycle.
     Script,
-
     /// 16 messages, put into a bag one by one.
     Push,
 }
