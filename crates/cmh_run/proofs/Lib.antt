@@ -1,3 +1,4 @@
+pub mod BetweenLemmas
 pub mod Blank
 pub mod CheckLemmas
 pub mod CheckStateLemmas

@@ -172,6 +172,7 @@ fn values(rt: HostRuntime) {
     .hash(&mut state);
     laws::law_runs_sound();
     laws::law_delivery_bound();
+    laws::law_messages_between();
     laws::law_who_engages();
     laws::law_awake_ones_start_nothing();
     laws::law_runs_deterministic();
