@@ -57,7 +57,7 @@ counts p number = p.wait && (p.latest == number && nat_lt 0 p.num)
 
 -- a process with one reply fewer to wait for
 abbrev pub lowered : Proc → Proc
-lowered p = record { latest = p.latest; engager = p.engager; num = p.num - 1; wait = p.wait }
+lowered p = record p { num = p.num - 1 }
 
 -- a process after a reply with this number
 abbrev pub proc_replied : Proc → ℕ → Proc

@@ -23,13 +23,10 @@ pub struct Proc {
 #[derive(Clone, Copy, PartialEq, Eq, Hash, Debug)]
 pub enum Action {
     Nothing,
-
     /// One query to each of its dependents, with its latest number.
     Engage,
-
     /// One reply to this process.
     ReplyTo(u32),
-
     /// Nothing: it is the initiator, and knows itself to be deadlocked.
     Declare,
 }

@@ -1,12 +1,11 @@
 -- Runs that have a trace, and that they have one alone.
-use Rattle.std.proofs.Common.{◌≡◌, ◌≢◌, ℕ, ◌<◌, ◌≤◌, take, ⊎_elim, true, false, ◌&&◌, ◌==◌, cond, List, [], ◌∷◌, ◌++◌, length, map, Option, Some, None, is_none, refl, sym, ◌∙◌, subst, arith, All}
+use Rattle.std.proofs.Common.{◌≡◌, ◌≢◌, ℕ, ◌<◌, ◌≤◌, take, ⊎_elim, ◌&&◌, ◌==◌, cond, List, [], ◌∷◌, ◌++◌, length, map, Option, Some, None, is_none, refl, sym, ◌∙◌, subst, arith}
 use Rattle.std.specs.Prelude.{flat_map}
 use Rattle.std.proofs.lemmas.Bool.{cases_eq, cases_lt}
 use Rattle.std.proofs.lemmas.List.{take_all}
 use Rattle.std.proofs.lemmas.List.Concat.{flat_map-append}
-use Rattle.std.proofs.lemmas.List.Elements.{All-nil, All-cons}
 use Rattle.cmh_graph.specs.declared.verdict.Verdict.{Verdict}
-use Rattle.cmh_graph.specs.Graph.{Graph, process_count, dependents_of, is_awake, is_idle, name_of, IsWithinGraph}
+use Rattle.cmh_graph.specs.Graph.{Graph, dependents_of, is_awake, name_of, IsWithinGraph}
 use Rattle.cmh_graph.proofs.Verdicts.{idle_within}
 use Rattle.cmh_process.specs.declared.message.Kind.{Kind}
 use Rattle.cmh_process.specs.declared.message.Kind.TheVariants.{Query, Reply}
@@ -18,55 +17,14 @@ use Rattle.cmh_run.specs.declared.delivery.Delivery.{Delivery}
 use Rattle.cmh_run.specs.declared.delivery.Ending.{Ending}
 use Rattle.cmh_run.specs.declared.delivery.Ending.TheVariants.{CutFree}
 use Rattle.cmh_run.specs.Choices.{chosen_place, HasNoHints}
-use Rattle.cmh_run.specs.Config.{Config, proc_at, ended_by, nothing_yet, start, delivered, received, without, hinted, answered}
+use Rattle.cmh_run.specs.Config.{Config, proc_at, ended_by, nothing_yet, start, delivered, received, without, hinted, after_answer}
 use Rattle.cmh_run.specs.Legal.{Going, Rule, begun, going_from, ready, restart, restarted_at, after, DeliveriesLead, EndsAs, IsRun}
 use Rattle.cmh_run.specs.Run.{Run, IsRunOf}
+use Rattle.cmh_run.proofs.BetweenLemmas.{messages_are_between}
 use Rattle.cmh_run.proofs.Determinism.{runs_are_deterministic, one_ending}
-use Rattle.cmh_run.proofs.LiveInvariant.{Fine}
-use Rattle.cmh_run.proofs.Configurations.{by_test, Stands, stepped, first_start, ready_stands, status_none}
-use Rattle.cmh_run.proofs.Tokens.{each_at}
-use Rattle.cmh_report.specs.Trace.{ending_lines, message_line, trace_text, IsBetween, IsFirstNamed, IsPlainRun, HasLines, OneTrace}
+use Rattle.cmh_run.proofs.Configurations.{by_test}
+use Rattle.cmh_report.specs.Trace.{ending_lines, message_line, trace_text, IsFirstNamed, IsPlainRun, HasLines, OneTrace}
 use Rattle.cmh_report.specs.Report.{line}
-
--- ---- messages
-
--- what leads on from a sound state has messages between processes of the graph alone
-leads_between : (rule : Rule) (g : Graph) (i : ℕ) → IsWithinGraph g → i < process_count g → is_awake g i ≡ false
-    → (log : List Delivery) (s end : Going) → Stands g i s.config → DeliveriesLead rule g i s log end
-    → All (λ d. IsBetween g d.message) log
-leads_between rule g i ok within rests [] s end h l = All-nil (λ d. IsBetween g d.message)
-leads_between rule g i ok within rests (d ∷ log) s end h l =
-    let now : Stands g i (ready g i s).config = ready_stands g i s ok within rests h s.restarts in
-    let live = status_none g i (ready g i s).config now l.1.going in
-    let fine =
-    each_at (Fine g i (ready g i s).config.number (proc_at (ready g i s).config.procs))
-    (ready g i s).config.bag l.0 d.message live.0.fine l.1.there in
-    All-cons (λ (x : Delivery). IsBetween g x.message) d log (fine.from_in, fine.to_in)
-    (leads_between rule g i ok within rests log (after g i (ready g i s) l.0 d) end
-    (stepped g i (ready g i s).config ok now.size l.1.going live.0 live.1 l.0 d.message l.1.there d.hint l.1.hint) l.3)
-
--- where nothing was started, no message comes
-nothing_between : (rule : Rule) (g : Graph) (i : ℕ) (log : List Delivery) (end : Going)
-    → DeliveriesLead rule g i (going_from (nothing_yet g) []) log end
-    → All (λ d. IsBetween g d.message) log
-nothing_between rule g i [] end l = All-nil (λ d. IsBetween g d.message)
-nothing_between rule g i (d ∷ log) end l = absurd (nothing_there l.1.there)
-  where
-    nothing_there : {m : Message} → None ≡ Some m → ⊥
-    nothing_there h = cc
-
--- a run of an idle process has messages between processes of the graph alone
-run_between : (rule : Rule) (g : Graph) (i : ℕ) (log : List Delivery) (end : Going) → IsWithinGraph g
-    → is_idle g i ≡ true
-    → DeliveriesLead rule g i (begun g i []) log end → All (λ d. IsBetween g d.message) log
-run_between rule g i log end ok idle =
-    by_test (is_awake g i)
-    (λ b. DeliveriesLead rule g i (cond b (going_from (nothing_yet g) []) (going_from (start g i (nothing_yet g)) []))
-    log end
-    → All (λ d. IsBetween g d.message) log)
-    (λ e l. nothing_between rule g i log end l)
-    (λ e l. leads_between rule g i ok (idle_within g i idle) e log (going_from (start g i (nothing_yet g)) []) end
-    (first_start g i ok (idle_within g i idle) e) l)
 
 -- ---- endings
 
@@ -90,7 +48,7 @@ received_uncut : (g : Graph) (i : ℕ) (c : Config) (m : Message) (kind : Kind)
 received_uncut g i c m Reply = action_uncut (reply_action (proc_at c.procs m.to) m.number)
 received_uncut g i c m Query =
     by_test (engages (proc_at c.procs m.to) m.number)
-    (λ b. IsUncut (cond b (hinted g i c m None) (answered i c m)).ended)
+    (λ b. IsUncut (cond b (hinted g i c m None) (after_answer i c m)).ended)
     (λ e. none_uncut)
     (λ e. action_uncut (query_action (proc_at c.procs m.to) m.number m.from 0))
 
@@ -147,7 +105,8 @@ pub has_lines : (choices : List ℕ) (g : Graph) (r : Run) → IsWithinGraph g �
 has_lines choices g r ok plain = record {
   initiator = idle_within g r.initiator plain.idle;
   messages =
-      run_between (chosen_place choices) g r.initiator r.log plain.legal.end ok plain.idle plain.legal.legal.leads;
+      messages_are_between (chosen_place choices) g r.initiator [] r.log r.ending plain.legal.end ok plain.idle
+      plain.legal.legal;
   ended = never_cut g choices [] r plain.legal plain.unhinted;
 }
 

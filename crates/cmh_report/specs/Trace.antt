@@ -7,6 +7,7 @@ use Rattle.cmh_process.specs.declared.message.Message.{Message}
 use Rattle.cmh_run.specs.declared.delivery.Ending.{Ending}
 use Rattle.cmh_run.specs.declared.delivery.Ending.TheVariants.{Declared, AtRest, CutFree}
 use Rattle.cmh_run.specs.Choices.{HasNoHints}
+use Rattle.cmh_run.specs.Legal.{IsBetween}
 use Rattle.cmh_run.specs.declared.fault.RunFault.{RunFault}
 use Rattle.cmh_run.specs.declared.fault.RunFault.TheVariants.{Memory}
 use Rattle.cmh_run.specs.Run.{Run, IsRunOf, IsFirstRunFault}
@@ -92,10 +93,6 @@ IsTraceFault name choices g app.NoSuchProcess = NobodyIsNamed g name
 IsTraceFault name choices g (app.Run fault) = HasNoRun name choices fault g
 IsTraceFault name choices g (app.Report fault) = ⊤
 IsTraceFault name choices g fault = ⊥
-
--- the message goes from a process of the graph to another, or to itself
-abbrev pub IsBetween : Graph → Message → Type 0
-IsBetween g m = (m.from < process_count g) × (m.to < process_count g)
 
 -- what the lines of a run ask of it: processes of the graph, and an ending that has a line
 pub record HasLines (g : Graph) (r : Run) : Type 0 where

@@ -1,4 +1,4 @@
--- What an auditor answers, against the run that the deliveries make.
+-- What a checker answers, against the run that the deliveries make.
 use Rattle.std.proofs.Common.{◌≡◌, ℕ, ◌<◌, arith, Bool, true, false, not, ◌&&◌, cond, List, [], ◌∷◌, ◌++◌, length, get_or, slice_get, Option, Some, None, is_some, refl, sym, ◌∙◌, ap, subst, ◌⊎◌, inr, ⊎_elim}
 use Rattle.std.specs.Prelude.{IfSome, IfNone, IfOk, IfErr, ok_or, ◌↔◌, take}
 use Rattle.std.proofs.lemmas.Bool.{true≢false, cases_Bool}
@@ -24,11 +24,11 @@ use Rattle.cmh_run.specs.declared.fault.CheckFault.TheVariants.{NotIdle, NotUnde
 use Rattle.cmh_run.specs.Packed.{CanSend, EngagersHaveRoom}
 use Rattle.cmh_run.specs.Check.{LeadTo, HasEnded, IsUndelivered, IsLegalRun, IsAfterEnd, IsStray, IsMisled, IsFirstCheckFault}
 use Rattle.cmh_run.proofs.Soundness.{runs_are_sound}
-use Rattle.cmh_run.specs.Audit.{is_waiting, goes_like, Waiting, Audit, with_bag, Agrees, IsSettled, IsAwaited, IsAudited, IsFlaw}
+use Rattle.cmh_run.specs.CheckState.{is_waiting, goes_like, UndeliveredState, CheckState, with_bag, Agrees, IsSettled, IsAwaited, IsChecked, IsFlaw}
 use Rattle.cmh_run.proofs.Tokens.{each_at}
 use Rattle.cmh_run.proofs.LiveInvariant.{Fine}
 use Rattle.cmh_run.proofs.Places.{IsIn, in_nothing, none_in}
-use Rattle.cmh_run.proofs.AuditLemmas.{Own, Firm, firm, agrees_after}
+use Rattle.cmh_run.proofs.CheckStateLemmas.{Own, Firm, firm, agrees_after}
 
 -- a hint that is fit with one bag is fit with any
 bag_fit : (g : Graph) (c : Config) (bag : List Message) (m : Message) (hint : Option Verdict)
@@ -36,8 +36,8 @@ bag_fit : (g : Graph) (c : Config) (bag : List Message) (m : Message) (hint : Op
 bag_fit g c bag m None h = h
 bag_fit g c bag m (Some v) h = h
 
-module _ (g : Graph) (i : ℕ) (log : List Delivery) (s : Going) (a : Audit) (h : Agrees g i log s a) where
-  -- where what is kept agrees with the run, what an auditor may count on is true of the run
+module _ (g : Graph) (i : ℕ) (log : List Delivery) (s : Going) (a : CheckState) (h : Agrees g i log s a) where
+  -- where what is kept agrees with the run, what a checker may count on is true of the run
   here : Firm g i s
   here = firm g i h.graph h.idle log s h.leads
 
@@ -46,8 +46,8 @@ module _ (g : Graph) (i : ℕ) (log : List Delivery) (s : Going) (a : Audit) (h 
   same_ended = ap (λ (c : Config). c.ended) h.network
 
   -- the network that is kept has as many processes as the graph
-  pub audit_size : length a.network.procs ≡ process_count g
-  audit_size = ap (λ (c : Config). length c.procs) h.network ∙ here.size
+  pub network_size : length a.network.procs ≡ process_count g
+  network_size = ap (λ (c : Config). length c.procs) h.network ∙ here.size
 
   -- where the network that is kept has an ending, the run has ended so
   pub ended_as : (e : Ending) → a.network.ended ≡ Some e → EndsAs s.config e
@@ -66,8 +66,8 @@ module _ (g : Graph) (i : ℕ) (log : List Delivery) (s : Going) (a : Audit) (h 
       by_ended (Some AtRest) e = absurd (here.not_at_rest e)
 
   -- an undelivered message goes to a process of the graph
-  audit_receiver : (m : Message) → IsUndelivered s.config m → s.config.ended ≡ None → m.to < process_count g
-  audit_receiver m u going =
+  receiver_within : (m : Message) → IsUndelivered s.config m → s.config.ended ≡ None → m.to < process_count g
+  receiver_within m u going =
       let live = here.live m u going in
       (each_at (Fine g i s.config.number (proc_at s.config.procs)) s.config.bag u.0 m live.fine u.1).to_in
 
@@ -139,7 +139,7 @@ pub where_none : (o : Option Ending) (P : Type 0) → false ≡ is_some o → If
 where_none None P e h = h
 where_none (Some x) P e h = absurd (true≢false (sym e))
 
-module _ (g : Graph) (i : ℕ) (log : List Delivery) (s : Going) (a : Audit) (d : Delivery) (h : Agrees g i log s a)
+module _ (g : Graph) (i : ℕ) (log : List Delivery) (s : Going) (a : CheckState) (d : Delivery) (h : Agrees g i log s a)
     (settled : IsSettled a) (going : ¬ (HasEnded s.config)) (aw : IsAwaited i a d.message) where
   -- the message of the delivery is undelivered
   pub is_there : IsUndelivered s.config d.message
@@ -147,7 +147,7 @@ module _ (g : Graph) (i : ℕ) (log : List Delivery) (s : Going) (a : Audit) (d 
 
   -- an awaited message of a run that hasn't ended goes to a process of the graph
   pub delivery_within : d.message.to < process_count g
-  delivery_within = audit_receiver g i log s a h d.message is_there (is_going g i log s a h going)
+  delivery_within = receiver_within g i log s a h d.message is_there (is_going g i log s a h going)
 
   -- what the receiver of an awaited message sends has room in a word
   pub delivery_sender : CanSend i d.message.number d.message.to
@@ -180,7 +180,7 @@ module _ (g : Graph) (i : ℕ) (log : List Delivery) (s : Going) (a : Audit) (d 
   network_going = ap (λ (c : Config). c.ended) h.network ∙ is_going g i log s a h going
 
   -- once an awaited message is delivered with a fit hint, what is kept agrees with the longer run
-  pub after_delivery : (t b : Audit) → t.network ≡ a.network
+  pub after_delivery : (t b : CheckState) → t.network ≡ a.network
       → ((m : Message) → is_waiting t.undelivered m ≡ (not (goes_like d.message m) && is_waiting a.undelivered m))
       → HintIsFit g t.network d.message d.hint
       → b.network ≡ cond (is_awake g d.message.to) t.network (received g i t.network d.message d.message.kind d.hint)
@@ -196,7 +196,7 @@ module _ (g : Graph) (i : ℕ) (log : List Delivery) (s : Going) (a : Audit) (d 
       })
       (moved ∙ ap
       (λ (c : Config). cond (is_awake g d.message.to) c (received g i c d.message d.message.kind d.hint)) whole)
-      (λ m. ap (λ (w : Waiting). is_waiting w m) kept ∙ fewer m)
+      (λ m. ap (λ (w : UndeliveredState). is_waiting w m) kept ∙ fewer m)
     where
       whole : t.network ≡ with_bag s.config []
       whole = same ∙ h.network ∙ ap (λ (bag : List Message). with_bag s.config bag) settled
@@ -245,46 +245,46 @@ ending_tells g i log s e w idle leads ends =
     by_ending AtRest h = absurd (h (λ q. cc))
     by_ending (CutFree k) h = absurd (h (λ q. cc))
 
-module _ (g : Graph) (i : ℕ) (log : List Delivery) (a : Audit) (audited : IsAudited g i log a) where
-  -- where the auditor answers an ending, each run that agrees with what it keeps has ended so
+module _ (g : Graph) (i : ℕ) (log : List Delivery) (a : CheckState) (checked : IsChecked g i log a) where
+  -- where the checker answers an ending, each run that agrees with what it keeps has ended so
   abbrev pub IsAnswer : Option Ending → Type 0
   IsAnswer o =
       IfSome o
       (λ e. (g : Graph) (i : ℕ) (log : List Delivery) (s : Going) → Agrees g i log s a → IsSettled a
       → EndsAs s.config e)
 
-  -- where the auditor answers no ending, no run that agrees with what it keeps has ended
+  -- where the checker answers no ending, no run that agrees with what it keeps has ended
   abbrev pub IsNoAnswer : Option Ending → Type 0
   IsNoAnswer o =
       IfNone o
       ((g : Graph) (i : ℕ) (log : List Delivery) (s : Going) → Agrees g i log s a → IsSettled a
       → ¬ (HasEnded s.config))
 
-  -- where the auditor answers an ending, the log is a legal run that has ended so
+  -- where the checker answers an ending, the log is a legal run that has ended so
   pub answer_legal : (o : Option Ending) → IsAnswer o → IfOk (ok_or o NotEnded) (IsLegalRun g i log)
   answer_legal None f = tt
   answer_legal (Some e) f =
       record {
-        idle = audited.1.idle;
-        end = audited.0;
-        legal = record { leads = audited.1.leads; ends = f g i log audited.0 audited.1 audited.2 };
+        idle = checked.1.idle;
+        end = checked.0;
+        legal = record { leads = checked.1.leads; ends = f g i log checked.0 checked.1 checked.2 };
       }
 
-  -- where the auditor answers an ending, it is a declaration just where the initiator is deadlocked
+  -- where the checker answers an ending, it is a declaration just where the initiator is deadlocked
   pub answer_true : (o : Option Ending) → IsAnswer o → IfOk (ok_or o NotEnded) (λ e. (e ≡ Declared) ↔ IsDeadlocked g i)
   answer_true None f = tt
   answer_true (Some e) f =
-      ending_tells g i log audited.0 e audited.1.graph audited.1.idle audited.1.leads
-      (f g i log audited.0 audited.1 audited.2)
+      ending_tells g i log checked.0 e checked.1.graph checked.1.idle checked.1.leads
+      (f g i log checked.0 checked.1 checked.2)
 
-  -- where the auditor answers no ending, the first fault of the log is that it is cut short
+  -- where the checker answers no ending, the first fault of the log is that it is cut short
   pub answer_cut : (o : Option Ending) → IsNoAnswer o
       → IfErr (ok_or o NotEnded) (λ e. (e ≡ Memory) ⊎ IsFirstCheckFault g i log e)
   answer_cut None f =
       inr (record {
-        idle = audited.1.idle;
-        state = audited.0;
-        leads = audited.1.leads;
-        going = f g i log audited.0 audited.1 audited.2;
+        idle = checked.1.idle;
+        state = checked.0;
+        leads = checked.1.leads;
+        going = f g i log checked.0 checked.1 checked.2;
       })
   answer_cut (Some e) f = tt

@@ -19,7 +19,7 @@ use Rattle.cmh_graph.specs.Graph.{Graph, process_count, dependents_of, is_awake,
 use Rattle.cmh_graph.specs.Path.{Reaches}
 use Rattle.cmh_graph.specs.Verdict.{IsDeadlocked}
 use Rattle.cmh_graph.proofs.Verdicts.{asleep_is_idle}
-use Rattle.cmh_run.specs.Config.{Config, reply, proc_at, sent, ended_by, acted, engaged_by, hinted, received, without, delivered, start, nothing_yet}
+use Rattle.cmh_run.specs.Config.{Config, reply, proc_at, sent, ended_by, after_step, engaged_by, hinted, received, without, delivered, start, nothing_yet}
 use Rattle.cmh_run.specs.Legal.{HintIsFit, Going, restarted_at, ready, after, DeliveriesLead}
 use Rattle.cmh_run.proofs.Tally.{tally, tally-le-length, tally_from_contains, contains_from_tally}
 use Rattle.cmh_run.proofs.InvariantSteps.{upd, place, Calm, calm}
@@ -158,7 +158,7 @@ module _ (g : Graph) (i : ℕ) (c : Config) (ok : IsWithinGraph g) (size : lengt
   -- what is true of a configuration stays true after a query that engages nobody
   not_engaging : m.kind ≡ Query → engages (proc_at c.procs m.to) m.number ≡ false
       → Stands g i
-      (acted i (without c x) m.number m.to [] (proc_queried (proc_at c.procs m.to) m.number m.from 0)
+      (after_step i (without c x) m.number m.to [] (proc_queried (proc_at c.procs m.to) m.number m.from 0)
       (query_action (proc_at c.procs m.to) m.number m.from 0))
   not_engaging kind old =
       rw old (by_test ((proc_at c.procs m.to).wait && eqb (proc_at c.procs m.to).latest m.number)
@@ -206,7 +206,7 @@ module _ (g : Graph) (i : ℕ) (c : Config) (ok : IsWithinGraph g) (size : lengt
   -- what is true of a configuration stays true after a reply
   replying : m.kind ≡ Reply
       → Stands g i
-      (acted i (without c x) m.number m.to [] (proc_replied (proc_at c.procs m.to) m.number)
+      (after_step i (without c x) m.number m.to [] (proc_replied (proc_at c.procs m.to) m.number)
       (reply_action (proc_at c.procs m.to) m.number))
   replying kind =
       by_test (counts (proc_at c.procs m.to) m.number)
@@ -328,7 +328,7 @@ module _ (g : Graph) (i : ℕ) (c : Config) (ok : IsWithinGraph g) (size : lengt
       by_test (engages (proc_at c.procs m.to) m.number)
       (λ b. Stands g i
       (cond b (hinted g i (without c x) m hint)
-      (acted i (without c x) m.number m.to [] (proc_queried (proc_at c.procs m.to) m.number m.from 0)
+      (after_step i (without c x) m.number m.to [] (proc_queried (proc_at c.procs m.to) m.number m.from 0)
       (query_action (proc_at c.procs m.to) m.number m.from 0))))
       (λ e. asked kind e rests hint fit)
       (λ e. not_engaging kind e)

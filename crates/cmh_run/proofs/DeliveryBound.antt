@@ -19,7 +19,7 @@ use Rattle.cmh_graph.specs.Graph.{Process, nobody}
 use Rattle.cmh_graph.specs.Build.{IsWellFormed}
 use Rattle.cmh_graph.specs.declared.TheConstants.{MAX_PROCESSES, MAX_DEPENDENCIES}
 use Rattle.cmh_graph.proofs.Verdicts.{asleep_is_idle, idle_within}
-use Rattle.cmh_run.specs.Config.{Config, query, proc_at, sent, acted, engaged_by, hinted, received, without, delivered, start, nothing_yet}
+use Rattle.cmh_run.specs.Config.{Config, query, proc_at, sent, after_step, engaged_by, hinted, received, without, delivered, start, nothing_yet}
 use Rattle.cmh_run.specs.Legal.{begun, Going, restarted_at, ready, after, DeliveriesLead, DeliveriesAreBounded}
 use Rattle.cmh_run.proofs.InvariantSteps.{upd}
 use Rattle.cmh_run.proofs.Tokens.{each_at, set_is}
@@ -167,7 +167,7 @@ module _ (g : Graph) (i : ℕ) (c : Config) (ok : IsWithinGraph g) (size : lengt
   -- a query that doesn't engage its receiver lowers the measure
   repeat_falls : m.kind ≡ Query → engages (proc_at c.procs m.to) m.number ≡ false
       → falls_here
-      (acted i (without c x) m.number m.to [] (proc_queried (proc_at c.procs m.to) m.number m.from 0)
+      (after_step i (without c x) m.number m.to [] (proc_queried (proc_at c.procs m.to) m.number m.from 0)
       (query_action (proc_at c.procs m.to) m.number m.from 0))
   unfolding falls_here
   repeat_falls kind old =
@@ -181,7 +181,7 @@ module _ (g : Graph) (i : ℕ) (c : Config) (ok : IsWithinGraph g) (size : lengt
   -- a reply lowers the measure
   reply_falls : m.kind ≡ Reply
       → falls_here
-      (acted i (without c x) m.number m.to [] (proc_replied (proc_at c.procs m.to) m.number)
+      (after_step i (without c x) m.number m.to [] (proc_replied (proc_at c.procs m.to) m.number)
       (reply_action (proc_at c.procs m.to) m.number))
   unfolding falls_here
   reply_falls kind =
@@ -226,7 +226,7 @@ module _ (g : Graph) (i : ℕ) (c : Config) (ok : IsWithinGraph g) (size : lengt
       receiving rests Query kind = by_test (engages (proc_at c.procs m.to) m.number)
           (λ b. falls_here
           (cond b (hinted g i (without c x) m hint)
-          (acted i (without c x) m.number m.to [] (proc_queried (proc_at c.procs m.to) m.number m.from 0)
+          (after_step i (without c x) m.number m.to [] (proc_queried (proc_at c.procs m.to) m.number m.from 0)
           (query_action (proc_at c.procs m.to) m.number m.from 0))))
           (λ e. asked_falls kind e rests hint) (λ e. repeat_falls kind e)
 

@@ -17,8 +17,7 @@ use Rattle.cmh_run.specs.Config.{Config, blank, proc_at, nothing_yet, start, wit
 use Rattle.cmh_run.specs.Legal.{Going, going_from, begun, restart, restarted_at, ready, after, Rule, MayCome, DeliveriesLead, EndsAs, IsRun, HintIsFit, IsRight}
 use Rattle.cmh_run.specs.Choices.{chosen_place, HasNoHints}
 use Rattle.cmh_run.specs.Engaged.{AreEngaged}
-use Rattle.cmh_run.specs.Run.{Stage, Run, IsRunOf, TellsTruth, empty_run_of, verdict_of, MayStart, place_in, IsTakenBy, delivered_to, ending_of}
-use Rattle.cmh_run.specs.Follow.{Follows}
+use Rattle.cmh_run.specs.Run.{ProgressState, Follows, Run, IsRunOf, TellsTruth, empty_run_of, verdict_of, MayStart, place_in, IsTakenBy, delivered_to, ending_of}
 use Rattle.cmh_run.specs.Packed.{CanSend, EngagersHaveRoom}
 use Rattle.cmh_run.specs.declared.TheConstants.{MAX_RESTARTS}
 use Rattle.cmh_graph.specs.Verdict.{IsVerdict}
@@ -141,8 +140,8 @@ pub record Steady (g : Graph) (i : ℕ) (s : Going) : Type 0 where
   pub stands : Stands g i s.config
   pub numbered : s.config.number ≡ s.restarted + 1
 
-module _ (g : Graph) (i : ℕ) (choices restarts : List ℕ) (s : Stage) (ok : IsWithinGraph g) (idle : is_idle g i ≡ true)
-    (f : Follows g i choices restarts s) where
+module _ (g : Graph) (i : ℕ) (choices restarts : List ℕ) (s : ProgressState) (ok : IsWithinGraph g)
+    (idle : is_idle g i ≡ true) (f : Follows g i choices restarts s) where
   -- an idle initiator is a process of the graph
   within : i < process_count g
   within = idle_within g i idle
@@ -315,7 +314,7 @@ told_empty b (x ∷ xs) is empty = absurd (omega (arith, eqb-true (length (x ∷
 
 -- ---- a message was taken
 
-module _ (g : Graph) (i : ℕ) (choices restarts : List ℕ) (s t : Stage) (m : Message) (ok : IsWithinGraph g)
+module _ (g : Graph) (i : ℕ) (choices restarts : List ℕ) (s t : ProgressState) (m : Message) (ok : IsWithinGraph g)
     (idle : is_idle g i ≡ true) (f : Follows g i choices restarts s) (taken : IsTakenBy choices s t (Some m)) where
   -- once a message is taken, there are as many processes as the graph has
   pub taken_size : length t.going.config.procs ≡ process_count g
@@ -357,7 +356,7 @@ module _ (g : Graph) (i : ℕ) (choices restarts : List ℕ) (s t : Stage) (m : 
       record {
         going = taken.0;
         there = taken.1;
-        hint = same_fit hint (subst (λ (u : Stage). HintIsFit g u.going.config m hint) taken.2 fit);
+        hint = same_fit hint (subst (λ (u : ProgressState). HintIsFit g u.going.config m hint) taken.2 fit);
       }
     where
       same_fit : (h : Option Verdict) → HintIsFit g (without s.going.config (place_in choices s)) m h
@@ -365,57 +364,59 @@ module _ (g : Graph) (i : ℕ) (choices restarts : List ℕ) (s t : Stage) (m : 
       same_fit None e = tt
       same_fit (Some v) e = e
 
-  module _ (hint : Option Verdict) (fit : HintIsFit g t.going.config m hint) (u : Stage)
+  module _ (hint : Option Verdict) (fit : HintIsFit g t.going.config m hint) (u : ProgressState)
       (step : u ≡ delivered_to g i t (record { message = m; hint = hint })) where
     -- the delivery of m with this hint
     d : Delivery
     d = record { message = m; hint = hint }
 
-    -- once m is delivered, the stage is the one after this delivery, which is the last of its log
+    -- once m is delivered, the run is where this delivery leads, which is the last of its log
     is_after : u
         ≡ record {
           going = after g i s.going (place_in choices s) (record { message = m; hint = hint });
           log = s.log ++ (record { message = m; hint = hint }) ∷ [];
         }
-    is_after = step ∙ ap (λ (w : Stage). delivered_to g i w (record { message = m; hint = hint })) taken.2
+    is_after = step ∙ ap (λ (w : ProgressState). delivered_to g i w (record { message = m; hint = hint })) taken.2
 
     -- once m is delivered the initiator may start again, if the run isn't over
     pub taken_may_start : length restarts ≤ MAX_RESTARTS → u.going.config.ended ≡ None → MayStart g i u.going
-    taken_may_start few = subst (λ (w : Stage). w.going.config.ended ≡ None → MayStart g i w.going) (sym is_after)
+    taken_may_start few =
+        subst (λ (w : ProgressState). w.going.config.ended ≡ None → MayStart g i w.going) (sym is_after)
         (may_start_after g i choices restarts s ok idle f (place_in choices s) (record { message = m; hint = hint }) few
         (taken_may hint fit))
 
     -- once m is delivered, and a restart has come if one is due, the run follows the choices
-    pub taken_follows : (v : Stage) → v ≡ record { going = ready g i u.going; log = u.log }
+    pub taken_follows : (v : ProgressState) → v ≡ record { going = ready g i u.going; log = u.log }
         → Follows g i choices restarts v
     taken_follows v e =
-        subst (λ (w : Stage). Follows g i choices restarts w)
+        subst (λ (w : ProgressState). Follows g i choices restarts w)
         (sym (e ∙ ap
-        (λ (w : Stage). let z : Stage = record { going = ready g i w.going; log = w.log } in z) is_after))
+        (λ (w : ProgressState). let z : ProgressState = record { going = ready g i w.going; log = w.log } in z)
+        is_after))
         (follows_on g i choices restarts s ok idle f (record { message = m; hint = hint }) (taken_may hint fit))
 
     -- once m is delivered, there was one delivery more, whether or not a restart is due
-    pub taken_done : (v : Stage) → v ≡ record { going = ready g i u.going; log = u.log }
+    pub taken_done : (v : ProgressState) → v ≡ record { going = ready g i u.going; log = u.log }
         → v.going.done ≡ s.going.done + 1
     taken_done v e =
-        ap (λ (w : Stage). w.going.done) e ∙ restart_keeps_count g i u.going u.going.restarts
-        ∙ ap (λ (w : Stage). w.going.done) is_after
+        ap (λ (w : ProgressState). w.going.done) e ∙ restart_keeps_count g i u.going u.going.restarts
+        ∙ ap (λ (w : ProgressState). w.going.done) is_after
 
     -- once m is delivered, the log is longer by this delivery, whether or not a restart is due
-    pub taken_log : (v : Stage) → v ≡ record { going = ready g i u.going; log = u.log }
+    pub taken_log : (v : ProgressState) → v ≡ record { going = ready g i u.going; log = u.log }
         → v.log ≡ s.log ++ (record { message = m; hint = hint }) ∷ []
-    taken_log v e = ap (λ (w : Stage). w.log) e ∙ ap (λ (w : Stage). w.log) is_after
+    taken_log v e = ap (λ (w : ProgressState). w.log) e ∙ ap (λ (w : ProgressState). w.log) is_after
 
     -- where no restarts are to come, none are once m is delivered
     pub taken_restarts : s.going.restarts ≡ [] → u.going.restarts ≡ []
-    taken_restarts none = ap (λ (w : Stage). w.going.restarts) is_after ∙ none
+    taken_restarts none = ap (λ (w : ProgressState). w.going.restarts) is_after ∙ none
 
     -- where no restarts are to come, the initiator doesn't start again once m is delivered
     pub taken_rests : s.going.restarts ≡ [] → u ≡ record { going = ready g i u.going; log = u.log }
     taken_rests none = rw (taken_restarts none) refl
 
     -- once m is delivered, fewer deliveries may still come
-    pub taken_falls : (v : Stage) → v ≡ record { going = ready g i u.going; log = u.log }
+    pub taken_falls : (v : ProgressState) → v ≡ record { going = ready g i u.going; log = u.log }
         → length restarts ≤ MAX_RESTARTS
         → 2 * dependency_count g * (MAX_RESTARTS + 1) + 1 - length v.log
         < 2 * dependency_count g * (MAX_RESTARTS + 1) + 1 - length s.log
@@ -428,7 +429,7 @@ module _ (g : Graph) (i : ℕ) (choices restarts : List ℕ) (s t : Stage) (m : 
 -- ---- the end
 
 -- a run that is over, or has nothing left to deliver, has ended as it says
-ends_as : (g : Graph) (i : ℕ) (choices restarts : List ℕ) (s : Stage) → IsWithinGraph g → is_idle g i ≡ true
+ends_as : (g : Graph) (i : ℕ) (choices restarts : List ℕ) (s : ProgressState) → IsWithinGraph g → is_idle g i ≡ true
     → Follows g i choices restarts s
     → (s.going.config.ended ≢ None) ⊎ (s.going.config.bag ≡ []) → EndsAs s.going.config (ending_of s.going.config.ended)
 ends_as g i choices restarts s ok idle f over = by_ended s.going.config.ended refl
@@ -454,19 +455,19 @@ ends_as g i choices restarts s ok idle f over = by_ended s.going.config.ended re
     by_ended (Some AtRest) e = absurd (not_at_rest (is_awake g i) refl e)
 
 -- where there is no message to take, the log is as it was
-pub over_log : (choices : List ℕ) (s t : Stage) → IsTakenBy choices s t None → t.log ≡ s.log
-over_log choices s t over = ap (λ (w : Stage). w.log) over.0
+pub over_log : (choices : List ℕ) (s t : ProgressState) → IsTakenBy choices s t None → t.log ≡ s.log
+over_log choices s t over = ap (λ (w : ProgressState). w.log) over.0
 
 -- a network that is cleared when there is no message to take is as at first
-pub cleared : (g : Graph) (i : ℕ) (choices restarts : List ℕ) (s t : Stage) (c : Config) → IsWithinGraph g
+pub cleared : (g : Graph) (i : ℕ) (choices restarts : List ℕ) (s t : ProgressState) (c : Config) → IsWithinGraph g
     → is_idle g i ≡ true → Follows g i choices restarts s
     → IsTakenBy choices s t None → c ≡ blank (length t.going.config.procs) → c ≡ nothing_yet g
 cleared g i choices restarts s t c ok idle f over e =
-    e ∙ ap (λ (w : Stage). blank (length w.going.config.procs)) over.0
+    e ∙ ap (λ (w : ProgressState). blank (length w.going.config.procs)) over.0
     ∙ ap blank (all_there g i choices restarts s ok idle f)
 
 -- what is kept of a run when there is no message to take is a legal run that followed the choices
-pub finished : (g : Graph) (i : ℕ) (choices restarts : List ℕ) (s t : Stage) (r : Run) → IsWithinGraph g
+pub finished : (g : Graph) (i : ℕ) (choices restarts : List ℕ) (s t : ProgressState) (r : Run) → IsWithinGraph g
     → is_idle g i ≡ true → Follows g i choices restarts s
     → IsTakenBy choices s t None
     → r ≡ record {
@@ -480,7 +481,7 @@ pub finished : (g : Graph) (i : ℕ) (choices restarts : List ℕ) (s t : Stage)
 finished g i choices restarts s t r ok idle f over e =
     subst (λ (x : Run). IsRunOf g choices restarts x)
     (sym (e ∙ ap
-    (λ (w : Stage). let z : Run = record {
+    (λ (w : ProgressState). let z : Run = record {
       initiator = i;
       log = w.log;
       ending = ending_of w.going.config.ended;

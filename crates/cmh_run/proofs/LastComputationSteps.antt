@@ -15,7 +15,7 @@ use Rattle.cmh_graph.specs.declared.verdict.Verdict.TheVariants.{Deadlocked, Fre
 use Rattle.cmh_graph.specs.Graph.{Graph, process_count, dependents_of, is_awake}
 use Rattle.cmh_run.specs.declared.delivery.Ending.{Ending}
 use Rattle.cmh_run.specs.declared.delivery.Ending.TheVariants.{Declared, AtRest, CutFree}
-use Rattle.cmh_run.specs.Config.{Config, proc_at, sent, ended_by, nothing_yet, start, acted, engaged_by, hinted, answered, received, without, delivered, cut}
+use Rattle.cmh_run.specs.Config.{Config, proc_at, sent, ended_by, nothing_yet, start, after_step, engaged_by, hinted, after_answer, received, without, delivered, after_cut}
 use Rattle.cmh_run.specs.Legal.{HintIsFit}
 use Rattle.cmh_run.specs.Last.{renumbered}
 use Rattle.cmh_run.proofs.Tokens.{Each}
@@ -95,8 +95,8 @@ module _ (g : Graph) (i : ℕ) (c : Config) (x : ℕ) (m : Message) (there : sli
 
   -- where the receiver acts alike, the computation alone is led to the same as seen from it
   acting : (act also : Action) (p q : Proc) → also ≡ act → recast m.number p ≡ q
-      → IsAlike (acted i (without c x) m.number m.to [] p act)
-      (acted i (without (shadow m.number c None) (place_among m.number c.bag x)) 1 m.to [] q also)
+      → IsAlike (after_step i (without c x) m.number m.to [] p act)
+      (after_step i (without (shadow m.number c None) (place_among m.number c.bag x)) 1 m.to [] q also)
   acting act also p q same pq = (
     ended_by also,
     subst (λ (z : Action). SameEnd (ended_by act) (ended_by z)) (sym same) (same_end act),
@@ -137,8 +137,8 @@ module _ (g : Graph) (i : ℕ) (c : Config) (x : ℕ) (m : Message) (there : sli
   )
 
   -- a hint that ends the run ends the computation alone too
-  cut_alike : IsAlike (cut (without c x) m.to)
-      (cut (without (shadow m.number c None) (place_among m.number c.bag x)) m.to)
+  cut_alike : IsAlike (after_cut (without c x) m.to)
+      (after_cut (without (shadow m.number c None) (place_among m.number c.bag x)) m.to)
   cut_alike = (Some (CutFree m.to), tt, rw (kept_taken m.number c.bag x m there refl) refl)
 
   -- a query that would engage its receiver leads to the same, with any hint, seen from the computation alone
@@ -170,9 +170,9 @@ module _ (g : Graph) (i : ℕ) (c : Config) (x : ℕ) (m : Message) (there : sli
   received_alike Query hint =
       both_tests (engages (proc_at (map (recast m.number) c.procs) m.to) 1) (engages (proc_at c.procs m.to) m.number)
       (ap (λ (z : Proc). engages z 1) here ∙ same_engages m.number (proc_at c.procs m.to) low positive)
-      (λ v w. IsAlike (cond w (hinted g i (without c x) m hint) (answered i (without c x) m))
+      (λ v w. IsAlike (cond w (hinted g i (without c x) m hint) (after_answer i (without c x) m))
       (cond v (hinted g i (without (shadow m.number c None) (place_among m.number c.bag x)) (renumbered m) hint)
-      (answered i (without (shadow m.number c None) (place_among m.number c.bag x)) (renumbered m))))
+      (after_answer i (without (shadow m.number c None) (place_among m.number c.bag x)) (renumbered m))))
       (λ a b. asked_alike hint)
       (λ a b. acting (query_action (proc_at c.procs m.to) m.number m.from 0)
       (query_action (proc_at (map (recast m.number) c.procs) m.to) 1 m.from 0)
@@ -267,7 +267,7 @@ module _ (n : ℕ) (g : Graph) (i : ℕ) (c : Config) (x : ℕ) (m : Message) (t
   )
 
   -- where a hint about an older query ends the run, nothing changes as seen from computation n
-  unseen_cut : IsUnseen (cut (without c x) m.to)
+  unseen_cut : IsUnseen (after_cut (without c x) m.to)
   unseen_cut = (tt, rw (kept_other n c.bag x m there other) refl)
 
   -- an older query that would engage changes nothing as seen from computation n, whatever the hint
@@ -278,7 +278,7 @@ module _ (n : ℕ) (g : Graph) (i : ℕ) (c : Config) (x : ℕ) (m : Message) (t
 
   -- an action in an older computation that doesn't end the run changes nothing as seen from computation n
   unseen_acting : (p : Proc) (act : Action) → ended_by act ≡ None → recast n p ≡ recast n (proc_at c.procs m.to)
-      → IsUnseen (acted i (without c x) m.number m.to [] p act)
+      → IsUnseen (after_step i (without c x) m.number m.to [] p act)
   unseen_acting p act calm same =
       (subst (λ (z : Option Ending). SameEnd z None) (sym calm) refl, unseen p [] act (ended_by act) same)
 
@@ -295,7 +295,7 @@ module _ (n : ℕ) (g : Graph) (i : ℕ) (c : Config) (x : ℕ) (m : Message) (t
       (replied_below n m.number (proc_at c.procs m.to) below)
   unseen_received Query hint =
       by_test (engages (proc_at c.procs m.to) m.number)
-      (λ b. IsUnseen (cond b (hinted g i (without c x) m hint) (answered i (without c x) m)))
+      (λ b. IsUnseen (cond b (hinted g i (without c x) m hint) (after_answer i (without c x) m)))
       (λ e. unseen_asked hint)
       (λ e. unseen_acting (proc_queried (proc_at c.procs m.to) m.number m.from 0)
       (query_action (proc_at c.procs m.to) m.number m.from 0)

@@ -1,6 +1,7 @@
-pub mod AuditLemmas
+pub mod BetweenLemmas
 pub mod Blank
 pub mod CheckLemmas
+pub mod CheckStateLemmas
 pub mod Configurations
 pub mod DeliveryBound
 pub mod Determinism

@@ -13,7 +13,7 @@ use Rattle.cmh_run.specs.Check.{LeadTo, HasEnded, IsUndelivered, IsLegalRun, Com
 use Rattle.cmh_run.proofs.Determinism.{over, one_ending}
 use Rattle.cmh_run.proofs.Places.{one_place}
 use Rattle.cmh_run.proofs.FollowLemmas.{leads_on}
-use Rattle.cmh_run.proofs.AuditLemmas.{firm}
+use Rattle.cmh_run.proofs.CheckStateLemmas.{firm}
 
 -- what stands in a list stands in its first places, if it is among them
 got_first : (log : List Delivery) (t n : ℕ) (d : Delivery) → t < n → slice_get log t ≡ Some d

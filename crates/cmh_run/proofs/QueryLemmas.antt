@@ -8,7 +8,7 @@ use Rattle.cmh_process.specs.declared.message.Kind.TheVariants.{Query}
 use Rattle.cmh_process.specs.declared.message.Message.{Message}
 use Rattle.cmh_graph.specs.Graph.{Graph, is_awake}
 use Rattle.cmh_process.specs.Process.{engages, fresh, repeat_action}
-use Rattle.cmh_run.specs.Config.{Config, answered, asks, does, hinted, proc_at, query, received}
+use Rattle.cmh_run.specs.Config.{Config, after_answer, asks, after_action, hinted, proc_at, query, received}
 use Rattle.cmh_graph.specs.Verdict.{IsVerdict}
 use Rattle.cmh_run.specs.Legal.{HintIsFit}
 
@@ -38,5 +38,5 @@ engaged_receives g i c m hint engaging = hinted_parts g i c m hint ∙ rw engagi
 
 -- a query that doesn't engage leaves its receiver as it is
 pub answers : (i : ℕ) (c : Config) (m : Message) → engages (proc_at c.procs m.to) m.number ≡ false
-    → does i c m.number m.to [] (repeat_action (proc_at c.procs m.to) m.number m.from) ≡ answered i c m
+    → after_action i c m.number m.to [] (repeat_action (proc_at c.procs m.to) m.number m.from) ≡ after_answer i c m
 answers i c m stale = rw (stale, set-get_or c.procs m.to fresh) refl

@@ -14,7 +14,7 @@ use Rattle.cmh_graph.specs.Graph.{Graph, process_count, is_awake, IsWithinGraph}
 use Rattle.cmh_graph.specs.Verdict.{IsDeadlocked}
 use Rattle.cmh_graph.proofs.Verdicts.{idle_within}
 use Rattle.cmh_run.proofs.Paths.{reaches_self, reached_deadlocked}
-use Rattle.cmh_run.specs.Config.{Config, proc_at, acted, hinted, received, without, delivered, start, nothing_yet}
+use Rattle.cmh_run.specs.Config.{Config, proc_at, after_step, hinted, received, without, delivered, start, nothing_yet}
 use Rattle.cmh_run.specs.Legal.{Going, ready, after, DeliveriesLead, EndsAs, IsRight, RunsAreSound}
 use Rattle.cmh_run.proofs.Tally.{tally_from_contains, distinct}
 use Rattle.cmh_run.proofs.Invariant.{engaged_deadlocked, none_on_way, at_rest_free}
@@ -35,7 +35,7 @@ number_kept g i c x m hint =
     received_kept Reply h = refl
     received_kept Query h = by_test (engages (proc_at c.procs m.to) m.number)
         (λ b. (cond b (hinted g i (without c x) m h)
-        (acted i (without c x) m.number m.to [] (proc_queried (proc_at c.procs m.to) m.number m.from 0)
+        (after_step i (without c x) m.number m.to [] (proc_queried (proc_at c.procs m.to) m.number m.from 0)
         (query_action (proc_at c.procs m.to) m.number m.from 0))).number ≡ c.number)
         (λ e. hint_kept h) (λ e. refl)
       where

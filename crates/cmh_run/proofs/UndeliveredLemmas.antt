@@ -9,7 +9,7 @@ use Rattle.std.specs.BTreeMap.{is_at}
 use Rattle.cmh_process.specs.declared.message.Kind.{Kind}
 use Rattle.cmh_process.specs.declared.message.Kind.TheVariants.{Query, Reply}
 use Rattle.cmh_process.specs.declared.message.Message.{Message}
-use Rattle.cmh_run.specs.Audit.{pair_cmp, of_kind, Waiting, is_waiting, is_same_kind, goes_like}
+use Rattle.cmh_run.specs.CheckState.{pair_cmp, of_kind, UndeliveredState, is_waiting, is_same_kind, goes_like}
 use Rattle.cmh_run.proofs.Configurations.{by_test}
 
 -- two numbers compare as equal where they are tested to be
@@ -116,15 +116,16 @@ no_ends [] h = refl
 no_ends (e ∷ es) h = absurd (true≢false (sym (first_in e es) ∙ h e))
 
 -- where no message is waiting, there are no queries
-pub no_queries : (w : Waiting) → ((m : Message) → is_waiting w m ≡ false) → length w.queries ≡ 0
+pub no_queries : (w : UndeliveredState) → ((m : Message) → is_waiting w m ≡ false) → length w.queries ≡ 0
 no_queries w h = ap length (no_ends w.queries (λ e. h (message Query e)))
 
 -- where no message is waiting, there are no replies
-pub no_replies : (w : Waiting) → ((m : Message) → is_waiting w m ≡ false) → length w.replies ≡ 0
+pub no_replies : (w : UndeliveredState) → ((m : Message) → is_waiting w m ≡ false) → length w.replies ≡ 0
 no_replies w h = ap length (no_ends w.replies (λ e. h (message Reply e)))
 
 -- where the sets are empty, no message is waiting
-pub none_waiting : (w : Waiting) → length w.queries ≡ 0 → length w.replies ≡ 0 → (m : Message) → is_waiting w m ≡ false
+pub none_waiting : (w : UndeliveredState) → length w.queries ≡ 0 → length w.replies ≡ 0 → (m : Message)
+    → is_waiting w m ≡ false
 none_waiting w q r m = by_kind m.kind
   where
     empty : (es : List (ℕ × ℕ)) → length es ≡ 0 → list_any (is_at (pair_cmp (m.from, m.to))) es ≡ false

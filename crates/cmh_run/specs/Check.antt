@@ -1,4 +1,4 @@
--- What is wrong with a log of deliveries, judged as a run without restarts.
+-- What is wrong with a log of deliveries, checked as a run without restarts.
 use Rattle.std.specs.Prelude.{◌≡◌, ℕ, List, [], take, slice_get, Some, IsTrue, IsFalse}
 use Rattle.cmh_graph.specs.Graph.{Graph, is_idle}
 use Rattle.cmh_graph.specs.Build.{IsWellFormed}

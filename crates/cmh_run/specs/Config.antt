@@ -1,4 +1,6 @@
 -- Configurations of one initiator's computations, and what a start and a delivery do to them.
+-- 'Configuration' is the literature's word for the state of a network: its processes, each in its
+-- state, and the messages under way.
 use Rattle.std.specs.Prelude.{ℕ, ◌+◌, Bool, true, false, not, ◌&&◌, ◌==◌, if◌then◌else◌, List, [], ◌∷◌, ◌++◌, length, map, remove, replicate, slice_set, slice_index_or, Option, Some, None}
 use Rattle.cmh_graph.specs.declared.verdict.Verdict.{Verdict}
 use Rattle.cmh_graph.specs.declared.verdict.Verdict.TheVariants.{Deadlocked, Free}
@@ -79,33 +81,24 @@ start g i c =
       ended = ended_by action;
     }
 
--- process k does this: it sends, or it ends the run
-abbrev pub does : ℕ → Config → ℕ → ℕ → List ℕ → Action → Config
-does i c number k dependents action = record {
+-- the configuration once process k has done this: it sends, or it ends the run
+abbrev pub after_action : ℕ → Config → ℕ → ℕ → List ℕ → Action → Config
+after_action i c number k dependents action = record c {
   bag = c.bag ++ sent i number k dependents action;
-  procs = c.procs;
-  number = c.number;
-  engaged = c.engaged;
   ended = ended_by action;
 }
 
--- process k becomes p
-abbrev pub becomes : Config → ℕ → Proc → Config
-becomes c k p = record {
-  bag = c.bag;
-  procs = slice_set c.procs k p;
-  number = c.number;
-  engaged = c.engaged;
-  ended = c.ended;
-}
+-- the configuration with p as process k
+abbrev pub with_proc : Config → ℕ → Proc → Config
+with_proc c k p = record c { procs = slice_set c.procs k p }
 
--- process k becomes p, and does this
-abbrev pub acted : ℕ → Config → ℕ → ℕ → List ℕ → Proc → Action → Config
-acted i c number k dependents p action = does i (becomes c k p) number k dependents action
+-- the configuration after a step of process k, which becomes p and does this
+abbrev pub after_step : ℕ → Config → ℕ → ℕ → List ℕ → Proc → Action → Config
+after_step i c number k dependents p action = after_action i (with_proc c k p) number k dependents action
 
 -- the engaged once k engages with this number: those of an older number aren't kept
-abbrev pub engaged_after : Config → ℕ → ℕ → List ℕ
-engaged_after c number k = if number == c.number then c.engaged ++ k ∷ [] else c.engaged
+abbrev pub engaged_with : Config → ℕ → ℕ → List ℕ
+engaged_with c number k = if number == c.number then c.engaged ++ k ∷ [] else c.engaged
 
 -- the configuration once a query engages its receiver, which asks these
 abbrev pub engaged_by : ℕ → Config → Message → List ℕ → Config
@@ -116,55 +109,43 @@ engaged_by i c m dependents =
       bag = c.bag ++ sent i m.number m.to dependents action;
       procs = slice_set c.procs m.to (proc_queried p m.number m.from (length dependents));
       number = c.number;
-      engaged = engaged_after c m.number m.to;
+      engaged = engaged_with c m.number m.to;
       ended = None;
     }
 
--- the run is over, since process k is known to be free
-abbrev pub cut : Config → ℕ → Config
-cut c k = record {
-  bag = c.bag;
-  procs = c.procs;
-  number = c.number;
-  engaged = c.engaged;
-  ended = Some (CutFree k);
-}
+-- the configuration once the run is over, since process k is known to be free
+abbrev pub after_cut : Config → ℕ → Config
+after_cut c k = record c { ended = Some (CutFree k) }
 
 -- A query would engage its receiver, and this is the hint about it. Who is known to be deadlocked
 -- engages as a process that has nobody to ask; who is known to be free ends the run.
 abbrev pub hinted : Graph → ℕ → Config → Message → Option Verdict → Config
 hinted g i c m None = engaged_by i c m (dependents_of g m.to)
 hinted g i c m (Some Deadlocked) = engaged_by i c m []
-hinted g i c m (Some Free) = cut c m.to
+hinted g i c m (Some Free) = after_cut c m.to
 
 -- the configuration after a query that engages nobody
-abbrev pub answered : ℕ → Config → Message → Config
-answered i c m =
+abbrev pub after_answer : ℕ → Config → Message → Config
+after_answer i c m =
     let p = proc_at c.procs m.to in
     let next = proc_queried p m.number m.from 0 in
-    acted i c m.number m.to [] next (query_action p m.number m.from 0)
+    after_step i c m.number m.to [] next (query_action p m.number m.from 0)
 
 -- the configuration once the receiver has got a reply
-abbrev pub replied : ℕ → Config → Message → Config
-replied i c m =
+abbrev pub after_reply : ℕ → Config → Message → Config
+after_reply i c m =
     let p = proc_at c.procs m.to in
-    acted i c m.number m.to [] (proc_replied p m.number) (reply_action p m.number)
+    after_step i c m.number m.to [] (proc_replied p m.number) (reply_action p m.number)
 
 -- what a message does to a process that isn't awake
 abbrev pub received : Graph → ℕ → Config → Message → Kind → Option Verdict → Config
 received g i c m Query hint =
-    if engages (proc_at c.procs m.to) m.number then hinted g i c m hint else answered i c m
-received g i c m Reply hint = replied i c m
+    if engages (proc_at c.procs m.to) m.number then hinted g i c m hint else after_answer i c m
+received g i c m Reply hint = after_reply i c m
 
 -- the configuration once the message at place x is taken
 abbrev pub without : Config → ℕ → Config
-without c x = record {
-  bag = remove c.bag x;
-  procs = c.procs;
-  number = c.number;
-  engaged = c.engaged;
-  ended = c.ended;
-}
+without c x = record c { bag = remove c.bag x }
 
 -- The delivery of m, which stood at place x, with this hint. An awake process discards it.
 abbrev pub delivered : Graph → ℕ → Config → ℕ → Message → Option Verdict → Config

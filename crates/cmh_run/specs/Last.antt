@@ -9,13 +9,7 @@ use Rattle.cmh_run.specs.Legal.{Going, Rule, any_place, IsRun}
 
 -- the message as one of the first computation
 abbrev pub renumbered : Message → Message
-renumbered m = record {
-  kind = m.kind;
-  initiator = m.initiator;
-  number = 1;
-  from = m.from;
-  to = m.to;
-}
+renumbered m = record m { number = 1 }
 
 -- the deliveries of computation n, renumbered 1; their hints stay as they stood
 abbrev pub alone : ℕ → List Delivery → List Delivery
@@ -39,7 +33,7 @@ IsUncut AtRest = ⊤
 IsUncut (CutFree k) = ⊥
 
 -- the deliveries are a whole run without restarts, with this ending and these engaged
-pub record IsWhole (g : Graph) (i : ℕ) (log : List Delivery)
+pub record IsWholeComputation (g : Graph) (i : ℕ) (log : List Delivery)
     (ending : Ending) (those : List ℕ) : Type 0 where
   pub end : Going
   pub legal : IsRun any_place g i [] log ending end
@@ -51,7 +45,7 @@ pub record LastIsRun (g : Graph) (i : ℕ) (log : List Delivery)
     (ending : Ending) (end : Going) : Type 0 where
   pub begins : BeginsRun g i (alone end.config.number log)
   pub whole : IsUncut ending
-      → IsWhole g i (alone end.config.number log) ending end.config.engaged
+      → IsWholeComputation g i (alone end.config.number log) ending end.config.engaged
 
 -- messages of older numbers have no part in what the last computation tells
 abbrev pub LastComputationIsARun : Type 0

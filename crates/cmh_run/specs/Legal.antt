@@ -1,8 +1,8 @@
 -- Legal runs of one initiator, and what they tell of the graph.
-use Rattle.std.specs.Prelude.{◌≡◌, ◌≢◌, ℕ, ◌+◌, ◌*◌, ◌<◌, ◌≤◌, Bool, true, nat_eq, ◌&&◌, ◌==◌, if◌then◌else◌, List, [], ◌∷◌, length, slice_get, Contains, Option, Some, None, is_none, IsTrue, ⊤}
+use Rattle.std.specs.Prelude.{◌≡◌, ◌≢◌, ℕ, ◌+◌, ◌*◌, ◌<◌, ◌≤◌, Bool, true, nat_eq, ◌&&◌, ◌==◌, if◌then◌else◌, List, [], ◌∷◌, length, slice_get, Contains, All, Option, Some, None, is_none, IsTrue, ⊤}
 use Rattle.std.specs.List.{IsDistinct}
 use Rattle.cmh_graph.specs.declared.verdict.Verdict.{Verdict}
-use Rattle.cmh_graph.specs.Graph.{Graph, is_idle, is_awake, dependency_count, IsWithinGraph}
+use Rattle.cmh_graph.specs.Graph.{Graph, process_count, is_idle, is_awake, dependency_count, IsWithinGraph}
 use Rattle.cmh_graph.specs.Verdict.{IsDeadlocked, IsVerdict}
 use Rattle.cmh_process.specs.declared.message.Message.{Message}
 use Rattle.cmh_run.specs.declared.delivery.Delivery.{Delivery}
@@ -31,9 +31,8 @@ begun g i restarts =
 
 -- the initiator has started again, and these restarts are still to come
 abbrev pub restart : Graph → ℕ → Going → List ℕ → Going
-restart g i s rest = record {
+restart g i s rest = record s {
   config = start g i s.config;
-  done = s.done;
   restarts = rest;
   restarted = s.restarted + 1;
 }
@@ -50,11 +49,9 @@ ready g i s = restarted_at g i s s.restarts
 
 -- the run once the message at place x of the bag is delivered
 abbrev pub after : Graph → ℕ → Going → ℕ → Delivery → Going
-after g i s x d = record {
+after g i s x d = record s {
   config = delivered g i s.config x d.message d.hint;
   done = s.done + 1;
-  restarts = s.restarts;
-  restarted = s.restarted;
 }
 
 -- a hint stands only where hints are asked, and is true
@@ -124,3 +121,15 @@ DeliveriesAreBounded =
     (log : List Delivery) (ending : Ending) (end : Going)
     → IsWithinGraph g → IsTrue (is_idle g i) → IsRun rule g i restarts log ending end
     → length log ≤ 2 * dependency_count g * (end.restarted + 1)
+
+-- the message goes from a process of the graph to another, or to itself
+abbrev pub IsBetween : Graph → Message → Type 0
+IsBetween g m = (m.from < process_count g) × (m.to < process_count g)
+
+-- the messages of a run of an idle process go between processes of the graph
+abbrev pub MessagesAreBetween : Type 0
+MessagesAreBetween =
+    (rule : Rule) (g : Graph) (i : ℕ) (restarts : List ℕ)
+    (log : List Delivery) (ending : Ending) (end : Going)
+    → IsWithinGraph g → IsTrue (is_idle g i) → IsRun rule g i restarts log ending end
+    → All (λ d. IsBetween g d.message) log

@@ -1,14 +1,14 @@
-pub mod Audit
 pub mod Check
+pub mod CheckState
 pub mod Choices
 pub mod Config
 pub mod Engaged
 pub mod Fault
-pub mod Follow
 pub mod Last
 pub mod Legal
 pub mod Packed
 pub mod Procs
 pub mod Run
 pub mod Script
+pub mod ScriptProofs
 pub mod Tape

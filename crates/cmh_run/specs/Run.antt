@@ -13,14 +13,19 @@ use Rattle.cmh_run.specs.declared.fault.RunFault.TheVariants.{NotIdle, TooManyCh
 use Rattle.cmh_run.specs.declared.TheConstants.{MAX_CHOICES, MAX_RESTARTS}
 use Rattle.cmh_run.specs.Config.{Config, proc_at, without, received}
 use Rattle.cmh_graph.specs.Verdict.{IsDeadlocked, IsVerdict}
-use Rattle.cmh_run.specs.Legal.{Going, Rule, HintIsFit, IsRun, IsRight}
+use Rattle.cmh_run.specs.Legal.{Going, begun, Rule, HintIsFit, DeliveriesLead, IsRun, IsRight}
 use Rattle.cmh_run.specs.Choices.{chosen_place, HasNoHints}
 use Rattle.cmh_run.specs.Last.{LastIsRun}
 
 -- a run on its way, and the deliveries that led there
-pub record Stage : Type 0 where
+pub record ProgressState : Type 0 where
   pub going : Going
   pub log : List Delivery
+
+-- the deliveries lead from the start to where the run is, by the choices
+pub record Follows (g : Graph) (i : ℕ) (choices restarts : List ℕ) (s : ProgressState) : Type 0 where
+  pub leads : DeliveriesLead (chosen_place choices) g i (begun g i restarts) s.log s.going
+  pub count : s.going.done ≡ length s.log
 
 -- the initiator may start again: its number grows, and has room in a word
 pub record MayStart (g : Graph) (i : ℕ) (s : Going) : Type 0 where
@@ -30,23 +35,15 @@ pub record MayStart (g : Graph) (i : ℕ) (s : Going) : Type 0 where
   pub count : s.restarted + 1 < 2 ^ 32
 
 -- the place that the choices name
-abbrev pub place_in : List ℕ → Stage → ℕ
+abbrev pub place_in : List ℕ → ProgressState → ℕ
 place_in choices s = slice_index choices s.going.done % length s.going.config.bag
 
--- the stage with another configuration
-abbrev pub with_config : Stage → Config → Stage
-with_config s c = record {
-  going = record {
-    config = c;
-    done = s.going.done;
-    restarts = s.going.restarts;
-    restarted = s.going.restarted;
-  };
-  log = s.log;
-}
+-- the run on its way with another configuration
+abbrev pub with_config : ProgressState → Config → ProgressState
+with_config s c = record s { going = record s.going { config = c } }
 
 -- the message that the choices name was taken, or there is none to take
-abbrev pub IsTakenBy : List ℕ → Stage → Stage → Option Message → Type 0
+abbrev pub IsTakenBy : List ℕ → ProgressState → ProgressState → Option Message → Type 0
 IsTakenBy choices old new None =
     (new ≡ old) × (old.going.config.ended ≢ None ⊎ (old.going.config.bag ≡ []))
 IsTakenBy choices old new (Some m) =
@@ -54,22 +51,20 @@ IsTakenBy choices old new (Some m) =
     (old.going.config.ended ≡ None) × (slice_get old.going.config.bag x ≡ Some m)
     × (new ≡ with_config old (without old.going.config x))
 
--- the stage after the delivery of a message that was taken
-abbrev pub delivered_to : Graph → ℕ → Stage → Delivery → Stage
+-- the run on its way after the delivery of a message that was taken
+abbrev pub delivered_to : Graph → ℕ → ProgressState → Delivery → ProgressState
 delivered_to g i s d = record {
-  going = record {
+  going = record s.going {
     config = if is_awake g d.message.to
         then s.going.config
         else received g i s.going.config d.message d.message.kind d.hint;
     done = s.going.done + 1;
-    restarts = s.going.restarts;
-    restarted = s.going.restarted;
   };
   log = s.log ++ d ∷ [];
 }
 
 -- the message is delivered, with a hint that fits, and with none where nobody answers
-pub record IsDelivered (g : Graph) (i : ℕ) (old new : Stage) (m : Message)
+pub record IsDelivered (g : Graph) (i : ℕ) (old new : ProgressState) (m : Message)
     (nobody_answers : Type 0) : Type 0 where
   pub hint : Option Verdict
   pub fit : HintIsFit g old.going.config m hint

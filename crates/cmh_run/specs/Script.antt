@@ -1,6 +1,5 @@
 -- Scripted hints: what is told at which ask, and what makes no script.
-use Rattle.std.specs.Prelude.{◌≡◌, ◌≢◌, ◌↔◌, [], ℕ, ◌+◌, ◌≤◌, Bool, ◌&&◌, ◌==◌, nat_lt, if◌then◌else◌, List, find, slice_get, Option, Some, None, option_map}
-use Rattle.std.proofs.Common.{sym, subst, ◌∙◌}
+use Rattle.std.specs.Prelude.{◌≡◌, ◌≢◌, ℕ, ◌+◌, ◌≤◌, Bool, ◌&&◌, ◌==◌, nat_lt, if◌then◌else◌, List, find, slice_get, Option, Some, None, option_map}
 use Rattle.cmh_graph.specs.declared.verdict.Verdict.{Verdict}
 use Rattle.cmh_graph.specs.Graph.{Graph, process_count}
 use Rattle.cmh_run.specs.declared.fault.ScriptFault.{ScriptFault}
@@ -12,67 +11,52 @@ use Rattle.cmh_graph.specs.Verdict.{IsVerdict}
 abbrev pub ScriptLine : Type 0
 ScriptLine = ℕ × ℕ × Verdict
 
--- the entries, and how many asks there were
+-- the lines, and how many asks there were
 pub record Script : Type 0 where
-  pub entries : List ScriptLine
+  pub lines : List ScriptLine
   pub asked : ℕ
 
--- the entry is for this ask of p
+-- the line is for this ask of p
 abbrev pub is_for : ℕ → ℕ → ScriptLine → Bool
-is_for ask p e = e.0 == ask && e.1 == p
+is_for ask p line = line.0 == ask && line.1 == p
 
--- what the entries tell at this ask of p
+-- what the lines tell at this ask of p
 abbrev pub told_at : List ScriptLine → ℕ → ℕ → Option Verdict
-told_at entries ask p = option_map (λ e. e.2) (find (is_for ask p) entries)
+told_at lines ask p = option_map (λ line. line.2) (find (is_for ask p) lines)
 
 -- what is told at the next ask, of p: after so many asks that they can't be counted, nothing
 abbrev pub answer_of : Script → ℕ → Option Verdict
-answer_of s p = if nat_lt s.asked 4294967295 then told_at s.entries s.asked p else None
+answer_of s p = if nat_lt s.asked 4294967295 then told_at s.lines s.asked p else None
 
 -- the script after an ask
 abbrev pub after_ask : Script → Script
-after_ask s = record {
-  entries = s.entries;
-  asked = if nat_lt s.asked 4294967295 then s.asked + 1 else s.asked;
-}
+after_ask s = record s { asked = if nat_lt s.asked 4294967295 then s.asked + 1 else s.asked }
 
--- each entry tells the truth about a process
+-- each line tells the truth about a process
 abbrev pub AreTrueOf : Graph → List ScriptLine → Type 0
-AreTrueOf g entries = (i : ℕ) (e : ScriptLine) → slice_get entries i ≡ Some e → IsVerdict g e.1 e.2
+AreTrueOf g lines = (k : ℕ) (line : ScriptLine) → slice_get lines k ≡ Some line → IsVerdict g line.1 line.2
 
--- entry k is about none of so many processes
-abbrev pub IsOutOfRange : ℕ → List ScriptLine → ℕ → Type 0
-IsOutOfRange count entries k = (e : ScriptLine) × (slice_get entries k ≡ Some e) × (count ≤ e.1)
+-- line k is about none of so many processes
+abbrev pub IsLineOutOfRange : ℕ → List ScriptLine → ℕ → Type 0
+IsLineOutOfRange count lines k = (line : ScriptLine) × (slice_get lines k ≡ Some line) × (count ≤ line.1)
 
--- entry k isn't true
+-- line k isn't true
 abbrev pub IsUntrue : Graph → List ScriptLine → ℕ → Type 0
-IsUntrue g entries k = (e : ScriptLine) × (slice_get entries k ≡ Some e) × ¬ (IsVerdict g e.1 e.2)
+IsUntrue g lines k = (line : ScriptLine) × (slice_get lines k ≡ Some line) × ¬ (IsVerdict g line.1 line.2)
 
--- entry k tells another verdict than stands in the list
+-- line k tells another verdict than stands in the list
 abbrev pub Differs : List Verdict → List ScriptLine → ℕ → Type 0
-Differs truth entries k =
-    (e : ScriptLine) × (slice_get entries k ≡ Some e) × (slice_get truth e.1 ≢ Some e.2)
+Differs truth lines k =
+    (line : ScriptLine) × (slice_get lines k ≡ Some line) × (slice_get truth line.1 ≢ Some line.2)
 
 -- what is said of places holds of none
 abbrev pub IsNever : (ℕ → Type 0) → Type 0
 IsNever Holds = (k : ℕ) → Holds k → ⊥
 
--- the first fault of the entries: all processes are judged before any verdict
+-- the first fault of the lines: all processes are judged before any verdict
 abbrev pub IsFirstScriptFault : Graph → List ScriptLine → ScriptFault → Type 0
-IsFirstScriptFault g entries (ProcessOutOfRange i) =
-    IsFirst (IsOutOfRange (process_count g) entries) i
-IsFirstScriptFault g entries (FalseVerdict i) =
-    IsNever (IsOutOfRange (process_count g) entries) × IsFirst (IsUntrue g entries) i
-IsFirstScriptFault g entries Memory = ⊥
-
--- with the same entries two scripts speak of the same graphs
-pub scripts_keep_graphs : (a b : Script) (g : Graph) → a.entries ≡ b.entries
-    → AreTrueOf g a.entries ↔ AreTrueOf g b.entries
-scripts_keep_graphs a b g e = (
-  λ h. subst (λ (xs : List ScriptLine). AreTrueOf g xs) e h,
-  λ h. subst (λ (xs : List ScriptLine). AreTrueOf g xs) (sym e) h,
-)
-
--- with the same entries both or neither are silent
-pub scripts_keep_silent : (a b : Script) → a.entries ≡ b.entries → a.entries ≡ [] → b.entries ≡ []
-scripts_keep_silent a b e h = sym e ∙ h
+IsFirstScriptFault g lines (ProcessOutOfRange i) =
+    IsFirst (IsLineOutOfRange (process_count g) lines) i
+IsFirstScriptFault g lines (FalseVerdict i) =
+    IsNever (IsLineOutOfRange (process_count g) lines) × IsFirst (IsUntrue g lines) i
+IsFirstScriptFault g lines Memory = ⊥

@@ -19,28 +19,28 @@ abbrev pub kind_back : (k : Kind) → kind_from (is_query k) ≡ k
 kind_back Query = refl
 kind_back Reply = refl
 
--- the verdict is that the process is free
+-- the hint is that the process is free
 abbrev pub says_free : Verdict → Bool
 says_free Free = true
 says_free Deadlocked = false
 
--- the verdict of which it is said whether it is "free"
-abbrev pub verdict_from : Bool → Verdict
-verdict_from true = Free
-verdict_from false = Deadlocked
+-- the hint of which it is said whether it is "free"
+abbrev pub hint_from : Bool → Verdict
+hint_from true = Free
+hint_from false = Deadlocked
 
--- a verdict is told by whether it is "free"
-abbrev pub verdict_back : (v : Verdict) → verdict_from (says_free v) ≡ v
-verdict_back Free = refl
-verdict_back Deadlocked = refl
+-- a hint is told by whether it is "free"
+abbrev pub hint_back : (v : Verdict) → hint_from (says_free v) ≡ v
+hint_back Free = refl
+hint_back Deadlocked = refl
 
 -- how a kind is stored
 abbrev pub kind_code : Coded Kind
 kind_code = code_by Bool coded_bool is_query kind_from kind_back
 
--- how a verdict is stored
-abbrev pub verdict_code : Coded Verdict
-verdict_code = code_by Bool coded_bool says_free verdict_from verdict_back
+-- how a hint is stored
+abbrev pub hint_code : Coded Verdict
+hint_code = code_by Bool coded_bool says_free hint_from hint_back
 
 -- how a message is stored: as its parts
 abbrev pub message_code : Coded Message
@@ -54,5 +54,5 @@ message_code =
 -- how a delivery is stored: as its message and its hint
 abbrev pub delivery_code : Coded Delivery
 delivery_code =
-    code_by (Message × Option Verdict) (coded× message_code (coded_option verdict_code))
+    code_by (Message × Option Verdict) (coded× message_code (coded_option hint_code))
     (λ d. (d.message, d.hint)) (λ p. record { message = p.0; hint = p.1 }) (λ _. refl)

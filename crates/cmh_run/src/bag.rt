@@ -1,4 +1,4 @@
-//! The undelivered messages.
+//! The undelivered messages, for whoever delivers them by hand.
 
 ghost use Rattle.std.specs.Prelude.{◌≡◌, ◌<◌, ◌↔◌, ◌%◌, ◌++◌, [], ◌∷◌, Some, drop, length, option_to_list, remove, slice_get, IsNone, IsSome, IfSome, IfNone, IfErr, IsTrue, OnOk, OnErr};
 ghost use Rattle.cmh_process.specs.declared.message.Message.{Message};
@@ -44,18 +44,21 @@ impl Bag {
         }
     }
 
+    /// How many messages weren't taken, in constant time.
     pub fn len(&self) -> usize
         ensures { result ≡ length self.now }
     {
         self.messages.len() - self.taken
     }
 
+    /// Whether all were taken, in constant time.
     pub fn is_empty(&self) -> bool
         ensures { IsTrue result ↔ (self.now ≡ []) }
     {
         self.undelivered().is_empty()
     }
 
+    /// The message at place `n`, from 0, of those that weren't taken, in constant time.
     pub fn get(&self, n: usize) -> Option<&Message>
         ensures there { IsSome result ↔ (n < length self.now) }
         ensures message { IfSome result (λ m. slice_get self.now n ≡ Some m.now) }

@@ -1,17 +1,17 @@
-//! The judgement of logs.
+//! Whether a log from anywhere is that of a legal run, and if not, what is wrong with it first.
 
 ghost use Rattle.std.specs.Prelude.{◌≡◌, ◌⊎◌, ◌↔◌, IfOk, IfErr};
 ghost use Rattle.cmh_graph.specs.Verdict.{IsDeadlocked};
 ghost use Rattle.cmh_run.specs.declared.delivery.Ending.TheVariants.{Declared};
 ghost use Rattle.cmh_run.specs.Check.{IsLegalRun, IsFirstCheckFault};
 
-use crate::auditor::Auditor;
+use crate::checker::Checker;
 use crate::truth::truth_of;
 use crate::{CheckFault, Delivery, Ending};
 use cmh_graph::WaitGraph;
 use std::alloc::Global;
 
-/// Judges a log, whoever made it, as a run of the initiator without restarts: any undelivered
+/// Checks a log, whoever made it, as a run of the initiator without restarts: any undelivered
 /// message may come next. It answers how the run ended, or the first thing that is wrong: at the
 /// first delivery that fails, that it comes after the end, else that its message isn't undelivered,
 /// else its hint; after the last, that the run could go on.
@@ -34,9 +34,9 @@ pub fn check_run(
         return Err(CheckFault::NotIdle);
     }
     let truth = truth_of(alloc, graph)?;
-    let mut auditor = Auditor::begin(alloc, graph, initiator)?;
+    let mut checker = Checker::begin(alloc, graph, initiator)?;
     for (t, delivery) in log.iter().enumerate() {
-        auditor.deliver(graph, initiator, &truth, t, *delivery)?;
+        checker.deliver(graph, initiator, &truth, t, *delivery)?;
     }
-    auditor.ending().ok_or(CheckFault::NotEnded)
+    checker.ending().ok_or(CheckFault::NotEnded)
 }

@@ -15,10 +15,8 @@ pub struct Delivery {
 pub enum Ending {
     /// The initiator has all its replies: it is deadlocked.
     Declared,
-
     /// Nothing is left to deliver: the initiator is free.
     AtRest,
-
     /// This process, which the initiator reaches, is known to be free, so the initiator is too.
     CutFree(u32),
 }

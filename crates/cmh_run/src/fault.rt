@@ -14,13 +14,10 @@ use std::fmt;
 pub enum RunFault {
     /// The initiator is the index of no idle process.
     NotIdle,
-
     /// There are more than `MAX_CHOICES` choices.
     TooManyChoices,
-
     /// Memory was refused.
     Memory,
-
     /// There are more than `MAX_RESTARTS` restarts, or they don't rise.
     BadRestarts,
 }
@@ -59,15 +56,13 @@ impl<T: Drop> From<AllocFailed<T>> for RunFault {
     }
 }
 
-/// Why entries make no script, by their places.
+/// Why lines make no script, by their places.
 #[derive(Clone, Copy, PartialEq, Eq, Hash, Debug)]
 pub enum ScriptFault {
-    /// This entry is about no process of the graph.
+    /// This line is about no process of the graph.
     ProcessOutOfRange(usize),
-
-    /// This entry isn't true.
+    /// This line isn't true.
     FalseVerdict(usize),
-
     /// Memory was refused.
     Memory,
 }
@@ -102,19 +97,14 @@ impl From<AllocError> for ScriptFault {
 pub enum CheckFault {
     /// The initiator is the index of no idle process.
     NotIdle,
-
     /// The message of this delivery is not undelivered.
     NotUndelivered(usize),
-
     /// This delivery has a hint where none is asked, or one that isn't true.
     FalseHint(usize),
-
     /// The run had ended before this delivery.
     AfterEnd(usize),
-
     /// The run could go on.
     NotEnded,
-
     /// Memory was refused.
     Memory,
 }

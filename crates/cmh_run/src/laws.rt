@@ -5,7 +5,7 @@ ghost use Rattle.cmh_run.specs.Check.{LogsHaveOneAnswer};
 ghost use Rattle.cmh_run.specs.Choices.{RunsAreDeterministic};
 ghost use Rattle.cmh_run.specs.Engaged.{WhoEngages, AwakeOnesStartNothing};
 ghost use Rattle.cmh_run.specs.Last.{LastComputationIsARun};
-ghost use Rattle.cmh_run.specs.Legal.{RunsAreSound, DeliveriesAreBounded};
+ghost use Rattle.cmh_run.specs.Legal.{RunsAreSound, DeliveriesAreBounded, MessagesAreBetween};
 ghost use Rattle.cmh_run.specs.Run.{OneRun};
 
 /// A run that has ended tells whether its initiator is deadlocked. Where it is declared, everyone
@@ -33,6 +33,11 @@ pub fn law_awake_ones_start_nothing()
 #[tactic(auto, using(crate::proofs::DeliveryBound::deliveries_are_bounded))]
 pub fn law_delivery_bound()
     ensures { DeliveriesAreBounded }
+{}
+
+/// The messages of a run of an idle process of a graph go between the graph's processes.
+pub fn law_messages_between()
+    ensures { MessagesAreBetween }
 {}
 
 /// Without hints a list of choices leaves one run, with one ending.

@@ -3,9 +3,9 @@
 //! a wait graph, in any order of delivery.
 #![tactic(auto)]
 
-mod auditor;
 mod bag;
 mod check;
+mod checker;
 mod choices;
 mod delivery;
 mod fault;

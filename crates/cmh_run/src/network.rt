@@ -7,7 +7,7 @@ ghost use Rattle.cmh_process.specs.Process.{engages};
 ghost use Rattle.cmh_graph.specs.Verdict.{IsVerdict};
 ghost use Rattle.cmh_run.specs.Legal.{begun, HintIsFit};
 ghost use Rattle.cmh_run.specs.Packed.{CanSend, EngagersHaveRoom, HaveRoom, RepliesWithin};
-ghost use Rattle.cmh_run.specs.Config.{blank, proc_at, nothing_yet, start, does, engaged_by, hinted, query, answered, replied, received, asks, without};
+ghost use Rattle.cmh_run.specs.Config.{blank, proc_at, nothing_yet, start, after_action, engaged_by, hinted, query, after_answer, after_reply, received, asks, without};
 
 use crate::procs::Procs;
 use crate::queue::Queue;
@@ -417,7 +417,7 @@ impl Network {
         requires going { self.old.ended ≡ None }
         requires sender { CanSend initiator message.number message.to }
         requires from { message.from < 4096 }
-        ensures ok { OnOk result (self.new ≡ answered initiator self.old message) }
+        ensures ok { OnOk result (self.new ≡ after_answer initiator self.old message) }
     {
         let action = self.procs.answer(message.to, message.number, message.from);
         self.act(Sender::answering(initiator, message), &[], action)
@@ -429,7 +429,7 @@ impl Network {
         requires going { self.old.ended ≡ None }
         requires sender { CanSend initiator message.number message.to }
         requires engagers { EngagersHaveRoom self.old.procs }
-        ensures ok { OnOk result (self.new ≡ replied initiator self.old message) }
+        ensures ok { OnOk result (self.new ≡ after_reply initiator self.old message) }
     {
         let action = self.procs.reply(message.to, message.number);
         self.act(Sender::answering(initiator, message), &[], action)
@@ -443,7 +443,7 @@ impl Network {
         requires dependents { HaveRoom dependents.now }
         requires reply { RepliesWithin action }
         ensures ok { OnOk result (self.new ≡
-            does sender.initiator self.old sender.number sender.from dependents.now action) }
+            after_action sender.initiator self.old sender.number sender.from dependents.now action) }
     {
         if action == Action::Declare {
             self.ended = Some(Ending::Declared);

@@ -27,9 +27,9 @@ pub(crate) struct Progress<'a, L: Log> {
 
 impl<'a, L: Log> Model for Progress<'a, L> {
     ghost use Rattle.std.specs.Prelude.{length};
-    ghost use Rattle.cmh_run.specs.Run.{Stage};
+    ghost use Rattle.cmh_run.specs.Run.{ProgressState};
 
-    ghost Value = { Stage };
+    ghost Value = { ProgressState };
 
     ghost view = { λ p. record {
       going = record {

@@ -40,12 +40,14 @@ impl<L: Log, E: ProcessList> Model for RunLog<L, E> {
 }
 
 impl<L: Log, E: ProcessList> RunLog<L, E> {
+    /// The process whose run it is, by its index in the graph.
     pub fn initiator(&self) -> u32
         ensures { result ≡ self.now.initiator }
     {
         self.initiator
     }
 
+    /// How the run ended. What that says of the initiator is for `verdict`.
     pub fn ending(&self) -> Ending
         ensures { result ≡ self.now.ending }
     {

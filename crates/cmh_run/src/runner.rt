@@ -6,8 +6,7 @@ ghost use Rattle.cmh_graph.specs.Build.{IsWellFormed};
 ghost use Rattle.cmh_run.specs.Choices.{HasNoHints};
 ghost use Rattle.cmh_run.specs.Config.{nothing_yet};
 ghost use Rattle.cmh_run.specs.Engaged.{AreEngaged};
-ghost use Rattle.cmh_run.specs.Follow.{Follows};
-ghost use Rattle.cmh_run.specs.Run.{IsRising, IsAccepted, IsFirstRunFault, IsRunOf, TellsTruth, empty_run_of};
+ghost use Rattle.cmh_run.specs.Run.{Follows, IsRising, IsAccepted, IsFirstRunFault, IsRunOf, TellsTruth, empty_run_of};
 
 use crate::choices::Choices;
 use crate::network::Network;
@@ -144,6 +143,7 @@ fn judge(
     Ok(())
 }
 
+/// Whether each is greater than the one before it.
 fn is_rising(list: &[u32]) -> bool
     ensures { IsTrue result ↔ IsRising list.now }
 {

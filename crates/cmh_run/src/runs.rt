@@ -1,4 +1,4 @@
-//! Runs of one initiator.
+//! A run alone: each call makes a `Runner` and a network of its own.
 
 ghost use Rattle.std.specs.Prelude.{◌≡◌, ◌⊎◌, [], ◌*◌, ◌<◌, ◌≤◌, length, IfOk, IfErr, IsTrue};
 ghost use Rattle.cmh_graph.specs.Graph.{is_awake, dependency_count};

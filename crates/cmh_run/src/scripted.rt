@@ -1,4 +1,4 @@
-//! Hints by a script.
+//! Hints that are written down before the run, each with the ask at which it is told.
 
 ghost use Rattle.std.specs.Prelude.{◌==◌, ◌≡◌, ◌⊎◌, ◌<◌, [], None, IfOk, IfErr, IfSome, IfNone, length, refl};
 ghost use Rattle.std.proofs.Common.{◌∙◌};
@@ -11,7 +11,8 @@ ghost use Rattle.cmh_graph.specs.contracts.verdict.VerdictPartialEq.TheImpl as v
 ghost use Rattle.cmh_graph.specs.Judge.{IsFirst};
 ghost use Rattle.cmh_graph.specs.Graph.{Graph, process_count};
 ghost use Rattle.cmh_graph.specs.Verdict.{IsVerdict};
-ghost use Rattle.cmh_run.specs.Script.{AreTrueOf, scripts_keep_graphs, scripts_keep_silent, IsOutOfRange, Differs, IsNever, IsFirstScriptFault, told_at, answer_of, after_ask};
+ghost use Rattle.cmh_run.specs.Script.{AreTrueOf, IsLineOutOfRange, Differs, IsNever, IsFirstScriptFault, told_at, answer_of, after_ask};
+ghost use Rattle.cmh_run.specs.ScriptProofs.{scripts_keep_graphs, scripts_keep_silent};
 
 use crate::truth::truth_of;
 use crate::{Hints, ScriptFault};
@@ -22,7 +23,7 @@ use std::marker::Model;
 /// Hints that answer by the number of the ask.
 #[derive(Clone, Debug, Drop)]
 pub struct Scripted {
-    entries: Vec<(u32, u32, Verdict)>,
+    lines: Vec<(u32, u32, Verdict)>,
     asked: u32,
 }
 
@@ -31,57 +32,57 @@ impl Model for Scripted {
 
     ghost Value = { Script };
 
-    ghost view = { λ s. record { entries = s.entries.items; asked = s.asked } };
+    ghost view = { λ s. record { lines = s.lines.items; asked = s.asked } };
 }
 
 impl Scripted {
-    /// An entry (n, p, v) answers v at ask n, from 0, where that ask is of process p. All other
+    /// A line (n, p, v) answers v at ask n, from 0, where that ask is of process p. All other
     /// asks have no answer, nor has any from ask `u32::MAX` on.
     pub fn new(
         alloc: Global,
         graph: &WaitGraph,
-        entries: &[(u32, u32, Verdict)],
+        lines: &[(u32, u32, Verdict)],
     ) -> Result<Scripted, ScriptFault>
-        ensures ok { IfOk result (λ s. s ≡ record { entries = entries.now; asked = 0 }) }
+        ensures ok { IfOk result (λ s. s ≡ record { lines = lines.now; asked = 0 }) }
         ensures within { IfOk result (λ s.
-            IsNever (IsOutOfRange (process_count graph.now) entries.now)) }
-        ensures speaks { IfOk result (λ s. AreTrueOf graph.now s.entries) }
+            IsNever (IsLineOutOfRange (process_count graph.now) lines.now)) }
+        ensures speaks { IfOk result (λ s. AreTrueOf graph.now s.lines) }
         ensures fault { IfErr result (λ e.
-            (e ≡ ScriptFault.Memory) ⊎ IsFirstScriptFault graph.now entries.now e) }
+            (e ≡ ScriptFault.Memory) ⊎ IsFirstScriptFault graph.now lines.now e) }
     {
-        if let Some(i) = first_out_of_range(graph.len(), entries) {
+        if let Some(i) = first_out_of_range(graph.len(), lines) {
             return Err(ScriptFault::ProcessOutOfRange(i));
         }
         let truth = truth_of(alloc, graph)?;
-        if let Some(i) = first_difference(&truth, entries) {
+        if let Some(i) = first_difference(&truth, lines) {
             return Err(ScriptFault::FalseVerdict(i));
         }
-        let entries = Vec::from_slice(alloc, entries)?;
-        Ok(Scripted { entries, asked: 0 })
+        let lines = Vec::from_slice(alloc, lines)?;
+        Ok(Scripted { lines, asked: 0 })
     }
 }
 
 impl Hints for Scripted {
-    ghost speaks_of = { λ s g. AreTrueOf g s.entries };
+    ghost speaks_of = { λ s g. AreTrueOf g s.lines };
 
-    ghost keeps = { λ a b. a.entries ≡ b.entries };
+    ghost keeps = { λ a b. a.lines ≡ b.lines };
 
-    ghost is_silent = { λ s. s.entries ≡ [] };
+    ghost is_silent = { λ s. s.lines ≡ [] };
 
     fn hint(&mut self, p: u32) -> Option<Verdict>
         ensures answer { result ≡ answer_of self.old p }
         ensures asked { self.new ≡ after_ask self.old }
-        ensures true_verdict { (g : Graph) → AreTrueOf g self.old.entries → p < process_count g
+        ensures true_verdict { (g : Graph) → AreTrueOf g self.old.lines → p < process_count g
             → IfSome result (λ v. IsVerdict g p v) }
-        ensures silent { self.old.entries ≡ [] → result ≡ None }
-        ensures kept { self.old.entries ≡ self.new.entries }
+        ensures silent { self.old.lines ≡ [] → result ≡ None }
+        ensures kept { self.old.lines ≡ self.new.lines }
     {
         let ask = self.asked;
         if ask == u32::MAX {
             return None;
         }
         self.asked += 1;
-        told_at(&self.entries, ask, p)
+        told_at(&self.lines, ask, p)
     }
 
     ghost keeps_itself = { λ s. refl };
@@ -94,7 +95,7 @@ impl Hints for Scripted {
 }
 
 impl PartialEq for Scripted {
-    ghost eq = { eq_of_both (on (λ s. s.entries)
+    ghost eq = { eq_of_both (on (λ s. s.lines)
         (pointwise (eq_of_both (on (λ e. e.0) ◌==◌)
         (eq_of_both (on (λ e. e.1) ◌==◌) (on (λ e. e.2) verdict.ghosts.eq)))))
         (on (λ s. s.asked) ◌==◌) };
@@ -102,7 +103,7 @@ impl PartialEq for Scripted {
     ghost laws = { Prim.search (comparing, rules, verdict_laws.laws-law) depth 9 };
 
     fn eq(&self, other: &Scripted) -> bool {
-        self.entries == other.entries && self.asked == other.asked
+        self.lines == other.lines && self.asked == other.asked
     }
 }
 
@@ -110,37 +111,37 @@ impl Eq for Scripted {
     ghost laws = { Prim.search (comparing, rules, verdict_laws.laws-law) depth 9 };
 }
 
-/// What the entries tell at that ask of `p`.
-fn told_at(entries: &[(u32, u32, Verdict)], ask: u32, p: u32) -> Option<Verdict>
-    ensures { result ≡ told_at entries.now ask p }
+/// What the lines tell at that ask of `p`.
+fn told_at(lines: &[(u32, u32, Verdict)], ask: u32, p: u32) -> Option<Verdict>
+    ensures { result ≡ told_at lines.now ask p }
 {
-    entries
+    lines
         .iter()
-        .find(|entry| entry.0 == ask && entry.1 == p)
-        .map(|entry| entry.2)
+        .find(|line| line.0 == ask && line.1 == p)
+        .map(|line| line.2)
 }
 
-/// The first entry that is about none of so many processes.
-fn first_out_of_range(count: u32, entries: &[(u32, u32, Verdict)]) -> Option<usize>
-    ensures some { IfSome result (IsFirst (IsOutOfRange count entries.now)) }
-    ensures none { IfNone result (IsNever (IsOutOfRange count entries.now)) }
+/// The first line that is about none of so many processes.
+fn first_out_of_range(count: u32, lines: &[(u32, u32, Verdict)]) -> Option<usize>
+    ensures some { IfSome result (IsFirst (IsLineOutOfRange count lines.now)) }
+    ensures none { IfNone result (IsNever (IsLineOutOfRange count lines.now)) }
 {
-    for (i, entry) in entries.iter().enumerate() {
-        if entry.1 >= count {
+    for (i, line) in lines.iter().enumerate() {
+        if line.1 >= count {
             return Some(i);
         }
     }
     None
 }
 
-/// The first entry that differs from the verdicts of all processes.
-fn first_difference(truth: &[Verdict], entries: &[(u32, u32, Verdict)]) -> Option<usize>
-    requires { IsNever (IsOutOfRange (length truth.now) entries.now) }
-    ensures some { IfSome result (IsFirst (Differs truth.now entries.now)) }
-    ensures none { IfNone result (IsNever (Differs truth.now entries.now)) }
+/// The first line that differs from the verdicts of all processes.
+fn first_difference(truth: &[Verdict], lines: &[(u32, u32, Verdict)]) -> Option<usize>
+    requires { IsNever (IsLineOutOfRange (length truth.now) lines.now) }
+    ensures some { IfSome result (IsFirst (Differs truth.now lines.now)) }
+    ensures none { IfNone result (IsNever (Differs truth.now lines.now)) }
 {
-    for (i, entry) in entries.iter().enumerate() {
-        if truth[entry.1 as usize] != entry.2 {
+    for (i, line) in lines.iter().enumerate() {
+        if truth[line.1 as usize] != line.2 {
             return Some(i);
         }
     }

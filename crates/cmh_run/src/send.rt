@@ -59,6 +59,7 @@ impl Sender {
         }
     }
 
+    /// A message of the sender to that process, in its computation.
     pub(crate) fn message(self, kind: Kind, to: u32) -> Message
         ensures { result ≡ record {
           kind = kind;

@@ -11,7 +11,8 @@ use crate::Delivery;
 use cmh_graph::WaitGraph;
 use std::marker::Model;
 
-// Neither has bytes of its own, and their methods do nothing when they run.
+/// The deliveries that were made, in their order. It has no bytes of its own, and its methods do
+/// nothing when they run.
 #[derive(Drop)]
 pub(crate) struct Tape {
     ghost deliveries: { List Delivery } by { coded_list delivery_code },
@@ -22,12 +23,14 @@ impl Model for Tape {
 }
 
 impl Tape {
+    /// The tape before the first delivery.
     pub(crate) fn new() -> Tape
         ensures { result.deliveries ≡ [] }
     {
         Tape {}
     }
 
+    /// The tape with this delivery as the last. The one that it was asked of stays as it is.
     pub(crate) fn then(&self, _delivery: &Delivery) -> Tape
         ensures { result.deliveries ≡ self.now.deliveries ++ _delivery.now ∷ [] }
     {
@@ -35,6 +38,7 @@ impl Tape {
     }
 }
 
+/// The processes that were named, in their order. It has no bytes either.
 #[derive(Drop)]
 pub(crate) struct ListTape {
     ghost processes: { List ℕ } by { coded_list coded_ℕ },
@@ -45,6 +49,7 @@ impl Model for ListTape {
 }
 
 impl ListTape {
+    /// The tape that names each of these.
     pub(crate) fn of(_processes: &[u32]) -> ListTape
         ensures { result.processes ≡ _processes.now }
     {

@@ -1,4 +1,4 @@
-//! What hints are judged by.
+//! What hints are checked by.
 
 ghost use Rattle.std.specs.Prelude.{◌≡◌, IfOk};
 ghost use Rattle.cmh_graph.specs.Verdict.{verdicts};

@@ -2,7 +2,7 @@
 
 ghost use Rattle.std.specs.Prelude.{◌≡◌, ◌↔◌, false, not, ◌&&◌, ◌||◌, IsTrue, OnOk};
 ghost use Rattle.cmh_process.specs.declared.message.Message.{Message};
-ghost use Rattle.cmh_run.specs.Audit.{goes_like, is_waiting};
+ghost use Rattle.cmh_run.specs.CheckState.{goes_like, is_waiting};
 
 use cmh_process::{Kind, Message};
 use std::alloc::{AllocError, Global};
@@ -18,9 +18,9 @@ pub(crate) struct Undelivered {
 }
 
 impl Model for Undelivered {
-    ghost use Rattle.cmh_run.specs.Audit.{Waiting};
+    ghost use Rattle.cmh_run.specs.CheckState.{UndeliveredState};
 
-    ghost Value = { Waiting };
+    ghost Value = { UndeliveredState };
 
     ghost view = { λ u. record { queries = u.queries.keys; replies = u.replies.keys } };
 }
@@ -36,12 +36,15 @@ impl Undelivered {
         }
     }
 
+    /// Whether there is no message.
     pub(crate) fn is_empty(&self) -> bool
         ensures { IsTrue result ↔ ((m : Message) → is_waiting self.now m ≡ false) }
     {
         self.queries.is_empty() && self.replies.is_empty()
     }
 
+    /// Adds a message, in time logarithmic in their number. Where it is there already, nothing
+    /// changes.
     pub(crate) fn add(&mut self, message: Message) -> Result<(), AllocError>
         ensures ok { OnOk result ((m : Message) →
             is_waiting self.new m ≡ (goes_like message m || is_waiting self.old m)) }
@@ -54,7 +57,7 @@ impl Undelivered {
         Ok(())
     }
 
-    /// Takes the message out, if it is there.
+    /// Takes the message out, if it is there, in time logarithmic in their number.
     pub(crate) fn take(&mut self, message: Message) -> bool
         ensures found { result ≡ is_waiting self.old message }
         ensures rest { (m : Message) → is_waiting self.new m

@@ -1,4 +1,4 @@
-//! Logs from anywhere, judged.
+//! Logs from anywhere, checked.
 
 use super::Step::{self, Query, Reply};
 use super::{
@@ -118,8 +118,8 @@ fn forged_logs(rt: HostRuntime) -> Result<(), RunFault> {
     Ok(())
 }
 
-/// A log of whoever made it, judged as one of an initiator of a graph, and what is said of it.
-struct Judged<'a> {
+/// A log of whoever made it, checked as one of an initiator of a graph, and what is said of it.
+struct Checked<'a> {
     waits: Waits<'a>,
     in_transit: &'a [(u32, u32)],
     initiator: u32,
@@ -128,8 +128,8 @@ struct Judged<'a> {
     said: Result<Ending, CheckFault>,
 }
 
-const JUDGED: [Judged; 10] = [
-    Judged {
+const CHECKED: [Checked; 10] = [
+    Checked {
         waits: &TWO_IN_A_CYCLE,
         in_transit: &[],
         initiator: 2,
@@ -137,7 +137,7 @@ const JUDGED: [Judged; 10] = [
         steps: &[],
         said: Err(NotIdle),
     },
-    Judged {
+    Checked {
         waits: &TWO_IN_A_CYCLE,
         in_transit: &[],
         initiator: 0,
@@ -145,7 +145,7 @@ const JUDGED: [Judged; 10] = [
         steps: &[(Query(1, 0, 1), Some(Deadlocked)), (Reply(1, 1, 0), None)],
         said: Ok(Ending::Declared),
     },
-    Judged {
+    Checked {
         waits: &FREE_BY_TWO,
         in_transit: &[],
         initiator: 4,
@@ -153,7 +153,7 @@ const JUDGED: [Judged; 10] = [
         steps: &[(Query(1, 4, 3), Some(Free))],
         said: Ok(Ending::CutFree(3)),
     },
-    Judged {
+    Checked {
         waits: &WAITS_FOR_NOBODY,
         in_transit: &[],
         initiator: 0,
@@ -161,7 +161,7 @@ const JUDGED: [Judged; 10] = [
         steps: &[],
         said: Ok(Ending::Declared),
     },
-    Judged {
+    Checked {
         waits: &WAITS_FOR_NOBODY,
         in_transit: &[],
         initiator: 0,
@@ -170,7 +170,7 @@ const JUDGED: [Judged; 10] = [
         said: Err(AfterEnd(0)),
     },
     // An awake initiator asks nobody.
-    Judged {
+    Checked {
         waits: &TWO_IN_A_CYCLE,
         in_transit: &[(1, 0)],
         initiator: 0,
@@ -178,7 +178,7 @@ const JUDGED: [Judged; 10] = [
         steps: &[],
         said: Ok(Ending::AtRest),
     },
-    Judged {
+    Checked {
         waits: &TWO_IN_A_CYCLE,
         in_transit: &[(1, 0)],
         initiator: 0,
@@ -192,7 +192,7 @@ const JUDGED: [Judged; 10] = [
         said: Err(AfterEnd(0)),
     },
     // A run with a restart.
-    Judged {
+    Checked {
         waits: &TWO_IN_A_CYCLE,
         in_transit: &[],
         initiator: 0,
@@ -210,7 +210,7 @@ const JUDGED: [Judged; 10] = [
         said: Err(NotUndelivered(3)),
     },
     // The steps of process 0, made by process 1.
-    Judged {
+    Checked {
         waits: &TWO_IN_A_CYCLE,
         in_transit: &[],
         initiator: 0,
@@ -223,7 +223,7 @@ const JUDGED: [Judged; 10] = [
         ],
         said: Err(NotUndelivered(0)),
     },
-    Judged {
+    Checked {
         waits: &TWO_IN_A_CYCLE,
         in_transit: &[],
         initiator: 0,
@@ -234,19 +234,19 @@ const JUDGED: [Judged; 10] = [
 ];
 
 /// What is said of the log.
-fn said_of(alloc: Global, judged: &Judged) -> Result<Result<Ending, CheckFault>, RunFault> {
-    let graph = graph_of(alloc, judged.waits, judged.in_transit)?;
+fn said_of(alloc: Global, checked: &Checked) -> Result<Result<Ending, CheckFault>, RunFault> {
+    let graph = graph_of(alloc, checked.waits, checked.in_transit)?;
     let mut log = Vec::new(alloc);
-    for step in judged.steps {
-        log.push(delivery(judged.maker, step.0, step.1))?;
+    for step in checked.steps {
+        log.push(delivery(checked.maker, step.0, step.1))?;
     }
-    Ok(check_run(alloc, &graph, judged.initiator, &log))
+    Ok(check_run(alloc, &graph, checked.initiator, &log))
 }
 
 #[test]
-fn judged_logs(rt: HostRuntime) -> Result<(), RunFault> {
-    for (row, judged) in JUDGED.iter().enumerate() {
-        assert_eq!(rt; said_of(rt.alloc(), judged)?, judged.said, "at {row}");
+fn checked_logs(rt: HostRuntime) -> Result<(), RunFault> {
+    for (row, checked) in CHECKED.iter().enumerate() {
+        assert_eq!(rt; said_of(rt.alloc(), checked)?, checked.said, "at {row}");
     }
     Ok(())
 }

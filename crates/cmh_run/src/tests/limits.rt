@@ -1,5 +1,5 @@
-//! Calls at their limits: as many processes, dependencies, restarts, entries and messages as there
-//! may be.
+//! Calls at their limits: as many processes, dependencies, restarts, lines of a script and messages
+//! as there may be.
 
 use super::{Step, delivery, expect, expect_eq, part_of};
 use crate::{Bag, Ending, NoHints, RunFault, Scripted, check_run, run, run_again};
@@ -105,19 +105,19 @@ fn sixteen_restarts_of_a_wheel(rt: HostRuntime) -> Result<(), RunFault> {
     Ok(())
 }
 
-/// The last of 4,096 entries is told at ask 4,000, of process 4,001, which replies at once; those
+/// The last of 4,096 lines is told at ask 4,000, of process 4,001, which replies at once; those
 /// before it are about process 0, of which nobody asks.
 #[test]
-fn a_script_of_many_entries(rt: HostRuntime) -> Result<(), RunFault> {
+fn a_script_of_many_lines(rt: HostRuntime) -> Result<(), RunFault> {
     let alloc = rt.alloc();
     let graph = chain(alloc, Some(&[]))?;
-    let mut entries = Vec::new(alloc);
+    let mut lines = Vec::new(alloc);
     for ask in 1..COUNT {
-        entries.push((ask, 0u32, Verdict::Deadlocked))?;
+        lines.push((ask, 0u32, Verdict::Deadlocked))?;
     }
-    entries.push((4_000, 4_001, Verdict::Deadlocked))?;
-    expect_eq(&rt, entries.len(), 4_096);
-    let mut hints = Scripted::new(alloc, &graph, &entries).map_err(|_| RunFault::Memory)?;
+    lines.push((4_000, 4_001, Verdict::Deadlocked))?;
+    expect_eq(&rt, lines.len(), 4_096);
+    let mut hints = Scripted::new(alloc, &graph, &lines).map_err(|_| RunFault::Memory)?;
     let run = run(alloc, &graph, 0, &[], &mut hints)?;
     expect_eq(&rt, run.ending(), Ending::Declared);
     expect_eq(&rt, run.log().len(), 8_002);

@@ -1,4 +1,4 @@
-//! Runs and judgements while memory is short.
+//! Runs and checks of logs while memory is short.
 
 use super::{CYCLE_AND_FOLLOWER, STEPS_OF_TWO, TWO_IN_A_CYCLE, Waits, expect_eq, graph_of, log_of};
 use crate::{
@@ -37,16 +37,12 @@ fn take_all(alloc: Global, blocks: &mut Vec<Vec<u8>>) {
 enum Call {
     /// The run of the follower of the cycle.
     Run,
-
     /// The run that starts again after two deliveries.
     RunAgain,
-
-    /// The judgement of the log of the run of the cycle.
+    /// The check of the log of the run of the cycle.
     CheckRun,
-
-    /// A script of two entries about the cycle.
+    /// A script of two lines about the cycle.
     Script,
-
     /// 16 messages, put into a bag one by one.
     Push,
 }
@@ -152,7 +148,7 @@ fn want_of_memory_with_a_restart(rt: HostRuntime) -> Result<(), Fail> {
 }
 
 #[test]
-fn want_of_memory_in_a_judgement(rt: HostRuntime) -> Result<(), Fail> {
+fn want_of_memory_in_a_check(rt: HostRuntime) -> Result<(), Fail> {
     let answers = sweep(rt.alloc(), &TWO_IN_A_CYCLE, Call::CheckRun)?;
     expect_eq(&rt, answers, AS_THEY_SHOULD_BE);
     Ok(())

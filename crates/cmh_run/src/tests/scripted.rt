@@ -9,7 +9,7 @@ const WAITS: [Option<&[u32]>; 3] = [Some(&[1]), Some(&[0]), None];
 /// A script, and whose fault it is.
 type Judged<'a> = (&'a [(u32, u32, Verdict)], Option<ScriptFault>);
 
-/// A process out of range goes before an entry that isn't true, wherever they stand.
+/// A process out of range goes before a line that isn't true, wherever they stand.
 const JUDGED: [Judged; 6] = [
     (&[(0, 2, Free), (0, 1, Deadlocked)], None),
     (&[(0, 1, Free)], Some(ScriptFault::FalseVerdict(0))),
@@ -46,12 +46,12 @@ fn refused_scripts(rt: HostRuntime) -> Result<(), RunFault> {
 fn answers_by_the_number_of_the_ask(rt: HostRuntime) -> Result<(), RunFault> {
     let alloc = rt.alloc();
     let graph = graph_of(alloc, &WAITS, &[])?;
-    let entries = [(1, 0, Deadlocked), (0, 2, Free)];
-    let mut hints = Scripted::new(alloc, &graph, &entries).map_err(|_| RunFault::Memory)?;
+    let lines = [(1, 0, Deadlocked), (0, 2, Free)];
+    let mut hints = Scripted::new(alloc, &graph, &lines).map_err(|_| RunFault::Memory)?;
     expect_eq(&rt, hints.hint(2), Some(Free));
     expect_eq(&rt, hints.hint(0), Some(Deadlocked));
     expect_eq(&rt, hints.hint(0), None);
-    let mut late = Scripted::new(alloc, &graph, &entries).map_err(|_| RunFault::Memory)?;
+    let mut late = Scripted::new(alloc, &graph, &lines).map_err(|_| RunFault::Memory)?;
     expect_eq(&rt, late.hint(0), None);
     expect_eq(&rt, late.hint(2), None);
     expect_eq(&rt, NoHints.hint(0), None);

@@ -68,7 +68,7 @@ fn refused_runs(rt: HostRuntime) -> Result<(), RunFault> {
 }
 
 #[test]
-fn judgements(rt: HostRuntime) -> Result<(), RunFault> {
+fn checks(rt: HostRuntime) -> Result<(), RunFault> {
     let alloc = rt.alloc();
     let graph = graph_of(alloc, &TWO_IN_A_CYCLE, &[])?;
     let known = [
@@ -128,8 +128,8 @@ fn judgements(rt: HostRuntime) -> Result<(), RunFault> {
 fn hints(rt: HostRuntime) -> Result<(), RunFault> {
     let alloc = rt.alloc();
     let graph = graph_of(alloc, &TWO_IN_A_CYCLE, &[])?;
-    let entries: [(u32, u32, Verdict); 1] = [(0, 1, Verdict::Deadlocked)];
-    let mut hints = Scripted::new(alloc, &graph, &entries).map_err(|_| RunFault::Memory)?;
+    let lines: [(u32, u32, Verdict); 1] = [(0, 1, Verdict::Deadlocked)];
+    let mut hints = Scripted::new(alloc, &graph, &lines).map_err(|_| RunFault::Memory)?;
     expect_eq(&rt, hints.hint(1), Some(Verdict::Deadlocked));
     expect_eq(&rt, hints.hint(1), None);
     expect_eq(&rt, NoHints.hint(1), None);
@@ -172,6 +172,7 @@ fn values(rt: HostRuntime) {
     .hash(&mut state);
     laws::law_runs_sound();
     laws::law_delivery_bound();
+    laws::law_messages_between();
     laws::law_who_engages();
     laws::law_awake_ones_start_nothing();
     laws::law_runs_deterministic();

@@ -10,7 +10,7 @@ use Rattle.cmh_run.specs.declared.delivery.Ending.TheVariants.{Declared}
 use Rattle.cmh_run.specs.declared.fault.CheckFault.TheVariants.{Memory}
 use Rattle.cmh_run.specs.Legal.{Going}
 use Rattle.cmh_run.specs.Check.{IsLegalRun, IsFirstCheckFault}
-use Rattle.cmh_run.specs.Audit.{Agrees, IsSettled, IsAudited, IsFlaw}
+use Rattle.cmh_run.specs.CheckState.{Agrees, IsSettled, IsChecked, IsFlaw}
 use Rattle.cmh_run.proofs.CheckLemmas.{flaw_is_fault, answer_legal, answer_true, answer_cut}
 use Rattle.cmh_run.proofs.check.check_run.Goals as goal
 
@@ -20,8 +20,8 @@ returns-in_err-deliver-clause-fault c =
     let p = err_from_is_err_and c.from_residual-in_err-deliver.result c.from_residual-in_err-deliver.ensures.1 in
     rw (p.1, p.2)
     (⊎_elim (λ (m : c.in_err-deliver.field-0.0 ≡ Memory). inl m)
-    (λ (flaw : (log : List Delivery) (s : Going) → Agrees c.args.graph.now c.args.initiator log s c.loop-t.auditor
-    → IsSettled c.loop-t.auditor
+    (λ (flaw : (log : List Delivery) (s : Going) → Agrees c.args.graph.now c.args.initiator log s c.loop-t.checker
+    → IsSettled c.loop-t.checker
     → IsFlaw c.args.graph.now s.config c.loop-t.t (get_or c.args.log.now c.loop-t.t _) c.in_err-deliver.field-0.0).
     inr (flaw_is_fault c.args.graph.now c.args.initiator c.args.log.now c.loop-t.t
     (get_or c.args.log.now c.loop-t.t _) c.loop-t.invariant.0 c.in_err-deliver.field-0.0
@@ -33,7 +33,7 @@ returns-in_err-deliver-clause-fault c =
 -- after each delivery what is kept agrees with the deliveries up to it
 pub loop-t-preserved : goal.loop-t-preserved
 loop-t-preserved c =
-    subst (λ (log : List Delivery). IsAudited c.args.graph.now c.args.initiator log c.deliver.new.self)
+    subst (λ (log : List Delivery). IsChecked c.args.graph.now c.args.initiator log c.deliver.new.self)
     (sym (ap (λ (n : ℕ). take n c.args.log.now) (let e : c.loop-t.t + 1 ≡ suc c.loop-t.t = omega arith in e)
     ∙ take-suc c.args.log.now c.loop-t.t _ c.loop-t-test.true))
     (c.in_ok-deliver.ensures.ok (take c.loop-t.t c.args.log.now) c.loop-t.invariant)
@@ -42,8 +42,8 @@ loop-t-preserved c =
 pub returns-clause-legal : goal.returns-clause-legal
 returns-clause-legal c =
     subst (λ r. IfOk r (IsLegalRun c.args.graph.now c.args.initiator c.args.log.now)) (sym c.ok_or.ensures.value)
-    (answer_legal c.args.graph.now c.args.initiator c.args.log.now c.loop-t.auditor
-    (subst (λ (log : List Delivery). IsAudited c.args.graph.now c.args.initiator log c.loop-t.auditor)
+    (answer_legal c.args.graph.now c.args.initiator c.args.log.now c.loop-t.checker
+    (subst (λ (log : List Delivery). IsChecked c.args.graph.now c.args.initiator log c.loop-t.checker)
     (take_all c.loop-t.t c.args.log.now c.loop-t-test.false) c.loop-t.invariant)
     c.ending.result c.ending.ensures.some)
 
@@ -52,8 +52,8 @@ pub returns-clause-true_verdict : goal.returns-clause-true_verdict
 returns-clause-true_verdict c =
     subst (λ r. IfOk r (λ ending. (ending ≡ Declared) ↔ IsDeadlocked c.args.graph.now c.args.initiator))
     (sym c.ok_or.ensures.value)
-    (answer_true c.args.graph.now c.args.initiator c.args.log.now c.loop-t.auditor
-    (subst (λ (log : List Delivery). IsAudited c.args.graph.now c.args.initiator log c.loop-t.auditor)
+    (answer_true c.args.graph.now c.args.initiator c.args.log.now c.loop-t.checker
+    (subst (λ (log : List Delivery). IsChecked c.args.graph.now c.args.initiator log c.loop-t.checker)
     (take_all c.loop-t.t c.args.log.now c.loop-t-test.false) c.loop-t.invariant)
     c.ending.result c.ending.ensures.some)
 
@@ -62,7 +62,7 @@ pub returns-clause-fault : goal.returns-clause-fault
 returns-clause-fault c =
     subst (λ r. IfErr r (λ e. (e ≡ Memory) ⊎ IsFirstCheckFault c.args.graph.now c.args.initiator c.args.log.now e))
     (sym c.ok_or.ensures.value)
-    (answer_cut c.args.graph.now c.args.initiator c.args.log.now c.loop-t.auditor
-    (subst (λ (log : List Delivery). IsAudited c.args.graph.now c.args.initiator log c.loop-t.auditor)
+    (answer_cut c.args.graph.now c.args.initiator c.args.log.now c.loop-t.checker
+    (subst (λ (log : List Delivery). IsChecked c.args.graph.now c.args.initiator log c.loop-t.checker)
     (take_all c.loop-t.t c.args.log.now c.loop-t-test.false) c.loop-t.invariant)
     c.ending.result c.ending.ensures.none)

@@ -1,6 +1,6 @@
 use Rattle.std.proofs.Common.{take}
-use Rattle.cmh_run.specs.Audit.{IsAudited}
+use Rattle.cmh_run.specs.CheckState.{IsChecked}
 use Rattle.cmh_run.proofs.check.check_run.Given as goal
 
 abbrev pub invariant-loop-t : goal.invariant-loop-t
-invariant-loop-t l = IsAudited l.graph l.initiator (take l.t l.log) l.auditor
+invariant-loop-t l = IsChecked l.graph l.initiator (take l.t l.log) l.checker

@@ -1,6 +1,6 @@
 use Rattle.std.proofs.Common.{◌≡◌, ◌∙◌, ap, subst, sym, List, None}
 use Rattle.cmh_run.specs.declared.delivery.Delivery.{Delivery}
-use Rattle.cmh_run.specs.Run.{Run, Stage, MayStart}
+use Rattle.cmh_run.specs.Run.{Run, ProgressState, MayStart}
 use Rattle.cmh_run.specs.Choices.{HasNoHints}
 use Rattle.cmh_run.proofs.FollowLemmas.{may_start_first, next_is, next_left, taken_going, taken_size, taken_within, taken_sender, taken_engagers, taken_room, taken_may_start, taken_follows, taken_done, taken_log, taken_falls, no_hints_on, over_log, cleared, finished, run_is_true, restarted_few, run_engages, awake_runs_nothing}
 use Rattle.cmh_run.proofs.runner.follow.Goals as goal
@@ -8,7 +8,7 @@ use Rattle.cmh_run.proofs.runner.follow.Goals as goal
 -- at first the initiator may start again, if the run isn't over
 pub restart_if_due-requires-clause-may : goal.restart_if_due-requires-clause-may
 restart_if_due-requires-clause-may g c =
-    subst (λ (p : Stage). p.going.config.ended ≡ None → MayStart c.args.graph.now c.args.initiator p.going)
+    subst (λ (p : ProgressState). p.going.config.ended ≡ None → MayStart c.args.graph.now c.args.initiator p.going)
     (sym c.in_ok-progress.ensures.ok)
     (may_start_first c.args.graph.now c.args.initiator c.args.restarts.now c.requires.graph.within c.requires.idle)
 

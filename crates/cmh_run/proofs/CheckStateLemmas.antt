@@ -1,4 +1,4 @@
--- What an auditor keeps agrees with the run, from delivery to delivery.
+-- What a checker keeps agrees with the run, from delivery to delivery.
 use Rattle.std.proofs.Common.{◌≡◌, ℕ, ◌+◌, Bool, true, false, not, ◌&&◌, ◌||◌, cond, eqb, List, [], ◌∷◌, ◌++◌, map, remove, replicate, length, slice_get, Option, Some, None, refl, sym, ◌∙◌, ap, subst, inl, inr, ◌⊎◌, ⊎_elim, append-nil}
 use Rattle.std.proofs.lemmas.Bool.{eqb-true, eq-eqb, cases_eq, true≢false, and_parts, and_from, or_right}
 use Rattle.std.proofs.lemmas.Option.{none-some, same_Some}
@@ -17,10 +17,10 @@ use Rattle.cmh_graph.proofs.Verdicts.{idle_within}
 use Rattle.cmh_run.specs.declared.delivery.Delivery.{Delivery}
 use Rattle.cmh_run.specs.declared.delivery.Ending.{Ending}
 use Rattle.cmh_run.specs.declared.delivery.Ending.TheVariants.{AtRest}
-use Rattle.cmh_run.specs.Config.{Config, proc_at, sent, nothing_yet, start, hinted, answered, received, without, delivered}
+use Rattle.cmh_run.specs.Config.{Config, proc_at, sent, nothing_yet, start, hinted, after_answer, received, without, delivered}
 use Rattle.cmh_run.specs.Legal.{Going, going_from, begun, ready, after, MayCome, any_place, DeliveriesLead}
 use Rattle.cmh_run.specs.Check.{LeadTo, IsUndelivered}
-use Rattle.cmh_run.specs.Audit.{is_waiting, is_same_kind, goes_like, Audit, with_bag, Agrees, IsSettled}
+use Rattle.cmh_run.specs.CheckState.{is_waiting, is_same_kind, goes_like, CheckState, with_bag, Agrees, IsSettled}
 use Rattle.cmh_run.proofs.Tokens.{Each, each_append, each_remove, each_at}
 use Rattle.cmh_run.proofs.LiveInvariant.{Live}
 use Rattle.cmh_run.proofs.Soundness.{number_kept}
@@ -73,7 +73,7 @@ delivered_own g i c x m hint there own =
     by_kind Reply h = more [] (reply_action (proc_at c.procs m.to) m.number)
     by_kind Query h =
         by_test (engages (proc_at c.procs m.to) m.number)
-        (λ b. Each (Own i) (cond b (hinted g i (without c x) m h) (answered i (without c x) m)).bag)
+        (λ b. Each (Own i) (cond b (hinted g i (without c x) m h) (after_answer i (without c x) m)).bag)
         (λ e. by_hint h) (λ e. more [] (query_action (proc_at c.procs m.to) m.number m.from 0))
 
 -- without restarts, what is true of a run's start is kept: its messages are its own, and no restart is to come
@@ -102,7 +102,7 @@ leads_first g i (d ∷ log) s end none l =
 
 -- ---- where the deliveries have led
 
--- what an auditor may count on
+-- what a checker may count on
 pub record Firm (g : Graph) (i : ℕ) (s : Going) : Type 0 where
   pub size : length s.config.procs ≡ process_count g
   pub own : Each (Own i) s.config.bag
@@ -113,7 +113,7 @@ pub record Firm (g : Graph) (i : ℕ) (s : Going) : Type 0 where
   pub number : (m : Message) → IsUndelivered s.config m → s.config.number ≡ 1
 
 module _ (g : Graph) (i : ℕ) (w : IsWellFormed g) (idle : is_idle g i ≡ true) where
-  -- where the initiator isn't awake, what an auditor may count on is true wherever deliveries lead from its start
+  -- where the initiator isn't awake, what a checker may count on is true wherever deliveries lead from its start
   firm_asleep : is_awake g i ≡ false → (log : List Delivery) (s : Going)
       → DeliveriesLead any_place g i (going_from (start g i (nothing_yet g)) []) log s → Firm g i s
   firm_asleep rests log s l =
@@ -137,7 +137,7 @@ module _ (g : Graph) (i : ℕ) (w : IsWellFormed g) (idle : is_idle g i ≡ true
         number = λ m h. leads_first g i log (going_from (start g i (nothing_yet g)) []) s refl l ∙ first;
       }
 
-  -- where nothing was started, as by an awake initiator, what an auditor may count on is true
+  -- where nothing was started, as by an awake initiator, what a checker may count on is true
   firm_awake : (s : Going) → s ≡ going_from (nothing_yet g) [] → Firm g i s
   firm_awake s e = subst (λ (t : Going). Firm g i t) (sym e) (record {
     size = length-replicate (process_count g) fresh;
@@ -148,7 +148,7 @@ module _ (g : Graph) (i : ℕ) (w : IsWellFormed g) (idle : is_idle g i ≡ true
     number = λ m h. absurd (in_nothing m h);
   })
 
-  -- wherever the deliveries of a log lead, what an auditor may count on is true
+  -- wherever the deliveries of a log lead, what a checker may count on is true
   pub firm : (log : List Delivery) (s : Going) → LeadTo g i log s → Firm g i s
   firm log s l = by_awake (is_awake g i) refl
     where
@@ -165,9 +165,9 @@ received_bag : (g : Graph) (i : ℕ) (c : Config) (bag : List Message) (m : Mess
 received_bag g i c bag m Reply hint = refl
 received_bag g i c bag m Query hint =
     by_test (engages (proc_at c.procs m.to) m.number)
-    (λ b. ◌≡◌ {A = Config} (cond b (hinted g i (with_bag c bag) m hint) (answered i (with_bag c bag) m))
-    (with_bag (cond b (hinted g i (with_bag c []) m hint) (answered i (with_bag c []) m))
-    (bag ++ (cond b (hinted g i (with_bag c []) m hint) (answered i (with_bag c []) m)).bag)))
+    (λ b. ◌≡◌ {A = Config} (cond b (hinted g i (with_bag c bag) m hint) (after_answer i (with_bag c bag) m))
+    (with_bag (cond b (hinted g i (with_bag c []) m hint) (after_answer i (with_bag c []) m))
+    (bag ++ (cond b (hinted g i (with_bag c []) m hint) (after_answer i (with_bag c []) m)).bag)))
     (λ e. by_hint hint) (λ e. refl)
   where
     by_hint : (h : Option Verdict)
@@ -229,7 +229,7 @@ goes_equal i a b oa ob h =
 -- ---- what is kept
 
 -- where nothing waits and the network has all messages, what is kept agrees with the start of the run
-pub agrees_first : (g : Graph) (i : ℕ) (a : Audit) → IsWellFormed g → is_idle g i ≡ true
+pub agrees_first : (g : Graph) (i : ℕ) (a : CheckState) → IsWellFormed g → is_idle g i ≡ true
     → a.network ≡ (begun g i []).config → ((m : Message) → is_waiting a.undelivered m ≡ false)
     → Agrees g i [] (begun g i []) a
 agrees_first g i a w idle same none = record {
@@ -245,7 +245,7 @@ agrees_first g i a w idle same none = record {
   waiting = λ m j n h. absurd (true≢false (sym h ∙ none m));
 }
 
-module _ (g : Graph) (i : ℕ) (log : List Delivery) (s : Going) (a b : Audit) (h : Agrees g i log s a) where
+module _ (g : Graph) (i : ℕ) (log : List Delivery) (s : Going) (a b : CheckState) (h : Agrees g i log s a) where
   -- what is undelivered is a message of the first computation
   own : (m : Message) → IsUndelivered s.config m → Own i m
   own m u = each_at (Own i) s.config.bag u.0 m (firm g i h.graph h.idle log s h.leads).own u.1

@@ -2,8 +2,8 @@ use Rattle.std.proofs.Common.{ℕ, List, length}
 use Rattle.cmh_graph.specs.Graph.{Graph}
 use Rattle.cmh_run.specs.declared.delivery.Delivery.{Delivery}
 use Rattle.cmh_run.specs.Legal.{Going}
-use Rattle.cmh_run.specs.Audit.{Agrees}
-use Rattle.cmh_run.proofs.auditor.Auditor.settle.Given as goal
+use Rattle.cmh_run.specs.CheckState.{Agrees}
+use Rattle.cmh_run.proofs.checker.Checker.settle.Given as goal
 
 abbrev pub invariant-loop-message : goal.invariant-loop-message
 invariant-loop-message l = (g : Graph) (i : ℕ) (log : List Delivery) (s : Going) → Agrees g i log s l.fn.self

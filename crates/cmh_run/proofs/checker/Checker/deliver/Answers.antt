@@ -4,9 +4,9 @@ use Rattle.cmh_graph.specs.Graph.{is_awake}
 use Rattle.cmh_run.specs.Config.{Config, received}
 use Rattle.cmh_run.specs.Legal.{after}
 use Rattle.cmh_run.specs.Packed.{EngagersHaveRoom}
-use Rattle.cmh_run.specs.Audit.{Audit}
-use Rattle.cmh_run.proofs.CheckLemmas.{audit_size, awaited, where_none, is_there, delivery_within, delivery_sender, delivery_from, delivery_engagers, network_going, after_delivery}
-use Rattle.cmh_run.proofs.auditor.Auditor.deliver.Goals as goal
+use Rattle.cmh_run.specs.CheckState.{CheckState}
+use Rattle.cmh_run.proofs.CheckLemmas.{network_size, awaited, where_none, is_there, delivery_within, delivery_sender, delivery_from, delivery_engagers, network_going, after_delivery}
+use Rattle.cmh_run.proofs.checker.Checker.deliver.Goals as goal
 
 -- the message isn't awaited, so it isn't undelivered
 pub returns-then-not-take-clause-fault : goal.returns-then-not-take-clause-fault
@@ -19,99 +19,99 @@ returns-then-not-take-clause-fault c = inr (λ log s h settled. (
       (awaited c.args.graph.now c.args.initiator log s c.args.self.now h settled c.args.delivery.message u))),
 ))
 
--- when a hint is judged, the network has as many processes as the graph
+-- when a hint is checked, the network has as many processes as the graph
 pub is_fit-requires-clause-size : goal.is_fit-requires-clause-size
 is_fit-requires-clause-size c =
     ap (λ (n : Config). length n.procs) c.if-not-take.ensures.network
-    ∙ audit_size c.args.graph.now c.args.initiator c.requires.audited.0 c.requires.audited.1.0 c.args.self.now
-    c.requires.audited.1.1
+    ∙ network_size c.args.graph.now c.args.initiator c.requires.checked.0 c.requires.checked.1.0 c.args.self.now
+    c.requires.checked.1.1
 
--- when a hint is judged, the receiver is a process of the graph
+-- when a hint is checked, the receiver is a process of the graph
 pub is_fit-requires-clause-within : goal.is_fit-requires-clause-within
 is_fit-requires-clause-within c =
-    delivery_within c.args.graph.now c.args.initiator c.requires.audited.0 c.requires.audited.1.0 c.args.self.now
-    c.args.delivery c.requires.audited.1.1 c.requires.audited.1.2
+    delivery_within c.args.graph.now c.args.initiator c.requires.checked.0 c.requires.checked.1.0 c.args.self.now
+    c.args.delivery c.requires.checked.1.1 c.requires.checked.1.2
     (where_none c.ending.result _ c.if-is_some.ensures c.ending.ensures.none c.args.graph.now c.args.initiator
-    c.requires.audited.0 c.requires.audited.1.0 c.requires.audited.1.1 c.requires.audited.1.2)
+    c.requires.checked.0 c.requires.checked.1.0 c.requires.checked.1.1 c.requires.checked.1.2)
     (c.if-not-take.ensures.found.0 refl)
 
 -- when a message is delivered, the network has as many processes as the graph
 pub deliver-requires-clause-size : goal.deliver-requires-clause-size
 deliver-requires-clause-size c =
-    ap (λ (a : Audit). length a.network.procs) c.self.view_is
+    ap (λ (a : CheckState). length a.network.procs) c.self.view_is
     ∙ ap (λ (n : Config). length n.procs) c.if-not-take.ensures.network
-    ∙ audit_size c.args.graph.now c.args.initiator c.requires.audited.0 c.requires.audited.1.0 c.args.self.now
-    c.requires.audited.1.1
+    ∙ network_size c.args.graph.now c.args.initiator c.requires.checked.0 c.requires.checked.1.0 c.args.self.now
+    c.requires.checked.1.1
 
 pub deliver-requires-clause-within : goal.deliver-requires-clause-within
 deliver-requires-clause-within c =
-    delivery_within c.args.graph.now c.args.initiator c.requires.audited.0 c.requires.audited.1.0 c.args.self.now
-    c.args.delivery c.requires.audited.1.1 c.requires.audited.1.2
+    delivery_within c.args.graph.now c.args.initiator c.requires.checked.0 c.requires.checked.1.0 c.args.self.now
+    c.args.delivery c.requires.checked.1.1 c.requires.checked.1.2
     (where_none c.ending.result _ c.if-is_some.ensures c.ending.ensures.none c.args.graph.now c.args.initiator
-    c.requires.audited.0 c.requires.audited.1.0 c.requires.audited.1.1 c.requires.audited.1.2)
+    c.requires.checked.0 c.requires.checked.1.0 c.requires.checked.1.1 c.requires.checked.1.2)
     (c.if-not-take.ensures.found.0 refl)
 
 -- when a message is delivered, what its receiver sends has room in a word
 pub deliver-requires-clause-sender : goal.deliver-requires-clause-sender
 deliver-requires-clause-sender c =
-    delivery_sender c.args.graph.now c.args.initiator c.requires.audited.0 c.requires.audited.1.0 c.args.self.now
-    c.args.delivery c.requires.audited.1.1 c.requires.audited.1.2
+    delivery_sender c.args.graph.now c.args.initiator c.requires.checked.0 c.requires.checked.1.0 c.args.self.now
+    c.args.delivery c.requires.checked.1.1 c.requires.checked.1.2
     (where_none c.ending.result _ c.if-is_some.ensures c.ending.ensures.none c.args.graph.now c.args.initiator
-    c.requires.audited.0 c.requires.audited.1.0 c.requires.audited.1.1 c.requires.audited.1.2)
+    c.requires.checked.0 c.requires.checked.1.0 c.requires.checked.1.1 c.requires.checked.1.2)
     (c.if-not-take.ensures.found.0 refl)
 
 pub deliver-requires-clause-from : goal.deliver-requires-clause-from
 deliver-requires-clause-from c =
-    delivery_from c.args.graph.now c.args.initiator c.requires.audited.0 c.requires.audited.1.0 c.args.self.now
-    c.args.delivery c.requires.audited.1.1 c.requires.audited.1.2
+    delivery_from c.args.graph.now c.args.initiator c.requires.checked.0 c.requires.checked.1.0 c.args.self.now
+    c.args.delivery c.requires.checked.1.1 c.requires.checked.1.2
     (where_none c.ending.result _ c.if-is_some.ensures c.ending.ensures.none c.args.graph.now c.args.initiator
-    c.requires.audited.0 c.requires.audited.1.0 c.requires.audited.1.1 c.requires.audited.1.2)
+    c.requires.checked.0 c.requires.checked.1.0 c.requires.checked.1.1 c.requires.checked.1.2)
     (c.if-not-take.ensures.found.0 refl)
 
 pub deliver-requires-clause-engagers : goal.deliver-requires-clause-engagers
 deliver-requires-clause-engagers c =
     subst (λ (n : Config). EngagersHaveRoom n.procs)
-    (sym (ap (λ (a : Audit). a.network) c.self.view_is ∙ c.if-not-take.ensures.network))
-    (delivery_engagers c.args.graph.now c.args.initiator c.requires.audited.0 c.requires.audited.1.0 c.args.self.now
-    c.args.delivery c.requires.audited.1.1 c.requires.audited.1.2
+    (sym (ap (λ (a : CheckState). a.network) c.self.view_is ∙ c.if-not-take.ensures.network))
+    (delivery_engagers c.args.graph.now c.args.initiator c.requires.checked.0 c.requires.checked.1.0 c.args.self.now
+    c.args.delivery c.requires.checked.1.1 c.requires.checked.1.2
     (where_none c.ending.result _ c.if-is_some.ensures c.ending.ensures.none c.args.graph.now c.args.initiator
-    c.requires.audited.0 c.requires.audited.1.0 c.requires.audited.1.1 c.requires.audited.1.2)
+    c.requires.checked.0 c.requires.checked.1.0 c.requires.checked.1.1 c.requires.checked.1.2)
     (c.if-not-take.ensures.found.0 refl))
 
 -- when a message is delivered, the network hasn't ended
 pub deliver-requires-clause-going : goal.deliver-requires-clause-going
 deliver-requires-clause-going c =
-    ap (λ (a : Audit). a.network.ended) c.self.view_is
+    ap (λ (a : CheckState). a.network.ended) c.self.view_is
     ∙ ap (λ (n : Config). n.ended) c.if-not-take.ensures.network
-    ∙ network_going c.args.graph.now c.args.initiator c.requires.audited.0 c.requires.audited.1.0 c.args.self.now
-    c.args.delivery c.requires.audited.1.1 c.requires.audited.1.2
+    ∙ network_going c.args.graph.now c.args.initiator c.requires.checked.0 c.requires.checked.1.0 c.args.self.now
+    c.args.delivery c.requires.checked.1.1 c.requires.checked.1.2
     (where_none c.ending.result _ c.if-is_some.ensures c.ending.ensures.none c.args.graph.now c.args.initiator
-    c.requires.audited.0 c.requires.audited.1.0 c.requires.audited.1.1 c.requires.audited.1.2)
+    c.requires.checked.0 c.requires.checked.1.0 c.requires.checked.1.1 c.requires.checked.1.2)
     (c.if-not-take.ensures.found.0 refl)
 
 -- what is kept agrees with the run that is one delivery longer
 pub returns-clause-ok : goal.returns-clause-ok
-returns-clause-ok c = λ log audited.
+returns-clause-ok c = λ log checked.
     let no_end =
     where_none c.ending.result _ c.if-is_some.ensures c.ending.ensures.none c.args.graph.now c.args.initiator log
-    audited.0 audited.1 audited.2 in
+    checked.0 checked.1 checked.2 in
     let aw = c.if-not-take.ensures.found.0 refl in (
-      after c.args.graph.now c.args.initiator audited.0
-          (is_there c.args.graph.now c.args.initiator log audited.0 c.args.self.now c.args.delivery audited.1 audited.2
+      after c.args.graph.now c.args.initiator checked.0
+          (is_there c.args.graph.now c.args.initiator log checked.0 c.args.self.now c.args.delivery checked.1 checked.2
           no_end aw).0 c.args.delivery,
       c.in_ok-settle.ensures.ok c.args.graph.now c.args.initiator (log ++ c.args.delivery ∷ [])
-          (after c.args.graph.now c.args.initiator audited.0
-          (is_there c.args.graph.now c.args.initiator log audited.0 c.args.self.now c.args.delivery audited.1
-          audited.2 no_end aw).0 c.args.delivery)
-          (after_delivery c.args.graph.now c.args.initiator log audited.0 c.args.self.now c.args.delivery audited.1
-          audited.2 no_end aw
+          (after c.args.graph.now c.args.initiator checked.0
+          (is_there c.args.graph.now c.args.initiator log checked.0 c.args.self.now c.args.delivery checked.1
+          checked.2 no_end aw).0 c.args.delivery)
+          (after_delivery c.args.graph.now c.args.initiator log checked.0 c.args.self.now c.args.delivery checked.1
+          checked.2 no_end aw
           c.take.new.self (record { network = c.deliver.new.self; undelivered = c.self.inside.undelivered })
           c.if-not-take.ensures.network (c.if-not-take.ensures.rest refl) (c.if-not-is_fit.ensures.0 refl)
-          (subst (λ (a : Audit). c.deliver.new.self
+          (subst (λ (a : CheckState). c.deliver.new.self
           ≡ cond (is_awake c.args.graph.now c.args.delivery.message.to) a.network
           (received c.args.graph.now c.args.initiator a.network c.args.delivery.message
           c.args.delivery.message.kind c.args.delivery.hint))
           c.self.view_is c.in_ok-deliver.ensures.ok)
-          (ap (λ (a : Audit). a.undelivered) c.self.view_is)),
+          (ap (λ (a : CheckState). a.undelivered) c.self.view_is)),
       c.in_ok-settle.ensures.settled,
     )

@@ -1,6 +1,6 @@
 use Rattle.std.proofs.Common.{◌%◌, length}
-use Rattle.cmh_run.proofs.AuditLemmas.{agrees_on}
-use Rattle.cmh_run.proofs.auditor.Auditor.settle.Goals as goal
+use Rattle.cmh_run.proofs.CheckStateLemmas.{agrees_on}
+use Rattle.cmh_run.proofs.checker.Checker.settle.Goals as goal
 
 -- once a message that was just sent is added to the awaited ones, what is kept still agrees with the run
 pub loop-message-preserved : goal.loop-message-preserved

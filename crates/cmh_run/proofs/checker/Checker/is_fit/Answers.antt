@@ -1,8 +1,8 @@
 use Rattle.std.proofs.Common.{◌≡◌, true, sym, ◌∙◌, subst}
-use Rattle.cmh_run.specs.Audit.{Audit}
+use Rattle.cmh_run.specs.CheckState.{CheckState}
 use Rattle.cmh_run.specs.Legal.{HintIsFit}
 use Rattle.cmh_run.proofs.CheckLemmas.{truth_at, fit_where_true}
-use Rattle.cmh_run.proofs.auditor.Auditor.is_fit.Goals as goal
+use Rattle.cmh_run.proofs.checker.Checker.is_fit.Goals as goal
 
 -- the receiver of the delivery has a verdict in the list
 pub bounds-truth-delivery : goal.bounds-truth-delivery
@@ -12,7 +12,7 @@ bounds-truth-delivery c =
 -- the hint is asked for, so it must be true
 pub returns-then-asks : goal.returns-then-asks
 returns-then-asks c =
-    subst (λ (a : Audit).
+    subst (λ (a : CheckState).
     (c.eq.result ≡ true → HintIsFit c.args.graph.now a.network c.args.delivery.message c.args.delivery.hint)
     × (HintIsFit c.args.graph.now a.network c.args.delivery.message c.args.delivery.hint → c.eq.result ≡ true))
     c.self.view_is

@@ -1,7 +1,7 @@
 use Rattle.std.proofs.Common.{[]}
 use Rattle.cmh_run.specs.Legal.{begun}
-use Rattle.cmh_run.proofs.AuditLemmas.{agrees_first}
-use Rattle.cmh_run.proofs.auditor.Auditor.begin.Goals as goal
+use Rattle.cmh_run.proofs.CheckStateLemmas.{agrees_first}
+use Rattle.cmh_run.proofs.checker.Checker.begin.Goals as goal
 
 -- at first what is kept agrees with a run of which nothing was delivered
 pub returns : goal.returns

@@ -1,4 +1,4 @@
-//! A log under judgement: the run that its deliveries make, from one to the next.
+//! A log that is checked: the run that its deliveries make, from one to the next.
 
 ghost use Rattle.std.specs.Prelude.{◌≡◌, ◌⊎◌, ◌<◌, ◌↔◌, ℕ, List, [], ◌∷◌, ◌++◌, None, length, IfOk, IfErr, IfSome, IfNone, IsTrue, not, ◌&&◌, OnOk};
 ghost use Rattle.cmh_graph.specs.Graph.{Graph, process_count, is_idle};
@@ -8,7 +8,7 @@ ghost use Rattle.cmh_process.specs.declared.message.Message.{Message};
 ghost use Rattle.cmh_run.specs.declared.delivery.Delivery.{Delivery};
 ghost use Rattle.cmh_run.specs.Legal.{Going, HintIsFit, EndsAs};
 ghost use Rattle.cmh_run.specs.Check.{HasEnded};
-ghost use Rattle.cmh_run.specs.Audit.{is_waiting, goes_like, Agrees, IsAudited, IsSettled, IsAwaited, IsFlaw};
+ghost use Rattle.cmh_run.specs.CheckState.{is_waiting, goes_like, Agrees, IsChecked, IsSettled, IsAwaited, IsFlaw};
 
 use crate::network::Network;
 use crate::undelivered::Undelivered;
@@ -21,37 +21,37 @@ use std::marker::Model;
 /// The run that the deliveries of a log make. Its bag is kept as a set, so that a message is found
 /// among many; the network's own bag has only what was just sent.
 #[derive(Drop)]
-pub(crate) struct Auditor {
+pub(crate) struct Checker {
     network: Network,
     undelivered: Undelivered,
 }
 
-impl Model for Auditor {
-    ghost use Rattle.cmh_run.specs.Audit.{Audit};
+impl Model for Checker {
+    ghost use Rattle.cmh_run.specs.CheckState.{CheckState};
 
-    ghost Value = { Audit };
+    ghost Value = { CheckState };
 
     ghost view = { λ a. record { network = a.network; undelivered = a.undelivered } };
 }
 
-impl Auditor {
+impl Checker {
     /// The start of a run without restarts.
     pub(crate) fn begin(
         alloc: Global,
         graph: &WaitGraph,
         initiator: u32,
-    ) -> Result<Auditor, AllocError>
+    ) -> Result<Checker, AllocError>
         requires graph { IsWellFormed graph.now }
         requires within { initiator < process_count graph.now }
         requires idle { IsTrue (is_idle graph.now initiator) }
-        ensures ok { IfOk result (IsAudited graph.now initiator []) }
+        ensures ok { IfOk result (IsChecked graph.now initiator []) }
     {
-        let mut auditor = Auditor {
+        let mut checker = Checker {
             network: Network::begun(alloc, graph, initiator)?,
             undelivered: Undelivered::new(alloc),
         };
-        auditor.settle()?;
-        Ok(auditor)
+        checker.settle()?;
+        Ok(checker)
     }
 
     /// How the run has ended, if it has.
@@ -81,10 +81,10 @@ impl Auditor {
         delivery: Delivery,
     ) -> Result<(), CheckFault>
         requires truth { truth.now ≡ verdicts graph.now }
-        requires audited { (log : List Delivery) × IsAudited graph.now initiator log self.old }
+        requires checked { (log : List Delivery) × IsChecked graph.now initiator log self.old }
         ensures ok { OnOk result ((log : List Delivery)
-            → IsAudited graph.now initiator log self.old
-            → IsAudited graph.now initiator (log ++ delivery ∷ []) self.new) }
+            → IsChecked graph.now initiator log self.old
+            → IsChecked graph.now initiator (log ++ delivery ∷ []) self.new) }
         ensures fault { IfErr result (λ e. (e ≡ CheckFault.Memory)
             ⊎ ((log : List Delivery) (s : Going) → Agrees graph.now initiator log s self.old
             → IsSettled self.old → IsFlaw graph.now s.config t delivery e)) }

@@ -26,12 +26,12 @@ of_kind Query queries replies = queries
 of_kind Reply queries replies = replies
 
 -- the ends of the queries and of the replies that are undelivered
-pub record Waiting : Type 0 where
+pub record UndeliveredState : Type 0 where
   pub queries : List (ℕ × ℕ)
   pub replies : List (ℕ × ℕ)
 
 -- a message with this kind and these ends is among the undelivered ones
-abbrev pub is_waiting : Waiting → Message → Bool
+abbrev pub is_waiting : UndeliveredState → Message → Bool
 is_waiting w m = list_any (is_at (pair_cmp (m.from, m.to))) (of_kind m.kind w.queries w.replies)
 
 -- both kinds are queries, or both are replies
@@ -44,24 +44,18 @@ goes_like a b = is_same_kind a.kind b.kind && (a.from == b.from && a.to == b.to)
 
 -- what is kept: a network whose bag has what was just sent, and which messages are undelivered
 -- beside those
-pub record Audit : Type 0 where
+pub record CheckState : Type 0 where
   pub network : Config
-  pub undelivered : Waiting
+  pub undelivered : UndeliveredState
 
 -- the configuration with another bag
 abbrev pub with_bag : Config → List Message → Config
-with_bag c bag = record {
-  bag = bag;
-  procs = c.procs;
-  number = c.number;
-  engaged = c.engaged;
-  ended = c.ended;
-}
+with_bag c bag = record c { bag = bag }
 
 -- The deliveries have led to s, and what is kept agrees with it: the network but for its bag, and
 -- all that is undelivered, in the one place or in the other.
 pub record Agrees (g : Graph) (i : ℕ) (log : List Delivery) (s : Going)
-    (a : Audit) : Type 0 where
+    (a : CheckState) : Type 0 where
   pub graph : IsWellFormed g
   pub idle : IsTrue (is_idle g i)
   pub leads : LeadTo g i log s
@@ -73,18 +67,18 @@ pub record Agrees (g : Graph) (i : ℕ) (log : List Delivery) (s : Going)
       → IsUndelivered s.config m
 
 -- the message is of the first computation, and waits
-pub record IsAwaited (i : ℕ) (a : Audit) (m : Message) : Type 0 where
+pub record IsAwaited (i : ℕ) (a : CheckState) (m : Message) : Type 0 where
   pub mine : m.initiator ≡ i
   pub first : m.number ≡ 1
   pub waits : IsTrue (is_waiting a.undelivered m)
 
 -- nothing that was just sent is left in the bag of the network
-abbrev pub IsSettled : Audit → Type 0
+abbrev pub IsSettled : CheckState → Type 0
 IsSettled a = a.network.bag ≡ []
 
 -- the deliveries have led somewhere, and what is kept agrees with it
-abbrev pub IsAudited : Graph → ℕ → List Delivery → Audit → Type 0
-IsAudited g i log a = (s : Going) × Agrees g i log s a × IsSettled a
+abbrev pub IsChecked : Graph → ℕ → List Delivery → CheckState → Type 0
+IsChecked g i log a = (s : Going) × Agrees g i log s a × IsSettled a
 
 -- what is wrong with delivery t, which comes at c
 abbrev pub IsFlaw : Graph → Config → ℕ → Delivery → CheckFault → Type 0
