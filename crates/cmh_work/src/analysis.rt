@@ -89,7 +89,7 @@ pub fn analyse_keeping<L: Log + Send, E: ProcessList + Send, R: Threads + Wait +
 
 /// A number for each chunk of the plan: there is one more than cuts.
 fn open_tickets(alloc: Global, plan: &Plan) -> Result<(Tickets, TicketSeat), AllocError>
-    ensures open { IfOk result (λ r. IsTicketSeatOf r.0 r.1 × (chunk_count r.0 ≡ length plan.now.cuts + 1)
+    ensures { IfOk result (λ r. IsTicketSeatOf r.0 r.1 × (chunk_count r.0 ≡ length plan.now.cuts + 1)
         × (ticket_view r.1 ≡ ticket_opening_view (length plan.now.cuts + 1))) }
 {
     let chunks = plan.cuts().len() as u32 + 1;
@@ -111,7 +111,7 @@ fn finish<L: Log + Send, E: ProcessList + Send, R: Threads + Wait + Sync, G: Gat
     requires new { AreNew seats }
     requires tickets { (ticket_view seats.tickets).share ≡ MAX_WORKERS }
     requires board { (known seats.board).lock.share ≡ MAX_SEATS }
-    ensures ok { IfOk result (IsAnalysisOf E.processes graph.now plan.now.choices) }
+    ensures { IfOk result (IsAnalysisOf E.processes graph.now plan.now.choices) }
 {
     law_built_graph(graph);
     let others = plan.workers() - 1;

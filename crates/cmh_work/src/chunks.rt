@@ -13,7 +13,7 @@ pub(crate) fn chunk_bounds(
     cuts: &[u64],
     size: usize,
 ) -> Result<Vec<usize>, AllocError>
-    ensures ok { IfOk result (λ bounds. bounds.items ≡ bounds_of cuts.now size) }
+    ensures { IfOk result (λ bounds. bounds.items ≡ bounds_of cuts.now size) }
 {
     let mut bounds = Vec::with_capacity(alloc, cuts.len() + 2)?;
     bounds.push_reserved(0);

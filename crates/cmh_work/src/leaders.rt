@@ -51,7 +51,7 @@ fn core_by(
     requires within { p < process_count graph.now }
     requires known { ArePredecessors graph.now predecessors.now }
     requires alone { AreAlone graph.now alone.now }
-    ensures ok { IfOk result (λ core. core.items ≡ core_of graph.now p) }
+    ensures { IfOk result (λ core. core.items ≡ core_of graph.now p) }
 {
     if alone[p as usize] {
         return Ok(Vec::from_slice(alloc, &[p])?);

@@ -57,7 +57,7 @@ pub(crate) fn number_all<R: Drop, P: Drop>(
     requires within { All (λ row. row.process < count) history.now }
     requires few { length history.now < 2 ^ 32 }
     requires stand { All (Stands history.now) found.items }
-    ensures ok { IfOk result (λ records. AreNumbered history.now found.items records.items) }
+    ensures { IfOk result (λ records. AreNumbered history.now found.items records.items) }
 {
     let numbers = row_numbers(alloc, history, count)?;
     let mut records = Vec::new(alloc);

@@ -27,7 +27,7 @@ impl Shapes {
     /// Searches the graph once for all distances, and twice for each group that isn't soon seen to be
     /// one process alone.
     pub(crate) fn of_graph(alloc: Global, graph: &WaitGraph) -> Result<Shapes, AllocError>
-        ensures ok { IfOk result (AreShapesOf graph.now) }
+        ensures { IfOk result (AreShapesOf graph.now) }
     {
         let predecessors = Predecessors::of_graph(alloc, graph).map_err(want_in_graph)?;
         let distances = graph
@@ -50,7 +50,7 @@ impl Shapes {
         requires shapes { AreShapesOf graph.now self.now }
         requires within { p < process_count graph.now }
         requires known { IsVerdict graph.now p known }
-        ensures ok { IfOk result (IsShape P.processes graph.now p known) }
+        ensures { IfOk result (IsShape P.processes graph.now p known) }
     {
         law_built_graph(graph);
         match known {

@@ -24,7 +24,7 @@ fn concat_findings<L: Log, E: ProcessList>(
     first: Result<Vec<Finding<RunLog<L, E>, E>>, AllocError>,
     second: Result<Vec<Finding<RunLog<L, E>, E>>, AllocError>,
 ) -> Result<Vec<Finding<RunLog<L, E>, E>>, AllocError>
-    ensures all { IfOk result (λ v.
+    ensures { IfOk result (λ v.
         IsOkAnd first (λ a. IsOkAnd second (λ b. v.items ≡ a.items ++ b.items))) }
 {
     let mut all = first?;

@@ -54,8 +54,8 @@ number_all-requires-clause-few g c =
     let small = c.law_built_graph.ensures.processes in
     omega (arith, ap length c.deref.ensures.value)
 
-pub returns-clause-ok : goal.returns-clause-ok
-returns-clause-ok g c =
+pub returns : goal.returns
+returns g c =
     let gr = c.args.graph.now in
     let plan = c.args.plan.now in
     let seats = c.workers-seats.result.0 in
@@ -76,7 +76,7 @@ returns-clause-ok g c =
     given c.close.result c.map_err.result c.in_ok-history.history _ _ c.map_err.ensures.cases c.in_ok-history.was
     c.close.ensures.own (back.board ∙ c.requires.board) in
     let numbered : AreNumbered rows sorted c.in_ok-records.records.items =
-    subst (λ l. AreNumbered l sorted c.in_ok-records.records.items) c.deref.ensures.value c.in_ok-records.ensures.ok in
+    subst (λ l. AreNumbered l sorted c.in_ok-records.records.items) c.deref.ensures.value c.in_ok-records.ensures in
     analysed g.E.ProcessList.processes gr plan c.args.shared seats c.in_ok-found.found.items sorted record
     { records = c.in_ok-records.records; history = c.in_ok-history.history }
     c.law_built_graph.ensures c.requires.made c.sort_unstable_by_key.ensures.permutation up back.sit

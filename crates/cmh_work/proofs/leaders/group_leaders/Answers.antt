@@ -41,7 +41,7 @@ is_new_leader-requires-clause-leaders c =
 pub lead_each-requires : goal.lead_each-requires
 lead_each-requires c =
     members_within c.args.graph.now c.loop-p.p _ _
-    (c.deref-then-is_new_leader-2.ensures.value ∙ c.in_ok-core.ensures.ok)
+    (c.deref-then-is_new_leader-2.ensures.value ∙ c.in_ok-core.ensures)
     (ap length c.deref_mut.ensures.value ∙ leaders_size c.args.graph.now c.loop-p.p _ c.loop-p.invariant)
 
 pub loop-p-preserved : goal.loop-p-preserved
@@ -63,7 +63,7 @@ loop-p-preserved c =
           ∙ with_items_is c.loop-p.leaders w.lead_each.new.leaders
           (w.lead_each.ensures.size ∙ w.deref_mut.ensures.len)))
           (leaders_led_more g _ c.loop-p.p _ _ _ _ well i c.requires.verdicts c.loop-p.invariant test
-          w.if-is_new_leader.true (w.deref-then-is_new_leader-2.ensures.value ∙ w.in_ok-core.ensures.ok) each)
+          w.if-is_new_leader.true (w.deref-then-is_new_leader-2.ensures.value ∙ w.in_ok-core.ensures) each)
       | else-is_new_leader w ↦
           subst (λ xs. AreLeadersBelow g (c.loop-p.p + 1) xs) (sym (ap (λ v. v.items) w.leaders-is))
           (leaders_passed g _ c.loop-p.p _ _ well i c.requires.verdicts c.loop-p.invariant test

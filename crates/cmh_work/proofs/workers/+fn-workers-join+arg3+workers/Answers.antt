@@ -44,7 +44,7 @@ returns-clause-worked g t c =
     (λ v. IsWorked g.E.ProcessList.processes c.args.graph.now c.args.plan.now c.args.shared.now r.0.0 v.items)
     (λ l. IsWorked g.E.ProcessList.processes c.args.graph.now c.args.plan.now c.args.shared.now
     c.take_back.new.seats l)
-    (c.join-one.ensures.second).1 (c.join-one.ensures.first).1 c.concat_findings.ensures.all
+    (c.join-one.ensures.second).1 (c.join-one.ensures.first).1 c.concat_findings.ensures
     (λ a b p q. joined_worked g.E.ProcessList.processes c.args.graph.now c.args.plan.now c.args.shared.now r.1.0 r.0.0
     c.take_back.new.seats a.items b.items c.take_back.ensures.tickets c.take_back.ensures.board
     c.take_back.ensures.begins.0 c.take_back.ensures.begins.1 p q)

@@ -31,8 +31,8 @@ path_by-requires-clause-some g c =
     subst (IsVerdict c.args.graph.now c.args.p) c.in-Free.is c.requires.known in
     way_out c.args.graph.now c.args.p _ c.law_built_graph.ensures.within c.requires.within free refl
 
-pub returns-in-Deadlocked-clause-ok : goal.returns-in-Deadlocked-clause-ok
-returns-in-Deadlocked-clause-ok g c =
+pub returns-in-Deadlocked : goal.returns-in-Deadlocked
+returns-in-Deadlocked g c =
     let dead : IsDeadlocked c.args.graph.now c.args.p =
     subst (IsVerdict c.args.graph.now c.args.p) c.in-Deadlocked.is c.requires.known in
     let same : Some c.unwrap.result ≡ Some (leader_of c.args.graph.now c.args.p) =
