@@ -40,12 +40,14 @@ impl<'a> Posting<'a> {
         }
     }
 
+    /// The verdict that all its processes have.
     pub(crate) fn verdict(&self) -> Verdict
         ensures { result ≡ self.now.verdict }
     {
         self.verdict
     }
 
+    /// The processes that it is about: of a deadlocked run all that engaged, else its initiator.
     pub(crate) fn processes(&self) -> &[u32]
         ensures { result.now ≡ self.now.processes }
     {

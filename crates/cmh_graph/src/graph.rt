@@ -89,6 +89,7 @@ impl WaitGraph {
         self.parts.is_empty()
     }
 
+    /// Whether the process waits for a message from its dependent set.
     pub fn is_idle(&self, p: u32) -> bool
         requires { p < process_count self.now }
         ensures { result ≡ is_idle self.now p }
@@ -120,6 +121,7 @@ impl WaitGraph {
         &self.awake
     }
 
+    /// The number of its site. Processes of equal numbers are at one site.
     pub fn site(&self, p: u32) -> u32
         requires { p < process_count self.now }
         ensures { result ≡ site_of self.now p }
@@ -142,6 +144,7 @@ impl WaitGraph {
         &self.parts[p as usize].dependents
     }
 
+    /// The name that the process has in the dump.
     pub fn name(&self, p: u32) -> &str
         requires { p < process_count self.now }
         ensures { result.now ≡ name_of self.now p }

@@ -92,6 +92,7 @@ impl LockWorld {
         })
     }
 
+    /// The lock word: `WRITER` while a seat writes, plus the number of seats that read or retreat.
     pub fn word(&self) -> u64
         ensures { result ≡ self.now.word }
     {

@@ -92,6 +92,7 @@ impl Plan {
         })
     }
 
+    /// How many workers share the analysis, from 1 to `MAX_WORKERS`.
     pub fn workers(&self) -> u32
         ensures count { result ≡ self.now.workers }
         ensures accepted { IsAcceptedPlan self.now }
@@ -99,6 +100,7 @@ impl Plan {
         self.workers
     }
 
+    /// How many initiators each chunk takes, but for the last, which has the rest.
     pub fn cuts(&self) -> &[u64]
         ensures cuts { result.now ≡ self.now.cuts }
         ensures accepted { IsAcceptedPlan self.now }
@@ -106,6 +108,7 @@ impl Plan {
         &self.cuts
     }
 
+    /// Which undelivered message each delivery of a run takes. Past the end it is the oldest.
     pub fn choices(&self) -> &[u64]
         ensures choices { result.now ≡ self.now.choices }
         ensures accepted { IsAcceptedPlan self.now }
