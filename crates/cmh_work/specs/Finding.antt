@@ -1,5 +1,5 @@
 -- What workers have found, before the history is closed.
-use Rattle.std.specs.Prelude.{◌≡◌, ◌⊎◌, ℕ, List, [], ◌∷◌, ◌++◌, All, Contains, IsTrue, Some, IfSome}
+use Rattle.std.specs.Prelude.{◌≡◌, ◌⊎◌, ℕ, List, [], ◌∷◌, ◌++◌, All, Contains, IsTrue, Option, Some, IfSome}
 use Rattle.cmh_graph.specs.Graph.{Graph, is_idle}
 use Rattle.cmh_graph.specs.Verdict.{IsVerdict}
 use Rattle.cmh_run.specs.Run.{Run}
@@ -22,6 +22,12 @@ pub record IsSeenFrom (seen posting : List Row) (run : Run) : Type 0 where
   pub place : StartsWith seen (before ++ posting)
   pub posted : IsPostedBy before posting run
 
+-- the seat that knew v before and w after has added no posting, or one of this run
+abbrev pub AddsOneOf : View → View → Option Run → Type 0
+AddsOneOf v w ran = (w.mine ≡ v.mine)
+    ⊎ ((posting : List Row) × (w.mine ≡ v.mine ++ posting ∷ [])
+    × (run : Run) × (ran ≡ Some run) × IsSeenFrom w.seen posting run)
+
 -- a seat that asked of p, and knew v before and w after, has an answer: it is true, it stands in
 -- what is seen, and where the seat added a posting, it is that of the run
 pub record IsAnswered (g : Graph) (choices : List ℕ) (p : ℕ) (v w : View) (a : Answer Run)
@@ -30,9 +36,7 @@ pub record IsAnswered (g : Graph) (choices : List ℕ) (p : ℕ) (v w : View) (a
   pub verdict : IsVerdict g p a.verdict
   pub stands : fold_at w.seen p ≡ Some a.verdict
   pub run : IfSome a.run (IsRunFor g choices p a.verdict)
-  pub mine : (w.mine ≡ v.mine)
-      ⊎ ((posting : List Row) × (w.mine ≡ v.mine ++ posting ∷ [])
-      × (run : Run) × (a.run ≡ Some run) × IsSeenFrom w.seen posting run)
+  pub mine : AddsOneOf v w a.run
 
 -- what was found of a process is true, and stands in what is seen
 pub record IsSound {L : Type 0} (listed : L → List ℕ) (g : Graph) (choices : List ℕ) (seen : List Row)
@@ -48,9 +52,7 @@ pub record IsRecorded {L : Type 0} (listed : L → List ℕ) (g : Graph) (choice
     (f : Finding Run L) : Type 0 where
   pub sees : StartsWith w.seen v.seen
   pub sound : IsSound listed g choices w.seen f
-  pub mine : (w.mine ≡ v.mine)
-      ⊎ ((posting : List Row) × (w.mine ≡ v.mine ++ posting ∷ [])
-      × (run : Run) × (f.run ≡ Some run) × IsSeenFrom w.seen posting run)
+  pub mine : AddsOneOf v w f.run
 
 -- the posting is of the run of something that was found
 abbrev pub IsExplained : {L : Type 0} → List Row → List (Finding Run L) → List Row → Type 0
