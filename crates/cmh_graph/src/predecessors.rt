@@ -1,6 +1,7 @@
 //! Who depends on each process.
 
 ghost use Rattle.std.specs.Prelude.{◌≡◌, ◌<◌, ℕ, [], length, All, IfOk, IfErr, OnOk};
+ghost use Rattle.cmh_graph.specs.Graph.{process_count};
 ghost use Rattle.cmh_graph.specs.Search.{list_at, predecessors_at, ArePredecessors, JoinsEach};
 
 use crate::{GraphFault, WaitGraph};
@@ -30,7 +31,8 @@ impl Predecessors {
         ensures ok { IfOk result (λ predecessors. ArePredecessors graph.now predecessors) }
         ensures memory { IfErr result (λ e. e ≡ GraphFault.Memory) }
     {
-        let mut lists = empty_lists(alloc, graph.len())?;
+        let counts = predecessor_counts(alloc, graph)?;
+        let mut lists = empty_lists(alloc, &counts)?;
         for p in 0..graph.len() {
             join_each(p, graph.dependents(p), &mut lists)?;
         }
@@ -46,14 +48,36 @@ impl Predecessors {
     }
 }
 
-/// So many empty lists.
-fn empty_lists(alloc: Global, count: u32) -> Result<Vec<Vec<u32>>, AllocError>
-    ensures size { IfOk result (λ lists. length lists.items ≡ count) }
+/// How many predecessors each process of the graph has.
+fn predecessor_counts(alloc: Global, graph: &WaitGraph) -> Result<Vec<usize>, AllocError>
+    ensures { IfOk result (λ counts. length counts.items ≡ process_count graph.now) }
+{
+    let mut counts = vec![in alloc; 0; graph.len() as usize]?;
+    for p in 0..graph.len() {
+        count_each(graph.dependents(p), &mut counts);
+    }
+    Ok(counts)
+}
+
+/// Counts one more at each of these places.
+fn count_each(places: &[u32], counts: &mut [usize])
+    requires { All (λ r. r < length counts.old) places.now }
+    ensures { length counts.new ≡ length counts.old }
+{
+    for r in places {
+        counts[*r as usize] = counts[*r as usize].saturating_add(1);
+    }
+}
+
+/// An empty list for each count, with room for as many. What is added to a list moves it no more, but
+/// the room is no promise: a list that needs more gets it.
+fn empty_lists(alloc: Global, counts: &[usize]) -> Result<Vec<Vec<u32>>, AllocError>
+    ensures size { IfOk result (λ lists. length lists.items ≡ length counts.now) }
     ensures empty { IfOk result (λ lists. (r : ℕ) → list_at lists.items r ≡ []) }
 {
-    let mut lists = Vec::new(alloc);
-    for _ in 0..count {
-        lists.push(Vec::new(alloc))?;
+    let mut lists = Vec::with_capacity(alloc, counts.len())?;
+    for count in counts {
+        lists.push(Vec::with_capacity(alloc, *count)?)?;
     }
     Ok(lists)
 }

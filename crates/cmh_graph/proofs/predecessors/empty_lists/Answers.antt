@@ -4,19 +4,22 @@ use Rattle.cmh_graph.specs.Search.{list_at}
 use Rattle.cmh_graph.proofs.PositionLemmas.{empty_more}
 use Rattle.cmh_graph.proofs.predecessors.empty_lists.Goals as goal
 
-pub loop-init : goal.loop-init
-loop-init c = (ap length c.new-lists.ensures.items, λ r. ap (λ xs. list_at xs r) c.new-lists.ensures.items)
+pub loop-count-init : goal.loop-count-init
+loop-count-init c =
+    let none = c.in_ok-lists.ensures.items in (ap length none, λ r. ap (λ xs. list_at xs r) none)
 
-pub loop-preserved : goal.loop-preserved
-loop-preserved c =
+pub loop-count-preserved : goal.loop-count-preserved
+loop-count-preserved c =
     let more = c.in_ok-push.ensures.items in (
-      ap length more ∙ omega (arith, length_push c.loop.lists.items c.new.result, c.loop.invariant.0),
+      ap length more
+          ∙ omega (arith, length_push c.loop-count.lists.items c.in_ok-with_capacity.field-0, c.loop-count.invariant.0),
       λ r. ap (λ xs. list_at xs r) more
-          ∙ empty_more c.loop.lists.items c.new.result c.loop.invariant.1 c.new.ensures.items r,
+          ∙ empty_more c.loop-count.lists.items c.in_ok-with_capacity.field-0 c.loop-count.invariant.1
+          c.in_ok-with_capacity.ensures.items r,
     )
 
 pub returns-clause-size : goal.returns-clause-size
-returns-clause-size c = omega (arith, c.loop.invariant.0)
+returns-clause-size c = omega (arith, c.loop-count-test.false, c.loop-count.invariant.0)
 
 pub returns-clause-empty : goal.returns-clause-empty
-returns-clause-empty c = c.loop.invariant.1
+returns-clause-empty c = c.loop-count.invariant.1
