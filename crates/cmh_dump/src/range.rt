@@ -1,6 +1,6 @@
 //! Whether all numbers of a tree are in range.
 
-ghost use Rattle.std.specs.Prelude.{◌≡◌};
+ghost use Rattle.std.specs.Prelude.{◌≡◌, true, IsTrue};
 ghost use Rattle.cmh_dump.specs.View.{fits as fits_lem, items_fit as items_fit_lem, members_fit as members_fit_lem};
 ghost use Rattle.json.specs.Value.{value_view, items_view, members_view};
 
@@ -20,12 +20,19 @@ pub(crate) fn fits(value: &Value<'_>) -> bool
     }
 }
 
+/// A text has no number. Most elements are texts, for which this spares a call.
+fn is_text(value: &Value<'_>) -> bool
+    ensures { IsTrue result → fits_lem (value_view value.now) ≡ true }
+{
+    matches!(value, Value::String(_))
+}
+
 #[cycle(fits)]
 fn items_fit(items: &Vec<Value<'_>>) -> bool
     ensures { result ≡ items_fit_lem (items_view items.now.items) }
 {
     for item in items {
-        if !fits(item) {
+        if !is_text(item) && !fits(item) {
             return false;
         }
     }

@@ -2,6 +2,7 @@ use Rattle.std.proofs.Common.{refl, sym, ◌∙◌}
 use Rattle.json.specs.Value.{value_view, items_view, members_view}
 use Rattle.cmh_dump.specs.View.{fits, items_fit, members_fit}
 use Rattle.cmh_dump.proofs.Views.{fit_refused, fit_passed, fit_all}
+use Rattle.cmh_dump.proofs.range.+fits.Goals.{items_fit-else-not-is_text-via-then-not-is_text+else-not-fits, items_fit-else-not-is_text-via-else-not-is_text}
 use Rattle.cmh_dump.proofs.range.+fits.Goals as goal
 
 pub items_fit-returns-then-not-fits : goal.items_fit-returns-then-not-fits
@@ -15,7 +16,11 @@ pub items_fit-loop-item-preserved : goal.items_fit-loop-item-preserved
 items_fit-loop-item-preserved t c =
     fit_passed (λ xs. items_fit (items_view xs)) (λ x. fits (value_view x)) refl (λ _ _. refl)
     c.deref-item-items.result.now c.loop-item.item-index c.item-item.result c.loop-item-test.true c.item-item.is
-    c.loop-item.invariant (sym c.fits.ensures ∙ c.if-not-fits.false)
+    c.loop-item.invariant
+    (elim c.else-not-is_text.branch [
+      items_fit-else-not-is_text-via-then-not-is_text+else-not-fits w ↦ sym w.fits.ensures ∙ w.if-not-fits.false
+    | items_fit-else-not-is_text-via-else-not-is_text w ↦ c.is_text.ensures w.if-not-is_text.false
+    ])
 
 pub items_fit-returns : goal.items_fit-returns
 items_fit-returns t c =
