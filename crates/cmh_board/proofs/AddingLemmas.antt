@@ -26,16 +26,18 @@ adds_from : (t : PostingValue) (v a w : View) (found : ℕ) → CanPost v.lock.g
 adds_from t v a w found can h seen mine lock staged loads history =
     let g = v.lock.graph in
     let begins = h.begins.1 in record {
-      between = h.begins.0;
-      rows = new_rows t a.seen;
-      new = ap (new_rows t) begins;
-      seen = seen ∙ ap (λ l. l ++ new_rows t a.seen) begins;
-      mine = mine;
+      added = record {
+        between = h.begins.0;
+        rows = new_rows t a.seen;
+        new = ap (new_rows t) begins;
+        seen = seen ∙ ap (λ l. l ++ new_rows t a.seen) begins;
+        mine = mine;
+        once = λ p c. ap (row_times p) seen ∙ once_behind g t.verdict t.processes a.seen h.true_of can p c;
+        says = λ p c. ap (λ l. fold_at l p) seen ∙ said_behind g t.verdict t.processes a.seen h.true_of can p c;
+      };
       lock = lock;
       staged = staged;
       loads = (let e = ap (λ (u : View). u.loads) h.view in omega arith);
-      once = λ p c. ap (row_times p) seen ∙ once_behind g t.verdict t.processes a.seen h.true_of can p c;
-      says = λ p c. ap (λ l. fold_at l p) seen ∙ said_behind g t.verdict t.processes a.seen h.true_of can p c;
       whole = history;
       true_of = subst (IsTrueOf g) (sym seen) (true_behind g t.verdict t.processes a.seen h.true_of can);
     }
@@ -117,6 +119,7 @@ can_post g t within truth = record {
 pub posts_from : (t : PostingValue) (v u a w : View) → u ≡ tried v Writing 0 → Adds t u a → w ≡ ended a
     → IsWritten v w × Posts t v w
 posts_from t v u a w took adds ended =
+    let added = adds.added in
     let lock = adds.lock ∙ ap (λ (x : View). x.lock) took in
     let before = ap (λ (x : View). x.seen) took in
     let seen = ap (λ (x : View). x.seen) ended in (
@@ -126,13 +129,16 @@ posts_from t v u a w took adds ended =
             let z = ap (λ (y : View). y.loads) ended in omega arith);
       },
       record {
-        between = adds.between;
-        rows = adds.rows;
-        new = adds.new ∙ ap (λ l. rows_of t.verdict (unposted (l ++ adds.between) t.processes)) before;
-        seen = seen ∙ adds.seen ∙ ap (λ l. (l ++ adds.between) ++ adds.rows) before;
-        mine = ap (λ (x : View). x.mine) ended ∙ adds.mine ∙ ap (λ (x : View). with_posting x.mine adds.rows) took;
-        once = λ p c. ap (row_times p) seen ∙ adds.once p c;
-        says = λ p c. ap (λ l. fold_at l p) seen ∙ adds.says p c;
+        added = record {
+          between = added.between;
+          rows = added.rows;
+          new = added.new ∙ ap (λ l. rows_of t.verdict (unposted (l ++ added.between) t.processes)) before;
+          seen = seen ∙ added.seen ∙ ap (λ l. (l ++ added.between) ++ added.rows) before;
+          mine = ap (λ (x : View). x.mine) ended ∙ added.mine
+              ∙ ap (λ (x : View). with_posting x.mine added.rows) took;
+          once = λ p c. ap (row_times p) seen ∙ added.once p c;
+          says = λ p c. ap (λ l. fold_at l p) seen ∙ added.says p c;
+        };
         share = ap (λ (x : View). x.lock.share) ended ∙ ap (λ l. l.share) lock;
         graph = ap (λ (x : View). x.lock.graph) ended ∙ ap (λ l. l.graph) lock;
       },

@@ -1,5 +1,5 @@
 -- What a writer does to add a posting.
-use Rattle.std.specs.Prelude.{◌≡◌, ℕ, nat_eq, ◌<◌, ◌≤◌, IsTrue, true, List, [], ◌++◌, map, Contains, Some}
+use Rattle.std.specs.Prelude.{◌≡◌, ℕ, nat_eq, ◌<◌, ◌≤◌, IsTrue, true, List, [], map, Contains}
 use Rattle.std.specs.List.{IsDistinct}
 use Rattle.cmh_graph.specs.declared.TheConstants.{MAX_PROCESSES}
 use Rattle.cmh_graph.specs.declared.verdict.Verdict.{Verdict}
@@ -8,9 +8,9 @@ use Rattle.cmh_graph.specs.Verdict.{verdict}
 use Rattle.cmh_rw.specs.declared.machine.SeatState.TheVariants.{Writing}
 use Rattle.cmh_rw.specs.declared.row.Row.{Row}
 use Rattle.cmh_rw.specs.declared.view.View.{View}
-use Rattle.cmh_rw.specs.History.{fold_at, IsHistory, IsTrueOf}
+use Rattle.cmh_rw.specs.History.{IsHistory, IsTrueOf}
 use Rattle.cmh_rw.specs.View.{mark}
-use Rattle.cmh_board.specs.Board.{unposted, rows_of, with_posting, row_times}
+use Rattle.cmh_board.specs.Board.{unposted, rows_of, AddsPosting}
 use Rattle.cmh_board.specs.Posting.{PostingValue}
 
 -- each of the processes is idle
@@ -53,17 +53,11 @@ pub record Stages (v : Verdict) (processes : List ℕ) (old new : View) : Type 0
   pub mine : new.mine ≡ old.mine
   pub loads : old.loads ≤ new.loads
 
--- the rows of the posting came behind those that others had added
+-- the posting was added in the hold, nothing is staged any more, and the history is still a true one
 pub record Adds (t : PostingValue) (v w : View) : Type 0 where
-  pub between : List Row
-  pub rows : List Row
-  pub new : rows ≡ rows_of t.verdict (unposted (v.seen ++ between) t.processes)
-  pub seen : w.seen ≡ (v.seen ++ between) ++ rows
-  pub mine : w.mine ≡ with_posting v.mine rows
+  pub added : AddsPosting t v w
   pub lock : w.lock ≡ v.lock
   pub staged : w.staged ≡ []
   pub loads : v.loads < w.loads
-  pub once : (p : ℕ) → Contains t.processes p → row_times p w.seen ≡ 1
-  pub says : (p : ℕ) → Contains t.processes p → fold_at w.seen p ≡ Some t.verdict
   pub whole : IsHistory w.seen
   pub true_of : IsTrueOf v.lock.graph w.seen

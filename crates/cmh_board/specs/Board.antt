@@ -128,9 +128,9 @@ with_posting postings (r ∷ rs) = postings ++ (r ∷ rs) ∷ []
 abbrev pub row_times : ℕ → List Row → ℕ
 row_times p rows = count_by (λ r. r.process == p) rows
 
--- What is told is on the board. Beside what others had added, the rows that came are those of the
--- processes that stood in no row, and they are the seat's next posting, if there are any.
-pub record Posts (t : PostingValue) (v w : View) : Type 0 where
+-- Beside what others had added, the rows that came are those of the posting's processes that stood in
+-- no row. They are the seat's next posting, if there are any, and each process stands in one row now.
+pub record AddsPosting (t : PostingValue) (v w : View) : Type 0 where
   pub between : List Row
   pub rows : List Row
   pub new : rows ≡ rows_of t.verdict (unposted (v.seen ++ between) t.processes)
@@ -138,6 +138,10 @@ pub record Posts (t : PostingValue) (v w : View) : Type 0 where
   pub mine : w.mine ≡ with_posting v.mine rows
   pub once : (p : ℕ) → Contains t.processes p → row_times p w.seen ≡ 1
   pub says : (p : ℕ) → Contains t.processes p → fold_at w.seen p ≡ Some t.verdict
+
+-- what is told is on the board, and the seat's share and graph are the same
+pub record Posts (t : PostingValue) (v w : View) : Type 0 where
+  pub added : AddsPosting t v w
   pub share : w.lock.share ≡ v.lock.share
   pub graph : w.lock.graph ≡ v.lock.graph
 

@@ -11,7 +11,7 @@ use Rattle.cmh_run.specs.Run.{Run, TellsTruth, verdict_of}
 use Rattle.cmh_rw.specs.declared.row.Row.{Row}
 use Rattle.cmh_rw.specs.declared.view.View.{View}
 use Rattle.cmh_rw.specs.History.{StartsWith, fold_at}
-use Rattle.cmh_board.specs.Board.{SeesMore, Posts, with_posting}
+use Rattle.cmh_board.specs.Board.{SeesMore, AddsPosting, with_posting}
 use Rattle.cmh_board.specs.Posting.{posting_of, spoken_of}
 use Rattle.cmh_work.specs.declared.record.Shape.{Shape}
 use Rattle.cmh_work.specs.declared.finding.Answer.{Answer}
@@ -43,14 +43,14 @@ next_posting mine more (r ∷ rs) e = inr e
 
 -- what a run tells, once it is posted, is an answer
 pub ran : (g : Graph) (choices : List ℕ) (p : ℕ) (v v1 v2 w : View) (run : Run) → SeesMore v v1 → SeesMore v1 v2
-    → IsRunFor g choices p (verdict_of run.ending) run → TellsTruth g run → Posts (posting_of run) v2 w
+    → IsRunFor g choices p (verdict_of run.ending) run → TellsTruth g run → AddsPosting (posting_of run) v2 w
     → IsAnswered g choices p v w record { verdict = verdict_of run.ending; run = Some run }
-ran g choices p v v1 v2 w run s t is truth post =
+ran g choices p v v1 v2 w run s t is truth added =
     let step : StartsWith w.seen v2.seen =
-    (post.between ++ post.rows, post.seen ∙ append_assoc v2.seen post.between post.rows) in
+    (added.between ++ added.rows, added.seen ∙ append_assoc v2.seen added.between added.rows) in
     let mine : v2.mine ≡ v.mine = t.mine ∙ s.mine in
     let spoken : fold_at w.seen run.initiator ≡ Some (verdict_of run.ending) =
-    post.says run.initiator (speaks_of_initiator run.ending run.initiator run.engaged truth.begins) in record {
+    added.says run.initiator (speaks_of_initiator run.ending run.initiator run.engaged truth.begins) in record {
       sees = starts_trans w.seen v2.seen v.seen step (starts_trans v2.seen v1.seen v.seen t.seen s.seen);
       verdict = subst (λ q. IsVerdict g q (verdict_of run.ending)) is.initiator truth.verdict;
       stands = subst (λ q. fold_at w.seen q ≡ Some (verdict_of run.ending)) is.initiator spoken;
@@ -58,17 +58,17 @@ ran g choices p v v1 v2 w run s t is truth post =
       mine = ⊎_elim
           (λ n. inl (n ∙ mine))
           (λ n. inr (
-            post.rows,
-            n ∙ ap (λ l. l ++ post.rows ∷ []) mine,
+            added.rows,
+            n ∙ ap (λ l. l ++ added.rows ∷ []) mine,
             run,
             refl,
             record {
-              before = v2.seen ++ post.between;
-              place = subst (λ l. StartsWith w.seen l) post.seen (starts_same w.seen);
-              posted = post.new;
+              before = v2.seen ++ added.between;
+              place = subst (λ l. StartsWith w.seen l) added.seen (starts_same w.seen);
+              posted = added.new;
             },
           ))
-          (next_posting v2.mine w.mine post.rows post.mine);
+          (next_posting v2.mine w.mine added.rows added.mine);
     }
 
 -- an answer with its shape is a finding

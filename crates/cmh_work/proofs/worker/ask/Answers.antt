@@ -1,6 +1,6 @@
 use Rattle.std.proofs.Common.{rules, subst, sym}
 use Rattle.std.specs.Prelude.{Some}
-use Rattle.cmh_board.specs.Board.{known, Posts}
+use Rattle.cmh_board.specs.Board.{known, AddsPosting}
 use Rattle.cmh_work.specs.Finding.{IsAnswered}
 use Rattle.cmh_work.proofs.AccountsLemmas.{ran}
 use Rattle.cmh_work.proofs.worker.ask.Goals as goal
@@ -12,13 +12,14 @@ returns g c =
     let p = c.args.initiator in
     let run = c.in_ok-run.run' in
     let w = known c.post.new.seat in
-    let posts = subst (λ t. Posts t (known c.run_of.new.seat) w) c.of_run.ensures.whole c.post.ensures.posts in
+    let added =
+    subst (λ t. AddsPosting t (known c.run_of.new.seat) w) c.of_run.ensures.whole c.post.ensures.posts.added in
     let answered =
     subst (λ v. IsAnswered gr choices p (known c.args.seat.now) w record { verdict = v; run = Some run })
     (sym c.verdict.ensures)
     (ran gr choices p (known c.args.seat.now) (known c.look.new.seat)
     (known c.run_of.new.seat) w run c.look.ensures.sees c.run_of.ensures.sees (search rules)
-    (search rules) posts) in record {
+    (search rules) added) in record {
       runner = search rules;
       sits = search rules;
       share = search rules;
