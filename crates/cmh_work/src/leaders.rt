@@ -34,7 +34,7 @@ pub(crate) fn group_leaders(
     for p in 0..graph.len() {
         if is_new_leader(known, &leaders, p) {
             let core = core_by(alloc, graph, predecessors, &alone, p)?;
-            lead_each(p, &core, &mut leaders);
+            assign_leader(p, &core, &mut leaders);
         }
     }
     Ok(leaders)
@@ -69,7 +69,7 @@ fn is_new_leader(known: &[Verdict], leaders: &[Option<u32>], p: u32) -> bool
 }
 
 /// Makes the process the leader of each member.
-fn lead_each(leader: u32, members: &[u32], leaders: &mut [Option<u32>])
+fn assign_leader(leader: u32, members: &[u32], leaders: &mut [Option<u32>])
     requires { All (λ p. p < length leaders.old) members.now }
     ensures { LeadsEach leader members.now leaders.old leaders.new }
 {

@@ -38,8 +38,8 @@ is_new_leader-requires-clause-leaders c =
       c.len-p-end.ensures.count,
     )
 
-pub lead_each-requires : goal.lead_each-requires
-lead_each-requires c =
+pub assign_leader-requires : goal.assign_leader-requires
+assign_leader-requires c =
     members_within c.args.graph.now c.loop-p.p _ _
     (c.deref-then-is_new_leader-2.ensures.value ∙ c.in_ok-core.ensures)
     (ap length c.deref_mut.ensures.value ∙ leaders_size c.args.graph.now c.loop-p.p _ c.loop-p.invariant)
@@ -56,12 +56,12 @@ loop-p-preserved c =
     elim c.if-is_new_leader.branch [
       | then-is_new_leader+in_ok-core w ↦
           let each =
-          subst (λ old. LeadsEach c.loop-p.p w.deref-then-is_new_leader-2.result.now old w.lead_each.new.leaders)
-          w.deref_mut.ensures.value w.lead_each.ensures in
+          subst (λ old. LeadsEach c.loop-p.p w.deref-then-is_new_leader-2.result.now old w.assign_leader.new.leaders)
+          w.deref_mut.ensures.value w.assign_leader.ensures in
           subst (λ xs. AreLeadersBelow g (c.loop-p.p + 1) xs)
           (sym (ap (λ v. v.items) w.leaders-is
-          ∙ with_items_is c.loop-p.leaders w.lead_each.new.leaders
-          (w.lead_each.ensures.size ∙ w.deref_mut.ensures.len)))
+          ∙ with_items_is c.loop-p.leaders w.assign_leader.new.leaders
+          (w.assign_leader.ensures.size ∙ w.deref_mut.ensures.len)))
           (leaders_led_more g _ c.loop-p.p _ _ _ _ well i c.requires.verdicts c.loop-p.invariant test
           w.if-is_new_leader.true (w.deref-then-is_new_leader-2.ensures.value ∙ w.in_ok-core.ensures) each)
       | else-is_new_leader w ↦

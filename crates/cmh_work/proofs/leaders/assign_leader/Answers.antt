@@ -1,7 +1,7 @@
 use Rattle.std.proofs.Common.{arith, subst, take_all}
 use Rattle.cmh_work.specs.Leaders.{LeadsEach}
 use Rattle.cmh_work.proofs.LeadersLemmas.{leads_more, leads_none}
-use Rattle.cmh_work.proofs.leaders.lead_each.Goals as goal
+use Rattle.cmh_work.proofs.leaders.assign_leader.Goals as goal
 
 pub loop-p-init : goal.loop-p-init
 loop-p-init c = leads_none c.args.leader c.args.leaders.now
