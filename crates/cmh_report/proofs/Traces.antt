@@ -19,11 +19,11 @@ use Rattle.cmh_run.specs.declared.delivery.Ending.TheVariants.{CutFree}
 use Rattle.cmh_run.specs.Choices.{chosen_place, HasNoHints}
 use Rattle.cmh_run.specs.Config.{Config, proc_at, ended_by, nothing_yet, start, delivered, received, without, hinted, after_answer}
 use Rattle.cmh_run.specs.Legal.{Going, Rule, begun, going_from, ready, restart, restarted_at, after, DeliveriesLead, EndsAs, IsRun}
-use Rattle.cmh_run.specs.Run.{Run, IsRunOf}
+use Rattle.cmh_run.specs.Run.{Run, IsRunAnswer, IsRunOf}
 use Rattle.cmh_run.proofs.BetweenLemmas.{messages_are_between}
 use Rattle.cmh_run.proofs.Determinism.{runs_are_deterministic, one_ending}
 use Rattle.cmh_run.proofs.Configurations.{by_test}
-use Rattle.cmh_report.specs.Trace.{ending_lines, message_line, trace_text, IsFirstNamed, IsPlainRun, HasLines, OneTrace}
+use Rattle.cmh_report.specs.Trace.{ending_lines, message_line, trace_text, IsFirstNamed, HasLines, OneTrace}
 use Rattle.cmh_report.specs.Report.{line}
 
 -- ---- endings
@@ -100,14 +100,15 @@ never_cut g choices restarts r run none k e =
     (begun_uncut g r.initiator restarts) run.legal.leads k
     (subst (λ (ending : Ending). EndsAs run.end.config ending) e run.legal.ends)
 
--- a run without hints has its lines
-pub has_lines : (choices : List ℕ) (g : Graph) (r : Run) → IsWithinGraph g → IsPlainRun choices g r → HasLines g r
-has_lines choices g r ok plain = record {
-  initiator = idle_within g r.initiator plain.idle;
+-- the run that is answered without hints has its lines
+pub has_lines : (choices : List ℕ) (g : Graph) (i : ℕ) (r : Run) → IsWithinGraph g → IsRunAnswer g i choices [] r
+    → HasNoHints r.log → HasLines g r
+has_lines choices g i r ok run unhinted = record {
+  initiator = idle_within g r.initiator run.true_verdict.idle;
   messages =
-      messages_are_between (chosen_place choices) g r.initiator [] r.log r.ending plain.legal.end ok plain.idle
-      plain.legal.legal;
-  ended = never_cut g choices [] r plain.legal plain.unhinted;
+      messages_are_between (chosen_place choices) g r.initiator [] r.log r.ending run.legal.end ok
+      run.true_verdict.idle run.legal.legal;
+  ended = never_cut g choices [] r run.legal unhinted;
 }
 
 -- ---- lines

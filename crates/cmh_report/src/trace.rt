@@ -116,7 +116,6 @@ fn find_process(graph: &WaitGraph, name: &str) -> Option<u32>
 }
 
 /// The run of a process that follows the choices without hints. Want of memory is told as the run's.
-#[tactic(auto, using(crate::proofs::Traces::has_lines))]
 fn plain_run(
     alloc: Global,
     graph: &WaitGraph,

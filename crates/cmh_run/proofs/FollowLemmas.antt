@@ -17,7 +17,7 @@ use Rattle.cmh_run.specs.Config.{Config, blank, proc_at, nothing_yet, start, wit
 use Rattle.cmh_run.specs.Legal.{Going, going_from, begun, restart, restarted_at, ready, after, Rule, MayCome, DeliveriesLead, EndsAs, IsRun, HintIsFit, IsRight}
 use Rattle.cmh_run.specs.Choices.{chosen_place, HasNoHints}
 use Rattle.cmh_run.specs.Engaged.{AreEngaged}
-use Rattle.cmh_run.specs.Run.{ProgressState, Follows, Run, IsRunOf, TellsTruth, empty_run_of, verdict_of, MayStart, place_in, IsTakenBy, delivered_to, ending_of}
+use Rattle.cmh_run.specs.Run.{ProgressState, Follows, Run, IsAccepted, IsRunOf, IsRunAnswer, TellsTruth, empty_run_of, verdict_of, MayStart, place_in, IsTakenBy, delivered_to, ending_of}
 use Rattle.cmh_run.specs.Packed.{CanSend, EngagersHaveRoom}
 use Rattle.cmh_run.specs.declared.TheConstants.{MAX_RESTARTS}
 use Rattle.cmh_graph.specs.Verdict.{IsVerdict}
@@ -503,7 +503,7 @@ verdict_right g i restarts AtRest end h = h.free (λ e. cc)
 verdict_right g i restarts (CutFree k) end h = h.free (λ e. cc)
 
 -- a run that is kept tells the truth
-pub run_is_true : (g : Graph) (i : ℕ) (choices restarts : List ℕ) (r : Run) → IsWithinGraph g → is_idle g i ≡ true
+run_is_true : (g : Graph) (i : ℕ) (choices restarts : List ℕ) (r : Run) → IsWithinGraph g → is_idle g i ≡ true
     → r.initiator ≡ i
     → IsRunOf g choices restarts r → TellsTruth g r
 run_is_true g i choices restarts r ok idle same k =
@@ -532,7 +532,7 @@ begun_restarts g i restarts =
     (λ e. omega arith) (λ e. omega arith)
 
 -- a run that is kept started again no more often than it was to
-pub restarted_few : (g : Graph) (choices restarts : List ℕ) (r : Run) → IsRunOf g choices restarts r
+restarted_few : (g : Graph) (choices restarts : List ℕ) (r : Run) → IsRunOf g choices restarts r
     → r.restarted ≤ length restarts
 restarted_few g choices restarts r k =
     omega (
@@ -543,7 +543,7 @@ restarted_few g choices restarts r k =
     )
 
 -- who is engaged in a run that is kept is as it should be
-pub run_engages : (g : Graph) (i : ℕ) (choices restarts : List ℕ) (r : Run) → IsWithinGraph g → is_idle g i ≡ true
+run_engages : (g : Graph) (i : ℕ) (choices restarts : List ℕ) (r : Run) → IsWithinGraph g → is_idle g i ≡ true
     → r.initiator ≡ i
     → IsRunOf g choices restarts r → AreEngaged g i r.ending r.engaged
 run_engages g i choices restarts r ok idle same k =
@@ -553,7 +553,7 @@ run_engages g i choices restarts r ok idle same k =
     (who_engages (chosen_place choices) g i restarts r.log r.ending k.end ok idle legal)
 
 -- what is kept of the run of an awake initiator is the empty run
-pub awake_runs_nothing : (g : Graph) (i : ℕ) (choices restarts : List ℕ) (r : Run) → r.initiator ≡ i
+awake_runs_nothing : (g : Graph) (i : ℕ) (choices restarts : List ℕ) (r : Run) → r.initiator ≡ i
     → IsRunOf g choices restarts r
     → is_awake g i ≡ true → r ≡ empty_run_of i
 awake_runs_nothing g i choices restarts r same k up =
@@ -561,3 +561,17 @@ awake_runs_nothing g i choices restarts r same k up =
     subst (λ (x : ℕ). IsRun (chosen_place choices) g x restarts r.log r.ending k.end) same k.legal in
     let none = awake_ones_start_nothing (chosen_place choices) g i restarts r.log r.ending k.end up legal in
     same_run r (empty_run_of i) same none.silent none.at_rest (k.engaged ∙ none.nobody) (k.restarted ∙ none.once)
+
+-- a legal run of an initiator that is accepted is what is answered of it
+pub answered : (g : Graph) (i : ℕ) (choices restarts : List ℕ) (r : Run) → IsWithinGraph g
+    → IsAccepted g i choices restarts → r.initiator ≡ i
+    → IsRunOf g choices restarts r → IsRunAnswer g i choices restarts r
+answered g i choices restarts r ok accepted same k = record {
+  accepted = accepted;
+  initiator = same;
+  legal = k;
+  restarted = restarted_few g choices restarts r k;
+  true_verdict = run_is_true g i choices restarts r ok accepted.idle same k;
+  engaged = run_engages g i choices restarts r ok accepted.idle same k;
+  awake = awake_runs_nothing g i choices restarts r same k;
+}

@@ -15,6 +15,7 @@ use Rattle.cmh_run.specs.Config.{Config, proc_at, without, received}
 use Rattle.cmh_graph.specs.Verdict.{IsDeadlocked, IsVerdict}
 use Rattle.cmh_run.specs.Legal.{Going, begun, Rule, HintIsFit, DeliveriesLead, IsRun, IsRight}
 use Rattle.cmh_run.specs.Choices.{chosen_place, HasNoHints}
+use Rattle.cmh_run.specs.Engaged.{AreEngaged}
 use Rattle.cmh_run.specs.Last.{LastIsRun}
 
 -- a run on its way, and the deliveries that led there
@@ -146,6 +147,16 @@ pub record TellsTruth (g : Graph) (r : Run) : Type 0 where
       → IsRun rule g r.initiator restarts r.log r.ending end
       → LastIsRun g r.initiator r.log r.ending end
   pub short : length r.log ≤ 2 * dependency_count g * (r.restarted + 1)
+
+-- what is answered of an accepted initiator: a legal run of it that tells the truth, with those engaged who should be
+pub record IsRunAnswer (g : Graph) (i : ℕ) (choices restarts : List ℕ) (r : Run) : Type 0 where
+  pub accepted : IsAccepted g i choices restarts
+  pub initiator : r.initiator ≡ i
+  pub legal : IsRunOf g choices restarts r
+  pub restarted : r.restarted ≤ length restarts
+  pub true_verdict : TellsTruth g r
+  pub engaged : AreEngaged g i r.ending r.engaged
+  pub awake : IsTrue (is_awake g i) → r ≡ empty_run_of i
 
 -- without hints, the choices and the restarts leave one run to be kept
 abbrev pub OneRun : Type 0

@@ -1,12 +1,11 @@
 //! Runs one after another, in memory that is taken once.
 
 ghost use Rattle.std.specs.Prelude.{◌≡◌, ◌⊎◌, [], Some, ◌*◌, ◌<◌, ◌≤◌, ◌↔◌, drop, length, IfOk, IfErr, IsTrue, OnOk};
-ghost use Rattle.cmh_graph.specs.Graph.{is_idle, is_awake, dependency_count};
+ghost use Rattle.cmh_graph.specs.Graph.{is_idle, dependency_count};
 ghost use Rattle.cmh_graph.specs.Build.{IsWellFormed};
 ghost use Rattle.cmh_run.specs.Choices.{HasNoHints};
 ghost use Rattle.cmh_run.specs.Config.{nothing_yet};
-ghost use Rattle.cmh_run.specs.Engaged.{AreEngaged};
-ghost use Rattle.cmh_run.specs.Run.{Follows, IsRising, IsAccepted, IsFirstRunFault, IsRunOf, TellsTruth, empty_run_of};
+ghost use Rattle.cmh_run.specs.Run.{Follows, IsRising, IsAccepted, IsFirstRunFault, IsRunAnswer};
 
 use crate::choices::Choices;
 use crate::network::Network;
@@ -57,17 +56,11 @@ impl<'a> Runner<'a> {
     ) -> Result<RunLog<L>, RunFault>
         requires { H.speaks_of hints.old self.old }
         ensures same { self.new ≡ self.old }
-        ensures accepted { IfOk result (λ r. IsAccepted self.old initiator choices.now []) }
-        ensures fault { IfErr result (λ e. (e ≡ RunFault.Memory)
-            ⊎ IsFirstRunFault self.old initiator choices.now [] e) }
-        ensures initiator { IfOk result (λ r. r.initiator ≡ initiator) }
-        ensures legal { IfOk result (IsRunOf self.old choices.now []) }
+        ensures run { IfOk result (IsRunAnswer self.old initiator choices.now []) }
         ensures once { IfOk result (λ r. r.restarted ≡ 0) }
         ensures short { IfOk result (λ r. length r.log ≤ 2 * dependency_count self.old) }
-        ensures true_verdict { IfOk result (TellsTruth self.old) }
-        ensures engaged { IfOk result (λ r. AreEngaged self.old initiator r.ending r.engaged) }
-        ensures awake { IsTrue (is_awake self.old initiator)
-            → IfOk result (λ r. r ≡ empty_run_of initiator) }
+        ensures fault { IfErr result (λ e. (e ≡ RunFault.Memory)
+            ⊎ IsFirstRunFault self.old initiator choices.now [] e) }
         ensures silent { H.is_silent hints.old → IfOk result (λ r. HasNoHints r.log) }
         ensures kept { H.keeps hints.old hints.new }
     {
@@ -85,16 +78,9 @@ impl<'a> Runner<'a> {
     ) -> Result<RunLog<L>, RunFault>
         requires { H.speaks_of hints.old self.old }
         ensures same { self.new ≡ self.old }
-        ensures accepted { IfOk result (λ r. IsAccepted self.old initiator choices.now restarts.now) }
+        ensures run { IfOk result (IsRunAnswer self.old initiator choices.now restarts.now) }
         ensures fault { IfErr result (λ e. (e ≡ RunFault.Memory)
             ⊎ IsFirstRunFault self.old initiator choices.now restarts.now e) }
-        ensures initiator { IfOk result (λ r. r.initiator ≡ initiator) }
-        ensures legal { IfOk result (IsRunOf self.old choices.now restarts.now) }
-        ensures restarted { IfOk result (λ r. r.restarted ≤ length restarts.now) }
-        ensures true_verdict { IfOk result (TellsTruth self.old) }
-        ensures engaged { IfOk result (λ r. AreEngaged self.old initiator r.ending r.engaged) }
-        ensures awake { IsTrue (is_awake self.old initiator)
-            → IfOk result (λ r. r ≡ empty_run_of initiator) }
         ensures silent { H.is_silent hints.old → IfOk result (λ r. HasNoHints r.log) }
         ensures kept { H.keeps hints.old hints.new }
     {
@@ -168,15 +154,9 @@ fn follow<L: Log, H: Hints>(
     requires blank { network ≡ nothing_yet graph.now }
     requires graph { IsWellFormed graph.now }
     requires speaks { H.speaks_of hints.old graph.now }
-    requires idle { IsTrue (is_idle graph.now initiator) }
-    requires few { length restarts.now ≤ MAX_RESTARTS }
-    ensures initiator { IfOk result (λ r. r.0.initiator ≡ initiator) }
-    ensures legal { IfOk result (λ r. IsRunOf graph.now choices.now restarts.now r.0) }
-    ensures restarted { IfOk result (λ r. r.0.restarted ≤ length restarts.now) }
-    ensures true_verdict { IfOk result (λ r. TellsTruth graph.now r.0) }
-    ensures engaged { IfOk result (λ r. AreEngaged graph.now initiator r.0.ending r.0.engaged) }
-    ensures awake { IsTrue (is_awake graph.now initiator)
-        → IfOk result (λ r. r.0 ≡ empty_run_of initiator) }
+    requires accepted { IsAccepted graph.now initiator choices.now restarts.now }
+    ensures run { IfOk result (λ r.
+        IsRunAnswer graph.now initiator choices.now restarts.now r.0) }
     ensures silent { H.is_silent hints.old → IfOk result (λ r. HasNoHints r.0.log) }
     ensures kept { H.keeps hints.old hints.new }
     ensures blank { IfOk result (λ r. r.1 ≡ nothing_yet graph.now) }

@@ -1,10 +1,9 @@
 //! A run alone: each call makes a `Runner` and a network of its own.
 
-ghost use Rattle.std.specs.Prelude.{◌≡◌, ◌⊎◌, [], ◌*◌, ◌<◌, ◌≤◌, length, IfOk, IfErr, IsTrue};
-ghost use Rattle.cmh_graph.specs.Graph.{is_awake, dependency_count};
+ghost use Rattle.std.specs.Prelude.{◌≡◌, ◌⊎◌, [], ◌*◌, ◌≤◌, length, IfOk, IfErr};
+ghost use Rattle.cmh_graph.specs.Graph.{dependency_count};
 ghost use Rattle.cmh_run.specs.Choices.{HasNoHints};
-ghost use Rattle.cmh_run.specs.Engaged.{AreEngaged};
-ghost use Rattle.cmh_run.specs.Run.{IsAccepted, IsFirstRunFault, IsRunOf, TellsTruth, empty_run_of};
+ghost use Rattle.cmh_run.specs.Run.{IsFirstRunFault, IsRunAnswer};
 
 use crate::runner::Runner;
 use crate::{Hints, RunFault, RunLog};
@@ -30,17 +29,9 @@ pub fn run_again<H: Hints>(
     restarts: &[u32],
 ) -> Result<RunLog, RunFault>
     requires { H.speaks_of hints.old graph.now }
-    ensures accepted { IfOk result (λ r.
-        IsAccepted graph.now initiator choices.now restarts.now) }
+    ensures run { IfOk result (IsRunAnswer graph.now initiator choices.now restarts.now) }
     ensures fault { IfErr result (λ e. (e ≡ RunFault.Memory)
         ⊎ IsFirstRunFault graph.now initiator choices.now restarts.now e) }
-    ensures initiator { IfOk result (λ r. r.initiator ≡ initiator) }
-    ensures legal { IfOk result (IsRunOf graph.now choices.now restarts.now) }
-    ensures restarted { IfOk result (λ r. r.restarted ≤ length restarts.now) }
-    ensures true_verdict { IfOk result (TellsTruth graph.now) }
-    ensures engaged { IfOk result (λ r. AreEngaged graph.now initiator r.ending r.engaged) }
-    ensures awake { IsTrue (is_awake graph.now initiator)
-        → IfOk result (λ r. r ≡ empty_run_of initiator) }
     ensures silent { H.is_silent hints.old → IfOk result (λ r. HasNoHints r.log) }
     ensures kept { H.keeps hints.old hints.new }
 {
@@ -57,17 +48,11 @@ pub fn run<H: Hints>(
     hints: &mut H,
 ) -> Result<RunLog, RunFault>
     requires { H.speaks_of hints.old graph.now }
-    ensures accepted { IfOk result (λ r. IsAccepted graph.now initiator choices.now []) }
-    ensures fault { IfErr result (λ e. (e ≡ RunFault.Memory)
-        ⊎ IsFirstRunFault graph.now initiator choices.now [] e) }
-    ensures initiator { IfOk result (λ r. r.initiator ≡ initiator) }
-    ensures legal { IfOk result (IsRunOf graph.now choices.now []) }
+    ensures run { IfOk result (IsRunAnswer graph.now initiator choices.now []) }
     ensures once { IfOk result (λ r. r.restarted ≡ 0) }
     ensures short { IfOk result (λ r. length r.log ≤ 2 * dependency_count graph.now) }
-    ensures true_verdict { IfOk result (TellsTruth graph.now) }
-    ensures engaged { IfOk result (λ r. AreEngaged graph.now initiator r.ending r.engaged) }
-    ensures awake { IsTrue (is_awake graph.now initiator)
-        → IfOk result (λ r. r ≡ empty_run_of initiator) }
+    ensures fault { IfErr result (λ e. (e ≡ RunFault.Memory)
+        ⊎ IsFirstRunFault graph.now initiator choices.now [] e) }
     ensures silent { H.is_silent hints.old → IfOk result (λ r. HasNoHints r.log) }
     ensures kept { H.keeps hints.old hints.new }
 {

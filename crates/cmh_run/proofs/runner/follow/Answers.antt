@@ -2,7 +2,7 @@ use Rattle.std.proofs.Common.{◌≡◌, ◌∙◌, ap, subst, sym, List, None}
 use Rattle.cmh_run.specs.declared.delivery.Delivery.{Delivery}
 use Rattle.cmh_run.specs.Run.{Run, ProgressState, MayStart}
 use Rattle.cmh_run.specs.Choices.{HasNoHints}
-use Rattle.cmh_run.proofs.FollowLemmas.{may_start_first, next_is, next_left, taken_going, taken_size, taken_within, taken_sender, taken_engagers, taken_room, taken_may_start, taken_follows, taken_done, taken_log, taken_falls, no_hints_on, over_log, cleared, finished, run_is_true, restarted_few, run_engages, awake_runs_nothing}
+use Rattle.cmh_run.proofs.FollowLemmas.{may_start_first, next_is, next_left, taken_going, taken_size, taken_within, taken_sender, taken_engagers, taken_room, taken_may_start, taken_follows, taken_done, taken_log, taken_falls, no_hints_on, over_log, cleared, finished, answered}
 use Rattle.cmh_run.proofs.runner.follow.Goals as goal
 
 -- at first the initiator may start again, if the run isn't over
@@ -10,14 +10,16 @@ pub restart_if_due-requires-clause-may : goal.restart_if_due-requires-clause-may
 restart_if_due-requires-clause-may g c =
     subst (λ (p : ProgressState). p.going.config.ended ≡ None → MayStart c.args.graph.now c.args.initiator p.going)
     (sym c.in_ok-progress.ensures.ok)
-    (may_start_first c.args.graph.now c.args.initiator c.args.restarts.now c.requires.graph.within c.requires.idle)
+    (may_start_first c.args.graph.now c.args.initiator c.args.restarts.now c.requires.graph.within
+    c.requires.accepted.idle)
 
 -- at a delivery there are as many processes as the graph has
 pub deliver-requires-clause-size : goal.deliver-requires-clause-size
 deliver-requires-clause-size g c =
     taken_size c.args.graph.now c.args.initiator c.args.choices.now c.args.restarts.now c.loop-message.progress
     c.take.new.self c.in-Some.message
-    c.requires.graph.within c.requires.idle c.loop-message.invariant.follows (c.in-Some.ensures.taken c.args.choices.now
+    c.requires.graph.within c.requires.accepted.idle c.loop-message.invariant.follows
+    (c.in-Some.ensures.taken c.args.choices.now
     (next_is c.args.choices.now c.loop-message.left c.loop-message.progress.going.done c.next.result
     c.loop-message.invariant.left c.next.ensures.first))
 
@@ -26,7 +28,8 @@ pub deliver-requires-clause-within : goal.deliver-requires-clause-within
 deliver-requires-clause-within g c =
     taken_within c.args.graph.now c.args.initiator c.args.choices.now c.args.restarts.now c.loop-message.progress
     c.take.new.self c.in-Some.message
-    c.requires.graph.within c.requires.idle c.loop-message.invariant.follows (c.in-Some.ensures.taken c.args.choices.now
+    c.requires.graph.within c.requires.accepted.idle c.loop-message.invariant.follows
+    (c.in-Some.ensures.taken c.args.choices.now
     (next_is c.args.choices.now c.loop-message.left c.loop-message.progress.going.done c.next.result
     c.loop-message.invariant.left c.next.ensures.first))
 
@@ -35,7 +38,8 @@ pub deliver-requires-clause-sender : goal.deliver-requires-clause-sender
 deliver-requires-clause-sender g c =
     taken_sender c.args.graph.now c.args.initiator c.args.choices.now c.args.restarts.now c.loop-message.progress
     c.take.new.self c.in-Some.message
-    c.requires.graph.within c.requires.idle c.loop-message.invariant.follows (c.in-Some.ensures.taken c.args.choices.now
+    c.requires.graph.within c.requires.accepted.idle c.loop-message.invariant.follows
+    (c.in-Some.ensures.taken c.args.choices.now
     (next_is c.args.choices.now c.loop-message.left c.loop-message.progress.going.done c.next.result
     c.loop-message.invariant.left c.next.ensures.first)) c.requires.graph c.in-Some.ensures.number
 
@@ -43,7 +47,8 @@ pub deliver-requires-clause-engagers : goal.deliver-requires-clause-engagers
 deliver-requires-clause-engagers g c =
     taken_engagers c.args.graph.now c.args.initiator c.args.choices.now c.args.restarts.now c.loop-message.progress
     c.take.new.self c.in-Some.message
-    c.requires.graph.within c.requires.idle c.loop-message.invariant.follows (c.in-Some.ensures.taken c.args.choices.now
+    c.requires.graph.within c.requires.accepted.idle c.loop-message.invariant.follows
+    (c.in-Some.ensures.taken c.args.choices.now
     (next_is c.args.choices.now c.loop-message.left c.loop-message.progress.going.done c.next.result
     c.loop-message.invariant.left c.next.ensures.first)) c.requires.graph
 
@@ -52,9 +57,10 @@ pub deliver-requires-clause-few : goal.deliver-requires-clause-few
 deliver-requires-clause-few g c =
     taken_room c.args.graph.now c.args.initiator c.args.choices.now c.args.restarts.now c.loop-message.progress
     c.take.new.self c.in-Some.message
-    c.requires.graph.within c.requires.idle c.loop-message.invariant.follows (c.in-Some.ensures.taken c.args.choices.now
+    c.requires.graph.within c.requires.accepted.idle c.loop-message.invariant.follows
+    (c.in-Some.ensures.taken c.args.choices.now
     (next_is c.args.choices.now c.loop-message.left c.loop-message.progress.going.done c.next.result
-    c.loop-message.invariant.left c.next.ensures.first)) c.requires.graph c.requires.few
+    c.loop-message.invariant.left c.next.ensures.first)) c.requires.graph c.requires.accepted.restarts_good.few
 
 -- the hints are kept where a delivery runs out of memory
 pub returns-in_err-deliver-clause-kept : goal.returns-in_err-deliver-clause-kept
@@ -67,11 +73,12 @@ pub restart_if_due-requires-in-Some-clause-may : goal.restart_if_due-requires-in
 restart_if_due-requires-in-Some-clause-may g c =
     taken_may_start c.args.graph.now c.args.initiator c.args.choices.now c.args.restarts.now c.loop-message.progress
     c.take.new.self c.in-Some.message
-    c.requires.graph.within c.requires.idle c.loop-message.invariant.follows (c.in-Some.ensures.taken c.args.choices.now
+    c.requires.graph.within c.requires.accepted.idle c.loop-message.invariant.follows
+    (c.in-Some.ensures.taken c.args.choices.now
     (next_is c.args.choices.now c.loop-message.left c.loop-message.progress.going.done c.next.result
     c.loop-message.invariant.left c.next.ensures.first))
     c.in_ok-deliver.ensures.ok.hint c.in_ok-deliver.ensures.ok.fit c.deliver.new.self c.in_ok-deliver.ensures.ok.is
-    c.requires.few
+    c.requires.accepted.restarts_good.few
 
 -- the hints are kept where a restart runs out of memory
 pub returns-in_err-restart_if_due-2-clause-kept : goal.returns-in_err-restart_if_due-2-clause-kept
@@ -84,11 +91,12 @@ pub loop-message-smaller : goal.loop-message-smaller
 loop-message-smaller g c =
     taken_falls c.args.graph.now c.args.initiator c.args.choices.now c.args.restarts.now c.loop-message.progress
     c.take.new.self c.in-Some.message
-    c.requires.graph.within c.requires.idle c.loop-message.invariant.follows (c.in-Some.ensures.taken c.args.choices.now
+    c.requires.graph.within c.requires.accepted.idle c.loop-message.invariant.follows
+    (c.in-Some.ensures.taken c.args.choices.now
     (next_is c.args.choices.now c.loop-message.left c.loop-message.progress.going.done c.next.result
     c.loop-message.invariant.left c.next.ensures.first))
     c.in_ok-deliver.ensures.ok.hint c.in_ok-deliver.ensures.ok.fit c.deliver.new.self c.in_ok-deliver.ensures.ok.is
-    c.restart_if_due-in-Some.new.self c.in_ok-restart_if_due-2.ensures.ok c.requires.few
+    c.restart_if_due-in-Some.new.self c.in_ok-restart_if_due-2.ensures.ok c.requires.accepted.restarts_good.few
 
 -- each delivery leads on by the choices, keeps the hints, and stays silent where they are
 pub loop-message-preserved : goal.loop-message-preserved
@@ -96,7 +104,7 @@ loop-message-preserved g c = record {
   follows =
       taken_follows c.args.graph.now c.args.initiator c.args.choices.now c.args.restarts.now c.loop-message.progress
       c.take.new.self c.in-Some.message
-      c.requires.graph.within c.requires.idle c.loop-message.invariant.follows
+      c.requires.graph.within c.requires.accepted.idle c.loop-message.invariant.follows
       (c.in-Some.ensures.taken c.args.choices.now
       (next_is c.args.choices.now c.loop-message.left c.loop-message.progress.going.done c.next.result
       c.loop-message.invariant.left c.next.ensures.first))
@@ -107,7 +115,7 @@ loop-message-preserved g c = record {
       c.loop-message.invariant.left c.next.ensures.rest
       (taken_done c.args.graph.now c.args.initiator c.args.choices.now c.args.restarts.now c.loop-message.progress
       c.take.new.self c.in-Some.message
-      c.requires.graph.within c.requires.idle c.loop-message.invariant.follows
+      c.requires.graph.within c.requires.accepted.idle c.loop-message.invariant.follows
       (c.in-Some.ensures.taken c.args.choices.now
       (next_is c.args.choices.now c.loop-message.left c.loop-message.progress.going.done c.next.result
       c.loop-message.invariant.left c.next.ensures.first))
@@ -119,7 +127,7 @@ loop-message-preserved g c = record {
       subst (λ (xs : List Delivery). HasNoHints xs)
       (sym (taken_log c.args.graph.now c.args.initiator c.args.choices.now c.args.restarts.now c.loop-message.progress
       c.take.new.self c.in-Some.message
-      c.requires.graph.within c.requires.idle c.loop-message.invariant.follows
+      c.requires.graph.within c.requires.accepted.idle c.loop-message.invariant.follows
       (c.in-Some.ensures.taken c.args.choices.now
       (next_is c.args.choices.now c.loop-message.left c.loop-message.progress.going.done c.next.result
       c.loop-message.invariant.left c.next.ensures.first))
@@ -132,47 +140,14 @@ loop-message-preserved g c = record {
       (g.met.H.Hints.keeps_silent c.args.hints.now c.loop-message.hints c.loop-message.invariant.kept q)));
 }
 
--- what is kept at the end is a legal run that followed the choices
-pub returns-clause-legal : goal.returns-clause-legal
-returns-clause-legal g c =
-    finished c.args.graph.now c.args.initiator c.args.choices.now c.args.restarts.now c.loop-message.progress
-    c.take.new.self c.finish.result.0
-    c.requires.graph.within c.requires.idle c.loop-message.invariant.follows
-    (c.in_default.ensures.taken c.args.choices.now
-    (next_is c.args.choices.now c.loop-message.left c.loop-message.progress.going.done c.next.result
-    c.loop-message.invariant.left c.next.ensures.first)) c.finish.ensures.log
-
--- what is kept at the end tells the truth
-pub returns-clause-true_verdict : goal.returns-clause-true_verdict
-returns-clause-true_verdict g c =
-    run_is_true c.args.graph.now c.args.initiator c.args.choices.now c.args.restarts.now c.finish.result.0
-    c.requires.graph.within c.requires.idle (ap (λ (r : Run). r.initiator) c.finish.ensures.log)
+-- what is kept at the end is the run that was asked for
+pub returns-clause-run : goal.returns-clause-run
+returns-clause-run g c =
+    answered c.args.graph.now c.args.initiator c.args.choices.now c.args.restarts.now c.finish.result.0
+    c.requires.graph.within c.requires.accepted (ap (λ (r : Run). r.initiator) c.finish.ensures.log)
     (finished c.args.graph.now c.args.initiator c.args.choices.now c.args.restarts.now c.loop-message.progress
     c.take.new.self c.finish.result.0
-    c.requires.graph.within c.requires.idle c.loop-message.invariant.follows
-    (c.in_default.ensures.taken c.args.choices.now
-    (next_is c.args.choices.now c.loop-message.left c.loop-message.progress.going.done c.next.result
-    c.loop-message.invariant.left c.next.ensures.first)) c.finish.ensures.log)
-
--- a run that is kept started again no more often than it was to
-pub returns-clause-restarted : goal.returns-clause-restarted
-returns-clause-restarted g c =
-    restarted_few c.args.graph.now c.args.choices.now c.args.restarts.now c.finish.result.0
-    (finished c.args.graph.now c.args.initiator c.args.choices.now c.args.restarts.now c.loop-message.progress
-    c.take.new.self c.finish.result.0
-    c.requires.graph.within c.requires.idle c.loop-message.invariant.follows
-    (c.in_default.ensures.taken c.args.choices.now
-    (next_is c.args.choices.now c.loop-message.left c.loop-message.progress.going.done c.next.result
-    c.loop-message.invariant.left c.next.ensures.first)) c.finish.ensures.log)
-
--- who is engaged at the end is as it should be
-pub returns-clause-engaged : goal.returns-clause-engaged
-returns-clause-engaged g c =
-    run_engages c.args.graph.now c.args.initiator c.args.choices.now c.args.restarts.now c.finish.result.0
-    c.requires.graph.within c.requires.idle (ap (λ (r : Run). r.initiator) c.finish.ensures.log)
-    (finished c.args.graph.now c.args.initiator c.args.choices.now c.args.restarts.now c.loop-message.progress
-    c.take.new.self c.finish.result.0
-    c.requires.graph.within c.requires.idle c.loop-message.invariant.follows
+    c.requires.graph.within c.requires.accepted.idle c.loop-message.invariant.follows
     (c.in_default.ensures.taken c.args.choices.now
     (next_is c.args.choices.now c.loop-message.left c.loop-message.progress.going.done c.next.result
     c.loop-message.invariant.left c.next.ensures.first)) c.finish.ensures.log)
@@ -192,29 +167,18 @@ pub returns-clause-blank : goal.returns-clause-blank
 returns-clause-blank g c =
     cleared c.args.graph.now c.args.initiator c.args.choices.now c.args.restarts.now c.loop-message.progress
     c.take.new.self c.finish.result.1
-    c.requires.graph.within c.requires.idle c.loop-message.invariant.follows
+    c.requires.graph.within c.requires.accepted.idle c.loop-message.invariant.follows
     (c.in_default.ensures.taken c.args.choices.now
     (next_is c.args.choices.now c.loop-message.left c.loop-message.progress.going.done c.next.result
     c.loop-message.invariant.left c.next.ensures.first)) c.finish.ensures.network
-
--- an awake initiator has the empty run
-pub returns-clause-awake : goal.returns-clause-awake
-returns-clause-awake g c =
-    awake_runs_nothing c.args.graph.now c.args.initiator c.args.choices.now c.args.restarts.now c.finish.result.0
-    (ap (λ (r : Run). r.initiator) c.finish.ensures.log)
-    (finished c.args.graph.now c.args.initiator c.args.choices.now c.args.restarts.now c.loop-message.progress
-    c.take.new.self c.finish.result.0
-    c.requires.graph.within c.requires.idle c.loop-message.invariant.follows
-    (c.in_default.ensures.taken c.args.choices.now
-    (next_is c.args.choices.now c.loop-message.left c.loop-message.progress.going.done c.next.result
-    c.loop-message.invariant.left c.next.ensures.first)) c.finish.ensures.log)
 
 -- at a delivery the run isn't over
 pub deliver-requires-clause-going : goal.deliver-requires-clause-going
 deliver-requires-clause-going g c =
     taken_going c.args.graph.now c.args.initiator c.args.choices.now c.args.restarts.now c.loop-message.progress
     c.take.new.self c.in-Some.message
-    c.requires.graph.within c.requires.idle c.loop-message.invariant.follows (c.in-Some.ensures.taken c.args.choices.now
+    c.requires.graph.within c.requires.accepted.idle c.loop-message.invariant.follows
+    (c.in-Some.ensures.taken c.args.choices.now
     (next_is c.args.choices.now c.loop-message.left c.loop-message.progress.going.done c.next.result
     c.loop-message.invariant.left c.next.ensures.first))
 
