@@ -57,7 +57,7 @@ impl Log for NoLog {
     }
 
     fn add(&mut self, delivery: Delivery) -> Result<(), AllocError> {
-        self.tape = self.tape.then(&delivery);
+        self.tape = self.tape.append(&delivery);
         Ok(())
     }
 }

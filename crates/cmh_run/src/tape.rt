@@ -31,7 +31,7 @@ impl Tape {
     }
 
     /// The tape with this delivery as the last. The one that it was asked of stays as it is.
-    pub(crate) fn then(&self, _delivery: &Delivery) -> Tape
+    pub(crate) fn append(&self, _delivery: &Delivery) -> Tape
         ensures { result.deliveries ≡ self.now.deliveries ++ _delivery.now ∷ [] }
     {
         Tape {}

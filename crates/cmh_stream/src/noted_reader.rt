@@ -51,7 +51,7 @@ impl<R: Read> NotedReader<R> {
         match &answer {
             Ok(count) => {
                 self.ended = self.ended || (*count == 0 && !buf.is_empty());
-                self.tape = self.tape.then(&buf[..*count]);
+                self.tape = self.tape.append(&buf[..*count]);
             }
             Err(_) => self.failed = true,
         }

@@ -54,7 +54,7 @@ impl<W: Write> NotedWriter<W> {
             Ok(count) => {
                 self.failed = self.failed || (*count == 0 && !bytes.is_empty());
                 self.flushed = self.flushed && *count == 0;
-                self.tape = self.tape.then(&bytes[..*count]);
+                self.tape = self.tape.append(&bytes[..*count]);
             }
             Err(_) => self.failed = true,
         }

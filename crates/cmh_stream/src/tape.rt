@@ -25,7 +25,7 @@ impl Tape {
     }
 
     /// The record after one call more. That these bytes went by is for the caller to see.
-    pub(crate) fn then(&self, _bytes: &[u8]) -> Tape
+    pub(crate) fn append(&self, _bytes: &[u8]) -> Tape
         ensures { result.bytes ≡ self.now.bytes ++ _bytes.now }
     {
         Tape {}

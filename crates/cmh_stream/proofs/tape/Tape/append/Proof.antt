@@ -16,16 +16,16 @@ use denote.Steps.{nothing, owned}
 use denote.Triple.Entry.{alive}
 use denote.Triple.Walked.{Stays, walk_of, says, stay_dropped, Goes-dropped, ends_at}
 use Rattle.cmh_stream.specs.contracts.tape.Tape.{the_row as Tape}
-use Rattle.cmh_stream.specs.contracts.tape.Tape.then as f
-use Rattle.cmh_stream.proofs.tape.Tape.then.Statement.{statement}
-use Rattle.cmh_stream.proofs.tape.Tape.then.Code as code
+use Rattle.cmh_stream.specs.contracts.tape.Tape.append as f
+use Rattle.cmh_stream.proofs.tape.Tape.append.Statement.{statement}
+use Rattle.cmh_stream.proofs.tape.Tape.append.Code as code
 use Rattle.cmh_stream.proofs.Blank.{blank, tape_made}
 
 abbrev stayed : Stays f.ended.signature.params f.ended.kept
 stayed = (stay_dropped _ yes, (stay_dropped _ yes, tt))
 
-pub then_spec : {M : Type 1} → statement M
-then_spec 𝓤 𝓛 𝓜 𝓡 wired =
+pub append_spec : {M : Type 1} → statement M
+append_spec 𝓤 𝓛 𝓜 𝓡 wired =
     let c = f.clauses 𝓛 𝓜.mem 𝓡.returns in let W = walk_of 𝓛 f.ended stayed c in
     proved 𝓛 f.ended stayed c 𝓜 𝓡 (
       Goes-dropped 𝓛 2 (RefOf (0 ∷ []) tt (plain (λ _. Tape)) (λ _. tt)) yes (λ κs x w. refl),
