@@ -2,7 +2,8 @@ use Rattle.std.proofs.Common.{refl, sym, ◌∙◌}
 use Rattle.json.specs.Value.{value_view, items_view, members_view}
 use Rattle.cmh_dump.specs.View.{fits, items_fit, members_fit}
 use Rattle.cmh_dump.proofs.Views.{fit_refused, fit_passed, fit_all}
-use Rattle.cmh_dump.proofs.range.+fits.Goals.{items_fit-else-not-is_text-via-then-not-is_text+else-not-fits, items_fit-else-not-is_text-via-else-not-is_text}
+use Rattle.cmh_dump.proofs.range.+fits.Goals.{items_fit-else-not-is_text-via-then-not-is_text+else-not-fits}
+use Rattle.cmh_dump.proofs.range.+fits.Goals.{items_fit-else-not-is_text-via-else-not-is_text}
 use Rattle.cmh_dump.proofs.range.+fits.Goals as goal
 
 pub items_fit-returns-then-not-fits : goal.items_fit-returns-then-not-fits
