@@ -7,7 +7,7 @@ use Rattle.cmh_graph.specs.Path.{reach_of}
 use Rattle.cmh_graph.specs.Core.{core_of, rest_of, leaders as all_leaders, group_number, group_leader}
 use Rattle.cmh_work.specs.Leaders.{leader_at}
 use Rattle.cmh_report.specs.Report.{site_count}
-use Rattle.cmh_report.specs.declared.group.Group.{Group}
+use Rattle.cmh_report.specs.declared.groups.Group.{Group}
 use Rattle.cmh_report.specs.declared.groups.Groups.{Groups}
 
 -- how many leaders there are up to this place

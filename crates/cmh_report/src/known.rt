@@ -9,8 +9,7 @@ ghost use Rattle.cmh_graph.specs.Search.{is_marked};
 ghost use Rattle.cmh_report.specs.Group.{is_led_by, AreGroupsOf};
 ghost use Rattle.cmh_report.specs.Known.{ArePartsOf, HasOneMore, IsKnownOf};
 
-use crate::group::{core_and_rest, out_of_memory};
-use crate::groups::Groups;
+use crate::groups::{Groups, core_and_rest, out_of_memory};
 use cmh_graph::WaitGraph;
 use cmh_graph::laws::law_built_graph;
 use std::alloc::{AllocError, Global};

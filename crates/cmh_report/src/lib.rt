@@ -4,7 +4,6 @@
 mod analyse;
 mod chunks;
 mod fault;
-mod group;
 mod groups;
 mod input;
 mod knot;

@@ -6,7 +6,7 @@ ghost use Rattle.cmh_graph.specs.Graph.{process_count};
 ghost use Rattle.cmh_report.specs.Names.{AreNamesOf};
 ghost use Rattle.cmh_report.specs.Report.{line, names, names_or_dash, spaced};
 
-use crate::group::Group;
+use crate::groups::Group;
 use crate::names::{LastNames, names_room, push_names};
 use cmh_graph::WaitGraph;
 use std::alloc::{AllocError, Global};

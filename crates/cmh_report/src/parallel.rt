@@ -14,8 +14,7 @@ ghost use Rattle.cmh_report.specs.Paths.{ArePathsOf};
 ghost use Rattle.cmh_report.specs.Report.{line, process_line, group_line};
 
 use crate::chunks::{group_chunk, process_chunk};
-use crate::group::group_of;
-use crate::groups::Groups;
+use crate::groups::{Groups, group_of};
 use crate::knot::Knot;
 use crate::known::Known;
 use crate::lines::{push_deadlocked, push_free, push_group};

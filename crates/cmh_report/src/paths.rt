@@ -5,7 +5,7 @@ ghost use Rattle.cmh_graph.specs.ChosenPath.{chosen_path};
 ghost use Rattle.cmh_graph.specs.Graph.{process_count};
 ghost use Rattle.cmh_graph.specs.Verdict.{is_deadlocked};
 
-use crate::group::out_of_memory;
+use crate::groups::out_of_memory;
 use cmh_graph::WaitGraph;
 use cmh_graph::laws::law_built_graph;
 use std::alloc::{AllocError, Global};

@@ -5,7 +5,7 @@ use Rattle.cmh_report.specs.Group.{leaders_up_to}
 use Rattle.cmh_report.specs.Report.{site_count}
 use Rattle.cmh_report.proofs.Members.{reach_within}
 use Rattle.cmh_report.proofs.Numbers.{own_number}
-use Rattle.cmh_report.proofs.group.group_of.Goals as goal
+use Rattle.cmh_report.proofs.groups.group_of.Goals as goal
 
 pub count_sites-requires : goal.count_sites-requires
 count_sites-requires c =

@@ -1,7 +1,7 @@
 use Rattle.std.proofs.Common.{◌∙◌, ap, not, take_all}
 use Rattle.std.specs.Prelude.{filter}
 use Rattle.cmh_report.specs.Group.{is_led_by}
-use Rattle.cmh_report.proofs.group.core_and_rest.Goals as goal
+use Rattle.cmh_report.proofs.groups.core_and_rest.Goals as goal
 
 pub returns : goal.returns
 returns c =

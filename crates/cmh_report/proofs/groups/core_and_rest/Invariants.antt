@@ -1,7 +1,7 @@
 use Rattle.std.proofs.Common.{◌≡◌, not, take}
 use Rattle.std.specs.Prelude.{filter}
 use Rattle.cmh_report.specs.Group.{is_led_by}
-use Rattle.cmh_report.proofs.group.core_and_rest.Given as goal
+use Rattle.cmh_report.proofs.groups.core_and_rest.Given as goal
 
 abbrev pub invariant-loop-p : goal.invariant-loop-p
 invariant-loop-p l = record {
