@@ -1,17 +1,25 @@
 -- What lines tell, and which of them are refused.
-use Rattle.std.proofs.Common.{◌≡◌, ◌≢◌, ℕ, suc, ◌<◌, ◌≤◌, cond, eqb, List, [], ◌∷◌, length, get_or, slice_get, Some, refl, sym, ◌∙◌, ap, subst, arith, IfSome}
-use Rattle.std.specs.Prelude.{option_map, find}
+use Rattle.std.proofs.Common.{◌≡◌, ℕ, suc, ◌<◌, ◌≤◌, ◌↔◌, Bool, true, false, not, cond, eqb, List, [], ◌∷◌, length, get_or, slice_get, Option, Some, None, refl, sym, ◌∙◌, ap, subst, arith, true≢false, IfSome}
+use Rattle.std.specs.Prelude.{option_map, unwrap_or, find, nat_le, position}
+use Rattle.std.specs.List.{position_or_len}
 use Rattle.std.proofs.lemmas.Bool.{eqb-true, and_parts}
-use Rattle.std.proofs.lemmas.Option.{same_Some, slice_get-get_or}
+use Rattle.std.proofs.lemmas.Grind.{common_steps}
+use Rattle.std.proofs.lemmas.List.Quantifiers.{position-Some}
+use Rattle.std.proofs.lemmas.List.Sums.{fails_before_first}
+use Rattle.std.proofs.lemmas.Option.{slice_get-get_or, slice_get_within, get_or_from_slice_get}
+use denote.Enum.Bare.{sameb}
 use Rattle.cmh_graph.specs.declared.verdict.Verdict.{Verdict}
-use Rattle.cmh_graph.specs.declared.verdict.Verdict.TheVariants.{Deadlocked, Free}
+use Rattle.cmh_graph.specs.declared.verdict.Verdict.TheVariants.{Free}
+use Rattle.cmh_graph.specs.contracts.verdict.Verdict.{the_type}
 use Rattle.cmh_graph.specs.Graph.{Graph, process_count, IsWithinGraph}
 use Rattle.cmh_graph.specs.Verdict.{verdict, verdicts, IsVerdict}
 use Rattle.cmh_graph.specs.Judge.{IsFirst}
+use Rattle.cmh_graph.proofs.PartLemmas.{first_place}
 use Rattle.cmh_graph.proofs.IndexLists.{length-by_index, by_index}
 use Rattle.cmh_graph.proofs.Verdicts.{one_verdict, verdict_true}
-use Rattle.cmh_run.specs.Script.{ScriptLine, is_for, told_at, AreTrueOf, IsLineOutOfRange, IsUntrue, Differs, IsNever}
+use Rattle.cmh_run.specs.Script.{ScriptLine, is_for, told_at, AreTrueOf, IsLineOutOfRange, IsUntrue, IsNever, is_listed}
 use Rattle.cmh_run.proofs.Configurations.{by_test}
+use Rattle.cmh_run.proofs.Verdicts.{same, same_as_itself}
 
 -- ---- what lines tell
 
@@ -27,63 +35,65 @@ told_true g (e ∷ lines) ask p h =
     (h 0 e refl))
     (λ f. told_true g lines ask p (λ i x s. h (suc i) x s))
 
--- ---- first places
+-- ---- the first line that passes a test
 
--- a first place is the first of all that holds in the same places
-first_same : (Holds Other : ℕ → Type 0) (i : ℕ) → ((k : ℕ) → Holds k → Other k)
-    → ((k : ℕ) → Other k → Holds k) → IsFirst Holds i → IsFirst Other i
-first_same Holds Other i on back f =
-    record { holds = on i f.holds; first = λ k h. f.first k (back k h) }
+-- a line, where any will do
+no_line : ScriptLine
+no_line = (0, 0, Free)
+
+-- where no line passes a test, each fails it
+each_fails : (test : ScriptLine → Bool) (lines : List ScriptLine) → position test lines ≡ None
+    → (k : ℕ) (line : ScriptLine) → slice_get lines k ≡ Some line → test line ≡ false
+each_fails test lines e k line is =
+    let past : length lines ≤ position_or_len test lines = grind (arith, common_steps) in
+    let within = slice_get_within lines k line is in
+    ap test (sym (get_or_from_slice_get lines k line no_line is))
+    ∙ fails_before_first test lines k no_line (omega (arith, within, past))
+
+module _ (test : ScriptLine → Bool) (P : ScriptLine → Type 0) (lines : List ScriptLine)
+    (means : (k : ℕ) (line : ScriptLine) → slice_get lines k ≡ Some line → (test line ≡ true) ↔ P line) where
+  -- line k is one of which P holds
+  abbrev IsAt : ℕ → Type 0
+  IsAt k = (line : ScriptLine) × (slice_get lines k ≡ Some line) × P line
+
+  -- where no line passes the test, P holds of none
+  none_found : position test lines ≡ None → IsNever IsAt
+  none_found e k h = true≢false (sym ((means k h.0 h.1).1 h.2) ∙ each_fails test lines e k h.0 h.1)
+
+  -- the first line that passes the test is the first of which P holds
+  first_found : (i : ℕ) → position test lines ≡ Some i → IsFirst IsAt i
+  first_found i e =
+      let found = position-Some test lines i no_line e in
+      let there = slice_get-get_or lines i no_line found.0 in
+      first_place IsAt i
+      (λ k below h. true≢false (sym ((means k h.0 h.1).1 h.2)
+      ∙ ap test (sym (get_or_from_slice_get lines k h.0 no_line h.1)) ∙ found.2 k below))
+      (get_or lines i no_line, there, (means i (get_or lines i no_line) there).0 found.1)
 
 -- ---- lines out of range
 
--- line i is what the list has there
-line_is : (lines : List ScriptLine) (i : ℕ) (d e : ScriptLine) → i < length lines
-    → slice_get lines i ≡ Some e → get_or lines i d ≡ e
-line_is lines i d e h s = same_Some (get_or lines i d) e (sym (slice_get-get_or lines i d h) ∙ s)
+module _ (n count : ℕ) (lines : List ScriptLine) (is : n ≡ count) where
+  -- a line is about none of so many processes exactly where it passes the test
+  beyond_means : (k : ℕ) (line : ScriptLine) → slice_get lines k ≡ Some line
+      → (nat_le n line.1 ≡ true) ↔ (count ≤ line.1)
+  beyond_means k line s = (λ e. grind (arith, is), λ l. grind (arith, is))
 
--- a line about a number that is too great is out of range
-pub out_of_range : (count : ℕ) (lines : List ScriptLine) (i : ℕ) (d : ScriptLine) → i < length lines
-    → count ≤ (get_or lines i d).1 → IsLineOutOfRange count lines i
-out_of_range count lines i d h l = (get_or lines i d, slice_get-get_or lines i d h, l)
+  -- where no line passes the test, none is out of range
+  pub never_beyond : position (λ (line : ScriptLine). nat_le n line.1) lines ≡ None
+      → IsNever (IsLineOutOfRange count lines)
+  never_beyond =
+      none_found (λ (line : ScriptLine). nat_le n line.1) (λ (line : ScriptLine). count ≤ line.1) lines beyond_means
 
--- a line about a number below the count isn't out of range
-pub in_range : (count : ℕ) (lines : List ScriptLine) (i : ℕ) (d : ScriptLine) → i < length lines
-    → (get_or lines i d).1 < count → IsLineOutOfRange count lines i → ⊥
-in_range count lines i d h l o =
-    let same : (get_or lines i d).1 ≡ o.0.1 = ap (λ (e : ScriptLine). e.1) (line_is lines i d o.0 h o.1) in
-    omega (arith, o.2)
-
--- where no line is out of range, each is about a number that is small enough
-pub each_in_range : (count : ℕ) (lines : List ScriptLine) (i : ℕ) (d : ScriptLine) → i < length lines
-    → IsNever (IsLineOutOfRange count lines) → (get_or lines i d).1 < count
-each_in_range count lines i d h never =
-    let not_more : count ≤ (get_or lines i d).1 → ⊥ = λ l. never i (out_of_range count lines i d h l) in
-    omega arith
+  -- the first line that passes the test is the first out of range
+  pub first_beyond : (i : ℕ) → position (λ (line : ScriptLine). nat_le n line.1) lines ≡ Some i
+      → IsFirst (IsLineOutOfRange count lines) i
+  first_beyond =
+      first_found (λ (line : ScriptLine). nat_le n line.1) (λ (line : ScriptLine). count ≤ line.1) lines beyond_means
 
 -- ---- lines that aren't true
 
--- a line that tells another verdict than stands in the list differs from it
-pub differs : (truth : List Verdict) (lines : List ScriptLine) (i : ℕ) (d : ScriptLine) (v : Verdict)
-    → i < length lines → (get_or lines i d).1 < length truth
-    → get_or truth (get_or lines i d).1 v ≢ (get_or lines i d).2 → Differs truth lines i
-differs truth lines i d v h l other = (
-  get_or lines i d,
-  slice_get-get_or lines i d h,
-  λ same. other (same_Some (get_or truth (get_or lines i d).1 v) (get_or lines i d).2
-      (sym (slice_get-get_or truth (get_or lines i d).1 v l) ∙ same)),
-)
-
--- a line that tells the verdict that stands in the list doesn't differ from it
-pub agrees : (truth : List Verdict) (lines : List ScriptLine) (i : ℕ) (d : ScriptLine) (v : Verdict)
-    → i < length lines → (get_or lines i d).1 < length truth
-    → get_or truth (get_or lines i d).1 v ≡ (get_or lines i d).2 → Differs truth lines i → ⊥
-agrees truth lines i d v h l same other =
-    other.2 (subst (λ (e : ScriptLine). slice_get truth e.1 ≡ Some e.2) (line_is lines i d other.0 h other.1)
-    (slice_get-get_or truth (get_or lines i d).1 v l ∙ ap Some same))
-
 -- the list of all verdicts has that of each process
-pub verdict_at : (g : Graph) (p : ℕ) → p < process_count g → slice_get (verdicts g) p ≡ Some (verdict g p)
+verdict_at : (g : Graph) (p : ℕ) → p < process_count g → slice_get (verdicts g) p ≡ Some (verdict g p)
 verdict_at g p h =
     slice_get-get_or (verdicts g) p Free (subst (λ (n : ℕ). p < n) (sym (length-by_index g (verdict g))) h)
     ∙ ap Some (by_index g (verdict g) (verdicts g) p Free refl h)
@@ -92,75 +102,49 @@ verdict_at g p h =
 pub verdict_count : (g : Graph) → length (verdicts g) ≡ process_count g
 verdict_count g = length-by_index g (verdict g)
 
--- a line that differs from the verdicts isn't true
-untrue : (g : Graph) (lines : List ScriptLine) (k : ℕ) → IsWithinGraph g
-    → IsNever (IsLineOutOfRange (process_count g) lines) → Differs (verdicts g) lines k
-    → IsUntrue g lines k
-untrue g lines k w never o = (
-  o.0,
-  o.1,
-  λ true_one.
-      let not_more : process_count g ≤ o.0.1 → ⊥ = λ l. never k (o.0, o.1, l) in
-      let within : o.0.1 < process_count g = omega arith in
-      let same : verdict g o.0.1 ≡ o.0.2 = one_verdict g o.0.1 (verdict g o.0.1) o.0.2
-      (verdict_true g o.0.1 (verdict g o.0.1) w refl) true_one in
-      o.2 (verdict_at g o.0.1 within ∙ ap Some same),
-)
+-- a test fails exactly where what it means doesn't hold
+fails_means : (b : Bool) (P : Type 0) → (b ≡ true) ↔ P → (not b ≡ true) ↔ (P → ⊥)
+fails_means true P means = (λ e. absurd (cc), λ n. absurd (n (means.0 refl)))
+fails_means false P means = (λ e p. true≢false (sym (means.1 p)), λ n. refl)
 
--- a line that isn't true differs from the verdicts
-untrue_differs : (g : Graph) (lines : List ScriptLine) (k : ℕ) → IsWithinGraph g
-    → IsNever (IsLineOutOfRange (process_count g) lines) → IsUntrue g lines k
-    → Differs (verdicts g) lines k
-untrue_differs g lines k w never o = (
-  o.0,
-  o.1,
-  λ told.
-      let not_more : process_count g ≤ o.0.1 → ⊥ = λ l. never k (o.0, o.1, l) in
-      let within : o.0.1 < process_count g = omega arith in
-      o.2 (verdict_true g o.0.1 o.0.2 w
-      (same_Some (verdict g o.0.1) o.0.2 (sym (verdict_at g o.0.1 within) ∙ told))),
-)
-
--- where no line differs from the verdicts, all are true
-all_true : (g : Graph) (lines : List ScriptLine) → IsWithinGraph g
-    → IsNever (IsLineOutOfRange (process_count g) lines) → IsNever (Differs (verdicts g) lines)
-    → AreTrueOf g lines
-all_true g lines w never none i e s =
-    let not_more : process_count g ≤ e.1 → ⊥ = λ l. never i (e, s, l) in
-    let within : e.1 < process_count g = omega arith in
-    verdict_true g e.1 e.2 w (by_cases (verdict g e.1) e.2 (λ other. none i (
-      e,
-      s,
-      λ told.
-          other (same_Some (verdict g e.1) e.2 (sym (verdict_at g e.1 within) ∙ told)),
-    )))
-  where
-    by_cases : (v u : Verdict) → ((v ≡ u → ⊥) → ⊥) → v ≡ u
-    by_cases Deadlocked Deadlocked h = refl
-    by_cases Deadlocked Free h = absurd (h (λ q. cc))
-    by_cases Free Deadlocked h = absurd (h (λ q. cc))
-    by_cases Free Free h = refl
-
--- ---- scripts over the list of all verdicts
+-- a test whose opposite fails passes
+passes : (b : Bool) → not b ≡ false → b ≡ true
+passes true e = refl
+passes false e = absurd (cc)
 
 module _ (g : Graph) (truth : List Verdict) (lines : List ScriptLine) (w : IsWithinGraph g)
-    (is : truth ≡ verdicts g) where
-  -- lines about processes of the graph alone are about places of the list of all verdicts alone
-  pub never_beyond : IsNever (IsLineOutOfRange (process_count g) lines)
-      → IsNever (IsLineOutOfRange (length truth) lines)
-  never_beyond never =
-      subst (λ (n : ℕ). IsNever (IsLineOutOfRange n lines)) (sym (ap length is ∙ verdict_count g)) never
+    (is : truth ≡ verdicts g) (never : IsNever (IsLineOutOfRange (process_count g) lines)) where
+  -- a line is in the list of all verdicts exactly where it is true
+  listed_means : (k : ℕ) (line : ScriptLine) → slice_get lines k ≡ Some line
+      → (is_listed truth line ≡ true) ↔ IsVerdict g line.1 line.2
+  listed_means k line s =
+      let not_more : process_count g ≤ line.1 → ⊥ = λ l. never k (line, s, l) in
+      let within : line.1 < process_count g = omega arith in
+      let told : is_listed truth line ≡ sameb the_type (verdict g line.1) line.2 =
+      ap (λ (o : Option Verdict). unwrap_or (option_map (λ v. sameb the_type v line.2) o) false)
+      (ap (λ (xs : List Verdict). slice_get xs line.1) is ∙ verdict_at g line.1 within) in
+      let truly = verdict_true g line.1 (verdict g line.1) w refl in (
+        λ e. verdict_true g line.1 line.2 w (same (verdict g line.1) line.2 (sym told ∙ e)),
+        λ v. told
+            ∙ ap (λ (u : Verdict). sameb the_type u line.2) (one_verdict g line.1 (verdict g line.1) line.2 truly v)
+            ∙ same_as_itself line.2,
+      )
 
-  -- the first line that differs from the list of all verdicts is the first that isn't true
-  pub first_untrue : (i : ℕ) → IsNever (IsLineOutOfRange (process_count g) lines)
-      → IsFirst (Differs truth lines) i → IsFirst (IsUntrue g lines) i
-  first_untrue i never f =
-      first_same (Differs (verdicts g) lines) (IsUntrue g lines) i
-      (λ k h. untrue g lines k w never h) (λ k h. untrue_differs g lines k w never h)
-      (subst (λ (xs : List Verdict). IsFirst (Differs xs lines) i) is f)
+  -- a line isn't in the list of all verdicts exactly where it isn't true
+  unlisted_means : (k : ℕ) (line : ScriptLine) → slice_get lines k ≡ Some line
+      → (not (is_listed truth line) ≡ true) ↔ (IsVerdict g line.1 line.2 → ⊥)
+  unlisted_means k line s =
+      fails_means (is_listed truth line) (IsVerdict g line.1 line.2) (listed_means k line s)
 
-  -- lines of which none differs from the list of all verdicts are true
-  pub true_of : IsNever (IsLineOutOfRange (process_count g) lines) → IsNever (Differs truth lines)
-      → AreTrueOf g lines
-  true_of never none =
-      all_true g lines w never (subst (λ (xs : List Verdict). IsNever (Differs xs lines)) is none)
+  -- the first line that isn't in the list of all verdicts is the first that isn't true
+  pub first_untrue : (i : ℕ) → position (λ (line : ScriptLine). not (is_listed truth line)) lines ≡ Some i
+      → IsFirst (IsUntrue g lines) i
+  first_untrue =
+      first_found (λ (line : ScriptLine). not (is_listed truth line))
+      (λ (line : ScriptLine). IsVerdict g line.1 line.2 → ⊥) lines unlisted_means
+
+  -- where each line is in the list of all verdicts, all are true
+  pub true_of : position (λ (line : ScriptLine). not (is_listed truth line)) lines ≡ None → AreTrueOf g lines
+  true_of e k line s =
+      (listed_means k line s).0 (passes (is_listed truth line)
+      (each_fails (λ (other : ScriptLine). not (is_listed truth other)) lines e k line s))

@@ -1,6 +1,8 @@
 -- Scripted hints: what is told at which ask, and what makes no script.
-use Rattle.std.specs.Prelude.{◌≡◌, ◌≢◌, ℕ, ◌+◌, ◌≤◌, Bool, ◌&&◌, ◌==◌, nat_lt, if◌then◌else◌, List, find, slice_get, Option, Some, None, option_map}
+use Rattle.std.specs.Prelude.{◌≡◌, ℕ, ◌+◌, ◌≤◌, Bool, false, ◌&&◌, ◌==◌, nat_lt, if◌then◌else◌, List, find, slice_get, Option, Some, None, option_map, unwrap_or}
+use denote.Enum.Bare.{sameb}
 use Rattle.cmh_graph.specs.declared.verdict.Verdict.{Verdict}
+use Rattle.cmh_graph.specs.contracts.verdict.Verdict.{the_type}
 use Rattle.cmh_graph.specs.Graph.{Graph, process_count}
 use Rattle.cmh_run.specs.declared.fault.ScriptFault.{ScriptFault}
 use Rattle.cmh_run.specs.declared.fault.ScriptFault.TheVariants.{ProcessOutOfRange, FalseVerdict, Memory}
@@ -44,10 +46,9 @@ IsLineOutOfRange count lines k = (line : ScriptLine) × (slice_get lines k ≡ S
 abbrev pub IsUntrue : Graph → List ScriptLine → ℕ → Type 0
 IsUntrue g lines k = (line : ScriptLine) × (slice_get lines k ≡ Some line) × ¬ (IsVerdict g line.1 line.2)
 
--- line k tells another verdict than stands in the list
-abbrev pub Differs : List Verdict → List ScriptLine → ℕ → Type 0
-Differs truth lines k =
-    (line : ScriptLine) × (slice_get lines k ≡ Some line) × (slice_get truth line.1 ≢ Some line.2)
+-- the list has the verdict that the line tells of its process
+abbrev pub is_listed : List Verdict → ScriptLine → Bool
+is_listed truth line = unwrap_or (option_map (λ v. sameb the_type v line.2) (slice_get truth line.1)) false
 
 -- what is said of places holds of none
 abbrev pub IsNever : (ℕ → Type 0) → Type 0

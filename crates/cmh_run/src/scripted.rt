@@ -1,6 +1,6 @@
 //! Hints that are written down before the run, each with the ask at which it is told.
 
-ghost use Rattle.std.specs.Prelude.{◌==◌, ◌≡◌, ◌⊎◌, ◌<◌, [], None, IfOk, IfErr, IfSome, IfNone, length, refl};
+ghost use Rattle.std.specs.Prelude.{◌==◌, ◌≡◌, ◌⊎◌, ◌<◌, [], None, IfOk, IfErr, IfSome, nat_le, not, position, refl};
 ghost use Rattle.std.proofs.Common.{◌∙◌};
 ghost use Rattle.std.proofs.Common.{rules};
 ghost use Rattle.std.specs.Cmp.Lexicographic.{pointwise};
@@ -8,10 +8,9 @@ ghost use Rattle.std.specs.Cmp.Rules.{comparing};
 ghost use Rattle.std.specs.Ordering.{on, eq_of_both};
 ghost use Rattle.cmh_graph.specs.contracts.verdict.VerdictEq.TheImpl.Laws as verdict_laws;
 ghost use Rattle.cmh_graph.specs.contracts.verdict.VerdictPartialEq.TheImpl as verdict;
-ghost use Rattle.cmh_graph.specs.Judge.{IsFirst};
 ghost use Rattle.cmh_graph.specs.Graph.{Graph, process_count};
 ghost use Rattle.cmh_graph.specs.Verdict.{IsVerdict};
-ghost use Rattle.cmh_run.specs.Script.{AreTrueOf, IsLineOutOfRange, Differs, IsNever, IsFirstScriptFault, told_at, answer_of, after_ask};
+ghost use Rattle.cmh_run.specs.Script.{AreTrueOf, IsLineOutOfRange, IsNever, IsFirstScriptFault, is_listed as is_listed_lem, told_at, answer_of, after_ask};
 ghost use Rattle.cmh_run.specs.ScriptProofs.{scripts_keep_graphs, scripts_keep_silent};
 
 use crate::truth::truth_of;
@@ -123,27 +122,24 @@ fn told_at(lines: &[(u32, u32, Verdict)], ask: u32, p: u32) -> Option<Verdict>
 
 /// The first line that is about none of so many processes.
 fn first_out_of_range(count: u32, lines: &[(u32, u32, Verdict)]) -> Option<usize>
-    ensures some { IfSome result (IsFirst (IsLineOutOfRange count lines.now)) }
-    ensures none { IfNone result (IsNever (IsLineOutOfRange count lines.now)) }
+    ensures { result ≡ position (λ line. nat_le count line.1) lines.now }
 {
-    for (i, line) in lines.iter().enumerate() {
-        if line.1 >= count {
-            return Some(i);
-        }
-    }
-    None
+    lines.iter().position(|line| line.1 >= count)
 }
 
 /// The first line that differs from the verdicts of all processes.
 fn first_difference(truth: &[Verdict], lines: &[(u32, u32, Verdict)]) -> Option<usize>
-    requires { IsNever (IsLineOutOfRange (length truth.now) lines.now) }
-    ensures some { IfSome result (IsFirst (Differs truth.now lines.now)) }
-    ensures none { IfNone result (IsNever (Differs truth.now lines.now)) }
+    ensures { result ≡ position (λ line. not (is_listed_lem truth.now line)) lines.now }
 {
-    for (i, line) in lines.iter().enumerate() {
-        if truth[line.1 as usize] != line.2 {
-            return Some(i);
-        }
+    lines.iter().position(|line| !is_listed(truth, *line))
+}
+
+/// Whether the list has the verdict that the line tells.
+fn is_listed(truth: &[Verdict], line: (u32, u32, Verdict)) -> bool
+    ensures { result ≡ is_listed_lem truth.now line }
+{
+    match truth.get(line.1 as usize) {
+        Some(verdict) => *verdict == line.2,
+        None => false,
     }
-    None
 }
