@@ -2,10 +2,9 @@
 
 ghost use Rattle.std.specs.Prelude.{◌≡◌, ◌++◌, map, All, IfOk, OnOk, IsTrue};
 ghost use Rattle.cmh_graph.specs.Graph.{is_idle};
-ghost use Rattle.cmh_run.specs.Run.{TellsTruth};
+ghost use Rattle.cmh_run.specs.Run.{verdict_of, TellsTruth};
 ghost use Rattle.cmh_board.specs.Board.{known, SeesMore};
 ghost use Rattle.cmh_work.specs.Record.{IsRunFor};
-ghost use Rattle.cmh_run.specs.Run.{verdict_of};
 ghost use Rattle.cmh_work.specs.Finding.{finding_initiator, IsAnswered, IsRecorded, Accounts};
 ghost use Rattle.cmh_work.specs.Working.{IsMadeFor, SitsIn, AreSeated, AreNew, AreBack, IsWorked};
 
@@ -40,10 +39,9 @@ fn run_of<L: Log>(
     ensures truth { IfOk result (TellsTruth job.now.graph.now) }
 {
     let mut hints = BoardHints::new(&job.shared.board, seat);
-    match runner.run(alloc, initiator, job.plan.choices(), &mut hints) {
-        Ok(run) => Ok(run),
-        Err(fault) => Err(want_in_run(fault)),
-    }
+    runner
+        .run(alloc, initiator, job.plan.choices(), &mut hints)
+        .map_err(want_in_run)
 }
 
 /// The verdict of an initiator: the board's, or else that of a run, which is posted.
