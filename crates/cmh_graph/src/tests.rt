@@ -147,7 +147,7 @@ fn refused_parts(rt: HostRuntime) {
             &[("p", 0, State::Active, &[0])],
             GraphFault::ActiveWithDependents(0),
         ),
-        // the first of several
+        // Where there are several faults, the first is answered.
         (
             &[("p", 0, State::Idle, &[0, 0]), ("q", 0, State::Idle, &[2])],
             GraphFault::DependentOutOfRange(1, 0),
@@ -181,7 +181,7 @@ fn in_transit(rt: HostRuntime) -> Result<(), GraphFault> {
     let alloc = rt.alloc();
     let table: [(&[Row], (u32, u32), &[bool]); 3] = [
         (&TWO_IN_A_CYCLE, (1, 0), &[true, false]),
-        // q is no dependent of r
+        // The sender q is no dependent of the receiver r.
         (&CYCLE_AND_FOLLOWER, (1, 2), &[false, false, false]),
         (&CYCLE_AND_FOLLOWER, (0, 2), &[false, false, true]),
     ];

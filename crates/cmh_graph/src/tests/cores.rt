@@ -104,7 +104,7 @@ fn a_ring_that_waits_for_another(rt: HostRuntime) -> Result<(), Fail> {
 fn who_is_seen_to_be_alone(rt: HostRuntime) -> Result<(), Fail> {
     let alloc = rt.alloc();
     let table: [(&[Row], &[bool]); 4] = [
-        // the last waits for nobody, and each of the others for one who is marked
+        // The last waits for nobody, and each of the others for one that is marked.
         (&CHAIN, &[true; 5]),
         (
             &KNOT_WITH_SINKS,
