@@ -191,10 +191,10 @@ something_deadlocked w e d some h = has_deadlock (Analyse w) e (d, omega (arith,
 
 -- where the analysis has a fault, the outcome has the status of that fault
 pub analysis_failed : (w : PlanWords) (e : Ends) (f : AppFault)
-    → IfDump f (IsRefused e.given_old e.given_new e.has_ended e.source_failed)
+    → IfDump f (IsRefused e.source_old e.source_new)
     → IfNoSuchProcess f ⊥ → IfRun f (λ _. ⊥) → IfUnwritten f (IsUnwritten e)
-    → IfWriteFault f (IsCutShort IsReport e.given_old e.given_new e.has_ended e.taken_old e.taken_new)
-    → IfWriteFault f (λ _. e.out_failed ≡ true) → IsOutcome (Analyse w) (status_of f) e
+    → IfWriteFault f (IsCutShort IsReport e.source_old e.source_new e.out_old e.out_new)
+    → IfWriteFault f (λ _. e.out_new.has_failed ≡ true) → IsOutcome (Analyse w) (status_of f) e
 analysis_failed w e (Dump f) refused nobody no_run unwritten cut stopped =
     refused_dump (Analyse w) e f (λ own. (unwritten, (f, own, refused))) (inl unwritten)
 analysis_failed w e (Work f) refused nobody no_run unwritten cut stopped = has_failed (Analyse w) e (inl unwritten)
@@ -271,13 +271,12 @@ not_idle name choices f g few h = by_fault f h.cause
 -- where the trace has a fault, the outcome has the status of that fault
 pub trace_failed : (name list : Bor (List ℕ)) (choices : List ℕ) (e : Ends) (f : AppFault) → IsListOf list.now choices
     → length choices ≤ MAX_CHOICES
-    → IfDump f (IsRefused e.given_old e.given_new e.has_ended e.source_failed)
-    → IfNoSuchProcess f (GaveGraph e.given_old e.given_new e.has_ended (λ g. NobodyIsNamed g name.now))
-    → IfRun f (λ fault. GaveGraph e.given_old e.given_new e.has_ended (HasNoRun name.now choices fault))
+    → IfDump f (IsRefused e.source_old e.source_new)
+    → IfNoSuchProcess f (GaveGraph e.source_old e.source_new (λ g. NobodyIsNamed g name.now))
+    → IfRun f (λ fault. GaveGraph e.source_old e.source_new (HasNoRun name.now choices fault))
     → IfUnwritten f (IsUnwritten e)
-    → IfWriteFault f
-    (IsCutShort (IsSomeTrace name.now choices) e.given_old e.given_new e.has_ended e.taken_old e.taken_new)
-    → IfWriteFault f (λ _. e.out_failed ≡ true) → IsOutcome (Trace name list) (status_of f) e
+    → IfWriteFault f (IsCutShort (IsSomeTrace name.now choices) e.source_old e.source_new e.out_old e.out_new)
+    → IfWriteFault f (λ _. e.out_new.has_failed ≡ true) → IsOutcome (Trace name list) (status_of f) e
 trace_failed name list choices e (Dump f) listed few refused nobody no_run unwritten cut stopped =
     refused_dump (Trace name list) e f (λ own. (unwritten, (f, own, refused))) (inl unwritten)
 trace_failed name list choices e (Work f) listed few refused nobody no_run unwritten cut stopped =
@@ -327,9 +326,10 @@ trace_failed name list choices e (WriteFault n) listed few refused nobody no_run
 
 -- where a text that was asked for is out, or a prefix of it as the output failed, the outcome fits the status
 pub shown : (text : String Global) (s : ℕ) (e : Ends) → (s ≡ FREE) ⊎ (s ≡ FAILED) → IsUnread e
-    → (s ≡ FREE → e.taken_new ≡ e.taken_old ++ string_bytes text) → (s ≡ FREE → e.is_finished ≡ true)
+    → (s ≡ FREE → e.out_new.taken ≡ e.out_old.taken ++ string_bytes text) → (s ≡ FREE → e.out_new.is_finished ≡ true)
     → (s ≡ FAILED
-    → (e.out_failed ≡ true) × ((written : ℕ) × (e.taken_new ≡ e.taken_old ++ take written (string_bytes text))))
+    → (e.out_new.has_failed ≡ true)
+    × ((written : ℕ) × (e.out_new.taken ≡ e.out_old.taken ++ take written (string_bytes text))))
     → IsOutcome (Show text) s e
 shown text s e (inl is) unread taken finished front = record {
   free = λ x. (unread, taken x, finished x);

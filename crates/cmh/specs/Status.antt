@@ -1,7 +1,8 @@
 -- The table of statuses: what each says of what was asked for and of the two ends of the program.
-use Rattle.std.specs.Prelude.{◌≡◌, ◌⊎◌, ◌<◌, ◌≤◌, ◌++◌, ℕ, List, replicate, take, Bool, true, Option, IsFalse, MatchOption, string_bytes}
+use Rattle.std.specs.Prelude.{◌≡◌, ◌⊎◌, ◌<◌, ◌≤◌, ◌++◌, ℕ, List, replicate, take, true, Option, IsFalse, MatchOption, string_bytes}
 use Rattle.std.specs.Borrow.{Bor}
 use Rattle.cmh_graph.specs.Graph.{Graph, is_idle}
+use Rattle.cmh_stream.specs.Device.{SinkState, SourceState}
 use Rattle.cmh_dump.specs.declared.fault.DumpFault.{DumpFault}
 use Rattle.cmh_dump.specs.declared.fault.DumpFault.TheVariants as dump
 use Rattle.cmh_run.specs.declared.fault.RunFault.{RunFault}
@@ -58,42 +59,36 @@ status_of_plan fault = MISUSED
 
 -- ---- the two ends
 
--- The source before and after a call, and standard output: the bytes given and taken, whether the
--- source has ended or failed, and whether the output was handed on or has failed.
+-- how the source and standard output stand before a call and after it
 pub record Ends : Type 0 where
-  pub given_old : List ℕ
-  pub given_new : List ℕ
-  pub has_ended : Bool
-  pub source_failed : Bool
-  pub taken_old : List ℕ
-  pub taken_new : List ℕ
-  pub is_finished : Bool
-  pub out_failed : Bool
+  pub source_old : SourceState
+  pub source_new : SourceState
+  pub out_old : SinkState
+  pub out_new : SinkState
 
 -- no byte of the input was read
 abbrev pub IsUnread : Ends → Type 0
-IsUnread e = e.given_new ≡ e.given_old
+IsUnread e = e.source_new.given ≡ e.source_old.given
 
 -- no byte was put into the output
 abbrev pub IsUnwritten : Ends → Type 0
-IsUnwritten e = e.taken_new ≡ e.taken_old
+IsUnwritten e = e.out_new.taken ≡ e.out_old.taken
 
 -- the source gave a dump, and the output took just a text that fits its graph, and handed it on
 abbrev pub HasAnswered : (Graph → List ℕ → Type 0) → Ends → Type 0
-HasAnswered Fits e =
-    IsAnswer Fits e.given_old e.given_new e.has_ended e.taken_old e.taken_new e.is_finished
+HasAnswered Fits e = IsAnswer Fits e.source_old e.source_new e.out_old e.out_new
 
 -- the source gave a dump, and the output failed after it had taken a prefix of a text that fits its graph
 abbrev pub HasStopped : (Graph → List ℕ → Type 0) → Ends → Type 0
-HasStopped Fits e = (e.out_failed ≡ true) × ((written : ℕ)
-    × IsCutShort Fits e.given_old e.given_new e.has_ended e.taken_old e.taken_new written)
+HasStopped Fits e = (e.out_new.has_failed ≡ true) × ((written : ℕ)
+    × IsCutShort Fits e.source_old e.source_new e.out_old e.out_new written)
 
 -- ---- what is said of the dump, of lists and of plans
 
 -- the dump has a fault of its own, whose status is that of a refusal
 abbrev pub IsDumpRefused : Ends → Type 0
 IsDumpRefused e = (fault : DumpFault) × (status_of_dump fault ≡ REFUSED)
-    × IsRefused e.given_old e.given_new e.has_ended e.source_failed fault
+    × IsRefused e.source_old e.source_new fault
 
 -- no idle process has that name
 abbrev pub NobodyIdleIsNamed : List ℕ → Graph → Type 0
@@ -146,8 +141,8 @@ IsPlanStatus words status = (status ≡ FAILED) ⊎ ((status ≡ MISUSED) × Are
 abbrev pub IsDone : Request → Ends → Type 0
 IsDone (Analyse plan) e = HasAnswered (IsCountedReport 0) e
 IsDone (Trace name choices) e = HasAnswered (FitsTrace name.now choices.now) e
-IsDone (Show text) e = IsUnread e × (e.taken_new ≡ e.taken_old ++ string_bytes text)
-    × (e.is_finished ≡ true)
+IsDone (Show text) e = IsUnread e × (e.out_new.taken ≡ e.out_old.taken ++ string_bytes text)
+    × (e.out_new.is_finished ≡ true)
 IsDone (Refused text) e = ⊥
 
 -- the dump is refused, and nothing was written
@@ -161,7 +156,7 @@ HasRefusedDump request e = ⊥
 abbrev pub IsMisused : Request → Ends → Type 0
 IsMisused (Analyse plan) e = IsUnwritten e × IsUnread e × AreBadPlanWords plan
 IsMisused (Trace name choices) e = IsUnwritten e × ((IsUnread e × IsBadList choices.now)
-    ⊎ GaveGraph e.given_old e.given_new e.has_ended (NobodyIdleIsNamed name.now))
+    ⊎ GaveGraph e.source_old e.source_new (NobodyIdleIsNamed name.now))
 IsMisused (Show text) e = ⊥
 IsMisused (Refused text) e = IsUnwritten e × IsUnread e
 
@@ -175,8 +170,8 @@ HasDeadlock request e = ⊥
 abbrev pub HasFailed : Request → Ends → Type 0
 HasFailed (Analyse plan) e = IsUnwritten e ⊎ HasStopped IsReport e
 HasFailed (Trace name choices) e = IsUnwritten e ⊎ HasStopped (FitsTrace name.now choices.now) e
-HasFailed (Show text) e = IsUnread e × (e.out_failed ≡ true) × ((written : ℕ)
-    × (e.taken_new ≡ e.taken_old ++ take written (string_bytes text)))
+HasFailed (Show text) e = IsUnread e × (e.out_new.has_failed ≡ true) × ((written : ℕ)
+    × (e.out_new.taken ≡ e.out_old.taken ++ take written (string_bytes text)))
 HasFailed (Refused text) e = ⊥
 
 -- the table of statuses

@@ -21,7 +21,7 @@ pub(crate) fn read_numbers<E: Sink>(
 ) -> Result<Vec<u64>, u8>
     ensures listed { IfOk result (λ numbers. IsListOf list.now numbers.items) }
     ensures few { IfOk result (λ numbers. length numbers.items ≤ MAX_NUMBERS) }
-    ensures quiet { OnOk result (E.taken err.new ≡ E.taken err.old) }
+    ensures quiet { OnOk result ((E.state err.new).taken ≡ (E.state err.old).taken) }
     ensures refused { IfErr result (IsListStatus list.now) }
 {
     match read_list(alloc, list) {
@@ -34,7 +34,7 @@ pub(crate) fn read_numbers<E: Sink>(
 /// up to the most cuts of a plan.
 fn read_cuts<E: Sink>(alloc: Global, list: Option<&str>, err: &mut E) -> Result<Vec<u64>, u8>
     ensures cuts { IfOk result (λ cuts. HasCuts list.entry cuts.items) }
-    ensures quiet { OnOk result (E.taken err.new ≡ E.taken err.old) }
+    ensures quiet { OnOk result ((E.state err.new).taken ≡ (E.state err.old).taken) }
     ensures refused { IfErr result (IsCutsStatus list.entry) }
 {
     if let Some(list) = list {
@@ -53,7 +53,7 @@ pub(crate) fn read_plan<E: Sink>(alloc: Global, words: &PlanWords, err: &mut E) 
     ensures workers { IfOk result (λ plan. plan.workers ≡ words.now.workers) }
     ensures cuts { IfOk result (λ plan. HasCuts words.now.cuts plan.cuts) }
     ensures choices { IfOk result (λ plan. IsListOf words.now.choices.now plan.choices) }
-    ensures quiet { OnOk result (E.taken err.new ≡ E.taken err.old) }
+    ensures quiet { OnOk result ((E.state err.new).taken ≡ (E.state err.old).taken) }
     ensures refused { IfErr result (IsPlanStatus words.now) }
 {
     let cuts = read_cuts(alloc, words.cuts, err)?;

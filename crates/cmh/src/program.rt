@@ -28,17 +28,13 @@ fn analyse<R: Threads + Wait + Sync, S: Source, O: Sink, E: Sink>(
     err: &mut E,
 ) -> u8
     ensures outcome { IsOutcome (Analyse words.now) result record {
-      given_old = S.given source.old;
-      given_new = S.given source.new;
-      has_ended = S.has_ended source.new;
-      source_failed = S.has_failed source.new;
-      taken_old = O.taken out.old;
-      taken_new = O.taken out.new;
-      is_finished = O.is_finished out.new;
-      out_failed = O.has_failed out.new;
+      source_old = S.state source.old;
+      source_new = S.state source.new;
+      out_old = O.state out.old;
+      out_new = O.state out.new;
     } }
     ensures quiet { (result ≡ FREE) ⊎ (result ≡ DEADLOCKED)
-        → E.taken err.new ≡ E.taken err.old }
+        → (E.state err.new).taken ≡ (E.state err.old).taken }
 {
     let plan = match read_plan(alloc, words, err) {
         Ok(plan) => plan,
@@ -62,16 +58,12 @@ fn trace<S: Source, O: Sink, E: Sink>(
     err: &mut E,
 ) -> u8
     ensures outcome { IsOutcome (Trace name.entry list.entry) result record {
-      given_old = S.given source.old;
-      given_new = S.given source.new;
-      has_ended = S.has_ended source.new;
-      source_failed = S.has_failed source.new;
-      taken_old = O.taken out.old;
-      taken_new = O.taken out.new;
-      is_finished = O.is_finished out.new;
-      out_failed = O.has_failed out.new;
+      source_old = S.state source.old;
+      source_new = S.state source.new;
+      out_old = O.state out.old;
+      out_new = O.state out.new;
     } }
-    ensures quiet { result ≡ FREE → E.taken err.new ≡ E.taken err.old }
+    ensures quiet { result ≡ FREE → (E.state err.new).taken ≡ (E.state err.old).taken }
 {
     let choices = match read_numbers(alloc, "choices", list, err) {
         Ok(choices) => choices,
@@ -86,11 +78,11 @@ fn trace<S: Source, O: Sink, E: Sink>(
 /// Writes a text that was asked for.
 fn show<O: Sink, E: Sink>(text: &str, out: &mut O, err: &mut E) -> u8
     ensures shown { (result ≡ FREE) ⊎ (result ≡ FAILED) }
-    ensures text { result ≡ FREE → O.taken out.new ≡ O.taken out.old ++ text.now }
-    ensures handed_on { result ≡ FREE → O.is_finished out.new ≡ true }
-    ensures front { result ≡ FAILED → (O.has_failed out.new ≡ true) × ((written : ℕ)
-        × (O.taken out.new ≡ O.taken out.old ++ take written text.now)) }
-    ensures quiet { result ≡ FREE → E.taken err.new ≡ E.taken err.old }
+    ensures text { result ≡ FREE → (O.state out.new).taken ≡ (O.state out.old).taken ++ text.now }
+    ensures handed_on { result ≡ FREE → (O.state out.new).is_finished ≡ true }
+    ensures front { result ≡ FAILED → ((O.state out.new).has_failed ≡ true) × ((written : ℕ)
+        × ((O.state out.new).taken ≡ (O.state out.old).taken ++ take written text.now)) }
+    ensures quiet { result ≡ FREE → (E.state err.new).taken ≡ (E.state err.old).taken }
 {
     match put_all(out, text.as_bytes()) {
         Ok(()) => FREE,
@@ -113,17 +105,13 @@ pub fn serve<R: AllocGlobal + Threads + Wait + Sync, T: AsStr, S: Source, O: Sin
     err: &mut E,
 ) -> u8
     ensures outcome { IsOutcomeOf (map T.text words.now) result record {
-      given_old = S.given source.old;
-      given_new = S.given source.new;
-      has_ended = S.has_ended source.new;
-      source_failed = S.has_failed source.new;
-      taken_old = O.taken out.old;
-      taken_new = O.taken out.new;
-      is_finished = O.is_finished out.new;
-      out_failed = O.has_failed out.new;
+      source_old = S.state source.old;
+      source_new = S.state source.new;
+      out_old = O.state out.old;
+      out_new = O.state out.new;
     } }
     ensures quiet { (result ≡ FREE) ⊎ (result ≡ DEADLOCKED)
-        → E.taken err.new ≡ E.taken err.old }
+        → (E.state err.new).taken ≡ (E.state err.old).taken }
 {
     let alloc = rt.alloc();
     match read_words(alloc, words) {

@@ -16,16 +16,18 @@ use std::alloc::Global;
 /// `Memory`, `ReadFault` where the source has failed, and `TooLong` where it gave more than
 /// `MAX_BYTES` bytes.
 pub fn read_all<S: Source>(alloc: Global, source: &mut S) -> Result<Vec<u8>, DumpFault>
-    ensures given { IfOk result (λ v. S.given source.new ≡ S.given source.old ++ v.items) }
-    ensures whole { IfOk result (λ v. S.has_ended source.new ≡ true) }
+    ensures given { IfOk result (λ v.
+        (S.state source.new).given ≡ (S.state source.old).given ++ v.items) }
+    ensures whole { IfOk result (λ v. (S.state source.new).has_ended ≡ true) }
     ensures short { IfOk result (λ v. vec_len v ≤ MAX_BYTES) }
 
-    ensures read_fault { IsErrOf result DumpFault.ReadFault ↔ (S.has_failed source.new ≡ true) }
+    ensures read_fault { IsErrOf result DumpFault.ReadFault
+        ↔ ((S.state source.new).has_failed ≡ true) }
     ensures too_long { IsErrOf result DumpFault.TooLong
-        → length (S.given source.new) ≡ length (S.given source.old) + (MAX_BYTES + 1) }
+        → length (S.state source.new).given ≡ length (S.state source.old).given + (MAX_BYTES + 1) }
     ensures only { IsOfReading result }
 
-    ensures taken { GaveAtMost (MAX_BYTES + 1) (S.given source.old) (S.given source.new) }
+    ensures taken { GaveAtMost (MAX_BYTES + 1) (S.state source.old) (S.state source.new) }
 
     ensures known { IfOk result (λ v.
         Consumes (S.remaining source.old) (S.remaining source.new) v.items) }

@@ -13,10 +13,9 @@ use std::alloc::Global;
 /// The graph that the bytes of the source mean.
 pub(crate) fn read_graph<S: Source>(alloc: Global, source: &mut S) -> Result<WaitGraph, DumpFault>
     ensures ok { IfOk result (λ g.
-        GaveDump (S.given source.old) (S.given source.new) (S.has_ended source.new) (Ok g)) }
-    ensures refused { IfErr result (IsRefused (S.given source.old) (S.given source.new)
-        (S.has_ended source.new) (S.has_failed source.new)) }
-    ensures at_most { GaveAtMost (MAX_BYTES + 1) (S.given source.old) (S.given source.new) }
+        GaveDump (S.state source.old) (S.state source.new) (Ok g)) }
+    ensures refused { IfErr result (IsRefused (S.state source.old) (S.state source.new)) }
+    ensures at_most { GaveAtMost (MAX_BYTES + 1) (S.state source.old) (S.state source.new) }
 {
     let bytes = read_all(alloc, source)?;
     read_dump(alloc, &bytes)

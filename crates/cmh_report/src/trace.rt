@@ -46,32 +46,29 @@ pub fn trace_bytes<S: Source, K: Sink>(
     choices: &[u64],
 ) -> Result<Ending, AppFault>
     ensures answer { IfOk result (λ ending. IsAnswer (IsEndedTrace name.now choices.now ending)
-        (S.given source.old) (S.given source.new) (S.has_ended source.new)
-        (K.taken sink.old) (K.taken sink.new) (K.is_finished sink.new)) }
+        (S.state source.old) (S.state source.new) (K.state sink.old) (K.state sink.new)) }
     ensures never_cut { IfOk result (λ ending. (k : ℕ) → ending ≢ Ending.CutFree k) }
 
-    ensures refused { IfErr result (λ e. IfDump e (IsRefused
-        (S.given source.old) (S.given source.new)
-        (S.has_ended source.new) (S.has_failed source.new))) }
+    ensures refused { IfErr result (λ e.
+        IfDump e (IsRefused (S.state source.old) (S.state source.new))) }
     ensures no_work { IfErr result (λ e. IfWork e (λ _. ⊥)) }
     ensures nobody { IfErr result (λ e. IfNoSuchProcess e (GaveGraph
-        (S.given source.old) (S.given source.new) (S.has_ended source.new)
-        (λ g. NobodyIsNamed g name.now))) }
+        (S.state source.old) (S.state source.new) (λ g. NobodyIsNamed g name.now))) }
     ensures no_run { IfErr result (λ e. IfRun e (λ fault. GaveGraph
-        (S.given source.old) (S.given source.new) (S.has_ended source.new)
-        (HasNoRun name.now choices.now fault))) }
+        (S.state source.old) (S.state source.new) (HasNoRun name.now choices.now fault))) }
     ensures unwritten { IfErr result (λ e.
-        IfUnwritten e (K.taken sink.new ≡ K.taken sink.old)) }
+        IfUnwritten e ((K.state sink.new).taken ≡ (K.state sink.old).taken)) }
     ensures untouched { IfErr result (λ e. IfUnwritten e (sink.new ≡ sink.old)) }
     ensures cut_short { IfErr result (λ e. IfWriteFault e (IsCutShort
         (IsSomeTrace name.now choices.now)
-        (S.given source.old) (S.given source.new) (S.has_ended source.new)
-        (K.taken sink.old) (K.taken sink.new))) }
-    ensures stopped { IfErr result (λ e. IfWriteFault e (λ _. K.has_failed sink.new ≡ true)) }
+        (S.state source.old) (S.state source.new) (K.state sink.old) (K.state sink.new))) }
+    ensures stopped { IfErr result (λ e.
+        IfWriteFault e (λ _. (K.state sink.new).has_failed ≡ true)) }
     ensures unfinished { IfErr result (λ e. IfWriteFault e (λ written.
-        K.is_finished sink.new ≡ true → (K.is_finished sink.old ≡ true) × (written ≡ 0))) }
+        (K.state sink.new).is_finished ≡ true
+        → ((K.state sink.old).is_finished ≡ true) × (written ≡ 0))) }
 
-    ensures at_most { GaveAtMost (MAX_BYTES + 1) (S.given source.old) (S.given source.new) }
+    ensures at_most { GaveAtMost (MAX_BYTES + 1) (S.state source.old) (S.state source.new) }
 {
     let graph = read_graph(alloc, source)?;
     let trace = trace_of(alloc, &graph, name, choices)?;

@@ -32,17 +32,18 @@ impl Error for WriteFault {}
 /// `WriteFault` where the sink fails. Its count is the whole length where all was taken and the
 /// sink failed to hand it on.
 pub fn put_all<K: Sink>(sink: &mut K, bytes: &[u8]) -> Result<(), WriteFault>
-    ensures written { OnOk result (K.taken sink.new ≡ K.taken sink.old ++ bytes.now) }
-    ensures finished { OnOk result (K.is_finished sink.new ≡ true) }
-    ensures works { OnOk result (K.has_failed sink.new ≡ false) }
+    ensures written { OnOk result (
+        (K.state sink.new).taken ≡ (K.state sink.old).taken ++ bytes.now) }
+    ensures finished { OnOk result ((K.state sink.new).is_finished ≡ true) }
+    ensures works { OnOk result ((K.state sink.new).has_failed ≡ false) }
 
     ensures within { IfErr result (λ e. e.written ≤ length bytes.now) }
     ensures front { IfErr result (λ e.
-        K.taken sink.new ≡ K.taken sink.old ++ take e.written bytes.now) }
-    ensures stops { OnErr result (K.has_failed sink.new ≡ true) }
-    ensures unfinished { IfErr result (λ e. K.is_finished sink.new ≡ true
-        → (K.is_finished sink.old ≡ true) × (e.written ≡ 0)) }
-    ensures stays { K.has_failed sink.old ≡ true → IsErrAnd result (λ e. e.written ≡ 0) }
+        (K.state sink.new).taken ≡ (K.state sink.old).taken ++ take e.written bytes.now) }
+    ensures stops { OnErr result ((K.state sink.new).has_failed ≡ true) }
+    ensures unfinished { IfErr result (λ e. (K.state sink.new).is_finished ≡ true
+        → ((K.state sink.old).is_finished ≡ true) × (e.written ≡ 0)) }
+    ensures stays { (K.state sink.old).has_failed ≡ true → IsErrAnd result (λ e. e.written ≡ 0) }
 
     ensures known { MatchResult result
         (λ _. Appends (K.contents sink.old) (K.contents sink.new) bytes.now)
@@ -58,17 +59,18 @@ pub fn put_all<K: Sink>(sink: &mut K, bytes: &[u8]) -> Result<(), WriteFault>
 ///
 /// `WriteFault` where the sink fails. Its count is of the bytes of all pieces, as that of `put_all`.
 pub fn put_pieces<K: Sink>(sink: &mut K, text: &Pieces) -> Result<(), WriteFault>
-    ensures written { OnOk result (K.taken sink.new ≡ K.taken sink.old ++ text.now) }
-    ensures finished { OnOk result (K.is_finished sink.new ≡ true) }
-    ensures works { OnOk result (K.has_failed sink.new ≡ false) }
+    ensures written { OnOk result (
+        (K.state sink.new).taken ≡ (K.state sink.old).taken ++ text.now) }
+    ensures finished { OnOk result ((K.state sink.new).is_finished ≡ true) }
+    ensures works { OnOk result ((K.state sink.new).has_failed ≡ false) }
 
     ensures within { IfErr result (λ e. e.written ≤ length text.now) }
     ensures front { IfErr result (λ e.
-        K.taken sink.new ≡ K.taken sink.old ++ take e.written text.now) }
-    ensures stops { OnErr result (K.has_failed sink.new ≡ true) }
-    ensures unfinished { IfErr result (λ e. K.is_finished sink.new ≡ true
-        → (K.is_finished sink.old ≡ true) × (e.written ≡ 0)) }
-    ensures stays { K.has_failed sink.old ≡ true → IsErrAnd result (λ e. e.written ≡ 0) }
+        (K.state sink.new).taken ≡ (K.state sink.old).taken ++ take e.written text.now) }
+    ensures stops { OnErr result ((K.state sink.new).has_failed ≡ true) }
+    ensures unfinished { IfErr result (λ e. (K.state sink.new).is_finished ≡ true
+        → ((K.state sink.old).is_finished ≡ true) × (e.written ≡ 0)) }
+    ensures stays { (K.state sink.old).has_failed ≡ true → IsErrAnd result (λ e. e.written ≡ 0) }
 
     ensures known { MatchResult result
         (λ _. Appends (K.contents sink.old) (K.contents sink.new) text.now)
@@ -89,18 +91,19 @@ pub fn put_pieces<K: Sink>(sink: &mut K, text: &Pieces) -> Result<(), WriteFault
 
 /// Puts the text into the sink, and doesn't finish it.
 fn put_text<K: Sink>(sink: &mut K, bytes: &[u8]) -> Result<(), WriteFault>
-    ensures written { OnOk result (K.taken sink.new ≡ K.taken sink.old ++ bytes.now) }
-    ensures opens { OnOk result (K.is_finished sink.new ≡ true
-        → (K.is_finished sink.old ≡ true) × (length bytes.now ≡ 0)) }
+    ensures written { OnOk result (
+        (K.state sink.new).taken ≡ (K.state sink.old).taken ++ bytes.now) }
+    ensures opens { OnOk result ((K.state sink.new).is_finished ≡ true
+        → ((K.state sink.old).is_finished ≡ true) × (length bytes.now ≡ 0)) }
 
     ensures within { IfErr result (λ e. e.written ≤ length bytes.now) }
     ensures front { IfErr result (λ e.
-        K.taken sink.new ≡ K.taken sink.old ++ take e.written bytes.now) }
-    ensures stops { OnErr result (K.has_failed sink.new ≡ true) }
-    ensures unfinished { IfErr result (λ e. K.is_finished sink.new ≡ true
-        → (K.is_finished sink.old ≡ true) × (e.written ≡ 0)) }
-    ensures stays { K.has_failed sink.old ≡ true → MatchResult result
-        (λ _. (K.has_failed sink.new ≡ true) × (length bytes.now ≡ 0))
+        (K.state sink.new).taken ≡ (K.state sink.old).taken ++ take e.written bytes.now) }
+    ensures stops { OnErr result ((K.state sink.new).has_failed ≡ true) }
+    ensures unfinished { IfErr result (λ e. (K.state sink.new).is_finished ≡ true
+        → ((K.state sink.old).is_finished ≡ true) × (e.written ≡ 0)) }
+    ensures stays { (K.state sink.old).has_failed ≡ true → MatchResult result
+        (λ _. ((K.state sink.new).has_failed ≡ true) × (length bytes.now ≡ 0))
         (λ e. e.written ≡ 0) }
 
     ensures known { MatchResult result
@@ -119,15 +122,16 @@ fn put_text<K: Sink>(sink: &mut K, bytes: &[u8]) -> Result<(), WriteFault>
 
 /// Finishes the sink, which was given so many bytes.
 fn finish<K: Sink>(sink: &mut K, written: usize) -> Result<(), WriteFault>
-    ensures takes_nothing { K.taken sink.new ≡ K.taken sink.old }
+    ensures takes_nothing { (K.state sink.new).taken ≡ (K.state sink.old).taken }
     ensures known { Keeps (K.contents sink.old) (K.contents sink.new) }
 
-    ensures finishes { OnOk result (K.is_finished sink.new ≡ true) }
-    ensures keeps_finish { OnErr result (K.is_finished sink.new ≡ K.is_finished sink.old) }
+    ensures finishes { OnOk result ((K.state sink.new).is_finished ≡ true) }
+    ensures keeps_finish { OnErr result (
+        (K.state sink.new).is_finished ≡ (K.state sink.old).is_finished) }
 
-    ensures works { OnOk result (K.has_failed sink.new ≡ false) }
-    ensures stops { OnErr result (K.has_failed sink.new ≡ true) }
-    ensures stays { K.has_failed sink.old ≡ true → IsErr result }
+    ensures works { OnOk result ((K.state sink.new).has_failed ≡ false) }
+    ensures stops { OnErr result ((K.state sink.new).has_failed ≡ true) }
+    ensures stays { (K.state sink.old).has_failed ≡ true → IsErr result }
     ensures count { IfErr result (λ e. e.written ≡ written) }
 {
     sink.finish().map_err(|_| WriteFault { written })

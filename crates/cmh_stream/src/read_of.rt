@@ -15,10 +15,10 @@ pub struct ReadOf<R> {
 impl<R: Read> ReadOf<R> {
     /// A source that gives what the reader has.
     pub fn new(reader: R) -> ReadOf<R>
-        ensures given { ⟦<ReadOf<R> as Source>⟧.given result ≡ [] }
+        ensures given { (⟦<ReadOf<R> as Source>⟧.state result).given ≡ [] }
         ensures remaining { ⟦<ReadOf<R> as Source>⟧.remaining result ≡ R.remaining reader }
-        ensures going { ⟦<ReadOf<R> as Source>⟧.has_ended result ≡ false }
-        ensures works { ⟦<ReadOf<R> as Source>⟧.has_failed result ≡ false }
+        ensures going { (⟦<ReadOf<R> as Source>⟧.state result).has_ended ≡ false }
+        ensures works { (⟦<ReadOf<R> as Source>⟧.state result).has_failed ≡ false }
     {
         ReadOf {
             reader: NotedReader::new(reader),
@@ -27,11 +27,11 @@ impl<R: Read> ReadOf<R> {
 }
 
 impl<R: Read> Source for ReadOf<R> {
-    ghost given = { λ s. s.reader.tape.bytes };
-
-    ghost has_ended = { λ s. s.reader.ended };
-
-    ghost has_failed = { λ s. s.reader.failed };
+    ghost state = { λ s. record {
+      given = s.reader.tape.bytes;
+      has_ended = s.reader.ended;
+      has_failed = s.reader.failed;
+    } };
 
     ghost remaining = { λ s. if s.reader.ended then Some [] else R.remaining s.reader.reader };
 

@@ -15,10 +15,10 @@ pub struct WriteOf<W> {
 impl<W: Write> WriteOf<W> {
     /// A sink that hands all that it takes to the writer.
     pub fn new(writer: W) -> WriteOf<W>
-        ensures taken { ⟦<WriteOf<W> as Sink>⟧.taken result ≡ [] }
+        ensures taken { (⟦<WriteOf<W> as Sink>⟧.state result).taken ≡ [] }
         ensures contents { ⟦<WriteOf<W> as Sink>⟧.contents result ≡ W.contents writer }
-        ensures unfinished { ⟦<WriteOf<W> as Sink>⟧.is_finished result ≡ false }
-        ensures works { ⟦<WriteOf<W> as Sink>⟧.has_failed result ≡ false }
+        ensures unfinished { (⟦<WriteOf<W> as Sink>⟧.state result).is_finished ≡ false }
+        ensures works { (⟦<WriteOf<W> as Sink>⟧.state result).has_failed ≡ false }
     {
         WriteOf {
             writer: NotedWriter::new(writer),
@@ -27,11 +27,11 @@ impl<W: Write> WriteOf<W> {
 }
 
 impl<W: Write> Sink for WriteOf<W> {
-    ghost taken = { λ s. s.writer.tape.bytes };
-
-    ghost is_finished = { λ s. s.writer.flushed };
-
-    ghost has_failed = { λ s. s.writer.failed };
+    ghost state = { λ s. record {
+      taken = s.writer.tape.bytes;
+      is_finished = s.writer.flushed;
+      has_failed = s.writer.failed;
+    } };
 
     ghost contents = { λ s. W.contents s.writer.writer };
 

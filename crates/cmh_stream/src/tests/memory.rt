@@ -29,11 +29,11 @@ impl<'a> Bytes<'a> {
 }
 
 impl Source for Bytes<'_> {
-    ghost given = { λ s. take s.at s.bytes.now };
-
-    ghost has_ended = { λ s. s.ended };
-
-    ghost has_failed = { λ s. s.failed };
+    ghost state = { λ s. record {
+      given = take s.at s.bytes.now;
+      has_ended = s.ended;
+      has_failed = s.failed;
+    } };
 
     fn fill(&mut self, buf: &mut [u8]) -> Result<usize, Stopped> {
         let left = &self.bytes[self.at..];
@@ -78,11 +78,11 @@ impl Page {
 }
 
 impl Sink for Page {
-    ghost taken = { λ s. s.bytes.items };
-
-    ghost is_finished = { λ s. s.finished };
-
-    ghost has_failed = { λ s. s.failed };
+    ghost state = { λ s. record {
+      taken = s.bytes.items;
+      is_finished = s.finished;
+      has_failed = s.failed;
+    } };
 
     fn put(&mut self, bytes: &[u8]) -> Result<usize, Stopped> {
         let room = self.room.saturating_sub(self.bytes.len());

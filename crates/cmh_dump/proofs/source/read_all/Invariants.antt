@@ -6,9 +6,9 @@ use Rattle.cmh_dump.proofs.source.read_all.Given as goal
 -- what was given since the call is kept, and fits
 abbrev pub invariant-loop-chunk : goal.invariant-loop-chunk
 invariant-loop-chunk g l = record {
-  given : g.S.Source.given l.source ≡ g.S.Source.given l.initial.source ++ l.bytes.items;
+  given : (g.S.Source.state l.source).given ≡ (g.S.Source.state l.initial.source).given ++ l.bytes.items;
   known : Consumes (g.S.Source.remaining l.initial.source) (g.S.Source.remaining l.source) l.bytes.items;
-  works : 0 < length l.bytes.items → g.S.Source.has_failed l.source ≡ false;
+  works : 0 < length l.bytes.items → (g.S.Source.state l.source).has_failed ≡ false;
   fits : length l.bytes.items ≤ (MAX_BYTES + 1);
 }
 

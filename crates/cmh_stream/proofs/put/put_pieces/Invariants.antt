@@ -8,12 +8,12 @@ use Rattle.cmh_stream.proofs.put.put_pieces.Given as goal
 abbrev pub invariant-loop-piece : goal.invariant-loop-piece
 invariant-loop-piece g l = record {
   written : l.written ≡ length (flat_map (λ s. string_bytes s) (take l.piece-index l.pieces));
-  taken : g.K.Sink.taken l.sink ≡ g.K.Sink.taken l.initial.sink
+  taken : (g.K.Sink.state l.sink).taken ≡ (g.K.Sink.state l.initial.sink).taken
       ++ flat_map (λ s. string_bytes s) (take l.piece-index l.pieces);
   known : Appends (g.K.Sink.contents l.initial.sink) (g.K.Sink.contents l.sink)
       (flat_map (λ s. string_bytes s) (take l.piece-index l.pieces));
-  failed : g.K.Sink.has_failed l.initial.sink ≡ true
-      → (l.written ≡ 0) × (g.K.Sink.has_failed l.sink ≡ true);
-  finished : g.K.Sink.is_finished l.sink ≡ true
-      → (g.K.Sink.is_finished l.initial.sink ≡ true) × (l.written ≡ 0);
+  failed : (g.K.Sink.state l.initial.sink).has_failed ≡ true
+      → (l.written ≡ 0) × ((g.K.Sink.state l.sink).has_failed ≡ true);
+  finished : (g.K.Sink.state l.sink).is_finished ≡ true
+      → ((g.K.Sink.state l.initial.sink).is_finished ≡ true) × (l.written ≡ 0);
 }

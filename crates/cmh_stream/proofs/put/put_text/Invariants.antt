@@ -7,13 +7,13 @@ use Rattle.cmh_stream.proofs.put.put_text.Given as goal
 abbrev pub invariant-loop-written : goal.invariant-loop-written
 invariant-loop-written g l = record {
   within : l.written ≤ length l.bytes;
-  taken : g.K.Sink.taken l.sink ≡ g.K.Sink.taken l.initial.sink ++ take l.written l.bytes;
+  taken : (g.K.Sink.state l.sink).taken ≡ (g.K.Sink.state l.initial.sink).taken ++ take l.written l.bytes;
   known : Appends (g.K.Sink.contents l.initial.sink) (g.K.Sink.contents l.sink)
       (take l.written l.bytes);
-  failed : g.K.Sink.has_failed l.initial.sink ≡ true
-      → (l.written ≡ 0) × (g.K.Sink.has_failed l.sink ≡ true);
-  finished : g.K.Sink.is_finished l.sink ≡ true
-      → (g.K.Sink.is_finished l.initial.sink ≡ true) × (l.written ≡ 0);
+  failed : (g.K.Sink.state l.initial.sink).has_failed ≡ true
+      → (l.written ≡ 0) × ((g.K.Sink.state l.sink).has_failed ≡ true);
+  finished : (g.K.Sink.state l.sink).is_finished ≡ true
+      → ((g.K.Sink.state l.initial.sink).is_finished ≡ true) × (l.written ≡ 0);
 }
 
 abbrev pub decreases-loop-written : goal.decreases-loop-written
