@@ -8,15 +8,15 @@ use Rattle.cmh_rw.specs.declared.row.Row.{Row}
 use Rattle.cmh_rw.specs.declared.view.View.{View}
 use Rattle.cmh_rw.specs.History.{fold_at, EndsLast, IsPosting, IsHistory, IsTrueOf, AreTold}
 use Rattle.cmh_rw.specs.declared.machine.SeatState.TheVariants.{Writing}
-use Rattle.cmh_rw.specs.View.{AfterLoad, posted, tried, ended}
-use Rattle.cmh_board.specs.Board.{unposted, rows_of, with_posting, row_times, IsWritten, Posts}
+use Rattle.cmh_rw.specs.View.{AfterLoad, view_after_posting, view_after_try, view_after_end}
+use Rattle.cmh_board.specs.Board.{unposted_in, rows_of, with_posting, row_times, IsWritten, Posts}
 use Rattle.cmh_board.specs.Posting.{PostingValue, IsTruth}
 use Rattle.cmh_board.specs.Adding.{CanPost, IsWriter, OnlyLoads, Stages, Adds}
 use Rattle.cmh_board.proofs.PostingRows.{rows_end, rows_told, true_behind, said_behind, once_behind, history-snoc, length-rows_of}
 
 -- the rows that a posting adds to a history: those of its processes that stand in no row yet
 abbrev new_rows : PostingValue → List Row → List Row
-new_rows t rows = rows_of t.verdict (unposted rows t.processes)
+new_rows t rows = rows_of t.verdict (unposted_in rows t.processes)
 
 -- a seat that has seen the new rows behind the history has added them
 adds_from : (t : PostingValue) (v a w : View) (found : ℕ) → CanPost v.lock.graph t.verdict t.processes
@@ -45,9 +45,9 @@ adds_from t v a w found can h seen mine lock staged loads history =
 -- where no process of the posting is new, the seat has added it, with no rows
 pub adds_none : (t : PostingValue) (v a b : View) (found : ℕ) → IsWriter v → CanPost v.lock.graph t.verdict t.processes
     → AfterLoad v 1 found a
-    → OnlyLoads a b → length (unposted a.seen t.processes) ≡ 0 → Adds t v b
+    → OnlyLoads a b → length (unposted_in a.seen t.processes) ≡ 0 → Adds t v b
 adds_none t v a b found writer can h loads few =
-    let none : new_rows t a.seen ≡ [] = ap (rows_of t.verdict) (nil_from_length (unposted a.seen t.processes) few) in
+    let none : new_rows t a.seen ≡ [] = ap (rows_of t.verdict) (nil_from_length (unposted_in a.seen t.processes) few) in
     let seen : b.seen ≡ a.seen ++ new_rows t a.seen =
     loads.seen ∙ sym (append-nil a.seen) ∙ ap (λ l. a.seen ++ l) (sym none) in
     adds_from t v a b found can h seen
@@ -66,8 +66,8 @@ some_posting mine d (p ∷ ps) l = refl
 -- where new rows were staged and counted, the seat has added the posting
 pub adds_rows : (t : PostingValue) (v a b s w : View) (found : ℕ) → CanPost v.lock.graph t.verdict t.processes
     → AfterLoad v 1 found a
-    → OnlyLoads a b → Stages t.verdict t.processes b s → w ≡ posted s → IsPosting s.staged
-    → 0 < length (unposted a.seen t.processes)
+    → OnlyLoads a b → Stages t.verdict t.processes b s → w ≡ view_after_posting s → IsPosting s.staged
+    → 0 < length (unposted_in a.seen t.processes)
     → Adds t v w
 adds_rows t v a b s w found can h loads st e posting some =
     let rows = new_rows t a.seen in
@@ -78,16 +78,16 @@ adds_rows t v a b s w found can h loads st e posting some =
     adds_from t v a w found can h seen
     (ap (λ (u : View). u.mine) e
     ∙ ap (λ l. l ++ s.staged ∷ []) (st.mine ∙ loads.mine ∙ ap (λ (u : View). u.mine) h.view)
-    ∙ ap (λ r. v.mine ++ r ∷ []) staged ∙ sym (some_posting v.mine t.verdict (unposted a.seen t.processes) some))
+    ∙ ap (λ r. v.mine ++ r ∷ []) staged ∙ sym (some_posting v.mine t.verdict (unposted_in a.seen t.processes) some))
     (ap (λ (u : View). u.lock) e ∙ st.lock ∙ loads.lock ∙ ap (λ (u : View). u.lock) h.view)
     (ap (λ (u : View). u.staged) e)
     (let x = ap (λ (u : View). u.loads) e in let y = st.loads in let z = loads.loads in omega arith)
     (subst IsHistory (sym seen) (history-snoc a.seen rows h.whole (subst IsPosting staged posting)))
 
 -- where some process is new, what is staged for a posting ends with a last row
-pub staged_ends : (d : Verdict) (ps : List ℕ) (v s : View) → Stages d ps v s → 0 < length (unposted v.seen ps)
+pub staged_ends : (d : Verdict) (ps : List ℕ) (v s : View) → Stages d ps v s → 0 < length (unposted_in v.seen ps)
     → EndsLast s.staged
-staged_ends d ps v s st some = subst EndsLast (sym st.staged) (ends_some (unposted v.seen ps) some)
+staged_ends d ps v s st some = subst EndsLast (sym st.staged) (ends_some (unposted_in v.seen ps) some)
   where
     ends_some : (qs : List ℕ) → 0 < length qs → EndsLast (rows_of d qs)
     ends_some [] l = absurd (omega arith)
@@ -97,14 +97,14 @@ staged_ends d ps v s st some = subst EndsLast (sym st.staged) (ends_some (unpost
 pub staged_told : (d : Verdict) (ps : List ℕ) (v s : View) → Stages d ps v s → AreTold s.staged s.told
 staged_told d ps v s st =
     subst (λ x. AreTold x s.told) (sym st.staged)
-    (subst (λ y. AreTold (rows_of d (unposted v.seen ps)) y) (sym st.told) (rows_told d (unposted v.seen ps)))
+    (subst (λ y. AreTold (rows_of d (unposted_in v.seen ps)) y) (sym st.told) (rows_told d (unposted_in v.seen ps)))
 
 -- the rows seen before and the new ones are together as many as are seen and staged afterwards
 pub staged_number : (d : Verdict) (ps : List ℕ) (v s : View) (count new : ℕ) → Stages d ps v s → count ≡ length v.seen
-    → new ≡ length (unposted v.seen ps) → count + new ≡ length s.seen + length s.staged
+    → new ≡ length (unposted_in v.seen ps) → count + new ≡ length s.seen + length s.staged
 staged_number d ps v s count new st c n =
     let x = ap length st.seen in
-    let y = ap length st.staged ∙ length-rows_of d (unposted v.seen ps) in
+    let y = ap length st.staged ∙ length-rows_of d (unposted_in v.seen ps) in
     omega arith
 
 -- what is told truly may be posted
@@ -116,7 +116,8 @@ can_post g t within truth = record {
 }
 
 -- a seat that took the lock, added a posting and let the lock go has posted it
-pub posts_from : (t : PostingValue) (v u a w : View) → u ≡ tried v Writing 0 → Adds t u a → w ≡ ended a
+pub posts_from : (t : PostingValue) (v u a w : View) → u ≡ view_after_try v Writing 0 → Adds t u a → w
+    ≡ view_after_end a
     → IsWritten v w × Posts t v w
 posts_from t v u a w took adds ended =
     let added = adds.added in
@@ -132,7 +133,7 @@ posts_from t v u a w took adds ended =
         added = record {
           between = added.between;
           rows = added.rows;
-          new = added.new ∙ ap (λ l. rows_of t.verdict (unposted (l ++ added.between) t.processes)) before;
+          new = added.new ∙ ap (λ l. rows_of t.verdict (unposted_in (l ++ added.between) t.processes)) before;
           seen = seen ∙ added.seen ∙ ap (λ l. (l ++ added.between) ++ added.rows) before;
           mine = ap (λ (x : View). x.mine) ended ∙ added.mine
               ∙ ap (λ (x : View). with_posting x.mine added.rows) took;

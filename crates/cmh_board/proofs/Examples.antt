@@ -6,7 +6,7 @@ use Rattle.cmh_run.specs.declared.delivery.Ending.TheVariants.{Declared, AtRest,
 use Rattle.cmh_rw.specs.declared.row.Row.{Row}
 use Rattle.cmh_rw.specs.History.{fold_at, row_code}
 use Rattle.cmh_rw.specs.View.{row}
-use Rattle.cmh_board.specs.Board.{unposted, rows_of, with_posting, row_times}
+use Rattle.cmh_board.specs.Board.{unposted_in, rows_of, with_posting, row_times}
 use Rattle.cmh_board.specs.Posting.{PostingValue, posting_of}
 use Rattle.cmh_board.specs.Snap.{verdict_at}
 
@@ -21,14 +21,14 @@ stored_as : map row_code p_and_q ≡ 0 ∷ 6 ∷ []
 stored_as = refl
 
 -- where p and q stand in rows, a posting of r, p and q adds the row of r alone
-added_alone : rows_of Deadlocked (unposted p_and_q (2 ∷ 0 ∷ 1 ∷ [])) ≡ row 2 Deadlocked true ∷ []
+added_alone : rows_of Deadlocked (unposted_in p_and_q (2 ∷ 0 ∷ 1 ∷ [])) ≡ row 2 Deadlocked true ∷ []
 added_alone = refl
 
 added_stored_as : map row_code (row 2 Deadlocked true ∷ []) ≡ 10 ∷ []
 added_stored_as = refl
 
 -- where p and q stand in rows, a posting of both adds no rows
-added_again : rows_of Deadlocked (unposted p_and_q (0 ∷ 1 ∷ [])) ≡ []
+added_again : rows_of Deadlocked (unposted_in p_and_q (0 ∷ 1 ∷ [])) ≡ []
 added_again = refl
 
 own_postings : with_posting (p_and_q ∷ []) (row 2 Deadlocked true ∷ []) ≡ p_and_q ∷ (row 2 Deadlocked true ∷ []) ∷ []

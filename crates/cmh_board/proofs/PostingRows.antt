@@ -12,10 +12,10 @@ use Rattle.cmh_run.proofs.Configurations.{by_test}
 use Rattle.cmh_rw.specs.declared.row.Row.{Row}
 use Rattle.cmh_rw.specs.History.{fold_at, IsOpen, EndsLast, IsPosting, IsHistory, IsTrueOf, AreTold}
 use Rattle.cmh_rw.specs.View.{row, mark}
-use Rattle.cmh_board.specs.Board.{is_empty, rows_of, unposted, row_times}
+use Rattle.cmh_board.specs.Board.{is_empty, rows_of, unposted_in, row_times}
 use Rattle.cmh_board.specs.Adding.{marks, CanPost}
 use Rattle.cmh_rw.proofs.Folds.{fold-skip, true-snoc}
-use Rattle.cmh_rw.proofs.Postings.{laid-snoc, whole-snoc}
+use Rattle.cmh_rw.proofs.Postings.{rows_in-snoc, whole-snoc}
 use Rattle.cmh_board.proofs.Histories.{present-append, verdict_in, times-present}
 use Rattle.cmh_board.proofs.Lists.{first_once, distinct-filter}
 use Rattle.cmh_graph.proofs.Verdicts.{contains_filter, filter_contains}
@@ -154,7 +154,7 @@ none_is (Some u) e = absurd (cc)
 
 -- a process that may be posted, and has no row, is fresh
 fresh_in : (g : Graph) (v : Verdict) (ps : List ℕ) (xs : List Row) → CanPost g v ps
-    → (p : ℕ) → Contains (unposted xs ps) p → Fresh g v xs p
+    → (p : ℕ) → Contains (unposted_in xs ps) p → Fresh g v xs p
 fresh_in g v ps xs can p c =
     let f : ℕ → Bool = λ q. is_none (fold_at xs q) in
     let kept = filter_contains f ps p c in record {
@@ -165,31 +165,31 @@ fresh_in g v ps xs can p c =
 
 -- the new rows of a posting behind a true history leave it true
 pub true_behind : (g : Graph) (v : Verdict) (ps : List ℕ) (xs : List Row) → IsTrueOf g xs
-    → CanPost g v ps → IsTrueOf g (xs ++ rows_of v (unposted xs ps))
+    → CanPost g v ps → IsTrueOf g (xs ++ rows_of v (unposted_in xs ps))
 true_behind g v ps xs t can =
     let f : ℕ → Bool = λ q. is_none (fold_at xs q) in
-    true-rows g v (unposted xs ps) xs t (fresh_in g v ps xs can)
+    true-rows g v (unposted_in xs ps) xs t (fresh_in g v ps xs can)
     (distinct-filter f ps can.once)
 
 -- with the new rows of a posting behind a true history, each process of the posting has its verdict
 pub said_behind : (g : Graph) (v : Verdict) (ps : List ℕ) (xs : List Row) → IsTrueOf g xs
     → CanPost g v ps → (p : ℕ) → Contains ps p
-    → fold_at (xs ++ rows_of v (unposted xs ps)) p ≡ Some v
+    → fold_at (xs ++ rows_of v (unposted_in xs ps)) p ≡ Some v
 said_behind g v ps xs t can p c =
     let f : ℕ → Bool = λ q. is_none (fold_at xs q) in
-    let rows = rows_of v (unposted xs ps) in
+    let rows = rows_of v (unposted_in xs ps) in
     by_test (f p) (λ b. fold_at (xs ++ rows) p ≡ Some v)
     (λ yes. fold-skip xs rows p (none_is (fold_at xs p) yes)
-    ∙ rows_of-said v (unposted xs ps) p (contains_filter f ps p c yes))
+    ∙ rows_of-said v (unposted_in xs ps) p (contains_filter f ps p c yes))
     (λ no. present-append xs rows p v
     (agrees g xs p v t (can.truth p c) (fold_at xs p) refl no))
 
 -- with the new rows of a posting behind a true history, each process of the posting stands once
 pub once_behind : (g : Graph) (v : Verdict) (ps : List ℕ) (xs : List Row) → IsTrueOf g xs
     → CanPost g v ps → (p : ℕ) → Contains ps p
-    → row_times p (xs ++ rows_of v (unposted xs ps)) ≡ 1
+    → row_times p (xs ++ rows_of v (unposted_in xs ps)) ≡ 1
 once_behind g v ps xs t can p c =
-    times-present g (xs ++ rows_of v (unposted xs ps)) p v (true_behind g v ps xs t can)
+    times-present g (xs ++ rows_of v (unposted_in xs ps)) p v (true_behind g v ps xs t can)
     (said_behind g v ps xs t can p c)
 
 -- ---- whole postings
@@ -198,6 +198,6 @@ once_behind g v ps xs t can p c =
 pub history-snoc : (xs rows : List Row) → IsHistory xs → IsPosting rows → IsHistory (xs ++ rows)
 history-snoc xs rows h posting = (
   h.0 ++ rows ∷ [],
-  ap (λ l. l ++ rows) h.1 ∙ sym (laid-snoc h.0 rows),
+  ap (λ l. l ++ rows) h.1 ∙ sym (rows_in-snoc h.0 rows),
   whole-snoc h.0 rows h.2 posting,
 )

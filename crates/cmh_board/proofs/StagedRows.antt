@@ -16,7 +16,7 @@ use Rattle.cmh_rw.specs.declared.view.View.{View}
 use Rattle.cmh_rw.specs.History.{fold_at, verdict_code, IsOpen}
 use Rattle.cmh_rw.specs.View.{row, mark, AfterLoad, CanStage, with_row, with_told}
 use Rattle.cmh_rw.proofs.Folds.{fold-skip, fold-keeps}
-use Rattle.cmh_board.specs.Board.{is_empty, unposted}
+use Rattle.cmh_board.specs.Board.{is_empty, unposted_in}
 use Rattle.cmh_board.specs.Adding.{CanPost, OnlyLoads, marks}
 use Rattle.cmh_board.proofs.PostingRows.{rows_so_far, absent-marks, marks-said, open-marks, rows_so_far-more, marks-more, none_is}
 use Rattle.cmh_graph.proofs.Verdicts.{filter_contains}
@@ -52,11 +52,11 @@ absent-behind xs ys p none = ⊎_elim
 
 -- those of the first i processes that stand in no row
 abbrev pub done : List Row → List ℕ → ℕ → List ℕ
-done rows ps i = unposted rows (take i ps)
+done rows ps i = unposted_in rows (take i ps)
 
 -- those of the processes from place i on that stand in no row
 abbrev pub to_come : List Row → List ℕ → ℕ → List ℕ
-to_come rows ps i = unposted rows (drop i ps)
+to_come rows ps i = unposted_in rows (drop i ps)
 
 -- whether a process stands in no row
 abbrev is_new : List Row → ℕ → Bool
@@ -92,7 +92,7 @@ to_come-old : (rows : List Row) (ps : List ℕ) (i : ℕ) → i < length ps → 
 to_come-old rows ps i l e = to_come-more rows ps i false l e
 
 -- the processes that stand in no row are those that are done and those that are to come
-whole : (rows : List Row) (ps : List ℕ) (i : ℕ) → unposted rows ps ≡ done rows ps i ++ to_come rows ps i
+whole : (rows : List Row) (ps : List ℕ) (i : ℕ) → unposted_in rows ps ≡ done rows ps i ++ to_come rows ps i
 whole rows ps i =
     ap (filter (is_new rows)) (sym (take-append-drop i ps)) ∙ filter-append (is_new rows) (take i ps) (drop i ps)
 
@@ -188,7 +188,7 @@ last_is (p ∷ rest) n end e = ne_eqb (n + 1) end (λ same. absurd (omega arith)
 
 pub is_last : (v : View) (d : Verdict) (ps : List ℕ) (i : ℕ) (w : View) (n end : ℕ) → Staging v d ps i w n
     → i < length ps
-    → is_new v.seen (get_or ps i 0) ≡ true → end ≡ length v.seen + length (unposted v.seen ps)
+    → is_new v.seen (get_or ps i 0) ≡ true → end ≡ length v.seen + length (unposted_in v.seen ps)
     → eqb (n + 1) end ≡ is_empty (to_come v.seen ps (i + 1))
 is_last v d ps i w n end s l new e =
     let p = get_or ps i 0 in
@@ -200,7 +200,7 @@ is_last v d ps i w n end s l new e =
 -- the next row has a number below the end
 pub below_end : (v : View) (d : Verdict) (ps : List ℕ) (i : ℕ) (w : View) (n end : ℕ) → Staging v d ps i w n
     → i < length ps
-    → is_new v.seen (get_or ps i 0) ≡ true → end ≡ length v.seen + length (unposted v.seen ps) → n + 1 ≤ end
+    → is_new v.seen (get_or ps i 0) ≡ true → end ≡ length v.seen + length (unposted_in v.seen ps) → n + 1 ≤ end
 below_end v d ps i w n end s l new e =
     let p = get_or ps i 0 in
     let all = ap length (whole v.seen ps i ∙ ap (λ q. done v.seen ps i ++ q) (to_come-new v.seen ps i l new))

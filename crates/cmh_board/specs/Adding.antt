@@ -10,7 +10,7 @@ use Rattle.cmh_rw.specs.declared.row.Row.{Row}
 use Rattle.cmh_rw.specs.declared.view.View.{View}
 use Rattle.cmh_rw.specs.History.{IsHistory, IsTrueOf}
 use Rattle.cmh_rw.specs.View.{mark}
-use Rattle.cmh_board.specs.Board.{unposted, rows_of, AddsPosting}
+use Rattle.cmh_board.specs.Board.{unposted_in, rows_of, AddsPosting}
 use Rattle.cmh_board.specs.Posting.{PostingValue}
 
 -- each of the processes is idle
@@ -48,8 +48,8 @@ marks v processes = map (λ p. mark p v) processes
 pub record Stages (v : Verdict) (processes : List ℕ) (old new : View) : Type 0 where
   pub lock : new.lock ≡ old.lock
   pub seen : new.seen ≡ old.seen
-  pub staged : new.staged ≡ rows_of v (unposted old.seen processes)
-  pub told : new.told ≡ marks v (unposted old.seen processes)
+  pub staged : new.staged ≡ rows_of v (unposted_in old.seen processes)
+  pub told : new.told ≡ marks v (unposted_in old.seen processes)
   pub mine : new.mine ≡ old.mine
   pub loads : old.loads ≤ new.loads
 

@@ -9,7 +9,7 @@ use Rattle.cmh_rw.specs.declared.row.Row.{Row}
 use Rattle.cmh_rw.specs.declared.view.View.{View}
 use Rattle.cmh_rw.specs.declared.words.Entry.{Entry}
 use Rattle.cmh_rw.specs.declared.words.Entry.TheVariants as entry
-use Rattle.cmh_rw.specs.History.{fold_at, laid, IsHistory, ArePostings, IsTrueOf, StartsWith}
+use Rattle.cmh_rw.specs.History.{fold_at, rows_in, IsHistory, ArePostings, IsTrueOf, StartsWith}
 use Rattle.cmh_rw.specs.Machine.{total}
 use Rattle.cmh_rw.specs.View.{row}
 use Rattle.cmh_rw.specs.Seats as words
@@ -24,8 +24,8 @@ use Rattle.cmh_board.specs.declared.fault.BoardFault.TheVariants as fault
 use Rattle.cmh_board.specs.Posting.{PostingValue}
 
 -- what the seat knows
-abbrev pub known : BoardSeat → View
-known s = words.view s.seat
+abbrev pub board_view : BoardSeat → View
+board_view s = words.rw_view s.seat
 
 -- the graph whose verdicts the board holds
 abbrev pub board_graph : Board → Graph
@@ -35,17 +35,17 @@ board_graph b = words.words_graph b.words
 -- is true for the graph.
 pub record SitsAt (b : Board) (s : BoardSeat) : Type 0 where
   pub own : words.IsSeatOf b.words s.seat
-  pub graph : (known s).lock.graph ≡ board_graph b
-  pub whole : IsHistory (known s).seen
-  pub true_of : IsTrueOf (board_graph b) (known s).seen
+  pub graph : (board_view s).lock.graph ≡ board_graph b
+  pub whole : IsHistory (board_view s).seen
+  pub true_of : IsTrueOf (board_graph b) (board_view s).seen
 
 -- the seat holds nothing
 abbrev pub IsAway : BoardSeat → Type 0
-IsAway s = (known s).lock.state ≡ Away
+IsAway s = (board_view s).lock.state ≡ Away
 
 -- the seat holds the board for reading
 abbrev pub IsHolding : BoardSeat → Type 0
-IsHolding s = (known s).lock.state ≡ Reading
+IsHolding s = (board_view s).lock.state ≡ Reading
 
 -- The seat may have seen more. Its graph, its share and the postings that it added are the same.
 pub record SeesMore (v w : View) : Type 0 where
@@ -106,8 +106,8 @@ pub record IsReadOnce (v w : View) : Type 0 where
   pub read : IsRead v w
 
 -- those of the processes that stand in no row, in order
-abbrev pub unposted : List Row → List ℕ → List ℕ
-unposted rows processes = filter (λ p. is_none (fold_at rows p)) processes
+abbrev pub unposted_in : List Row → List ℕ → List ℕ
+unposted_in rows processes = filter (λ p. is_none (fold_at rows p)) processes
 
 -- the list has no process
 abbrev pub is_empty : List ℕ → Bool
@@ -133,7 +133,7 @@ row_times p rows = count_by (λ r. r.process == p) rows
 pub record AddsPosting (t : PostingValue) (v w : View) : Type 0 where
   pub between : List Row
   pub rows : List Row
-  pub new : rows ≡ rows_of t.verdict (unposted (v.seen ++ between) t.processes)
+  pub new : rows ≡ rows_of t.verdict (unposted_in (v.seen ++ between) t.processes)
   pub seen : w.seen ≡ (v.seen ++ between) ++ rows
   pub mine : w.mine ≡ with_posting v.mine rows
   pub once : (p : ℕ) → Contains t.processes p → row_times p w.seen ≡ 1
@@ -167,7 +167,7 @@ AnswersPost t v w (post.Busy n) = IsBlocked n v w
 -- the rows are whole postings, which are just these, however they weigh
 pub record IsMadeOf (mine : List (List Row)) (rows : List Row) : Type 0 where
   pub postings : List (List Row)
-  pub is_laid : rows ≡ laid postings
+  pub is_laid : rows ≡ rows_in postings
   pub whole : ArePostings postings
   pub weights : (h : List Row → ℕ) → total h mine ≡ total h postings
   pub same : (posting : List Row) → Contains postings posting ↔ Contains mine posting

@@ -3,7 +3,7 @@
 use Rattle.std.proofs.Common.{[], ◌++◌, refl, sym, ap, ◌∙◌, append-nil, append_assoc}
 use Rattle.cmh_rw.specs.declared.view.View.{View}
 use Rattle.cmh_board.specs.declared.hints.BoardHints.{BoardHints}
-use Rattle.cmh_board.specs.Board.{known, SeesMore}
+use Rattle.cmh_board.specs.Board.{board_view, SeesMore}
 use Rattle.cmh_board.specs.Hints.{Keeps}
 
 -- where nothing has changed, a seat has seen all that it had seen
@@ -32,7 +32,7 @@ pub keeps_itself : (h : BoardHints) → Keeps h h
 keeps_itself h = record {
   board = refl;
   seat = refl;
-  sees = sees_itself (known h.seat.now);
+  sees = sees_itself (board_view h.seat.now);
   state = refl;
   speaks = λ g. (λ s. s, λ s. s);
 }
@@ -42,7 +42,7 @@ pub keeps_on : (a b c : BoardHints) → Keeps a b → Keeps b c → Keeps a c
 keeps_on a b c x y = record {
   board = x.board ∙ y.board;
   seat = x.seat ∙ y.seat;
-  sees = sees_on (known a.seat.now) (known b.seat.now) (known c.seat.now) x.sees y.sees;
+  sees = sees_on (board_view a.seat.now) (board_view b.seat.now) (board_view c.seat.now) x.sees y.sees;
   state = x.state ∙ y.state;
   speaks = λ g. (λ s. (y.speaks g).0 ((x.speaks g).0 s), λ s. (x.speaks g).1 ((y.speaks g).1 s));
 }

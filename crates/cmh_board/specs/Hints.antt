@@ -6,7 +6,7 @@ use Rattle.cmh_graph.specs.declared.verdict.Verdict.{Verdict}
 use Rattle.cmh_rw.specs.declared.TheConstants.{WRITER}
 use Rattle.cmh_rw.specs.declared.view.View.{View}
 use Rattle.cmh_rw.specs.History.{fold_at}
-use Rattle.cmh_board.specs.Board.{known, board_graph, SitsAt, IsAway, SeesMore}
+use Rattle.cmh_board.specs.Board.{board_view, board_graph, SitsAt, IsAway, SeesMore}
 
 -- the hints speak of the board's graph, with a seat of the board that holds nothing
 pub record SpeaksOf (h : BoardHints) (g : Graph) : Type 0 where
@@ -18,8 +18,8 @@ pub record SpeaksOf (h : BoardHints) (g : Graph) : Type 0 where
 pub record Keeps (a b : BoardHints) : Type 0 where
   pub board : a.board.now ≡ b.board.now
   pub seat : a.seat.ghost_name ≡ b.seat.ghost_name
-  pub sees : SeesMore (known a.seat.now) (known b.seat.now)
-  pub state : (known a.seat.now).lock.state ≡ (known b.seat.now).lock.state
+  pub sees : SeesMore (board_view a.seat.now) (board_view b.seat.now)
+  pub state : (board_view a.seat.now).lock.state ≡ (board_view b.seat.now).lock.state
   pub speaks : (g : Graph) → SpeaksOf a g ↔ SpeaksOf b g
 
 -- the hint about p is what is known of it, where no writer was found, and else nothing

@@ -57,8 +57,8 @@ impl Board {
     ghost use Rattle.cmh_graph.specs.Graph.{process_count};
     ghost use Rattle.cmh_rw.specs.declared.TheConstants.{MAX_SEATS};
     ghost use Rattle.cmh_rw.specs.History.{StartsWith, fold_at, IsHistory, IsTrueOf};
-    ghost use Rattle.cmh_rw.specs.View.{opening_view, less_one, newcomer, joined, ended};
-    ghost use Rattle.cmh_board.specs.Board.{known, board_graph, SitsAt, IsAway, IsHolding, SeesMore, TriesOnce, AnswersLook, IsTrueLook, AnswersHold, ReadsHistory, AnswersPost, Posts, IsReadOnce, ExplainsReadFault, IsMadeOf};
+    ghost use Rattle.cmh_rw.specs.View.{opening_view, view_less_one, newcomer_view, joined_view, view_after_end};
+    ghost use Rattle.cmh_board.specs.Board.{board_view, board_graph, SitsAt, IsAway, IsHolding, SeesMore, TriesOnce, AnswersLook, IsTrueLook, AnswersHold, ReadsHistory, AnswersPost, Posts, IsReadOnce, ExplainsReadFault, IsMadeOf};
     ghost use Rattle.cmh_graph.specs.Verdict.{IsVerdict};
     ghost use Rattle.cmh_board.specs.Posting.{IsTruth};
     ghost use Rattle.cmh_board.specs.Snap.{Shows, IsTrueSnap};
@@ -67,7 +67,7 @@ impl Board {
     pub fn open(alloc: Global, graph: &WaitGraph) -> Result<(Board, BoardSeat), BoardFault>
         ensures sits { IfOk result (λ r. SitsAt r.0 r.1 × IsAway r.1) }
         ensures graph { IfOk result (λ r. board_graph r.0 ≡ graph.now) }
-        ensures view { IfOk result (λ r. known r.1 ≡ opening_view graph.now) }
+        ensures view { IfOk result (λ r. board_view r.1 ≡ opening_view graph.now) }
         ensures memory { IfErr result (λ e. e ≡ BoardFault.Memory) }
     {
         let processes = graph.len();
@@ -82,11 +82,11 @@ impl Board {
         requires away { IsAway seat.old }
         ensures sits { SitsAt self.now seat.new × IsAway seat.new }
         ensures new { IfSome result (λ s. SitsAt self.now s × IsAway s) }
-        ensures some { IfSome result (λ s. (1 < (known seat.old).lock.share)
-            × (known s ≡ newcomer (known seat.old))
-            × (known seat.new ≡ less_one (known seat.old))) }
-        ensures none { IfNone result (((known seat.old).lock.share ≡ 1)
-            × (known seat.new ≡ known seat.old)) }
+        ensures some { IfSome result (λ s. (1 < (board_view seat.old).lock.share)
+            × (board_view s ≡ newcomer_view (board_view seat.old))
+            × (board_view seat.new ≡ view_less_one (board_view seat.old))) }
+        ensures none { IfNone result (((board_view seat.old).lock.share ≡ 1)
+            × (board_view seat.new ≡ board_view seat.old)) }
     {
         let seat = self.words.split(&mut seat.seat)?;
         Some(BoardSeat { seat })
@@ -98,10 +98,10 @@ impl Board {
         requires sits { SitsAt self.now seat.old × SitsAt self.now other }
         requires away { IsAway seat.old × IsAway other }
         ensures sits { SitsAt self.now seat.new × IsAway seat.new }
-        ensures joined { known seat.new ≡ joined (known seat.old) (known other) }
-        ensures begins { StartsWith (known seat.new).seen (known seat.old).seen
-            × StartsWith (known seat.new).seen (known other).seen }
-        ensures few { (known seat.new).lock.share ≤ MAX_SEATS }
+        ensures joined { board_view seat.new ≡ joined_view (board_view seat.old) (board_view other) }
+        ensures begins { StartsWith (board_view seat.new).seen (board_view seat.old).seen
+            × StartsWith (board_view seat.new).seen (board_view other).seen }
+        ensures few { (board_view seat.new).lock.share ≤ MAX_SEATS }
     {
         let BoardSeat { seat: other } = other;
         self.words.join(&mut seat.seat, other);
@@ -113,9 +113,9 @@ impl Board {
         requires away { IsAway seat.old }
         requires process { p < process_count (board_graph self.now) }
         ensures sits { SitsAt self.now seat.new × IsAway seat.new }
-        ensures sees { SeesMore (known seat.old) (known seat.new) }
-        ensures tried { TriesOnce (known seat.old) (known seat.new) }
-        ensures answer { AnswersLook p (known seat.old) (known seat.new) result }
+        ensures sees { SeesMore (board_view seat.old) (board_view seat.new) }
+        ensures tried { TriesOnce (board_view seat.old) (board_view seat.new) }
+        ensures answer { AnswersLook p (board_view seat.old) (board_view seat.new) result }
         ensures true_verdict { IsTrueLook (board_graph self.now) p result }
     {
         if let Entry::Busy(found) = self.hold(seat) {
@@ -135,10 +135,10 @@ impl Board {
         requires sits { SitsAt self.now seat.old }
         requires away { IsAway seat.old }
         ensures sits { SitsAt self.now seat.new }
-        ensures sees { SeesMore (known seat.old) (known seat.new) }
-        ensures tried { TriesOnce (known seat.old) (known seat.new) }
-        ensures loads { (known seat.new).loads ≡ (known seat.old).loads }
-        ensures answer { AnswersHold (known seat.old) (known seat.new) result }
+        ensures sees { SeesMore (board_view seat.old) (board_view seat.new) }
+        ensures tried { TriesOnce (board_view seat.old) (board_view seat.new) }
+        ensures loads { (board_view seat.new).loads ≡ (board_view seat.old).loads }
+        ensures answer { AnswersHold (board_view seat.old) (board_view seat.new) result }
     {
         self.words.try_read(&mut seat.seat)
     }
@@ -149,9 +149,9 @@ impl Board {
         requires holding { IsHolding seat.old }
         requires process { p < process_count (board_graph self.now) }
         ensures sits { SitsAt self.now seat.new }
-        ensures sees { SeesMore (known seat.old) (known seat.new) }
-        ensures reads { ReadsHistory (known seat.old) (known seat.new) }
-        ensures answer { result ≡ fold_at (known seat.new).seen p }
+        ensures sees { SeesMore (board_view seat.old) (board_view seat.new) }
+        ensures reads { ReadsHistory (board_view seat.old) (board_view seat.new) }
+        ensures answer { result ≡ fold_at (board_view seat.new).seen p }
         ensures true_verdict { IfSome result (λ v. IsVerdict (board_graph self.now) p v) }
     {
         let code = self.words.load(&mut seat.seat, FIRST_VERDICT + p as usize);
@@ -163,7 +163,7 @@ impl Board {
         requires sits { SitsAt self.now seat.old }
         requires holding { IsHolding seat.old }
         ensures sits { SitsAt self.now seat.new × IsAway seat.new }
-        ensures ended { known seat.new ≡ ended (known seat.old) }
+        ensures ended { board_view seat.new ≡ view_after_end (board_view seat.old) }
     {
         self.words.end_read(&mut seat.seat);
     }
@@ -175,8 +175,8 @@ impl Board {
         requires away { IsAway seat.old }
         requires truth { IsTruth (board_graph self.now) posting.now }
         ensures sits { SitsAt self.now seat.new × IsAway seat.new }
-        ensures tried { TriesOnce (known seat.old) (known seat.new) }
-        ensures answer { AnswersPost posting.now (known seat.old) (known seat.new) result }
+        ensures tried { TriesOnce (board_view seat.old) (board_view seat.new) }
+        ensures answer { AnswersPost posting.now (board_view seat.old) (board_view seat.new) result }
     {
         match self.words.try_write(&mut seat.seat) {
             Entry::Busy(found) => Post::Busy(found),
@@ -196,9 +196,9 @@ impl Board {
         requires away { IsAway seat.old }
         requires truth { IsTruth (board_graph self.now) posting.now }
         ensures sits { SitsAt self.now seat.new × IsAway seat.new }
-        ensures tried { (known seat.old).lock.tries < (known seat.new).lock.tries }
-        ensures found { (known seat.new).lock.found ≡ 0 }
-        ensures posts { Posts posting.now (known seat.old) (known seat.new) }
+        ensures tried { (board_view seat.old).lock.tries < (board_view seat.new).lock.tries }
+        ensures found { (board_view seat.new).lock.found ≡ 0 }
+        ensures posts { Posts posting.now (board_view seat.old) (board_view seat.new) }
     {
         for _ in rt.forever() {
             if let Post::Done = self.try_post(seat, posting) {
@@ -214,11 +214,11 @@ impl Board {
         requires sits { SitsAt self.now seat.old }
         requires away { IsAway seat.old }
         ensures sits { SitsAt self.now seat.new × IsAway seat.new }
-        ensures sees { SeesMore (known seat.old) (known seat.new) }
-        ensures read { IfOk result (λ snap. IsReadOnce (known seat.old) (known seat.new)) }
-        ensures shows { IfOk result (λ snap. Shows snap (known seat.new).seen) }
+        ensures sees { SeesMore (board_view seat.old) (board_view seat.new) }
+        ensures read { IfOk result (λ snap. IsReadOnce (board_view seat.old) (board_view seat.new)) }
+        ensures shows { IfOk result (λ snap. Shows snap (board_view seat.new).seen) }
         ensures true_verdicts { IfOk result (λ snap. IsTrueSnap (board_graph self.now) snap) }
-        ensures fault { IfErr result (ExplainsReadFault (known seat.old) (known seat.new)) }
+        ensures fault { IfErr result (ExplainsReadFault (board_view seat.old) (board_view seat.new)) }
     {
         let mut verdicts = Vec::with_capacity(alloc, self.processes as usize)?;
         if let Entry::Busy(found) = self.hold(seat) {
@@ -234,10 +234,10 @@ impl Board {
         requires sits { SitsAt self.now seat.old }
         requires away { IsAway seat.old }
         ensures sits { SitsAt self.now seat.new × IsAway seat.new }
-        ensures sees { SeesMore (known seat.old) (known seat.new) }
-        ensures read { IfOk result (λ rows. IsReadOnce (known seat.old) (known seat.new)) }
-        ensures whole { IfOk result (λ rows. rows.items ≡ (known seat.new).seen) }
-        ensures fault { IfErr result (ExplainsReadFault (known seat.old) (known seat.new)) }
+        ensures sees { SeesMore (board_view seat.old) (board_view seat.new) }
+        ensures read { IfOk result (λ rows. IsReadOnce (board_view seat.old) (board_view seat.new)) }
+        ensures whole { IfOk result (λ rows. rows.items ≡ (board_view seat.new).seen) }
+        ensures fault { IfErr result (ExplainsReadFault (board_view seat.old) (board_view seat.new)) }
     {
         let mut rows = Vec::with_capacity(alloc, self.processes as usize)?;
         if let Entry::Busy(found) = self.hold(seat) {
@@ -253,11 +253,11 @@ impl Board {
     pub fn close(self, alloc: Global, seat: BoardSeat) -> Result<Vec<Row>, BoardFault>
         requires sits { SitsAt self seat }
         requires away { IsAway seat }
-        ensures begins { IfOk result (λ rows. StartsWith rows.items (known seat).seen) }
+        ensures begins { IfOk result (λ rows. StartsWith rows.items (board_view seat).seen) }
         ensures whole { IfOk result (λ rows. IsHistory rows.items) }
         ensures true_of { IfOk result (λ rows. IsTrueOf (board_graph self) rows.items) }
-        ensures own { IfOk result (λ rows. (known seat).lock.share ≡ MAX_SEATS
-            → IsMadeOf (known seat).mine rows.items) }
+        ensures own { IfOk result (λ rows. (board_view seat).lock.share ≡ MAX_SEATS
+            → IsMadeOf (board_view seat).mine rows.items) }
         ensures memory { IfErr result (λ e. e ≡ BoardFault.Memory) }
     {
         let mut rows = Vec::with_capacity(alloc, self.processes as usize)?;
@@ -276,9 +276,9 @@ impl Board {
         requires sits { SitsAt self.now seat.old }
         requires holding { IsHolding seat.old }
         ensures sits { SitsAt self.now seat.new }
-        ensures sees { SeesMore (known seat.old) (known seat.new) }
-        ensures reads { ReadsHistory (known seat.old) (known seat.new) }
-        ensures count { result ≡ length (known seat.new).seen }
+        ensures sees { SeesMore (board_view seat.old) (board_view seat.new) }
+        ensures reads { ReadsHistory (board_view seat.old) (board_view seat.new) }
+        ensures count { result ≡ length (board_view seat.new).seen }
     {
         self.words.load(&mut seat.seat, ROW_COUNT) as usize
     }
@@ -290,9 +290,9 @@ impl Board {
         requires empty { verdicts.old.items ≡ [] }
         requires room { process_count (board_graph self.now) ≤ vec_capacity verdicts.old }
         ensures sits { SitsAt self.now seat.new }
-        ensures sees { SeesMore (known seat.old) (known seat.new) }
-        ensures reads { ReadsHistory (known seat.old) (known seat.new) }
-        ensures shows { Shows verdicts.new.items (known seat.new).seen }
+        ensures sees { SeesMore (board_view seat.old) (board_view seat.new) }
+        ensures reads { ReadsHistory (board_view seat.old) (board_view seat.new) }
+        ensures shows { Shows verdicts.new.items (board_view seat.new).seen }
     {
         // A graph without processes is looked at too: a look loads at least one word.
         let _rows = self.held_count(seat);
@@ -308,9 +308,9 @@ impl Board {
         requires empty { rows.old.items ≡ [] }
         requires room { process_count (board_graph self.now) ≤ vec_capacity rows.old }
         ensures sits { SitsAt self.now seat.new }
-        ensures sees { SeesMore (known seat.old) (known seat.new) }
-        ensures reads { ReadsHistory (known seat.old) (known seat.new) }
-        ensures whole { rows.new.items ≡ (known seat.new).seen }
+        ensures sees { SeesMore (board_view seat.old) (board_view seat.new) }
+        ensures reads { ReadsHistory (board_view seat.old) (board_view seat.new) }
+        ensures whole { rows.new.items ≡ (board_view seat.new).seen }
     {
         let count = self.held_count(seat);
         for n in 0..count {
@@ -323,12 +323,12 @@ impl Board {
     fn held_row(&self, seat: &mut BoardSeat, n: usize) -> Row
         requires sits { SitsAt self.now seat.old }
         requires holding { IsHolding seat.old }
-        requires loaded { (known seat.old).loaded ≡ true }
-        requires there { n < length (known seat.old).seen }
+        requires loaded { (board_view seat.old).loaded ≡ true }
+        requires there { n < length (board_view seat.old).seen }
         ensures sits { SitsAt self.now seat.new }
-        ensures sees { SeesMore (known seat.old) (known seat.new) }
-        ensures reads { ReadsHistory (known seat.old) (known seat.new) }
-        ensures row { slice_get (known seat.new).seen n ≡ Some result }
+        ensures sees { SeesMore (board_view seat.old) (board_view seat.new) }
+        ensures reads { ReadsHistory (board_view seat.old) (board_view seat.new) }
+        ensures row { slice_get (board_view seat.new).seen n ≡ Some result }
     {
         let code = self.words.load(&mut seat.seat, FIRST_ROW + n);
         Row::from_code(code)

@@ -3,7 +3,7 @@
 ghost use Rattle.std.specs.Prelude.{◌≡◌, ◌<◌, IfSome, None};
 ghost use Rattle.cmh_graph.specs.Graph.{Graph, process_count};
 ghost use Rattle.cmh_graph.specs.Verdict.{IsVerdict};
-ghost use Rattle.cmh_board.specs.Board.{known, board_graph, SitsAt, IsAway, TriesOnce};
+ghost use Rattle.cmh_board.specs.Board.{board_view, board_graph, SitsAt, IsAway, TriesOnce};
 ghost use Rattle.cmh_board.specs.Hints.{SpeaksOf, Keeps, AnswersHint};
 ghost use Rattle.cmh_board.specs.HintProofs.{keeps_itself, keeps_on};
 
@@ -44,8 +44,8 @@ impl<'a> Hints for BoardHints<'a> {
     /// One look. Where somebody was posting there is no answer.
     fn hint(&mut self, p: u32) -> Option<Verdict>
         requires { (g : Graph) × SpeaksOf self.old g × (p < process_count g) }
-        ensures tried { TriesOnce (known self.old.seat.now) (known self.new.seat.now) }
-        ensures answer { AnswersHint p (known self.old.seat.now) (known self.new.seat.now) result }
+        ensures tried { TriesOnce (board_view self.old.seat.now) (board_view self.new.seat.now) }
+        ensures answer { AnswersHint p (board_view self.old.seat.now) (board_view self.new.seat.now) result }
         ensures true_verdict { (g : Graph) → SpeaksOf self.old g → p < process_count g
             → IfSome result (λ v. IsVerdict g p v) }
         ensures silent { ⊥ → result ≡ None }

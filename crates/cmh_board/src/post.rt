@@ -4,8 +4,8 @@ ghost use Rattle.std.specs.Prelude.{◌≡◌, ◌+◌, ◌<◌, ◌++◌, lengt
 ghost use Rattle.cmh_graph.specs.declared.TheConstants.{MAX_PROCESSES};
 ghost use Rattle.cmh_rw.specs.declared.machine.SeatState.TheVariants.{Writing};
 ghost use Rattle.cmh_rw.specs.History.{fold_at};
-ghost use Rattle.cmh_rw.specs.Seats.{view, IsSeatOf};
-ghost use Rattle.cmh_board.specs.Board.{unposted};
+ghost use Rattle.cmh_rw.specs.Seats.{rw_view, IsSeatOf};
+ghost use Rattle.cmh_board.specs.Board.{unposted_in};
 ghost use Rattle.cmh_board.specs.Adding.{AreIdle, CanPost, IsWriter, OnlyLoads, Stages, Adds};
 
 use crate::Posting;
@@ -15,10 +15,10 @@ use cmh_rw::{FIRST_VERDICT, ROW_COUNT, RwSeat, RwWords};
 /// Adds the posting's new rows to the history, if there are any.
 pub(crate) fn add(words: &RwWords, seat: &mut RwSeat, posting: &Posting)
     requires own { IsSeatOf words.now seat.old }
-    requires writer { IsWriter (view seat.old) }
-    requires can { CanPost (view seat.old).lock.graph posting.now.verdict posting.now.processes }
+    requires writer { IsWriter (rw_view seat.old) }
+    requires can { CanPost (rw_view seat.old).lock.graph posting.now.verdict posting.now.processes }
     ensures own { IsSeatOf words.now seat.new }
-    ensures adds { Adds posting.now (view seat.old) (view seat.new) }
+    ensures adds { Adds posting.now (rw_view seat.old) (rw_view seat.new) }
 {
     let processes = posting.processes();
     let count = words.load(seat, ROW_COUNT) as usize;
@@ -33,12 +33,12 @@ pub(crate) fn add(words: &RwWords, seat: &mut RwSeat, posting: &Posting)
 /// How many of the processes stand in no row.
 fn count_unposted(words: &RwWords, seat: &mut RwSeat, processes: &[u32]) -> usize
     requires own { IsSeatOf words.now seat.old }
-    requires writer { IsWriter (view seat.old) }
-    requires loaded { (view seat.old).loaded ≡ true }
-    requires idle { AreIdle (view seat.old).lock.graph processes.now }
+    requires writer { IsWriter (rw_view seat.old) }
+    requires loaded { (rw_view seat.old).loaded ≡ true }
+    requires idle { AreIdle (rw_view seat.old).lock.graph processes.now }
     ensures own { IsSeatOf words.now seat.new }
-    ensures loads { OnlyLoads (view seat.old) (view seat.new) }
-    ensures count { result ≡ length (unposted (view seat.old).seen processes.now) }
+    ensures loads { OnlyLoads (rw_view seat.old) (rw_view seat.new) }
+    ensures count { result ≡ length (unposted_in (rw_view seat.old).seen processes.now) }
 {
     let mut count = 0;
     for p in processes {
@@ -60,13 +60,13 @@ fn stage(
     end: usize,
 )
     requires own { IsSeatOf words.now seat.old }
-    requires writer { IsWriter (view seat.old) }
-    requires loaded { (view seat.old).loaded ≡ true }
-    requires can { CanPost (view seat.old).lock.graph verdict processes.now }
-    requires count { count ≡ length (view seat.old).seen }
-    requires end { end ≡ count + length (unposted (view seat.old).seen processes.now) }
+    requires writer { IsWriter (rw_view seat.old) }
+    requires loaded { (rw_view seat.old).loaded ≡ true }
+    requires can { CanPost (rw_view seat.old).lock.graph verdict processes.now }
+    requires count { count ≡ length (rw_view seat.old).seen }
+    requires end { end ≡ count + length (unposted_in (rw_view seat.old).seen processes.now) }
     ensures own { IsSeatOf words.now seat.new }
-    ensures stages { Stages verdict processes.now (view seat.old) (view seat.new) }
+    ensures stages { Stages verdict processes.now (rw_view seat.old) (rw_view seat.new) }
 {
     let mut n = count;
     for p in processes {
@@ -81,12 +81,12 @@ fn stage(
 /// Whether a process stands in no row, nor has had its verdict stored.
 fn is_unposted(words: &RwWords, seat: &mut RwSeat, p: u32) -> bool
     requires own { IsSeatOf words.now seat.old }
-    requires writing { (view seat.old).lock.state ≡ Writing }
-    requires loaded { (view seat.old).loaded ≡ true }
+    requires writing { (rw_view seat.old).lock.state ≡ Writing }
+    requires loaded { (rw_view seat.old).loaded ≡ true }
     requires process { p < MAX_PROCESSES }
     ensures own { IsSeatOf words.now seat.new }
-    ensures loads { OnlyLoads (view seat.old) (view seat.new) }
-    ensures answer { result ≡ is_none (fold_at ((view seat.old).seen ++ (view seat.old).told) p) }
+    ensures loads { OnlyLoads (rw_view seat.old) (rw_view seat.new) }
+    ensures answer { result ≡ is_none (fold_at ((rw_view seat.old).seen ++ (rw_view seat.old).told) p) }
 {
     words.load(seat, FIRST_VERDICT + p as usize) == 0
 }

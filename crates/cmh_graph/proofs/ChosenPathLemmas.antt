@@ -9,7 +9,7 @@ use Rattle.std.proofs.lemmas.List.Elements.{Contains-append_left, Contains-appen
 use Rattle.std.proofs.lemmas.List.MinMax.{IsFirstBest-from_best_of, ranks_by}
 use Rattle.std.proofs.lemmas.Cmp.{nat_list_cmp_total}
 use Rattle.cmh_graph.specs.Build.{IsWellFormed}
-use Rattle.cmh_graph.specs.ChosenPath.{distance_of, chosen_path, lesser, IsChosenPath, IsWayOut, ChosenPathLaw, ChosenPathExistsLaw}
+use Rattle.cmh_graph.specs.ChosenPath.{distance_of, chosen_path, lesser_path, IsChosenPath, IsWayOut, ChosenPathLaw, ChosenPathExistsLaw}
 use Rattle.cmh_graph.specs.Graph.{Depends, IsWithinGraph, Graph, process_count, is_awake, dependencies_of, dependents_of, indices}
 use Rattle.cmh_graph.specs.Path.{Leads, IsPath, Reaches, paths_to, is_nonempty}
 use Rattle.cmh_graph.specs.Search.{IsLeastAt, number_at}
@@ -120,23 +120,23 @@ is_listed g test p (r ∷ rest) q l t =
 
 -- a fold by the lesser gives a member of the list, and none is less
 least : (x : List ℕ) (xs : List (List ℕ))
-    → Contains (x ∷ xs) (fold lesser x xs)
-    × ((y : List ℕ) → Contains (x ∷ xs) y → is_lt (slice_cmp nat_cmp y (fold lesser x xs)) ≡ false)
+    → Contains (x ∷ xs) (fold lesser_path x xs)
+    × ((y : List ℕ) → Contains (x ∷ xs) y → is_lt (slice_cmp nat_cmp y (fold lesser_path x xs)) ≡ false)
 least x xs =
     let w = IsFirstBest-from_best_of (ranks_by nat_list_cmp_total (λ (z : List ℕ). z)) x xs in
-    let at : get_or (x ∷ xs) w.0 x ≡ fold lesser x xs = w.2 in (
-      (w.0, w.1.0, get_or_default (x ∷ xs) w.0 (fold lesser x xs) x w.1.0 ∙ at),
+    let at : get_or (x ∷ xs) w.0 x ≡ fold lesser_path x xs = w.2 in (
+      (w.0, w.1.0, get_or_default (x ∷ xs) w.0 (fold lesser_path x xs) x w.1.0 ∙ at),
       λ y c. subst (λ z. is_lt (slice_cmp nat_cmp y z) ≡ false) at
           (subst (λ z. is_lt (slice_cmp nat_cmp z (get_or (x ∷ xs) w.0 x)) ≡ false)
           (get_or_default (x ∷ xs) c.0 x y c.1 ∙ c.2) (w.1.1 c.0 x c.1)),
     )
 
 -- the least of a list is a member, and none is less
-least_of : (xss : List (List ℕ)) (path : List ℕ) → reduce lesser xss ≡ Some path
+least_of : (xss : List (List ℕ)) (path : List ℕ) → reduce lesser_path xss ≡ Some path
     → Contains xss path × ((y : List ℕ) → Contains xss y → is_lt (slice_cmp nat_cmp y path) ≡ false)
 least_of [] path e = absurd cc
 least_of (x ∷ xs) path e =
-    let same : fold lesser x xs ≡ path = ap (λ o. unwrap_or o path) e in
+    let same : fold lesser_path x xs ≡ path = ap (λ o. unwrap_or o path) e in
     subst (λ z. Contains (x ∷ xs) z × ((y : List ℕ) → Contains (x ∷ xs) y → is_lt (slice_cmp nat_cmp y z) ≡ false)) same
     (least x xs)
 
@@ -148,7 +148,7 @@ length_is g p n path l = ap length (sym l.is) ∙ ap suc l.size
 
 -- the least path of the length of the distance is a chosen path in words
 chosen_at : (g : Graph) (p n : ℕ) (path : List ℕ) → distance_of g p ≡ Some n
-    → reduce lesser (paths_to g (is_awake g) n p) ≡ Some path → IsChosenPath g p path
+    → reduce lesser_path (paths_to g (is_awake g) n p) ≡ Some path → IsChosenPath g p path
 unfolding distance_of
 chosen_at g p n path e r =
     let f = first (λ m. is_nonempty (paths_to g (is_awake g) m p)) 0 (process_count g) n e in
@@ -183,7 +183,7 @@ chosen_at g p n path e r =
 
 -- the least path of the length of the distance, where there is a distance, is a chosen path in words
 chosen_by : (g : Graph) (p : ℕ) (path : List ℕ) (o : Option ℕ) → distance_of g p ≡ o
-    → option_and_then (λ n. reduce lesser (paths_to g (is_awake g) n p)) o ≡ Some path → IsChosenPath g p path
+    → option_and_then (λ n. reduce lesser_path (paths_to g (is_awake g) n p)) o ≡ Some path → IsChosenPath g p path
 chosen_by g p path (Some n) e r = chosen_at g p n path e r
 chosen_by g p path None e r = absurd cc
 
@@ -195,13 +195,13 @@ chosen_is g p path e = chosen_by g p path (distance_of g p) refl e
 -- ---- and it is there
 
 -- a list that is not empty has a least member
-reduce_some : (xss : List (List ℕ)) → is_nonempty xss ≡ true → (path : List ℕ) × (reduce lesser xss ≡ Some path)
+reduce_some : (xss : List (List ℕ)) → is_nonempty xss ≡ true → (path : List ℕ) × (reduce lesser_path xss ≡ Some path)
 reduce_some [] e = absurd cc
-reduce_some (x ∷ xs) e = (fold lesser x xs, refl)
+reduce_some (x ∷ xs) e = (fold lesser_path x xs, refl)
 
 -- a process with a distance has a chosen path
 some_chosen_by : (g : Graph) (p : ℕ) (o : Option ℕ) → distance_of g p ≡ o → is_some o ≡ true
-    → (path : List ℕ) × (option_and_then (λ n. reduce lesser (paths_to g (is_awake g) n p)) o ≡ Some path)
+    → (path : List ℕ) × (option_and_then (λ n. reduce lesser_path (paths_to g (is_awake g) n p)) o ≡ Some path)
 unfolding distance_of
 some_chosen_by g p (Some n) e s =
     reduce_some (paths_to g (is_awake g) n p)
@@ -482,5 +482,5 @@ pub chosen_none : (g : Graph) (p : ℕ) (distances : List (Option ℕ)) (o : Opt
     → distances ≡ map (distance_of g) (indices g) → o ≡ get_or distances p o → o ≡ None → None ≡ chosen_path g p
 unfolding chosen_path
 chosen_none g p distances o i e f s =
-    sym (ap (λ d. option_and_then (λ n. reduce lesser (paths_to g (is_awake g) n p)) d)
+    sym (ap (λ d. option_and_then (λ n. reduce lesser_path (paths_to g (is_awake g) n p)) d)
     (sym (by_index g (distance_of g) distances p o e i) ∙ sym f ∙ s))

@@ -11,13 +11,13 @@ unfoldable pub distance_of : Graph → ℕ → Option ℕ
 distance_of g p = steps_to g (is_awake g) p
 
 -- the lesser of two lists, as words stand in a dictionary
-abbrev pub lesser : List ℕ → List ℕ → List ℕ
-lesser = ord_min (slice_cmp nat_cmp)
+abbrev pub lesser_path : List ℕ → List ℕ → List ℕ
+lesser_path = ord_min (slice_cmp nat_cmp)
 
 -- of the shortest paths from p to an awake process, the least list
 unfoldable pub chosen_path : Graph → ℕ → Option (List ℕ)
 chosen_path g p =
-    option_and_then (λ n. reduce lesser (paths_to g (is_awake g) n p)) (distance_of g p)
+    option_and_then (λ n. reduce lesser_path (paths_to g (is_awake g) n p)) (distance_of g p)
 
 -- a path from p to an awake process
 abbrev pub IsWayOut : Graph → ℕ → List ℕ → Type 0

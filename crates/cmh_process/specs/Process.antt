@@ -5,8 +5,8 @@ use Rattle.cmh_process.specs.declared.process.Action.{Action}
 use Rattle.cmh_process.specs.declared.process.Action.TheVariants.{Nothing, Engage, ReplyTo, Declare}
 
 -- a process that has heard of no computation
-abbrev pub fresh : Proc
-fresh = record { latest = 0; engager = None; num = 0; wait = false }
+abbrev pub new_proc : Proc
+new_proc = record { latest = 0; engager = None; num = 0; wait = false }
 
 -- the initiator after a start: it takes its next number, and waits for this many replies
 abbrev pub proc_started : Proc → ℕ → Proc
@@ -52,16 +52,16 @@ query_action p number from size =
     if engages p number then engage_action from size else repeat_action p number from
 
 -- a reply with this number is one for which the process waits
-abbrev pub counts : Proc → ℕ → Bool
-counts p number = p.wait && (p.latest == number && nat_lt 0 p.num)
+abbrev pub counts_reply : Proc → ℕ → Bool
+counts_reply p number = p.wait && (p.latest == number && nat_lt 0 p.num)
 
 -- a process with one reply fewer to wait for
-abbrev pub lowered : Proc → Proc
-lowered p = record p { num = p.num - 1 }
+abbrev pub proc_lowered : Proc → Proc
+proc_lowered p = record p { num = p.num - 1 }
 
 -- a process after a reply with this number
 abbrev pub proc_replied : Proc → ℕ → Proc
-proc_replied p number = if counts p number then lowered p else p
+proc_replied p number = if counts_reply p number then proc_lowered p else p
 
 -- what a process does once the last reply has come: the initiator alone has no engager
 abbrev pub last_action : Option ℕ → Action
@@ -71,7 +71,7 @@ last_action (Some engager) = ReplyTo engager
 -- what a process does that gets a reply of this number
 abbrev pub reply_action : Proc → ℕ → Action
 reply_action p number =
-    if counts p number
+    if counts_reply p number
     then (if p.num == 1 then last_action p.engager else Nothing)
     else Nothing
 

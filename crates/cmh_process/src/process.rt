@@ -1,7 +1,7 @@
 //! One process of one initiator's computations, and its three steps.
 
 ghost use Rattle.std.specs.Prelude.{◌≡◌, ◌+◌, ◌<◌, ◌^◌};
-ghost use Rattle.cmh_process.specs.Process.{fresh, proc_started, start_action, engages, proc_engaged, engage_action, proc_queried, query_action, repeat_action, proc_replied, reply_action};
+ghost use Rattle.cmh_process.specs.Process.{new_proc, proc_started, start_action, engages, proc_engaged, engage_action, proc_queried, query_action, repeat_action, proc_replied, reply_action};
 
 /// What a process keeps for one initiator, under the paper's names.
 #[derive(Clone, Copy, PartialEq, Eq, Hash, Debug)]
@@ -34,7 +34,7 @@ pub enum Action {
 impl Proc {
     /// A process that has heard of no computation.
     pub fn new() -> Proc
-        ensures { result ≡ fresh }
+        ensures { result ≡ new_proc }
     {
         Proc {
             latest: 0,

@@ -17,8 +17,8 @@ use Rattle.cmh_run.specs.declared.delivery.Delivery.{Delivery}
 use Rattle.cmh_run.specs.declared.delivery.Ending.{Ending}
 use Rattle.cmh_run.specs.declared.delivery.Ending.TheVariants.{CutFree}
 use Rattle.cmh_run.specs.Choices.{chosen_place, HasNoHints}
-use Rattle.cmh_run.specs.Config.{Config, proc_at, ended_by, nothing_yet, start, delivered, received, without, hinted, after_answer}
-use Rattle.cmh_run.specs.Legal.{Going, Rule, begun, going_from, ready, restart, restarted_at, after, DeliveriesLead, EndsAs, IsRun}
+use Rattle.cmh_run.specs.Config.{Config, proc_at, ending_after, nothing_yet, start, after_delivery, after_message, without_message, after_hint, after_answer}
+use Rattle.cmh_run.specs.Legal.{Going, Rule, going_at_start, going_from, after_due_restart, after_restart, after_first_restart, going_after, DeliveriesLead, EndsAs, IsRun}
 use Rattle.cmh_run.specs.Run.{Run, IsRunAnswer, IsRunOf}
 use Rattle.cmh_run.proofs.BetweenLemmas.{messages_are_between}
 use Rattle.cmh_run.proofs.Determinism.{runs_are_deterministic, one_ending}
@@ -33,7 +33,7 @@ abbrev IsUncut : Option Ending → Type 0
 IsUncut o = (k : ℕ) → o ≡ Some (CutFree k) → ⊥
 
 -- no action ends a run as a hint does
-action_uncut : (a : Action) → IsUncut (ended_by a)
+action_uncut : (a : Action) → IsUncut (ending_after a)
 action_uncut Nothing k e = cc
 action_uncut Engage k e = cc
 action_uncut (ReplyTo to) k e = cc
@@ -44,32 +44,32 @@ none_uncut k e = cc
 
 -- what a message does without a hint doesn't end the run as a hint does
 received_uncut : (g : Graph) (i : ℕ) (c : Config) (m : Message) (kind : Kind)
-    → IsUncut (received g i c m kind None).ended
+    → IsUncut (after_message g i c m kind None).ended
 received_uncut g i c m Reply = action_uncut (reply_action (proc_at c.procs m.to) m.number)
 received_uncut g i c m Query =
     by_test (engages (proc_at c.procs m.to) m.number)
-    (λ b. IsUncut (cond b (hinted g i c m None) (after_answer i c m)).ended)
+    (λ b. IsUncut (cond b (after_hint g i c m None) (after_answer i c m)).ended)
     (λ e. none_uncut)
     (λ e. action_uncut (query_action (proc_at c.procs m.to) m.number m.from 0))
 
 -- a delivery without a hint doesn't end a run as a hint does
 delivered_uncut : (g : Graph) (i : ℕ) (c : Config) (x : ℕ) (m : Message) (hint : Option Verdict) → c.ended ≡ None
     → hint ≡ None
-    → IsUncut (delivered g i c x m hint).ended
+    → IsUncut (after_delivery g i c x m hint).ended
 delivered_uncut g i c x m hint going none =
-    subst (λ (h : Option Verdict). IsUncut (delivered g i c x m h).ended) (sym none)
+    subst (λ (h : Option Verdict). IsUncut (after_delivery g i c x m h).ended) (sym none)
     (by_test (is_awake g m.to)
-    (λ b. IsUncut (cond b (without c x) (received g i (without c x) m m.kind None)).ended)
+    (λ b. IsUncut (cond b (without_message c x) (after_message g i (without_message c x) m m.kind None)).ended)
     (λ e. subst IsUncut (sym going) none_uncut)
-    (λ e. received_uncut g i (without c x) m m.kind))
+    (λ e. received_uncut g i (without_message c x) m m.kind))
 
 -- a restart doesn't end a run as a hint does
 ready_uncut : (g : Graph) (i : ℕ) (s : Going) (restarts : List ℕ) → IsUncut s.config.ended
-    → IsUncut (restarted_at g i s restarts).config.ended
+    → IsUncut (after_first_restart g i s restarts).config.ended
 ready_uncut g i s [] h = h
 ready_uncut g i s (n ∷ rest) h =
     by_test (is_none s.config.ended && (n == s.done))
-    (λ b. IsUncut (cond b (restart g i s rest) s).config.ended)
+    (λ b. IsUncut (cond b (after_restart g i s rest) s).config.ended)
     (λ e. action_uncut (start_action (length (dependents_of g i))))
     (λ e. h)
 
@@ -80,11 +80,11 @@ leads_uncut : (rule : Rule) (g : Graph) (i : ℕ) (log : List Delivery) (s end :
 leads_uncut rule g i [] s end none h l =
     subst (λ (t : Going). IsUncut t.config.ended) l (ready_uncut g i s s.restarts h)
 leads_uncut rule g i (d ∷ log) s end none h l =
-    leads_uncut rule g i log (after g i (ready g i s) l.0 d) end none.1
-    (delivered_uncut g i (ready g i s).config l.0 d.message d.hint l.1.going none.0) l.3
+    leads_uncut rule g i log (going_after g i (after_due_restart g i s) l.0 d) end none.1
+    (delivered_uncut g i (after_due_restart g i s).config l.0 d.message d.hint l.1.going none.0) l.3
 
 -- the start doesn't end a run as a hint does
-begun_uncut : (g : Graph) (i : ℕ) (restarts : List ℕ) → IsUncut (begun g i restarts).config.ended
+begun_uncut : (g : Graph) (i : ℕ) (restarts : List ℕ) → IsUncut (going_at_start g i restarts).config.ended
 begun_uncut g i restarts =
     by_test (is_awake g i)
     (λ b. IsUncut
@@ -96,7 +96,7 @@ begun_uncut g i restarts =
 pub never_cut : (g : Graph) (choices restarts : List ℕ) (r : Run) → IsRunOf g choices restarts r → HasNoHints r.log
     → (k : ℕ) → r.ending ≢ CutFree k
 never_cut g choices restarts r run none k e =
-    leads_uncut (chosen_place choices) g r.initiator r.log (begun g r.initiator restarts) run.end none
+    leads_uncut (chosen_place choices) g r.initiator r.log (going_at_start g r.initiator restarts) run.end none
     (begun_uncut g r.initiator restarts) run.legal.leads k
     (subst (λ (ending : Ending). EndsAs run.end.config ending) e run.legal.ends)
 

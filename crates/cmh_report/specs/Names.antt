@@ -1,13 +1,13 @@
 -- The names of the last list of processes, which the next line may end with too.
 use Rattle.std.specs.Prelude.{◌≡◌, ℕ, ◌-◌, ◌<◌, ◌≤◌, List, length, drop, All, string_bytes}
 use Rattle.cmh_graph.specs.Graph.{Graph, process_count}
-use Rattle.cmh_report.specs.Report.{names, spaced}
+use Rattle.cmh_report.specs.Report.{names_of, spaced_words}
 use Rattle.cmh_report.specs.declared.names.LastNames.{LastNames}
 
 -- the list has processes of this graph, and the text is their names
 pub record AreNamesOf (g : Graph) (last : LastNames) : Type 0 where
   pub within : All (λ p. p < process_count g) last.list.items
-  pub text : string_bytes last.text ≡ spaced (names g last.list.items)
+  pub text : string_bytes last.text ≡ spaced_words (names_of g last.list.items)
 
 -- the last k of both lists are the same
 pub record SharesEnd (k : ℕ) (old new : List ℕ) : Type 0 where

@@ -13,17 +13,17 @@ abbrev pub line : List (List ℕ) → List ℕ
 line words = join_with_byte 32 words ++ 10 ∷ []
 
 -- each word after a space
-abbrev pub spaced : List (List ℕ) → List ℕ
-spaced words = flat_map (λ word. 32 ∷ word) words
+abbrev pub spaced_words : List (List ℕ) → List ℕ
+spaced_words words = flat_map (λ word. 32 ∷ word) words
 
 -- the names of the processes, in the order of the list
-abbrev pub names : Graph → List ℕ → List (List ℕ)
-names g ps = map (name_of g) ps
+abbrev pub names_of : Graph → List ℕ → List (List ℕ)
+names_of g ps = map (name_of g) ps
 
 -- the names, or `-` where there are none
 abbrev pub names_or_dash : Graph → List ℕ → List (List ℕ)
 names_or_dash g [] = codes "-" ∷ []
-names_or_dash g (p ∷ ps) = names g (p ∷ ps)
+names_or_dash g (p ∷ ps) = names_of g (p ∷ ps)
 
 -- how many processes aren't idle
 abbrev pub active_count : Graph → ℕ
@@ -59,7 +59,7 @@ deadlocked_line g p =
 -- the words of the line of an idle process that is free
 unfoldable pub free_line : Graph → ℕ → List (List ℕ)
 free_line g p =
-    codes "free" ∷ name_of g p ∷ codes "path" ∷ names g (unwrap_or (chosen_path g p) [])
+    codes "free" ∷ name_of g p ∷ codes "path" ∷ names_of g (unwrap_or (chosen_path g p) [])
 
 -- the words of the line of an idle process
 abbrev pub process_line : Graph → ℕ → List (List ℕ)
@@ -68,7 +68,7 @@ process_line g p = if is_deadlocked g p then deadlocked_line g p else free_line 
 -- the words of the line of the group with this leader
 unfoldable pub group_line : Graph → ℕ → List (List ℕ)
 group_line g p =
-    codes "group" ∷ decimal (group_number g p) ∷ codes "|" ∷ names g (core_of g p)
+    codes "group" ∷ decimal (group_number g p) ∷ codes "|" ∷ names_of g (core_of g p)
     ++ codes "|" ∷ names_or_dash g (rest_of g p)
     ++ codes "|" ∷ codes "sites" ∷ decimal (site_count g (reach_of g p)) ∷ []
 

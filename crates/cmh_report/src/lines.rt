@@ -4,7 +4,7 @@
 ghost use Rattle.std.specs.Prelude.{◌≡◌, ◌++◌, ◌∷◌, [], ◌<◌, All, OnOk, codes, decimal, string_bytes};
 ghost use Rattle.cmh_graph.specs.Graph.{process_count};
 ghost use Rattle.cmh_report.specs.Names.{AreNamesOf};
-ghost use Rattle.cmh_report.specs.Report.{line, names, names_or_dash, spaced};
+ghost use Rattle.cmh_report.specs.Report.{line, names_of, names_or_dash, spaced_words};
 
 use crate::groups::Group;
 use crate::names::{LastNames, names_room, push_names};
@@ -25,7 +25,7 @@ fn push_names_or_dash(
     requires within { All (λ p. p < process_count graph.now) list.now }
     requires last { AreNamesOf graph.now last.old }
     ensures text { OnOk result (string_bytes text.new
-        ≡ string_bytes text.old ++ spaced (names_or_dash graph.now list.now)) }
+        ≡ string_bytes text.old ++ spaced_words (names_or_dash graph.now list.now)) }
     ensures last { OnOk result (AreNamesOf graph.now last.new) }
 {
     if list.is_empty() {
@@ -58,7 +58,7 @@ pub(crate) fn push_free(
     requires within { All (λ p. p < process_count graph.now) path.now }
     requires last { AreNamesOf graph.now last.old }
     ensures text { OnOk result (string_bytes text.new ≡ string_bytes text.old
-        ++ line (codes "free" ∷ name.now ∷ codes "path" ∷ names graph.now path.now)) }
+        ++ line (codes "free" ∷ name.now ∷ codes "path" ∷ names_of graph.now path.now)) }
     ensures last { OnOk result (AreNamesOf graph.now last.new) }
 {
     last.renew(alloc, graph, path)?;
@@ -83,7 +83,7 @@ pub(crate) fn push_group(
     requires last { AreNamesOf graph.now last.old }
     ensures text { OnOk result (string_bytes text.new ≡ string_bytes text.old
         ++ line (codes "group" ∷ decimal group.now.number
-        ∷ codes "|" ∷ names graph.now group.now.core.items
+        ∷ codes "|" ∷ names_of graph.now group.now.core.items
         ++ codes "|" ∷ names_or_dash graph.now group.now.rest.items
         ++ codes "|" ∷ codes "sites" ∷ decimal group.now.site_count ∷ [])) }
     ensures last { OnOk result (AreNamesOf graph.now last.new) }

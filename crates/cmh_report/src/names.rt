@@ -4,7 +4,7 @@
 ghost use Rattle.std.specs.Prelude.{◌≡◌, ◌++◌, ◌-◌, ◌<◌, ◌^◌, length, min, All, IfOk, OnOk, string_bytes};
 ghost use Rattle.cmh_graph.specs.Graph.{process_count};
 ghost use Rattle.cmh_report.specs.Names.{SharesEnd};
-ghost use Rattle.cmh_report.specs.Report.{names, spaced};
+ghost use Rattle.cmh_report.specs.Report.{names_of, spaced_words};
 
 use cmh_graph::WaitGraph;
 use std::alloc::{AllocError, Global};
@@ -42,7 +42,7 @@ impl LastNames {
         requires known { AreNamesOf graph.now self.old }
         requires within { All (λ p. p < process_count graph.now) list.now }
         ensures known { OnOk result (AreNamesOf graph.now self.new) }
-        ensures text { OnOk result (string_bytes self.new.text ≡ spaced (names graph.now list.now)) }
+        ensures text { OnOk result (string_bytes self.new.text ≡ spaced_words (names_of graph.now list.now)) }
     {
         let kept = kept_count(&self.list, list);
         let front = names_text(alloc, graph, &list[..list.len() - kept])?;
@@ -70,7 +70,7 @@ fn kept_count(old: &[u32], new: &[u32]) -> usize
 /// The name of each process after a space.
 fn names_text(alloc: Global, graph: &WaitGraph, list: &[u32]) -> Result<String, AllocError>
     requires { All (λ p. p < process_count graph.now) list.now }
-    ensures { IfOk result (λ text. string_bytes text ≡ spaced (names graph.now list.now)) }
+    ensures { IfOk result (λ text. string_bytes text ≡ spaced_words (names_of graph.now list.now)) }
 {
     let mut text = String::with_capacity(alloc, names_room(graph, list))?;
     push_names(&mut text, graph, list)?;
@@ -85,7 +85,7 @@ pub(crate) fn push_names(
 ) -> Result<(), AllocError>
     requires { All (λ p. p < process_count graph.now) list.now }
     ensures { OnOk result (string_bytes text.new
-        ≡ string_bytes text.old ++ spaced (names graph.now list.now)) }
+        ≡ string_bytes text.old ++ spaced_words (names_of graph.now list.now)) }
 {
     for p in list {
         text.push(' ')?;
@@ -97,7 +97,7 @@ pub(crate) fn push_names(
 /// The room for each name after a space.
 pub(crate) fn names_room(graph: &WaitGraph, list: &[u32]) -> usize
     requires { All (λ p. p < process_count graph.now) list.now }
-    ensures { result ≡ min (length (spaced (names graph.now list.now))) (2 ^ 64 - 1) }
+    ensures { result ≡ min (length (spaced_words (names_of graph.now list.now))) (2 ^ 64 - 1) }
 {
     let mut room = 0usize;
     for p in list {

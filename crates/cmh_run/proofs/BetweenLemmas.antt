@@ -6,7 +6,7 @@ use Rattle.cmh_graph.proofs.Verdicts.{idle_within}
 use Rattle.cmh_process.specs.declared.message.Message.{Message}
 use Rattle.cmh_run.specs.declared.delivery.Delivery.{Delivery}
 use Rattle.cmh_run.specs.Config.{proc_at, nothing_yet, start}
-use Rattle.cmh_run.specs.Legal.{Going, Rule, begun, going_from, ready, after, DeliveriesLead, IsBetween, MessagesAreBetween}
+use Rattle.cmh_run.specs.Legal.{Going, Rule, going_at_start, going_from, after_due_restart, going_after, DeliveriesLead, IsBetween, MessagesAreBetween}
 use Rattle.cmh_run.proofs.LiveInvariant.{Fine}
 use Rattle.cmh_run.proofs.Configurations.{by_test, Stands, stepped, first_start, ready_stands, status_none}
 use Rattle.cmh_run.proofs.Tokens.{each_at}
@@ -17,14 +17,15 @@ leads_between : (rule : Rule) (g : Graph) (i : ℕ) → IsWithinGraph g → i < 
     → All (λ d. IsBetween g d.message) log
 leads_between rule g i ok within rests [] s end h l = All-nil (λ d. IsBetween g d.message)
 leads_between rule g i ok within rests (d ∷ log) s end h l =
-    let now : Stands g i (ready g i s).config = ready_stands g i s ok within rests h s.restarts in
-    let live = status_none g i (ready g i s).config now l.1.going in
+    let now : Stands g i (after_due_restart g i s).config = ready_stands g i s ok within rests h s.restarts in
+    let live = status_none g i (after_due_restart g i s).config now l.1.going in
     let fine =
-    each_at (Fine g i (ready g i s).config.number (proc_at (ready g i s).config.procs))
-    (ready g i s).config.bag l.0 d.message live.0.fine l.1.there in
+    each_at (Fine g i (after_due_restart g i s).config.number (proc_at (after_due_restart g i s).config.procs))
+    (after_due_restart g i s).config.bag l.0 d.message live.0.fine l.1.there in
     All-cons (λ (x : Delivery). IsBetween g x.message) d log (fine.from_in, fine.to_in)
-    (leads_between rule g i ok within rests log (after g i (ready g i s) l.0 d) end
-    (stepped g i (ready g i s).config ok now.size l.1.going live.0 live.1 l.0 d.message l.1.there d.hint l.1.hint) l.3)
+    (leads_between rule g i ok within rests log (going_after g i (after_due_restart g i s) l.0 d) end
+    (stepped g i (after_due_restart g i s).config ok now.size l.1.going live.0 live.1 l.0 d.message l.1.there d.hint
+    l.1.hint) l.3)
 
 -- where nothing was started, no message comes
 nothing_between : (rule : Rule) (g : Graph) (i : ℕ) (log : List Delivery) (end : Going)
@@ -39,7 +40,7 @@ nothing_between rule g i (d ∷ log) end l = absurd (nothing_there l.1.there)
 -- a run of an idle process has messages between processes of the graph alone
 run_between : (rule : Rule) (g : Graph) (i : ℕ) (restarts : List ℕ) (log : List Delivery) (end : Going)
     → IsWithinGraph g → is_idle g i ≡ true
-    → DeliveriesLead rule g i (begun g i restarts) log end → All (λ d. IsBetween g d.message) log
+    → DeliveriesLead rule g i (going_at_start g i restarts) log end → All (λ d. IsBetween g d.message) log
 run_between rule g i restarts log end ok idle =
     by_test (is_awake g i)
     (λ b. DeliveriesLead rule g i

@@ -17,8 +17,8 @@ use Rattle.cmh_run.proofs.Verdicts.{same, same_as_itself}
 use Rattle.cmh_run.specs.declared.delivery.Delivery.{Delivery}
 use Rattle.cmh_run.specs.declared.delivery.Ending.{Ending}
 use Rattle.cmh_run.specs.declared.delivery.Ending.TheVariants.{Declared, AtRest, CutFree}
-use Rattle.cmh_run.specs.Config.{Config, proc_at, asks, received}
-use Rattle.cmh_run.specs.Legal.{Going, after, HintIsFit, any_place, EndsAs}
+use Rattle.cmh_run.specs.Config.{Config, proc_at, asks_hint, after_message}
+use Rattle.cmh_run.specs.Legal.{Going, going_after, HintIsFit, any_place, EndsAs}
 use Rattle.cmh_run.specs.declared.fault.CheckFault.{CheckFault}
 use Rattle.cmh_run.specs.declared.fault.CheckFault.TheVariants.{NotIdle, NotUndelivered, FalseHint, AfterEnd, NotEnded, Memory}
 use Rattle.cmh_run.specs.Packed.{CanSend, EngagersHaveRoom}
@@ -117,7 +117,7 @@ truth_at g truth p is within = subst (λ (n : ℕ). p < n) (sym (ap length is �
 
 -- a hint that is asked for is fit where it is the verdict of the list
 pub fit_where_true : (g : Graph) (c : Config) (m : Message) (hint : Option Verdict) (v d : Verdict)
-    (truth : List Verdict) (b : Bool) → IsWellFormed g → hint ≡ Some v → asks g c m ≡ true
+    (truth : List Verdict) (b : Bool) → IsWellFormed g → hint ≡ Some v → asks_hint g c m ≡ true
     → truth ≡ verdicts g → m.to < process_count g → b ≡ sameb the_type (get_or truth m.to d) v
     → (b ≡ true → HintIsFit g c m hint) × (HintIsFit g c m hint → b ≡ true)
 fit_where_true g c m hint v d truth b w is asked all within test = (
@@ -183,9 +183,10 @@ module _ (g : Graph) (i : ℕ) (log : List Delivery) (s : Going) (a : CheckState
   pub after_delivery : (t b : CheckState) → t.network ≡ a.network
       → ((m : Message) → is_waiting t.undelivered m ≡ (not (goes_like d.message m) && is_waiting a.undelivered m))
       → HintIsFit g t.network d.message d.hint
-      → b.network ≡ cond (is_awake g d.message.to) t.network (received g i t.network d.message d.message.kind d.hint)
+      → b.network ≡ cond (is_awake g d.message.to) t.network
+      (after_message g i t.network d.message d.message.kind d.hint)
       → b.undelivered ≡ t.undelivered
-      → Agrees g i (log ++ d ∷ []) (after g i s is_there.0 d) b
+      → Agrees g i (log ++ d ∷ []) (going_after g i s is_there.0 d) b
   after_delivery t b same fewer fit moved kept =
       agrees_after g i log s a b h is_there.0 d settled
       (record {
@@ -195,7 +196,7 @@ module _ (g : Graph) (i : ℕ) (log : List Delivery) (s : Going) (a : CheckState
             (subst (λ (c : Config). HintIsFit g c d.message d.hint) same fit);
       })
       (moved ∙ ap
-      (λ (c : Config). cond (is_awake g d.message.to) c (received g i c d.message d.message.kind d.hint)) whole)
+      (λ (c : Config). cond (is_awake g d.message.to) c (after_message g i c d.message d.message.kind d.hint)) whole)
       (λ m. ap (λ (w : UndeliveredState). is_waiting w m) kept ∙ fewer m)
     where
       whole : t.network ≡ with_bag s.config []

@@ -8,7 +8,7 @@ use Rattle.cmh_process.specs.declared.message.Kind.TheVariants.{Query, Reply}
 use Rattle.cmh_process.specs.declared.message.Message.{Message}
 use Rattle.cmh_process.specs.declared.process.Action.{Action}
 use Rattle.cmh_process.specs.declared.process.Action.TheVariants.{Nothing, Engage, ReplyTo, Declare}
-use Rattle.cmh_process.specs.Process.{fresh, start_action, engages, query_action, reply_action}
+use Rattle.cmh_process.specs.Process.{new_proc, start_action, engages, query_action, reply_action}
 use Rattle.cmh_graph.specs.declared.verdict.Verdict.{Verdict}
 use Rattle.cmh_graph.specs.declared.verdict.Verdict.TheVariants.{Deadlocked, Free}
 use Rattle.cmh_graph.specs.Graph.{Graph, process_count, dependents_of, is_idle, is_awake}
@@ -17,8 +17,8 @@ use Rattle.cmh_graph.proofs.Verdicts.{idle_within}
 use Rattle.cmh_run.specs.declared.delivery.Delivery.{Delivery}
 use Rattle.cmh_run.specs.declared.delivery.Ending.{Ending}
 use Rattle.cmh_run.specs.declared.delivery.Ending.TheVariants.{AtRest}
-use Rattle.cmh_run.specs.Config.{Config, proc_at, sent, nothing_yet, start, hinted, after_answer, received, without, delivered}
-use Rattle.cmh_run.specs.Legal.{Going, going_from, begun, ready, after, MayCome, any_place, DeliveriesLead}
+use Rattle.cmh_run.specs.Config.{Config, proc_at, messages_of, nothing_yet, start, after_hint, after_answer, after_message, without_message, after_delivery}
+use Rattle.cmh_run.specs.Legal.{Going, going_from, going_at_start, after_due_restart, going_after, MayCome, any_place, DeliveriesLead}
 use Rattle.cmh_run.specs.Check.{LeadTo, IsUndelivered}
 use Rattle.cmh_run.specs.CheckState.{is_waiting, is_same_kind, goes_like, CheckState, with_bag, Agrees, IsSettled}
 use Rattle.cmh_run.proofs.Tokens.{Each, each_append, each_remove, each_at}
@@ -36,7 +36,7 @@ pub record Own (i : ℕ) (m : Message) : Type 0 where
   pub first : m.number ≡ 1
 
 -- what is sent in the first computation is its own
-sent_own : (i k : ℕ) (ds : List ℕ) (n : ℕ) → n ≡ 1 → (action : Action) → Each (Own i) (sent i n k ds action)
+sent_own : (i k : ℕ) (ds : List ℕ) (n : ℕ) → n ≡ 1 → (action : Action) → Each (Own i) (messages_of i n k ds action)
 sent_own i k ds n e Nothing = tt
 sent_own i k ds n e Engage = queries ds
   where
@@ -49,56 +49,59 @@ sent_own i k ds n e Declare = tt
 
 -- a delivery leaves all messages of the bag in the first computation of initiator i
 delivered_own : (g : Graph) (i : ℕ) (c : Config) (x : ℕ) (m : Message) (hint : Option Verdict)
-    → slice_get c.bag x ≡ Some m → Each (Own i) c.bag → Each (Own i) (delivered g i c x m hint).bag
+    → slice_get c.bag x ≡ Some m → Each (Own i) c.bag → Each (Own i) (after_delivery g i c x m hint).bag
 delivered_own g i c x m hint there own =
-    by_test (is_awake g m.to) (λ b. Each (Own i) (cond b (without c x) (received g i (without c x) m m.kind hint)).bag)
+    by_test (is_awake g m.to) (λ b. Each (Own i) (cond b (without_message c x)
+    (after_message g i (without_message c x) m m.kind hint)).bag)
     (λ e. rest) (λ e. by_kind m.kind hint)
   where
     rest : Each (Own i) (remove c.bag x)
     rest = each_remove (Own i) x c.bag own
 
-    more : (ds : List ℕ) (action : Action) → Each (Own i) (remove c.bag x ++ sent i m.number m.to ds action)
+    more : (ds : List ℕ) (action : Action) → Each (Own i) (remove c.bag x ++ messages_of i m.number m.to ds action)
     more ds action =
-        each_append (Own i) (remove c.bag x) (sent i m.number m.to ds action) rest
+        each_append (Own i) (remove c.bag x) (messages_of i m.number m.to ds action) rest
         (sent_own i m.to ds m.number (each_at (Own i) c.bag x m own there).first action)
 
-    by_hint : (h : Option Verdict) → Each (Own i) (hinted g i (without c x) m h).bag
+    by_hint : (h : Option Verdict) → Each (Own i) (after_hint g i (without_message c x) m h).bag
     by_hint None =
         more (dependents_of g m.to)
         (query_action (proc_at c.procs m.to) m.number m.from (length (dependents_of g m.to)))
     by_hint (Some Deadlocked) = more [] (query_action (proc_at c.procs m.to) m.number m.from 0)
     by_hint (Some Free) = rest
 
-    by_kind : (k : Kind) (h : Option Verdict) → Each (Own i) (received g i (without c x) m k h).bag
+    by_kind : (k : Kind) (h : Option Verdict) → Each (Own i) (after_message g i (without_message c x) m k h).bag
     by_kind Reply h = more [] (reply_action (proc_at c.procs m.to) m.number)
     by_kind Query h =
         by_test (engages (proc_at c.procs m.to) m.number)
-        (λ b. Each (Own i) (cond b (hinted g i (without c x) m h) (after_answer i (without c x) m)).bag)
+        (λ b. Each (Own i) (cond b (after_hint g i (without_message c x) m h)
+        (after_answer i (without_message c x) m)).bag)
         (λ e. by_hint h) (λ e. more [] (query_action (proc_at c.procs m.to) m.number m.from 0))
 
 -- without restarts, what is true of a run's start is kept: its messages are its own, and no restart is to come
 leads_own : (g : Graph) (i : ℕ) (log : List Delivery) (s end : Going) → s.restarts ≡ [] → Each (Own i) s.config.bag
     → DeliveriesLead any_place g i s log end → Each (Own i) end.config.bag × (end.restarts ≡ [])
 leads_own g i [] s end none own l =
-    let still : ready g i s ≡ s = rw none refl in
+    let still : after_due_restart g i s ≡ s = rw none refl in
     let same : end ≡ s = sym l ∙ still in
     (subst (λ (t : Going). Each (Own i) t.config.bag) (sym same) own, ap (λ (t : Going). t.restarts) same ∙ none)
 leads_own g i (d ∷ log) s end none own l =
-    let same : ready g i s ≡ s = rw none refl in
-    leads_own g i log (after g i (ready g i s) l.0 d) end (ap (λ (t : Going). t.restarts) same ∙ none)
-    (delivered_own g i (ready g i s).config l.0 d.message d.hint l.1.there
+    let same : after_due_restart g i s ≡ s = rw none refl in
+    leads_own g i log (going_after g i (after_due_restart g i s) l.0 d) end (ap (λ (t : Going). t.restarts) same ∙ none)
+    (delivered_own g i (after_due_restart g i s).config l.0 d.message d.hint l.1.there
     (subst (λ (t : Going). Each (Own i) t.config.bag) (sym same) own)) l.3
 
 -- without restarts to come, the number of the last start stays the same
 leads_first : (g : Graph) (i : ℕ) (log : List Delivery) (s end : Going) → s.restarts ≡ []
     → DeliveriesLead any_place g i s log end → end.config.number ≡ s.config.number
 leads_first g i [] s end none l =
-    let same : ready g i s ≡ s = rw none refl in
+    let same : after_due_restart g i s ≡ s = rw none refl in
     ap (λ (t : Going). t.config.number) (sym l ∙ same)
 leads_first g i (d ∷ log) s end none l =
-    let same : ready g i s ≡ s = rw none refl in
-    leads_first g i log (after g i (ready g i s) l.0 d) end (ap (λ (t : Going). t.restarts) same ∙ none) l.3
-    ∙ number_kept g i (ready g i s).config l.0 d.message d.hint ∙ ap (λ (t : Going). t.config.number) same
+    let same : after_due_restart g i s ≡ s = rw none refl in
+    leads_first g i log (going_after g i (after_due_restart g i s) l.0 d) end
+    (ap (λ (t : Going). t.restarts) same ∙ none) l.3
+    ∙ number_kept g i (after_due_restart g i s).config l.0 d.message d.hint ∙ ap (λ (t : Going). t.config.number) same
 
 -- ---- where the deliveries have led
 
@@ -117,13 +120,13 @@ module _ (g : Graph) (i : ℕ) (w : IsWellFormed g) (idle : is_idle g i ≡ true
   firm_asleep : is_awake g i ≡ false → (log : List Delivery) (s : Going)
       → DeliveriesLead any_place g i (going_from (start g i (nothing_yet g)) []) log s → Firm g i s
   firm_asleep rests log s l =
-      let first : (proc_at (replicate (process_count g) fresh) i).latest + 1 ≡ 1 =
+      let first : (proc_at (replicate (process_count g) new_proc) i).latest + 1 ≡ 1 =
       rw (fresh_at (process_count g) i) refl in
       let stands =
       leads_stands any_place g i w.within (idle_within g i idle) rests log
       (going_from (start g i (nothing_yet g)) []) s (first_start g i w.within (idle_within g i idle) rests) l in
       let kept = leads_own g i log (going_from (start g i (nothing_yet g)) []) s refl
-      (sent_own i i (dependents_of g i) ((proc_at (replicate (process_count g) fresh) i).latest + 1) first
+      (sent_own i i (dependents_of g i) ((proc_at (replicate (process_count g) new_proc) i).latest + 1) first
       (start_action (length (dependents_of g i)))) l in
       record {
         size = stands.size;
@@ -140,7 +143,7 @@ module _ (g : Graph) (i : ℕ) (w : IsWellFormed g) (idle : is_idle g i ≡ true
   -- where nothing was started, as by an awake initiator, what a checker may count on is true
   firm_awake : (s : Going) → s ≡ going_from (nothing_yet g) [] → Firm g i s
   firm_awake s e = subst (λ (t : Going). Firm g i t) (sym e) (record {
-    size = length-replicate (process_count g) fresh;
+    size = length-replicate (process_count g) new_proc;
     own = tt;
     no_restart = refl;
     not_at_rest = λ h. none-some _ h;
@@ -160,36 +163,36 @@ module _ (g : Graph) (i : ℕ) (w : IsWellFormed g) (idle : is_idle g i ≡ true
 
 -- what a message does, it does whatever else is in the bag
 received_bag : (g : Graph) (i : ℕ) (c : Config) (bag : List Message) (m : Message) (k : Kind) (hint : Option Verdict)
-    → ◌≡◌ {A = Config} (received g i (with_bag c bag) m k hint)
-    (with_bag (received g i (with_bag c []) m k hint) (bag ++ (received g i (with_bag c []) m k hint).bag))
+    → ◌≡◌ {A = Config} (after_message g i (with_bag c bag) m k hint)
+    (with_bag (after_message g i (with_bag c []) m k hint) (bag ++ (after_message g i (with_bag c []) m k hint).bag))
 received_bag g i c bag m Reply hint = refl
 received_bag g i c bag m Query hint =
     by_test (engages (proc_at c.procs m.to) m.number)
-    (λ b. ◌≡◌ {A = Config} (cond b (hinted g i (with_bag c bag) m hint) (after_answer i (with_bag c bag) m))
-    (with_bag (cond b (hinted g i (with_bag c []) m hint) (after_answer i (with_bag c []) m))
-    (bag ++ (cond b (hinted g i (with_bag c []) m hint) (after_answer i (with_bag c []) m)).bag)))
+    (λ b. ◌≡◌ {A = Config} (cond b (after_hint g i (with_bag c bag) m hint) (after_answer i (with_bag c bag) m))
+    (with_bag (cond b (after_hint g i (with_bag c []) m hint) (after_answer i (with_bag c []) m))
+    (bag ++ (cond b (after_hint g i (with_bag c []) m hint) (after_answer i (with_bag c []) m)).bag)))
     (λ e. by_hint hint) (λ e. refl)
   where
     by_hint : (h : Option Verdict)
-        → ◌≡◌ {A = Config} (hinted g i (with_bag c bag) m h)
-        (with_bag (hinted g i (with_bag c []) m h) (bag ++ (hinted g i (with_bag c []) m h).bag))
+        → ◌≡◌ {A = Config} (after_hint g i (with_bag c bag) m h)
+        (with_bag (after_hint g i (with_bag c []) m h) (bag ++ (after_hint g i (with_bag c []) m h).bag))
     by_hint None = refl
     by_hint (Some Deadlocked) = refl
     by_hint (Some Free) = rw (append-nil bag) refl
 
 -- the network after m is delivered, where its bag was emptied before
 abbrev pub carried : Graph → ℕ → Config → Message → Option Verdict → Config
-carried g i c m hint = cond (is_awake g m.to) (with_bag c []) (received g i (with_bag c []) m m.kind hint)
+carried g i c m hint = cond (is_awake g m.to) (with_bag c []) (after_message g i (with_bag c []) m m.kind hint)
 
 -- a delivery does what it does with an emptied bag, and its bag is then the rest with what was sent
 delivered_is : (g : Graph) (i : ℕ) (c : Config) (x : ℕ) (m : Message) (hint : Option Verdict)
-    → ◌≡◌ {A = Config} (delivered g i c x m hint)
+    → ◌≡◌ {A = Config} (after_delivery g i c x m hint)
     (with_bag (carried g i c m hint) (remove c.bag x ++ (carried g i c m hint).bag))
 delivered_is g i c x m hint =
     by_test (is_awake g m.to)
-    (λ b. ◌≡◌ {A = Config} (cond b (without c x) (received g i (without c x) m m.kind hint))
-    (with_bag (cond b (with_bag c []) (received g i (with_bag c []) m m.kind hint))
-    (remove c.bag x ++ (cond b (with_bag c []) (received g i (with_bag c []) m m.kind hint)).bag)))
+    (λ b. ◌≡◌ {A = Config} (cond b (without_message c x) (after_message g i (without_message c x) m m.kind hint))
+    (with_bag (cond b (with_bag c []) (after_message g i (with_bag c []) m m.kind hint))
+    (remove c.bag x ++ (cond b (with_bag c []) (after_message g i (with_bag c []) m m.kind hint)).bag)))
     (λ e. rw (append-nil (remove c.bag x)) refl)
     (λ e. received_bag g i c (remove c.bag x) m m.kind hint)
 
@@ -230,13 +233,13 @@ goes_equal i a b oa ob h =
 
 -- where nothing waits and the network has all messages, what is kept agrees with the start of the run
 pub agrees_first : (g : Graph) (i : ℕ) (a : CheckState) → IsWellFormed g → is_idle g i ≡ true
-    → a.network ≡ (begun g i []).config → ((m : Message) → is_waiting a.undelivered m ≡ false)
-    → Agrees g i [] (begun g i []) a
+    → a.network ≡ (going_at_start g i []).config → ((m : Message) → is_waiting a.undelivered m ≡ false)
+    → Agrees g i [] (going_at_start g i []) a
 agrees_first g i a w idle same none = record {
   graph = w;
   idle = idle;
   leads = by_test (is_awake g i)
-      (λ b. ready g i (cond b (going_from (nothing_yet g) []) (going_from (start g i (nothing_yet g)) []))
+      (λ b. after_due_restart g i (cond b (going_from (nothing_yet g) []) (going_from (start g i (nothing_yet g)) []))
       ≡ cond b (going_from (nothing_yet g) []) (going_from (start g i (nothing_yet g)) []))
       (λ e. refl) (λ e. refl);
   network = subst (λ (c : Config). a.network ≡ with_bag c a.network.bag) same refl;
@@ -251,7 +254,7 @@ module _ (g : Graph) (i : ℕ) (log : List Delivery) (s : Going) (a b : CheckSta
   own m u = each_at (Own i) s.config.bag u.0 m (firm g i h.graph h.idle log s h.leads).own u.1
 
   -- what is kept still agrees with the run once a message is taken off the network's bag and waits instead
-  pub agrees_on : (y : ℕ) (m : Message) → slice_get a.network.bag y ≡ Some m → b.network ≡ without a.network y
+  pub agrees_on : (y : ℕ) (m : Message) → slice_get a.network.bag y ≡ Some m → b.network ≡ without_message a.network y
       → ((x : Message) → is_waiting b.undelivered x ≡ (goes_like m x || is_waiting a.undelivered x))
       → Agrees g i log s b
   agrees_on y m there moved more = record {
@@ -294,12 +297,12 @@ module _ (g : Graph) (i : ℕ) (log : List Delivery) (s : Going) (a b : CheckSta
   pub agrees_after : (x : ℕ) (d : Delivery) → IsSettled a → MayCome g s.config x d
       → b.network ≡ carried g i s.config d.message d.hint
       → ((y : Message) → is_waiting b.undelivered y ≡ (not (goes_like d.message y) && is_waiting a.undelivered y))
-      → Agrees g i (log ++ d ∷ []) (after g i s x d) b
+      → Agrees g i (log ++ d ∷ []) (going_after g i s x d) b
   agrees_after x d settled may moved fewer = record {
     graph = h.graph;
     idle = h.idle;
-    leads = subst (λ (t : Going). DeliveriesLead any_place g i (begun g i []) (log ++ d ∷ []) t) still
-        (leads_on any_place g i log (begun g i []) s x d h.leads may refl);
+    leads = subst (λ (t : Going). DeliveriesLead any_place g i (going_at_start g i []) (log ++ d ∷ []) t) still
+        (leads_on any_place g i log (going_at_start g i []) s x d h.leads may refl);
     network = rw moved (ap (λ (c : Config). with_bag c (carried g i s.config d.message d.hint).bag) (sym is));
     pending = λ y u. ⊎_elim
         (λ (p : IsIn (remove s.config.bag x) y). inl (still_waits y p))
@@ -319,12 +322,12 @@ module _ (g : Graph) (i : ℕ) (log : List Delivery) (s : Going) (a b : CheckSta
       here : Firm g i s
       here = firm g i h.graph h.idle log s h.leads
 
-      is : ◌≡◌ {A = Config} (delivered g i s.config x d.message d.hint)
+      is : ◌≡◌ {A = Config} (after_delivery g i s.config x d.message d.hint)
           (with_bag (carried g i s.config d.message d.hint)
           (remove s.config.bag x ++ (carried g i s.config d.message d.hint).bag))
       is = delivered_is g i s.config x d.message d.hint
 
-      still : ready g i (after g i s x d) ≡ after g i s x d
+      still : after_due_restart g i (going_after g i s x d) ≡ going_after g i s x d
       still = rw here.no_restart refl
 
       there : IsUndelivered s.config d.message

@@ -14,13 +14,13 @@ use Rattle.cmh_graph.specs.declared.verdict.Verdict.TheVariants.{Deadlocked, Fre
 use Rattle.cmh_run.specs.declared.delivery.Delivery.{Delivery}
 use Rattle.cmh_run.specs.declared.delivery.Ending.{Ending}
 use Rattle.cmh_run.specs.declared.delivery.Ending.TheVariants.{Declared, AtRest, CutFree}
-use Rattle.cmh_process.specs.Process.{fresh, proc_started, start_action, proc_engaged, engage_action, last_action, engages, proc_queried, query_action, counts, proc_replied, reply_action}
+use Rattle.cmh_process.specs.Process.{new_proc, proc_started, start_action, proc_engaged, engage_action, last_action, engages, proc_queried, query_action, counts_reply, proc_replied, reply_action}
 use Rattle.cmh_graph.specs.Graph.{Graph, process_count, dependents_of, is_awake, Depends, IsWithinGraph}
 use Rattle.cmh_graph.specs.Path.{Reaches}
 use Rattle.cmh_graph.specs.Verdict.{IsDeadlocked}
 use Rattle.cmh_graph.proofs.Verdicts.{asleep_is_idle}
-use Rattle.cmh_run.specs.Config.{Config, reply, proc_at, sent, ended_by, after_step, engaged_by, hinted, received, without, delivered, start, nothing_yet}
-use Rattle.cmh_run.specs.Legal.{HintIsFit, Going, restarted_at, ready, after, DeliveriesLead}
+use Rattle.cmh_run.specs.Config.{Config, reply, proc_at, messages_of, ending_after, after_step, after_engagement, after_hint, after_message, without_message, after_delivery, start, nothing_yet}
+use Rattle.cmh_run.specs.Legal.{HintIsFit, Going, after_first_restart, after_due_restart, going_after, DeliveriesLead}
 use Rattle.cmh_run.proofs.Tally.{tally, tally-le-length, tally_from_contains, contains_from_tally}
 use Rattle.cmh_run.proofs.InvariantSteps.{upd, place, Calm, calm}
 use Rattle.cmh_run.proofs.Tokens.{Each, each_at, tokens, set_is, is_token, is_token_parts}
@@ -106,12 +106,12 @@ module _ (g : Graph) (i : ℕ) (c : Config) (ok : IsWithinGraph g) (size : lengt
   engaging : (ds : List ℕ) → m.kind ≡ Query → engages (proc_at c.procs m.to) m.number ≡ true → is_awake g m.to ≡ false
       → ((r : ℕ) → 0 < tally r ds → Depends g m.to r) → ((r : ℕ) → tally r ds ≤ tally r (dependents_of g m.to))
       → IsDeadlocked g m.to ⊎ ((r : ℕ) → Contains (dependents_of g m.to) r → 0 < tally r ds)
-      → Stands g i (engaged_by i (without c x) m ds)
+      → Stands g i (after_engagement i (without_message c x) m ds)
   engaging ds kind new rests known few settled =
       rw new (by_test (eqb m.number c.number)
       (λ b. Stands g i
       (record {
-        bag = remove c.bag x ++ sent i m.number m.to ds (engage_action m.from (length ds));
+        bag = remove c.bag x ++ messages_of i m.number m.to ds (engage_action m.from (length ds));
         procs = slice_set c.procs m.to (proc_engaged m.number m.from (length ds));
         number = c.number;
         engaged =
@@ -119,7 +119,8 @@ module _ (g : Graph) (i : ℕ) (c : Config) (ok : IsWithinGraph g) (size : lengt
         ended = None;
       }))
       (λ e. let newest : m.number ≡ c.number = eqb-true m.number c.number e in
-      changed g i c.number c.procs m.to p (remove c.bag x ++ sent i m.number m.to ds (engage_action m.from (length ds)))
+      changed g i c.number c.procs m.to p (remove c.bag x ++ messages_of i m.number m.to ds
+      (engage_action m.from (length ds)))
       (c.engaged ++ m.to ∷ []) None size fine_m.to_in (
         live.engages g i c.number (proc_at c.procs) c.bag c.engaged ok L x m there ds kind newest
             (omega (arith, before)) rests known few settled,
@@ -127,7 +128,7 @@ module _ (g : Graph) (i : ℕ) (c : Config) (ok : IsWithinGraph g) (size : lengt
       ))
       (λ e. let low : m.number < c.number = omega (arith, fine_m.low, eqb-false m.number c.number e) in
       changed g i c.number c.procs m.to p
-      (remove c.bag x ++ sent i m.number m.to ds (engage_action m.from (length ds))) c.engaged None size
+      (remove c.bag x ++ messages_of i m.number m.to ds (engage_action m.from (length ds))) c.engaged None size
       fine_m.to_in (
         live.engages_older g i c.number (proc_at c.procs) c.bag c.engaged ok L x m there ds kind low
             (omega (arith, before)) rests known,
@@ -158,18 +159,18 @@ module _ (g : Graph) (i : ℕ) (c : Config) (ok : IsWithinGraph g) (size : lengt
   -- what is true of a configuration stays true after a query that engages nobody
   not_engaging : m.kind ≡ Query → engages (proc_at c.procs m.to) m.number ≡ false
       → Stands g i
-      (after_step i (without c x) m.number m.to [] (proc_queried (proc_at c.procs m.to) m.number m.from 0)
+      (after_step i (without_message c x) m.number m.to [] (proc_queried (proc_at c.procs m.to) m.number m.from 0)
       (query_action (proc_at c.procs m.to) m.number m.from 0))
   not_engaging kind old =
       rw old (by_test ((proc_at c.procs m.to).wait && eqb (proc_at c.procs m.to).latest m.number)
       (λ b. Stands g i
       (record {
-        bag = remove c.bag x ++ sent i m.number m.to [] (cond b (ReplyTo m.from) Nothing);
+        bag = remove c.bag x ++ messages_of i m.number m.to [] (cond b (ReplyTo m.from) Nothing);
         procs = slice_set c.procs m.to (proc_at c.procs m.to);
         number = c.number;
         engaged = c.engaged;
         ended =
-            ended_by (cond b (ReplyTo m.from) Nothing);
+            ending_after (cond b (ReplyTo m.from) Nothing);
       }))
       (λ e. changed g i c.number c.procs m.to (proc_at c.procs m.to)
       (remove c.bag x ++ reply i m.number m.to m.from ∷ []) c.engaged None size fine_m.to_in
@@ -206,29 +207,29 @@ module _ (g : Graph) (i : ℕ) (c : Config) (ok : IsWithinGraph g) (size : lengt
   -- what is true of a configuration stays true after a reply
   replying : m.kind ≡ Reply
       → Stands g i
-      (after_step i (without c x) m.number m.to [] (proc_replied (proc_at c.procs m.to) m.number)
+      (after_step i (without_message c x) m.number m.to [] (proc_replied (proc_at c.procs m.to) m.number)
       (reply_action (proc_at c.procs m.to) m.number))
   replying kind =
-      by_test (counts (proc_at c.procs m.to) m.number)
+      by_test (counts_reply (proc_at c.procs m.to) m.number)
       (λ b. Stands g i (record {
         bag = remove c.bag x
-            ++ sent i m.number m.to []
+            ++ messages_of i m.number m.to []
             (cond b (cond (eqb (proc_at c.procs m.to).num 1) (last_action (proc_at c.procs m.to).engager) Nothing)
             Nothing);
         procs = slice_set c.procs m.to (cond b lower (proc_at c.procs m.to));
         number = c.number;
         engaged = c.engaged;
-        ended = ended_by
+        ended = ending_after
             (cond b (cond (eqb (proc_at c.procs m.to).num 1) (last_action (proc_at c.procs m.to).engager) Nothing)
             Nothing);
       }))
       (λ e. let p = counts_parts e in
       changed g i c.number c.procs m.to lower
       (remove c.bag x
-      ++ sent i m.number m.to []
+      ++ messages_of i m.number m.to []
       (cond (eqb (proc_at c.procs m.to).num 1) (last_action (proc_at c.procs m.to).engager) Nothing))
       c.engaged
-      (ended_by (cond (eqb (proc_at c.procs m.to).num 1) (last_action (proc_at c.procs m.to).engager) Nothing)) size
+      (ending_after (cond (eqb (proc_at c.procs m.to).num 1) (last_action (proc_at c.procs m.to).engager) Nothing)) size
       fine_m.to_in
       (⊎_elim
       (λ (newest : m.number ≡ c.number). finish p.1 p.2 (inl newest) (eqb (proc_at c.procs m.to).num 1) refl
@@ -243,7 +244,7 @@ module _ (g : Graph) (i : ℕ) (c : Config) (ok : IsWithinGraph g) (size : lengt
       (live.dropped g i c.number (proc_at c.procs) c.bag c.engaged ok L x m there (λ a r rest y. no_token a r y e))
       m.to fine_m.to_in)
     where
-      counts_parts : counts (proc_at c.procs m.to) m.number ≡ true
+      counts_parts : counts_reply (proc_at c.procs m.to) m.number ≡ true
           → ((proc_at c.procs m.to).wait ≡ true) × ((proc_at c.procs m.to).latest ≡ m.number)
           × (0 < (proc_at c.procs m.to).num)
       counts_parts e =
@@ -252,7 +253,7 @@ module _ (g : Graph) (i : ℕ) (c : Config) (ok : IsWithinGraph g) (size : lengt
           let b = and_parts (eqb (proc_at c.procs m.to).latest m.number) (ltb 0 (proc_at c.procs m.to).num) a.1 in
           (a.0, eqb-true (proc_at c.procs m.to).latest m.number b.0, ltb-true 0 (proc_at c.procs m.to).num b.1)
 
-      no_token : (a r : ℕ) → is_token c.number a r m ≡ true → counts (proc_at c.procs m.to) m.number ≡ false → ⊥
+      no_token : (a r : ℕ) → is_token c.number a r m ≡ true → counts_reply (proc_at c.procs m.to) m.number ≡ false → ⊥
       no_token a r y e =
           let parts = is_token_parts c.number a r m y in
           let in_it = live.waiting g i c.number (proc_at c.procs) c.bag c.engaged ok L x m there a r y in
@@ -283,10 +284,10 @@ module _ (g : Graph) (i : ℕ) (c : Config) (ok : IsWithinGraph g) (size : lengt
           → (m.number ≡ c.number) ⊎ (m.number < c.number)
           → (b : Bool) → eqb (proc_at c.procs m.to).num 1 ≡ b → (o : Option ℕ) → (proc_at c.procs m.to).engager ≡ o
           → Live g i c.number (upd (proc_at c.procs) m.to lower)
-          (remove c.bag x ++ sent i m.number m.to [] (cond b (last_action o) Nothing)) c.engaged
+          (remove c.bag x ++ messages_of i m.number m.to [] (cond b (last_action o) Nothing)) c.engaged
           → Status g i c.number (upd (proc_at c.procs) m.to lower)
-          (remove c.bag x ++ sent i m.number m.to [] (cond b (last_action o) Nothing)) c.engaged
-          (ended_by (cond b (last_action o) Nothing))
+          (remove c.bag x ++ messages_of i m.number m.to [] (cond b (last_action o) Nothing)) c.engaged
+          (ending_after (cond b (last_action o) Nothing))
       finish l h n false is o top live =
           (live, still_waits (inl (omega (arith, eqb-false (proc_at c.procs m.to).num 1 is))))
       finish l h n true is (Some e) top live = (
@@ -303,7 +304,7 @@ module _ (g : Graph) (i : ℕ) (c : Config) (ok : IsWithinGraph g) (size : lengt
 
   -- what is true of a configuration stays true after a query that would engage, with any fit hint
   asked : m.kind ≡ Query → engages (proc_at c.procs m.to) m.number ≡ true → is_awake g m.to ≡ false
-      → (hint : Option Verdict) → HintIsFit g c m hint → Stands g i (hinted g i (without c x) m hint)
+      → (hint : Option Verdict) → HintIsFit g c m hint → Stands g i (after_hint g i (without_message c x) m hint)
   asked kind new rests None fit =
       engaging (dependents_of g m.to) kind new rests
       (λ r h. (asleep_is_idle g m.to rests, contains_from_tally r (dependents_of g m.to) h)) (λ r. omega arith)
@@ -323,21 +324,22 @@ module _ (g : Graph) (i : ℕ) (c : Config) (ok : IsWithinGraph g) (size : lengt
 
   -- what m does to a receiver that isn't awake, with a fit hint, keeps what is true of a configuration
   receiving : is_awake g m.to ≡ false → (k : Kind) → m.kind ≡ k → (hint : Option Verdict) → HintIsFit g c m hint
-      → Stands g i (received g i (without c x) m k hint)
+      → Stands g i (after_message g i (without_message c x) m k hint)
   receiving rests Query kind hint fit =
       by_test (engages (proc_at c.procs m.to) m.number)
       (λ b. Stands g i
-      (cond b (hinted g i (without c x) m hint)
-      (after_step i (without c x) m.number m.to [] (proc_queried (proc_at c.procs m.to) m.number m.from 0)
+      (cond b (after_hint g i (without_message c x) m hint)
+      (after_step i (without_message c x) m.number m.to [] (proc_queried (proc_at c.procs m.to) m.number m.from 0)
       (query_action (proc_at c.procs m.to) m.number m.from 0))))
       (λ e. asked kind e rests hint fit)
       (λ e. not_engaging kind e)
   receiving rests Reply kind hint fit = replying kind
 
   -- a delivery with a fit hint keeps what is true of a configuration
-  pub stepped : (hint : Option Verdict) → HintIsFit g c m hint → Stands g i (delivered g i c x m hint)
+  pub stepped : (hint : Option Verdict) → HintIsFit g c m hint → Stands g i (after_delivery g i c x m hint)
   stepped hint fit =
-      by_test (is_awake g m.to) (λ b. Stands g i (cond b (without c x) (received g i (without c x) m m.kind hint)))
+      by_test (is_awake g m.to) (λ b. Stands g i (cond b (without_message c x)
+      (after_message g i (without_message c x) m m.kind hint)))
       (λ e. record {
         size = size;
         status =
@@ -355,9 +357,9 @@ pub starting : (g : Graph) (i : ℕ) (c : Config) → IsWithinGraph g → i < pr
 starting g i c ok within rests size calm later fine range =
     changed g i ((proc_at c.procs i).latest + 1) c.procs i
     (proc_started (proc_at c.procs i) (length (dependents_of g i)))
-    (c.bag ++ sent i ((proc_at c.procs i).latest + 1) i (dependents_of g i)
+    (c.bag ++ messages_of i ((proc_at c.procs i).latest + 1) i (dependents_of g i)
     (start_action (length (dependents_of g i)))) (i ∷ [])
-    (ended_by (start_action (length (dependents_of g i)))) size within (status (dependents_of g i) refl)
+    (ending_after (start_action (length (dependents_of g i)))) size within (status (dependents_of g i) refl)
   where
     num_is : (p : Proc) → (upd (proc_at c.procs) i p i).num ≡ p.num
     num_is p = place i i (λ b. (cond b p (proc_at c.procs i)).num ≡ p.num) (λ q. refl) (λ w. absurd (w refl))
@@ -365,7 +367,7 @@ starting g i c ok within rests size calm later fine range =
     begins : (ds : List ℕ) → ds ≡ dependents_of g i
         → Live g i ((proc_at c.procs i).latest + 1)
         (upd (proc_at c.procs) i (proc_started (proc_at c.procs i) (length ds)))
-        (c.bag ++ sent i ((proc_at c.procs i).latest + 1) i ds (start_action (length ds))) (i ∷ [])
+        (c.bag ++ messages_of i ((proc_at c.procs i).latest + 1) i ds (start_action (length ds))) (i ∷ [])
     begins ds e =
         started g i c.number ((proc_at c.procs i).latest + 1) (proc_at c.procs) c.bag
         (proc_started (proc_at c.procs i) (length ds)) ds ok within rests calm (omega arith) fine range e refl
@@ -373,8 +375,8 @@ starting g i c ok within rests size calm later fine range =
     status : (ds : List ℕ) → ds ≡ dependents_of g i
         → Status g i ((proc_at c.procs i).latest + 1)
         (upd (proc_at c.procs) i (proc_started (proc_at c.procs i) (length ds)))
-        (c.bag ++ sent i ((proc_at c.procs i).latest + 1) i ds (start_action (length ds))) (i ∷ [])
-        (ended_by (start_action (length ds)))
+        (c.bag ++ messages_of i ((proc_at c.procs i).latest + 1) i ds (start_action (length ds))) (i ∷ [])
+        (ending_after (start_action (length ds)))
     status [] e = (begins [] e, num_is (proc_started (proc_at c.procs i) 0))
     status (d ∷ ds) e =
         rw (ne_eqb (suc (length ds)) 0 (λ q. omega arith)) (
@@ -383,7 +385,7 @@ starting g i c ok within rests size calm later fine range =
         )
 
 -- among processes that have heard of nothing, each is fresh
-pub fresh_at : (n k : ℕ) → proc_at (replicate n fresh) k ≡ fresh
+pub fresh_at : (n k : ℕ) → proc_at (replicate n new_proc) k ≡ new_proc
 fresh_at zero k = refl
 fresh_at (suc n) zero = refl
 fresh_at (suc n) (suc k) = fresh_at n k
@@ -392,7 +394,7 @@ fresh_at (suc n) (suc k) = fresh_at n k
 pub first_start : (g : Graph) (i : ℕ) → IsWithinGraph g → i < process_count g → is_awake g i ≡ false
     → Stands g i (start g i (nothing_yet g))
 first_start g i ok within rests =
-    starting g i (nothing_yet g) ok within rests (length-replicate (process_count g) fresh)
+    starting g i (nothing_yet g) ok within rests (length-replicate (process_count g) new_proc)
     (record {
       latest = λ k. rw (fresh_at (process_count g) k) (omega arith);
       waits = λ k h. absurd (let z : 0 < 0 = rw (fresh_at (process_count g) k) at h in omega arith);
@@ -425,7 +427,7 @@ restarting g i c ok within rests s e =
 
 -- a restart that is due keeps what is true of a configuration
 pub ready_stands : (g : Graph) (i : ℕ) (s : Going) → IsWithinGraph g → i < process_count g → is_awake g i ≡ false
-    → Stands g i s.config → (ns : List ℕ) → Stands g i (restarted_at g i s ns).config
+    → Stands g i s.config → (ns : List ℕ) → Stands g i (after_first_restart g i s ns).config
 ready_stands g i s ok within rests h [] = h
 ready_stands g i s ok within rests h (n ∷ ns) =
     by_test (is_none s.config.ended && eqb n s.done)
@@ -444,7 +446,8 @@ pub leads_stands : (rule : ℕ → Config → ℕ → Bool) (g : Graph) (i : ℕ
 leads_stands rule g i ok within rests [] s end h l =
     subst (λ (t : Going). Stands g i t.config) l (ready_stands g i s ok within rests h s.restarts)
 leads_stands rule g i ok within rests (d ∷ log) s end h l =
-    let now : Stands g i (ready g i s).config = ready_stands g i s ok within rests h s.restarts in
-    let live = status_none g i (ready g i s).config now l.1.going in
-    leads_stands rule g i ok within rests log (after g i (ready g i s) l.0 d) end
-    (stepped g i (ready g i s).config ok now.size l.1.going live.0 live.1 l.0 d.message l.1.there d.hint l.1.hint) l.3
+    let now : Stands g i (after_due_restart g i s).config = ready_stands g i s ok within rests h s.restarts in
+    let live = status_none g i (after_due_restart g i s).config now l.1.going in
+    leads_stands rule g i ok within rests log (going_after g i (after_due_restart g i s) l.0 d) end
+    (stepped g i (after_due_restart g i s).config ok now.size l.1.going live.0 live.1 l.0 d.message l.1.there d.hint
+    l.1.hint) l.3

@@ -13,14 +13,14 @@ use Rattle.cmh_process.specs.declared.process.Action.TheVariants.{Nothing, Reply
 use Rattle.cmh_graph.specs.declared.verdict.Verdict.{Verdict}
 use Rattle.cmh_graph.specs.declared.verdict.Verdict.TheVariants.{Deadlocked, Free}
 use Rattle.cmh_run.specs.declared.delivery.Delivery.{Delivery}
-use Rattle.cmh_process.specs.Process.{fresh, proc_started, start_action, proc_engaged, engage_action, last_action, engages, proc_queried, query_action, repeat_action, counts, proc_replied, reply_action}
+use Rattle.cmh_process.specs.Process.{new_proc, proc_started, start_action, proc_engaged, engage_action, last_action, engages, proc_queried, query_action, repeat_action, counts_reply, proc_replied, reply_action}
 use Rattle.cmh_graph.specs.Graph.{Graph, process_count, dependents_of, dependencies_of, is_idle, is_awake, IsWithinGraph, dependency_count}
 use Rattle.cmh_graph.specs.Graph.{Process, nobody}
 use Rattle.cmh_graph.specs.Build.{IsWellFormed}
 use Rattle.cmh_graph.specs.declared.TheConstants.{MAX_PROCESSES, MAX_DEPENDENCIES}
 use Rattle.cmh_graph.proofs.Verdicts.{asleep_is_idle, idle_within}
-use Rattle.cmh_run.specs.Config.{Config, query, proc_at, sent, after_step, engaged_by, hinted, received, without, delivered, start, nothing_yet}
-use Rattle.cmh_run.specs.Legal.{begun, Going, restarted_at, ready, after, DeliveriesLead, DeliveriesAreBounded}
+use Rattle.cmh_run.specs.Config.{Config, query, proc_at, messages_of, after_step, after_engagement, after_hint, after_message, without_message, after_delivery, start, nothing_yet}
+use Rattle.cmh_run.specs.Legal.{going_at_start, Going, after_first_restart, after_due_restart, going_after, DeliveriesLead, DeliveriesAreBounded}
 use Rattle.cmh_run.proofs.InvariantSteps.{upd}
 use Rattle.cmh_run.proofs.Tokens.{each_at, set_is}
 use Rattle.cmh_run.proofs.LiveInvariant.{Live, Fine, some_engage}
@@ -114,7 +114,7 @@ falls g n procs bag x k m p new size there within h =
 -- engaging pays for its queries
 engaging_pays : (g : Graph) (i n k number from : ℕ) (old : ℕ) (owed : ℕ) (ds : List ℕ) → length ds ≤ width g k
     → old < number → number ≤ n
-    → load (sent i number k ds (engage_action from (length ds))) +
+    → load (messages_of i number k ds (engage_action from (length ds))) +
     (owing (Some from) (length ds) + 2 * (width g k * (n - number))) + 1 ≤ 2 + (owed + 2 * (width g k * (n - old)))
 engaging_pays g i n k number from old owed [] h a b =
     let fewer : n - number ≤ n - old = omega arith in
@@ -145,11 +145,11 @@ module _ (g : Graph) (i : ℕ) (c : Config) (ok : IsWithinGraph g) (size : lengt
 
   -- a query that engages its receiver lowers the measure, whichever dependents it asks
   engaging_falls : (ds : List ℕ) → m.kind ≡ Query → engages (proc_at c.procs m.to) m.number ≡ true
-      → length ds ≤ width g m.to → falls_here (engaged_by i (without c x) m ds)
+      → length ds ≤ width g m.to → falls_here (after_engagement i (without_message c x) m ds)
   unfolding falls_here
   engaging_falls ds kind new within =
       rw new (falls g c.number c.procs c.bag x m.to m (proc_engaged m.number m.from (length ds))
-      (sent i m.number m.to ds (engage_action m.from (length ds))) size there fine_m.to_in
+      (messages_of i m.number m.to ds (engage_action m.from (length ds))) size there fine_m.to_in
       (rw kind
       (engaging_pays g i c.number m.to m.number m.from (proc_at c.procs m.to).latest
       (owing (proc_at c.procs m.to).engager (proc_at c.procs m.to).num) ds within
@@ -157,7 +157,7 @@ module _ (g : Graph) (i : ℕ) (c : Config) (ok : IsWithinGraph g) (size : lengt
 
   -- a query that would engage its receiver lowers the measure, whatever the hint
   asked_falls : m.kind ≡ Query → engages (proc_at c.procs m.to) m.number ≡ true → is_awake g m.to ≡ false
-      → (hint : Option Verdict) → falls_here (hinted g i (without c x) m hint)
+      → (hint : Option Verdict) → falls_here (after_hint g i (without_message c x) m hint)
   unfolding falls_here
   asked_falls kind new rests None =
       engaging_falls (dependents_of g m.to) kind new (rw (asleep_is_idle g m.to rests) (omega arith))
@@ -167,66 +167,69 @@ module _ (g : Graph) (i : ℕ) (c : Config) (ok : IsWithinGraph g) (size : lengt
   -- a query that doesn't engage its receiver lowers the measure
   repeat_falls : m.kind ≡ Query → engages (proc_at c.procs m.to) m.number ≡ false
       → falls_here
-      (after_step i (without c x) m.number m.to [] (proc_queried (proc_at c.procs m.to) m.number m.from 0)
+      (after_step i (without_message c x) m.number m.to [] (proc_queried (proc_at c.procs m.to) m.number m.from 0)
       (query_action (proc_at c.procs m.to) m.number m.from 0))
   unfolding falls_here
   repeat_falls kind old =
       rw old (falls g c.number c.procs c.bag x m.to m (proc_at c.procs m.to)
-      (sent i m.number m.to [] (repeat_action (proc_at c.procs m.to) m.number m.from)) size there fine_m.to_in
+      (messages_of i m.number m.to [] (repeat_action (proc_at c.procs m.to) m.number m.from)) size there fine_m.to_in
       (rw kind (by_test ((proc_at c.procs m.to).wait && eqb (proc_at c.procs m.to).latest m.number)
-      (λ b. load (sent i m.number m.to [] (cond b (ReplyTo m.from) Nothing)) + share g c.number m.to
+      (λ b. load (messages_of i m.number m.to [] (cond b (ReplyTo m.from) Nothing)) + share g c.number m.to
       (proc_at c.procs m.to) + 1 ≤ 2 + share g c.number m.to (proc_at c.procs m.to))
       (λ e. omega arith) (λ e. omega arith))))
 
   -- a reply lowers the measure
   reply_falls : m.kind ≡ Reply
       → falls_here
-      (after_step i (without c x) m.number m.to [] (proc_replied (proc_at c.procs m.to) m.number)
+      (after_step i (without_message c x) m.number m.to [] (proc_replied (proc_at c.procs m.to) m.number)
       (reply_action (proc_at c.procs m.to) m.number))
   unfolding falls_here
   reply_falls kind =
       falls g c.number c.procs c.bag x m.to m (proc_replied (proc_at c.procs m.to) m.number)
-      (sent i m.number m.to [] (reply_action (proc_at c.procs m.to) m.number)) size there fine_m.to_in
+      (messages_of i m.number m.to [] (reply_action (proc_at c.procs m.to) m.number)) size there fine_m.to_in
       (rw kind (pays (proc_at c.procs m.to)))
     where
       last : (o : Option ℕ) (num : ℕ) → 0 < num → (b : Bool) → eqb num 1 ≡ b
-          → load (sent i m.number m.to [] (cond b (last_action o) Nothing)) + owing o (num - 1) ≤ owing o num
+          → load (messages_of i m.number m.to [] (cond b (last_action o) Nothing)) + owing o (num - 1) ≤ owing o num
       last None num h true e = omega arith
       last None num h false e = omega arith
       last (Some k) num h true e = let one : num ≡ 1 = eqb-true num 1 e in rw one (omega arith)
       last (Some k) num h false e =
           rw (lt-ltb 0 num h, lt-ltb 0 (num - 1) (omega (arith, eqb-false num 1 e))) (omega arith)
 
-      counted : (p : Proc) → counts p m.number ≡ true → 0 < p.num
+      counted : (p : Proc) → counts_reply p m.number ≡ true → 0 < p.num
       counted p e =
           ltb-true 0 p.num
           (and_parts (eqb p.latest m.number) (ltb 0 p.num)
           (and_parts p.wait (eqb p.latest m.number && ltb 0 p.num) e).1).1
 
       pays : (p : Proc)
-          → load (sent i m.number m.to [] (reply_action p m.number)) + share g c.number m.to
+          → load (messages_of i m.number m.to [] (reply_action p m.number)) + share g c.number m.to
           (proc_replied p m.number) + 1 ≤ 1 + share g c.number m.to p
-      pays p = by_test (counts p m.number)
+      pays p = by_test (counts_reply p m.number)
           (λ b. load
-          (sent i m.number m.to [] (cond b (cond (eqb p.num 1) (last_action p.engager) Nothing) Nothing)) + share g
+          (messages_of i m.number m.to [] (cond b (cond (eqb p.num 1) (last_action p.engager) Nothing) Nothing)) +
+          share g
           c.number m.to
           (cond b (record { latest = p.latest; engager = p.engager; num = p.num - 1; wait = p.wait }) p) + 1
           ≤ 1 + share g c.number m.to p)
           (λ e. omega (arith, last p.engager p.num (counted p e) (eqb p.num 1) refl)) (λ e. omega arith)
 
   -- each delivery lowers the measure
-  delivery_falls : (hint : Option Verdict) → falls_here (delivered g i c x m hint)
+  delivery_falls : (hint : Option Verdict) → falls_here (after_delivery g i c x m hint)
   unfolding falls_here
   delivery_falls hint =
-      by_test (is_awake g m.to) (λ b. falls_here (cond b (without c x) (received g i (without c x) m m.kind hint)))
+      by_test (is_awake g m.to) (λ b. falls_here (cond b (without_message c x)
+      (after_message g i (without_message c x) m m.kind hint)))
       (λ e. taken_off) (λ e. receiving e m.kind refl)
     where
-      receiving : is_awake g m.to ≡ false → (k : Kind) → m.kind ≡ k → falls_here (received g i (without c x) m k hint)
+      receiving : is_awake g m.to ≡ false → (k : Kind) → m.kind ≡ k
+          → falls_here (after_message g i (without_message c x) m k hint)
       receiving rests Reply kind = reply_falls kind
       receiving rests Query kind = by_test (engages (proc_at c.procs m.to) m.number)
           (λ b. falls_here
-          (cond b (hinted g i (without c x) m hint)
-          (after_step i (without c x) m.number m.to [] (proc_queried (proc_at c.procs m.to) m.number m.from 0)
+          (cond b (after_hint g i (without_message c x) m hint)
+          (after_step i (without_message c x) m.number m.to [] (proc_queried (proc_at c.procs m.to) m.number m.from 0)
           (query_action (proc_at c.procs m.to) m.number m.from 0))))
           (λ e. asked_falls kind e rests hint) (λ e. repeat_falls kind e)
 
@@ -300,7 +303,7 @@ start_raises g i c within idle size low =
       mine,
       before,
       sum_by-append (λ (y : Message). kind_weight y.kind) c.bag
-          (sent i n i (dependents_of g i) (start_action (length (dependents_of g i)))),
+          (messages_of i n i (dependents_of g i) (start_action (length (dependents_of g i)))),
       loads (dependents_of g i),
     ))
   where
@@ -316,7 +319,7 @@ start_raises g i c within idle size low =
     one_left : n - (proc_at c.procs i).latest ≡ 1
     one_left = omega arith
 
-    loads : (ds : List ℕ) → load (sent i n i ds (start_action (length ds))) ≤ 2 * length ds
+    loads : (ds : List ℕ) → load (messages_of i n i ds (start_action (length ds))) ≤ 2 * length ds
     loads [] = omega arith
     loads (d ∷ ds) = rw (ne_eqb (suc (length ds)) 0 (λ q. omega arith), load_queries i n i (d ∷ ds)) (omega arith)
 
@@ -328,7 +331,7 @@ phi_of g c = phi g c.number (proc_at c.procs) c.bag
 pub delivered_falls : (g : Graph) (i : ℕ) (c : Config) → IsWithinGraph g → length c.procs ≡ process_count g
     → Live g i c.number (proc_at c.procs) c.bag c.engaged → (x : ℕ) (m : Message) → slice_get c.bag x ≡ Some m
     → (hint : Option Verdict)
-    → phi_of g (delivered g i c x m hint) + 1 ≤ phi_of g c
+    → phi_of g (after_delivery g i c x m hint) + 1 ≤ phi_of g c
 unfolding phi_of falls_here
 delivered_falls g i c ok size L x m there hint =
     rw (number_kept g i c x m hint) (delivery_falls g i c ok size L x m there hint)
@@ -336,8 +339,8 @@ delivered_falls g i c ok size L x m there hint =
 -- a restart that is due raises the measure by at most two for each dependency
 ready_raises : (g : Graph) (i : ℕ) (s : Going) → IsWithinGraph g → i < process_count g → is_idle g i ≡ true
     → Stands g i s.config → (ns : List ℕ)
-    → phi_of g (restarted_at g i s ns).config + 2 * dependency_count g * s.restarted
-    ≤ phi_of g s.config + 2 * dependency_count g * (restarted_at g i s ns).restarted
+    → phi_of g (after_first_restart g i s ns).config + 2 * dependency_count g * s.restarted
+    ≤ phi_of g s.config + 2 * dependency_count g * (after_first_restart g i s ns).restarted
 unfolding phi_of
 ready_raises g i s ok within idle h [] = omega arith
 ready_raises g i s ok within idle h (n ∷ ns) =
@@ -365,20 +368,21 @@ leads_short : (rule : ℕ → Config → ℕ → Bool) (g : Graph) (i : ℕ) →
     → length log + 2 * dependency_count g * s.restarted ≤ phi_of g s.config + 2 * dependency_count g * end.restarted
 leads_short rule g i ok within idle rests [] s end h l =
     let now = ready_raises g i s ok within idle h s.restarts in
-    let same : (restarted_at g i s s.restarts).restarted ≡ end.restarted = ap (λ (t : Going). t.restarted) l in
+    let same : (after_first_restart g i s s.restarts).restarted ≡ end.restarted = ap (λ (t : Going). t.restarted) l in
     rw (← same) (omega (arith, now))
 leads_short rule g i ok within idle rests (d ∷ log) s end h l =
-    let now : Stands g i (ready g i s).config = ready_stands g i s ok within rests h s.restarts in
-    let live = status_none g i (ready g i s).config now l.1.going in
+    let now : Stands g i (after_due_restart g i s).config = ready_stands g i s ok within rests h s.restarts in
+    let live = status_none g i (after_due_restart g i s).config now l.1.going in
     let raised = ready_raises g i s ok within idle h s.restarts in
-    let fell = delivered_falls g i (ready g i s).config ok now.size live.0 l.0 d.message l.1.there d.hint in
-    let rest = leads_short rule g i ok within idle rests log (after g i (ready g i s) l.0 d) end
-    (stepped g i (ready g i s).config ok now.size l.1.going live.0 live.1 l.0 d.message l.1.there d.hint l.1.hint)
+    let fell = delivered_falls g i (after_due_restart g i s).config ok now.size live.0 l.0 d.message l.1.there d.hint in
+    let rest = leads_short rule g i ok within idle rests log (going_after g i (after_due_restart g i s) l.0 d) end
+    (stepped g i (after_due_restart g i s).config ok now.size l.1.going live.0 live.1 l.0 d.message l.1.there d.hint
+    l.1.hint)
     l.3 in
     omega (arith, raised, fell, rest)
 
 -- processes that have heard of nothing lead to no delivery
-fresh_total : (g : Graph) (n l : ℕ) → total g 0 (proc_at (replicate n fresh)) l ≡ 0
+fresh_total : (g : Graph) (n l : ℕ) → total g 0 (proc_at (replicate n new_proc)) l ≡ 0
 fresh_total g n zero = refl
 fresh_total g n (suc l) = rw (fresh_total g n l, fresh_at n l) (omega arith)
 
@@ -396,16 +400,16 @@ empty_log rule g i (d ∷ log) end l = absurd (none-some _ l.1.there)
 
 -- the first start raises the measure by at most two for each dependency
 first_raised : (g : Graph) (i : ℕ) → i < process_count g → is_idle g i ≡ true
-    → (proc_at (replicate (process_count g) fresh) i).latest ≤ 0
+    → (proc_at (replicate (process_count g) new_proc) i).latest ≤ 0
     → phi_of g (start g i (nothing_yet g)) ≤ phi_of g (nothing_yet g) + 2 * dependency_count g
 unfolding phi_of
 first_raised g i within idle low =
-    start_raises g i (nothing_yet g) within idle (length-replicate (process_count g) fresh) low
+    start_raises g i (nothing_yet g) within idle (length-replicate (process_count g) new_proc) low
 
 -- wherever deliveries lead from the start, they are at most two for each dependency and start
 pub leads_are_short : (rule : ℕ → Config → ℕ → Bool) (g : Graph) (i : ℕ) (restarts : List ℕ) (log : List Delivery)
     (end : Going)
-    → IsWithinGraph g → is_idle g i ≡ true → DeliveriesLead rule g i (begun g i restarts) log end
+    → IsWithinGraph g → is_idle g i ≡ true → DeliveriesLead rule g i (going_at_start g i restarts) log end
     → length log ≤ 2 * dependency_count g * (end.restarted + 1)
 leads_are_short rule g i restarts log end ok idle all = by_awake (is_awake g i) refl
   where
@@ -424,7 +428,7 @@ leads_are_short rule g i restarts log end ok idle all = by_awake (is_awake g i) 
         leads_short rule g i ok within idle rests log
         (record { config = start g i (nothing_yet g); done = 0; restarts = restarts; restarted = 0 }) end
         (first_start g i ok within rests) leads in
-        let low : (proc_at (replicate (process_count g) fresh) i).latest ≤ 0 =
+        let low : (proc_at (replicate (process_count g) new_proc) i).latest ≤ 0 =
         rw (fresh_at (process_count g) i) (omega arith) in
         let first : phi_of g (start g i (nothing_yet g)) ≤ phi_of g (nothing_yet g) + 2 * dependency_count g =
         first_raised g i within idle low in

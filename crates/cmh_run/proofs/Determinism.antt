@@ -10,7 +10,7 @@ use Rattle.cmh_run.specs.declared.delivery.Ending.TheVariants.{Declared, AtRest,
 use Rattle.cmh_graph.specs.Graph.{Graph}
 use Rattle.cmh_run.specs.Config.{Config}
 use Rattle.cmh_run.specs.Run.{Run, OneRun}
-use Rattle.cmh_run.specs.Legal.{Going, begun, ready, after, MayCome, DeliveriesLead, EndsAs, IsRun}
+use Rattle.cmh_run.specs.Legal.{Going, going_at_start, after_due_restart, going_after, MayCome, DeliveriesLead, EndsAs, IsRun}
 use Rattle.cmh_run.specs.Choices.{chosen_place, HasNoHints, RunsAreDeterministic}
 
 -- once a run has ended no delivery may come
@@ -26,28 +26,30 @@ decides : (choices : List ℕ) (g : Graph) (i : ℕ) (log other : List Delivery)
     → HasNoHints log → HasNoHints other → (log ≡ other) × (end ≡ far)
 decides choices g i [] [] s end far ending last l k e f a b = (refl, sym l ∙ k)
 decides choices g i [] (d ∷ other) s end far ending last l k e f a b =
-    absurd (over g (ready g i s).config k.0 d ending (subst (λ (t : Going). EndsAs t.config ending) (sym l) e) k.1)
+    absurd (over g (after_due_restart g i s).config k.0 d ending
+    (subst (λ (t : Going). EndsAs t.config ending) (sym l) e) k.1)
 decides choices g i (d ∷ log) [] s end far ending last l k e f a b =
-    absurd (over g (ready g i s).config l.0 d last (subst (λ (t : Going). EndsAs t.config last) (sym k) f) l.1)
+    absurd (over g (after_due_restart g i s).config l.0 d last
+    (subst (λ (t : Going). EndsAs t.config last) (sym k) f) l.1)
 decides choices g i (d ∷ log) (h ∷ other) s end far ending last l k e f a b =
-    let place : l.0 ≡ k.0 = eqb-true l.0 (slice_index choices s.done % length (ready g i s).config.bag) l.2
-    ∙ sym (eqb-true k.0 (slice_index choices s.done % length (ready g i s).config.bag) k.2) in
+    let place : l.0 ≡ k.0 = eqb-true l.0 (slice_index choices s.done % length (after_due_restart g i s).config.bag) l.2
+    ∙ sym (eqb-true k.0 (slice_index choices s.done % length (after_due_restart g i s).config.bag) k.2) in
     let message : d.message ≡ h.message =
     same_Some d.message h.message
-    (sym l.1.there ∙ ap (λ (x : ℕ). slice_get (ready g i s).config.bag x) place ∙ k.1.there) in
+    (sym l.1.there ∙ ap (λ (x : ℕ). slice_get (after_due_restart g i s).config.bag x) place ∙ k.1.there) in
     let same : d ≡ h =
     ap₂ (λ (m : Message) (v : Option Verdict). let r : Delivery = record { message = m; hint = v } in r) message
     (a.0 ∙ sym b.0) in
-    let next : after g i (ready g i s) l.0 d ≡ after g i (ready g i s) k.0 h =
-    ap₂ (λ (x : ℕ) (y : Delivery). after g i (ready g i s) x y) place same in
-    let rest = decides choices g i log other (after g i (ready g i s) l.0 d) end far ending last l.3
+    let next : going_after g i (after_due_restart g i s) l.0 d ≡ going_after g i (after_due_restart g i s) k.0 h =
+    ap₂ (λ (x : ℕ) (y : Delivery). going_after g i (after_due_restart g i s) x y) place same in
+    let rest = decides choices g i log other (going_after g i (after_due_restart g i s) l.0 d) end far ending last l.3
     (subst (λ (t : Going). DeliveriesLead (chosen_place choices) g i t other far) (sym next) k.3) e f a.1 b.1 in
     (ap₂ (λ (x : Delivery) (xs : List Delivery). x ∷ xs) same rest.0, rest.1)
 
 -- without hints the choices leave one run
 pub runs_are_deterministic : RunsAreDeterministic
 runs_are_deterministic choices g i restarts log other ending last end far r t a b =
-    decides choices g i log other (begun g i restarts) end far ending last r.leads t.leads r.ends t.ends a b
+    decides choices g i log other (going_at_start g i restarts) end far ending last r.leads t.leads r.ends t.ends a b
 
 -- a configuration has one ending
 pub one_ending : (c : Config) (ending last : Ending) → EndsAs c ending → EndsAs c last → ending ≡ last

@@ -6,7 +6,7 @@ use Rattle.cmh_process.specs.declared.message.Message.{Message}
 use Rattle.cmh_run.specs.declared.delivery.Delivery.{Delivery}
 use Rattle.cmh_run.specs.declared.delivery.Ending.TheVariants.{Declared}
 use Rattle.cmh_run.specs.Config.{query, reply}
-use Rattle.cmh_run.specs.Last.{alone}
+use Rattle.cmh_run.specs.Last.{computation_log}
 use Rattle.cmh_run.specs.Legal.{Going, any_place, IsRun}
 
 -- a delivery without a hint
@@ -34,7 +34,7 @@ restarted =
     ∷ plain (reply 0 1 1 0) ∷ plain (query 0 2 1 0) ∷ plain (reply 0 2 0 1) ∷ plain (reply 0 2 1 0) ∷ []
 
 -- the last computation of the run with a restart, taken alone, is the run without restarts
-last_alone : alone 2 restarted ≡ deliveries
+last_alone : computation_log 2 restarted ≡ deliveries
 last_alone = refl
 
 -- the run without restarts is legal, and declared

@@ -12,12 +12,12 @@ use Rattle.cmh_run.specs.declared.delivery.Ending.{Ending}
 use Rattle.cmh_run.specs.declared.delivery.Ending.TheVariants.{Declared, AtRest, CutFree}
 use Rattle.cmh_graph.specs.Graph.{Graph, process_count, is_idle, is_awake, IsWithinGraph, dependency_count}
 use Rattle.cmh_graph.proofs.Verdicts.{idle_within}
-use Rattle.cmh_process.specs.Process.{fresh}
-use Rattle.cmh_run.specs.Config.{Config, blank, proc_at, nothing_yet, start, without}
-use Rattle.cmh_run.specs.Legal.{Going, going_from, begun, restart, restarted_at, ready, after, Rule, MayCome, DeliveriesLead, EndsAs, IsRun, HintIsFit, IsRight}
+use Rattle.cmh_process.specs.Process.{new_proc}
+use Rattle.cmh_run.specs.Config.{Config, blank_config, proc_at, nothing_yet, start, without_message}
+use Rattle.cmh_run.specs.Legal.{Going, going_from, going_at_start, after_restart, after_first_restart, after_due_restart, going_after, Rule, MayCome, DeliveriesLead, EndsAs, IsRun, HintIsFit, IsRight}
 use Rattle.cmh_run.specs.Choices.{chosen_place, HasNoHints}
 use Rattle.cmh_run.specs.Engaged.{AreEngaged}
-use Rattle.cmh_run.specs.Run.{ProgressState, Follows, Run, IsAccepted, IsRunOf, IsRunAnswer, TellsTruth, empty_run_of, verdict_of, MayStart, place_in, IsTakenBy, delivered_to, ending_of}
+use Rattle.cmh_run.specs.Run.{ProgressState, Follows, Run, IsAccepted, IsRunOf, IsRunAnswer, TellsTruth, empty_run_of, verdict_of, MayStart, place_in, IsTakenBy, progress_after, ending_of}
 use Rattle.cmh_run.specs.Packed.{CanSend, EngagersHaveRoom}
 use Rattle.cmh_run.specs.declared.TheConstants.{MAX_RESTARTS}
 use Rattle.cmh_graph.specs.Verdict.{IsVerdict}
@@ -32,33 +32,36 @@ use Rattle.cmh_run.proofs.DeliveryBound.{leads_are_short, deliveries_are_bounded
 use Rattle.cmh_graph.specs.Build.{IsWellFormed}
 
 -- a restart changes nothing of how many deliveries there were
-restart_keeps_count : (g : Graph) (i : ℕ) (s : Going) (ns : List ℕ) → (restarted_at g i s ns).done ≡ s.done
+restart_keeps_count : (g : Graph) (i : ℕ) (s : Going) (ns : List ℕ) → (after_first_restart g i s ns).done ≡ s.done
 restart_keeps_count g i s [] = refl
 restart_keeps_count g i s (n ∷ ns) =
-    by_test (is_none s.config.ended && eqb n s.done) (λ b. (cond b (restart g i s ns) s).done ≡ s.done) (λ e. refl)
+    by_test (is_none s.config.ended && eqb n s.done) (λ b. (cond b (after_restart g i s ns) s).done ≡ s.done)
+    (λ e. refl)
     (λ e. refl)
 
 -- deliveries that lead somewhere lead on by one more that may come there and that the rule allows
 pub leads_on : (rule : Rule) (g : Graph) (i : ℕ) (log : List Delivery) (s mid : Going) (x : ℕ) (d : Delivery)
     → DeliveriesLead rule g i s log mid → MayCome g mid.config x d → rule mid.done mid.config x ≡ true
-    → DeliveriesLead rule g i s (log ++ d ∷ []) (ready g i (after g i mid x d))
+    → DeliveriesLead rule g i s (log ++ d ∷ []) (after_due_restart g i (going_after g i mid x d))
 leads_on rule g i [] s mid x d l may chosen = (
   x,
   subst (λ (t : Going). MayCome g t.config x d) (sym l) may,
-  subst (λ (n : ℕ). rule n (ready g i s).config x ≡ true) (restart_keeps_count g i s s.restarts)
+  subst (λ (n : ℕ). rule n (after_due_restart g i s).config x ≡ true) (restart_keeps_count g i s s.restarts)
       (subst (λ (t : Going). rule t.done t.config x ≡ true) (sym l) chosen),
-  subst (λ (t : Going). ready g i (after g i (ready g i s) x d) ≡ ready g i (after g i t x d)) l refl,
+  subst (λ (t : Going). after_due_restart g i (going_after g i (after_due_restart g i s) x d)
+      ≡ after_due_restart g i (going_after g i t x d)) l refl,
 )
 leads_on rule g i (e ∷ log) s mid x d l may chosen =
-    (l.0, l.1, l.2, leads_on rule g i log (after g i (ready g i s) l.0 e) mid x d l.3 may chosen)
+    (l.0, l.1, l.2, leads_on rule g i log (going_after g i (after_due_restart g i s) l.0 e) mid x d l.3 may chosen)
 
 -- a restart that is due takes one of those to come
 ready_restarts : (g : Graph) (i : ℕ) (s : Going) (ns : List ℕ) → s.restarts ≡ ns
-    → (restarted_at g i s ns).restarted + length (restarted_at g i s ns).restarts ≤ s.restarted + length s.restarts
+    → (after_first_restart g i s ns).restarted + length
+    (after_first_restart g i s ns).restarts ≤ s.restarted + length s.restarts
 ready_restarts g i s [] e = omega arith
 ready_restarts g i s (n ∷ ns) e =
     by_test (is_none s.config.ended && eqb n s.done)
-    (λ b. (cond b (restart g i s ns) s).restarted + length (cond b (restart g i s ns) s).restarts
+    (λ b. (cond b (after_restart g i s ns) s).restarted + length (cond b (after_restart g i s ns) s).restarts
     ≤ s.restarted + length s.restarts)
     (λ t. rw e (omega arith)) (λ t. omega arith)
 
@@ -71,17 +74,17 @@ leads_restarts rule g i [] s end l =
     (ready_restarts g i s s.restarts refl)
 leads_restarts rule g i (d ∷ log) s end l =
     let now = ready_restarts g i s s.restarts refl in
-    let rest = leads_restarts rule g i log (after g i (ready g i s) l.0 d) end l.3 in
+    let rest = leads_restarts rule g i log (going_after g i (after_due_restart g i s) l.0 d) end l.3 in
     omega (arith, now, rest)
 
 module _ (g : Graph) (i : ℕ) (ok : IsWithinGraph g) (within : i < process_count g) (rests : is_awake g i ≡ false) where
   -- a restart keeps the number of the last start one more than the restarts
   ready_numbered : (s : Going) (ns : List ℕ) → Stands g i s.config → s.config.number ≡ s.restarted + 1
-      → (restarted_at g i s ns).config.number ≡ (restarted_at g i s ns).restarted + 1
+      → (after_first_restart g i s ns).config.number ≡ (after_first_restart g i s ns).restarted + 1
   ready_numbered s [] h e = e
   ready_numbered s (n ∷ ns) h e =
       by_test (is_none s.config.ended && eqb n s.done)
-      (λ b. (cond b (restart g i s ns) s).config.number ≡ (cond b (restart g i s ns) s).restarted + 1)
+      (λ b. (cond b (after_restart g i s ns) s).config.number ≡ (cond b (after_restart g i s ns) s).restarted + 1)
       (λ t. let live = status_none g i s.config h
       (is_none_true s.config.ended (and_parts (is_none s.config.ended) (eqb n s.done) t).0) in
       omega (arith, live.0.sound.root_in, e))
@@ -94,11 +97,12 @@ module _ (g : Graph) (i : ℕ) (ok : IsWithinGraph g) (within : i < process_coun
   leads_numbered rule [] s end h e l =
       subst (λ (t : Going). t.config.number ≡ t.restarted + 1) l (ready_numbered s s.restarts h e)
   leads_numbered rule (d ∷ log) s end h e l =
-      let now : Stands g i (ready g i s).config = ready_stands g i s ok within rests h s.restarts in
-      let live = status_none g i (ready g i s).config now l.1.going in
-      leads_numbered rule log (after g i (ready g i s) l.0 d) end
-      (stepped g i (ready g i s).config ok now.size l.1.going live.0 live.1 l.0 d.message l.1.there d.hint l.1.hint)
-      (number_kept g i (ready g i s).config l.0 d.message d.hint ∙ ready_numbered s s.restarts h e) l.3
+      let now : Stands g i (after_due_restart g i s).config = ready_stands g i s ok within rests h s.restarts in
+      let live = status_none g i (after_due_restart g i s).config now l.1.going in
+      leads_numbered rule log (going_after g i (after_due_restart g i s) l.0 d) end
+      (stepped g i (after_due_restart g i s).config ok now.size l.1.going live.0 live.1 l.0 d.message l.1.there d.hint
+      l.1.hint)
+      (number_kept g i (after_due_restart g i s).config l.0 d.message d.hint ∙ ready_numbered s s.restarts h e) l.3
 
   -- the initiator may start again while few restarts were
   may_start : (s : Going) → Stands g i s.config → s.config.number ≡ s.restarted + 1 → s.restarted ≤ MAX_RESTARTS
@@ -179,7 +183,7 @@ module _ (g : Graph) (i : ℕ) (choices restarts : List ℕ) (s : ProgressState)
       by_awake true e =
           ap (λ (t : Going). length t.config.procs)
           (nothing_comes (chosen_place choices) g i s.log s.going (awake_leads e))
-          ∙ length-replicate (process_count g) fresh
+          ∙ length-replicate (process_count g) new_proc
       by_awake false e =
           (follows_stands g i ok within e (chosen_place choices) restarts s.log s.going (asleep_leads e)).size
 
@@ -212,11 +216,11 @@ module _ (g : Graph) (i : ℕ) (choices restarts : List ℕ) (s : ProgressState)
 
   -- the initiator may start again after a delivery
   may_start_after : (x : ℕ) (d : Delivery) → length restarts ≤ MAX_RESTARTS → MayCome g s.going.config x d
-      → (after g i s.going x d).config.ended ≡ None → MayStart g i (after g i s.going x d)
+      → (going_after g i s.going x d).config.ended ≡ None → MayStart g i (going_after g i s.going x d)
   may_start_after x d few may going =
       let firm = steady x d.message may.there in
       let live = status_none g i s.going.config firm.stands may.going in
-      may_start g i ok within firm.rests (after g i s.going x d)
+      may_start g i ok within firm.rests (going_after g i s.going x d)
       (stepped g i s.going.config ok firm.stands.size may.going live.0 live.1 x d.message may.there d.hint may.hint)
       (number_kept g i s.going.config x d.message d.hint ∙ firm.numbered) (few_restarts few) going
 
@@ -254,11 +258,11 @@ module _ (g : Graph) (i : ℕ) (choices restarts : List ℕ) (s : ProgressState)
   -- the run goes on by a delivery that the choices name
   pub follows_on : (d : Delivery) → MayCome g s.going.config (place_in choices s) d
       → Follows g i choices restarts
-      (record { going = ready g i (after g i s.going (place_in choices s) d); log = s.log ++ d ∷ [] })
+      (record { going = after_due_restart g i (going_after g i s.going (place_in choices s) d); log = s.log ++ d ∷ [] })
   follows_on d may = record {
-    leads = leads_on (chosen_place choices) g i s.log (begun g i restarts) s.going
+    leads = leads_on (chosen_place choices) g i s.log (going_at_start g i restarts) s.going
         (place_in choices s) d f.leads may chosen;
-    count = restart_keeps_count g i (after g i s.going (place_in choices s) d) s.going.restarts ∙ longer;
+    count = restart_keeps_count g i (going_after g i s.going (place_in choices s) d) s.going.restarts ∙ longer;
   }
     where
       chosen : chosen_place choices s.going.done s.going.config (place_in choices s) ≡ true
@@ -269,13 +273,13 @@ module _ (g : Graph) (i : ℕ) (choices restarts : List ℕ) (s : ProgressState)
 
 -- at first the initiator may start again
 pub may_start_first : (g : Graph) (i : ℕ) (restarts : List ℕ) → IsWithinGraph g → is_idle g i ≡ true
-    → (begun g i restarts).config.ended ≡ None → MayStart g i (begun g i restarts)
+    → (going_at_start g i restarts).config.ended ≡ None → MayStart g i (going_at_start g i restarts)
 may_start_first g i restarts ok idle =
     by_test (is_awake g i)
     (λ b. (cond b (going_from (nothing_yet g) []) (going_from (start g i (nothing_yet g)) restarts)).config.ended ≡ None
     → MayStart g i (cond b (going_from (nothing_yet g) []) (going_from (start g i (nothing_yet g)) restarts)))
     (λ e going. record {
-      size = length-replicate (process_count g) fresh;
+      size = length-replicate (process_count g) new_proc;
       within = idle_within g i idle;
       next = rw (fresh_at (process_count g) i) (omega arith);
       count = omega arith;
@@ -359,13 +363,13 @@ module _ (g : Graph) (i : ℕ) (choices restarts : List ℕ) (s t : ProgressStat
         hint = same_fit hint (subst (λ (u : ProgressState). HintIsFit g u.going.config m hint) taken.2 fit);
       }
     where
-      same_fit : (h : Option Verdict) → HintIsFit g (without s.going.config (place_in choices s)) m h
+      same_fit : (h : Option Verdict) → HintIsFit g (without_message s.going.config (place_in choices s)) m h
           → HintIsFit g s.going.config m h
       same_fit None e = tt
       same_fit (Some v) e = e
 
   module _ (hint : Option Verdict) (fit : HintIsFit g t.going.config m hint) (u : ProgressState)
-      (step : u ≡ delivered_to g i t (record { message = m; hint = hint })) where
+      (step : u ≡ progress_after g i t (record { message = m; hint = hint })) where
     -- the delivery of m with this hint
     d : Delivery
     d = record { message = m; hint = hint }
@@ -373,10 +377,10 @@ module _ (g : Graph) (i : ℕ) (choices restarts : List ℕ) (s t : ProgressStat
     -- once m is delivered, the run is where this delivery leads, which is the last of its log
     is_after : u
         ≡ record {
-          going = after g i s.going (place_in choices s) (record { message = m; hint = hint });
+          going = going_after g i s.going (place_in choices s) (record { message = m; hint = hint });
           log = s.log ++ (record { message = m; hint = hint }) ∷ [];
         }
-    is_after = step ∙ ap (λ (w : ProgressState). delivered_to g i w (record { message = m; hint = hint })) taken.2
+    is_after = step ∙ ap (λ (w : ProgressState). progress_after g i w (record { message = m; hint = hint })) taken.2
 
     -- once m is delivered the initiator may start again, if the run isn't over
     pub taken_may_start : length restarts ≤ MAX_RESTARTS → u.going.config.ended ≡ None → MayStart g i u.going
@@ -386,24 +390,25 @@ module _ (g : Graph) (i : ℕ) (choices restarts : List ℕ) (s t : ProgressStat
         (taken_may hint fit))
 
     -- once m is delivered, and a restart has come if one is due, the run follows the choices
-    pub taken_follows : (v : ProgressState) → v ≡ record { going = ready g i u.going; log = u.log }
+    pub taken_follows : (v : ProgressState) → v ≡ record { going = after_due_restart g i u.going; log = u.log }
         → Follows g i choices restarts v
     taken_follows v e =
         subst (λ (w : ProgressState). Follows g i choices restarts w)
         (sym (e ∙ ap
-        (λ (w : ProgressState). let z : ProgressState = record { going = ready g i w.going; log = w.log } in z)
+        (λ (w : ProgressState). let z : ProgressState =
+        record { going = after_due_restart g i w.going; log = w.log } in z)
         is_after))
         (follows_on g i choices restarts s ok idle f (record { message = m; hint = hint }) (taken_may hint fit))
 
     -- once m is delivered, there was one delivery more, whether or not a restart is due
-    pub taken_done : (v : ProgressState) → v ≡ record { going = ready g i u.going; log = u.log }
+    pub taken_done : (v : ProgressState) → v ≡ record { going = after_due_restart g i u.going; log = u.log }
         → v.going.done ≡ s.going.done + 1
     taken_done v e =
         ap (λ (w : ProgressState). w.going.done) e ∙ restart_keeps_count g i u.going u.going.restarts
         ∙ ap (λ (w : ProgressState). w.going.done) is_after
 
     -- once m is delivered, the log is longer by this delivery, whether or not a restart is due
-    pub taken_log : (v : ProgressState) → v ≡ record { going = ready g i u.going; log = u.log }
+    pub taken_log : (v : ProgressState) → v ≡ record { going = after_due_restart g i u.going; log = u.log }
         → v.log ≡ s.log ++ (record { message = m; hint = hint }) ∷ []
     taken_log v e = ap (λ (w : ProgressState). w.log) e ∙ ap (λ (w : ProgressState). w.log) is_after
 
@@ -412,11 +417,11 @@ module _ (g : Graph) (i : ℕ) (choices restarts : List ℕ) (s t : ProgressStat
     taken_restarts none = ap (λ (w : ProgressState). w.going.restarts) is_after ∙ none
 
     -- where no restarts are to come, the initiator doesn't start again once m is delivered
-    pub taken_rests : s.going.restarts ≡ [] → u ≡ record { going = ready g i u.going; log = u.log }
+    pub taken_rests : s.going.restarts ≡ [] → u ≡ record { going = after_due_restart g i u.going; log = u.log }
     taken_rests none = rw (taken_restarts none) refl
 
     -- once m is delivered, fewer deliveries may still come
-    pub taken_falls : (v : ProgressState) → v ≡ record { going = ready g i u.going; log = u.log }
+    pub taken_falls : (v : ProgressState) → v ≡ record { going = after_due_restart g i u.going; log = u.log }
         → length restarts ≤ MAX_RESTARTS
         → 2 * dependency_count g * (MAX_RESTARTS + 1) + 1 - length v.log
         < 2 * dependency_count g * (MAX_RESTARTS + 1) + 1 - length s.log
@@ -461,10 +466,10 @@ over_log choices s t over = ap (λ (w : ProgressState). w.log) over.0
 -- a network that is cleared when there is no message to take is as at first
 pub cleared : (g : Graph) (i : ℕ) (choices restarts : List ℕ) (s t : ProgressState) (c : Config) → IsWithinGraph g
     → is_idle g i ≡ true → Follows g i choices restarts s
-    → IsTakenBy choices s t None → c ≡ blank (length t.going.config.procs) → c ≡ nothing_yet g
+    → IsTakenBy choices s t None → c ≡ blank_config (length t.going.config.procs) → c ≡ nothing_yet g
 cleared g i choices restarts s t c ok idle f over e =
-    e ∙ ap (λ (w : ProgressState). blank (length w.going.config.procs)) over.0
-    ∙ ap blank (all_there g i choices restarts s ok idle f)
+    e ∙ ap (λ (w : ProgressState). blank_config (length w.going.config.procs)) over.0
+    ∙ ap blank_config (all_there g i choices restarts s ok idle f)
 
 -- what is kept of a run when there is no message to take is a legal run that followed the choices
 pub finished : (g : Graph) (i : ℕ) (choices restarts : List ℕ) (s t : ProgressState) (r : Run) → IsWithinGraph g
@@ -523,7 +528,7 @@ run_is_true g i choices restarts r ok idle same k =
 
 -- at first no more restarts are to come than were given
 begun_restarts : (g : Graph) (i : ℕ) (restarts : List ℕ)
-    → (begun g i restarts).restarted + length (begun g i restarts).restarts ≤ length restarts
+    → (going_at_start g i restarts).restarted + length (going_at_start g i restarts).restarts ≤ length restarts
 begun_restarts g i restarts =
     by_test (is_awake g i)
     (λ b. (cond b (going_from (nothing_yet g) []) (going_from (start g i (nothing_yet g)) restarts)).restarted
@@ -538,7 +543,8 @@ restarted_few g choices restarts r k =
     omega (
       arith,
       k.restarted,
-      leads_restarts (chosen_place choices) g r.initiator r.log (begun g r.initiator restarts) k.end k.legal.leads,
+      leads_restarts (chosen_place choices) g r.initiator r.log
+          (going_at_start g r.initiator restarts) k.end k.legal.leads,
       begun_restarts g r.initiator restarts,
     )
 

@@ -4,15 +4,15 @@ use Rattle.std.proofs.lemmas.Option.{none-some}
 use Rattle.std.proofs.lemmas.Bool.{eqb-true, eq-eqb, ne_eqb, cases_eq, and_parts}
 use Rattle.std.proofs.lemmas.List.{length-replicate}
 use Rattle.cmh_process.specs.declared.message.Message.{Message}
-use Rattle.cmh_process.specs.Process.{fresh, start_action, counts}
+use Rattle.cmh_process.specs.Process.{new_proc, start_action, counts_reply}
 use Rattle.cmh_graph.specs.Graph.{Graph, process_count, dependents_of, is_awake, IsWithinGraph}
 use Rattle.cmh_graph.proofs.Verdicts.{idle_within}
 use Rattle.cmh_run.specs.declared.delivery.Delivery.{Delivery}
 use Rattle.cmh_run.specs.declared.delivery.Ending.{Ending}
 use Rattle.cmh_run.specs.declared.delivery.Ending.TheVariants.{Declared, AtRest, CutFree}
-use Rattle.cmh_run.specs.Config.{Config, proc_at, nothing_yet, start, delivered}
-use Rattle.cmh_run.specs.Legal.{Going, going_from, restart, restarted_at, ready, after, Rule, MayCome, any_place, DeliveriesLead, EndsAs}
-use Rattle.cmh_run.specs.Last.{renumbered, alone, IsUncut, LastIsRun, LastComputationIsARun}
+use Rattle.cmh_run.specs.Config.{Config, proc_at, nothing_yet, start, after_delivery}
+use Rattle.cmh_run.specs.Legal.{Going, going_from, after_restart, after_first_restart, after_due_restart, going_after, Rule, MayCome, any_place, DeliveriesLead, EndsAs}
+use Rattle.cmh_run.specs.Last.{renumber, computation_log, IsUncut, LastIsRun, LastComputationIsARun}
 use Rattle.cmh_run.proofs.Tokens.{each_at, each_more}
 use Rattle.cmh_run.proofs.LiveInvariant.{Live, Fine}
 use Rattle.cmh_run.proofs.Soundness.{number_kept}
@@ -36,17 +36,17 @@ joined : (g : Graph) (i : ℕ) (log rest : List Delivery) (a b : Config) (k j : 
     → DeliveriesLead any_place g i (plain a k) (log ++ rest) end
 joined g i [] rest a b k j end l r = subst (λ (t : Going). DeliveriesLead any_place g i t rest end) (sym l) r
 joined g i (d ∷ log) rest a b k j end l r =
-    (l.0, l.1, l.2, joined g i log rest (delivered g i a l.0 d.message d.hint) b (k + 1) j end l.3 r)
+    (l.0, l.1, l.2, joined g i log rest (after_delivery g i a l.0 d.message d.hint) b (k + 1) j end l.3 r)
 
 module _ (rule : Rule) (g : Graph) (i : ℕ) (ok : IsWithinGraph g) (within : i < process_count g)
     (rests : is_awake g i ≡ false) where
   -- a restart that is due raises the number
   ready_rises : (s : Going) (ns : List ℕ) → Stands g i s.config
-      → s.config.number ≤ (restarted_at g i s ns).config.number
+      → s.config.number ≤ (after_first_restart g i s ns).config.number
   ready_rises s [] h = omega arith
   ready_rises s (n ∷ ns) h =
       by_test (is_none s.config.ended && eqb n s.done)
-      (λ b. s.config.number ≤ (cond b (restart g i s ns) s).config.number)
+      (λ b. s.config.number ≤ (cond b (after_restart g i s ns) s).config.number)
       (λ t. let live = status_none g i s.config h
       (is_none_true s.config.ended (and_parts (is_none s.config.ended) (eqb n s.done) t).0) in
       omega (arith, live.0.sound.root_in))
@@ -57,15 +57,16 @@ module _ (rule : Rule) (g : Graph) (i : ℕ) (ok : IsWithinGraph g) (within : i 
       → s.config.number ≤ end.config.number
   leads_rises [] s end h l = subst (λ (t : Going). s.config.number ≤ t.config.number) l (ready_rises s s.restarts h)
   leads_rises (d ∷ log) s end h l =
-      let now : Stands g i (ready g i s).config = ready_stands g i s ok within rests h s.restarts in
-      let live = status_none g i (ready g i s).config now l.1.going in
+      let now : Stands g i (after_due_restart g i s).config = ready_stands g i s ok within rests h s.restarts in
+      let live = status_none g i (after_due_restart g i s).config now l.1.going in
       omega (
         arith,
         ready_rises s s.restarts h,
-        number_kept g i (ready g i s).config l.0 d.message d.hint,
-        leads_rises log (after g i (ready g i s) l.0 d) end
+        number_kept g i (after_due_restart g i s).config l.0 d.message d.hint,
+        leads_rises log (going_after g i (after_due_restart g i s) l.0 d) end
             (stepped g i
-            (ready g i s).config ok now.size l.1.going live.0 live.1 l.0 d.message l.1.there d.hint l.1.hint) l.3,
+            (after_due_restart g i s).config ok now.size l.1.going live.0 live.1 l.0 d.message l.1.there d.hint
+            l.1.hint) l.3,
       )
 
   module _ (n : ℕ) where
@@ -80,12 +81,13 @@ module _ (rule : Rule) (g : Graph) (i : ℕ) (ok : IsWithinGraph g) (within : i 
 
     -- a restart changes nothing of where the run of computation n alone is
     ready_shadows : (s : Going) (a : Config) → Stands g i s.config → Shadows g i n s.config a → (ns : List ℕ)
-        → (restarted_at g i s ns).config.number ≤ n
-        → Shadows g i n (restarted_at g i s ns).config a
+        → (after_first_restart g i s ns).config.number ≤ n
+        → Shadows g i n (after_first_restart g i s ns).config a
     ready_shadows s a h sh [] = λ low. sh
     ready_shadows s a h sh (k ∷ ns) =
         by_test (is_none s.config.ended && eqb k s.done)
-        (λ b. (cond b (restart g i s ns) s).config.number ≤ n → Shadows g i n (cond b (restart g i s ns) s).config a)
+        (λ b. (cond b (after_restart g i s ns) s).config.number ≤ n
+        → Shadows g i n (cond b (after_restart g i s ns) s).config a)
         (λ t low. let going : s.config.ended
         ≡ None = is_none_true s.config.ended (and_parts (is_none s.config.ended) (eqb k s.done) t).0 in
         let live = status_none g i s.config h going in
@@ -106,7 +108,7 @@ module _ (rule : Rule) (g : Graph) (i : ℕ) (ok : IsWithinGraph g) (within : i 
     record Alone (log : List Delivery) (a : Config) (k : ℕ) (end : Going) : Type 0 where
       at : Config
       done : ℕ
-      leads : DeliveriesLead any_place g i (plain a k) (alone n log) (plain at done)
+      leads : DeliveriesLead any_place g i (plain a k) (computation_log n log) (plain at done)
       shadows : Shadows g i n end.config at
 
     module _ (s : Going) (d : Delivery) (x : ℕ) (h : Stands g i s.config) (may : MayCome g s.config x d)
@@ -121,7 +123,7 @@ module _ (rule : Rule) (g : Graph) (i : ℕ) (ok : IsWithinGraph g) (within : i 
 
       -- the delivery of a message of another computation leaves the run of computation n alone where it is
       older_shadows : (d.message.number ≡ n → ⊥) → (a : Config) → Shadows g i n s.config a
-          → Shadows g i n (after g i s x d).config a
+          → Shadows g i n (going_after g i s x d).config a
       older_shadows other a sh = record {
         newest = λ q.
             let is_n : s.config.number ≡ n = sym (number_kept g i s.config x d.message d.hint) ∙ q in
@@ -135,7 +137,7 @@ module _ (rule : Rule) (g : Graph) (i : ℕ) (ok : IsWithinGraph g) (within : i 
       }
         where
           no_top : s.config.number ≡ n → d.message.number < n
-              → counts (proc_at s.config.procs d.message.to) d.message.number ≡ true
+              → counts_reply (proc_at s.config.procs d.message.to) d.message.number ≡ true
               → (proc_at s.config.procs d.message.to).engager ≡ None → ⊥
           no_top is_n below c top =
               let latest : (proc_at s.config.procs d.message.to).latest ≡ d.message.number = counted in
@@ -162,17 +164,18 @@ module _ (rule : Rule) (g : Graph) (i : ℕ) (ok : IsWithinGraph g) (within : i 
           ∙ ap (λ (z : ℕ). shadow z s.config None) (sym is_n)
 
       -- after a message of computation n its run alone is where the whole run is, seen from it
-      after_own : d.message.number ≡ n → (b : Config) (e : Option Ending) → SameEnd (after g i s x d).config.ended e
-          → b ≡ shadow d.message.number (after g i s x d).config e
-          → Shadows g i n (after g i s x d).config b
+      after_own : d.message.number ≡ n → (b : Config) (e : Option Ending)
+          → SameEnd (going_after g i s x d).config.ended e
+          → b ≡ shadow d.message.number (going_after g i s x d).config e
+          → Shadows g i n (going_after g i s x d).config b
       after_own is_n b e same here = record {
-        newest = λ q. (e, same, here ∙ ap (λ (z : ℕ). shadow z (after g i s x d).config e) is_n);
+        newest = λ q. (e, same, here ∙ ap (λ (z : ℕ). shadow z (going_after g i s x d).config e) is_n);
         before = λ q. absurd (omega (arith, fine.low, number_kept g i s.config x d.message d.hint));
       }
 
       -- the delivery of a message of computation n leads its run alone on
       own_leads : d.message.number ≡ n → (log : List Delivery) (end : Going) (k : ℕ)
-          → ((b : Config) → Shadows g i n (after g i s x d).config b → Alone log b (k + 1) end)
+          → ((b : Config) → Shadows g i n (going_after g i s x d).config b → Alone log b (k + 1) end)
           → (a : Config) → Shadows g i n s.config a → Alone (d ∷ log) a k end
       own_leads is_n log end k on a sh =
           let same_number : s.config.number ≡ n = omega (arith, fine.low) in
@@ -185,13 +188,14 @@ module _ (rule : Rule) (g : Graph) (i : ℕ) (ok : IsWithinGraph g) (within : i 
           let fit =
           fit_alike g i s.config x d.message may.there newest may.going latest fine.positive d.hint may.hint in
           let next =
-          on (delivered g i (shadow d.message.number s.config None) (place_among d.message.number s.config.bag x)
-          (renumbered d.message) d.hint)
+          on (after_delivery g i (shadow d.message.number s.config None) (place_among d.message.number s.config.bag x)
+          (renumber d.message) d.hint)
           (after_own is_n
-          (delivered g i (shadow d.message.number s.config None) (place_among d.message.number s.config.bag x)
-          (renumbered d.message) d.hint) step.0 step.1 step.2) in
+          (after_delivery g i (shadow d.message.number s.config None) (place_among d.message.number s.config.bag x)
+          (renumber d.message) d.hint) step.0 step.1 step.2) in
           let own : DeliveriesLead any_place g i (plain (shadow d.message.number s.config None) k)
-          ((record { message = renumbered d.message; hint = d.hint }) ∷ alone n log) (plain next.at next.done) = (
+          ((record { message = renumber d.message; hint = d.hint }) ∷ computation_log n log)
+          (plain next.at next.done) = (
             place_among d.message.number s.config.bag x,
             record {
               going = refl;
@@ -206,7 +210,7 @@ module _ (rule : Rule) (g : Graph) (i : ℕ) (ok : IsWithinGraph g) (within : i 
             done = next.done;
             leads = rw (eq-eqb d.message.number n is_n)
                 (subst (λ (z : Config). DeliveriesLead any_place g i (plain z k)
-                ((record { message = renumbered d.message; hint = d.hint }) ∷ alone n log)
+                ((record { message = renumber d.message; hint = d.hint }) ∷ computation_log n log)
                 (plain next.at next.done)) (sym here) own);
             shadows = next.shadows;
           }
@@ -221,37 +225,42 @@ module _ (rule : Rule) (g : Graph) (i : ℕ) (ok : IsWithinGraph g) (within : i 
       shadows =
           subst (λ (t : Going). Shadows g i n t.config a) l
           (ready_shadows s a h sh s.restarts
-          (let last : (ready g i s).config.number ≡ end.config.number = ap (λ (t : Going). t.config.number) l in
+          (let last : (after_due_restart g i s).config.number ≡ end.config.number =
+          ap (λ (t : Going). t.config.number) l in
           omega arith));
     }
     chain (d ∷ log) s end a k h is_end sh l =
-        by_number (λ b j shadows. chain log (after g i (ready g i s) l.0 d) end b j next is_end shadows l.3)
+        by_number (λ b j shadows. chain log (going_after g i (after_due_restart g i s) l.0 d) end b j next is_end
+        shadows l.3)
         (cases_eq d.message.number n)
       where
-        now : Stands g i (ready g i s).config
+        now : Stands g i (after_due_restart g i s).config
         now = ready_stands g i s ok within rests h s.restarts
 
-        next : Stands g i (after g i (ready g i s) l.0 d).config
+        next : Stands g i (going_after g i (after_due_restart g i s) l.0 d).config
         next =
-            let live = status_none g i (ready g i s).config now l.1.going in
-            stepped g i (ready g i s).config ok now.size l.1.going live.0 live.1 l.0 d.message l.1.there d.hint l.1.hint
+            let live = status_none g i (after_due_restart g i s).config now l.1.going in
+            stepped g i (after_due_restart g i s).config ok now.size l.1.going live.0 live.1 l.0 d.message l.1.there
+            d.hint l.1.hint
 
-        low : (ready g i s).config.number ≤ n
+        low : (after_due_restart g i s).config.number ≤ n
         low = omega (
           arith,
-          number_kept g i (ready g i s).config l.0 d.message d.hint,
-          leads_rises log (after g i (ready g i s) l.0 d) end next l.3,
+          number_kept g i (after_due_restart g i s).config l.0 d.message d.hint,
+          leads_rises log (going_after g i (after_due_restart g i s) l.0 d) end next l.3,
         )
 
-        shadows_now : Shadows g i n (ready g i s).config a
+        shadows_now : Shadows g i n (after_due_restart g i s).config a
         shadows_now = ready_shadows s a h sh s.restarts low
 
-        by_number : ((b : Config) (j : ℕ) → Shadows g i n (after g i (ready g i s) l.0 d).config b → Alone log b j end)
+        by_number : ((b : Config) (j : ℕ) → Shadows g i n (going_after g i (after_due_restart g i s) l.0 d).config b
+            → Alone log b j end)
             → (d.message.number ≡ n) ⊎ (d.message.number ≡ n → ⊥) → Alone (d ∷ log) a k end
         by_number on (inl e) =
-            own_leads (ready g i s) d l.0 now l.1 low e log end k (λ b shadows. on b (k + 1) shadows) a shadows_now
+            own_leads (after_due_restart g i s) d l.0 now l.1 low e log end k
+            (λ b shadows. on b (k + 1) shadows) a shadows_now
         by_number on (inr w) =
-            let rest = on a k (older_shadows (ready g i s) d l.0 now l.1 low w a shadows_now) in
+            let rest = on a k (older_shadows (after_due_restart g i s) d l.0 now l.1 low w a shadows_now) in
             record {
               at = rest.at;
               done = rest.done;
@@ -292,7 +301,8 @@ module _ (rule : Rule) (g : Graph) (i : ℕ) (ok : IsWithinGraph g) (within : i 
   finish (suc fuel) c k h enough = finished_or c k h (λ m going there.
       let live = status_none g i c h going in
       let next =
-      finish fuel (delivered g i c 0 m None) (k + 1) (stepped g i c ok h.size going live.0 live.1 0 m there None tt)
+      finish fuel (after_delivery g i c 0 m None) (k + 1)
+      (stepped g i c ok h.size going live.0 live.1 0 m there None tt)
       (omega (arith, delivered_falls g i c ok h.size live.0 0 m there None)) in
       record {
         rest = record { message = m; hint = None } ∷ next.rest;
@@ -308,7 +318,7 @@ module _ (rule : Rule) (g : Graph) (i : ℕ) (ok : IsWithinGraph g) (within : i 
     newest = λ q. (
       (start g i (nothing_yet g)).ended,
       same_end (start_action (length (dependents_of g i))),
-      sym (start_alone g i n (nothing_yet g) (length-replicate (process_count g) fresh) q
+      sym (start_alone g i n (nothing_yet g) (length-replicate (process_count g) new_proc) q
           (λ k. rw (fresh_at (process_count g) k) (omega (arith, q, rw (fresh_at (process_count g) i) at q))) tt),
     );
     before = λ q. refl;
@@ -325,7 +335,7 @@ module _ (rule : Rule) (g : Graph) (i : ℕ) (ok : IsWithinGraph g) (within : i 
       end = on.end;
       legal = record {
         leads = rw rests
-            (joined g i (alone end.config.number log) on.rest
+            (joined g i (computation_log end.config.number log) on.rest
             (start g i (nothing_yet g)) a.at 0 a.done on.end a.leads on.leads);
         ends = on.ends;
       };
@@ -343,7 +353,7 @@ module _ (rule : Rule) (g : Graph) (i : ℕ) (ok : IsWithinGraph g) (within : i 
 
       on : Finish a.at a.done
       on = finish (phi_of g a.at) a.at a.done
-          (leads_stands any_place g i ok within rests (alone end.config.number log)
+          (leads_stands any_place g i ok within rests (computation_log end.config.number log)
           (plain (start g i (nothing_yet g)) 0) (plain a.at a.done) (first_start g i ok within rests) a.leads)
           (omega arith)
 

@@ -9,15 +9,15 @@ use Rattle.cmh_process.specs.declared.message.Message.{Message}
 use Rattle.cmh_process.specs.declared.process.Proc.{Proc}
 use Rattle.cmh_process.specs.declared.process.Action.{Action}
 use Rattle.cmh_process.specs.declared.process.Action.TheVariants.{Nothing, Engage, ReplyTo, Declare}
-use Rattle.cmh_process.specs.Process.{fresh, proc_started, start_action, engages, proc_queried, query_action, repeat_action, engage_action, counts, proc_replied, reply_action, last_action}
+use Rattle.cmh_process.specs.Process.{new_proc, proc_started, start_action, engages, proc_queried, query_action, repeat_action, engage_action, counts_reply, proc_replied, reply_action, last_action}
 use Rattle.cmh_graph.specs.declared.verdict.Verdict.{Verdict}
 use Rattle.cmh_graph.specs.declared.verdict.Verdict.TheVariants.{Deadlocked, Free}
 use Rattle.cmh_graph.specs.Graph.{Graph, process_count, dependents_of, is_awake}
 use Rattle.cmh_run.specs.declared.delivery.Ending.{Ending}
 use Rattle.cmh_run.specs.declared.delivery.Ending.TheVariants.{Declared, AtRest, CutFree}
-use Rattle.cmh_run.specs.Config.{Config, proc_at, sent, ended_by, nothing_yet, start, after_step, engaged_by, hinted, after_answer, received, without, delivered, after_cut}
+use Rattle.cmh_run.specs.Config.{Config, proc_at, messages_of, ending_after, nothing_yet, start, after_step, after_engagement, after_hint, after_answer, after_message, without_message, after_delivery, after_cut}
 use Rattle.cmh_run.specs.Legal.{HintIsFit}
-use Rattle.cmh_run.specs.Last.{renumbered}
+use Rattle.cmh_run.specs.Last.{renumber}
 use Rattle.cmh_run.proofs.Tokens.{Each}
 use Rattle.cmh_run.proofs.Configurations.{by_test, fresh_at}
 use Rattle.cmh_run.proofs.OneComputation.{recast, kept, place_among, kept_append, kept_taken, kept_other, kept_sent, kept_other_sent, same_engages, same_queried, same_query_action, same_replied, same_reply_action, queried_below, replied_below, recast_at, all_fresh}
@@ -30,7 +30,7 @@ SameEnd (Some AtRest) e = ⊥
 SameEnd (Some (CutFree k)) e = Unit {0}
 
 -- an action that ends the run ends the computation alone in the same way
-pub same_end : (action : Action) → SameEnd (ended_by action) (ended_by action)
+pub same_end : (action : Action) → SameEnd (ending_after action) (ending_after action)
 same_end Nothing = refl
 same_end Engage = refl
 same_end (ReplyTo to) = refl
@@ -95,13 +95,14 @@ module _ (g : Graph) (i : ℕ) (c : Config) (x : ℕ) (m : Message) (there : sli
 
   -- where the receiver acts alike, the computation alone is led to the same as seen from it
   acting : (act also : Action) (p q : Proc) → also ≡ act → recast m.number p ≡ q
-      → IsAlike (after_step i (without c x) m.number m.to [] p act)
-      (after_step i (without (shadow m.number c None) (place_among m.number c.bag x)) 1 m.to [] q also)
+      → IsAlike (after_step i (without_message c x) m.number m.to [] p act)
+      (after_step i (without_message (shadow m.number c None) (place_among m.number c.bag x)) 1 m.to [] q also)
   acting act also p q same pq = (
-    ended_by also,
-    subst (λ (z : Action). SameEnd (ended_by act) (ended_by z)) (sym same) (same_end act),
-    moved p q (sent i m.number m.to [] act) (sent i 1 m.to [] also) c.engaged (ended_by also) (ended_by act) pq
-        (kept_sent m.number i m.to [] act ∙ ap (λ (z : Action). sent i 1 m.to [] z) (sym same)),
+    ending_after also,
+    subst (λ (z : Action). SameEnd (ending_after act) (ending_after z)) (sym same) (same_end act),
+    moved p q (messages_of i m.number m.to [] act) (messages_of i 1 m.to [] also) c.engaged (ending_after also)
+        (ending_after act) pq
+        (kept_sent m.number i m.to [] act ∙ ap (λ (z : Action). messages_of i 1 m.to [] z) (sym same)),
   )
 
   -- after a query the receiver is the same, seen from the computation alone
@@ -121,36 +122,37 @@ module _ (g : Graph) (i : ℕ) (c : Config) (x : ℕ) (m : Message) (there : sli
 
   -- a query that engages its receiver leads to the same, seen from the computation alone
   engaging : (ds : List ℕ)
-      → IsAlike (engaged_by i (without c x) m ds)
-      (engaged_by i (without (shadow m.number c None) (place_among m.number c.bag x)) (renumbered m) ds)
+      → IsAlike (after_engagement i (without_message c x) m ds)
+      (after_engagement i (without_message (shadow m.number c None) (place_among m.number c.bag x)) (renumber m) ds)
   engaging ds = (
     None,
     refl,
     rw (eq-eqb m.number c.number newest)
         (moved (proc_queried (proc_at c.procs m.to) m.number m.from (length ds))
         (proc_queried (proc_at (map (recast m.number) c.procs) m.to) 1 m.from (length ds))
-        (sent i m.number m.to ds (query_action (proc_at c.procs m.to) m.number m.from (length ds)))
-        (sent i 1 m.to ds (query_action (proc_at (map (recast m.number) c.procs) m.to) 1 m.from (length ds)))
+        (messages_of i m.number m.to ds (query_action (proc_at c.procs m.to) m.number m.from (length ds)))
+        (messages_of i 1 m.to ds (query_action (proc_at (map (recast m.number) c.procs) m.to) 1 m.from (length ds)))
         (c.engaged ++ m.to ∷ []) None None (queried_alike (length ds))
         (kept_sent m.number i m.to ds (query_action (proc_at c.procs m.to) m.number m.from (length ds))
-        ∙ ap (λ (z : Action). sent i 1 m.to ds z) (sym (query_action_alike (length ds))))),
+        ∙ ap (λ (z : Action). messages_of i 1 m.to ds z) (sym (query_action_alike (length ds))))),
   )
 
   -- a hint that ends the run ends the computation alone too
-  cut_alike : IsAlike (after_cut (without c x) m.to)
-      (after_cut (without (shadow m.number c None) (place_among m.number c.bag x)) m.to)
+  cut_alike : IsAlike (after_cut (without_message c x) m.to)
+      (after_cut (without_message (shadow m.number c None) (place_among m.number c.bag x)) m.to)
   cut_alike = (Some (CutFree m.to), tt, rw (kept_taken m.number c.bag x m there refl) refl)
 
   -- a query that would engage its receiver leads to the same, with any hint, seen from the computation alone
   asked_alike : (hint : Option Verdict)
-      → IsAlike (hinted g i (without c x) m hint)
-      (hinted g i (without (shadow m.number c None) (place_among m.number c.bag x)) (renumbered m) hint)
+      → IsAlike (after_hint g i (without_message c x) m hint)
+      (after_hint g i (without_message (shadow m.number c None) (place_among m.number c.bag x)) (renumber m) hint)
   asked_alike None = engaging (dependents_of g m.to)
   asked_alike (Some Deadlocked) = engaging []
   asked_alike (Some Free) = cut_alike
 
   -- a message that an awake process discards leads to the same, seen from the computation alone
-  discarded_alike : IsAlike (without c x) (without (shadow m.number c None) (place_among m.number c.bag x))
+  discarded_alike : IsAlike (without_message c x) (without_message (shadow m.number c None)
+      (place_among m.number c.bag x))
   discarded_alike = (
     None,
     subst (λ (z : Option Ending). SameEnd z None) (sym going) refl,
@@ -159,8 +161,8 @@ module _ (g : Graph) (i : ℕ) (c : Config) (x : ℕ) (m : Message) (there : sli
 
   -- a message to a receiver that isn't awake leads to the same, seen from the computation alone
   received_alike : (k : Kind) (hint : Option Verdict)
-      → IsAlike (received g i (without c x) m k hint)
-      (received g i (without (shadow m.number c None) (place_among m.number c.bag x)) (renumbered m) k hint)
+      → IsAlike (after_message g i (without_message c x) m k hint)
+      (after_message g i (without_message (shadow m.number c None) (place_among m.number c.bag x)) (renumber m) k hint)
   received_alike Reply hint =
       acting (reply_action (proc_at c.procs m.to) m.number)
       (reply_action (proc_at (map (recast m.number) c.procs) m.to) 1)
@@ -170,9 +172,10 @@ module _ (g : Graph) (i : ℕ) (c : Config) (x : ℕ) (m : Message) (there : sli
   received_alike Query hint =
       both_tests (engages (proc_at (map (recast m.number) c.procs) m.to) 1) (engages (proc_at c.procs m.to) m.number)
       (ap (λ (z : Proc). engages z 1) here ∙ same_engages m.number (proc_at c.procs m.to) low positive)
-      (λ v w. IsAlike (cond w (hinted g i (without c x) m hint) (after_answer i (without c x) m))
-      (cond v (hinted g i (without (shadow m.number c None) (place_among m.number c.bag x)) (renumbered m) hint)
-      (after_answer i (without (shadow m.number c None) (place_among m.number c.bag x)) (renumbered m))))
+      (λ v w. IsAlike (cond w (after_hint g i (without_message c x) m hint) (after_answer i (without_message c x) m))
+      (cond v (after_hint g i (without_message (shadow m.number c None) (place_among m.number c.bag x))
+      (renumber m) hint)
+      (after_answer i (without_message (shadow m.number c None) (place_among m.number c.bag x)) (renumber m))))
       (λ a b. asked_alike hint)
       (λ a b. acting (query_action (proc_at c.procs m.to) m.number m.from 0)
       (query_action (proc_at (map (recast m.number) c.procs) m.to) 1 m.from 0)
@@ -182,18 +185,19 @@ module _ (g : Graph) (i : ℕ) (c : Config) (x : ℕ) (m : Message) (there : sli
 
   -- a delivery leads to the same, seen from the computation alone
   pub delivered_alike : (hint : Option Verdict)
-      → IsAlike (delivered g i c x m hint)
-      (delivered g i (shadow m.number c None) (place_among m.number c.bag x) (renumbered m) hint)
+      → IsAlike (after_delivery g i c x m hint)
+      (after_delivery g i (shadow m.number c None) (place_among m.number c.bag x) (renumber m) hint)
   delivered_alike hint =
       by_test (is_awake g m.to)
-      (λ b. IsAlike (cond b (without c x) (received g i (without c x) m m.kind hint))
-      (cond b (without (shadow m.number c None) (place_among m.number c.bag x))
-      (received g i (without (shadow m.number c None) (place_among m.number c.bag x)) (renumbered m) m.kind hint)))
+      (λ b. IsAlike (cond b (without_message c x) (after_message g i (without_message c x) m m.kind hint))
+      (cond b (without_message (shadow m.number c None) (place_among m.number c.bag x))
+      (after_message g i (without_message (shadow m.number c None) (place_among m.number c.bag x))
+      (renumber m) m.kind hint)))
       (λ e. discarded_alike) (λ e. received_alike m.kind hint)
 
   -- a hint that is fit for a configuration is fit for it as the computation alone has it
   pub fit_alike : (hint : Option Verdict) → HintIsFit g c m hint
-      → HintIsFit g (shadow m.number c None) (renumbered m) hint
+      → HintIsFit g (shadow m.number c None) (renumber m) hint
   fit_alike None fit = tt
   fit_alike (Some v) fit = (
     rw (ap (λ (z : Proc). engages z 1) here ∙ same_engages m.number (proc_at c.procs m.to) low positive) fit.0,
@@ -203,31 +207,31 @@ module _ (g : Graph) (i : ℕ) (c : Config) (x : ℕ) (m : Message) (there : sli
 -- ---- a message of an older computation
 
 -- a query makes nobody declare
-no_declaration : (p : Proc) (number from size : ℕ) → ended_by (query_action p number from size) ≡ None
+no_declaration : (p : Proc) (number from size : ℕ) → ending_after (query_action p number from size) ≡ None
 no_declaration p number from size =
     by_test (engages p number)
-    (λ b. ended_by (cond b (engage_action from size) (repeat_action p number from)) ≡ None)
-    (λ e. by_test (eqb size 0) (λ b. ended_by (cond b (ReplyTo from) Engage) ≡ None) (λ q. refl) (λ q. refl))
-    (λ e. by_test (p.wait && eqb p.latest number) (λ b. ended_by (cond b (ReplyTo from) Nothing) ≡ None) (λ q. refl)
+    (λ b. ending_after (cond b (engage_action from size) (repeat_action p number from)) ≡ None)
+    (λ e. by_test (eqb size 0) (λ b. ending_after (cond b (ReplyTo from) Engage) ≡ None) (λ q. refl) (λ q. refl))
+    (λ e. by_test (p.wait && eqb p.latest number) (λ b. ending_after (cond b (ReplyTo from) Nothing) ≡ None) (λ q. refl)
     (λ q. refl))
 
 -- a reply makes nobody declare, unless it counts for a process without an engager
-no_declaration_yet : (p : Proc) (number : ℕ) → (counts p number ≡ true → p.engager ≡ None → ⊥)
-    → ended_by (reply_action p number) ≡ None
+no_declaration_yet : (p : Proc) (number : ℕ) → (counts_reply p number ≡ true → p.engager ≡ None → ⊥)
+    → ending_after (reply_action p number) ≡ None
 no_declaration_yet p number no_top =
-    by_test (counts p number)
-    (λ b. ended_by (cond b (cond (eqb p.num 1) (last_action p.engager) Nothing) Nothing) ≡ None)
-    (λ e. by_test (eqb p.num 1) (λ b. ended_by (cond b (last_action p.engager) Nothing) ≡ None)
+    by_test (counts_reply p number)
+    (λ b. ending_after (cond b (cond (eqb p.num 1) (last_action p.engager) Nothing) Nothing) ≡ None)
+    (λ e. by_test (eqb p.num 1) (λ b. ending_after (cond b (last_action p.engager) Nothing) ≡ None)
     (λ q. last p.engager refl e) (λ q. refl))
     (λ e. refl)
   where
-    last : (o : Option ℕ) → p.engager ≡ o → counts p number ≡ true → ended_by (last_action o) ≡ None
+    last : (o : Option ℕ) → p.engager ≡ o → counts_reply p number ≡ true → ending_after (last_action o) ≡ None
     last None top e = absurd (no_top e top)
     last (Some k) top e = refl
 
 module _ (n : ℕ) (g : Graph) (i : ℕ) (c : Config) (x : ℕ) (m : Message) (there : slice_get c.bag x ≡ Some m)
     (newest : c.number ≡ n) (below : m.number < n) (going : c.ended ≡ None)
-    (no_top : counts (proc_at c.procs m.to) m.number ≡ true → (proc_at c.procs m.to).engager ≡ None → ⊥) where
+    (no_top : counts_reply (proc_at c.procs m.to) m.number ≡ true → (proc_at c.procs m.to).engager ≡ None → ⊥) where
   -- m, whose number is below n, isn't a message of computation n
   other : m.number ≡ n → ⊥
   other e = omega arith
@@ -241,7 +245,7 @@ module _ (n : ℕ) (g : Graph) (i : ℕ) (c : Config) (x : ℕ) (m : Message) (t
       → ◌≡◌ {A = Config} (shadow n c None)
       (shadow n
       (record {
-        bag = remove c.bag x ++ sent i m.number m.to ds act;
+        bag = remove c.bag x ++ messages_of i m.number m.to ds act;
         procs = slice_set c.procs m.to p;
         number = c.number;
         engaged = c.engaged;
@@ -249,15 +253,15 @@ module _ (n : ℕ) (g : Graph) (i : ℕ) (c : Config) (x : ℕ) (m : Message) (t
       }) None)
   unseen p ds act o same =
       rw (
-        kept_append n (remove c.bag x) (sent i m.number m.to ds act),
+        kept_append n (remove c.bag x) (messages_of i m.number m.to ds act),
         kept_other n c.bag x m there other,
         kept_other_sent n m.number i m.to ds act other,
         append-nil (kept n c.bag),
-        map-set_same (recast n) c.procs m.to p fresh same,
+        map-set_same (recast n) c.procs m.to p new_proc same,
       ) refl
 
   -- where an older query engages its receiver, nothing changes as seen from computation n
-  unseen_engaging : (ds : List ℕ) → IsUnseen (engaged_by i (without c x) m ds)
+  unseen_engaging : (ds : List ℕ) → IsUnseen (after_engagement i (without_message c x) m ds)
   unseen_engaging ds = (
     refl,
     rw (ne_eqb m.number c.number (λ e. omega arith))
@@ -267,35 +271,35 @@ module _ (n : ℕ) (g : Graph) (i : ℕ) (c : Config) (x : ℕ) (m : Message) (t
   )
 
   -- where a hint about an older query ends the run, nothing changes as seen from computation n
-  unseen_cut : IsUnseen (after_cut (without c x) m.to)
+  unseen_cut : IsUnseen (after_cut (without_message c x) m.to)
   unseen_cut = (tt, rw (kept_other n c.bag x m there other) refl)
 
   -- an older query that would engage changes nothing as seen from computation n, whatever the hint
-  unseen_asked : (hint : Option Verdict) → IsUnseen (hinted g i (without c x) m hint)
+  unseen_asked : (hint : Option Verdict) → IsUnseen (after_hint g i (without_message c x) m hint)
   unseen_asked None = unseen_engaging (dependents_of g m.to)
   unseen_asked (Some Deadlocked) = unseen_engaging []
   unseen_asked (Some Free) = unseen_cut
 
   -- an action in an older computation that doesn't end the run changes nothing as seen from computation n
-  unseen_acting : (p : Proc) (act : Action) → ended_by act ≡ None → recast n p ≡ recast n (proc_at c.procs m.to)
-      → IsUnseen (after_step i (without c x) m.number m.to [] p act)
+  unseen_acting : (p : Proc) (act : Action) → ending_after act ≡ None → recast n p ≡ recast n (proc_at c.procs m.to)
+      → IsUnseen (after_step i (without_message c x) m.number m.to [] p act)
   unseen_acting p act calm same =
-      (subst (λ (z : Option Ending). SameEnd z None) (sym calm) refl, unseen p [] act (ended_by act) same)
+      (subst (λ (z : Option Ending). SameEnd z None) (sym calm) refl, unseen p [] act (ending_after act) same)
 
   -- an older message that an awake process discards changes nothing as seen from computation n
-  unseen_discarded : IsUnseen (without c x)
+  unseen_discarded : IsUnseen (without_message c x)
   unseen_discarded =
       (subst (λ (z : Option Ending). SameEnd z None) (sym going) refl, rw (kept_other n c.bag x m there other) refl)
 
   -- an older message to a receiver that isn't awake changes nothing as seen from computation n
-  unseen_received : (k : Kind) (hint : Option Verdict) → IsUnseen (received g i (without c x) m k hint)
+  unseen_received : (k : Kind) (hint : Option Verdict) → IsUnseen (after_message g i (without_message c x) m k hint)
   unseen_received Reply hint =
       unseen_acting (proc_replied (proc_at c.procs m.to) m.number) (reply_action (proc_at c.procs m.to) m.number)
       (no_declaration_yet (proc_at c.procs m.to) m.number no_top)
       (replied_below n m.number (proc_at c.procs m.to) below)
   unseen_received Query hint =
       by_test (engages (proc_at c.procs m.to) m.number)
-      (λ b. IsUnseen (cond b (hinted g i (without c x) m hint) (after_answer i (without c x) m)))
+      (λ b. IsUnseen (cond b (after_hint g i (without_message c x) m hint) (after_answer i (without_message c x) m)))
       (λ e. unseen_asked hint)
       (λ e. unseen_acting (proc_queried (proc_at c.procs m.to) m.number m.from 0)
       (query_action (proc_at c.procs m.to) m.number m.from 0)
@@ -303,9 +307,10 @@ module _ (n : ℕ) (g : Graph) (i : ℕ) (c : Config) (x : ℕ) (m : Message) (t
       (queried_below n m.number (proc_at c.procs m.to) below m.from 0))
 
   -- the delivery of an older message changes nothing as seen from computation n
-  pub unseen_delivered : (hint : Option Verdict) → IsUnseen (delivered g i c x m hint)
+  pub unseen_delivered : (hint : Option Verdict) → IsUnseen (after_delivery g i c x m hint)
   unseen_delivered hint =
-      by_test (is_awake g m.to) (λ b. IsUnseen (cond b (without c x) (received g i (without c x) m m.kind hint)))
+      by_test (is_awake g m.to) (λ b. IsUnseen (cond b (without_message c x)
+      (after_message g i (without_message c x) m m.kind hint)))
       (λ e. unseen_discarded) (λ e. unseen_received m.kind hint)
 
 -- ---- a start
@@ -318,12 +323,13 @@ none_kept n (m ∷ bag) a = rw (ne_eqb m.number n (λ e. omega (arith, a.0)), no
 -- seen alone, the start of the last computation is the first start
 pub start_alone : (g : Graph) (i n : ℕ) (c : Config) → length c.procs ≡ process_count g
     → (proc_at c.procs i).latest + 1 ≡ n → ((k : ℕ) → (proc_at c.procs k).latest < n) → Each (λ m. m.number < n) c.bag
-    → ◌≡◌ {A = Config} (shadow n (start g i c) (ended_by (start_action (length (dependents_of g i)))))
+    → ◌≡◌ {A = Config} (shadow n (start g i c) (ending_after (start_action (length (dependents_of g i)))))
     (start g i (nothing_yet g))
 start_alone g i n c size next low bag =
     rw (
       kept_append n c.bag
-          (sent i ((proc_at c.procs i).latest + 1) i (dependents_of g i) (start_action (length (dependents_of g i)))),
+          (messages_of i ((proc_at c.procs i).latest + 1) i (dependents_of g i)
+          (start_action (length (dependents_of g i)))),
       none_kept n c.bag bag,
       map-set (recast n) c.procs i (proc_started (proc_at c.procs i) (length (dependents_of g i))),
       all_fresh n c.procs low,

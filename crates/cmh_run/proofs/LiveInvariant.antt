@@ -14,7 +14,7 @@ use Rattle.cmh_graph.specs.Verdict.{IsDeadlocked}
 use Rattle.cmh_graph.proofs.PathLemmas.{depends_within}
 use Rattle.cmh_graph.proofs.Verdicts.{asleep_is_idle, reaches_more}
 use Rattle.cmh_run.proofs.Paths.{reaches_self}
-use Rattle.cmh_run.specs.Config.{query, reply, sent}
+use Rattle.cmh_run.specs.Config.{query, reply, messages_of}
 use Rattle.cmh_run.proofs.Tally.{one_if, tally, without_one, tally-le-length, tally_from_contains, contains_from_tally}
 use Rattle.cmh_run.proofs.Invariant.{Sound, owes}
 use Rattle.cmh_run.proofs.InvariantSteps as steps
@@ -235,7 +235,7 @@ module _ (g : Graph) (i n : ℕ) (F : ℕ → Proc) (bag : List Message) (engage
       → ((r : ℕ) → 0 < tally r ds → Depends g m.to r) → ((r : ℕ) → tally r ds ≤ tally r (dependents_of g m.to))
       → IsDeadlocked g m.to ⊎ ((r : ℕ) → Contains (dependents_of g m.to) r → 0 < tally r ds)
       → Live g i n (upd F m.to (proc_engaged m.number m.from (length ds)))
-      (remove bag x ++ sent i m.number m.to ds (engage_action m.from (length ds))) (engaged ++ m.to ∷ [])
+      (remove bag x ++ messages_of i m.number m.to ds (engage_action m.from (length ds))) (engaged ++ m.to ∷ [])
   engages ds is_query newest before rests known few settled = record {
     out = upd L.out m.to ds;
     rank = upd L.rank m.to L.clock;
@@ -269,7 +269,7 @@ module _ (g : Graph) (i n : ℕ) (F : ℕ → Proc) (bag : List Message) (engage
       p = proc_engaged m.number m.from (length ds)
 
       new : List Message
-      new = sent i m.number m.to ds (engage_action m.from (length ds))
+      new = messages_of i m.number m.to ds (engage_action m.from (length ds))
 
       one_else : (k : ℕ) → (k ≡ m.to → ⊥) → tally k (m.to ∷ []) ≡ 0
       one_else k w = rw (ne_eqb m.to k (λ e. w (sym e))) refl
@@ -278,7 +278,7 @@ module _ (g : Graph) (i n : ℕ) (F : ℕ → Proc) (bag : List Message) (engage
       still k l = place m.to k (λ b. (cond b p (F k)).latest ≡ n) (λ q. newest) (λ w. l)
 
       moved : (es : List ℕ) (a y : ℕ)
-          → tokens n (sent i m.number m.to es (engage_action m.from (length es))) a y + one_if
+          → tokens n (messages_of i m.number m.to es (engage_action m.from (length es))) a y + one_if
           (eqb y m.to && (eqb m.from a && ltb 0 (length es))) ≡ token n a y m + cond (eqb a m.to) (tally y es) 0
       moved [] a y =
           rw is_query
@@ -303,7 +303,7 @@ module _ (g : Graph) (i n : ℕ) (F : ℕ → Proc) (bag : List Message) (engage
       still_to = place m.to m.to (λ b. (cond b p (F m.to)).latest ≡ n) (λ q. newest) (λ w. absurd (w refl))
 
       new_fine : (es : List ℕ) → ((r : ℕ) → 0 < tally r es → Depends g m.to r)
-          → Each (Fine g i n (upd F m.to p)) (sent i m.number m.to es (engage_action m.from (length es)))
+          → Each (Fine g i n (upd F m.to p)) (messages_of i m.number m.to es (engage_action m.from (length es)))
       new_fine [] all = (
         record {
           low = fine_m.low;
@@ -344,9 +344,10 @@ module _ (g : Graph) (i n : ℕ) (F : ℕ → Proc) (bag : List Message) (engage
   pub engages_older : (ds : List ℕ) → m.kind ≡ Query → m.number < n → (F m.to).latest < n → is_awake g m.to ≡ false
       → ((r : ℕ) → 0 < tally r ds → Depends g m.to r)
       → Live g i n (upd F m.to (proc_engaged m.number m.from (length ds)))
-      (remove bag x ++ sent i m.number m.to ds (engage_action m.from (length ds))) engaged
+      (remove bag x ++ messages_of i m.number m.to ds (engage_action m.from (length ds))) engaged
   engages_older ds is_query low before rests known =
-      older p (sent i m.number m.to ds (engage_action m.from (length ds))) low before low refl (λ e. absurd (cc)) rests
+      older p (messages_of i m.number m.to ds (engage_action m.from (length ds))) low before low refl
+      (λ e. absurd (cc)) rests
       (fine_m.asked is_query).1
       (λ e h. let same : m.from ≡ e = cc in subst (λ (z : ℕ). z < process_count g) same fine_m.from_in)
       (new_fine ds known) (old ds)
@@ -355,7 +356,7 @@ module _ (g : Graph) (i n : ℕ) (F : ℕ → Proc) (bag : List Message) (engage
       p = proc_engaged m.number m.from (length ds)
 
       new_fine : (es : List ℕ) → ((r : ℕ) → 0 < tally r es → Depends g m.to r)
-          → Each (Fine g i n (upd F m.to p)) (sent i m.number m.to es (engage_action m.from (length es)))
+          → Each (Fine g i n (upd F m.to p)) (messages_of i m.number m.to es (engage_action m.from (length es)))
       new_fine [] all = (
         record {
           low = fine_m.low;
@@ -382,7 +383,8 @@ module _ (g : Graph) (i n : ℕ) (F : ℕ → Proc) (bag : List Message) (engage
                 λ q. absurd (cc);
           })))
 
-      old : (es : List ℕ) → Each (λ y. y.number ≡ n → ⊥) (sent i m.number m.to es (engage_action m.from (length es)))
+      old : (es : List ℕ) → Each (λ y. y.number ≡ n → ⊥)
+          (messages_of i m.number m.to es (engage_action m.from (length es)))
       old [] = (λ e. omega arith, tt)
       old (e ∷ es) =
           rw (some_engage m.from (length es))
@@ -393,7 +395,7 @@ module _ (g : Graph) (i n : ℕ) (F : ℕ → Proc) (bag : List Message) (engage
   pub replied : m.kind ≡ Reply → m.number ≡ n
       → Live g i n (upd F m.to lowered)
       (remove bag x
-      ++ sent i m.number m.to [] (if (F m.to).num == 1 then last_action (F m.to).engager else Nothing)) engaged
+      ++ messages_of i m.number m.to [] (if (F m.to).num == 1 then last_action (F m.to).engager else Nothing)) engaged
   replied is_reply newest = record {
     out = upd L.out m.to (without_one m.from (L.out m.to));
     rank = L.rank;
@@ -427,7 +429,7 @@ module _ (g : Graph) (i n : ℕ) (F : ℕ → Proc) (bag : List Message) (engage
       some_left = omega (arith, L.sound.nums m.to in_it.0, tally-le-length m.from (L.out m.to), in_it.1)
 
       new : List Message
-      new = sent i m.number m.to [] (if (F m.to).num == 1 then last_action (F m.to).engager else Nothing)
+      new = messages_of i m.number m.to [] (if (F m.to).num == 1 then last_action (F m.to).engager else Nothing)
 
       still : (k : ℕ) → (F k).latest ≡ n → (upd F m.to lowered k).latest ≡ n
       still k l = place m.to k (λ b. (cond b lowered (F k)).latest ≡ n) (λ q. in_it.0) (λ w. l)
@@ -436,7 +438,8 @@ module _ (g : Graph) (i n : ℕ) (F : ℕ → Proc) (bag : List Message) (engage
       token_is a y = rw (is_reply, eq-eqb m.number n newest) refl
 
       here : (o : Option ℕ) → (F m.to).engager ≡ o → (b : Bool) → eqb (F m.to).num 1 ≡ b → (a : ℕ)
-          → tokens n (sent i m.number m.to [] (cond b (last_action o) Nothing)) a m.to + one_if (owes n a lowered)
+          → tokens n (messages_of i m.number m.to [] (cond b (last_action o) Nothing)) a m.to + one_if
+          (owes n a lowered)
           ≡ one_if (owes n a (F m.to))
       here None top true one a = rw (eq-eqb (F m.to).latest n in_it.0, top) (omega arith)
       here None top false one a = rw (eq-eqb (F m.to).latest n in_it.0, top) (omega arith)
@@ -460,25 +463,25 @@ module _ (g : Graph) (i n : ℕ) (F : ℕ → Proc) (bag : List Message) (engage
           ) (omega arith)
 
       elsewhere : (o : Option ℕ) (b : Bool) (a y : ℕ) → (m.to ≡ y → ⊥)
-          → tokens n (sent i m.number m.to [] (cond b (last_action o) Nothing)) a y ≡ 0
+          → tokens n (messages_of i m.number m.to [] (cond b (last_action o) Nothing)) a y ≡ 0
       elsewhere o false a y w = refl
       elsewhere None true a y w = refl
       elsewhere (Some e) true a y w = rw (ne_eqb m.to y w) (omega (arith, one_side (eqb m.number n) (eqb a e)))
 
       debts : (o : Option ℕ) → (F m.to).engager ≡ o → (b : Bool) → eqb (F m.to).num 1 ≡ b → (a y : ℕ)
-          → tokens n (sent i m.number m.to [] (cond b (last_action o) Nothing)) a y + one_if
+          → tokens n (messages_of i m.number m.to [] (cond b (last_action o) Nothing)) a y + one_if
           (owes n a (upd F m.to lowered y)) ≡ one_if (owes n a (F y))
       debts o top b one a y =
           place m.to y
-          (λ v. tokens n (sent i m.number m.to [] (cond b (last_action o) Nothing)) a y + one_if
+          (λ v. tokens n (messages_of i m.number m.to [] (cond b (last_action o) Nothing)) a y + one_if
           (owes n a (cond v lowered (F y))) ≡ one_if (owes n a (F y)))
           (λ q. subst
-          (λ (z : ℕ). tokens n (sent i m.number m.to [] (cond b (last_action o) Nothing)) a z + one_if
+          (λ (z : ℕ). tokens n (messages_of i m.number m.to [] (cond b (last_action o) Nothing)) a z + one_if
           (owes n a lowered) ≡ one_if (owes n a (F z))) (sym q) (here o top b one a))
           (λ w. omega (arith, elsewhere o b a y (λ e. w (sym e))))
 
       new_fine : (o : Option ℕ) → (F m.to).engager ≡ o → (b : Bool)
-          → Each (Fine g i n (upd F m.to lowered)) (sent i m.number m.to [] (cond b (last_action o) Nothing))
+          → Each (Fine g i n (upd F m.to lowered)) (messages_of i m.number m.to [] (cond b (last_action o) Nothing))
       new_fine o top false = tt
       new_fine None top true = tt
       new_fine (Some e) top true = (
@@ -496,9 +499,9 @@ module _ (g : Graph) (i n : ℕ) (F : ℕ → Proc) (bag : List Message) (engage
   -- where a reply of an older computation is received, the run stays live
   pub replied_older : m.number < n → (F m.to).wait ≡ true → (F m.to).latest ≡ m.number → (b : Bool)
       → Live g i n (upd F m.to lowered)
-      (remove bag x ++ sent i m.number m.to [] (cond b (last_action (F m.to).engager) Nothing)) engaged
+      (remove bag x ++ messages_of i m.number m.to [] (cond b (last_action (F m.to).engager) Nothing)) engaged
   replied_older low waits latest b =
-      older lowered (sent i m.number m.to [] (cond b (last_action (F m.to).engager) Nothing)) low
+      older lowered (messages_of i m.number m.to [] (cond b (last_action (F m.to).engager) Nothing)) low
       (omega (arith, latest, low)) (omega (arith, latest, low)) waits
       (λ e. L.sound.tops m.to heard e) (L.sound.rests m.to heard) (L.sound.reached m.to heard)
       (λ e h. L.in_range m.to e h) (new_fine (F m.to).engager refl b) (old (F m.to).engager b)
@@ -507,7 +510,7 @@ module _ (g : Graph) (i n : ℕ) (F : ℕ → Proc) (bag : List Message) (engage
       heard = omega (arith, latest, fine_m.positive)
 
       new_fine : (o : Option ℕ) → (F m.to).engager ≡ o → (b : Bool)
-          → Each (Fine g i n (upd F m.to lowered)) (sent i m.number m.to [] (cond b (last_action o) Nothing))
+          → Each (Fine g i n (upd F m.to lowered)) (messages_of i m.number m.to [] (cond b (last_action o) Nothing))
       new_fine o top false = tt
       new_fine None top true = tt
       new_fine (Some e) top true = (
@@ -523,7 +526,7 @@ module _ (g : Graph) (i n : ℕ) (F : ℕ → Proc) (bag : List Message) (engage
       )
 
       old : (o : Option ℕ) (b : Bool)
-          → Each (λ y. y.number ≡ n → ⊥) (sent i m.number m.to [] (cond b (last_action o) Nothing))
+          → Each (λ y. y.number ≡ n → ⊥) (messages_of i m.number m.to [] (cond b (last_action o) Nothing))
       old o false = tt
       old None true = tt
       old (Some e) true = (λ q. omega arith, tt)
@@ -533,7 +536,7 @@ pub started : (g : Graph) (i n n' : ℕ) (F : ℕ → Proc) (bag : List Message)
     → i < process_count g → is_awake g i ≡ false → steps.Calm g i n F → n < n'
     → Each (Fine g i n F) bag → ((k e : ℕ) → (F k).engager ≡ Some e → e < process_count g) → ds ≡ dependents_of g i
     → p ≡ record { latest = n'; engager = None; num = length ds; wait = true }
-    → Live g i n' (upd F i p) (bag ++ sent i n' i ds (if length ds == 0 then Declare else Engage)) (i ∷ [])
+    → Live g i n' (upd F i p) (bag ++ messages_of i n' i ds (if length ds == 0 then Declare else Engage)) (i ∷ [])
 started g i n n' F bag p ds ok within rests calm later fine range is_deps is_p = record {
   out = upd (λ x. []) i ds;
   rank = λ x. 0;
@@ -571,18 +574,19 @@ started g i n n' F bag p ds ok within rests calm later fine range is_deps is_p =
 }
   where
     new : List Message
-    new = sent i n' i ds (if length ds == 0 then Declare else Engage)
+    new = messages_of i n' i ds (if length ds == 0 then Declare else Engage)
 
     on_it : (r : ℕ) → 0 < tally r ds → Depends g i r
     on_it r h = (asleep_is_idle g i rests, subst (λ (es : List ℕ). Contains es r) is_deps (contains_from_tally r ds h))
 
     moved : (es : List ℕ) (a y : ℕ)
-        → tokens n' (sent i n' i es (if length es == 0 then Declare else Engage)) a y ≡ cond (eqb a i) (tally y es) 0
+        → tokens n' (messages_of i n' i es (if length es == 0 then Declare else Engage)) a y
+        ≡ cond (eqb a i) (tally y es) 0
     moved [] a y = place i a (λ b. ◌≡◌ {A = ℕ} 0 (cond b 0 0)) (λ q. refl) (λ q. refl)
     moved (e ∷ es) a y = rw (ne_eqb (suc (length es)) 0 (λ q. omega arith)) (tokens-queries i n' n' i a y (e ∷ es) refl)
 
     new_fine : (es : List ℕ) → ((r : ℕ) → 0 < tally r es → Depends g i r)
-        → Each (Fine g i n' (upd F i p)) (sent i n' i es (if length es == 0 then Declare else Engage))
+        → Each (Fine g i n' (upd F i p)) (messages_of i n' i es (if length es == 0 then Declare else Engage))
     new_fine [] all = tt
     new_fine (e ∷ es) all =
         rw (ne_eqb (suc (length es)) 0 (λ q. omega arith))

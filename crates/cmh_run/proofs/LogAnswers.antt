@@ -8,7 +8,7 @@ use Rattle.cmh_run.specs.declared.delivery.Delivery.{Delivery}
 use Rattle.cmh_run.specs.declared.delivery.Ending.{Ending}
 use Rattle.cmh_run.specs.declared.fault.CheckFault.{CheckFault}
 use Rattle.cmh_run.specs.declared.fault.CheckFault.TheVariants.{NotIdle, NotUndelivered, FalseHint, AfterEnd, NotEnded, Memory}
-use Rattle.cmh_run.specs.Legal.{Going, begun, ready, after, MayCome, any_place, DeliveriesLead, EndsAs}
+use Rattle.cmh_run.specs.Legal.{Going, going_at_start, after_due_restart, going_after, MayCome, any_place, DeliveriesLead, EndsAs}
 use Rattle.cmh_run.specs.Check.{LeadTo, HasEnded, IsUndelivered, IsLegalRun, ComesAt, IsAfterEnd, IsStray, IsMisled, IsLogCutShort, IsFirstCheckFault, LogsHaveOneAnswer}
 use Rattle.cmh_run.proofs.Determinism.{over, one_ending}
 use Rattle.cmh_run.proofs.Places.{one_place}
@@ -43,13 +43,13 @@ reached : (g : Graph) (i : ℕ) (log : List Delivery) (t : ℕ) (d : Delivery) (
     → DeliveriesLead any_place g i s log end → Reached g i log t d s
 reached g i [] t d s end e l = absurd (cc)
 reached g i (x ∷ log) zero d s end e l = record {
-  at = ready g i s;
+  at = after_due_restart g i s;
   leads = refl;
   place = l.0;
-  may = subst (λ (y : Delivery). MayCome g (ready g i s).config l.0 y) (same_Some x d e) l.1;
+  may = subst (λ (y : Delivery). MayCome g (after_due_restart g i s).config l.0 y) (same_Some x d e) l.1;
 }
 reached g i (x ∷ log) (suc t) d s end e l =
-    let rest = reached g i log t d (after g i (ready g i s) l.0 x) end e l.3 in
+    let rest = reached g i log t d (going_after g i (after_due_restart g i s) l.0 x) end e l.3 in
     record { at = rest.at; leads = (l.0, l.1, l.2, rest.leads); place = rest.place; may = rest.may }
 
 -- a delivery that may not come where those before it have led
@@ -86,35 +86,35 @@ module _ (g : Graph) (i : ℕ) (w : IsWellFormed g) where
   one_way idle [] before r s u leads l k = sym l ∙ k
   one_way idle (d ∷ log) before r s u leads l k =
       let here = firm g i w idle before r leads in
-      let still : ready g i r ≡ r = rw here.no_restart refl in
+      let still : after_due_restart g i r ≡ r = rw here.no_restart refl in
       let a = subst
       (λ (t : Going). (x : ℕ) × MayCome g t.config x d × (any_place r.done t.config x ≡ true)
-      × DeliveriesLead any_place g i (after g i t x d) log s) still l in
+      × DeliveriesLead any_place g i (going_after g i t x d) log s) still l in
       let b = subst
       (λ (t : Going). (x : ℕ) × MayCome g t.config x d × (any_place r.done t.config x ≡ true)
-      × DeliveriesLead any_place g i (after g i t x d) log u) still k in
+      × DeliveriesLead any_place g i (going_after g i t x d) log u) still k in
       let there : IsUndelivered r.config d.message = (a.0, a.1.there) in
       let place : a.0 ≡ b.0 =
       one_place g i r.config w (here.live d.message there a.1.going)
       (here.number d.message there) a.0 b.0 d.message a.1.there b.1.there in
-      let calm : ready g i (after g i r a.0 d) ≡ after g i r a.0 d = rw here.no_restart refl in
-      one_way idle log (before ++ d ∷ []) (after g i r a.0 d) s u
+      let calm : after_due_restart g i (going_after g i r a.0 d) ≡ going_after g i r a.0 d = rw here.no_restart refl in
+      one_way idle log (before ++ d ∷ []) (going_after g i r a.0 d) s u
       (subst (λ (t : Going). LeadTo g i (before ++ d ∷ []) t) calm
-      (leads_on any_place g i before (begun g i []) r a.0 d leads a.1 refl))
-      a.3 (subst (λ (x : ℕ). DeliveriesLead any_place g i (after g i r x d) log u) (sym place) b.3)
+      (leads_on any_place g i before (going_at_start g i []) r a.0 d leads a.1 refl))
+      a.3 (subst (λ (x : ℕ). DeliveriesLead any_place g i (going_after g i r x d) log u) (sym place) b.3)
 
   -- from the start the same deliveries lead to one state
   one_state : is_idle g i ≡ true → (log : List Delivery) (s u : Going) → LeadTo g i log s → LeadTo g i log u → s ≡ u
-  one_state idle log s u l k = one_way idle log [] (begun g i []) s u (begins (is_awake g i) refl) l k
+  one_state idle log s u l k = one_way idle log [] (going_at_start g i []) s u (begins (is_awake g i) refl) l k
     where
-      begins : (b : Bool) → is_awake g i ≡ b → ready g i (begun g i []) ≡ begun g i []
+      begins : (b : Bool) → is_awake g i ≡ b → after_due_restart g i (going_at_start g i []) ≡ going_at_start g i []
       begins true e = rw e refl
       begins false e = rw e refl
 
   -- where all deliveries are legal, none is bad
   none_bad : (log : List Delivery) (t : ℕ) (end : Going) → LeadTo g i log end → BadAt g i log t → ⊥
   none_bad log t end l b =
-      let r = reached g i log t b.delivery (begun g i []) end b.comes.there l in
+      let r = reached g i log t b.delivery (going_at_start g i []) end b.comes.there l in
       b.cannot r.place
       (subst (λ (u : Going). MayCome g u.config r.place b.delivery)
       (one_state b.comes.idle (take t log) r.at b.state r.leads b.comes.before) r.may)

@@ -6,19 +6,19 @@ use Rattle.cmh_process.specs.declared.message.Message.{Message}
 use Rattle.cmh_process.specs.declared.process.Proc.{Proc}
 use Rattle.cmh_process.specs.declared.process.Action.{Action}
 use Rattle.cmh_process.specs.declared.process.Action.TheVariants.{Nothing, Engage, ReplyTo, Declare}
-use Rattle.cmh_process.specs.Process.{fresh, engages, proc_engaged, engage_action, last_action, repeat_action, proc_queried, query_action, counts, lowered, proc_replied, reply_action}
-use Rattle.cmh_run.specs.Config.{query, proc_at, sent}
-use Rattle.cmh_run.specs.Last.{renumbered}
+use Rattle.cmh_process.specs.Process.{new_proc, engages, proc_engaged, engage_action, last_action, repeat_action, proc_queried, query_action, counts_reply, proc_lowered, proc_replied, reply_action}
+use Rattle.cmh_run.specs.Config.{query, proc_at, messages_of}
+use Rattle.cmh_run.specs.Last.{renumber}
 use Rattle.cmh_run.proofs.Configurations.{by_test}
 
 -- a process as computation n has it: whoever isn't in it has heard of nothing
 abbrev pub recast : ℕ → Proc → Proc
-recast n p = cond (eqb p.latest n) (record { latest = 1; engager = p.engager; num = p.num; wait = p.wait }) fresh
+recast n p = cond (eqb p.latest n) (record { latest = 1; engager = p.engager; num = p.num; wait = p.wait }) new_proc
 
 -- the messages of computation n
 abbrev pub kept : ℕ → List Message → List Message
 kept n [] = []
-kept n (m ∷ bag) = cond (eqb m.number n) (renumbered m ∷ kept n bag) (kept n bag)
+kept n (m ∷ bag) = cond (eqb m.number n) (renumber m ∷ kept n bag) (kept n bag)
 
 -- the place of what stands at place x, among the messages of computation n
 abbrev pub place_among : ℕ → List Message → ℕ → ℕ
@@ -33,21 +33,21 @@ pub kept_append : (n : ℕ) (xs ys : List Message) → kept n (xs ++ ys) ≡ kep
 kept_append n [] ys = refl
 kept_append n (m ∷ xs) ys =
     by_test (eqb m.number n)
-    (λ b. cond b (renumbered m ∷ kept n (xs ++ ys)) (kept n (xs ++ ys))
-    ≡ cond b (renumbered m ∷ kept n xs) (kept n xs) ++ kept n ys)
-    (λ e. ap (λ (zs : List Message). renumbered m ∷ zs) (kept_append n xs ys)) (λ e. kept_append n xs ys)
+    (λ b. cond b (renumber m ∷ kept n (xs ++ ys)) (kept n (xs ++ ys))
+    ≡ cond b (renumber m ∷ kept n xs) (kept n xs) ++ kept n ys)
+    (λ e. ap (λ (zs : List Message). renumber m ∷ zs) (kept_append n xs ys)) (λ e. kept_append n xs ys)
 
 -- a message of computation n stands at its place among those
 pub kept_at : (n : ℕ) (bag : List Message) (x : ℕ) (m : Message) → slice_get bag x ≡ Some m → m.number ≡ n
-    → slice_get (kept n bag) (place_among n bag x) ≡ Some (renumbered m)
+    → slice_get (kept n bag) (place_among n bag x) ≡ Some (renumber m)
 kept_at n [] x m h e = absurd (cc)
 kept_at n (y ∷ bag) zero m h e =
     let same : y ≡ m = cc in
     rw (same, eq-eqb m.number n e) refl
 kept_at n (y ∷ bag) (suc x) m h e =
     by_test (eqb y.number n)
-    (λ b. slice_get (cond b (renumbered y ∷ kept n bag) (kept n bag))
-    (cond b (suc (place_among n bag x)) (place_among n bag x)) ≡ Some (renumbered m))
+    (λ b. slice_get (cond b (renumber y ∷ kept n bag) (kept n bag))
+    (cond b (suc (place_among n bag x)) (place_among n bag x)) ≡ Some (renumber m))
     (λ t. kept_at n bag x m h e) (λ t. kept_at n bag x m h e)
 
 -- once a message of computation n is taken, the others of that computation are those without it
@@ -59,10 +59,10 @@ kept_taken n (y ∷ bag) zero m h e =
     rw (same, eq-eqb m.number n e) refl
 kept_taken n (y ∷ bag) (suc x) m h e =
     by_test (eqb y.number n)
-    (λ b. cond b (renumbered y ∷ kept n (remove bag x)) (kept n (remove bag x))
-    ≡ remove (cond b (renumbered y ∷ kept n bag) (kept n bag))
+    (λ b. cond b (renumber y ∷ kept n (remove bag x)) (kept n (remove bag x))
+    ≡ remove (cond b (renumber y ∷ kept n bag) (kept n bag))
     (cond b (suc (place_among n bag x)) (place_among n bag x)))
-    (λ t. ap (λ (zs : List Message). renumbered y ∷ zs) (kept_taken n bag x m h e)) (λ t. kept_taken n bag x m h e)
+    (λ t. ap (λ (zs : List Message). renumber y ∷ zs) (kept_taken n bag x m h e)) (λ t. kept_taken n bag x m h e)
 
 -- once a message of another computation is taken, those of computation n are the same
 pub kept_other : (n : ℕ) (bag : List Message) (x : ℕ) (m : Message) → slice_get bag x ≡ Some m → (m.number ≡ n → ⊥)
@@ -73,9 +73,9 @@ kept_other n (y ∷ bag) zero m h e =
     rw (same, ne_eqb m.number n e) refl
 kept_other n (y ∷ bag) (suc x) m h e =
     by_test (eqb y.number n)
-    (λ b. cond b (renumbered y ∷ kept n (remove bag x)) (kept n (remove bag x))
-    ≡ cond b (renumbered y ∷ kept n bag) (kept n bag))
-    (λ t. ap (λ (zs : List Message). renumbered y ∷ zs) (kept_other n bag x m h e)) (λ t. kept_other n bag x m h e)
+    (λ b. cond b (renumber y ∷ kept n (remove bag x)) (kept n (remove bag x))
+    ≡ cond b (renumber y ∷ kept n bag) (kept n bag))
+    (λ t. ap (λ (zs : List Message). renumber y ∷ zs) (kept_other n bag x m h e)) (λ t. kept_other n bag x m h e)
 
 -- the queries of computation n are, as that computation has them, those with the number 1
 kept_queries : (n i k : ℕ) (ds : List ℕ)
@@ -84,7 +84,8 @@ kept_queries n i k [] = refl
 kept_queries n i k (d ∷ ds) = rw (eq-eqb n n refl, kept_queries n i k ds) refl
 
 -- what is sent in computation n is, as that computation has it, sent with the number 1
-pub kept_sent : (n i k : ℕ) (ds : List ℕ) (action : Action) → kept n (sent i n k ds action) ≡ sent i 1 k ds action
+pub kept_sent : (n i k : ℕ) (ds : List ℕ) (action : Action) → kept n (messages_of i n k ds action)
+    ≡ messages_of i 1 k ds action
 kept_sent n i k ds Nothing = refl
 kept_sent n i k ds Engage = kept_queries n i k ds
 kept_sent n i k ds (ReplyTo to) = rw (eq-eqb n n refl) refl
@@ -96,7 +97,8 @@ kept_other_queries n l i k [] e = refl
 kept_other_queries n l i k (d ∷ ds) e = rw (ne_eqb l n e) (kept_other_queries n l i k ds e)
 
 -- what is sent in another computation is none of the messages of computation n
-pub kept_other_sent : (n l i k : ℕ) (ds : List ℕ) (action : Action) → (l ≡ n → ⊥) → kept n (sent i l k ds action) ≡ []
+pub kept_other_sent : (n l i k : ℕ) (ds : List ℕ) (action : Action) → (l ≡ n → ⊥)
+    → kept n (messages_of i l k ds action) ≡ []
 kept_other_sent n l i k ds Nothing e = refl
 kept_other_sent n l i k ds Engage e = kept_other_queries n l i k ds e
 kept_other_sent n l i k ds (ReplyTo to) e = rw (ne_eqb l n e) refl
@@ -133,7 +135,7 @@ module _ (n : ℕ) (p : Proc) (low : p.latest ≤ n) (positive : 0 < n) where
       (λ e. refl) (λ e. rw (eq-eqb p.latest n (in_it e)) refl))
 
   -- a reply counts for a process just if it counts for the process as computation n has it
-  same_counts : counts (recast n p) 1 ≡ counts p n
+  same_counts : counts_reply (recast n p) 1 ≡ counts_reply p n
   same_counts =
       ⊎_elim
       (λ (e : p.latest ≡ n). rw (eq-eqb p.latest n e) refl)
@@ -141,7 +143,7 @@ module _ (n : ℕ) (p : Proc) (low : p.latest ≤ n) (positive : 0 < n) where
       (cases_eq p.latest n)
 
   -- a process for which a reply counts is in computation n
-  counts_in : counts p n ≡ true → p.latest ≡ n
+  counts_in : counts_reply p n ≡ true → p.latest ≡ n
   counts_in e =
       eqb-true p.latest n
       (and_parts (eqb p.latest n) (ltb 0 p.num) (and_parts p.wait (eqb p.latest n && ltb 0 p.num) e).1).0
@@ -149,14 +151,14 @@ module _ (n : ℕ) (p : Proc) (low : p.latest ≤ n) (positive : 0 < n) where
   -- a reply changes a process as computation n has it just as it changes the process
   pub same_replied : proc_replied (recast n p) 1 ≡ recast n (proc_replied p n)
   same_replied = rw same_counts
-      (by_test (counts p n)
-      (λ b. cond b (lowered (recast n p)) (recast n p) ≡ recast n (cond b (lowered p) p))
+      (by_test (counts_reply p n)
+      (λ b. cond b (proc_lowered (recast n p)) (recast n p) ≡ recast n (cond b (proc_lowered p) p))
       (λ e. rw (eq-eqb p.latest n (counts_in e)) refl) (λ e. refl))
 
   -- on a reply a process as computation n has it acts just as the process does
   pub same_reply_action : reply_action (recast n p) 1 ≡ reply_action p n
   same_reply_action = rw same_counts
-      (by_test (counts p n)
+      (by_test (counts_reply p n)
       (λ b. cond b (cond (eqb (recast n p).num 1) (last_action (recast n p).engager) Nothing) Nothing
       ≡ cond b (cond (eqb p.num 1) (last_action p.engager) Nothing) Nothing)
       (λ e. rw (eq-eqb p.latest n (counts_in e)) refl) (λ e. refl))
@@ -176,8 +178,8 @@ module _ (n l : ℕ) (p : Proc) (below : l < n) where
   -- a reply of an older computation changes nothing of the process as computation n has it
   pub replied_below : recast n (proc_replied p l) ≡ recast n p
   replied_below =
-      by_test (counts p l)
-      (λ b. recast n (cond b (lowered p) p) ≡ recast n p)
+      by_test (counts_reply p l)
+      (λ b. recast n (cond b (proc_lowered p) p) ≡ recast n p)
       (λ e.
       let same : p.latest ≡ l =
       eqb-true p.latest l
@@ -196,7 +198,7 @@ recast_at n (p ∷ procs) (suc k) h = recast_at n procs k h
 
 -- before anybody is in computation n, nobody has heard of anything
 pub all_fresh : (n : ℕ) (procs : List Proc) → ((k : ℕ) → (proc_at procs k).latest < n)
-    → map (recast n) procs ≡ replicate (length procs) fresh
+    → map (recast n) procs ≡ replicate (length procs) new_proc
 all_fresh n [] h = refl
 all_fresh n (p ∷ procs) h =
     let first : p.latest < n = h 0 in

@@ -9,13 +9,13 @@ use Rattle.cmh_graph.specs.declared.verdict.Verdict.TheVariants.{Deadlocked, Fre
 use Rattle.cmh_run.specs.declared.delivery.Delivery.{Delivery}
 use Rattle.cmh_run.specs.declared.delivery.Ending.{Ending}
 use Rattle.cmh_run.specs.declared.delivery.Ending.TheVariants.{Declared, AtRest, CutFree}
-use Rattle.cmh_process.specs.Process.{fresh, engages, proc_queried, query_action}
+use Rattle.cmh_process.specs.Process.{new_proc, engages, proc_queried, query_action}
 use Rattle.cmh_graph.specs.Graph.{Graph, process_count, is_awake, IsWithinGraph}
 use Rattle.cmh_graph.specs.Verdict.{IsDeadlocked}
 use Rattle.cmh_graph.proofs.Verdicts.{idle_within}
 use Rattle.cmh_run.proofs.Paths.{reaches_self, reached_deadlocked}
-use Rattle.cmh_run.specs.Config.{Config, proc_at, after_step, hinted, received, without, delivered, start, nothing_yet}
-use Rattle.cmh_run.specs.Legal.{Going, ready, after, DeliveriesLead, EndsAs, IsRight, RunsAreSound}
+use Rattle.cmh_run.specs.Config.{Config, proc_at, after_step, after_hint, after_message, without_message, after_delivery, start, nothing_yet}
+use Rattle.cmh_run.specs.Legal.{Going, after_due_restart, going_after, DeliveriesLead, EndsAs, IsRight, RunsAreSound}
 use Rattle.cmh_run.proofs.Tally.{tally_from_contains, distinct}
 use Rattle.cmh_run.proofs.Invariant.{engaged_deadlocked, none_on_way, at_rest_free}
 use Rattle.cmh_run.proofs.Tokens.{each_at, tokens, token, edge_from, edge_to}
@@ -26,20 +26,21 @@ use Rattle.std.proofs.lemmas.Option.{none-some, slice_get-get_or}
 
 -- a delivery and a restart keep or raise the number
 pub number_kept : (g : Graph) (i : ℕ) (c : Config) (x : ℕ) (m : Message) (hint : Option Verdict)
-    → (delivered g i c x m hint).number ≡ c.number
+    → (after_delivery g i c x m hint).number ≡ c.number
 number_kept g i c x m hint =
-    by_test (is_awake g m.to) (λ b. (cond b (without c x) (received g i (without c x) m m.kind hint)).number ≡ c.number)
+    by_test (is_awake g m.to) (λ b. (cond b (without_message c x)
+    (after_message g i (without_message c x) m m.kind hint)).number ≡ c.number)
     (λ e. refl) (λ e. received_kept m.kind hint)
   where
-    received_kept : (k : Kind) (h : Option Verdict) → (received g i (without c x) m k h).number ≡ c.number
+    received_kept : (k : Kind) (h : Option Verdict) → (after_message g i (without_message c x) m k h).number ≡ c.number
     received_kept Reply h = refl
     received_kept Query h = by_test (engages (proc_at c.procs m.to) m.number)
-        (λ b. (cond b (hinted g i (without c x) m h)
-        (after_step i (without c x) m.number m.to [] (proc_queried (proc_at c.procs m.to) m.number m.from 0)
+        (λ b. (cond b (after_hint g i (without_message c x) m h)
+        (after_step i (without_message c x) m.number m.to [] (proc_queried (proc_at c.procs m.to) m.number m.from 0)
         (query_action (proc_at c.procs m.to) m.number m.from 0))).number ≡ c.number)
         (λ e. hint_kept h) (λ e. refl)
       where
-        hint_kept : (h : Option Verdict) → (hinted g i (without c x) m h).number ≡ c.number
+        hint_kept : (h : Option Verdict) → (after_hint g i (without_message c x) m h).number ≡ c.number
         hint_kept None = refl
         hint_kept (Some Deadlocked) = refl
         hint_kept (Some Free) = refl
@@ -48,12 +49,13 @@ number_kept g i c x m hint =
 one_number : (rule : ℕ → Config → ℕ → Bool) (g : Graph) (i : ℕ) (log : List Delivery) (s end : Going) → s.restarts ≡ []
     → DeliveriesLead rule g i s log end → end.config.number ≡ s.config.number
 one_number rule g i [] s end none l =
-    let same : ready g i s ≡ s = rw none refl in
+    let same : after_due_restart g i s ≡ s = rw none refl in
     ap (λ (t : Going). t.config.number) (sym l ∙ same)
 one_number rule g i (d ∷ log) s end none l =
-    let same : ready g i s ≡ s = rw none refl in
-    one_number rule g i log (after g i (ready g i s) l.0 d) end (ap (λ (t : Going). t.restarts) same ∙ none) l.3
-    ∙ number_kept g i (ready g i s).config l.0 d.message d.hint ∙ ap (λ (t : Going). t.config.number) same
+    let same : after_due_restart g i s ≡ s = rw none refl in
+    one_number rule g i log (going_after g i (after_due_restart g i s) l.0 d) end
+    (ap (λ (t : Going). t.restarts) same ∙ none) l.3
+    ∙ number_kept g i (after_due_restart g i s).config l.0 d.message d.hint ∙ ap (λ (t : Going). t.config.number) same
 
 module _ (g : Graph) (i : ℕ) (c : Config) (ok : IsWithinGraph g)
     (L : Live g i c.number (proc_at c.procs) c.bag c.engaged) where
@@ -187,7 +189,7 @@ runs_are_sound rule g i restarts log ending end ok idle run =
         (record { config = start g i (nothing_yet g); done = 0; restarts = restarts; restarted = 0 }) end none leads
         ∙ first_number)
       where
-        first_number : (proc_at (replicate (process_count g) fresh) i).latest + 1 ≡ 1
+        first_number : (proc_at (replicate (process_count g) new_proc) i).latest + 1 ≡ 1
         first_number = rw (fresh_at (process_count g) i) refl
 
     awake : is_awake g i ≡ true → IsRight g i restarts ending end

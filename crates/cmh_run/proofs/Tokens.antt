@@ -9,7 +9,7 @@ use Rattle.cmh_process.specs.declared.message.Kind.{Kind}
 use Rattle.cmh_process.specs.declared.message.Kind.TheVariants.{Query, Reply}
 use Rattle.cmh_process.specs.declared.message.Message.{Message}
 use Rattle.cmh_process.specs.declared.process.Proc.{Proc}
-use Rattle.cmh_process.specs.Process.{fresh}
+use Rattle.cmh_process.specs.Process.{new_proc}
 use Rattle.cmh_run.specs.Config.{query, proc_at}
 use Rattle.cmh_run.proofs.Tally.{one_if, tally}
 use Rattle.cmh_run.proofs.InvariantSteps.{upd, place}
@@ -126,5 +126,6 @@ tokens-old m k r (x ∷ xs) a =
 -- the processes of a list with p at place k are those of the list with process k changed to p
 pub set_is : (procs : List Proc) (k : ℕ) (p : Proc) → k < length procs
     → ◌≡◌ {A = ℕ → Proc} (proc_at (set procs k p)) (upd (proc_at procs) k p)
-set_is procs k p h = fun_ext (λ x. place k x (λ b. get_or (set procs k p) x fresh ≡ cond b p (get_or procs x fresh))
-    (λ q. rw q (get_or-set_same procs k p fresh h)) (λ n. get_or-set_other procs k x p fresh n))
+set_is procs k p h = fun_ext (λ x. place k x (λ b. get_or (set procs k p) x new_proc
+    ≡ cond b p (get_or procs x new_proc))
+    (λ q. rw q (get_or-set_same procs k p new_proc h)) (λ n. get_or-set_other procs k x p new_proc n))

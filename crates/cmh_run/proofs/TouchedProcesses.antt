@@ -5,13 +5,13 @@ use Rattle.std.proofs.lemmas.Bool.{cases_eq}
 use Rattle.std.proofs.lemmas.List.{get_or-set_same, get_or-set_other, get_or_append_left, get_or-append-add, length-set}
 use Rattle.std.proofs.lemmas.List.Elements.{All-append, Contains-append_left, Contains-append_right, Contains-append_cases}
 use Rattle.cmh_process.specs.declared.process.Proc.{Proc}
-use Rattle.cmh_process.specs.Process.{fresh, proc_replied}
+use Rattle.cmh_process.specs.Process.{new_proc, proc_replied}
 use Rattle.cmh_run.specs.Config.{proc_at}
 use Rattle.cmh_run.specs.Procs.{AreTouched}
 use Rattle.cmh_run.proofs.Configurations.{fresh_at}
 
 -- where all processes have heard of nothing, none of them has taken part
-pub none_touched : (n : ℕ) → AreTouched [] (replicate n fresh)
+pub none_touched : (n : ℕ) → AreTouched [] (replicate n new_proc)
 none_touched n = record { within = λ k d l. absurd (omega arith); others = λ k out. fresh_at n k }
 
 all_one : (P : ℕ → Type 0) (x : ℕ) → P x → All P (x ∷ [])
@@ -37,7 +37,7 @@ one_touched touched procs k p h l = record {
       λ e. out
       (Contains-append_right touched (k ∷ []) j
       (subst (Contains (k ∷ [])) (sym e) (zero, omega arith, refl))) in
-      get_or-set_other procs k j p fresh other ∙ h.others j (λ c. out (Contains-append_left touched (k ∷ []) j c));
+      get_or-set_other procs k j p new_proc other ∙ h.others j (λ c. out (Contains-append_left touched (k ∷ []) j c));
 }
 
 -- a reply to a process that has heard of nothing changes nothing
@@ -48,11 +48,11 @@ replied_in_vain touched procs k number h l = record {
   within = rw (length-set procs k (proc_replied (proc_at procs k) number)) h.within;
   others = λ j out. elim (cases_eq j k) [
     | inl same ↦
-        let rests : proc_at procs k ≡ fresh = ap (proc_at procs) (sym same) ∙ h.others j out in
+        let rests : proc_at procs k ≡ new_proc = ap (proc_at procs) (sym same) ∙ h.others j out in
         ap (proc_at (slice_set procs k (proc_replied (proc_at procs k) number))) same
-        ∙ get_or-set_same procs k (proc_replied (proc_at procs k) number) fresh l
+        ∙ get_or-set_same procs k (proc_replied (proc_at procs k) number) new_proc l
         ∙ ap (λ p. proc_replied p number) rests
-    | inr other ↦ get_or-set_other procs k j (proc_replied (proc_at procs k) number) fresh other ∙ h.others j out
+    | inr other ↦ get_or-set_other procs k j (proc_replied (proc_at procs k) number) new_proc other ∙ h.others j out
   ];
 }
 
@@ -64,14 +64,14 @@ last_within touched procs k h =
 
 -- once the last of those that have taken part is fresh again, the others are all that have
 pub last_cleared : (touched : List ℕ) (procs : List Proc) (k : ℕ) → AreTouched (touched ++ k ∷ []) procs
-    → AreTouched touched (slice_set procs k fresh)
+    → AreTouched touched (slice_set procs k new_proc)
 last_cleared touched procs k h = record {
-  within = rw (length-set procs k fresh) (front_all (λ j. j < length procs) touched (k ∷ []) h.within);
+  within = rw (length-set procs k new_proc) (front_all (λ j. j < length procs) touched (k ∷ []) h.within);
   others = λ j out. elim (cases_eq j k) [
-    | inl same ↦ ap (proc_at (slice_set procs k fresh)) same
-        ∙ get_or-set_same procs k fresh fresh (last_within touched procs k h)
+    | inl same ↦ ap (proc_at (slice_set procs k new_proc)) same
+        ∙ get_or-set_same procs k new_proc new_proc (last_within touched procs k h)
     | inr other ↦
-        get_or-set_other procs k j fresh fresh other
+        get_or-set_other procs k j new_proc new_proc other
         ∙ h.others j
         (λ c. ⊎_elim out (λ (last : Contains (k ∷ []) j). other (one_in k j last))
         (Contains-append_cases touched (k ∷ []) j c))
@@ -79,9 +79,9 @@ last_cleared touched procs k h = record {
 }
 
 -- where nobody has taken part, nobody has heard of anything
-pub all_clear : (procs : List Proc) → AreTouched [] procs → procs ≡ replicate (length procs) fresh
+pub all_clear : (procs : List Proc) → AreTouched [] procs → procs ≡ replicate (length procs) new_proc
 all_clear procs h = all_fresh procs (λ k. h.others k (λ c. absurd (omega (arith, c.1))))
   where
-    all_fresh : (ps : List Proc) → ((k : ℕ) → proc_at ps k ≡ fresh) → ps ≡ replicate (length ps) fresh
+    all_fresh : (ps : List Proc) → ((k : ℕ) → proc_at ps k ≡ new_proc) → ps ≡ replicate (length ps) new_proc
     all_fresh [] f = refl
-    all_fresh (p ∷ ps) f = ap (λ q. q ∷ ps) (f zero) ∙ ap (λ qs. fresh ∷ qs) (all_fresh ps (λ k. f (suc k)))
+    all_fresh (p ∷ ps) f = ap (λ q. q ∷ ps) (f zero) ∙ ap (λ qs. new_proc ∷ qs) (all_fresh ps (λ k. f (suc k)))

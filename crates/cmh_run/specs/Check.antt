@@ -8,11 +8,11 @@ use Rattle.cmh_run.specs.declared.delivery.Ending.{Ending}
 use Rattle.cmh_run.specs.declared.fault.CheckFault.{CheckFault}
 use Rattle.cmh_run.specs.declared.fault.CheckFault.TheVariants.{NotIdle, NotUndelivered, FalseHint, AfterEnd, NotEnded, Memory}
 use Rattle.cmh_run.specs.Config.{Config}
-use Rattle.cmh_run.specs.Legal.{Going, begun, HintIsFit, any_place, DeliveriesLead, EndsAs, IsRun}
+use Rattle.cmh_run.specs.Legal.{Going, going_at_start, HintIsFit, any_place, DeliveriesLead, EndsAs, IsRun}
 
 -- the deliveries lead from the start to s, without a restart
 abbrev pub LeadTo : Graph → ℕ → List Delivery → Going → Type 0
-LeadTo g i log s = DeliveriesLead any_place g i (begun g i []) log s
+LeadTo g i log s = DeliveriesLead any_place g i (going_at_start g i []) log s
 
 -- the run is over, or nothing is undelivered
 abbrev pub HasEnded : Config → Type 0

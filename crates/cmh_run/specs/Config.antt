@@ -11,7 +11,7 @@ use Rattle.cmh_process.specs.declared.message.Message.{Message}
 use Rattle.cmh_process.specs.declared.process.Proc.{Proc}
 use Rattle.cmh_process.specs.declared.process.Action.{Action}
 use Rattle.cmh_process.specs.declared.process.Action.TheVariants.{Nothing, Engage, ReplyTo, Declare}
-use Rattle.cmh_process.specs.Process.{fresh, proc_started, start_action, engages, proc_queried, query_action, proc_replied, reply_action}
+use Rattle.cmh_process.specs.Process.{new_proc, proc_started, start_action, engages, proc_queried, query_action, proc_replied, reply_action}
 use Rattle.cmh_run.specs.declared.delivery.Ending.{Ending}
 use Rattle.cmh_run.specs.declared.delivery.Ending.TheVariants.{Declared, CutFree}
 
@@ -27,7 +27,7 @@ pub record Config : Type 0 where
 
 -- what process k keeps of the computation
 abbrev pub proc_at : List Proc → ℕ → Proc
-proc_at procs k = slice_index_or procs k fresh
+proc_at procs k = slice_index_or procs k new_proc
 
 -- the query of a computation from one process to another
 abbrev pub query : ℕ → ℕ → ℕ → ℕ → Message
@@ -40,24 +40,24 @@ reply i number from to =
     record { kind = Reply; initiator = i; number = number; from = from; to = to }
 
 -- what process k sends by an action: queries in the order of the dependents, or one reply
-abbrev pub sent : ℕ → ℕ → ℕ → List ℕ → Action → List Message
-sent i number k dependents Nothing = []
-sent i number k dependents Engage = map (λ (r : ℕ). query i number k r) dependents
-sent i number k dependents (ReplyTo to) = reply i number k to ∷ []
-sent i number k dependents Declare = []
+abbrev pub messages_of : ℕ → ℕ → ℕ → List ℕ → Action → List Message
+messages_of i number k dependents Nothing = []
+messages_of i number k dependents Engage = map (λ (r : ℕ). query i number k r) dependents
+messages_of i number k dependents (ReplyTo to) = reply i number k to ∷ []
+messages_of i number k dependents Declare = []
 
 -- of all actions a declaration alone ends the run
-abbrev pub ended_by : Action → Option Ending
-ended_by Declare = Some Declared
-ended_by Nothing = None
-ended_by Engage = None
-ended_by (ReplyTo to) = None
+abbrev pub ending_after : Action → Option Ending
+ending_after Declare = Some Declared
+ending_after Nothing = None
+ending_after Engage = None
+ending_after (ReplyTo to) = None
 
 -- the configuration in which none of so many processes has heard of anything
-abbrev pub blank : ℕ → Config
-blank count = record {
+abbrev pub blank_config : ℕ → Config
+blank_config count = record {
   bag = [];
-  procs = replicate count fresh;
+  procs = replicate count new_proc;
   number = 0;
   engaged = [];
   ended = None;
@@ -65,7 +65,7 @@ blank count = record {
 
 -- the configuration in which nobody of the graph has heard of anything
 abbrev pub nothing_yet : Graph → Config
-nothing_yet g = blank (process_count g)
+nothing_yet g = blank_config (process_count g)
 
 -- the configuration once the initiator starts with its next number
 abbrev pub start : Graph → ℕ → Config → Config
@@ -74,18 +74,18 @@ start g i c =
     let dependents = dependents_of g i in
     let action = start_action (length dependents) in
     record {
-      bag = c.bag ++ sent i (p.latest + 1) i dependents action;
+      bag = c.bag ++ messages_of i (p.latest + 1) i dependents action;
       procs = slice_set c.procs i (proc_started p (length dependents));
       number = p.latest + 1;
       engaged = i ∷ [];
-      ended = ended_by action;
+      ended = ending_after action;
     }
 
 -- the configuration once process k has done this: it sends, or it ends the run
 abbrev pub after_action : ℕ → Config → ℕ → ℕ → List ℕ → Action → Config
 after_action i c number k dependents action = record c {
-  bag = c.bag ++ sent i number k dependents action;
-  ended = ended_by action;
+  bag = c.bag ++ messages_of i number k dependents action;
+  ended = ending_after action;
 }
 
 -- the configuration with p as process k
@@ -97,19 +97,19 @@ abbrev pub after_step : ℕ → Config → ℕ → ℕ → List ℕ → Proc →
 after_step i c number k dependents p action = after_action i (with_proc c k p) number k dependents action
 
 -- the engaged once k engages with this number: those of an older number aren't kept
-abbrev pub engaged_with : Config → ℕ → ℕ → List ℕ
-engaged_with c number k = if number == c.number then c.engaged ++ k ∷ [] else c.engaged
+abbrev pub engaged_list : Config → ℕ → ℕ → List ℕ
+engaged_list c number k = if number == c.number then c.engaged ++ k ∷ [] else c.engaged
 
 -- the configuration once a query engages its receiver, which asks these
-abbrev pub engaged_by : ℕ → Config → Message → List ℕ → Config
-engaged_by i c m dependents =
+abbrev pub after_engagement : ℕ → Config → Message → List ℕ → Config
+after_engagement i c m dependents =
     let p = proc_at c.procs m.to in
     let action = query_action p m.number m.from (length dependents) in
     record {
-      bag = c.bag ++ sent i m.number m.to dependents action;
+      bag = c.bag ++ messages_of i m.number m.to dependents action;
       procs = slice_set c.procs m.to (proc_queried p m.number m.from (length dependents));
       number = c.number;
-      engaged = engaged_with c m.number m.to;
+      engaged = engaged_list c m.number m.to;
       ended = None;
     }
 
@@ -119,10 +119,10 @@ after_cut c k = record c { ended = Some (CutFree k) }
 
 -- A query would engage its receiver, and this is the hint about it. Who is known to be deadlocked
 -- engages as a process that has nobody to ask; who is known to be free ends the run.
-abbrev pub hinted : Graph → ℕ → Config → Message → Option Verdict → Config
-hinted g i c m None = engaged_by i c m (dependents_of g m.to)
-hinted g i c m (Some Deadlocked) = engaged_by i c m []
-hinted g i c m (Some Free) = after_cut c m.to
+abbrev pub after_hint : Graph → ℕ → Config → Message → Option Verdict → Config
+after_hint g i c m None = after_engagement i c m (dependents_of g m.to)
+after_hint g i c m (Some Deadlocked) = after_engagement i c m []
+after_hint g i c m (Some Free) = after_cut c m.to
 
 -- the configuration after a query that engages nobody
 abbrev pub after_answer : ℕ → Config → Message → Config
@@ -138,19 +138,19 @@ after_reply i c m =
     after_step i c m.number m.to [] (proc_replied p m.number) (reply_action p m.number)
 
 -- what a message does to a process that isn't awake
-abbrev pub received : Graph → ℕ → Config → Message → Kind → Option Verdict → Config
-received g i c m Query hint =
-    if engages (proc_at c.procs m.to) m.number then hinted g i c m hint else after_answer i c m
-received g i c m Reply hint = after_reply i c m
+abbrev pub after_message : Graph → ℕ → Config → Message → Kind → Option Verdict → Config
+after_message g i c m Query hint =
+    if engages (proc_at c.procs m.to) m.number then after_hint g i c m hint else after_answer i c m
+after_message g i c m Reply hint = after_reply i c m
 
 -- the configuration once the message at place x is taken
-abbrev pub without : Config → ℕ → Config
-without c x = record c { bag = remove c.bag x }
+abbrev pub without_message : Config → ℕ → Config
+without_message c x = record c { bag = remove c.bag x }
 
 -- The delivery of m, which stood at place x, with this hint. An awake process discards it.
-abbrev pub delivered : Graph → ℕ → Config → ℕ → Message → Option Verdict → Config
-delivered g i c x m hint =
-    if is_awake g m.to then without c x else received g i (without c x) m m.kind hint
+abbrev pub after_delivery : Graph → ℕ → Config → ℕ → Message → Option Verdict → Config
+after_delivery g i c x m hint =
+    if is_awake g m.to then without_message c x else after_message g i (without_message c x) m m.kind hint
 
 -- the message is a query
 abbrev pub is_query : Kind → Bool
@@ -158,6 +158,6 @@ is_query Query = true
 is_query Reply = false
 
 -- hints are asked about m before it is delivered
-abbrev pub asks : Graph → Config → Message → Bool
-asks g c m =
+abbrev pub asks_hint : Graph → Config → Message → Bool
+asks_hint g c m =
     is_query m.kind && (not (is_awake g m.to) && engages (proc_at c.procs m.to) m.number)

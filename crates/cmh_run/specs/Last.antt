@@ -8,16 +8,16 @@ use Rattle.cmh_run.specs.declared.delivery.Ending.TheVariants.{Declared, AtRest,
 use Rattle.cmh_run.specs.Legal.{Going, Rule, any_place, IsRun}
 
 -- the message as one of the first computation
-abbrev pub renumbered : Message → Message
-renumbered m = record m { number = 1 }
+abbrev pub renumber : Message → Message
+renumber m = record m { number = 1 }
 
 -- the deliveries of computation n, renumbered 1; their hints stay as they stood
-abbrev pub alone : ℕ → List Delivery → List Delivery
-alone n [] = []
-alone n (d ∷ log) =
+abbrev pub computation_log : ℕ → List Delivery → List Delivery
+computation_log n [] = []
+computation_log n (d ∷ log) =
     if d.message.number == n
-    then record { message = renumbered d.message; hint = d.hint } ∷ alone n log
-    else alone n log
+    then record { message = renumber d.message; hint = d.hint } ∷ computation_log n log
+    else computation_log n log
 
 -- the deliveries begin a legal run without restarts
 pub record BeginsRun (g : Graph) (i : ℕ) (log : List Delivery) : Type 0 where
@@ -43,9 +43,9 @@ pub record IsWholeComputation (g : Graph) (i : ℕ) (log : List Delivery)
 -- declared or came to rest.
 pub record LastIsRun (g : Graph) (i : ℕ) (log : List Delivery)
     (ending : Ending) (end : Going) : Type 0 where
-  pub begins : BeginsRun g i (alone end.config.number log)
+  pub begins : BeginsRun g i (computation_log end.config.number log)
   pub whole : IsUncut ending
-      → IsWholeComputation g i (alone end.config.number log) ending end.config.engaged
+      → IsWholeComputation g i (computation_log end.config.number log) ending end.config.engaged
 
 -- messages of older numbers have no part in what the last computation tells
 abbrev pub LastComputationIsARun : Type 0

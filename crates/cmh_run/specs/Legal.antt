@@ -8,7 +8,7 @@ use Rattle.cmh_process.specs.declared.message.Message.{Message}
 use Rattle.cmh_run.specs.declared.delivery.Delivery.{Delivery}
 use Rattle.cmh_run.specs.declared.delivery.Ending.{Ending}
 use Rattle.cmh_run.specs.declared.delivery.Ending.TheVariants.{Declared, AtRest, CutFree}
-use Rattle.cmh_run.specs.Config.{Config, nothing_yet, start, delivered, asks}
+use Rattle.cmh_run.specs.Config.{Config, nothing_yet, start, after_delivery, asks_hint}
 
 -- A run on its way: after so many deliveries, with the restarts that are still to come, each by the
 -- number of deliveries before it, and how many restarts there were.
@@ -23,41 +23,41 @@ abbrev pub going_from : Config → List ℕ → Going
 going_from c restarts = record { config = c; done = 0; restarts = restarts; restarted = 0 }
 
 -- The start. An awake initiator asks nobody, and never starts again.
-abbrev pub begun : Graph → ℕ → List ℕ → Going
-begun g i restarts =
+abbrev pub going_at_start : Graph → ℕ → List ℕ → Going
+going_at_start g i restarts =
     if is_awake g i
     then going_from (nothing_yet g) []
     else going_from (start g i (nothing_yet g)) restarts
 
 -- the initiator has started again, and these restarts are still to come
-abbrev pub restart : Graph → ℕ → Going → List ℕ → Going
-restart g i s rest = record s {
+abbrev pub after_restart : Graph → ℕ → Going → List ℕ → Going
+after_restart g i s rest = record s {
   config = start g i s.config;
   restarts = rest;
   restarted = s.restarted + 1;
 }
 
 -- the run once the first of these restarts has come, if the run goes on and it is due now
-abbrev pub restarted_at : Graph → ℕ → Going → List ℕ → Going
-restarted_at g i s [] = s
-restarted_at g i s (n ∷ rest) =
-    if is_none s.config.ended && n == s.done then restart g i s rest else s
+abbrev pub after_first_restart : Graph → ℕ → Going → List ℕ → Going
+after_first_restart g i s [] = s
+after_first_restart g i s (n ∷ rest) =
+    if is_none s.config.ended && n == s.done then after_restart g i s rest else s
 
 -- the run once the restart that is due now has come, if one is
-abbrev pub ready : Graph → ℕ → Going → Going
-ready g i s = restarted_at g i s s.restarts
+abbrev pub after_due_restart : Graph → ℕ → Going → Going
+after_due_restart g i s = after_first_restart g i s s.restarts
 
 -- the run once the message at place x of the bag is delivered
-abbrev pub after : Graph → ℕ → Going → ℕ → Delivery → Going
-after g i s x d = record s {
-  config = delivered g i s.config x d.message d.hint;
+abbrev pub going_after : Graph → ℕ → Going → ℕ → Delivery → Going
+going_after g i s x d = record s {
+  config = after_delivery g i s.config x d.message d.hint;
   done = s.done + 1;
 }
 
 -- a hint stands only where hints are asked, and is true
 abbrev pub HintIsFit : Graph → Config → Message → Option Verdict → Type 0
 HintIsFit g c m None = ⊤
-HintIsFit g c m (Some v) = IsTrue (asks g c m) × IsVerdict g m.to v
+HintIsFit g c m (Some v) = IsTrue (asks_hint g c m) × IsVerdict g m.to v
 
 -- the message at place x may be delivered, with this hint
 pub record MayCome (g : Graph) (c : Config) (x : ℕ) (d : Delivery) : Type 0 where
@@ -75,11 +75,11 @@ any_place done c x = true
 
 -- the deliveries lead from one state to another by the rule
 abbrev pub DeliveriesLead : Rule → Graph → ℕ → Going → List Delivery → Going → Type 0
-DeliveriesLead rule g i s [] end = ready g i s ≡ end
+DeliveriesLead rule g i s [] end = after_due_restart g i s ≡ end
 DeliveriesLead rule g i s (d ∷ rest) end =
-    let now = ready g i s in
+    let now = after_due_restart g i s in
     (x : ℕ) × MayCome g now.config x d × IsTrue (rule s.done now.config x)
-    × DeliveriesLead rule g i (after g i now x d) rest end
+    × DeliveriesLead rule g i (going_after g i now x d) rest end
 
 -- how a run ends: it is over, or nothing is undelivered
 abbrev pub EndsAs : Config → Ending → Type 0
@@ -90,7 +90,7 @@ EndsAs c AtRest = (c.ended ≡ None) × (c.bag ≡ [])
 -- a legal run that has ended, by its deliveries
 pub record IsRun (rule : Rule) (g : Graph) (i : ℕ) (restarts : List ℕ)
     (log : List Delivery) (ending : Ending) (end : Going) : Type 0 where
-  pub leads : DeliveriesLead rule g i (begun g i restarts) log end
+  pub leads : DeliveriesLead rule g i (going_at_start g i restarts) log end
   pub ends : EndsAs end.config ending
 
 -- what a run that has ended tells of the graph

@@ -11,9 +11,9 @@ use Rattle.cmh_run.specs.declared.delivery.Ending.TheVariants.{Declared, AtRest,
 use Rattle.cmh_run.specs.declared.fault.RunFault.{RunFault}
 use Rattle.cmh_run.specs.declared.fault.RunFault.TheVariants.{NotIdle, TooManyChoices, Memory, BadRestarts}
 use Rattle.cmh_run.specs.declared.TheConstants.{MAX_CHOICES, MAX_RESTARTS}
-use Rattle.cmh_run.specs.Config.{Config, proc_at, without, received}
+use Rattle.cmh_run.specs.Config.{Config, proc_at, without_message, after_message}
 use Rattle.cmh_graph.specs.Verdict.{IsDeadlocked, IsVerdict}
-use Rattle.cmh_run.specs.Legal.{Going, begun, Rule, HintIsFit, DeliveriesLead, IsRun, IsRight}
+use Rattle.cmh_run.specs.Legal.{Going, going_at_start, Rule, HintIsFit, DeliveriesLead, IsRun, IsRight}
 use Rattle.cmh_run.specs.Choices.{chosen_place, HasNoHints}
 use Rattle.cmh_run.specs.Engaged.{AreEngaged}
 use Rattle.cmh_run.specs.Last.{LastIsRun}
@@ -25,7 +25,7 @@ pub record ProgressState : Type 0 where
 
 -- the deliveries lead from the start to where the run is, by the choices
 pub record Follows (g : Graph) (i : ℕ) (choices restarts : List ℕ) (s : ProgressState) : Type 0 where
-  pub leads : DeliveriesLead (chosen_place choices) g i (begun g i restarts) s.log s.going
+  pub leads : DeliveriesLead (chosen_place choices) g i (going_at_start g i restarts) s.log s.going
   pub count : s.going.done ≡ length s.log
 
 -- the initiator may start again: its number grows, and has room in a word
@@ -50,15 +50,15 @@ IsTakenBy choices old new None =
 IsTakenBy choices old new (Some m) =
     let x = place_in choices old in
     (old.going.config.ended ≡ None) × (slice_get old.going.config.bag x ≡ Some m)
-    × (new ≡ with_config old (without old.going.config x))
+    × (new ≡ with_config old (without_message old.going.config x))
 
 -- the run on its way after the delivery of a message that was taken
-abbrev pub delivered_to : Graph → ℕ → ProgressState → Delivery → ProgressState
-delivered_to g i s d = record {
+abbrev pub progress_after : Graph → ℕ → ProgressState → Delivery → ProgressState
+progress_after g i s d = record {
   going = record s.going {
     config = if is_awake g d.message.to
         then s.going.config
-        else received g i s.going.config d.message d.message.kind d.hint;
+        else after_message g i s.going.config d.message d.message.kind d.hint;
     done = s.going.done + 1;
   };
   log = s.log ++ d ∷ [];
@@ -69,7 +69,7 @@ pub record IsDelivered (g : Graph) (i : ℕ) (old new : ProgressState) (m : Mess
     (nobody_answers : Type 0) : Type 0 where
   pub hint : Option Verdict
   pub fit : HintIsFit g old.going.config m hint
-  pub is : new ≡ delivered_to g i old (record { message = m; hint = hint })
+  pub is : new ≡ progress_after g i old (record { message = m; hint = hint })
   pub silent : nobody_answers → hint ≡ None
 
 -- what is kept of a run that has ended

@@ -5,9 +5,9 @@ ghost use Rattle.cmh_graph.specs.Graph.{process_count, is_awake, dependents_of};
 ghost use Rattle.cmh_graph.specs.Build.{IsWellFormed};
 ghost use Rattle.cmh_process.specs.Process.{engages};
 ghost use Rattle.cmh_graph.specs.Verdict.{IsVerdict};
-ghost use Rattle.cmh_run.specs.Legal.{begun, HintIsFit};
+ghost use Rattle.cmh_run.specs.Legal.{going_at_start, HintIsFit};
 ghost use Rattle.cmh_run.specs.Packed.{CanSend, EngagersHaveRoom, HaveRoom, RepliesWithin};
-ghost use Rattle.cmh_run.specs.Config.{blank, proc_at, nothing_yet, start, after_action, engaged_by, hinted, query, after_answer, after_reply, received, asks, without};
+ghost use Rattle.cmh_run.specs.Config.{blank_config, proc_at, nothing_yet, start, after_action, after_engagement, after_hint, query, after_answer, after_reply, after_message, asks_hint, without_message};
 
 use crate::procs::Procs;
 use crate::queue::Queue;
@@ -64,7 +64,7 @@ impl Network {
     ) -> Result<Network, AllocError>
         requires graph { IsWellFormed graph.now }
         requires within { initiator < process_count graph.now }
-        ensures ok { IfOk result (λ n. n ≡ (begun graph.now initiator []).config) }
+        ensures ok { IfOk result (λ n. n ≡ (going_at_start graph.now initiator []).config) }
     {
         let mut network = Network::nothing_yet(alloc, graph)?;
         if !graph.is_awake(initiator) {
@@ -101,7 +101,7 @@ impl Network {
     pub(crate) fn asks(&self, graph: &WaitGraph, message: Message) -> bool
         requires size { length self.now.procs ≡ process_count graph.now }
         requires within { message.to < process_count graph.now }
-        ensures { result ≡ asks graph.now self.now message }
+        ensures { result ≡ asks_hint graph.now self.now message }
     {
         message.kind == Kind::Query
             && !graph.is_awake(message.to)
@@ -128,7 +128,7 @@ impl Network {
         ensures none { IsNone result ↔ (self.old.bag ≡ []) }
         ensures unchanged { IfNone result (self.new ≡ self.old) }
         ensures taken { IfSome result (λ m. let x = choice % length self.old.bag in
-            (slice_get self.old.bag x ≡ Some m) × (self.new ≡ without self.old x)) }
+            (slice_get self.old.bag x ≡ Some m) × (self.new ≡ without_message self.old x)) }
         ensures number { IfSome result (λ m. m.number < 2 ^ 27) }
         ensures from { IfSome result (λ m. m.from < 4096) }
     {
@@ -153,7 +153,7 @@ impl Network {
         requires engagers { EngagersHaveRoom self.old.procs }
         ensures ok { OnOk result (self.new ≡ (if is_awake graph.now message.to
             then self.old
-            else received graph.now initiator self.old message message.kind hint)) }
+            else after_message graph.now initiator self.old message message.kind hint)) }
     {
         if graph.is_awake(message.to) {
             return Ok(());
@@ -185,7 +185,7 @@ impl Network {
         ensures fit { IfOk result (HintIsFit graph.now self.old message) }
         ensures ok { IfOk result (λ hint. self.new ≡ (if is_awake graph.now message.to
             then self.old
-            else received graph.now initiator self.old message message.kind hint)) }
+            else after_message graph.now initiator self.old message message.kind hint)) }
         ensures silent { H.is_silent hints.old → IfOk result (λ hint. hint ≡ None) }
         ensures kept { H.keeps hints.old hints.new }
     {
@@ -217,7 +217,7 @@ impl Network {
     /// Nobody has heard of anything, as at first. It takes time linear in the processes that took
     /// part.
     pub(crate) fn clear(&mut self)
-        ensures { self.new ≡ blank (length self.old.procs) }
+        ensures { self.new ≡ blank_config (length self.old.procs) }
     {
         self.bag.clear();
         self.procs.clear();
@@ -241,7 +241,7 @@ impl Network {
         requires sender { CanSend initiator message.number message.to }
         requires from { message.from < 4096 }
         ensures ok { OnOk result (self.new ≡
-            received graph.now initiator self.old message Kind.Query hint) }
+            after_message graph.now initiator self.old message Kind.Query hint) }
     {
         if !self.procs.is_engaged_by(message.to, message.number) {
             return self.answer(initiator, message);
@@ -276,7 +276,7 @@ impl Network {
         requires speaks { H.speaks_of hints.old graph.now }
         ensures verdict { IfOk result (λ hint. IfSome hint (IsVerdict graph.now to)) }
         ensures ok { IfOk result (λ hint. self.new ≡
-            hinted graph.now initiator self.old (query initiator number from to) hint) }
+            after_hint graph.now initiator self.old (query initiator number from to) hint) }
         ensures silent { H.is_silent hints.old → IfOk result (λ hint. hint ≡ None) }
         ensures kept { H.keeps hints.old hints.new }
     {
@@ -306,7 +306,7 @@ impl Network {
         requires from { from < 4096 }
         requires engaging { IsTrue (engages (proc_at self.old.procs to) number) }
         ensures ok { OnOk result (self.new ≡
-            hinted graph.now initiator self.old (query initiator number from to) hint) }
+            after_hint graph.now initiator self.old (query initiator number from to) hint) }
     {
         match hint {
             None => self.engage_unknown(graph, initiator, number, from, to),
@@ -337,7 +337,7 @@ impl Network {
         requires from { from < 4096 }
         requires engaging { IsTrue (engages (proc_at self.old.procs to) number) }
         ensures ok { OnOk result (self.new ≡
-            engaged_by initiator self.old (query initiator number from to) (dependents_of graph.now to)) }
+            after_engagement initiator self.old (query initiator number from to) (dependents_of graph.now to)) }
     {
         let dependents = graph.dependents(to);
         if dependents.len() != 1
@@ -392,7 +392,7 @@ impl Network {
         requires from { from < 4096 }
         requires dependents { HaveRoom dependents.now }
         ensures ok { OnOk result (self.new ≡
-            engaged_by initiator self.old (query initiator number from to) dependents.now) }
+            after_engagement initiator self.old (query initiator number from to) dependents.now) }
     {
         let size = dependents.len() as u32;
         let action = self.procs.engage(to, number, from, size)?;

@@ -1,7 +1,7 @@
 //! The processes of a network, which are made once and used for one run after another.
 
 ghost use Rattle.std.specs.Prelude.{◌≡◌, ◌+◌, ◌<◌, ◌^◌, length, replicate, slice_set, IfOk, IsFalse, IsTrue, OnOk};
-ghost use Rattle.cmh_process.specs.Process.{fresh, proc_started, start_action, engages, proc_queried, query_action, repeat_action, proc_replied, reply_action};
+ghost use Rattle.cmh_process.specs.Process.{new_proc, proc_started, start_action, engages, proc_queried, query_action, repeat_action, proc_replied, reply_action};
 ghost use Rattle.cmh_run.specs.Config.{proc_at};
 
 use cmh_process::{Action, Proc};
@@ -31,7 +31,7 @@ impl Procs {
     /// So many processes that have heard of nothing.
     #[tactic(auto, using(crate::proofs::TouchedProcesses::none_touched))]
     pub(crate) fn new(alloc: Global, count: usize) -> Result<Procs, AllocError>
-        ensures { IfOk result (λ p. p ≡ replicate count fresh) }
+        ensures { IfOk result (λ p. p ≡ replicate count new_proc) }
     {
         Ok(Procs {
             all: vec![in alloc; Proc::new(); count]?,
@@ -125,7 +125,7 @@ impl Procs {
     /// All processes are again as if they had heard of nothing. It takes time linear in those that
     /// took part.
     pub(crate) fn clear(&mut self)
-        ensures { self.new ≡ replicate (length self.old) fresh }
+        ensures { self.new ≡ replicate (length self.old) new_proc }
     {
         while let Some(k) = self.touched.pop() {
             self.all[k as usize] = Proc::new();

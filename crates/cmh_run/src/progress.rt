@@ -3,8 +3,8 @@
 ghost use Rattle.std.specs.Prelude.{◌≡◌, ℕ, List, ◌+◌, ◌<◌, ◌^◌, [], None, Some, length, slice_index, IfOk, IfSome, OnOk};
 ghost use Rattle.cmh_graph.specs.Graph.{process_count};
 ghost use Rattle.cmh_graph.specs.Build.{IsWellFormed};
-ghost use Rattle.cmh_run.specs.Config.{blank, nothing_yet};
-ghost use Rattle.cmh_run.specs.Legal.{begun, ready};
+ghost use Rattle.cmh_run.specs.Config.{blank_config, nothing_yet};
+ghost use Rattle.cmh_run.specs.Legal.{going_at_start, after_due_restart};
 ghost use Rattle.cmh_run.specs.Packed.{CanSend, EngagersHaveRoom};
 ghost use Rattle.cmh_run.specs.Run.{MayStart, IsTakenBy, IsDelivered, ending_of};
 
@@ -55,7 +55,7 @@ impl<'a, L: Log> Progress<'a, L> {
         requires graph { IsWellFormed graph.now }
         requires within { initiator < process_count graph.now }
         ensures ok { IfOk result (λ p.
-            p ≡ record { going = begun graph.now initiator restarts.now; log = [] }) }
+            p ≡ record { going = going_at_start graph.now initiator restarts.now; log = [] }) }
     {
         let is_awake = graph.is_awake(initiator);
         if !is_awake {
@@ -81,7 +81,7 @@ impl<'a, L: Log> Progress<'a, L> {
         requires may { self.old.going.config.ended ≡ None
             → MayStart graph.now initiator self.old.going }
         ensures ok { OnOk result (self.new ≡ record {
-          going = ready graph.now initiator self.old.going;
+          going = after_due_restart graph.now initiator self.old.going;
           log = self.old.log;
         }) }
     {
@@ -98,7 +98,7 @@ impl<'a, L: Log> Progress<'a, L> {
         requires may { self.old.going.config.ended ≡ None
             → MayStart graph.now initiator self.old.going }
         ensures ok { OnOk result (self.new ≡ record {
-          going = ready graph.now initiator self.old.going;
+          going = after_due_restart graph.now initiator self.old.going;
           log = self.old.log;
         }) }
     {
@@ -169,7 +169,7 @@ impl<'a, L: Log> Progress<'a, L> {
           engaged = self.entry.going.config.engaged;
           restarted = self.entry.going.restarted;
         } }
-        ensures network { result.1 ≡ blank (length self.entry.going.config.procs) }
+        ensures network { result.1 ≡ blank_config (length self.entry.going.config.procs) }
     {
         let mut network = self.network;
         let ending = network.ended().unwrap_or(Ending::AtRest);

@@ -1,7 +1,7 @@
 //! What a process puts into the queue by an action.
 
 ghost use Rattle.std.specs.Prelude.{◌≡◌, ◌++◌, OnOk};
-ghost use Rattle.cmh_run.specs.Config.{sent};
+ghost use Rattle.cmh_run.specs.Config.{messages_of};
 ghost use Rattle.cmh_run.specs.Packed.{CanSend, HaveRoom, RepliesWithin};
 
 use crate::queue::Queue;
@@ -44,7 +44,7 @@ impl Sender {
         requires dependents { HaveRoom dependents.now }
         requires reply { RepliesWithin action }
         ensures ok { OnOk result (queue.new ≡
-            queue.old ++ sent self.initiator self.number self.from dependents.now action) }
+            queue.old ++ messages_of self.initiator self.number self.from dependents.now action) }
     {
         let Sender {
             initiator,

@@ -10,7 +10,7 @@ use Rattle.cmh_rw.specs.declared.machine.SeatState.TheVariants.{Away, Retreating
 use Rattle.cmh_rw.specs.declared.row.Row.{Row}
 use Rattle.cmh_rw.specs.declared.view.View.{View}
 use Rattle.cmh_rw.specs.Machine.{total, writes, reads, retreats}
-use Rattle.cmh_rw.specs.History.{laid, row_code, verdict_code, fold_at}
+use Rattle.cmh_rw.specs.History.{rows_in, row_code, verdict_code, fold_at}
 use Rattle.cmh_rw.specs.Rule.{Moment, lock_of, state_of, share_of, HasShare, HasLockShare, WordsRule}
 use Rattle.cmh_rw.specs.Seats.{ClosedHistory, IsWhole}
 use Rattle.cmh_rw.proofs.Lawful.{total-in}
@@ -85,7 +85,7 @@ whole_words key s b id v at away whole =
     let none_in = nobody_holds key s b id v at away whole in
     let word = b.lock.lock.word in
     let clear = b.idle (omega arith) in
-    let old = laid b.postings in
+    let old = rows_in b.postings in
     record {
       free = omega arith;
       rows = λ n low. b.rows n low

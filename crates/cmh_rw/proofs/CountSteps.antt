@@ -8,14 +8,14 @@ use Rattle.cmh_rw.specs.declared.TheConstants.{FIRST_ROW, FIRST_VERDICT}
 use Rattle.cmh_rw.specs.declared.machine.SeatState.TheVariants.{Writing}
 use Rattle.cmh_rw.specs.declared.view.View.{View}
 use Rattle.cmh_rw.specs.Machine.{total, writes}
-use Rattle.cmh_rw.specs.History.{laid, row_code, verdict_code, fold_at, EndsLast, IsPosting, IsTrueOf, AreTold}
-use Rattle.cmh_rw.specs.View.{posted}
+use Rattle.cmh_rw.specs.History.{rows_in, row_code, verdict_code, fold_at, EndsLast, IsPosting, IsTrueOf, AreTold}
+use Rattle.cmh_rw.specs.View.{view_after_posting}
 use Rattle.cmh_rw.specs.Rule.{SeatRule, WordsRule}
 use Rattle.cmh_rw.specs.Steps.{TableSeat, Counted}
 use Rattle.cmh_rw.proofs.Folds.{fold-same, told-all}
 use Rattle.cmh_rw.proofs.Lawful.{total-set, total-append}
 use Rattle.cmh_rw.proofs.Moments.{writes-Writing, beside_writer, lock_beside}
-use Rattle.cmh_rw.proofs.Postings.{laid-snoc, whole-snoc, seen-grows, posting_from, ends-some}
+use Rattle.cmh_rw.proofs.Postings.{rows_in-snoc, whole-snoc, seen-grows, posting_from, ends-some}
 
 -- where a writer stores the count, the rule is kept, and its staged rows are the next posting
 pub counts_in : (key : Graph) (slots id n : ℕ) (me : TableSeat) → me.0.lock.state ≡ Writing → EndsLast me.0.staged
@@ -23,7 +23,7 @@ pub counts_in : (key : Graph) (slots id n : ℕ) (me : TableSeat) → me.0.lock.
     → n ≡ length me.0.seen + length me.0.staged
     → Allows (WordsRule key) slots id me 1 (λ _. n) (λ _. Counted (step slots 1 n 0 none) me n)
 counts_in key slots id n me writing ends stored is s b _ at _ =
-    let v = me.0 in let w = posted v in let old = laid b.postings in
+    let v = me.0 in let w = view_after_posting v in let old = rows_in b.postings in
     let k = b.each id v at in let own = k.writing writing in
     let loaded : v.loaded ≡ true = ⊎_elim (λ none. absurd (ends-some v.staged ends none)) (λ yes. yes) k.ready in
     let fresh = k.fresh loaded in let all = b.postings ++ b.staged ∷ [] in
@@ -31,9 +31,10 @@ counts_in key slots id n me writing ends stored is s b _ at _ =
     let told : (p : ℕ) → fold_at b.told p ≡ fold_at b.staged p =
     told-all b.staged b.told b.told_of
     (λ p says e. ap (λ l. fold_at l p) (sym own.1) ∙ stored p says (ap (λ l. fold_at l p) own.0 ∙ e)) in
-    let now : laid all ≡ old ++ b.staged = laid-snoc b.postings b.staged in
-    let mine : v.seen ++ v.staged ≡ laid all = ap (λ l. l ++ v.staged) fresh.1 ∙ ap (λ l. old ++ l) own.0 ∙ sym now in
-    let rest : laid all ++ [] ≡ old ++ b.staged = append-nil (laid all) ∙ now in
+    let now : rows_in all ≡ old ++ b.staged = rows_in-snoc b.postings b.staged in
+    let mine : v.seen ++ v.staged ≡ rows_in all = ap (λ l. l ++ v.staged) fresh.1 ∙ ap (λ l. old ++ l) own.0
+    ∙ sym now in
+    let rest : rows_in all ++ [] ≡ old ++ b.staged = append-nil (rows_in all) ∙ now in
     let wide = b.lock.wide in (
       w,
       keeps,

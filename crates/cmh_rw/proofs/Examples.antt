@@ -13,8 +13,8 @@ use Rattle.cmh_rw.specs.declared.machine.Event.TheVariants.{Admit, Leave, TryWri
 use Rattle.cmh_rw.specs.declared.row.Row.{Row}
 use Rattle.cmh_rw.specs.declared.TheConstants.{FIRST_ROW, FIRST_VERDICT, BOARD_WORDS}
 use Rattle.cmh_rw.specs.Machine.{world, new_world, run_from, IsLawful}
-use Rattle.cmh_rw.specs.History.{row_code, row_of, verdict_code, fold_at, laid, ArePostings, IsPosting, IsTrueOf}
-use Rattle.cmh_rw.specs.View.{row, opening_view, posted, with_row, longer}
+use Rattle.cmh_rw.specs.History.{row_code, row_of, verdict_code, fold_at, rows_in, ArePostings, IsPosting, IsTrueOf}
+use Rattle.cmh_rw.specs.View.{row, opening_view, view_after_posting, with_row, longer_list}
 
 -- ---- words
 
@@ -57,7 +57,7 @@ abbrev postings : List (List Row)
 postings = (row 0 Deadlocked false ∷ row 1 Deadlocked true ∷ []) ∷ (row 2 Deadlocked true ∷ []) ∷ []
 
 -- the words of the rows of both postings
-codes_of_postings : map row_code (laid postings) ≡ 0 ∷ 6 ∷ 10 ∷ []
+codes_of_postings : map row_code (rows_in postings) ≡ 0 ∷ 6 ∷ 10 ∷ []
 codes_of_postings = refl
 
 -- the rows of p and q are a posting, and the row of r is one
@@ -68,7 +68,7 @@ are_postings = (
 )
 
 -- the rows of p, q and r are true for the graph
-true_postings : IsTrueOf cycle_and_follower (laid postings)
+true_postings : IsTrueOf cycle_and_follower (rows_in postings)
 unfolding reaches is_deadlocked
 true_postings = (refl, refl, refl, (refl, refl, refl, (refl, refl, refl, tt)))
 
@@ -89,22 +89,22 @@ unfolding reaches is_deadlocked
 repeated_row h = let e = h.2 in cc
 
 -- the rows of p, q and r say that q is deadlocked
-says_of_q : fold_at (laid postings) 1 ≡ Some Deadlocked
+says_of_q : fold_at (rows_in postings) 1 ≡ Some Deadlocked
 says_of_q = refl
 
 -- nothing is said of a process without a row
-says_of_nobody : fold_at (laid postings) 3 ≡ None
+says_of_nobody : fold_at (rows_in postings) 3 ≡ None
 says_of_nobody = refl
 
 -- a writer that has staged the rows of p and q and counted them has seen both
 posting_p_and_q :
-    (posted
+    (view_after_posting
     (with_row (with_row (opening_view cycle_and_follower) (row 0 Deadlocked false)) (row 1 Deadlocked true))).seen
     ≡ row 0 Deadlocked false ∷ row 1 Deadlocked true ∷ []
 posting_p_and_q = refl
 
 -- of two prefixes the longer is kept
-longer_of_two : longer (row 0 Deadlocked true ∷ []) (row 0 Deadlocked true ∷ row 1 Free true ∷ [])
+longer_of_two : longer_list (row 0 Deadlocked true ∷ []) (row 0 Deadlocked true ∷ row 1 Free true ∷ [])
     ≡ row 0 Deadlocked true ∷ row 1 Free true ∷ []
 longer_of_two = refl
 

@@ -8,8 +8,8 @@ use Rattle.atomic_table.proofs.Lists.{at_map}
 use Rattle.cmh_graph.specs.declared.TheConstants.{MAX_PROCESSES}
 use Rattle.cmh_graph.specs.Graph.{Graph}
 use Rattle.cmh_rw.specs.declared.machine.SeatState.TheVariants.{Reading, Writing}
-use Rattle.cmh_rw.specs.History.{laid, row_code, verdict_code, fold_at, IsTrueOf}
-use Rattle.cmh_rw.specs.View.{IsHeld, loaded}
+use Rattle.cmh_rw.specs.History.{rows_in, row_code, verdict_code, fold_at, IsTrueOf}
+use Rattle.cmh_rw.specs.View.{IsHeld, view_after_load}
 use Rattle.cmh_rw.specs.Rule.{Moment, lock_of, SeatRule, WordsRule}
 use Rattle.cmh_rw.specs.Steps.{TableSeat, Loaded}
 use Rattle.cmh_rw.proofs.Folds.{true-left, true-few}
@@ -17,18 +17,18 @@ use Rattle.cmh_rw.proofs.Postings.{seen-prefix, all-seen}
 use Rattle.cmh_rw.proofs.Moments.{held_graph, own_rows, reviewed}
 
 -- the rows of the history are true for the graph
-pub history-true : (key : Graph) (s : Moment) (b : WordsRule key s) → IsTrueOf key (laid b.postings)
-history-true key s b = true-left key (laid b.postings) b.staged b.true_of
+pub history-true : (key : Graph) (s : Moment) (b : WordsRule key s) → IsTrueOf key (rows_in b.postings)
+history-true key s b = true-left key (rows_in b.postings) b.staged b.true_of
 
 -- there are no more rows of the history than the words have room for
-pub history-few : (key : Graph) (s : Moment) (b : WordsRule key s) → length (laid b.postings) ≤ MAX_PROCESSES
+pub history-few : (key : Graph) (s : Moment) (b : WordsRule key s) → length (rows_in b.postings) ≤ MAX_PROCESSES
 history-few key s b =
-    let few = true-few key (laid b.postings) (history-true key s b) in let small = b.small in omega arith
+    let few = true-few key (rows_in b.postings) (history-true key s b) in let small = b.small in omega arith
 
 -- row n of the history stands in its word
-pub history-row : (key : Graph) (s : Moment) (b : WordsRule key s) (n : ℕ) → n < length (laid b.postings)
-    → get_or s.words (2 + n) 0 ≡ get_or (map row_code (laid b.postings)) n 0
-history-row key s b n lt = let rows = laid b.postings in let few = history-few key s b in
+pub history-row : (key : Graph) (s : Moment) (b : WordsRule key s) (n : ℕ) → n < length (rows_in b.postings)
+    → get_or s.words (2 + n) 0 ≡ get_or (map row_code (rows_in b.postings)) n 0
+history-row key s b n lt = let rows = rows_in b.postings in let few = history-few key s b in
     b.rows n (omega arith) ∙ ap (λ l. get_or l n 0) (map-append row_code rows b.staged)
     ∙ get_or_append_left (map row_code rows) (map row_code b.staged) 0 n
     (subst (λ m. n < m) (sym (length-map rows row_code)) lt)
@@ -42,8 +42,8 @@ pub loads : (key : Graph) (slots id word : ℕ) (me : TableSeat) → IsHeld me.0
     → Allows (WordsRule key) slots id me word (λ n. n) (Loaded (step slots word 0 0 none) me)
 loads key slots id word me held s b _ at _ =
     let v = me.0 in
-    let rows = laid b.postings in
-    let w = loaded v rows in
+    let rows = rows_in b.postings in
+    let w = view_after_load v rows in
     let k = b.each id v at in
     let own = own_rows key s b id v at held in
     let graph : v.lock.graph ≡ key =

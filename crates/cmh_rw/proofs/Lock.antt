@@ -14,7 +14,7 @@ use Rattle.cmh_rw.specs.declared.machine.Event.{Event}
 use Rattle.cmh_rw.specs.declared.machine.Event.TheVariants.{Admit, Leave, TryWrite, EndWrite}
 use Rattle.cmh_rw.specs.declared.view.LockView.{LockView}
 use Rattle.cmh_rw.specs.Machine.{world, total, writes, reads, retreats, turn, IsLawful}
-use Rattle.cmh_rw.specs.View.{away, less_share, new_lock, both_shares, spent_lock}
+use Rattle.cmh_rw.specs.View.{lock_after_end, lock_less_one, newcomer_lock, lock_of_both, spent_lock}
 use Rattle.cmh_rw.specs.Rule.{LockMoment, state_of, share_of, HasShare, HasLockShare, LockRule}
 use Rattle.cmh_rw.specs.Steps.{after_try}
 use Rattle.cmh_rw.proofs.Lawful.{total-set, total-in, total-snoc, lawful-set, turn-lawful}
@@ -148,27 +148,29 @@ in-not_spent a is e = let z : reads a + retreats a ≡ 0 = ap (λ b. reads b + r
 pub leave_kept : (key : Graph) (s : LockMoment) (id : ℕ) (me : LockSeat) → reads me.0.state + retreats me.0.state ≡ 1
     → LockRule key s → get_elem? s.views id ≡ some me.0
     → LockRule key
-    (stepped s 0 ((get_or s.words 0 0 + 18446744073709551615) % 18446744073709551616) id me.1 (away me.0) keeps)
+    (stepped s 0 ((get_or s.words 0 0 + 18446744073709551615) % 18446744073709551616) id me.1
+    (lock_after_end me.0) keeps)
 leave_kept key s id me inside h at =
     let x = get_or s.words 0 0 in let small = word-small key s h in let one = counts key s id me.0 h at in
     let t = leave_turn x me.0.state inside in
     let n : (x + 18446744073709551615) % 18446744073709551616 ≡ (turn (Leave 0) x me.0.state).0 =
     omega (arith, ap (λ p. p.0) t) in
-    placed key (Leave 0) s ((x + 18446744073709551615) % 18446744073709551616) id me (away me.0) h at n
+    placed key (Leave 0) s ((x + 18446744073709551615) % 18446744073709551616) id me (lock_after_end me.0) h at n
     (sym (ap (λ p. p.1) t)) refl (has_same key me.0 Away (h.each id me.0 at) (in-not_spent me.0.state inside) (λ e. cc))
 
 -- where a writer ends its hold, the lock's part of the rule is kept
 pub end_kept : (key : Graph) (s : LockMoment) (id : ℕ) (me : LockSeat) → me.0.state ≡ Writing → LockRule key s
     → get_elem? s.views id ≡ some me.0
     → LockRule key
-    (stepped s 0 ((get_or s.words 0 0 + 18446744069414584320) % 18446744073709551616) id me.1 (away me.0) keeps)
+    (stepped s 0 ((get_or s.words 0 0 + 18446744069414584320) % 18446744073709551616) id me.1
+    (lock_after_end me.0) keeps)
 end_kept key s id me writing h at =
     let x = get_or s.words 0 0 in let small = word-small key s h in let one = counts key s id me.0 h at in
     let is : writes me.0.state ≡ 1 = ap writes writing in
     let t : turn (EndWrite 0) x me.0.state ≡ (x - 4294967296, Away) = ap (turn (EndWrite 0) x) writing in
     let n : (x + 18446744069414584320) % 18446744073709551616 ≡ (turn (EndWrite 0) x me.0.state).0 =
     omega (arith, ap (λ p. p.0) t) in
-    placed key (EndWrite 0) s ((x + 18446744069414584320) % 18446744073709551616) id me (away me.0) h at n
+    placed key (EndWrite 0) s ((x + 18446744069414584320) % 18446744073709551616) id me (lock_after_end me.0) h at n
     (sym (ap (λ p. p.1) t)) refl
     (has_same key me.0 Away (h.each id me.0 at) (not_spent me.0.state Writing writing (λ e. cc)) (λ e. cc))
 
@@ -231,10 +233,10 @@ has_from key v away h = subst (λ s. HasShare key v.graph v.share s) (sym away) 
 
 -- where a seat that is away is split, the lock's part of the rule is kept
 pub split_kept : (key : Graph) (id : ℕ) (v : LockView) → v.state ≡ Away → 1 < v.share
-    → Splits (LockRule key) id v (less_share v) (new_lock v)
+    → Splits (LockRule key) id v (lock_less_one v) (newcomer_lock v)
 split_kept key id v away more s h at =
-    let sum = total-set share_of s.views id v (less_share v) at in
-    let all = total-snoc share_of (set s.views id (less_share v)) (new_lock v) in
+    let sum = total-set share_of s.views id v (lock_less_one v) at in
+    let all = total-snoc share_of (set s.views id (lock_less_one v)) (newcomer_lock v) in
     let few = h.shares in
     let has = has_share key v (h.each id v at) away in let e = at_map state_of s.views id v at in record {
       wide = h.wide;
@@ -242,25 +244,25 @@ split_kept key id v away more s h at =
           let here : IsLawful (world (get_or s.words 0 0) (set (map state_of s.views) id v.state)) =
           quiet (get_or s.words 0 0) (map state_of s.views) id v.state v.state e away
           (ap (λ a. writes a + reads a + retreats a) away) h.lock in
-          let seats : map state_of (set s.views id (less_share v) ++ new_lock v ∷ [])
+          let seats : map state_of (set s.views id (lock_less_one v) ++ newcomer_lock v ∷ [])
           ≡ set (map state_of s.views) id v.state ++ Away ∷ [] =
-          map-append state_of (set s.views id (less_share v)) (new_lock v ∷ [])
-          ∙ ap (λ l. l ++ Away ∷ []) (map-set state_of s.views id (less_share v)) in
+          map-append state_of (set s.views id (lock_less_one v)) (newcomer_lock v ∷ [])
+          ∙ ap (λ l. l ++ Away ∷ []) (map-set state_of s.views id (lock_less_one v)) in
           subst IsLawful (λ k. world (get_or s.words 0 0) (sym seats k))
           (lawful-snoc (get_or s.words 0 0) (set (map state_of s.views) id v.state) here);
       shares = omega arith;
       each = λ i u g. ⊎_elim
-          (λ old. ⊎_elim (λ t. subst (HasLockShare key) t.1 (has_from key (less_share v) away (omega arith, has.1)))
-          (λ t. h.each i u t.1) (at_set s.views id i (less_share v) u old))
+          (λ old. ⊎_elim (λ t. subst (HasLockShare key) t.1 (has_from key (lock_less_one v) away (omega arith, has.1)))
+          (λ t. h.each i u t.1) (at_set s.views id i (lock_less_one v) u old))
           (λ new. subst (HasLockShare key) new (omega arith, has.1))
-          (at_snoc (set s.views id (less_share v)) (new_lock v) u i g);
+          (at_snoc (set s.views id (lock_less_one v)) (newcomer_lock v) u i g);
     }
 
 -- where a seat that is away is joined into another that is, the lock's part of the rule is kept
 pub join_kept : (key : Graph) (id : ℕ) (v : LockView) (other : ℕ) (w : LockView) → v.state ≡ Away → w.state ≡ Away
-    → Joins (LockRule key) id v other w (both_shares v w) spent_lock
-join_kept key id v other w away away' s h at apart there = let mid = set s.views id (both_shares v w) in
-    let sum = total-set share_of s.views id v (both_shares v w) at in
+    → Joins (LockRule key) id v other w (lock_of_both v w) spent_lock
+join_kept key id v other w away away' s h at apart there = let mid = set s.views id (lock_of_both v w) in
+    let sum = total-set share_of s.views id v (lock_of_both v w) at in
     let all = total-set share_of mid other w spent_lock there in
     let few = h.shares in
     let has = has_share key v (h.each id v at) away in
@@ -274,14 +276,14 @@ join_kept key id v other w away away' s h at apart there = let mid = set s.views
           quiet x (map state_of s.views) id v.state v.state e away (ap (λ a. writes a + reads a + retreats a) away)
           h.lock in
           let one' : IsLawful (world x (map state_of mid)) =
-          subst (λ l. IsLawful (world x l)) (sym (map-set state_of s.views id (both_shares v w))) one in
+          subst (λ l. IsLawful (world x l)) (sym (map-set state_of s.views id (lock_of_both v w))) one in
           let two : IsLawful (world x (set (map state_of mid) other Spent)) =
           quiet x (map state_of mid) other w.state Spent e' away' refl one' in
           subst (λ l. IsLawful (world x l)) (sym (map-set state_of mid other spent_lock)) two;
       shares = omega arith;
       each = λ i u g. ⊎_elim (λ t. subst (HasLockShare key) t.1 refl)
-          (λ t. ⊎_elim (λ t'. subst (HasLockShare key) t'.1 (has_from key (both_shares v w) away (omega arith, has.1)))
-          (λ t'. h.each i u t'.1) (at_set s.views id i (both_shares v w) u t.1))
+          (λ t. ⊎_elim (λ t'. subst (HasLockShare key) t'.1 (has_from key (lock_of_both v w) away (omega arith, has.1)))
+          (λ t'. h.each i u t'.1) (at_set s.views id i (lock_of_both v w) u t.1))
           (at_set mid other i spent_lock u g);
     }
 

@@ -16,7 +16,7 @@ use Rattle.cmh_rw.specs.declared.view.LockView.{LockView}
 use Rattle.cmh_rw.specs.declared.view.View.{View}
 use Rattle.cmh_rw.specs.Machine.{total, writes, reads, retreats, turn}
 use Rattle.cmh_rw.specs.History.{fold_at}
-use Rattle.cmh_rw.specs.View.{ended}
+use Rattle.cmh_rw.specs.View.{view_after_end}
 use Rattle.cmh_rw.specs.Rule.{Moment, lock_of, lock_moment, state_of, LockRule, SeatRule, WordsRule}
 use Rattle.cmh_rw.specs.Steps.{TableSeat, after_try, with_lock, Entered, Ended, Taken}
 use Rattle.cmh_rw.proofs.Folds.{fold-nothing}
@@ -108,7 +108,7 @@ enters key slots id me is s b homes at small =
 
 -- a seat that ends its hold with nothing staged knows what the rule asks
 leaving : (key : Graph) (s : Moment) (b : WordsRule key s) (id : ℕ) (v : View) → get_elem? s.views id ≡ some v
-    → v.staged ≡ [] → SeatRule b.postings b.staged b.told (ended v)
+    → v.staged ≡ [] → SeatRule b.postings b.staged b.told (view_after_end v)
 leaving key s b id v at clear = let k = b.each id v at in record {
   writing = λ e. absurd (away_writing e);
   bare = λ _. (clear, refl);
@@ -135,10 +135,10 @@ leaves key slots id me inside s b homes at small =
     let x = get_or s.words 0 0 in
     let low = leave_kept key (lock_moment s) id (lock_me me) inside b.lock (at_map lock_of s.views id v at) in
     let not = inside-not_writing v.lock.state inside in let bare = (b.each id v at).bare not.0 in (
-      ended v,
+      view_after_end v,
       keeps,
       tt,
-      locked key s b ((x + 18446744073709551615) % 18446744073709551616) id me (ended v) at low refl
+      locked key s b ((x + 18446744073709551615) % 18446744073709551616) id me (view_after_end v) at low refl
           (leaving key s b id v at bare.0)
           (λ z. b.idle
           (idle_still (map state_of (map lock_of s.views)) id v.lock.state Away (state_at s.views id v at) not.1
@@ -157,10 +157,10 @@ ends key slots id me is clear s b homes at small =
     let own = (b.each id v at).writing is in let none_staged = sym own.0 ∙ clear in
     let none_told : b.told ≡ [] =
     fold-nothing b.told (λ p. ⊎_elim (λ e. e) (λ e. e ∙ ap (λ l. fold_at l p) none_staged) (b.told_of p)) in (
-      ended v,
+      view_after_end v,
       keeps,
       tt,
-      locked key s b ((x + 18446744069414584320) % 18446744073709551616) id me (ended v) at low refl
+      locked key s b ((x + 18446744069414584320) % 18446744073709551616) id me (view_after_end v) at low refl
           (leaving key s b id v at clear) (λ _. (none_staged, none_told)),
       refl,
     )

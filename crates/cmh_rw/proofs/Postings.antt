@@ -2,17 +2,17 @@
 use Rattle.std.proofs.Common.{◌≡◌, ◌⊎◌, ◌+◌, ◌≤◌, true, false, ltb, length, length-append, List, [], ◌∷◌, ◌++◌, drop, get_or, sym, refl, ap, ◌∙◌, subst, arith, append_assoc, append-nil, inl, inr, ⊎_elim}
 use Rattle.cmh_rw.specs.declared.row.Row.{Row}
 use Rattle.std.proofs.lemmas.Bool.{ltb-true, ltb-false, cond_both}
-use Rattle.cmh_rw.specs.View.{longer}
-use Rattle.cmh_rw.specs.History.{laid, IsOpen, IsPosting, EndsLast, ArePostings, IsSeen, StartsWith}
+use Rattle.cmh_rw.specs.View.{longer_list}
+use Rattle.cmh_rw.specs.History.{rows_in, IsOpen, IsPosting, EndsLast, ArePostings, IsSeen, StartsWith}
 
 -- postings and more postings, laid end to end, are the rows of the one and then of the other
-laid-append : (xs ys : List (List Row)) → laid (xs ++ ys) ≡ laid xs ++ laid ys
-laid-append [] ys = refl
-laid-append (x ∷ xs) ys = ap (λ l. x ++ l) (laid-append xs ys) ∙ sym (append_assoc x (laid xs) (laid ys))
+rows_in-append : (xs ys : List (List Row)) → rows_in (xs ++ ys) ≡ rows_in xs ++ rows_in ys
+rows_in-append [] ys = refl
+rows_in-append (x ∷ xs) ys = ap (λ l. x ++ l) (rows_in-append xs ys) ∙ sym (append_assoc x (rows_in xs) (rows_in ys))
 
 -- postings and one more, laid end to end, are their rows and then the rows of that one
-pub laid-snoc : (xs : List (List Row)) (x : List Row) → laid (xs ++ x ∷ []) ≡ laid xs ++ x
-laid-snoc xs x = laid-append xs (x ∷ []) ∙ ap (λ l. laid xs ++ l) (append-nil x)
+pub rows_in-snoc : (xs : List (List Row)) (x : List Row) → rows_in (xs ++ x ∷ []) ≡ rows_in xs ++ x
+rows_in-snoc xs x = rows_in-append xs (x ∷ []) ∙ ap (λ l. rows_in xs ++ l) (append-nil x)
 
 -- postings and one more posting are postings
 pub whole-snoc : (xs : List (List Row)) (x : List Row) → ArePostings xs → IsPosting x → ArePostings (xs ++ x ∷ [])
@@ -21,11 +21,15 @@ whole-snoc (y ∷ ys) x h p = (h.0, whole-snoc ys x h.1 p)
 
 -- the history begins with what was seen
 pub seen-prefix : (seen : List Row) (postings : List (List Row)) → IsSeen seen postings
-    → StartsWith (laid postings) seen
-seen-prefix seen postings h = (laid h.1, ap laid h.2 ∙ laid-append h.0 h.1 ∙ ap (λ l. l ++ laid h.1) (sym h.3))
+    → StartsWith (rows_in postings) seen
+seen-prefix seen postings h = (
+  rows_in h.1,
+  ap rows_in h.2 ∙ rows_in-append h.0 h.1
+      ∙ ap (λ l. l ++ rows_in h.1) (sym h.3),
+)
 
 -- who has seen the whole history has seen a prefix of its postings
-pub all-seen : (postings : List (List Row)) → IsSeen (laid postings) postings
+pub all-seen : (postings : List (List Row)) → IsSeen (rows_in postings) postings
 all-seen postings = (postings, [], sym (append-nil postings), refl)
 
 -- who has seen nothing has seen a prefix of the postings
@@ -54,8 +58,8 @@ prefixes (x ∷ xs) (y ∷ ys) b d e = let parts = cons_parts x y (xs ++ b) (ys 
 pub seen_compare : (postings : List (List Row)) (s t : List Row) → IsSeen s postings → IsSeen t postings
     → StartsWith t s ⊎ StartsWith s t
 seen_compare postings s t h g = ⊎_elim
-    (λ p. inl (laid p.0, g.3 ∙ ap laid p.1 ∙ laid-append h.0 p.0 ∙ ap (λ l. l ++ laid p.0) (sym h.3)))
-    (λ p. inr (laid p.0, h.3 ∙ ap laid p.1 ∙ laid-append g.0 p.0 ∙ ap (λ l. l ++ laid p.0) (sym g.3)))
+    (λ p. inl (rows_in p.0, g.3 ∙ ap rows_in p.1 ∙ rows_in-append h.0 p.0 ∙ ap (λ l. l ++ rows_in p.0) (sym h.3)))
+    (λ p. inr (rows_in p.0, h.3 ∙ ap rows_in p.1 ∙ rows_in-append g.0 p.0 ∙ ap (λ l. l ++ rows_in p.0) (sym g.3)))
     (prefixes h.0 g.0 h.1 g.1 (sym h.2 ∙ g.2))
 
 -- rows begin with themselves
@@ -68,9 +72,9 @@ none_left [] e = refl
 none_left (x ∷ xs) e = absurd (omega arith)
 
 -- of two lists of which one begins the other, the longer begins with both
-pub longer-begins : (xs ys : List Row) → StartsWith xs ys ⊎ StartsWith ys xs
-    → StartsWith (longer xs ys) xs × StartsWith (longer xs ys) ys
-longer-begins xs ys starts = let P : List Row → Type 0 = λ l. StartsWith l xs × StartsWith l ys in
+pub longer_list-begins : (xs ys : List Row) → StartsWith xs ys ⊎ StartsWith ys xs
+    → StartsWith (longer_list xs ys) xs × StartsWith (longer_list xs ys) ys
+longer_list-begins xs ys starts = let P : List Row → Type 0 = λ l. StartsWith l xs × StartsWith l ys in
     cond_both (ltb (length xs) (length ys)) ys xs P
     (λ less. let lt = ltb-true (length xs) (length ys) less in (
       ⊎_elim (λ (h : StartsWith xs ys). absurd (let e = ap length h.1 in let n = length-append ys h.0 in omega arith))

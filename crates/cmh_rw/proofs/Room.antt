@@ -9,9 +9,9 @@ use Rattle.cmh_graph.proofs.Verdicts.{idle_within}
 use Rattle.cmh_rw.specs.declared.row.Row.{Row}
 use Rattle.cmh_rw.specs.declared.view.View.{View}
 use Rattle.cmh_rw.specs.History.{fold_at, FitsIn, IsTrueOf, StartsWith}
-use Rattle.cmh_rw.specs.View.{AfterLoad, CanStage, with_row, joining, compared}
+use Rattle.cmh_rw.specs.View.{AfterLoad, CanStage, with_row, view_before_compare, view_after_compare}
 use Rattle.cmh_rw.proofs.Folds.{true-snoc, true-few, true-idle, true-left, true-right}
-use Rattle.cmh_rw.proofs.Postings.{longer-begins}
+use Rattle.cmh_rw.proofs.Postings.{longer_list-begins}
 
 -- what a seat knows of its rows
 abbrev pub Fits : View → Type 0
@@ -84,7 +84,8 @@ pub fits_newcomer : (g : Graph) (seen staged : List Row) → ∥ FitsIn g (seen 
 fits_newcomer g seen staged fits = ∥∥₁_map fits (seen_fits g seen staged)
 
 -- after a join the rows that are seen and staged fit the graph
-joined_fits : (v w : View) (mid : View) (end : View) → mid ≡ joining v w → end ≡ compared (joining v w)
+joined_fits : (v w : View) (mid : View) (end : View) → mid ≡ view_before_compare v w → end
+    ≡ view_after_compare (view_before_compare v w)
     → IsTrueOf mid.lock.graph (end.seen ++ end.staged) → FitsIn v.lock.graph (v.seen ++ v.staged)
     → FitsIn end.lock.graph (end.seen ++ end.staged)
 joined_fits v w mid end first told h f =
@@ -96,15 +97,17 @@ joined_fits v w mid end first told h f =
     }
 
 -- where what a seat knows of its rows fits, it fits after a join
-pub fits_joined : (v w : View) (mid : View) (end : View) → mid ≡ joining v w → end ≡ compared (joining v w)
+pub fits_joined : (v w : View) (mid : View) (end : View) → mid ≡ view_before_compare v w → end
+    ≡ view_after_compare (view_before_compare v w)
     → IsTrueOf mid.lock.graph (end.seen ++ end.staged) → Fits v → Fits end
 fits_joined v w mid end first told h fits = ∥∥₁_map fits (joined_fits v w mid end first told h)
 
 -- after a join the seat has seen what either had seen
-pub joined_begins : (v w : View) (mid : View) (end : View) → mid ≡ joining v w → end ≡ compared (joining v w)
+pub joined_begins : (v w : View) (mid : View) (end : View) → mid ≡ view_before_compare v w → end
+    ≡ view_after_compare (view_before_compare v w)
     → StartsWith mid.seen mid.other ⊎ StartsWith mid.other mid.seen
     → StartsWith end.seen v.seen × StartsWith end.seen w.seen
 joined_begins v w mid end first told h =
     let P : View → Type 0 = λ u. StartsWith u.seen u.other ⊎ StartsWith u.other u.seen in
     let Q : View → Type 0 = λ u. StartsWith u.seen v.seen × StartsWith u.seen w.seen in
-    subst Q (sym told) (longer-begins v.seen w.seen (subst P first h))
+    subst Q (sym told) (longer_list-begins v.seen w.seen (subst P first h))

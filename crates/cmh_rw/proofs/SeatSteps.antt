@@ -16,7 +16,7 @@ use Rattle.cmh_rw.specs.declared.view.LockView.{LockView}
 use Rattle.cmh_rw.specs.declared.view.View.{View}
 use Rattle.cmh_rw.specs.Machine.{total, writes}
 use Rattle.cmh_rw.specs.History.{IsSeen, IsTrueOf}
-use Rattle.cmh_rw.specs.View.{opening_lock, opening_view, less_share, less_one, new_lock, newcomer, both_shares, joining, compared, spent_lock, spent_view}
+use Rattle.cmh_rw.specs.View.{opening_lock, opening_view, lock_less_one, view_less_one, newcomer_lock, newcomer_view, lock_of_both, view_before_compare, view_after_compare, spent_lock, spent_view}
 use Rattle.cmh_rw.specs.Rule.{lock_of, lock_moment, state_of, share_of, HasLockShare, LockRule, SeatRule, WordsRule}
 use Rattle.cmh_rw.specs.Steps.{TableSeat, Compared}
 use Rattle.cmh_rw.proofs.Folds.{true-left}
@@ -87,18 +87,18 @@ opens key small = record {
 
 -- where a seat that is away is split, the rule is kept
 pub splits : (key : Graph) (id : ℕ) (v : View) → v.lock.state ≡ Away → 1 < v.lock.share
-    → Splits (WordsRule key) id v (less_one v) (newcomer v)
+    → Splits (WordsRule key) id v (view_less_one v) (newcomer_view v)
 splits key id v away more s b at =
     let k = b.each id v at in
     let low = split_kept key id v.lock away more (lock_moment s) b.lock (at_map lock_of s.views id v at) in
-    let views : map lock_of (set s.views id (less_one v) ++ newcomer v ∷ [])
-    ≡ set (map lock_of s.views) id (less_share v.lock) ++ new_lock v.lock ∷ [] =
-    map-append lock_of (set s.views id (less_one v)) (newcomer v ∷ [])
-    ∙ ap (λ l. l ++ new_lock v.lock ∷ []) (map-set lock_of s.views id (less_one v)) in
-    let states : map state_of (set (map lock_of s.views) id (less_share v.lock) ++ new_lock v.lock ∷ [])
+    let views : map lock_of (set s.views id (view_less_one v) ++ newcomer_view v ∷ [])
+    ≡ set (map lock_of s.views) id (lock_less_one v.lock) ++ newcomer_lock v.lock ∷ [] =
+    map-append lock_of (set s.views id (view_less_one v)) (newcomer_view v ∷ [])
+    ∙ ap (λ l. l ++ newcomer_lock v.lock ∷ []) (map-set lock_of s.views id (view_less_one v)) in
+    let states : map state_of (set (map lock_of s.views) id (lock_less_one v.lock) ++ newcomer_lock v.lock ∷ [])
     ≡ set (map state_of (map lock_of s.views)) id v.lock.state ++ Away ∷ [] =
-    map-append state_of (set (map lock_of s.views) id (less_share v.lock)) (new_lock v.lock ∷ [])
-    ∙ ap (λ l. l ++ Away ∷ []) (map-set state_of (map lock_of s.views) id (less_share v.lock)) in record {
+    map-append state_of (set (map lock_of s.views) id (lock_less_one v.lock)) (newcomer_lock v.lock ∷ [])
+    ∙ ap (λ l. l ++ Away ∷ []) (map-set state_of (map lock_of s.views) id (lock_less_one v.lock)) in record {
       postings = b.postings;
       staged = b.staged;
       told = b.told;
@@ -128,30 +128,30 @@ splits key id v away more s b at =
             fresh = k.fresh;
             gone = k.gone;
           })
-          (λ t. b.each i u t.1) (at_set s.views id i (less_one v) u old))
+          (λ t. b.each i u t.1) (at_set s.views id i (view_less_one v) u old))
           (λ new. subst (SeatRule b.postings b.staged b.told) new
-          (blank b.postings b.staged b.told (newcomer v) away_writing refl refl refl refl refl k.seen))
-          (at_snoc (set s.views id (less_one v)) (newcomer v) u i g);
+          (blank b.postings b.staged b.told (newcomer_view v) away_writing refl refl refl refl refl k.seen))
+          (at_snoc (set s.views id (view_less_one v)) (newcomer_view v) u i g);
       owners =
-          λ h. let sum = total-set (λ (u : View). total h u.mine) s.views id v (less_one v) at in
-          let all = total-snoc (λ (u : View). total h u.mine) (set s.views id (less_one v)) (newcomer v) in
+          λ h. let sum = total-set (λ (u : View). total h u.mine) s.views id v (view_less_one v) at in
+          let all = total-snoc (λ (u : View). total h u.mine) (set s.views id (view_less_one v)) (newcomer_view v) in
           omega (arith, b.owners h);
     }
 
 -- where a seat that is away is joined into another that is, the rule is kept
 pub joins : (key : Graph) (id : ℕ) (v : View) (other : ℕ) (w : View) → v.lock.state ≡ Away → w.lock.state ≡ Away
-    → Joins (WordsRule key) id v other w (joining v w) spent_view
+    → Joins (WordsRule key) id v other w (view_before_compare v w) spent_view
 joins key id v other w away away' s b at apart there =
-    let both = joining v w in let mid = set s.views id both in let k = b.each id v at in
-    let first : map lock_of mid ≡ set (map lock_of s.views) id (both_shares v.lock w.lock) =
+    let both = view_before_compare v w in let mid = set s.views id both in let k = b.each id v at in
+    let first : map lock_of mid ≡ set (map lock_of s.views) id (lock_of_both v.lock w.lock) =
     map-set lock_of s.views id both in
-    let there' : get_elem? (set (map lock_of s.views) id (both_shares v.lock w.lock)) other ≡ some w.lock =
+    let there' : get_elem? (set (map lock_of s.views) id (lock_of_both v.lock w.lock)) other ≡ some w.lock =
     subst (λ l. get_elem? l other ≡ some w.lock) first (at_map lock_of mid other w there) in
     let low =
     join_kept key id v.lock other w.lock away away' (lock_moment s) b.lock (at_map lock_of s.views id v at) apart
     there' in
     let views : map lock_of (set mid other spent_view)
-    ≡ set (set (map lock_of s.views) id (both_shares v.lock w.lock)) other spent_lock =
+    ≡ set (set (map lock_of s.views) id (lock_of_both v.lock w.lock)) other spent_lock =
     map-set lock_of mid other spent_view ∙ ap (λ l. set l other spent_lock) first in
     let was : SeatRule b.postings b.staged b.told w =
     ⊎_elim (λ t. absurd (apart t.0)) (λ t. b.each other w t.1) (at_set s.views id other both w there) in
@@ -170,7 +170,7 @@ joins key id v other w away away' s b at apart there =
       told_of = b.told_of;
       idle = λ z. let l = map state_of (map lock_of s.views) in let m = map state_of (map lock_of mid) in
           let one : m ≡ set l id v.lock.state =
-          ap (map state_of) first ∙ map-set state_of (map lock_of s.views) id (both_shares v.lock w.lock) in
+          ap (map state_of) first ∙ map-set state_of (map lock_of s.views) id (lock_of_both v.lock w.lock) in
           let two : map state_of (map lock_of (set mid other spent_view)) ≡ set m other Spent =
           ap (map state_of) (map-set lock_of mid other spent_view)
           ∙ map-set state_of (map lock_of mid) other spent_lock in
@@ -207,7 +207,7 @@ joins key id v other w away away' s b at apart there =
 pub compares : (key : Graph) (slots id : ℕ) (me : TableSeat) → me.0.lock.state ≡ Away
     → Allows (WordsRule key) slots id me 0 (λ n. n) (Compared (step slots 0 0 0 none) me)
 compares key slots id me away s b _ at _ =
-    let v = me.0 in let w = compared v in let k = b.each id v at in let few = b.lock.shares in
+    let v = me.0 in let w = view_after_compare v in let k = b.each id v at in let few = b.lock.shares in
     let seen : IsSeen w.seen b.postings =
     cond_both (ltb (length v.seen) (length v.other)) v.other v.seen (λ l. IsSeen l b.postings) (λ _. k.other)
     (λ _. k.seen) in

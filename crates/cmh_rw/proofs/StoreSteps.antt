@@ -14,7 +14,7 @@ use Rattle.cmh_rw.specs.declared.TheConstants.{FIRST_ROW, FIRST_VERDICT}
 use Rattle.cmh_rw.specs.declared.machine.SeatState.TheVariants.{Writing}
 use Rattle.cmh_rw.specs.declared.row.Row.{Row}
 use Rattle.cmh_rw.specs.declared.view.View.{View}
-use Rattle.cmh_rw.specs.History.{laid, row_code, verdict_code, fold_at, IsOpen, IsTrueOf}
+use Rattle.cmh_rw.specs.History.{rows_in, row_code, verdict_code, fold_at, IsOpen, IsTrueOf}
 use Rattle.cmh_rw.specs.Machine.{total}
 use Rattle.cmh_rw.specs.View.{CanStage, with_row, with_told, mark}
 use Rattle.cmh_rw.specs.Rule.{lock_of, SeatRule, WordsRule}
@@ -45,7 +45,7 @@ pub stages : (key : Graph) (slots id n : ℕ) (r : Row) (me : TableSeat) → me.
     → Allows (WordsRule key) slots id me (FIRST_ROW + n) (λ _. row_code r)
     (λ _. Staged (step slots (FIRST_ROW + n) (row_code r) 0 none) me (row_code r))
 stages key slots id n r me writing loaded can is low s b _ at _ =
-    let v = me.0 in let w = with_row v r in let old = laid b.postings in
+    let v = me.0 in let w = with_row v r in let old = rows_in b.postings in
     let k = b.each id v at in let own = k.writing writing in let fresh = k.fresh loaded in let all = old ++ b.staged in
     let staged : v.staged ++ r ∷ [] ≡ b.staged ++ r ∷ [] = ap (λ l. l ++ r ∷ []) own.0 in
     let longer : all ++ r ∷ [] ≡ old ++ (b.staged ++ r ∷ []) = append_assoc old b.staged (r ∷ []) in
@@ -116,7 +116,7 @@ pub tells : (key : Graph) (slots id p : ℕ) (says : Verdict) (me : TableSeat) �
     → Allows (WordsRule key) slots id me (FIRST_VERDICT + p) (λ _. verdict_code (Some says))
     (λ _. Told (step slots (FIRST_VERDICT + p) (verdict_code (Some says)) 0 none) me (verdict_code (Some says)))
 tells key slots id p says me writing staged_says low s b _ at _ =
-    let v = me.0 in let q = mark p says in let w = with_told v q in let old = laid b.postings in
+    let v = me.0 in let q = mark p says in let w = with_told v q in let old = rows_in b.postings in
     let k = b.each id v at in let own = k.writing writing in let code = verdict_code (Some says) in
     let said : fold_at b.staged p ≡ Some says = ap (λ l. fold_at l p) (sym own.0) ∙ staged_says in
     let none_old = true-apart key old b.staged p says b.true_of said in

@@ -68,13 +68,13 @@ ArePostings [] = Unit {0}
 ArePostings (x ∷ xs) = IsPosting x × ArePostings xs
 
 -- postings, laid end to end: a history
-abbrev pub laid : List (List Row) → List Row
-laid [] = []
-laid (x ∷ xs) = x ++ laid xs
+abbrev pub rows_in : List (List Row) → List Row
+rows_in [] = []
+rows_in (x ∷ xs) = x ++ rows_in xs
 
 -- rows that are whole postings
 abbrev pub IsHistory : List Row → Type 0
-IsHistory rows = (postings : List (List Row)) × (rows ≡ laid postings) × ArePostings postings
+IsHistory rows = (postings : List (List Row)) × (rows ≡ rows_in postings) × ArePostings postings
 
 -- the rows are true for the graph: each process in them is idle, stands once, and has its verdict
 abbrev pub IsTrueOf : Graph → List Row → Type 0
@@ -94,7 +94,7 @@ StartsWith rows before = (rest : List Row) × (rows ≡ before ++ rest)
 -- what was seen is the first of these postings, laid end to end
 abbrev pub IsSeen : List Row → List (List Row) → Type 0
 IsSeen seen postings = (before : List (List Row)) × (after : List (List Row))
-    × (postings ≡ before ++ after) × (seen ≡ laid before)
+    × (postings ≡ before ++ after) × (seen ≡ rows_in before)
 
 -- each verdict of the staged rows is told
 abbrev pub AreTold : List Row → List Row → Type 0

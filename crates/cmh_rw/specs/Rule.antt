@@ -10,7 +10,7 @@ use Rattle.cmh_rw.specs.declared.row.Row.{Row}
 use Rattle.cmh_rw.specs.declared.view.LockView.{LockView}
 use Rattle.cmh_rw.specs.declared.view.View.{View}
 use Rattle.cmh_rw.specs.Machine.{IsSeat, world, total, writes, IsLawful}
-use Rattle.cmh_rw.specs.History.{row_code, verdict_code, fold_at, laid, IsOpen, IsPosting, ArePostings, IsTrueOf, IsSeen}
+use Rattle.cmh_rw.specs.History.{row_code, verdict_code, fold_at, rows_in, IsOpen, IsPosting, ArePostings, IsTrueOf, IsSeen}
 use Rattle.cmh_rw.specs.View.{IsHeld}
 
 -- the words, and the views of all seats, between two steps
@@ -66,7 +66,7 @@ pub record SeatRule (postings : List (List Row)) (staged told : List Row) (v : V
   pub seen : IsSeen v.seen postings
   pub other : IsSeen v.other postings
   -- from the first load of a hold on a seat has seen the whole history
-  pub fresh : v.loaded ≡ true → IsHeld v.lock.state × (v.seen ≡ laid postings)
+  pub fresh : v.loaded ≡ true → IsHeld v.lock.state × (v.seen ≡ rows_in postings)
   -- a spent view holds nothing
   pub gone : v.lock.state ≡ Spent → v.mine ≡ []
 
@@ -78,16 +78,16 @@ pub record WordsRule (key : Graph) (s : Moment) : Type 0 where
   pub small : process_count key ≤ MAX_PROCESSES
   pub lock : LockRule key (lock_moment s)
   -- word 1 counts the rows of the history
-  pub count : slice_index s.words 1 ≡ length (laid postings)
+  pub count : slice_index s.words 1 ≡ length (rows_in postings)
   -- the row words are the history, then the staged rows, then 0
   pub rows : (n : ℕ) → n < MAX_PROCESSES →
-      slice_index s.words (FIRST_ROW + n) ≡ slice_index (map row_code (laid postings ++ staged)) n
+      slice_index s.words (FIRST_ROW + n) ≡ slice_index (map row_code (rows_in postings ++ staged)) n
   -- a verdict word is what the history says of its process, or the writer has told
   pub verdicts : (p : ℕ) → p < MAX_PROCESSES →
-      slice_index s.words (FIRST_VERDICT + p) ≡ verdict_code (fold_at (laid postings ++ told) p)
+      slice_index s.words (FIRST_VERDICT + p) ≡ verdict_code (fold_at (rows_in postings ++ told) p)
   pub whole : ArePostings postings
   -- history and staged rows are true for the graph
-  pub true_of : IsTrueOf key (laid postings ++ staged)
+  pub true_of : IsTrueOf key (rows_in postings ++ staged)
   -- no staged row before the final one is a last one
   pub part : IsOpen staged ⊎ IsPosting staged
   -- a verdict is told as its row says

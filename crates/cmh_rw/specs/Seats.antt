@@ -10,13 +10,13 @@ use Rattle.cmh_rw.specs.declared.view.View.{View}
 use Rattle.cmh_rw.specs.declared.words.RwWords.{RwWords}
 use Rattle.cmh_rw.specs.declared.words.RwSeat.{RwSeat}
 use Rattle.cmh_rw.specs.declared.words.Closed.{Closed}
-use Rattle.cmh_rw.specs.History.{row_code, verdict_code, fold_at, laid, ArePostings, IsTrueOf, IsSeen}
+use Rattle.cmh_rw.specs.History.{row_code, verdict_code, fold_at, rows_in, ArePostings, IsTrueOf, IsSeen}
 use Rattle.cmh_rw.specs.Machine.{IsSeat, total}
 use Rattle.cmh_rw.specs.Rule.{Moment, WordsRule}
 
 -- what the seat knows
-abbrev pub view : RwSeat → View
-view s = s.seat.me.0
+abbrev pub rw_view : RwSeat → View
+rw_view s = s.seat.me.0
 
 -- the seat is one of these words
 abbrev pub IsSeatOf : RwWords → RwSeat → Type 0
@@ -24,7 +24,7 @@ IsSeatOf w s = s.seat.table_id ≡ w.table.shared.table_id
 
 -- the seat holds nothing
 abbrev pub IsAway : RwSeat → Type 0
-IsAway s = (view s).lock.state ≡ Away
+IsAway s = (rw_view s).lock.state ≡ Away
 
 -- the graph whose verdicts the words hold
 abbrev pub words_graph : RwWords → Graph
@@ -46,9 +46,9 @@ pub record ClosedBy (key : Graph) (v : View) (words : List ℕ) : Type 0 where
 pub record IsWhole (v : View) (postings : List (List Row)) (words : List ℕ) : Type 0 where
   pub free : slice_index words 0 ≡ 0
   pub rows : (n : ℕ) → n < MAX_PROCESSES →
-      slice_index words (FIRST_ROW + n) ≡ slice_index (map row_code (laid postings)) n
+      slice_index words (FIRST_ROW + n) ≡ slice_index (map row_code (rows_in postings)) n
   pub verdicts : (p : ℕ) → p < MAX_PROCESSES →
-      slice_index words (FIRST_VERDICT + p) ≡ verdict_code (fold_at (laid postings) p)
+      slice_index words (FIRST_VERDICT + p) ≡ verdict_code (fold_at (rows_in postings) p)
   pub mine : (h : List Row → ℕ) → total h v.mine ≡ total h postings
 
 -- The history that the words show: how many rows, and which. It is true for the graph and begins
@@ -56,10 +56,10 @@ pub record IsWhole (v : View) (postings : List (List Row)) (words : List ℕ) : 
 pub record ClosedHistory (key : Graph) (v : View) (words : List ℕ) : Type 0 where
   pub postings : List (List Row)
   pub whole : ArePostings postings
-  pub true_of : IsTrueOf key (laid postings)
+  pub true_of : IsTrueOf key (rows_in postings)
   pub seen : IsSeen v.seen postings
-  pub count : slice_index words 1 ≡ length (laid postings)
-  pub few : length (laid postings) ≤ MAX_PROCESSES
-  pub row : (n : ℕ) → n < length (laid postings) →
-      slice_index words (FIRST_ROW + n) ≡ slice_index (map row_code (laid postings)) n
+  pub count : slice_index words 1 ≡ length (rows_in postings)
+  pub few : length (rows_in postings) ≤ MAX_PROCESSES
+  pub row : (n : ℕ) → n < length (rows_in postings) →
+      slice_index words (FIRST_ROW + n) ≡ slice_index (map row_code (rows_in postings)) n
   pub with_each_share : v.lock.share ≡ MAX_SEATS → IsWhole v postings words

@@ -37,39 +37,39 @@ opening_view g = record {
 }
 
 -- a try to get the lock found this word, and left the seat in this state
-abbrev pub tried_lock : LockView → SeatState → ℕ → LockView
-tried_lock l state found = record l { state = state; tries = l.tries + 1; found = found }
+abbrev pub lock_after_try : LockView → SeatState → ℕ → LockView
+lock_after_try l state found = record l { state = state; tries = l.tries + 1; found = found }
 
 -- the view of a seat whose try to get the lock found this word and left it in this state
-abbrev pub tried : View → SeatState → ℕ → View
-tried v state found = record v { lock = tried_lock v.lock state found }
+abbrev pub view_after_try : View → SeatState → ℕ → View
+view_after_try v state found = record v { lock = lock_after_try v.lock state found }
 
 -- what a seat knows of the lock once it has left it
-abbrev pub away : LockView → LockView
-away l = record l { state = Away }
+abbrev pub lock_after_end : LockView → LockView
+lock_after_end l = record l { state = Away }
 
 -- the seat holds nothing any more, and what it loaded and told in the hold is over
-abbrev pub ended : View → View
-ended v = record v { lock = away v.lock; loaded = false; told = [] }
+abbrev pub view_after_end : View → View
+view_after_end v = record v { lock = lock_after_end v.lock; loaded = false; told = [] }
 
 -- after a try to read: the lock was got where no writer was found, else the seat retreated
 abbrev pub AfterRead : View → Entry → View → Type 0
-AfterRead v Held w = (w.lock.found < WRITER) × (w ≡ tried v Reading w.lock.found)
-AfterRead v (Busy n) w = (WRITER ≤ n) × (w ≡ ended (tried v Retreating n))
+AfterRead v Held w = (w.lock.found < WRITER) × (w ≡ view_after_try v Reading w.lock.found)
+AfterRead v (Busy n) w = (WRITER ≤ n) × (w ≡ view_after_end (view_after_try v Retreating n))
 
 -- after a try to write: the lock was got where the word was 0, and nothing is staged yet
 abbrev pub AfterWrite : View → Entry → View → Type 0
-AfterWrite v Held w = (w ≡ tried v Writing 0) × (v.staged ≡ []) × (v.told ≡ [])
-AfterWrite v (Busy n) w = (0 < n) × (w ≡ tried v Away n)
+AfterWrite v Held w = (w ≡ view_after_try v Writing 0) × (v.staged ≡ []) × (v.told ≡ [])
+AfterWrite v (Busy n) w = (0 < n) × (w ≡ view_after_try v Away n)
 
 -- the view once a word was loaded, where this is the history
-abbrev pub loaded : View → List Row → View
-loaded v rows = record v { loaded = true; seen = rows; loads = v.loads + 1 }
+abbrev pub view_after_load : View → List Row → View
+view_after_load v rows = record v { loaded = true; seen = rows; loads = v.loads + 1 }
 
 -- What a load says. The seat sees the whole history: one that begins with all that it had seen, and
 -- the same as at an earlier load of the hold.
 pub record AfterLoad (v : View) (word found : ℕ) (w : View) : Type 0 where
-  pub view : w ≡ loaded v w.seen
+  pub view : w ≡ view_after_load v w.seen
   pub begins : StartsWith w.seen v.seen
   pub same : v.loaded ≡ true → w.seen ≡ v.seen
   pub whole : IsHistory w.seen
@@ -108,8 +108,8 @@ abbrev pub with_told : View → Row → View
 with_told v r = record v { told = v.told ++ r ∷ [] }
 
 -- the staged rows are the next posting of the history, and this seat's
-abbrev pub posted : View → View
-posted v = record v {
+abbrev pub view_after_posting : View → View
+view_after_posting v = record v {
   seen = v.seen ++ v.staged;
   staged = [];
   told = [];
@@ -117,44 +117,44 @@ posted v = record v {
 }
 
 -- what a seat knows of the lock once it has given one share away
-abbrev pub less_share : LockView → LockView
-less_share l = record l { share = l.share - 1 }
+abbrev pub lock_less_one : LockView → LockView
+lock_less_one l = record l { share = l.share - 1 }
 
 -- the view of a seat that has given one share away
-abbrev pub less_one : View → View
-less_one v = record v { lock = less_share v.lock }
+abbrev pub view_less_one : View → View
+view_less_one v = record v { lock = lock_less_one v.lock }
 
 -- what a new seat knows of the lock, which was given one share
-abbrev pub new_lock : LockView → LockView
-new_lock l = record (opening_lock l.graph) { share = 1 }
+abbrev pub newcomer_lock : LockView → LockView
+newcomer_lock l = record (opening_lock l.graph) { share = 1 }
 
 -- a new seat that has seen the same
-abbrev pub newcomer : View → View
-newcomer v = record (opening_view v.lock.graph) { lock = new_lock v.lock; seen = v.seen }
+abbrev pub newcomer_view : View → View
+newcomer_view v = record (opening_view v.lock.graph) { lock = newcomer_lock v.lock; seen = v.seen }
 
 -- what a seat knows of the lock once it has the shares of two
-abbrev pub both_shares : LockView → LockView → LockView
-both_shares l m = record l { share = l.share + m.share }
+abbrev pub lock_of_both : LockView → LockView → LockView
+lock_of_both l m = record l { share = l.share + m.share }
 
 -- the shares and the postings of both, before the two compare what they have seen
-abbrev pub joining : View → View → View
-joining v w = record v {
-  lock = both_shares v.lock w.lock;
+abbrev pub view_before_compare : View → View → View
+view_before_compare v w = record v {
+  lock = lock_of_both v.lock w.lock;
   other = w.seen;
   mine = v.mine ++ w.mine;
 }
 
 -- the longer of two lists, and the first where they are as long
-abbrev pub longer : List Row → List Row → List Row
-longer xs ys = if nat_lt (length xs) (length ys) then ys else xs
+abbrev pub longer_list : List Row → List Row → List Row
+longer_list xs ys = if nat_lt (length xs) (length ys) then ys else xs
 
 -- of two that have seen one history, the longer prefix is kept
-abbrev pub compared : View → View
-compared v = record v { seen = longer v.seen v.other; other = [] }
+abbrev pub view_after_compare : View → View
+view_after_compare v = record v { seen = longer_list v.seen v.other; other = [] }
 
 -- the view of two seats made one
-abbrev pub joined : View → View → View
-joined v w = compared (joining v w)
+abbrev pub joined_view : View → View → View
+joined_view v w = view_after_compare (view_before_compare v w)
 
 -- the graph of nothing
 abbrev pub no_graph : Graph

@@ -92,17 +92,17 @@ impl Play<(), View> for Compare {
 pub(crate) struct Shares;
 
 impl Split<View> for Shares {
-    ghost use Rattle.cmh_rw.specs.View.{less_one, newcomer};
+    ghost use Rattle.cmh_rw.specs.View.{view_less_one, newcomer_view};
 
-    ghost left = { less_one };
+    ghost left = { view_less_one };
 
-    ghost right = { newcomer };
+    ghost right = { newcomer_view };
 }
 
 impl Join<View> for Shares {
-    ghost use Rattle.cmh_rw.specs.View.{joining, spent_view};
+    ghost use Rattle.cmh_rw.specs.View.{view_before_compare, spent_view};
 
-    ghost both = { joining };
+    ghost both = { view_before_compare };
 
     ghost spent = { spent_view };
 }

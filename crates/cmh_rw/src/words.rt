@@ -59,14 +59,14 @@ impl RwWords {
     ghost use Rattle.cmh_rw.specs.declared.TheConstants.{MAX_SEATS};
     ghost use Rattle.cmh_rw.specs.History.{StartsWith};
     ghost use Rattle.cmh_rw.specs.declared.machine.SeatState.TheVariants.{Reading, Writing};
-    ghost use Rattle.cmh_rw.specs.View.{opening_view, AfterRead, AfterWrite, ended, less_one, newcomer, joined};
-    ghost use Rattle.cmh_rw.specs.Seats.{view, IsSeatOf, IsAway, words_graph, words_of, ClosedBy, ClosedHistory};
+    ghost use Rattle.cmh_rw.specs.View.{opening_view, AfterRead, AfterWrite, view_after_end, view_less_one, newcomer_view, joined_view};
+    ghost use Rattle.cmh_rw.specs.Seats.{rw_view, IsSeatOf, IsAway, words_graph, words_of, ClosedBy, ClosedHistory};
 
     /// All words are 0. The seat is away and has the whole share.
     pub fn open(alloc: Global, graph: &WaitGraph) -> Result<(RwWords, RwSeat), RwFault>
         ensures seat { IfOk result (λ r. IsSeatOf r.0 r.1) }
         ensures graph { IfOk result (λ r. words_graph r.0 ≡ graph.now) }
-        ensures view { IfOk result (λ r. view r.1 ≡ opening_view graph.now) }
+        ensures view { IfOk result (λ r. rw_view r.1 ≡ opening_view graph.now) }
         ensures memory { IfErr result (λ e. e ≡ RwFault.Memory) }
     {
         law_built_graph(graph);
@@ -83,10 +83,10 @@ impl RwWords {
         requires own { IsSeatOf self.now seat.old }
         requires away { IsAway seat.old }
         ensures own { IsSeatOf self.now seat.new }
-        ensures some { IfSome result (λ s. IsSeatOf self.now s × (view s ≡ newcomer (view seat.old))
-            × (view seat.new ≡ less_one (view seat.old)) × (1 < (view seat.old).lock.share)) }
-        ensures none { IfNone result ((view seat.new ≡ view seat.old)
-            × ((view seat.old).lock.share ≡ 1)) }
+        ensures some { IfSome result (λ s. IsSeatOf self.now s × (rw_view s ≡ newcomer_view (rw_view seat.old))
+            × (rw_view seat.new ≡ view_less_one (rw_view seat.old)) × (1 < (rw_view seat.old).lock.share)) }
+        ensures none { IfNone result ((rw_view seat.new ≡ rw_view seat.old)
+            × ((rw_view seat.old).lock.share ≡ 1)) }
     {
         if seat.share == 1 {
             return None;
@@ -105,10 +105,10 @@ impl RwWords {
         requires own { IsSeatOf self.now seat.old × IsSeatOf self.now other }
         requires away { IsAway seat.old × IsAway other }
         ensures own { IsSeatOf self.now seat.new }
-        ensures joined { view seat.new ≡ joined (view seat.old) (view other) }
-        ensures begins { StartsWith (view seat.new).seen (view seat.old).seen
-            × StartsWith (view seat.new).seen (view other).seen }
-        ensures few { (view seat.new).lock.share ≤ MAX_SEATS }
+        ensures joined { rw_view seat.new ≡ joined_view (rw_view seat.old) (rw_view other) }
+        ensures begins { StartsWith (rw_view seat.new).seen (rw_view seat.old).seen
+            × StartsWith (rw_view seat.new).seen (rw_view other).seen }
+        ensures few { (rw_view seat.new).lock.share ≤ MAX_SEATS }
     {
         let share = seat.share + other.share;
         let RwSeat {
@@ -126,7 +126,7 @@ impl RwWords {
         requires own { IsSeatOf self.now seat.old }
         requires away { IsAway seat.old }
         ensures own { IsSeatOf self.now seat.new }
-        ensures tried { AfterRead (view seat.old) result (view seat.new) }
+        ensures tried { AfterRead (rw_view seat.old) result (rw_view seat.new) }
     {
         let found = self.table.shared.fetch_add::<Enter>(&mut seat.seat, 0, 1);
         if found < WRITER {
@@ -139,9 +139,9 @@ impl RwWords {
     /// Ends a read.
     pub fn end_read(&self, seat: &mut RwSeat)
         requires own { IsSeatOf self.now seat.old }
-        requires reading { (view seat.old).lock.state ≡ Reading }
+        requires reading { (rw_view seat.old).lock.state ≡ Reading }
         ensures own { IsSeatOf self.now seat.new }
-        ensures ended { view seat.new ≡ ended (view seat.old) }
+        ensures ended { rw_view seat.new ≡ view_after_end (rw_view seat.old) }
     {
         self.table.shared.fetch_sub::<End>(&mut seat.seat, 0, 1);
     }
@@ -152,7 +152,7 @@ impl RwWords {
         requires own { IsSeatOf self.now seat.old }
         requires away { IsAway seat.old }
         ensures own { IsSeatOf self.now seat.new }
-        ensures tried { AfterWrite (view seat.old) result (view seat.new) }
+        ensures tried { AfterWrite (rw_view seat.old) result (rw_view seat.new) }
     {
         let found = self
             .table
@@ -167,10 +167,10 @@ impl RwWords {
     /// Ends a write.
     pub fn end_write(&self, seat: &mut RwSeat)
         requires own { IsSeatOf self.now seat.old }
-        requires writing { (view seat.old).lock.state ≡ Writing }
-        requires counted { (view seat.old).staged ≡ [] }
+        requires writing { (rw_view seat.old).lock.state ≡ Writing }
+        requires counted { (rw_view seat.old).staged ≡ [] }
         ensures own { IsSeatOf self.now seat.new }
-        ensures ended { view seat.new ≡ ended (view seat.old) }
+        ensures ended { rw_view seat.new ≡ view_after_end (rw_view seat.old) }
     {
         self.table
             .shared
@@ -179,7 +179,7 @@ impl RwWords {
 
     /// How much of the whole share the seat has. A seat that has all of it is the only one.
     pub fn share(&self, seat: &RwSeat) -> u32
-        ensures { result ≡ (view seat.now).lock.share }
+        ensures { result ≡ (rw_view seat.now).lock.share }
     {
         seat.share()
     }
@@ -188,8 +188,8 @@ impl RwWords {
     pub fn close_with(self, seat: RwSeat) -> Closed
         requires own { IsSeatOf self seat }
         requires away { IsAway seat }
-        ensures rule { ClosedBy (words_graph self) (view seat) (words_of result) }
-        ensures history { ClosedHistory (words_graph self) (view seat) (words_of result) }
+        ensures rule { ClosedBy (words_graph self) (rw_view seat) (words_of result) }
+        ensures history { ClosedHistory (words_graph self) (rw_view seat) (words_of result) }
     {
         let RwWords { table } = self;
         let RwSeat { seat, share: _ } = seat;
@@ -206,17 +206,17 @@ impl RwWords {
     ghost use Rattle.cmh_rw.specs.declared.TheConstants.{BOARD_WORDS};
     ghost use Rattle.cmh_rw.specs.History.{fold_at, EndsLast, IsPosting, AreTold};
     ghost use Rattle.cmh_rw.specs.declared.machine.SeatState.TheVariants.{Writing};
-    ghost use Rattle.cmh_rw.specs.View.{IsHeld, AfterLoad, CanStage, row, with_row, mark, with_told, posted};
-    ghost use Rattle.cmh_rw.specs.Seats.{view, IsSeatOf};
+    ghost use Rattle.cmh_rw.specs.View.{IsHeld, AfterLoad, CanStage, row, with_row, mark, with_told, view_after_posting};
+    ghost use Rattle.cmh_rw.specs.Seats.{rw_view, IsSeatOf};
     ghost use Rattle.cmh_graph.specs.declared.TheConstants.{MAX_PROCESSES};
 
     /// The value of a word, in a hold. Nothing is said of the value of word 0.
     pub fn load(&self, seat: &mut RwSeat, word: usize) -> u64
         requires own { IsSeatOf self.now seat.old }
-        requires held { IsHeld (view seat.old).lock.state }
+        requires held { IsHeld (rw_view seat.old).lock.state }
         requires within { word < BOARD_WORDS }
         ensures own { IsSeatOf self.now seat.new }
-        ensures loaded { AfterLoad (view seat.old) word result (view seat.new) }
+        ensures loaded { AfterLoad (rw_view seat.old) word result (rw_view seat.new) }
     {
         self.table.shared.load::<Load>(&mut seat.seat, word)
     }
@@ -224,12 +224,12 @@ impl RwWords {
     /// Stages row `n` of the history, after those that are there and those that are staged.
     pub fn store_row(&self, seat: &mut RwSeat, n: usize, p: u32, verdict: Verdict, last: bool)
         requires own { IsSeatOf self.now seat.old }
-        requires writing { (view seat.old).lock.state ≡ Writing }
-        requires loaded { IsTrue (view seat.old).loaded }
-        requires end { n ≡ length (view seat.old).seen + length (view seat.old).staged }
-        requires can { CanStage (view seat.old) (row p verdict last) }
+        requires writing { (rw_view seat.old).lock.state ≡ Writing }
+        requires loaded { IsTrue (rw_view seat.old).loaded }
+        requires end { n ≡ length (rw_view seat.old).seen + length (rw_view seat.old).staged }
+        requires can { CanStage (rw_view seat.old) (row p verdict last) }
         ensures own { IsSeatOf self.now seat.new }
-        ensures staged { view seat.new ≡ with_row (view seat.old) (row p verdict last) }
+        ensures staged { rw_view seat.new ≡ with_row (rw_view seat.old) (row p verdict last) }
         ensures room { n < MAX_PROCESSES }
     {
         let row = Row {
@@ -245,10 +245,10 @@ impl RwWords {
     /// Stores the verdict of a process that a staged row names.
     pub fn store_verdict(&self, seat: &mut RwSeat, p: u32, verdict: Verdict)
         requires own { IsSeatOf self.now seat.old }
-        requires writing { (view seat.old).lock.state ≡ Writing }
-        requires says { fold_at (view seat.old).staged p ≡ Some verdict }
+        requires writing { (rw_view seat.old).lock.state ≡ Writing }
+        requires says { fold_at (rw_view seat.old).staged p ≡ Some verdict }
         ensures own { IsSeatOf self.now seat.new }
-        ensures told { view seat.new ≡ with_told (view seat.old) (mark p verdict) }
+        ensures told { rw_view seat.new ≡ with_told (rw_view seat.old) (mark p verdict) }
     {
         let word = FIRST_VERDICT + p as usize;
         self.table
@@ -259,13 +259,13 @@ impl RwWords {
     /// Stores how many rows the history has from now on: the staged rows become a posting of it.
     pub fn store_count(&self, seat: &mut RwSeat, n: usize)
         requires own { IsSeatOf self.now seat.old }
-        requires writing { (view seat.old).lock.state ≡ Writing }
-        requires ended { EndsLast (view seat.old).staged }
-        requires told { AreTold (view seat.old).staged (view seat.old).told }
-        requires end { n ≡ length (view seat.old).seen + length (view seat.old).staged }
+        requires writing { (rw_view seat.old).lock.state ≡ Writing }
+        requires ended { EndsLast (rw_view seat.old).staged }
+        requires told { AreTold (rw_view seat.old).staged (rw_view seat.old).told }
+        requires end { n ≡ length (rw_view seat.old).seen + length (rw_view seat.old).staged }
         ensures own { IsSeatOf self.now seat.new }
-        ensures posted { view seat.new ≡ posted (view seat.old) }
-        ensures posting { IsPosting (view seat.old).staged }
+        ensures posted { rw_view seat.new ≡ view_after_posting (rw_view seat.old) }
+        ensures posting { IsPosting (rw_view seat.old).staged }
     {
         self.table
             .shared
@@ -275,11 +275,11 @@ impl RwWords {
 
 impl RwSeat {
     ghost use Rattle.std.specs.Prelude.{◌≡◌};
-    ghost use Rattle.cmh_rw.specs.Seats.{view};
+    ghost use Rattle.cmh_rw.specs.Seats.{rw_view};
 
     /// The same as `RwWords::share` of this seat.
     pub fn share(&self) -> u32
-        ensures { result ≡ (view self.now).lock.share }
+        ensures { result ≡ (rw_view self.now).lock.share }
     {
         self.share
     }

@@ -14,7 +14,7 @@ use Rattle.cmh_graph.proofs.Verdicts.{contains_filter, idle_within, true_verdict
 use Rattle.cmh_run.specs.Run.{Run}
 use Rattle.cmh_rw.specs.declared.row.Row.{Row}
 use Rattle.cmh_rw.specs.History.{StartsWith, IsTrueOf, fold_at}
-use Rattle.cmh_board.specs.Board.{known, IsMadeOf}
+use Rattle.cmh_board.specs.Board.{board_view, IsMadeOf}
 use Rattle.cmh_work.specs.declared.TheConstants.{MAX_WORKERS}
 use Rattle.cmh_work.specs.declared.finding.Finding.{Finding}
 use Rattle.cmh_work.specs.declared.job.Shared.{Shared}
@@ -118,24 +118,24 @@ pub analysed : {L : Type 0} (listed : L → List ℕ) (g : Graph) (plan : Setup)
     (found sorted : List (Finding Run L)) (a : Analysis Run L) → IsWellFormed g → IsMadeFor g plan j
     → IsPermutation found sorted → IsNonDecreasingBy finding_initiator sorted
     → AreSeated j s → (ticket_view s.tickets).share ≡ MAX_WORKERS → IsWorked listed g plan j s found
-    → StartsWith (history_of a) (known s.board).seen → IsTrueOf g (history_of a)
-    → IsMadeOf (known s.board).mine (history_of a)
+    → StartsWith (history_of a) (board_view s.board).seen → IsTrueOf g (history_of a)
+    → IsMadeOf (board_view s.board).mine (history_of a)
     → AreNumbered (history_of a) sorted (records_of a) → IsAnalysisOf listed g plan.choices a
 analysed listed g plan j s found sorted a well for p up sit whole w begins true_of made n =
     let choices = plan.choices in
     let rows = history_of a in
-    let sound = all_stand listed g choices rows (known s.board).seen found sorted p begins w.of.accounts.sound in
+    let sound = all_stand listed g choices rows (board_view s.board).seen found sorted p begins w.of.accounts.sound in
     let order : map initiator_of (records_of a) ≡ idle_list g =
     same_order rows sorted (records_of a) n
     ∙ sorted_same finding_initiator found sorted j.idle.items p up (subst Rises (sym for.idle) (rises_from g))
     (all_worked listed g plan j s found for sit.tickets whole w)
     ∙ for.idle in
     let explained =
-    all_explained_more rows (known s.board).seen found found (known s.board).mine begins
+    all_explained_more rows (board_view s.board).seen found found (board_view s.board).mine begins
     (λ f c. c) w.of.accounts.explained in
     let each =
     explained_permuted rows found sorted made.postings p
-    (each_explained rows found (known s.board).mine made.postings explained (λ m c. (made.same m).0 c)) in
+    (each_explained rows found (board_view s.board).mine made.postings explained (λ m c. (made.same m).0 c)) in
     let agrees =
     each_record listed g choices rows (λ r. fold_at rows r.initiator ≡ Some r.verdict)
     (record_agrees listed g choices rows) sorted (records_of a) sound n in

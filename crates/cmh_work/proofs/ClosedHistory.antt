@@ -7,7 +7,7 @@ use Rattle.cmh_graph.specs.Graph.{Graph}
 use Rattle.cmh_graph.specs.declared.verdict.Verdict.{Verdict}
 use Rattle.cmh_run.specs.Run.{Run}
 use Rattle.cmh_rw.specs.declared.row.Row.{Row}
-use Rattle.cmh_rw.specs.History.{IsPosting, ArePostings, IsTrueOf, fold_at, laid}
+use Rattle.cmh_rw.specs.History.{IsPosting, ArePostings, IsTrueOf, fold_at, rows_in}
 use Rattle.cmh_work.specs.declared.finding.Finding.{Finding}
 use Rattle.cmh_work.specs.declared.record.Record.{Record}
 use Rattle.cmh_work.specs.declared.record.Origin.TheVariants.{FromRun}
@@ -104,19 +104,19 @@ record_of rows (x ∷ xs) (y ∷ ys) f run h (suc k, low, at) is =
 -- explained postings of a history, laid end to end, are of records' runs, with what stands before each
 pub of_records : {L : Type 0} (g : Graph) (rows : List Row) (found : List (Finding Run L))
     (records : List (Record Run L)) (before : List Row) (postings : List (List Row)) → IsTrueOf g rows
-    → rows ≡ before ++ laid postings → ArePostings postings → AreExplained rows found postings
+    → rows ≡ before ++ rows_in postings → ArePostings postings → AreExplained rows found postings
     → AreNumbered rows found records → AreOfRecords records before postings
 of_records g rows found records before [] true_of e whole explained n = tt
 of_records g rows found records before (m ∷ ms) true_of e whole explained n =
     let (f, there, run, is, from) = explained.0 in
     let other : rows ≡ from.before ++ (m ++ from.place.0) = from.place.1 ∙ append_assoc from.before m from.place.0 in
     let same : before ≡ from.before =
-    posting_place g before from.before m (laid ms) from.place.0 whole.0 (subst (IsTrueOf g) e true_of)
+    posting_place g before from.before m (rows_in ms) from.place.0 whole.0 (subst (IsTrueOf g) e true_of)
     (sym e ∙ other) in
     let (r, in_records, ran) = record_of rows found records f run n there is in (
       (r, in_records, run, ran, subst (λ b. IsPostedBy b m run) (sym same) from.posted),
       of_records g rows found records (before ++ m) ms true_of
-          (e ∙ sym (append_assoc before m (laid ms))) whole.1 explained.1 n,
+          (e ∙ sym (append_assoc before m (rows_in ms))) whole.1 explained.1 n,
     )
 
 -- postings that findings explain are explained by them in any order

@@ -7,25 +7,31 @@ use Rattle.cmh_graph.specs.Graph.{Graph, is_idle, indices, idle_list}
 use Rattle.cmh_graph.proofs.Verdicts.{filter_contains}
 use Rattle.cmh_rw.specs.Machine.{total}
 use Rattle.cmh_work.specs.Tickets.{sum_below}
-use Rattle.cmh_work.specs.Cutting.{bounds_of, chunks_of, ends_from, gathered, ChunksLaw}
+use Rattle.cmh_work.specs.Cutting.{bounds_of, chunks_of, ends_from, concat_chunks, ChunksLaw}
 use Rattle.cmh_rw.proofs.Lawful.{total-append}
 
 -- what two lists of numbers gather together is what the one gathers, and then the other
-pub gathered-append : (cs : List (List ℕ)) (a b : List ℕ) → gathered cs (a ++ b) ≡ gathered cs a ++ gathered cs b
-gathered-append cs [] b = refl
-gathered-append cs (x ∷ xs) b = ap (λ l. get_or cs x [] ++ l) (gathered-append cs xs b)
-    ∙ sym (append_assoc (get_or cs x []) (gathered cs xs) (gathered cs b))
+pub concat_chunks-append : (cs : List (List ℕ)) (a b : List ℕ) → concat_chunks cs (a ++ b)
+    ≡ concat_chunks cs a ++ concat_chunks cs b
+concat_chunks-append cs [] b = refl
+concat_chunks-append cs (x ∷ xs) b = ap (λ l. get_or cs x [] ++ l) (concat_chunks-append cs xs b)
+    ∙ sym (append_assoc (get_or cs x []) (concat_chunks cs xs) (concat_chunks cs b))
 
 -- one number more gathers its chunk behind what was gathered
 pub gathered_snoc : (cs : List (List ℕ)) (a : List ℕ) (n : ℕ)
-    → gathered cs (a ++ n ∷ []) ≡ gathered cs a ++ get_or cs n []
-gathered_snoc cs a n = gathered-append cs a (n ∷ []) ∙ ap (λ l. gathered cs a ++ l) (append-nil (get_or cs n []))
+    → concat_chunks cs (a ++ n ∷ []) ≡ concat_chunks cs a ++ get_or cs n []
+gathered_snoc cs a n = concat_chunks-append cs a (n ∷ [])
+    ∙ ap (λ l. concat_chunks cs a ++ l) (append-nil (get_or cs n []))
 
 -- the weight of what is gathered is that of its chunks
-total-gathered : (h : ℕ → ℕ) (cs : List (List ℕ)) (ds : List ℕ)
-    → total h (gathered cs ds) ≡ total (λ c. total h (get_or cs c [])) ds
-total-gathered h cs [] = refl
-total-gathered h cs (d ∷ ds) = omega (arith, total-gathered h cs ds, total-append h (get_or cs d []) (gathered cs ds))
+total-concat_chunks : (h : ℕ → ℕ) (cs : List (List ℕ)) (ds : List ℕ)
+    → total h (concat_chunks cs ds) ≡ total (λ c. total h (get_or cs c [])) ds
+total-concat_chunks h cs [] = refl
+total-concat_chunks h cs (d ∷ ds) = omega (
+  arith,
+  total-concat_chunks h cs ds,
+  total-append h (get_or cs d []) (concat_chunks cs ds),
+)
 
 -- a sum below n + 1 is its first number and the sum of the rest
 sum-shift : (f : ℕ → ℕ) (n : ℕ) → sum_below f (suc n) ≡ f 0 + sum_below (λ k. f (suc k)) n
@@ -56,9 +62,9 @@ length_chunks (c ∷ cs) xs = omega (arith, length_chunks cs (drop c xs))
 
 -- what is gathered from each chunk once weighs what the list does
 pub gathered_once : (h : ℕ → ℕ) (cuts xs ds : List ℕ) → ((f : ℕ → ℕ) → total f ds ≡ sum_below f (length cuts + 1))
-    → total h (gathered (chunks_of cuts xs) ds) ≡ total h xs
+    → total h (concat_chunks (chunks_of cuts xs) ds) ≡ total h xs
 gathered_once h cuts xs ds all = let cs = chunks_of cuts xs in
-    total-gathered h cs ds ∙ all (λ c. total h (get_or cs c []))
+    total-concat_chunks h cs ds ∙ all (λ c. total h (get_or cs c []))
     ∙ ap (sum_below (λ c. total h (get_or cs c []))) (sym (length_chunks cuts xs)) ∙ sum-each h cs
     ∙ total-chunks h cuts xs
 

@@ -19,7 +19,7 @@ use Rattle.cmh_run.specs.declared.delivery.Ending.TheVariants.{Declared}
 use Rattle.cmh_run.specs.Config.{query, reply}
 use Rattle.cmh_run.specs.Run.{Run}
 use Rattle.cmh_rw.specs.declared.row.Row.{Row}
-use Rattle.cmh_rw.specs.History.{fold_at, laid, IsTrueOf}
+use Rattle.cmh_rw.specs.History.{fold_at, rows_in, IsTrueOf}
 use Rattle.cmh_rw.specs.View.{row}
 use Rattle.cmh_work.specs.declared.record.Record.{Record}
 use Rattle.cmh_work.specs.declared.record.Origin.{Origin}
@@ -27,7 +27,7 @@ use Rattle.cmh_work.specs.declared.record.Origin.TheVariants.{FromRun, FromBoard
 use Rattle.cmh_work.specs.declared.record.Shape.TheVariants.{Leader}
 use Rattle.cmh_work.specs.declared.record.Analysis.{Analysis}
 use Rattle.cmh_work.specs.declared.ticket_rule.TicketView.{TicketView}
-use Rattle.cmh_work.specs.Cutting.{chunks_of, bounds_of, gathered}
+use Rattle.cmh_work.specs.Cutting.{chunks_of, bounds_of, concat_chunks}
 use Rattle.cmh_work.specs.Record.{IsRunFor, IsTrueRecord}
 use Rattle.cmh_work.specs.Analysis.{records_of, history_of, initiator_of, IsPostedBy, IsPostedByRecords, IsAnalysisOf}
 use Rattle.cmh_work.specs.Tickets.{IsTicketSeat, Dealt, ticket_opening_view, ticket_less_one, ticket_newcomer, with_drawn}
@@ -47,7 +47,7 @@ pub one_chunk : chunks_of [] (0 ∷ 1 ∷ []) ≡ (0 ∷ 1 ∷ []) ∷ []
 one_chunk = refl
 
 -- chunks as a worker draws them, who draws the third before the first
-pub gathered_in_another_order : gathered ((0 ∷ []) ∷ (1 ∷ []) ∷ (2 ∷ 3 ∷ []) ∷ []) (2 ∷ 0 ∷ [])
+pub gathered_in_another_order : concat_chunks ((0 ∷ []) ∷ (1 ∷ []) ∷ (2 ∷ 3 ∷ []) ∷ []) (2 ∷ 0 ∷ [])
     ≡ 2 ∷ 3 ∷ 0 ∷ []
 gathered_in_another_order = refl
 
@@ -303,7 +303,7 @@ cut_posting a is has h =
     refuted : IsPostedByRecords (of_p ∷ of_q ∷ of_r ∷ []) cut_rows → ⊥
     refuted ([], all, postings, of) = cc
     refuted (x ∷ xs, all, postings, of) = let first = of.0 in let opens : true ≡ false =
-        ap is_cut all ∙ begins_open first.0 x (laid xs) first.2 first.1 first.3 first.4 in cc
+        ap is_cut all ∙ begins_open first.0 x (rows_in xs) first.2 first.1 first.3 first.4 in cc
 
 -- ---- two tickets, drawn by two seats
 

@@ -13,16 +13,16 @@ use Rattle.cmh_work.specs.declared.job.Shared.{Shared}
 use Rattle.cmh_work.specs.declared.job.Seats.{Seats}
 use Rattle.cmh_work.specs.declared.tickets.TicketSeat.{TicketSeat}
 use Rattle.cmh_rw.specs.History.{StartsWith}
-use Rattle.cmh_rw.specs.View.{joined}
-use Rattle.cmh_board.specs.Board.{known}
+use Rattle.cmh_rw.specs.View.{joined_view}
+use Rattle.cmh_board.specs.Board.{board_view}
 use Rattle.cmh_rw.specs.Machine.{total}
 use Rattle.cmh_work.specs.Tickets.{sum_below, joined_views, with_drawn}
-use Rattle.cmh_work.specs.Cutting.{gathered}
+use Rattle.cmh_work.specs.Cutting.{concat_chunks}
 use Rattle.cmh_work.specs.TicketSeats.{ticket_view, IsTicketSeatOf}
 use Rattle.cmh_work.specs.Finding.{finding_initiator}
 use Rattle.cmh_work.specs.Working.{chunks_in, AreNew, AreOf, IsMadeFor, IsWorked}
 use Rattle.cmh_work.proofs.AccountsLemmas.{accounts_joined}
-use Rattle.cmh_work.proofs.CuttingLemmas.{gathered-append, gathered_snoc, gathered_once}
+use Rattle.cmh_work.proofs.CuttingLemmas.{concat_chunks-append, gathered_snoc, gathered_once}
 
 -- what a worker gives back
 abbrev Found : Type 0 → Type 0
@@ -41,17 +41,19 @@ collected (Ok v) (Err e) second P Q S p q c f = absurd c
 -- once the seats of two workers are joined, the findings of both are what the joined seats found
 pub joined_worked : {L : Type 0} (listed : L → List ℕ) (g : Graph) (plan : Setup) (j : Shared) (s t u : Seats)
     (a b : List (Finding Run L)) → ticket_view u.tickets ≡ joined_views (ticket_view s.tickets) (ticket_view t.tickets)
-    → known u.board ≡ joined (known s.board) (known t.board)
-    → StartsWith (known u.board).seen (known s.board).seen → StartsWith (known u.board).seen (known t.board).seen
+    → board_view u.board ≡ joined_view (board_view s.board) (board_view t.board)
+    → StartsWith (board_view u.board).seen (board_view s.board).seen
+    → StartsWith (board_view u.board).seen (board_view t.board).seen
     → IsWorked listed g plan j s a → IsWorked listed g plan j t b → IsWorked listed g plan j u (a ++ b)
 joined_worked listed g plan j s t u a b is jo first second w x = record {
   of = record {
     accounts =
-        accounts_joined listed g plan.choices (known s.board) (known t.board) (known u.board) a b first second
+        accounts_joined listed g plan.choices (board_view s.board) (board_view t.board)
+        (board_view u.board) a b first second
         (ap (λ v. v.mine) jo) w.of.accounts x.of.accounts;
     order = map-append finding_initiator a b ∙ (λ k. w.of.order k ++ x.of.order k)
-        ∙ sym (gathered-append (chunks_in plan j) (ticket_view s.tickets).drawn (ticket_view t.tickets).drawn)
-        ∙ ap (λ v. gathered (chunks_in plan j) v.drawn) (sym is);
+        ∙ sym (concat_chunks-append (chunks_in plan j) (ticket_view s.tickets).drawn (ticket_view t.tickets).drawn)
+        ∙ ap (λ v. concat_chunks (chunks_in plan j) v.drawn) (sym is);
   };
   done = ap (λ v. v.done) is ∙ ap (λ d. d || (ticket_view t.tickets).done) w.done;
 }
@@ -67,13 +69,13 @@ nothing_found listed g plan j s new = record {
 -- with one chunk more drawn and its findings added, the findings are of the chunks drawn, in order
 pub drawn_more : {L : Type 0} (plan : Setup) (j : Shared) (s u : TicketSeat) (n : ℕ) (a b : List (Finding Run L))
     → ticket_view u ≡ with_drawn (ticket_view s) n
-    → map finding_initiator a ≡ gathered (chunks_in plan j) (ticket_view s).drawn
+    → map finding_initiator a ≡ concat_chunks (chunks_in plan j) (ticket_view s).drawn
     → map finding_initiator b ≡ map finding_initiator a ++ slice_index_or (chunks_in plan j) n []
-    → map finding_initiator b ≡ gathered (chunks_in plan j) (ticket_view u).drawn
+    → map finding_initiator b ≡ concat_chunks (chunks_in plan j) (ticket_view u).drawn
 drawn_more plan j s u n a b is was more =
     more ∙ ap (λ l. l ++ slice_index_or (chunks_in plan j) n []) was
     ∙ sym (gathered_snoc (chunks_in plan j) (ticket_view s).drawn n)
-    ∙ ap (λ v. gathered (chunks_in plan j) v.drawn) (sym is)
+    ∙ ap (λ v. concat_chunks (chunks_in plan j) v.drawn) (sym is)
 
 -- with the whole share, the findings weigh what the idle processes do
 pub all_worked : {L : Type 0} (listed : L → List ℕ) (g : Graph) (plan : Setup) (j : Shared) (s : Seats)

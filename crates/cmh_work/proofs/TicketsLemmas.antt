@@ -10,7 +10,7 @@ use Rattle.atomic_table.proofs.Lists.{at_set, at_snoc, set_again}
 use Rattle.cmh_work.specs.declared.ticket_rule.TicketView.{TicketView}
 use Rattle.cmh_rw.specs.Machine.{total}
 use Rattle.cmh_rw.proofs.Lawful.{total-set, total-in, total-append, total-snoc}
-use Rattle.cmh_work.specs.Tickets.{sum_below, share_if, done_share, ticket_share, ticket_opening_view, ticket_less_one, ticket_newcomer, joined_views, spent, with_drawn, with_done, IsTicketSeat, Dealt, KnowsAll, after_draw, Drew, Measured}
+use Rattle.cmh_work.specs.Tickets.{sum_below, share_if, done_share, ticket_share, ticket_opening_view, ticket_less_one, ticket_newcomer, joined_views, spent_ticket_view, with_drawn, with_done, IsTicketSeat, Dealt, KnowsAll, after_draw, Drew, Measured}
 
 -- a state of the table
 abbrev St : Type 0
@@ -233,14 +233,15 @@ join_done false false m n = omega arith
 
 -- a join keeps the rule
 pub joins : (key : ℕ) (id : ℕ) (v : TicketView) (other : ℕ) (w : TicketView) → 0 < v.share
-    → Joins (Dealt key) id v other w (joined_views v w) spent
+    → Joins (Dealt key) id v other w (joined_views v w) spent_ticket_view
 joins key id v other w some_share s h at apart there = let x = get_or s.words 0 0 in let both =
     joined_views v w in let mid = set s.views id both in let has = h.each id v at in
     let was : IsTicketSeat key x w =
     ⊎_elim (λ t. absurd (apart t.0)) (λ t. h.each other w t.1) (at_set s.views id other both w there) in
     let sum = total-set ticket_share s.views id v both at in let all =
-    total-set ticket_share mid other w spent there in let few = h.shares in
-    let over = total-set done_share s.views id v both at in let over' = total-set done_share mid other w spent there in
+    total-set ticket_share mid other w spent_ticket_view there in let few = h.shares in
+    let over = total-set done_share s.views id v both at in let over' =
+    total-set done_share mid other w spent_ticket_view there in
     let c = h.over in let d = join_done v.done w.done v.share w.share in record {
       reached = h.reached;
       wide = h.wide;
@@ -261,9 +262,9 @@ joins key id v other w some_share s h at apart there = let x = get_or s.words 0 
           })
           (λ t'. h.each i u t'.1)
           (at_set s.views id i both u t.1))
-          (at_set mid other i spent u g);
+          (at_set mid other i spent_ticket_view u g);
       numbers = λ f. let t = total-set (λ (u : TicketView). total f u.drawn) s.views id v both at in let t' =
-          total-set (λ (u : TicketView). total f u.drawn) mid other w spent there in
+          total-set (λ (u : TicketView). total f u.drawn) mid other w spent_ticket_view there in
           let k = h.numbers f in let l = total-append f v.drawn w.drawn in omega arith;
     }
 

@@ -4,8 +4,8 @@ use Rattle.cmh_graph.specs.Graph.{Graph, is_idle, idle_list}
 use Rattle.cmh_graph.specs.Verdict.{verdict}
 use Rattle.cmh_run.specs.Run.{Run}
 use Rattle.cmh_rw.specs.declared.row.Row.{Row}
-use Rattle.cmh_rw.specs.History.{laid, ArePostings, IsTrueOf, fold_at}
-use Rattle.cmh_board.specs.Board.{rows_of, unposted}
+use Rattle.cmh_rw.specs.History.{rows_in, ArePostings, IsTrueOf, fold_at}
+use Rattle.cmh_board.specs.Board.{rows_of, unposted_in}
 use Rattle.cmh_board.specs.Posting.{posting_of}
 use Rattle.cmh_work.specs.declared.record.Record.{Record}
 use Rattle.cmh_work.specs.declared.record.Origin.TheVariants.{FromRun}
@@ -27,7 +27,7 @@ initiator_of r = r.initiator
 -- the posting is what this run tells, but for whom stood in a row before
 abbrev pub IsPostedBy : List Row → List Row → Run → Type 0
 IsPostedBy before posting run = let told = posting_of run in
-    posting ≡ rows_of told.verdict (unposted before told.processes)
+    posting ≡ rows_of told.verdict (unposted_in before told.processes)
 
 -- the posting is what the run of a record tells, but for whom stood in a row before
 abbrev pub IsOfRecord : {L : Type 0} → List (Record Run L) → List Row → List Row → Type 0
@@ -43,7 +43,7 @@ AreOfRecords records before (posting ∷ postings) = IsOfRecord records before p
 -- the history is postings, end to end, each of a record's run
 abbrev pub IsPostedByRecords : {L : Type 0} → List (Record Run L) → List Row → Type 0
 IsPostedByRecords records history = (postings : List (List Row))
-    × (history ≡ laid postings) × ArePostings postings × AreOfRecords records [] postings
+    × (history ≡ rows_in postings) × ArePostings postings × AreOfRecords records [] postings
 
 -- The records are of the idle processes, one of each, by rising index, and true. The history holds
 -- each idle process once, and no other, with the verdict that its record tells.

@@ -16,9 +16,9 @@ abbrev pub bounds_of : List ℕ → ℕ → List ℕ
 bounds_of cuts size = 0 ∷ ends_from size 0 cuts
 
 -- the chunks of these numbers, end to end
-abbrev pub gathered : List (List ℕ) → List ℕ → List ℕ
-gathered chunks [] = []
-gathered chunks (number ∷ numbers) = slice_index_or chunks number [] ++ gathered chunks numbers
+abbrev pub concat_chunks : List (List ℕ) → List ℕ → List ℕ
+concat_chunks chunks [] = []
+concat_chunks chunks (number ∷ numbers) = slice_index_or chunks number [] ++ concat_chunks chunks numbers
 
 -- the chunks are the list, cut: end to end they are the list, and there is one more than cuts
 abbrev pub ChunksLaw : Type 0

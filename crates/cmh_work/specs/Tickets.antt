@@ -35,8 +35,8 @@ joined_views v w = record v {
 }
 
 -- what is left of a seat that was taken in
-abbrev pub spent : TicketView
-spent = record { chunks = 0; share = 0; drawn = []; done = false }
+abbrev pub spent_ticket_view : TicketView
+spent_ticket_view = record { chunks = 0; share = 0; drawn = []; done = false }
 
 -- the seat once it has drawn chunk n
 abbrev pub with_drawn : TicketView → ℕ → TicketView

@@ -2,13 +2,13 @@
 use Rattle.std.specs.Prelude.{◌≡◌, ℕ, ◌+◌, List, [], length, map, true}
 use Rattle.cmh_graph.specs.Graph.{Graph, idle_list}
 use Rattle.cmh_board.specs.declared.board.BoardSeat.{BoardSeat}
-use Rattle.cmh_board.specs.Board.{known, board_graph, SitsAt, IsAway}
+use Rattle.cmh_board.specs.Board.{board_view, board_graph, SitsAt, IsAway}
 use Rattle.cmh_run.specs.Run.{Run}
 use Rattle.cmh_work.specs.declared.finding.Finding.{Finding}
 use Rattle.cmh_work.specs.declared.job.Shared.{Shared}
 use Rattle.cmh_work.specs.declared.job.Seats.{Seats}
 use Rattle.cmh_work.specs.Plan.{Setup}
-use Rattle.cmh_work.specs.Cutting.{chunks_of, bounds_of, gathered}
+use Rattle.cmh_work.specs.Cutting.{chunks_of, bounds_of, concat_chunks}
 use Rattle.cmh_work.specs.TicketSeats.{ticket_view, IsTicketSeatOf}
 use Rattle.cmh_work.specs.Shape.{AreShapesOf}
 use Rattle.cmh_work.specs.Finding.{finding_initiator, Accounts}
@@ -38,20 +38,20 @@ pub record AreSeated (s : Shared) (seats : Seats) : Type 0 where
 -- the seats have drawn nothing and added nothing yet
 pub record AreNew (seats : Seats) : Type 0 where
   pub drawn : (ticket_view seats.tickets).drawn ≡ []
-  pub mine : (known seats.board).mine ≡ []
+  pub mine : (board_view seats.board).mine ≡ []
 
 -- the seats are in their places afterwards, with the shares that they had
 pub record AreBack (s : Shared) (old new : Seats) : Type 0 where
   pub sit : AreSeated s new
   pub tickets : (ticket_view new.tickets).share ≡ (ticket_view old.tickets).share
-  pub board : (known new.board).lock.share ≡ (known old.board).lock.share
+  pub board : (board_view new.board).lock.share ≡ (board_view old.board).lock.share
 
 -- what was found is of the chunks that the seat drew, in order, and explains what it added
 pub record AreOf {L : Type 0} (listed : L → List ℕ) (g : Graph) (plan : Setup) (s : Shared) (seats : Seats)
     (found : List (Finding Run L))
     : Type 0 where
-  pub accounts : Accounts listed g plan.choices (known seats.board) found
-  pub order : map finding_initiator found ≡ gathered (chunks_in plan s) (ticket_view seats.tickets).drawn
+  pub accounts : Accounts listed g plan.choices (board_view seats.board) found
+  pub order : map finding_initiator found ≡ concat_chunks (chunks_in plan s) (ticket_view seats.tickets).drawn
 
 -- what was found is of the chunks that the seat drew, in order, and no chunk is left
 pub record IsWorked {L : Type 0} (listed : L → List ℕ) (g : Graph) (plan : Setup) (s : Shared) (seats : Seats)

@@ -7,7 +7,7 @@ ghost use Rattle.cmh_work.specs.Tickets.{ticket_opening_view};
 ghost use Rattle.cmh_work.specs.Working.{IsMadeFor, AreSeated, AreNew};
 ghost use Rattle.cmh_work.specs.declared.TheConstants.{MAX_WORKERS};
 ghost use Rattle.cmh_rw.specs.declared.TheConstants.{MAX_SEATS};
-ghost use Rattle.cmh_board.specs.Board.{known};
+ghost use Rattle.cmh_board.specs.Board.{board_view};
 
 use crate::chunks::chunk_bounds;
 use crate::fault::{want_at_board, want_in_graph, want_of_tickets};
@@ -110,7 +110,7 @@ fn finish<L: Log + Send, E: ProcessList + Send, R: Threads + Wait + Sync, G: Gat
     requires sit { AreSeated shared seats }
     requires new { AreNew seats }
     requires tickets { (ticket_view seats.tickets).share ≡ MAX_WORKERS }
-    requires board { (known seats.board).lock.share ≡ MAX_SEATS }
+    requires board { (board_view seats.board).lock.share ≡ MAX_SEATS }
     ensures { IfOk result (IsAnalysisOf E.processes graph.now plan.now.choices) }
 {
     law_built_graph(graph);

@@ -56,9 +56,9 @@ impl Split<TicketView> for Parts {
 }
 
 impl Join<TicketView> for Parts {
-    ghost use Rattle.cmh_work.specs.Tickets.{joined_views, spent};
+    ghost use Rattle.cmh_work.specs.Tickets.{joined_views, spent_ticket_view};
 
     ghost both = { joined_views };
 
-    ghost spent = { spent };
+    ghost spent = { spent_ticket_view };
 }

@@ -3,7 +3,7 @@
 ghost use Rattle.std.specs.Prelude.{◌≡◌, ◌++◌, map, All, IfOk, OnOk, IsTrue};
 ghost use Rattle.cmh_graph.specs.Graph.{is_idle};
 ghost use Rattle.cmh_run.specs.Run.{verdict_of, TellsTruth};
-ghost use Rattle.cmh_board.specs.Board.{known, SeesMore};
+ghost use Rattle.cmh_board.specs.Board.{board_view, SeesMore};
 ghost use Rattle.cmh_work.specs.Record.{IsRunFor};
 ghost use Rattle.cmh_work.specs.Finding.{finding_initiator, IsAnswered, IsRecorded, Accounts};
 ghost use Rattle.cmh_work.specs.Working.{IsMadeFor, SitsIn, AreSeated, AreNew, AreBack, IsWorked};
@@ -33,7 +33,7 @@ fn run_of<L: Log>(
     requires idle { IsTrue (is_idle job.now.graph.now initiator) }
     ensures runner { runner.new ≡ runner.old }
     ensures sits { SitsIn job.now.shared.now seat.new }
-    ensures sees { SeesMore (known seat.old) (known seat.new) }
+    ensures sees { SeesMore (board_view seat.old) (board_view seat.new) }
     ensures run { IfOk result (λ r. IsRunFor
         job.now.graph.now job.now.plan.now.choices initiator (verdict_of r.ending) r) }
     ensures truth { IfOk result (TellsTruth job.now.graph.now) }
@@ -58,9 +58,9 @@ fn ask<L: Log, E: ProcessList, R: Wait>(
     requires idle { IsTrue (is_idle job.now.graph.now initiator) }
     ensures runner { runner.new ≡ runner.old }
     ensures sits { SitsIn job.now.shared.now seat.new }
-    ensures share { (known seat.new).lock.share ≡ (known seat.old).lock.share }
+    ensures share { (board_view seat.new).lock.share ≡ (board_view seat.old).lock.share }
     ensures answered { IfOk result (IsAnswered
-        job.now.graph.now job.now.plan.now.choices initiator (known seat.old) (known seat.new)) }
+        job.now.graph.now job.now.plan.now.choices initiator (board_view seat.old) (board_view seat.new)) }
 {
     if let Look::Known(verdict) = job.shared.board.look(seat, initiator) {
         return Ok(Answer { verdict, run: None });
@@ -88,10 +88,10 @@ fn find_one<L: Log, E: ProcessList, R: Wait, G: Gate>(
     requires idle { IsTrue (is_idle job.now.graph.now initiator) }
     ensures runner { runner.new ≡ runner.old }
     ensures sits { SitsIn job.now.shared.now seat.new }
-    ensures share { (known seat.new).lock.share ≡ (known seat.old).lock.share }
+    ensures share { (board_view seat.new).lock.share ≡ (board_view seat.old).lock.share }
     ensures is { IfOk result (λ f. f.initiator ≡ initiator) }
     ensures recorded { IfOk result (IsRecorded E.processes
-        job.now.graph.now job.now.plan.now.choices (known seat.old) (known seat.new)) }
+        job.now.graph.now job.now.plan.now.choices (board_view seat.old) (board_view seat.new)) }
 {
     gate.pass(initiator);
     let Answer { verdict, run } = ask(rt, alloc, job, runner, seat, initiator)?;
@@ -123,12 +123,12 @@ fn find_each<L: Log, E: ProcessList, R: Wait, G: Gate>(
     requires sits { SitsIn job.now.shared.now seat.old }
     requires idle { All (λ p. IsTrue (is_idle job.now.graph.now p)) chunk.now }
     requires accounts { Accounts E.processes
-        job.now.graph.now job.now.plan.now.choices (known seat.old) found.old.items }
+        job.now.graph.now job.now.plan.now.choices (board_view seat.old) found.old.items }
     ensures runner { runner.new ≡ runner.old }
     ensures sits { SitsIn job.now.shared.now seat.new }
-    ensures share { (known seat.new).lock.share ≡ (known seat.old).lock.share }
+    ensures share { (board_view seat.new).lock.share ≡ (board_view seat.old).lock.share }
     ensures accounts { OnOk result (Accounts E.processes
-        job.now.graph.now job.now.plan.now.choices (known seat.new) found.new.items) }
+        job.now.graph.now job.now.plan.now.choices (board_view seat.new) found.new.items) }
     ensures order { OnOk result (map finding_initiator found.new.items
         ≡ map finding_initiator found.old.items ++ chunk.now) }
 {

@@ -3,8 +3,8 @@
 ghost use Rattle.std.specs.Prelude.{◌≡◌, ◌+◌, ◌<◌, ◌≤◌, ◌++◌, IfOk, IfSome, IfNone, IsOkAnd};
 ghost use Rattle.std.specs.Thread.{IsSync};
 ghost use Rattle.cmh_rw.specs.History.{StartsWith};
-ghost use Rattle.cmh_rw.specs.View.{joined};
-ghost use Rattle.cmh_board.specs.Board.{known};
+ghost use Rattle.cmh_rw.specs.View.{joined_view};
+ghost use Rattle.cmh_board.specs.Board.{board_view};
 ghost use Rattle.cmh_work.specs.TicketSeats.{ticket_view};
 ghost use Rattle.cmh_work.specs.Tickets.{joined_views};
 ghost use Rattle.cmh_work.specs.Working.{IsMadeFor, AreSeated, AreNew, AreBack, IsWorked};
@@ -37,11 +37,11 @@ fn concat_findings<L: Log, E: ProcessList>(
 fn split_off(shared: &Shared, seats: &mut Seats) -> Option<Seats>
     requires sit { AreSeated shared.now seats.old }
     requires new { AreNew seats.old }
-    requires share { (known seats.old.board).lock.share ≡ (ticket_view seats.old.tickets).share }
+    requires share { (board_view seats.old.board).lock.share ≡ (ticket_view seats.old.tickets).share }
     ensures sit { AreSeated shared.now seats.new × AreNew seats.new }
-    ensures share { (known seats.new.board).lock.share ≡ (ticket_view seats.new.tickets).share }
+    ensures share { (board_view seats.new.board).lock.share ≡ (ticket_view seats.new.tickets).share }
     ensures new { IfSome result (λ s. AreSeated shared.now s × AreNew s
-        × ((known s.board).lock.share ≡ 1) × ((ticket_view s.tickets).share ≡ 1)) }
+        × ((board_view s.board).lock.share ≡ 1) × ((ticket_view s.tickets).share ≡ 1)) }
     ensures less { IfSome result (λ s.
         (ticket_view seats.new.tickets).share + 1 ≡ (ticket_view seats.old.tickets).share) }
     ensures none { IfNone result (((ticket_view seats.old.tickets).share ≤ 1)
@@ -61,10 +61,10 @@ fn take_back(shared: &Shared, seats: &mut Seats, other: Seats)
     ensures sit { AreSeated shared.now seats.new }
     ensures tickets { ticket_view seats.new.tickets
         ≡ joined_views (ticket_view seats.old.tickets) (ticket_view other.tickets) }
-    ensures board { known seats.new.board
-        ≡ joined (known seats.old.board) (known other.board) }
-    ensures begins { StartsWith (known seats.new.board).seen (known seats.old.board).seen
-        × StartsWith (known seats.new.board).seen (known other.board).seen }
+    ensures board { board_view seats.new.board
+        ≡ joined_view (board_view seats.old.board) (board_view other.board) }
+    ensures begins { StartsWith (board_view seats.new.board).seen (board_view seats.old.board).seen
+        × StartsWith (board_view seats.new.board).seen (board_view other.board).seen }
 {
     let Seats { board, tickets } = other;
     shared.tickets.join(&mut seats.tickets, tickets);
@@ -85,7 +85,7 @@ pub(crate) fn workers<L: Log + Send, E: ProcessList + Send, R: Threads + Wait + 
 ) -> (Seats, Result<Vec<Finding<RunLog<L, E>, E>>, AllocError>)
     requires made { IsMadeFor graph.now plan.now shared.now }
     requires sit { AreSeated shared.now seats }
-    requires same { (known seats.board).lock.share ≡ (ticket_view seats.tickets).share }
+    requires same { (board_view seats.board).lock.share ≡ (ticket_view seats.tickets).share }
     requires new { AreNew seats }
     requires share { others < (ticket_view seats.tickets).share }
     ensures back { AreBack shared.now seats result.0 }
@@ -111,7 +111,7 @@ pub(crate) fn workers<L: Log + Send, E: ProcessList + Send, R: Threads + Wait + 
         || -> (Seats, Result<Vec<Finding<RunLog<L, E>, E>>, AllocError>)
             requires { IsSync R.row × IsMadeFor graph.now plan.now shared.now
                 × AreSeated shared.now rest
-                × ((known rest.board).lock.share ≡ (ticket_view rest.tickets).share)
+                × ((board_view rest.board).lock.share ≡ (ticket_view rest.tickets).share)
                 × AreNew rest × (fewer < (ticket_view rest.tickets).share) }
             ensures { AreBack shared.entry.now rest result.0 × IfOk result.1 (λ found. IsWorked E.processes
                 graph.entry.now plan.entry.now shared.entry.now result.0 found.items) }

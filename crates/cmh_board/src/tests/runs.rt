@@ -2,7 +2,7 @@
 
 ghost use Rattle.std.specs.Prelude.{◌≡◌, IfOk};
 ghost use Rattle.cmh_run.specs.Run.{TellsTruth};
-ghost use Rattle.cmh_board.specs.Board.{known, board_graph, SitsAt, IsAway, SeesMore, AnswersPost};
+ghost use Rattle.cmh_board.specs.Board.{board_view, board_graph, SitsAt, IsAway, SeesMore, AnswersPost};
 ghost use Rattle.cmh_board.specs.Posting.{posting_of};
 
 use crate::{Board, BoardHints, BoardSeat, Post, Posting};
@@ -21,7 +21,7 @@ pub(super) fn run_with_hints(
     requires graph { board_graph board.now ≡ graph.now }
     requires sits { SitsAt board.now seat.old × IsAway seat.old }
     ensures sits { SitsAt board.now seat.new × IsAway seat.new }
-    ensures sees { SeesMore (known seat.old) (known seat.new) }
+    ensures sees { SeesMore (board_view seat.old) (board_view seat.new) }
     ensures truth { IfOk result (TellsTruth graph.now) }
 {
     let mut hints = BoardHints::new(board, seat);
@@ -33,7 +33,7 @@ pub(super) fn try_post_run(board: &Board, seat: &mut BoardSeat, run: &RunLog) ->
     requires sits { SitsAt board.now seat.old × IsAway seat.old }
     requires truth { TellsTruth (board_graph board.now) run.now }
     ensures sits { SitsAt board.now seat.new × IsAway seat.new }
-    ensures answer { AnswersPost (posting_of run.now) (known seat.old) (known seat.new) result }
+    ensures answer { AnswersPost (posting_of run.now) (board_view seat.old) (board_view seat.new) result }
 {
     board.try_post(seat, &Posting::of_run(run))
 }

@@ -6,8 +6,8 @@ ghost use Rattle.cmh_graph.specs.Graph.{process_count, is_idle};
 ghost use Rattle.cmh_graph.specs.Verdict.{verdict, verdicts};
 ghost use Rattle.cmh_rw.specs.declared.machine.SeatState.TheVariants.{Writing};
 ghost use Rattle.cmh_rw.specs.History.{fold_at};
-ghost use Rattle.cmh_rw.specs.View.{loaded};
-ghost use Rattle.cmh_rw.specs.Seats.{view, IsSeatOf, IsAway};
+ghost use Rattle.cmh_rw.specs.View.{view_after_load};
+ghost use Rattle.cmh_rw.specs.Seats.{rw_view, IsSeatOf, IsAway};
 
 use crate::{Entry, FIRST_VERDICT, RwSeat, RwWords};
 use cmh_graph::{Verdict, WaitGraph};
@@ -24,13 +24,13 @@ pub(super) fn verdict_of(graph: &WaitGraph, all: &[Verdict], p: u32) -> Verdict
 /// Whether no row names the process, as a writer sees it that has staged nothing.
 pub(super) fn is_new(words: &RwWords, seat: &mut RwSeat, p: u32) -> bool
     requires own { IsSeatOf words.now seat.old }
-    requires writing { (view seat.old).lock.state ≡ Writing }
-    requires loaded { IsTrue (view seat.old).loaded }
-    requires clear { (view seat.old).told ≡ [] }
+    requires writing { (rw_view seat.old).lock.state ≡ Writing }
+    requires loaded { IsTrue (rw_view seat.old).loaded }
+    requires clear { (rw_view seat.old).told ≡ [] }
     requires within { p < MAX_PROCESSES }
     ensures own { IsSeatOf words.now seat.new }
-    ensures view { view seat.new ≡ loaded (view seat.old) (view seat.old).seen }
-    ensures new { IsTrue result → fold_at (view seat.old).seen p ≡ None }
+    ensures view { rw_view seat.new ≡ view_after_load (rw_view seat.old) (rw_view seat.old).seen }
+    ensures new { IsTrue result → fold_at (rw_view seat.old).seen p ≡ None }
 {
     words.load(seat, FIRST_VERDICT + p as usize) == 0
 }
@@ -43,7 +43,7 @@ pub(super) fn finds_one_of_two(words: &RwWords, seat: &mut RwSeat, p: u32, q: u3
     requires within { (p < MAX_PROCESSES) × (q < MAX_PROCESSES) }
     ensures own { IsSeatOf words.now seat.new }
     ensures away { IsAway seat.new }
-    ensures graph { (view seat.new).lock.graph ≡ (view seat.old).lock.graph }
+    ensures graph { (rw_view seat.new).lock.graph ≡ (rw_view seat.old).lock.graph }
 {
     if words.try_read(seat) != Entry::Held {
         return false;
@@ -64,21 +64,21 @@ pub(super) fn store_two(
     steps: u32,
 )
     requires own { IsSeatOf words.now seat.old }
-    requires writing { (view seat.old).lock.state ≡ Writing }
-    requires loaded { IsTrue (view seat.old).loaded }
-    requires count { n ≡ length (view seat.old).seen }
+    requires writing { (rw_view seat.old).lock.state ≡ Writing }
+    requires loaded { IsTrue (rw_view seat.old).loaded }
+    requires count { n ≡ length (rw_view seat.old).seen }
     requires few { n ≤ MAX_PROCESSES }
-    requires clear { ((view seat.old).staged ≡ []) × ((view seat.old).told ≡ []) }
-    requires idle { IsTrue (is_idle (view seat.old).lock.graph first.0)
-        × IsTrue (is_idle (view seat.old).lock.graph second.0) }
-    requires verdicts { (first.1 ≡ verdict (view seat.old).lock.graph first.0)
-        × (second.1 ≡ verdict (view seat.old).lock.graph second.0) }
-    requires new { (fold_at (view seat.old).seen first.0 ≡ None)
-        × (fold_at (view seat.old).seen second.0 ≡ None) }
+    requires clear { ((rw_view seat.old).staged ≡ []) × ((rw_view seat.old).told ≡ []) }
+    requires idle { IsTrue (is_idle (rw_view seat.old).lock.graph first.0)
+        × IsTrue (is_idle (rw_view seat.old).lock.graph second.0) }
+    requires verdicts { (first.1 ≡ verdict (rw_view seat.old).lock.graph first.0)
+        × (second.1 ≡ verdict (rw_view seat.old).lock.graph second.0) }
+    requires new { (fold_at (rw_view seat.old).seen first.0 ≡ None)
+        × (fold_at (rw_view seat.old).seen second.0 ≡ None) }
     requires two { first.0 ≢ second.0 }
     ensures own { IsSeatOf words.now seat.new }
-    ensures counted { 5 ≤ steps → (view seat.new).staged ≡ [] }
-    ensures lock { 5 ≤ steps → (view seat.new).lock ≡ (view seat.old).lock }
+    ensures counted { 5 ≤ steps → (rw_view seat.new).staged ≡ [] }
+    ensures lock { 5 ≤ steps → (rw_view seat.new).lock ≡ (rw_view seat.old).lock }
 {
     if steps == 0 {
         return;
@@ -113,11 +113,11 @@ pub(super) fn post_two(
 )
     requires own { IsSeatOf words.now seat.old }
     requires away { IsAway seat.old }
-    requires graph { (view seat.old).lock.graph ≡ graph.now }
+    requires graph { (rw_view seat.old).lock.graph ≡ graph.now }
     requires all { all.now ≡ verdicts graph.now }
     ensures own { IsSeatOf words.now seat.new }
     ensures away { IsAway seat.new }
-    ensures graph { (view seat.new).lock.graph ≡ graph.now }
+    ensures graph { (rw_view seat.new).lock.graph ≡ graph.now }
 {
     let count = graph.len();
     if p >= count || q >= count || p == q || !graph.is_idle(p) || !graph.is_idle(q) {

@@ -2,7 +2,7 @@
 
 ghost use Rattle.std.specs.Prelude.{◌≡◌, ◌<◌};
 ghost use Rattle.cmh_graph.specs.Verdict.{verdicts};
-ghost use Rattle.cmh_rw.specs.Seats.{view, IsSeatOf, IsAway};
+ghost use Rattle.cmh_rw.specs.Seats.{rw_view, IsSeatOf, IsAway};
 
 use super::expect;
 use super::graphs::two_in_a_cycle;
@@ -16,7 +16,7 @@ use std::test::Fail;
 fn take_steps(words: &RwWords, seat: RwSeat, graph: &WaitGraph, all: &[Verdict], steps: u32)
     requires own { IsSeatOf words.now seat }
     requires away { IsAway seat }
-    requires graph { (view seat).lock.graph ≡ graph.now }
+    requires graph { (rw_view seat).lock.graph ≡ graph.now }
     requires all { all.now ≡ verdicts graph.now }
 {
     let mut seat = seat;

@@ -19,8 +19,8 @@ items_fit-loop-item-preserved t c =
     c.deref-item-items.result.now c.loop-item.item-index c.item-item.result c.loop-item-test.true c.item-item.is
     c.loop-item.invariant
     (elim c.else-not-is_text.branch [
-      items_fit-else-not-is_text-via-then-not-is_text+else-not-fits w ↦ sym w.fits.ensures ∙ w.if-not-fits.false
-    | items_fit-else-not-is_text-via-else-not-is_text w ↦ c.is_text.ensures w.if-not-is_text.false
+      | items_fit-else-not-is_text-via-then-not-is_text+else-not-fits w ↦ sym w.fits.ensures ∙ w.if-not-fits.false
+      | items_fit-else-not-is_text-via-else-not-is_text w ↦ c.is_text.ensures w.if-not-is_text.false
     ])
 
 pub items_fit-returns : goal.items_fit-returns

@@ -1,6 +1,6 @@
 use Rattle.std.proofs.Common.{◌≡◌, ◌∙◌, ◌++◌, ◌∷◌, [], ap}
 use Rattle.std.specs.Prelude.{codes, decimal, string_bytes}
-use Rattle.cmh_report.specs.Report.{names, names_or_dash, spaced}
+use Rattle.cmh_report.specs.Report.{names_of, names_or_dash, spaced_words}
 use Rattle.cmh_report.proofs.Words.{group_pieces}
 use Rattle.cmh_report.proofs.lines.push_group.Goals as goal
 
@@ -8,9 +8,9 @@ pub returns-clause-text : goal.returns-clause-text
 returns-clause-text c =
     let g = c.args.graph.now in
     let core = c.in_ok-push_names.ensures
-    ∙ ap (λ ps. string_bytes c.write.new.self ++ spaced (names g ps)) c.deref-2.ensures.value in
+    ∙ ap (λ ps. string_bytes c.write.new.self ++ spaced_words (names_of g ps)) c.deref-2.ensures.value in
     let rest = c.in_ok-push_names_or_dash.ensures.text
-    ∙ ap (λ ps. string_bytes c.push_str.new.self ++ spaced (names_or_dash g ps)) c.deref-3.ensures.value in
+    ∙ ap (λ ps. string_bytes c.push_str.new.self ++ spaced_words (names_or_dash g ps)) c.deref-3.ensures.value in
     let front = codes "group " ++ (decimal c.args.group.now.number ++ codes " |") in
     let first : string_bytes c.write.new.self ≡ string_bytes c.args.text.now ++ front =
     c.in_ok-write.ensures.bytes ∙ ap (λ xs. xs ++ front) c.reserve.ensures.bytes in

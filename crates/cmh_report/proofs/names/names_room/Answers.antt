@@ -1,5 +1,5 @@
 use Rattle.std.proofs.Common.{◌-◌, ◌^◌, ◌∙◌, ap, arith, length, min, take_all}
-use Rattle.cmh_report.specs.Report.{names, spaced}
+use Rattle.cmh_report.specs.Report.{names_of, spaced_words}
 use Rattle.cmh_report.proofs.SpacedNames.{names_more}
 use Rattle.cmh_report.proofs.names.names_room.Goals as goal
 
@@ -17,5 +17,5 @@ loop-p-preserved c =
 pub returns : goal.returns
 returns c =
     c.loop-p.invariant
-    ∙ ap (λ ps. min (length (spaced (names c.args.graph.now ps))) (2 ^ 64 - 1))
+    ∙ ap (λ ps. min (length (spaced_words (names_of c.args.graph.now ps))) (2 ^ 64 - 1))
     (take_all c.loop-p.p-index c.args.list.now c.loop-p-test.false)

@@ -5,7 +5,7 @@ use Rattle.cmh_graph.specs.Graph.{process_count}
 use Rattle.cmh_rw.specs.declared.row.Row.{Row}
 use Rattle.cmh_rw.specs.History.{IsTrueOf}
 use Rattle.cmh_rw.proofs.Folds.{true-few}
-use Rattle.cmh_board.specs.Board.{known, IsMadeOf}
+use Rattle.cmh_board.specs.Board.{board_view, IsMadeOf}
 use Rattle.cmh_work.specs.Finding.{finding_initiator}
 use Rattle.cmh_work.specs.Numbering.{Stands, AreNumbered}
 use Rattle.cmh_work.specs.Working.{IsWorked}
@@ -26,7 +26,7 @@ number_all-requires-clause-stand g c =
     c.workers-seats.ensures.worked in
     let sound =
     all_stand g.E.ProcessList.processes gr plan.choices rows
-    (known seats.board).seen c.in_ok-found.found.items sorted c.sort_unstable_by_key.ensures.permutation
+    (board_view seats.board).seen c.in_ok-found.found.items sorted c.sort_unstable_by_key.ensures.permutation
     (given c.close.result c.map_err.result c.in_ok-history.history _ _ c.map_err.ensures.cases
     c.in_ok-history.was c.close.ensures.begins) w.of.accounts.sound in
     subst (λ l. All (Stands l) sorted) (sym c.deref.ensures.value) (λ k d low. (sound k d low).stands)
@@ -72,7 +72,7 @@ returns g c =
     subst (λ x. IsTrueOf x rows) c.requires.made.board
     (given c.close.result c.map_err.result c.in_ok-history.history _ _ c.map_err.ensures.cases
     c.in_ok-history.was c.close.ensures.true_of) in
-    let made : IsMadeOf (known seats.board).mine rows =
+    let made : IsMadeOf (board_view seats.board).mine rows =
     given c.close.result c.map_err.result c.in_ok-history.history _ _ c.map_err.ensures.cases c.in_ok-history.was
     c.close.ensures.own (back.board ∙ c.requires.board) in
     let numbered : AreNumbered rows sorted c.in_ok-records.records.items =

@@ -1,6 +1,6 @@
 use Rattle.std.proofs.Common.{rules, subst, sym}
 use Rattle.std.specs.Prelude.{Some}
-use Rattle.cmh_board.specs.Board.{known, AddsPosting}
+use Rattle.cmh_board.specs.Board.{board_view, AddsPosting}
 use Rattle.cmh_work.specs.Finding.{IsAnswered}
 use Rattle.cmh_work.proofs.AccountsLemmas.{ran}
 use Rattle.cmh_work.proofs.worker.ask.Goals as goal
@@ -11,19 +11,19 @@ returns g c =
     let choices = c.args.job.now.plan.now.choices in
     let p = c.args.initiator in
     let run = c.in_ok-run.run' in
-    let w = known c.post.new.seat in
+    let w = board_view c.post.new.seat in
     let added =
-    subst (λ t. AddsPosting t (known c.run_of.new.seat) w) c.of_run.ensures.whole c.post.ensures.posts.added in
+    subst (λ t. AddsPosting t (board_view c.run_of.new.seat) w) c.of_run.ensures.whole c.post.ensures.posts.added in
     let answered =
-    subst (λ v. IsAnswered gr choices p (known c.args.seat.now) w record { verdict = v; run = Some run })
+    subst (λ v. IsAnswered gr choices p (board_view c.args.seat.now) w record { verdict = v; run = Some run })
     (sym c.verdict.ensures)
-    (ran gr choices p (known c.args.seat.now) (known c.look.new.seat)
-    (known c.run_of.new.seat) w run c.look.ensures.sees c.run_of.ensures.sees (search rules)
+    (ran gr choices p (board_view c.args.seat.now) (board_view c.look.new.seat)
+    (board_view c.run_of.new.seat) w run c.look.ensures.sees c.run_of.ensures.sees (search rules)
     (search rules) added) in record {
       runner = search rules;
       sits = search rules;
       share = search rules;
       answered =
-          subst (λ kept. IsAnswered gr choices p (known c.args.seat.now) w record
+          subst (λ kept. IsAnswered gr choices p (board_view c.args.seat.now) w record
           { verdict = c.verdict.result; run = Some kept }) (sym c.keeping.ensures) answered;
     }

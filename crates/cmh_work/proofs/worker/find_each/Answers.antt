@@ -1,6 +1,6 @@
 use Rattle.std.proofs.Common.{◌≡◌, [], ◌∷◌, ◌++◌, rules, sym, subst, arith}
 use Rattle.std.proofs.lemmas.Grind.{common_steps}
-use Rattle.cmh_board.specs.Board.{known}
+use Rattle.cmh_board.specs.Board.{board_view}
 use Rattle.cmh_work.specs.Finding.{Accounts}
 use Rattle.cmh_work.proofs.AccountsLemmas.{accounts_more}
 use Rattle.cmh_work.proofs.worker.find_each.Goals as goal
@@ -9,8 +9,8 @@ pub loop-initiator-preserved : goal.loop-initiator-preserved
 loop-initiator-preserved g c =
     let gr = c.args.job.now.graph.now in
     let choices = c.args.job.now.plan.now.choices in
-    let v = known c.loop-initiator.seat in
-    let w = known c.find_one.new.seat in
+    let v = board_view c.loop-initiator.seat in
+    let w = board_view c.find_one.new.seat in
     let pushed : c.push.new.self.items ≡ c.loop-initiator.found.items ++ c.in_ok-finding.finding ∷ [] =
     search rules in record {
       runner = search rules;

@@ -1,5 +1,5 @@
 use Rattle.std.proofs.Common.{◌≡◌, ◌+◌, ap, arith}
-use Rattle.cmh_board.specs.Board.{known}
+use Rattle.cmh_board.specs.Board.{board_view}
 use Rattle.cmh_work.specs.TicketSeats.{ticket_view}
 use Rattle.cmh_work.specs.Working.{AreBack, IsWorked}
 use Rattle.cmh_work.proofs.FindingLemmas.{collected, joined_worked}
@@ -20,8 +20,8 @@ returns-clause-back g t c =
     let tickets : (ticket_view c.take_back.new.seats.tickets).share
     ≡ (ticket_view c.join-one.result.1.0.tickets).share + (ticket_view c.join-one.result.0.0.tickets).share =
     ap (λ v. v.share) c.take_back.ensures.tickets in
-    let board : (known c.take_back.new.seats.board).lock.share
-    ≡ (known c.join-one.result.1.0.board).lock.share + (known c.join-one.result.0.0.board).lock.share =
+    let board : (board_view c.take_back.new.seats.board).lock.share
+    ≡ (board_view c.join-one.result.1.0.board).lock.share + (board_view c.join-one.result.0.0.board).lock.share =
     ap (λ v. v.lock.share) c.take_back.ensures.board in
     let t1 = first.tickets in
     let t2 = second.tickets in

@@ -1,9 +1,9 @@
 use Rattle.std.proofs.Common.{◌≤◌, arith, subst, sym, refl}
-use Rattle.cmh_rw.specs.History.{laid, StartsWith, IsHistory, IsTrueOf}
+use Rattle.cmh_rw.specs.History.{rows_in, StartsWith, IsHistory, IsTrueOf}
 use Rattle.cmh_rw.specs.Seats.{words_of}
 use Rattle.cmh_rw.proofs.Folds.{true-few}
 use Rattle.cmh_rw.proofs.Postings.{seen-prefix}
-use Rattle.cmh_board.specs.Board.{known, board_graph, IsMadeOf}
+use Rattle.cmh_board.specs.Board.{board_view, board_graph, IsMadeOf}
 use Rattle.cmh_board.proofs.Closings.{shows_history, made_of}
 use Rattle.cmh_board.proofs.board.Board.close.Goals as goal
 
@@ -12,28 +12,31 @@ read_closed-requires-clause-room c =
     let h = c.close_with-closed.ensures.history in
     let key = board_graph c.args.self in
     let small = subst (λ n. n ≤ 4096) c.args.self.counted c.args.self.small in
-    let few = true-few key (laid h.postings) h.true_of in
+    let few = true-few key (rows_in h.postings) h.true_of in
     let room = c.in_ok-rows.ensures.capacity in
-    let counted = c.args.self.counted in
-    (laid h.postings, shows_history key (known c.args.seat) (words_of c.close_with-closed.result) h small, omega arith)
+    let counted = c.args.self.counted in (
+      rows_in h.postings,
+      shows_history key (board_view c.args.seat) (words_of c.close_with-closed.result) h small,
+      omega arith,
+    )
 
 pub returns-clause-begins : goal.returns-clause-begins
 returns-clause-begins c =
     let h = c.close_with-closed.ensures.history in
     let key = board_graph c.args.self in
     let small = subst (λ n. n ≤ 4096) c.args.self.counted c.args.self.small in
-    let shown = shows_history key (known c.args.seat) (words_of c.close_with-closed.result) h small in
-    let read = c.read_closed.ensures (laid h.postings) shown in
-    subst (λ l. StartsWith l (known c.args.seat).seen) (sym read)
-    (seen-prefix (known c.args.seat).seen h.postings h.seen)
+    let shown = shows_history key (board_view c.args.seat) (words_of c.close_with-closed.result) h small in
+    let read = c.read_closed.ensures (rows_in h.postings) shown in
+    subst (λ l. StartsWith l (board_view c.args.seat).seen) (sym read)
+    (seen-prefix (board_view c.args.seat).seen h.postings h.seen)
 
 pub returns-clause-whole : goal.returns-clause-whole
 returns-clause-whole c =
     let h = c.close_with-closed.ensures.history in
     let key = board_graph c.args.self in
     let small = subst (λ n. n ≤ 4096) c.args.self.counted c.args.self.small in
-    let shown = shows_history key (known c.args.seat) (words_of c.close_with-closed.result) h small in
-    let read = c.read_closed.ensures (laid h.postings) shown in
+    let shown = shows_history key (board_view c.args.seat) (words_of c.close_with-closed.result) h small in
+    let read = c.read_closed.ensures (rows_in h.postings) shown in
     subst IsHistory (sym read) (h.postings, refl, h.whole)
 
 pub returns-clause-true_of : goal.returns-clause-true_of
@@ -41,8 +44,8 @@ returns-clause-true_of c =
     let h = c.close_with-closed.ensures.history in
     let key = board_graph c.args.self in
     let small = subst (λ n. n ≤ 4096) c.args.self.counted c.args.self.small in
-    let shown = shows_history key (known c.args.seat) (words_of c.close_with-closed.result) h small in
-    let read = c.read_closed.ensures (laid h.postings) shown in
+    let shown = shows_history key (board_view c.args.seat) (words_of c.close_with-closed.result) h small in
+    let read = c.read_closed.ensures (rows_in h.postings) shown in
     subst (IsTrueOf key) (sym read) h.true_of
 
 pub returns-clause-own : goal.returns-clause-own
@@ -50,7 +53,7 @@ returns-clause-own c = λ whole.
     let h = c.close_with-closed.ensures.history in
     let key = board_graph c.args.self in
     let small = subst (λ n. n ≤ 4096) c.args.self.counted c.args.self.small in
-    let shown = shows_history key (known c.args.seat) (words_of c.close_with-closed.result) h small in
-    let read = c.read_closed.ensures (laid h.postings) shown in
-    subst (IsMadeOf (known c.args.seat).mine) (sym read)
-    (made_of key (known c.args.seat) (words_of c.close_with-closed.result) h whole)
+    let shown = shows_history key (board_view c.args.seat) (words_of c.close_with-closed.result) h small in
+    let read = c.read_closed.ensures (rows_in h.postings) shown in
+    subst (IsMadeOf (board_view c.args.seat).mine) (sym read)
+    (made_of key (board_view c.args.seat) (words_of c.close_with-closed.result) h whole)

@@ -1,6 +1,6 @@
 use Rattle.std.proofs.Common.{◌≡◌, ◌<◌, arith, sym, ap, ◌∙◌, ◌++◌, ◌∷◌, [], take, length}
 use Rattle.std.proofs.lemmas.List.{length-take-le}
-use Rattle.cmh_board.specs.Board.{known, board_graph}
+use Rattle.cmh_board.specs.Board.{board_view, board_graph}
 use Rattle.cmh_board.proofs.Holds.{held_on}
 use Rattle.cmh_board.proofs.RowWords.{row_within, take_got}
 use Rattle.cmh_board.proofs.board.Board.read_rows.Goals as goal
@@ -8,7 +8,7 @@ use Rattle.cmh_board.proofs.board.Board.read_rows.Goals as goal
 pub push_reserved-requires : goal.push_reserved-requires
 push_reserved-requires c =
     let held = c.loop-n.invariant.0 in
-    let seen = (known c.loop-n.seat).seen in
+    let seen = (board_view c.loop-n.seat).seen in
     let count = c.loop-n.invariant.1 in
     let below : c.loop-n.n < length seen = omega (arith, c.loop-n-test.true) in
     let within = row_within (board_graph c.args.self.now) seen c.loop-n.n held.sits.true_of below in
@@ -20,8 +20,8 @@ pub loop-n-preserved : goal.loop-n-preserved
 loop-n-preserved c =
     let held = c.loop-n.invariant.0 in
     let row = c.held_row-row.ensures in
-    let old = (known c.loop-n.seat).seen in
-    let new = (known c.held_row-row.new.seat).seen in
+    let old = (board_view c.loop-n.seat).seen in
+    let new = (board_view c.held_row-row.new.seat).seen in
     let same : new ≡ old = row.reads.same held.reads.loaded in (
       held_on c.args.self.now c.args.seat.now c.loop-n.seat c.held_row-row.new.seat held row.sits row.sees row.reads,
       c.loop-n.invariant.1 ∙ ap length (sym same),

@@ -1,7 +1,7 @@
 use Rattle.std.proofs.Common.{ap, subst, sym, ◌∙◌}
 use Rattle.cmh_rw.specs.declared.view.View.{View}
-use Rattle.cmh_rw.specs.Seats.{view}
-use Rattle.cmh_board.specs.Board.{known, board_graph}
+use Rattle.cmh_rw.specs.Seats.{rw_view}
+use Rattle.cmh_board.specs.Board.{board_view, board_graph}
 use Rattle.cmh_board.specs.Adding.{CanPost}
 use Rattle.cmh_board.proofs.AddingLemmas.{can_post, posts_from}
 use Rattle.cmh_board.proofs.board.Board.try_post.Goals as goal
@@ -15,6 +15,6 @@ add-requires-clause-can c =
 
 pub returns-in-Held-clause-answer : goal.returns-in-Held-clause-answer
 returns-in-Held-clause-answer c =
-    posts_from c.args.posting.now (known c.args.seat.now) (view c.try_write.new.seat) (view c.add.new.seat)
-    (view c.end_write.new.seat)
+    posts_from c.args.posting.now (board_view c.args.seat.now) (rw_view c.try_write.new.seat) (rw_view c.add.new.seat)
+    (rw_view c.end_write.new.seat)
     c.in-Held.ensures.tried.0 c.add.ensures.adds c.end_write.ensures.ended

@@ -3,7 +3,7 @@ use Rattle.std.specs.Prelude.{All, Err, Ok, OnOk, Result, is_ok, string_bytes}
 use Rattle.std.specs.declared.alloc.AllocError.{AllocError}
 use Rattle.cmh_graph.specs.Graph.{Graph, process_count}
 use Rattle.cmh_report.specs.Names.{AreNamesOf, SharesEnd}
-use Rattle.cmh_report.specs.Report.{names, spaced}
+use Rattle.cmh_report.specs.Report.{names_of, spaced_words}
 use Rattle.cmh_report.specs.declared.names.LastNames.{LastNames}
 use Rattle.cmh_report.proofs.SpacedNames.{names_but, names_renewed}
 use Rattle.cmh_report.proofs.names.LastNames.renew.Goals as goal
@@ -59,11 +59,11 @@ returns-clause-known c =
   where
     known : (r : Result (Unit {0}) AllocError) (g : Graph) (last : LastNames) (cleared list : List ℕ)
         → last.list.items ≡ cond (is_ok r) (cleared ++ list) cleared → cleared ≡ []
-        → All (λ p. p < process_count g) list → OnOk r (string_bytes last.text ≡ spaced (names g list))
+        → All (λ p. p < process_count g) list → OnOk r (string_bytes last.text ≡ spaced_words (names_of g list))
         → OnOk r (AreNamesOf g last)
     known (Ok v) g last cleared list is none within text =
         let same : last.list.items ≡ list = is ∙ ap (λ xs. xs ++ list) none in record {
           within = subst (All (λ p. p < process_count g)) (sym same) within;
-          text = text ∙ ap (λ ps. spaced (names g ps)) (sym same);
+          text = text ∙ ap (λ ps. spaced_words (names_of g ps)) (sym same);
         }
     known (Err e) g last cleared list is none within text = tt

@@ -1,5 +1,5 @@
 use Rattle.std.proofs.Common.{[]}
-use Rattle.cmh_run.specs.Legal.{begun}
+use Rattle.cmh_run.specs.Legal.{going_at_start}
 use Rattle.cmh_run.proofs.CheckStateLemmas.{agrees_first}
 use Rattle.cmh_run.proofs.checker.Checker.begin.Goals as goal
 
@@ -7,8 +7,8 @@ use Rattle.cmh_run.proofs.checker.Checker.begin.Goals as goal
 pub returns : goal.returns
 returns c = record {
   ok = (
-    begun c.args.graph.now c.args.initiator [],
-    c.in_ok-settle.ensures.ok c.args.graph.now c.args.initiator [] (begun c.args.graph.now c.args.initiator [])
+    going_at_start c.args.graph.now c.args.initiator [],
+    c.in_ok-settle.ensures.ok c.args.graph.now c.args.initiator [] (going_at_start c.args.graph.now c.args.initiator [])
         (agrees_first c.args.graph.now c.args.initiator
         (record { network = c.in_ok-begun.field-0; undelivered = c.new.result })
         c.requires.graph c.requires.idle c.in_ok-begun.ensures.ok c.new.ensures),

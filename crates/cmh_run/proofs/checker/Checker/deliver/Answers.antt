@@ -1,8 +1,8 @@
 use Rattle.std.proofs.Common.{◌≡◌, ◌∷◌, [], ◌++◌, refl, sym, ◌∙◌, ap, subst, inr, cond, length}
 use Rattle.std.proofs.lemmas.Bool.{true≢false}
 use Rattle.cmh_graph.specs.Graph.{is_awake}
-use Rattle.cmh_run.specs.Config.{Config, received}
-use Rattle.cmh_run.specs.Legal.{after}
+use Rattle.cmh_run.specs.Config.{Config, after_message}
+use Rattle.cmh_run.specs.Legal.{going_after}
 use Rattle.cmh_run.specs.Packed.{EngagersHaveRoom}
 use Rattle.cmh_run.specs.CheckState.{CheckState}
 use Rattle.cmh_run.proofs.CheckLemmas.{network_size, awaited, where_none, is_there, delivery_within, delivery_sender, delivery_from, delivery_engagers, network_going, after_delivery}
@@ -96,11 +96,11 @@ returns-clause-ok c = λ log checked.
     where_none c.ending.result _ c.if-is_some.ensures c.ending.ensures.none c.args.graph.now c.args.initiator log
     checked.0 checked.1 checked.2 in
     let aw = c.if-not-take.ensures.found.0 refl in (
-      after c.args.graph.now c.args.initiator checked.0
+      going_after c.args.graph.now c.args.initiator checked.0
           (is_there c.args.graph.now c.args.initiator log checked.0 c.args.self.now c.args.delivery checked.1 checked.2
           no_end aw).0 c.args.delivery,
       c.in_ok-settle.ensures.ok c.args.graph.now c.args.initiator (log ++ c.args.delivery ∷ [])
-          (after c.args.graph.now c.args.initiator checked.0
+          (going_after c.args.graph.now c.args.initiator checked.0
           (is_there c.args.graph.now c.args.initiator log checked.0 c.args.self.now c.args.delivery checked.1
           checked.2 no_end aw).0 c.args.delivery)
           (after_delivery c.args.graph.now c.args.initiator log checked.0 c.args.self.now c.args.delivery checked.1
@@ -109,7 +109,7 @@ returns-clause-ok c = λ log checked.
           c.if-not-take.ensures.network (c.if-not-take.ensures.rest refl) (c.if-not-is_fit.ensures.0 refl)
           (subst (λ (a : CheckState). c.deliver.new.self
           ≡ cond (is_awake c.args.graph.now c.args.delivery.message.to) a.network
-          (received c.args.graph.now c.args.initiator a.network c.args.delivery.message
+          (after_message c.args.graph.now c.args.initiator a.network c.args.delivery.message
           c.args.delivery.message.kind c.args.delivery.hint))
           c.self.view_is c.in_ok-deliver.ensures.ok)
           (ap (λ (a : CheckState). a.undelivered) c.self.view_is)),

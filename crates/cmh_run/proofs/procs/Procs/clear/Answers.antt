@@ -1,7 +1,7 @@
 use Rattle.std.proofs.Common.{◌≡◌, ◌∙◌, ◌++◌, ◌∷◌, [], ap, rules, subst, sym}
 use Rattle.std.specs.Prelude.{option_to_list, replicate, slice_set}
 use Rattle.std.proofs.lemmas.List.{length-set}
-use Rattle.cmh_process.specs.Process.{fresh}
+use Rattle.cmh_process.specs.Process.{new_proc}
 use Rattle.cmh_run.specs.Procs.{AreTouched}
 use Rattle.cmh_run.proofs.TouchedProcesses.{all_clear, last_cleared}
 use Rattle.cmh_run.proofs.procs.Procs.clear.Goals as goal
@@ -24,4 +24,4 @@ returns c =
     let all = c.loop-k.self-inside.all.items in
     let none : c.loop-k.self-inside.touched.items ≡ [] = search rules in
     all_clear all (subst (λ ts. AreTouched ts all) none c.loop-k.invariant.touched)
-    ∙ ap (λ n. replicate n fresh) c.loop-k.invariant.size
+    ∙ ap (λ n. replicate n new_proc) c.loop-k.invariant.size
