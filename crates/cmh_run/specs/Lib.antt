@@ -11,4 +11,3 @@ pub mod Procs
 pub mod Run
 pub mod Script
 pub mod ScriptProofs
-pub mod Tape

@@ -1,11 +1,9 @@
 //! The deliveries that were made, and processes that were named. They exist only in proofs.
 
 ghost use Rattle.std.specs.Prelude.{◌≡◌, ℕ, List, [], ◌∷◌, ◌++◌, unwrap_or};
-ghost use Rattle.std.specs.Coded.{coded_list, coded_ℕ};
 ghost use Rattle.std.specs.Borrow.{ftrue};
 ghost use Rattle.cmh_graph.specs.ChosenPath.{chosen_path};
 ghost use Rattle.cmh_run.specs.declared.delivery.Delivery.{Delivery};
-ghost use Rattle.cmh_run.specs.Tape.{delivery_code};
 
 use crate::Delivery;
 use cmh_graph::WaitGraph;
@@ -15,7 +13,7 @@ use std::marker::Model;
 /// nothing when they run.
 #[derive(Drop)]
 pub(crate) struct Tape {
-    ghost deliveries: { List Delivery } by { coded_list delivery_code },
+    ghost deliveries: { List Delivery },
 }
 
 impl Model for Tape {
@@ -41,7 +39,7 @@ impl Tape {
 /// The processes that were named, in their order. It has no bytes either.
 #[derive(Drop)]
 pub(crate) struct ListTape {
-    ghost processes: { List ℕ } by { coded_list coded_ℕ },
+    ghost processes: { List ℕ },
 }
 
 impl Model for ListTape {

@@ -1,7 +1,6 @@
 //! The bytes that went by. They exist only in proofs.
 
 ghost use Rattle.std.specs.Prelude.{◌≡◌, ℕ, List, [], ◌++◌};
-ghost use Rattle.std.specs.Coded.{coded_list, coded_ℕ};
 ghost use Rattle.std.specs.Borrow.{ftrue};
 
 use std::marker::Model;
@@ -9,7 +8,7 @@ use std::marker::Model;
 /// A record that takes no memory: its methods do nothing when they run.
 #[derive(Drop)]
 pub(crate) struct Tape {
-    ghost bytes: { List ℕ } by { coded_list coded_ℕ },
+    ghost bytes: { List ℕ },
 }
 
 impl Model for Tape {
