@@ -7,10 +7,10 @@ use Rattle.cmh_dump.specs.declared.fault.DumpFault.{DumpFault}
 use Rattle.cmh_dump.specs.declared.fault.DumpFault.TheVariants as dump
 use Rattle.cmh_run.specs.declared.fault.RunFault.{RunFault}
 use Rattle.cmh_run.specs.declared.fault.RunFault.TheVariants as run
-use Rattle.cmh_work.specs.Plan.{IsFirstPlanFault}
-use Rattle.cmh_work.specs.declared.TheConstants.{MAX_CUTS}
-use Rattle.cmh_work.specs.declared.fault.PlanFault.{PlanFault}
-use Rattle.cmh_work.specs.declared.fault.PlanFault.TheVariants as plan
+use Rattle.cmh_plan.specs.Plan.{IsFirstPlanFault}
+use Rattle.cmh_plan.specs.declared.TheConstants.{MAX_CUTS}
+use Rattle.cmh_plan.specs.declared.fault.PlanFault.{PlanFault}
+use Rattle.cmh_plan.specs.declared.fault.PlanFault.TheVariants as plan
 use Rattle.cmh_report.specs.declared.fault.AppFault.{AppFault}
 use Rattle.cmh_report.specs.declared.fault.AppFault.TheVariants.{Dump, Work, NoSuchProcess, Run, Report, WriteFault}
 use Rattle.cmh_report.specs.Ends.{GaveGraph, IsAnswer, IsCutShort, IsRefused}

@@ -7,8 +7,8 @@ ghost use Rattle.cmh_command.specs.declared.TheConstants.{MAX_NUMBERS};
 
 use crate::tell::{refuse_list, refuse_plan};
 use cmh_command::{ListFault, PlanWords, read_list};
+use cmh_plan::{MAX_CUTS, Plan};
 use cmh_stream::Sink;
-use cmh_work::{MAX_CUTS, Plan};
 use std::alloc::Global;
 
 /// The numbers that the list of this option writes, or the status after its fault, which is told.

@@ -5,9 +5,9 @@ ghost use Rattle.cmh.specs.Status.{status_of as status_of_lem, status_of_list as
 
 use cmh_command::ListFault;
 use cmh_dump::DumpFault;
+use cmh_plan::PlanFault;
 use cmh_report::AppFault;
 use cmh_run::RunFault;
-use cmh_work::PlanFault;
 
 /// No process is deadlocked, or what was asked for is printed.
 pub(crate) const FREE: u8 = 0;

@@ -6,9 +6,9 @@ ghost use Rattle.cmh.specs.Status.{status_of as status_of_lem, status_of_list as
 
 use crate::status::{FAILED, MISUSED, status_of, status_of_list, status_of_plan};
 use cmh_command::ListFault;
+use cmh_plan::PlanFault;
 use cmh_report::AppFault;
 use cmh_stream::{Sink, put_all};
-use cmh_work::PlanFault;
 use std::fmt::Write;
 use std::{fmt, io};
 

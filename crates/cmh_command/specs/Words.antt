@@ -4,7 +4,7 @@ use Rattle.clap.specs.Words.{App, IsAmong, Row, Rule, Text, fault_of, first_of, 
 use Rattle.clap.specs.declared.error.kind.ErrorKind.{ErrorKind}
 use Rattle.clap.specs.declared.error.kind.ErrorKind.TheVariants.{DisplayHelp, DisplayVersion}
 use Rattle.clap.specs.declared.builder.value_parser.ValueParser.TheVariants as parser
-use Rattle.cmh_work.specs.declared.TheConstants.{MAX_WORKERS}
+use Rattle.cmh_plan.specs.declared.TheConstants.{MAX_WORKERS}
 use Rattle.cmh_command.specs.List.{number_of}
 use Rattle.cmh_command.specs.declared.request.PlanWords.{PlanWords}
 use Rattle.cmh_command.specs.declared.request.Request.{Request}

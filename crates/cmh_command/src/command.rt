@@ -6,7 +6,7 @@ ghost use Rattle.clap.specs.declared.builder.command.Command.TheViews.{out-Comma
 ghost use Rattle.cmh_command.specs.Words.{analyse_app, name_rule, option_rule, program, top_app, trace_app, workers_rule};
 
 use clap::{Arg, Command, value_parser};
-use cmh_work::MAX_WORKERS;
+use cmh_plan::MAX_WORKERS;
 use std::alloc::{AllocError, Global};
 
 const AFTER_HELP: &str = "\

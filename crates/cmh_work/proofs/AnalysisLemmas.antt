@@ -15,15 +15,15 @@ use Rattle.cmh_run.specs.Run.{Run}
 use Rattle.cmh_rw.specs.declared.row.Row.{Row}
 use Rattle.cmh_rw.specs.History.{StartsWith, IsTrueOf, fold_at}
 use Rattle.cmh_board.specs.Board.{board_view, IsMadeOf}
-use Rattle.cmh_work.specs.declared.TheConstants.{MAX_WORKERS}
+use Rattle.cmh_plan.specs.declared.TheConstants.{MAX_WORKERS}
+use Rattle.cmh_plan.specs.Plan.{Setup}
+use Rattle.cmh_plan.specs.TicketSeats.{ticket_view}
 use Rattle.cmh_work.specs.declared.finding.Finding.{Finding}
 use Rattle.cmh_work.specs.declared.job.Shared.{Shared}
 use Rattle.cmh_work.specs.declared.job.Seats.{Seats}
 use Rattle.cmh_work.specs.declared.record.Record.{Record}
 use Rattle.cmh_work.specs.declared.record.Origin.{Origin}
 use Rattle.cmh_work.specs.declared.record.Analysis.{Analysis}
-use Rattle.cmh_work.specs.Plan.{Setup}
-use Rattle.cmh_work.specs.TicketSeats.{ticket_view}
 use Rattle.cmh_work.specs.Shape.{IsShape}
 use Rattle.cmh_work.specs.Record.{IsRunFor, IsSource, IsTrueRecord}
 use Rattle.cmh_work.specs.Analysis.{initiator_of, records_of, history_of, IsAnalysisOf}

@@ -6,7 +6,7 @@ use Rattle.std.proofs.lemmas.List.Elements.{All-nil, All-take, All-drop}
 use Rattle.cmh_graph.specs.Graph.{Graph, is_idle, indices, idle_list}
 use Rattle.cmh_graph.proofs.Verdicts.{filter_contains}
 use Rattle.cmh_rw.specs.Machine.{total}
-use Rattle.cmh_work.specs.Tickets.{sum_below}
+use Rattle.cmh_plan.specs.Tickets.{sum_below}
 use Rattle.cmh_work.specs.Cutting.{bounds_of, chunks_of, ends_from, concat_chunks, ChunksLaw}
 use Rattle.cmh_rw.proofs.Lawful.{total-append}
 

@@ -1,11 +1,8 @@
 -- The definitions on worked examples, by computation.
-use Rattle.std.proofs.Common.{◌≡◌, ℕ, zero, suc, ◌<◌, Bool, true, false, Some, None, List, [], ◌∷◌, ◌++◌, map, All, refl, sym, ap, subst, ◌∙◌, arith}
+use Rattle.std.proofs.Common.{◌≡◌, ℕ, zero, suc, Bool, true, false, Some, None, List, [], ◌∷◌, ◌++◌, map, All, refl, sym, ap, subst, ◌∙◌, arith}
 use Rattle.std.specs.Prelude.{IsTrue, Contains}
 use Rattle.std.specs.Global.{Vec}
 use Rattle.std.proofs.lemmas.List.Elements.{All-nil, All-cons}
-use mathlib.Core.Option.{some, some-injective, some-ne-none}
-use lib.ListN.{get_elem?}
-use Rattle.atomic_table.specs.Table.{State}
 use Rattle.cmh_graph.specs.declared.part.State.TheVariants.{Idle}
 use Rattle.cmh_graph.specs.declared.verdict.Verdict.TheVariants.{Deadlocked}
 use Rattle.cmh_graph.specs.Graph.{Process, Graph, is_idle, IsWithinGraph}
@@ -26,12 +23,9 @@ use Rattle.cmh_work.specs.declared.record.Origin.{Origin}
 use Rattle.cmh_work.specs.declared.record.Origin.TheVariants.{FromRun, FromBoard}
 use Rattle.cmh_work.specs.declared.record.Shape.TheVariants.{Leader}
 use Rattle.cmh_work.specs.declared.record.Analysis.{Analysis}
-use Rattle.cmh_work.specs.declared.ticket_rule.TicketView.{TicketView}
 use Rattle.cmh_work.specs.Cutting.{chunks_of, bounds_of, concat_chunks}
 use Rattle.cmh_work.specs.Record.{IsRunFor, IsTrueRecord}
 use Rattle.cmh_work.specs.Analysis.{records_of, history_of, initiator_of, IsPostedBy, IsPostedByRecords, IsAnalysisOf}
-use Rattle.cmh_work.specs.Tickets.{IsTicketSeat, Dealt, ticket_opening_view, ticket_less_one, ticket_newcomer, with_drawn}
-use Rattle.cmh_work.proofs.DrawnNumbers.{drawn_once}
 
 -- the cuts 0, 1, 0 and 9 of three initiators: none, the first, none, the other two, none
 pub chunks_of_three : chunks_of (0 ∷ 1 ∷ 0 ∷ 9 ∷ []) (0 ∷ 1 ∷ 2 ∷ [])
@@ -304,50 +298,3 @@ cut_posting a is has h =
     refuted ([], all, postings, of) = cc
     refuted (x ∷ xs, all, postings, of) = let first = of.0 in let opens : true ≡ false =
         ap is_cut all ∙ begins_open first.0 x (rows_in xs) first.2 first.1 first.3 first.4 in cc
-
--- ---- two tickets, drawn by two seats
-
--- x drew 0, and y, which was split from it, drew 1
-abbrev x_seat : TicketView
-x_seat = with_drawn (ticket_less_one (ticket_opening_view 2)) 0
-
-abbrev y_seat : TicketView
-y_seat = with_drawn (ticket_newcomer (ticket_opening_view 2)) 1
-
--- the table after so many draws
-abbrev table : ℕ → List TicketView → State (Unit {0}) TicketView
-table word views = record { words = word ∷ []; homes = []; views = views }
-
--- the rule of the tickets holds where x drew 0 and y drew 1
-pub dealt : Dealt 2 (table 2 (x_seat ∷ y_seat ∷ []))
-dealt = record {
-  reached = 2;
-  wide = refl;
-  within = (omega arith, omega arith);
-  before_end = λ le. refl;
-  at_end = λ le. refl;
-  small = omega arith;
-  shares = omega arith;
-  over = omega arith;
-  each = each;
-  numbers = λ weight. omega arith;
-}
-  where
-    each : (i : ℕ) (v : TicketView) → get_elem? (x_seat ∷ y_seat ∷ []) i ≡ some v → IsTicketSeat 2 2 v
-    each zero v at =
-        subst (IsTicketSeat 2 2) (some-injective x_seat v at) record
-        { bare = λ z. absurd (omega arith); knows = λ some. refl; past = λ done. omega arith }
-    each (suc zero) v at =
-        subst (IsTicketSeat 2 2) (some-injective y_seat v at) record
-        { bare = λ z. absurd (omega arith); knows = λ some. refl; past = λ done. omega arith }
-    each (suc (suc i)) v at = absurd (some-ne-none v (sym at))
-
--- the rule of the tickets doesn't hold where both seats drew 0
-pub drawn_twice : Dealt 2 (table 2 (x_seat ∷ with_drawn (ticket_newcomer (ticket_opening_view 2)) 0 ∷ [])) → ⊥
-drawn_twice h =
-    no 2 (omega arith)
-    ((drawn_once 2 (table 2 (x_seat ∷ with_drawn (ticket_newcomer (ticket_opening_view 2)) 0 ∷ [])) h 0).0 (omega arith)
-    (omega arith))
-  where
-    no : (n : ℕ) → 1 < n → n ≡ 1 → ⊥
-    no n more is = absurd (omega arith)

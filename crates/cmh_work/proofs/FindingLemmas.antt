@@ -5,20 +5,20 @@ use Rattle.std.specs.Global.{Vec}
 use Rattle.std.proofs.lemmas.List.{map-append}
 use Rattle.std.specs.declared.alloc.AllocError.{AllocError}
 use Rattle.cmh_run.specs.Run.{Run}
-use Rattle.cmh_work.specs.declared.TheConstants.{MAX_WORKERS}
+use Rattle.cmh_plan.specs.declared.TheConstants.{MAX_WORKERS}
+use Rattle.cmh_plan.specs.Plan.{Setup}
+use Rattle.cmh_plan.specs.declared.tickets.TicketSeat.{TicketSeat}
+use Rattle.cmh_plan.specs.Tickets.{sum_below, joined_views, with_drawn}
+use Rattle.cmh_plan.specs.TicketSeats.{ticket_view, IsTicketSeatOf}
 use Rattle.cmh_work.specs.declared.finding.Finding.{Finding}
 use Rattle.cmh_graph.specs.Graph.{Graph}
-use Rattle.cmh_work.specs.Plan.{Setup}
 use Rattle.cmh_work.specs.declared.job.Shared.{Shared}
 use Rattle.cmh_work.specs.declared.job.Seats.{Seats}
-use Rattle.cmh_work.specs.declared.tickets.TicketSeat.{TicketSeat}
 use Rattle.cmh_rw.specs.History.{StartsWith}
 use Rattle.cmh_rw.specs.View.{joined_view}
 use Rattle.cmh_board.specs.Board.{board_view}
 use Rattle.cmh_rw.specs.Machine.{total}
-use Rattle.cmh_work.specs.Tickets.{sum_below, joined_views, with_drawn}
 use Rattle.cmh_work.specs.Cutting.{concat_chunks}
-use Rattle.cmh_work.specs.TicketSeats.{ticket_view, IsTicketSeatOf}
 use Rattle.cmh_work.specs.Finding.{finding_initiator}
 use Rattle.cmh_work.specs.Working.{chunks_in, AreNew, AreOf, IsMadeFor, IsWorked}
 use Rattle.cmh_work.proofs.AccountsLemmas.{accounts_joined}

@@ -3,7 +3,6 @@ pub mod AnalysisLemmas
 pub mod ClosedHistory
 pub mod Cores
 pub mod CuttingLemmas
-pub mod DrawnNumbers
 pub mod Examples
 pub mod Faults
 pub mod FindingLemmas
@@ -13,4 +12,3 @@ pub mod RecordLemmas
 pub mod RisingLists
 pub mod Rows
 pub mod ShapeLemmas
-pub mod TicketsLemmas

@@ -5,11 +5,10 @@ use Rattle.std.specs.Prelude.{AllPairs}
 use Rattle.std.proofs.lemmas.List.Kept.{AllPairs-filter}
 use Rattle.cmh_graph.specs.Graph.{Graph, process_count, indices, is_idle, idle_list}
 use Rattle.cmh_work.proofs.Cores.{rising}
-use Rattle.std.specs.List.{sum_by}
-use Rattle.std.proofs.lemmas.List.Sums.{sum_by-cons}
 use Rattle.std.specs.List.Sorted.{IsNonDecreasingBy, IsPermutation}
 use Rattle.std.proofs.lemmas.List.Sorted.{sum_by-IsPermutation}
 use Rattle.cmh_rw.specs.Machine.{total}
+use Rattle.cmh_plan.proofs.DrawnNumbers.{total-sum_by}
 
 -- 1 where the test passes, else 0
 abbrev bit : Bool → ℕ
@@ -82,11 +81,6 @@ module _ {X : Type 0} where
     all_from f x xs (λ j d low. h zero (suc j) d (omega arith) (omega arith)),
     rises_by f xs (λ i j d le low. h (suc i) (suc j) d (omega arith) (omega arith)),
   )
-
-  -- a total is a sum
-  pub total-sum_by : (f : X → ℕ) (xs : List X) → total f xs ≡ sum_by f xs
-  total-sum_by f [] = refl
-  total-sum_by f (x ∷ xs) = omega (arith, total-sum_by f xs, sum_by-cons f x xs)
 
   -- the total of a mapped list is that of the list by what each is mapped to
   total-map : (h : ℕ → ℕ) (f : X → ℕ) (xs : List X) → total h (map f xs) ≡ total (λ x. h (f x)) xs

@@ -4,9 +4,6 @@ pub mod Fault
 pub mod Finding
 pub mod Leaders
 pub mod Numbering
-pub mod Plan
 pub mod Record
 pub mod Shape
-pub mod TicketSeats
-pub mod Tickets
 pub mod Working

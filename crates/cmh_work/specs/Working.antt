@@ -4,12 +4,12 @@ use Rattle.cmh_graph.specs.Graph.{Graph, idle_list}
 use Rattle.cmh_board.specs.declared.board.BoardSeat.{BoardSeat}
 use Rattle.cmh_board.specs.Board.{board_view, board_graph, SitsAt, IsAway}
 use Rattle.cmh_run.specs.Run.{Run}
+use Rattle.cmh_plan.specs.Plan.{Setup}
+use Rattle.cmh_plan.specs.TicketSeats.{ticket_view, IsTicketSeatOf, chunk_count}
 use Rattle.cmh_work.specs.declared.finding.Finding.{Finding}
 use Rattle.cmh_work.specs.declared.job.Shared.{Shared}
 use Rattle.cmh_work.specs.declared.job.Seats.{Seats}
-use Rattle.cmh_work.specs.Plan.{Setup}
 use Rattle.cmh_work.specs.Cutting.{chunks_of, bounds_of, concat_chunks}
-use Rattle.cmh_work.specs.TicketSeats.{ticket_view, IsTicketSeatOf}
 use Rattle.cmh_work.specs.Shape.{AreShapesOf}
 use Rattle.cmh_work.specs.Finding.{finding_initiator, Accounts}
 
@@ -19,7 +19,7 @@ pub record IsMadeFor (g : Graph) (plan : Setup) (s : Shared) : Type 0 where
   pub bounds : s.bounds.items ≡ bounds_of plan.cuts (length s.idle.items)
   pub shapes : AreShapesOf g s.shapes
   pub board : board_graph s.board ≡ g
-  pub tickets : s.tickets.chunks ≡ length plan.cuts + 1
+  pub tickets : chunk_count s.tickets ≡ length plan.cuts + 1
 
 -- the chunks of the idle processes
 abbrev pub chunks_in : Setup → Shared → List (List ℕ)

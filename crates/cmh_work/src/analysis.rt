@@ -2,10 +2,10 @@
 
 ghost use Rattle.std.specs.Prelude.{◌≡◌, ◌+◌, ◌<◌, length, IfOk, IfErr};
 ghost use Rattle.cmh_work.specs.Analysis.{IsAnalysisOf};
-ghost use Rattle.cmh_work.specs.TicketSeats.{ticket_view, IsTicketSeatOf, chunk_count};
-ghost use Rattle.cmh_work.specs.Tickets.{ticket_opening_view};
+ghost use Rattle.cmh_plan.specs.TicketSeats.{ticket_view, IsTicketSeatOf, chunk_count};
+ghost use Rattle.cmh_plan.specs.Tickets.{ticket_opening_view};
 ghost use Rattle.cmh_work.specs.Working.{IsMadeFor, AreSeated, AreNew};
-ghost use Rattle.cmh_work.specs.declared.TheConstants.{MAX_WORKERS};
+ghost use Rattle.cmh_plan.specs.declared.TheConstants.{MAX_WORKERS};
 ghost use Rattle.cmh_rw.specs.declared.TheConstants.{MAX_SEATS};
 ghost use Rattle.cmh_board.specs.Board.{board_view};
 
@@ -15,12 +15,12 @@ use crate::job::{Seats, Shared};
 use crate::number::number_all;
 use crate::record::Analysis;
 use crate::shapes::Shapes;
-use crate::tickets::{TicketSeat, Tickets};
 use crate::workers::workers;
-use crate::{Gate, Plan, WorkFault};
+use crate::{Gate, WorkFault};
 use cmh_board::Board;
 use cmh_graph::WaitGraph;
 use cmh_graph::laws::law_built_graph;
+use cmh_plan::{Plan, TicketSeat, Tickets};
 use cmh_run::{Log, ProcessList, RunLog};
 use std::alloc::{AllocError, Global};
 use std::sync::Wait;

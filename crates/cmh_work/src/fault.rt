@@ -1,60 +1,19 @@
-//! Why there is no plan, or no analysis.
+//! Why there is no analysis.
 
 ghost use Rattle.std.specs.Prelude.{◌≡◌};
-ghost use Rattle.cmh_work.specs.declared.fault.PlanFault.TheVariants.{Memory};
 ghost use Rattle.cmh_work.specs.declared.fault.WorkFault.TheVariants as work;
 ghost use Rattle.cmh_graph.specs.declared.fault.GraphFault.TheVariants as graph;
 ghost use Rattle.cmh_run.specs.declared.fault.RunFault.TheVariants as run;
 ghost use Rattle.cmh_board.specs.declared.fault.BoardFault.TheVariants as board;
+ghost use Rattle.cmh_plan.specs.declared.fault.PlanFault.TheVariants as plan;
 
 use cmh_board::BoardFault;
 use cmh_graph::GraphFault;
+use cmh_plan::PlanFault;
 use cmh_run::RunFault;
 use std::alloc::{AllocError, AllocFailed};
 use std::error::Error;
 use std::fmt;
-
-/// Why there is no plan.
-#[derive(Clone, Copy, PartialEq, Eq, Hash, Debug)]
-pub enum PlanFault {
-    /// There is no worker, or there are more than `MAX_WORKERS`.
-    BadWorkers,
-
-    /// There are more than `MAX_CUTS` cuts.
-    TooManyCuts,
-
-    /// There are more choices than a run may be given.
-    TooManyChoices,
-
-    /// Memory was refused.
-    Memory,
-}
-
-impl fmt::Display for PlanFault {
-    ghost use Rattle.std.specs.Prelude.{Some};
-    ghost use Rattle.cmh_work.specs.Fault.{plan_fault_text};
-
-    ghost output = { λ e. Some (plan_fault_text e) };
-
-    fn fmt<W: fmt::Write>(&self, f: &mut fmt::Formatter<W>) -> fmt::Result {
-        match self {
-            PlanFault::BadWorkers => write!(f, "bad workers"),
-            PlanFault::TooManyCuts => write!(f, "too many cuts"),
-            PlanFault::TooManyChoices => write!(f, "too many choices"),
-            PlanFault::Memory => write!(f, "out of memory"),
-        }
-    }
-}
-
-impl Error for PlanFault {}
-
-impl From<AllocError> for PlanFault {
-    ghost from_gives = { λ _ e. e ≡ Memory };
-
-    fn from(_e: AllocError) -> PlanFault {
-        PlanFault::Memory
-    }
-}
 
 /// Why there is no analysis.
 #[derive(Clone, Copy, PartialEq, Eq, Hash, Debug)]
@@ -131,7 +90,7 @@ pub(crate) fn want_at_board(fault: BoardFault) -> AllocError
 
 /// The want of memory that tickets met at their opening.
 pub(crate) fn want_of_tickets(fault: PlanFault) -> AllocError
-    requires { fault ≡ Memory }
+    requires { fault ≡ plan.Memory }
 {
     match fault {
         PlanFault::Memory => AllocError,

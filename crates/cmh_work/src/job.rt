@@ -6,12 +6,12 @@ ghost use Rattle.cmh_graph.specs.ChosenPath.{distance_of};
 ghost use Rattle.cmh_board.specs.Board.{board_graph};
 ghost use Rattle.cmh_work.specs.Cutting.{bounds_of};
 ghost use Rattle.cmh_graph.specs.Core.{group_leader};
+ghost use Rattle.cmh_plan.specs.TicketSeats.{chunk_count};
 
-use crate::Plan;
 use crate::shapes::Shapes;
-use crate::tickets::{TicketSeat, Tickets};
 use cmh_board::{Board, BoardSeat};
 use cmh_graph::WaitGraph;
+use cmh_plan::{Plan, TicketSeat, Tickets};
 
 /// What is made for an analysis, and shared by its workers.
 #[derive(Drop)]
@@ -35,7 +35,7 @@ pub(crate) struct Job<'a> {
     ghost distances: { shared.now.shapes.distances.items ≡ map (distance_of graph.now) (indices graph.now) },
     ghost leaders: { shared.now.shapes.leaders.items ≡ map (group_leader graph.now) (indices graph.now) },
     ghost named: { board_graph shared.now.board ≡ graph.now },
-    ghost counted: { shared.now.tickets.chunks ≡ length plan.now.cuts + 1 },
+    ghost counted: { chunk_count shared.now.tickets ≡ length plan.now.cuts + 1 },
 }
 
 /// The two seats of a worker.

@@ -1,20 +1,10 @@
 //! Laws of the definitions alone: each function has an empty body, and its contract is the law.
 
 ghost use Rattle.cmh_work.specs.Cutting.{ChunksLaw};
-ghost use Rattle.cmh_work.specs.Tickets.{DrewEachOnceLaw, DrawnOnceLaw};
+
+pub use cmh_plan::laws::{law_drawn_once, law_drew_each_once};
 
 /// The chunks of a list are the list, in order, and there is one more than cuts.
 pub fn law_chunks()
     ensures { ChunksLaw }
-{}
-
-/// A seat that drew all drew each number below the number of chunks exactly once, and no other.
-pub fn law_drew_each_once()
-    ensures { DrewEachOnceLaw }
-{}
-
-/// Between any two steps, each number below the bound of what is drawn stands once among the
-/// numbers of all seats, and no other stands there.
-pub fn law_drawn_once()
-    ensures { DrawnOnceLaw }
 {}

@@ -1,15 +1,15 @@
-//! Plans, tickets, analyses, and who makes the runs.
+//! Analyses, and who makes the runs.
 
 mod analyses;
 mod chunks;
 mod counted;
 mod determined;
+mod faults;
 mod full;
 mod gates;
 mod generated;
 mod graphs;
 mod memory;
-mod plans;
 mod refused;
 mod rules;
 mod shaped;

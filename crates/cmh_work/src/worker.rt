@@ -8,13 +8,14 @@ ghost use Rattle.cmh_work.specs.Record.{IsRunFor};
 ghost use Rattle.cmh_work.specs.Finding.{finding_initiator, IsAnswered, IsRecorded, Accounts};
 ghost use Rattle.cmh_work.specs.Working.{IsMadeFor, SitsIn, AreSeated, AreNew, AreBack, IsWorked};
 
+use crate::Gate;
 use crate::chunks::chunk_at;
 use crate::fault::want_in_run;
 use crate::finding::{Answer, Finding};
 use crate::job::{Job, Seats, Shared};
-use crate::{Gate, Plan};
 use cmh_board::{BoardHints, BoardSeat, Look, Posting};
 use cmh_graph::WaitGraph;
+use cmh_plan::Plan;
 use cmh_run::{Log, ProcessList, RunLog, Runner};
 use std::alloc::{AllocError, Global};
 use std::sync::Wait;

@@ -6,7 +6,7 @@ use super::{
     expect_ended, expect_eq, has, is, page, run, run_on,
 };
 use crate::MAX_NUMBERS;
-use cmh_work::MAX_CUTS;
+use cmh_plan::MAX_CUTS;
 use std::alloc::{AllocError, Global};
 use std::sync::Wait;
 use std::thread::Threads;

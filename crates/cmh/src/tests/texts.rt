@@ -5,10 +5,11 @@ use super::{is, page};
 use crate::ListFault;
 use crate::tell::{fail, refuse_list, refuse_plan};
 use cmh_dump::DumpFault;
+use cmh_plan::PlanFault;
 use cmh_report::{AppFault, ReportFault};
 use cmh_run::RunFault;
 use cmh_stream::WriteOf;
-use cmh_work::{PlanFault, WorkFault};
+use cmh_work::WorkFault;
 
 /// Whether the fault is told by this line, with this status.
 fn tells(rt: HostRuntime, fault: &AppFault, line: &str, status: u8) -> bool {

@@ -1,15 +1,16 @@
-//! Plans and analyses while memory is short.
-
-ghost use Rattle.std.specs.Prelude.{◌<◌};
+//! Analyses while memory is short.
 
 use super::expect_eq;
 use super::graphs::{CYCLE_AND_FOLLOWER, graph_of, is_led};
-use crate::{Analysis, NoGate, Plan, PlanFault, Tickets, WorkFault, analyse};
+use crate::{Analysis, NoGate, Plan, WorkFault, analyse};
 use cmh_graph::WaitGraph;
 use std::alloc::Global;
 use std::sync::Wait;
 use std::test::Fail;
 use std::thread::{Threads, join};
+
+/// The most bytes that are left for an analysis.
+const ROOM: usize = 98_304;
 
 /// Takes all the memory that there is, in blocks of falling sizes.
 pub(super) fn take_all(alloc: Global, blocks: &mut Vec<Vec<u8>>) {
@@ -27,19 +28,6 @@ pub(super) fn take_all(alloc: Global, blocks: &mut Vec<Vec<u8>>) {
             Err(_) => size /= 2,
         }
     }
-}
-
-/// What is done while memory is short.
-#[derive(Clone, Copy)]
-enum Call {
-    /// A plan is made.
-    Plan,
-
-    /// Tickets are opened.
-    Tickets,
-
-    /// The cycle and its follower are analysed, by so many workers.
-    Analyse(u32),
 }
 
 /// What the answers were.
@@ -70,23 +58,12 @@ fn is_right(analysis: &Analysis) -> bool {
 fn answer<R: Threads + Wait + Sync>(
     rt: &R,
     alloc: Global,
-    call: Call,
     graph: &WaitGraph,
     plan: &Plan,
 ) -> Option<bool> {
-    match call {
-        Call::Plan => match Plan::new(alloc, 2, &[1, 2, 3], &[4, 5]) {
-            Ok(plan) => Some(plan.cuts().len() == 3 && plan.choices().len() == 2),
-            Err(fault) => refused(fault == PlanFault::Memory),
-        },
-        Call::Tickets => match Tickets::open(alloc, 3) {
-            Ok((tickets, mut seat)) => Some(tickets.draw(&mut seat) == Some(0)),
-            Err(fault) => refused(fault == PlanFault::Memory),
-        },
-        Call::Analyse(_) => match analyse(rt, alloc, graph, plan, &NoGate) {
-            Ok(analysis) => Some(is_right(&analysis)),
-            Err(fault) => refused(fault == WorkFault::Memory || fault == WorkFault::WorkerLost),
-        },
+    match analyse(rt, alloc, graph, plan, &NoGate) {
+        Ok(analysis) => Some(is_right(&analysis)),
+        Err(fault) => refused(fault == WorkFault::Memory || fault == WorkFault::WorkerLost),
     }
 }
 
@@ -94,27 +71,15 @@ fn refused(is_memory: bool) -> Option<bool> {
     if is_memory { None } else { Some(false) }
 }
 
-/// Makes the call with more and more memory, up to `room` bytes, in steps of `step`. In the end it
-/// is made once more with all the memory that there is.
-fn sweep<R: Threads + Wait + Sync>(
-    rt: &R,
-    alloc: Global,
-    call: Call,
-    room: usize,
-    step: usize,
-) -> Result<Answers, Fail>
-    requires { 0 < step }
-{
+/// Analyses the cycle and its follower, by so many workers, with more and more memory, up to `ROOM`
+/// bytes. In the end it is done once more with all the memory that there is.
+fn sweep<R: Threads + Wait + Sync>(rt: &R, alloc: Global, workers: u32) -> Result<Answers, Fail> {
     let graph = graph_of(alloc, &CYCLE_AND_FOLLOWER, &[])?;
-    let workers = match call {
-        Call::Plan | Call::Tickets => 1,
-        Call::Analyse(workers) => workers,
-    };
     let plan = Plan::new(alloc, workers, &[1, 1], &[])?;
     // Threads take memory of their own the first time.
     let _ = join(rt, || 0u8, || 0u8);
     let mut blocks = Vec::with_capacity(alloc, 100_000)?;
-    let free: Vec<u8> = Vec::with_capacity(alloc, room)?;
+    let free: Vec<u8> = Vec::with_capacity(alloc, ROOM)?;
     let _pin: Vec<u8> = Vec::with_capacity(alloc, 64)?;
     take_all(alloc, &mut blocks);
     drop(free);
@@ -124,9 +89,9 @@ fn sweep<R: Threads + Wait + Sync>(
         wrong: false,
         refused: false,
     };
-    for k in 0..room / step {
-        let taken: Result<Vec<u8>, _> = Vec::with_capacity(alloc, room - step * k);
-        match answer(rt, alloc, call, &graph, &plan) {
+    for k in 0..ROOM / 16 {
+        let taken: Result<Vec<u8>, _> = Vec::with_capacity(alloc, ROOM - 16 * k);
+        match answer(rt, alloc, &graph, &plan) {
             Some(true) => answers.right = true,
             Some(false) => answers.wrong = true,
             None => answers.refused = true,
@@ -134,36 +99,22 @@ fn sweep<R: Threads + Wait + Sync>(
         drop(taken);
     }
     drop(blocks);
-    if answer(rt, alloc, call, &graph, &plan) != Some(true) {
+    if answer(rt, alloc, &graph, &plan) != Some(true) {
         answers.wrong = true;
     }
     Ok(answers)
 }
 
 #[test]
-fn want_of_memory_in_a_plan(rt: HostRuntime) -> Result<(), Fail> {
-    let answers = sweep(&rt, rt.alloc(), Call::Plan, 8_192, 16)?;
-    expect_eq(&rt, answers, AS_THEY_SHOULD_BE);
-    Ok(())
-}
-
-#[test]
-fn want_of_memory_for_tickets(rt: HostRuntime) -> Result<(), Fail> {
-    let answers = sweep(&rt, rt.alloc(), Call::Tickets, 8_192, 16)?;
-    expect_eq(&rt, answers, AS_THEY_SHOULD_BE);
-    Ok(())
-}
-
-#[test]
 fn want_of_memory_with_one_worker(rt: HostRuntime) -> Result<(), Fail> {
-    let answers = sweep(&rt, rt.alloc(), Call::Analyse(1), 98_304, 16)?;
+    let answers = sweep(&rt, rt.alloc(), 1)?;
     expect_eq(&rt, answers, AS_THEY_SHOULD_BE);
     Ok(())
 }
 
 #[test]
 fn want_of_memory_with_two_workers(rt: HostRuntime) -> Result<(), Fail> {
-    let answers = sweep(&rt, rt.alloc(), Call::Analyse(2), 98_304, 16)?;
+    let answers = sweep(&rt, rt.alloc(), 2)?;
     expect_eq(&rt, answers, AS_THEY_SHOULD_BE);
     Ok(())
 }

@@ -1,5 +1,5 @@
 use Rattle.std.proofs.Common.{◌≡◌, ◌-◌, length}
-use Rattle.cmh_work.specs.TicketSeats.{ticket_view}
+use Rattle.cmh_plan.specs.TicketSeats.{ticket_view, chunk_count}
 use Rattle.cmh_work.specs.Working.{AreBack, AreOf}
 use Rattle.cmh_work.proofs.worker.draw_all.Given as goal
 
@@ -11,4 +11,4 @@ invariant-loop-number g l = record {
 }
 
 abbrev pub decreases-loop-number : goal.decreases-loop-number
-decreases-loop-number g l = l.job.shared.now.tickets.chunks - length (ticket_view l.seats.tickets).drawn
+decreases-loop-number g l = chunk_count l.job.shared.now.tickets - length (ticket_view l.seats.tickets).drawn

@@ -1,6 +1,6 @@
 use Rattle.std.proofs.Common.{◌≡◌, ◌+◌, ap, arith}
 use Rattle.cmh_board.specs.Board.{board_view}
-use Rattle.cmh_work.specs.TicketSeats.{ticket_view}
+use Rattle.cmh_plan.specs.TicketSeats.{ticket_view}
 use Rattle.cmh_work.specs.Working.{AreBack, IsWorked}
 use Rattle.cmh_work.proofs.FindingLemmas.{collected, joined_worked}
 use Rattle.cmh_work.proofs.workers.+fn-workers-join+arg3+workers.Goals as goal

@@ -1,6 +1,6 @@
 use Rattle.std.proofs.Common.{rules, arith}
-use Rattle.cmh_work.proofs.TicketsLemmas.{joins, measures}
-use Rattle.cmh_work.proofs.tickets.Tickets.join.Goals as goal
+use Rattle.cmh_plan.proofs.TicketsLemmas.{joins, measures}
+use Rattle.cmh_plan.proofs.tickets.Tickets.join.Goals as goal
 
 pub join_seat-requires : goal.join_seat-requires
 join_seat-requires c = let wide =

@@ -1,6 +1,6 @@
 use Rattle.std.proofs.Common.{rules, arith}
-use Rattle.cmh_work.proofs.TicketsLemmas.{splits}
-use Rattle.cmh_work.proofs.tickets.Tickets.split.Goals as goal
+use Rattle.cmh_plan.proofs.TicketsLemmas.{splits}
+use Rattle.cmh_plan.proofs.tickets.Tickets.split.Goals as goal
 
 pub split_seat-other-requires : goal.split_seat-other-requires
 split_seat-other-requires c = let wide =

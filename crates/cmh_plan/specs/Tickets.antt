@@ -2,8 +2,8 @@
 use Rattle.std.specs.Prelude.{◌≡◌, ℕ, zero, suc, ◌+◌, ◌-◌, ◌<◌, ◌≤◌, ◌||◌, ◌^◌, ◌==◌, ◌⊎◌, Bool, true, false, nat_lt, if◌then◌else◌, List, [], ◌∷◌, ◌++◌, length, count_by, slice_index}
 use Rattle.atomic_table.specs.Table.{State, Me, Step}
 use Rattle.cmh_rw.specs.Machine.{IsSeat, total}
-use Rattle.cmh_work.specs.declared.TheConstants.{MAX_WORKERS}
-use Rattle.cmh_work.specs.declared.ticket_rule.TicketView.{TicketView}
+use Rattle.cmh_plan.specs.declared.TheConstants.{MAX_WORKERS}
+use Rattle.cmh_plan.specs.declared.ticket_rule.TicketView.{TicketView}
 
 -- ---- weights
 

@@ -1,7 +1,7 @@
 //! How an analysis is shared out.
 
 ghost use Rattle.std.specs.Prelude.{◌≡◌, ◌⊎◌, IfOk, IfErr};
-ghost use Rattle.cmh_work.specs.Plan.{IsAcceptedPlan, IsFirstPlanFault};
+ghost use Rattle.cmh_plan.specs.Plan.{IsAcceptedPlan, IsFirstPlanFault};
 
 use crate::{MAX_CUTS, MAX_WORKERS, PlanFault};
 use cmh_run::MAX_CHOICES;
@@ -18,7 +18,7 @@ pub struct Plan {
 }
 
 impl Model for Plan {
-    ghost use Rattle.cmh_work.specs.Plan.{Setup, IsAcceptedPlan};
+    ghost use Rattle.cmh_plan.specs.Plan.{Setup, IsAcceptedPlan};
 
     ghost Value = { Setup };
 

@@ -1,8 +1,8 @@
 //! Tickets and their seats: numbers that threads draw. No call waits.
 
 ghost use Rattle.std.specs.Prelude.{◌≡◌, ◌<◌, ◌≤◌, []};
-ghost use Rattle.cmh_work.specs.declared.TheConstants.{MAX_WORKERS};
-ghost use Rattle.cmh_work.specs.Tickets.{KnowsAll};
+ghost use Rattle.cmh_plan.specs.declared.TheConstants.{MAX_WORKERS};
+ghost use Rattle.cmh_plan.specs.Tickets.{KnowsAll};
 
 use crate::ticket_rule::{Draw, Measure, Parts, TicketRule, TicketView};
 use crate::{MAX_WORKERS, PlanFault};
@@ -36,9 +36,9 @@ pub struct TicketSeat {
 
 impl Tickets {
     ghost use Rattle.std.specs.Prelude.{◌≡◌, ◌<◌, ◌≤◌, true, length, IfOk, IfErr, IfSome, IfNone, IsNone};
-    ghost use Rattle.cmh_work.specs.Tickets.{ticket_opening_view, ticket_less_one, ticket_newcomer, joined_views, with_drawn, with_done, DrewAll};
-    ghost use Rattle.cmh_work.specs.declared.TheConstants.{MAX_WORKERS};
-    ghost use Rattle.cmh_work.specs.TicketSeats.{ticket_view, IsTicketSeatOf, chunk_count};
+    ghost use Rattle.cmh_plan.specs.Tickets.{ticket_opening_view, ticket_less_one, ticket_newcomer, joined_views, with_drawn, with_done, DrewAll};
+    ghost use Rattle.cmh_plan.specs.declared.TheConstants.{MAX_WORKERS};
+    ghost use Rattle.cmh_plan.specs.TicketSeats.{ticket_view, IsTicketSeatOf, chunk_count};
 
     /// Nothing is drawn yet, and the seat has the whole share, of `MAX_WORKERS`.
     pub fn open(alloc: Global, chunks: u32) -> Result<(Tickets, TicketSeat), PlanFault>
@@ -124,7 +124,7 @@ impl Tickets {
 
 impl TicketSeat {
     ghost use Rattle.std.specs.Prelude.{◌≡◌};
-    ghost use Rattle.cmh_work.specs.TicketSeats.{ticket_view};
+    ghost use Rattle.cmh_plan.specs.TicketSeats.{ticket_view};
 
     /// How many seats can still come of this one by splits, itself among them.
     pub fn share(&self) -> u32

@@ -1,9 +1,9 @@
 -- How an analysis is shared out.
 use Rattle.std.specs.Prelude.{ℕ, ◌<◌, ◌≤◌, List, length}
 use Rattle.cmh_run.specs.declared.TheConstants.{MAX_CHOICES}
-use Rattle.cmh_work.specs.declared.TheConstants.{MAX_WORKERS, MAX_CUTS}
-use Rattle.cmh_work.specs.declared.fault.PlanFault.{PlanFault}
-use Rattle.cmh_work.specs.declared.fault.PlanFault.TheVariants.{BadWorkers, TooManyCuts, TooManyChoices, Memory}
+use Rattle.cmh_plan.specs.declared.TheConstants.{MAX_WORKERS, MAX_CUTS}
+use Rattle.cmh_plan.specs.declared.fault.PlanFault.{PlanFault}
+use Rattle.cmh_plan.specs.declared.fault.PlanFault.TheVariants.{BadWorkers, TooManyCuts, TooManyChoices, Memory}
 
 -- How many workers there are, how many initiators each chunk takes off the front, and which message
 -- each delivery of a run takes.

@@ -1,8 +1,8 @@
 -- What clauses see of the tickets and of a seat.
 use Rattle.std.specs.Prelude.{◌≡◌, ℕ}
-use Rattle.cmh_work.specs.declared.ticket_rule.TicketView.{TicketView}
-use Rattle.cmh_work.specs.declared.tickets.Tickets.{Tickets}
-use Rattle.cmh_work.specs.declared.tickets.TicketSeat.{TicketSeat}
+use Rattle.cmh_plan.specs.declared.ticket_rule.TicketView.{TicketView}
+use Rattle.cmh_plan.specs.declared.tickets.Tickets.{Tickets}
+use Rattle.cmh_plan.specs.declared.tickets.TicketSeat.{TicketSeat}
 
 -- what a seat knows
 abbrev pub ticket_view : TicketSeat → TicketView

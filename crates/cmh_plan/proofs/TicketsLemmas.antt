@@ -1,5 +1,5 @@
 -- Each step of the tickets keeps their rule.
-use Rattle.std.proofs.Common.{◌≡◌, ◌≢◌, ℕ, zero, suc, ◌+◌, ◌-◌, ◌%◌, ◌^◌, ◌<◌, ◌≤◌, Bool, true, false, ltb, ◌||◌, List, [], ◌∷◌, length, get_or, set, sym, refl, ap, ◌∙◌, subst, arith, length-set, get_or-set_same, ⊎_elim}
+use Rattle.std.proofs.Common.{◌≡◌, ℕ, zero, suc, ◌+◌, ◌-◌, ◌%◌, ◌^◌, ◌<◌, ◌≤◌, Bool, true, false, ltb, ◌||◌, List, [], ◌∷◌, length, get_or, set, sym, refl, ap, ◌∙◌, subst, arith, length-set, get_or-set_same, ⊎_elim}
 use Rattle.std.proofs.lemmas.Bool.{cond_both, ltb-true, ltb-false, or_cases, false≢true}
 use native.Mathlib.Numerals.{unary_clauses}
 use mathlib.Core.Option.{none, some, some-injective, some-ne-none}
@@ -7,10 +7,10 @@ use lib.ListN.{get_elem?}
 use Rattle.std.proofs.lemmas.List.{set-get_or}
 use Rattle.atomic_table.specs.Table.{State, Me, step, keeps, stepped, Allows, Splits, Joins, opening}
 use Rattle.atomic_table.proofs.Lists.{at_set, at_snoc, set_again}
-use Rattle.cmh_work.specs.declared.ticket_rule.TicketView.{TicketView}
+use Rattle.cmh_plan.specs.declared.ticket_rule.TicketView.{TicketView}
 use Rattle.cmh_rw.specs.Machine.{total}
 use Rattle.cmh_rw.proofs.Lawful.{total-set, total-in, total-append, total-snoc}
-use Rattle.cmh_work.specs.Tickets.{sum_below, share_if, done_share, ticket_share, ticket_opening_view, ticket_less_one, ticket_newcomer, joined_views, spent_ticket_view, with_drawn, with_done, IsTicketSeat, Dealt, KnowsAll, after_draw, Drew, Measured}
+use Rattle.cmh_plan.specs.Tickets.{sum_below, share_if, done_share, ticket_share, ticket_opening_view, ticket_less_one, ticket_newcomer, joined_views, spent_ticket_view, with_drawn, with_done, IsTicketSeat, Dealt, KnowsAll, after_draw, Drew, Measured}
 
 -- a state of the table
 abbrev St : Type 0

@@ -2,10 +2,11 @@
 use Rattle.std.proofs.Common.{◌≡◌, ℕ, zero, suc, ◌<◌, ◌≤◌, ⊎_elim, Bool, true, false, eqb, leb, slice_index, cond, List, [], ◌∷◌, refl, sym, ap, ◌∙◌, arith}
 use Rattle.std.proofs.lemmas.Bool.{ne_eqb}
 use Rattle.std.proofs.lemmas.Bool.Decides.{eqb_tells, leb_tells}
+use Rattle.std.specs.List.{sum_by}
+use Rattle.std.proofs.lemmas.List.Sums.{sum_by-cons}
 use Rattle.cmh_rw.specs.Machine.{total}
-use Rattle.cmh_work.specs.declared.ticket_rule.TicketView.{TicketView}
-use Rattle.cmh_work.specs.Tickets.{sum_below, times, DrewEachOnceLaw, DrawnOnceLaw}
-use Rattle.cmh_work.proofs.RisingLists.{total-sum_by}
+use Rattle.cmh_plan.specs.declared.ticket_rule.TicketView.{TicketView}
+use Rattle.cmh_plan.specs.Tickets.{sum_below, times, DrewEachOnceLaw, DrawnOnceLaw}
 
 -- 1 at that number, and 0 elsewhere
 abbrev hit : ℕ → ℕ → ℕ
@@ -35,6 +36,11 @@ once_below n (suc b) low = ⊎_elim
 total-same : {A : Type 0} (f g : A → ℕ) → ((a : A) → f a ≡ g a) → (l : List A) → total f l ≡ total g l
 total-same f g same [] = refl
 total-same f g same (x ∷ xs) = omega (arith, same x, total-same f g same xs)
+
+-- a total is a sum
+pub total-sum_by : {A : Type 0} (f : A → ℕ) (l : List A) → total f l ≡ sum_by f l
+total-sum_by f [] = refl
+total-sum_by f (x ∷ xs) = omega (arith, total-sum_by f xs, sum_by-cons f x xs)
 
 -- how often a number stands in a list is its weight there
 times-total : (n : ℕ) (l : List ℕ) → times n l ≡ total (hit n) l

@@ -19,7 +19,7 @@ pub struct TicketView {
 pub(crate) struct TicketRule;
 
 impl TableRule<(), TicketView, u32> for TicketRule {
-    ghost use Rattle.cmh_work.specs.Tickets.{Dealt, ticket_opening_view};
+    ghost use Rattle.cmh_plan.specs.Tickets.{Dealt, ticket_opening_view};
 
     ghost holds = { Dealt };
 
@@ -30,7 +30,7 @@ impl TableRule<(), TicketView, u32> for TicketRule {
 pub(crate) struct Draw;
 
 impl Play<(), TicketView> for Draw {
-    ghost use Rattle.cmh_work.specs.Tickets.{Drew};
+    ghost use Rattle.cmh_plan.specs.Tickets.{Drew};
 
     ghost then = { Drew };
 }
@@ -39,7 +39,7 @@ impl Play<(), TicketView> for Draw {
 pub(crate) struct Measure;
 
 impl Play<(), TicketView> for Measure {
-    ghost use Rattle.cmh_work.specs.Tickets.{Measured};
+    ghost use Rattle.cmh_plan.specs.Tickets.{Measured};
 
     ghost then = { Measured };
 }
@@ -48,7 +48,7 @@ impl Play<(), TicketView> for Measure {
 pub(crate) struct Parts;
 
 impl Split<TicketView> for Parts {
-    ghost use Rattle.cmh_work.specs.Tickets.{ticket_less_one, ticket_newcomer};
+    ghost use Rattle.cmh_plan.specs.Tickets.{ticket_less_one, ticket_newcomer};
 
     ghost left = { ticket_less_one };
 
@@ -56,7 +56,7 @@ impl Split<TicketView> for Parts {
 }
 
 impl Join<TicketView> for Parts {
-    ghost use Rattle.cmh_work.specs.Tickets.{joined_views, spent_ticket_view};
+    ghost use Rattle.cmh_plan.specs.Tickets.{joined_views, spent_ticket_view};
 
     ghost both = { joined_views };
 

@@ -1,6 +1,6 @@
 use Rattle.std.proofs.Common.{rules, arith}
-use Rattle.cmh_work.proofs.TicketsLemmas.{draws}
-use Rattle.cmh_work.proofs.tickets.Tickets.draw.Goals as goal
+use Rattle.cmh_plan.proofs.TicketsLemmas.{draws}
+use Rattle.cmh_plan.proofs.tickets.Tickets.draw.Goals as goal
 
 pub fetch_add-found-requires : goal.fetch_add-found-requires
 fetch_add-found-requires c = let wide =

@@ -56,12 +56,6 @@ fn texts_of_the_faults(rt: HostRuntime) -> Result<(), Fail> {
         let shown = format!(in rt.alloc(); "{fault}")?;
         expect_eq(&rt, shown.as_str(), text);
     }
-    let shown = format!(in rt.alloc();
-        "{}, {}",
-        crate::WorkFault::Memory,
-        crate::WorkFault::WorkerLost
-    )?;
-    expect_eq(&rt, shown.as_str(), "out of memory, worker lost");
     Ok(())
 }
 

@@ -1,0 +1,3 @@
+pub mod DrawnNumbers
+pub mod Examples
+pub mod TicketsLemmas

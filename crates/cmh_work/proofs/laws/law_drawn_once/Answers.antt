@@ -1,5 +1,0 @@
-use Rattle.cmh_work.proofs.DrawnNumbers.{drawn_once}
-use Rattle.cmh_work.proofs.laws.law_drawn_once.Goals as goal
-
-pub returns : goal.returns
-returns c = drawn_once
