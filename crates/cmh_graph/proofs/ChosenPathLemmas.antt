@@ -1,5 +1,5 @@
 -- The chosen path.
-use Rattle.std.proofs.Common.{◌≡◌, ℕ, zero, suc, ◌+◌, ◌<◌, ◌≤◌, Bool, true, false, cond, inl, inr, List, [], ◌∷◌, ◌++◌, append_assoc, map, length, get_or, refl, sym, ◌∙◌, ap, subst, arith}
+use Rattle.std.proofs.Common.{◌≡◌, ℕ, zero, suc, ◌+◌, ◌<◌, ◌≤◌, Bool, true, false, cond, inl, inr, List, [], ◌∷◌, ◌++◌, append_assoc, map, length, get_or, IsFalse, refl, sym, ◌∙◌, ap, subst, arith}
 use Rattle.std.specs.Prelude.{Contains, flat_map, fold, Some, None, Option, is_some, IsSome, unwrap_or, option_and_then}
 use Rattle.std.specs.List.{reduce}
 use Rattle.std.specs.Ordering.{nat_cmp, is_lt}
@@ -13,6 +13,7 @@ use Rattle.cmh_graph.specs.ChosenPath.{distance_of, chosen_path, lesser_path, Is
 use Rattle.cmh_graph.specs.Graph.{Depends, IsWithinGraph, Graph, process_count, is_awake, dependencies_of, dependents_of, indices}
 use Rattle.cmh_graph.specs.Path.{Leads, IsPath, Reaches, paths_to, is_nonempty}
 use Rattle.cmh_graph.specs.Search.{IsLeastAt, number_at}
+use Rattle.cmh_graph.specs.Verdict.{IsDeadlocked}
 use Rattle.cmh_graph.proofs.IndexLists.{by_index}
 use Rattle.cmh_graph.proofs.PositionLemmas.{waits}
 use native.Mathlib.Decide.{dec_lt}
@@ -23,6 +24,7 @@ use Rattle.std.specs.declared.cmp.Ordering.TheVariants.{Less, Equal, Greater}
 use Rattle.std.specs.Ordering.{ordering_reverse}
 use Rattle.cmh_graph.proofs.LevelSearch.{first, has_steps, near, near_then, passes_itself, steps_back, steps_on}
 use Rattle.cmh_graph.proofs.PathLemmas.{listed, cons_contains, contains_cons, depends, depends_within, dependency}
+use Rattle.cmh_graph.proofs.Verdicts.{asleep_is_idle}
 
 -- ---- what is listed
 
@@ -271,6 +273,16 @@ then_none g p (Some path) e h =
 pub chosen_path_exists_law : ChosenPathExistsLaw
 chosen_path_exists_law =
     λ g p w i. (λ e q r. none_then g p q w i e r (is_awake g q) refl, λ h. then_none g p (chosen_path g p) refl h)
+
+-- where no awake process is reached, the process is deadlocked
+asleep_deadlocked : (g : Graph) (p : ℕ) → ((q : ℕ) → Reaches g p q → IsFalse (is_awake g q)) → IsDeadlocked g p
+asleep_deadlocked g p asleep = (asleep_is_idle g p (asleep p (p ∷ [], (refl, refl))), asleep)
+
+-- a process that isn't deadlocked has a chosen path
+pub way_out : (g : Graph) (p : ℕ) (o : Option (List ℕ)) → IsWithinGraph g → p < process_count g → ¬ (IsDeadlocked g p)
+    → chosen_path g p ≡ o → IsSome o
+way_out g p (Some path) w i free e = refl
+way_out g p None w i free e = absurd (free (asleep_deadlocked g p ((chosen_path_exists_law g p w i).0 e)))
 
 -- ---- a step of the chosen path
 

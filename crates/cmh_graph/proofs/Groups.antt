@@ -1,6 +1,6 @@
 -- The groups of deadlocked processes: rests, leaders and numbers.
 use Rattle.std.proofs.Common.{◌≡◌, ℕ, zero, suc, ◌+◌, ◌<◌, ◌≤◌, ◌&&◌, Bool, true, false, not, cond, ◌⊎◌, inl, inr, eqb, leb, List, [], ◌∷◌, length, get_or, refl, sym, ◌∙◌, ap, subst, arith, eqb-true, eq-eqb}
-use Rattle.std.specs.Prelude.{Contains, AllPairs, filter, count_by}
+use Rattle.std.specs.Prelude.{All, Contains, AllPairs, filter, count_by}
 use Rattle.std.specs.List.{range_with_len}
 use Rattle.std.specs.List.Sorted.{IsStrictlyIncreasing}
 use Rattle.std.proofs.lemmas.Bool.{leb-true, le-leb, false_from_ne_true}
@@ -107,6 +107,14 @@ core_within g p q c =
     index_within (process_count g) q
     (filter_contains (reaches g p) (indices g) q (filter_contains (λ r. reaches g r p) (reach_of g p) q c).0).0
 
+-- a list that is a core has processes of the graph
+pub members_within : (g : Graph) (p size : ℕ) (xs : List ℕ) → xs ≡ core_of g p → size ≡ process_count g
+    → All (λ q. q < size) xs
+members_within g p size xs is full k d l =
+    let there : Contains (core_of g p) (get_or xs k d) =
+    subst (λ ys. Contains ys (get_or xs k d)) is (k, l, get_or_default xs k (get_or xs k d) d l) in
+    omega (arith, core_within g p (get_or xs k d) there)
+
 -- a core's members have one reach
 same_reach : (g : Graph) (p q : ℕ) → IsWithinGraph g → p < process_count g → q < process_count g → Reaches g p q
     → Reaches g q p → (r : ℕ) → reaches g p r ≡ reaches g q r
@@ -171,7 +179,7 @@ leader_law = λ g p l w i. (
 -- ---- the list of leaders
 
 -- what a deadlocked process reaches is deadlocked
-reached_deadlocked : (g : Graph) (p q : ℕ) → IsDeadlocked g p → Reaches g p q → IsDeadlocked g q
+pub reached_deadlocked : (g : Graph) (p q : ℕ) → IsDeadlocked g p → Reaches g p q → IsDeadlocked g q
 reached_deadlocked g p q dead a = (asleep_is_idle g q (dead.1 q a), λ r b. dead.1 r (reaches_on g p q r a b))
 
 -- a leader leads itself

@@ -6,6 +6,7 @@ pub mod ChosenPathLemmas
 pub mod Cores
 pub mod Distances
 pub mod Examples
+pub mod Faults
 pub mod ForwardSearch
 pub mod Groups
 pub mod IndexLists

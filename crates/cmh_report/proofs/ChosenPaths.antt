@@ -1,7 +1,7 @@
 -- Chosen paths.
-use Rattle.std.proofs.Common.{◌≡◌, ◌∙◌, ℕ, zero, suc, ◌<◌, false, List, [], ◌∷◌, arith, sym, subst}
+use Rattle.std.proofs.Common.{◌≡◌, ◌∙◌, ℕ, zero, suc, ◌<◌, false, List, [], ◌∷◌, arith, refl, sym, subst}
 use Rattle.std.proofs.lemmas.Bool.{true≢false}
-use Rattle.std.specs.Prelude.{All, Some}
+use Rattle.std.specs.Prelude.{All, IsSome, None, Option, Some, option_map}
 use Rattle.cmh_graph.specs.ChosenPath.{chosen_path, IsWayOut}
 use Rattle.cmh_graph.specs.Graph.{Graph, process_count, IsWithinGraph}
 use Rattle.cmh_graph.specs.Verdict.{is_deadlocked, IsDeadlocked}
@@ -31,3 +31,8 @@ path_within g p path w i e = way_within g p path w i ((chosen_path_law g p path 
 -- who isn't found deadlocked isn't deadlocked
 pub not_deadlocked : (g : Graph) (p : ℕ) → is_deadlocked g p ≡ false → ¬ (IsDeadlocked g p)
 not_deadlocked g p free dead = true≢false (sym (then_test g p dead) ∙ free)
+
+-- an option is there where what it is mapped to is
+pub some_before : {A B : Type 0} (f : A → B) (o : Option A) (q : Option B) → option_map f o ≡ q → IsSome q → IsSome o
+some_before f (Some a) q e s = refl
+some_before f None q e s = subst IsSome (sym e) s

@@ -4,7 +4,6 @@ pub mod ClosedHistory
 pub mod Cores
 pub mod CuttingLemmas
 pub mod Examples
-pub mod Faults
 pub mod FindingLemmas
 pub mod LeadersLemmas
 pub mod LentSeats

@@ -1,7 +1,7 @@
 use Rattle.std.proofs.Common.{◌∙◌, ◌++◌, ap, refl}
 use Rattle.std.specs.Prelude.{string_bytes}
 use Rattle.cmh_graph.specs.Graph.{process_count}
-use Rattle.cmh_work.proofs.Cores.{members_within}
+use Rattle.cmh_graph.proofs.Groups.{members_within}
 use Rattle.cmh_report.specs.Report.{group_line, line}
 use Rattle.cmh_report.proofs.Members.{rest_within}
 use Rattle.cmh_report.proofs.Words.{group_words}

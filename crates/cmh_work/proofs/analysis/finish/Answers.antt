@@ -2,6 +2,7 @@ use Rattle.std.proofs.Common.{◌<◌, ◌≤◌, ◌∙◌, All, IfOk, ap, arit
 use Rattle.std.specs.List.Sorted.{IsNonDecreasingBy}
 use Rattle.std.proofs.lemmas.List.Sorted.{IsNonDecreasingBy-from_sort, answers_always}
 use Rattle.cmh_graph.specs.Graph.{process_count}
+use Rattle.cmh_graph.proofs.Faults.{given}
 use Rattle.cmh_rw.specs.declared.row.Row.{Row}
 use Rattle.cmh_rw.specs.History.{IsTrueOf}
 use Rattle.cmh_rw.proofs.Folds.{true-few}
@@ -10,7 +11,6 @@ use Rattle.cmh_work.specs.Finding.{finding_initiator}
 use Rattle.cmh_work.specs.Numbering.{Stands, AreNumbered}
 use Rattle.cmh_work.specs.Working.{IsWorked}
 use Rattle.cmh_work.proofs.AnalysisLemmas.{all_stand, analysed}
-use Rattle.cmh_work.proofs.Faults.{given}
 use Rattle.cmh_work.proofs.RecordLemmas.{rows_within}
 use Rattle.cmh_work.proofs.analysis.finish.Goals as goal
 

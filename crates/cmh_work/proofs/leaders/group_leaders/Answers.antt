@@ -2,9 +2,9 @@ use Rattle.std.proofs.Common.{◌≡◌, ◌∙◌, ◌<◌, ◌+◌, ◌&&◌, 
 use Rattle.std.specs.Prelude.{is_none}
 use Rattle.std.proofs.lemmas.List.{length-replicate, with_items_is}
 use Rattle.cmh_graph.specs.Graph.{process_count}
+use Rattle.cmh_graph.proofs.Groups.{members_within}
 use Rattle.cmh_work.specs.Leaders.{is_deadlocked_at, leader_at, LeadsEach}
 use Rattle.cmh_run.proofs.Scripts.{verdict_count}
-use Rattle.cmh_work.proofs.Cores.{members_within}
 use Rattle.cmh_work.proofs.LeadersLemmas.{AreLeadersBelow, leaders_all, leaders_led_more, leaders_passed, leaders_size, leaders_start, none_at}
 use Rattle.cmh_work.proofs.leaders.group_leaders.Goals as goal
 use Rattle.cmh_work.proofs.leaders.group_leaders.Goals.{then-is_new_leader+in_ok-core, else-is_new_leader}

@@ -1,7 +1,7 @@
 use Rattle.std.proofs.Common.{refl}
-use Rattle.cmh_work.proofs.Faults.{given}
-use Rattle.cmh_work.proofs.ShapeLemmas.{some_before, way_out}
-use Rattle.cmh_report.proofs.ChosenPaths.{not_deadlocked}
+use Rattle.cmh_graph.proofs.ChosenPathLemmas.{way_out}
+use Rattle.cmh_graph.proofs.Faults.{given}
+use Rattle.cmh_report.proofs.ChosenPaths.{not_deadlocked, some_before}
 use Rattle.cmh_report.proofs.paths.Paths.path_of.Goals as goal
 
 -- a free process has a chosen path

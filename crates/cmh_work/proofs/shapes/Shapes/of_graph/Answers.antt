@@ -1,4 +1,4 @@
-use Rattle.cmh_work.proofs.Faults.{given}
+use Rattle.cmh_graph.proofs.Faults.{given}
 use Rattle.cmh_work.proofs.shapes.Shapes.of_graph.Goals as goal
 
 pub group_leaders-requires-clause-predecessors : goal.group_leaders-requires-clause-predecessors

@@ -2,10 +2,11 @@ use Rattle.std.proofs.Common.{◌≡◌, ap, arith, length, refl, subst, sym, �
 use Rattle.std.specs.Prelude.{is_some, Some}
 use Rattle.cmh_graph.specs.Core.{leader_of, group_leader}
 use Rattle.cmh_graph.specs.Verdict.{IsDeadlocked, IsVerdict}
+use Rattle.cmh_graph.proofs.ChosenPathLemmas.{way_out}
 use Rattle.cmh_graph.proofs.IndexLists.{length-by_index}
 use Rattle.cmh_work.specs.declared.record.Shape.TheVariants.{Leader}
 use Rattle.cmh_work.specs.Shape.{IsShape}
-use Rattle.cmh_work.proofs.ShapeLemmas.{leader_stands, way_out}
+use Rattle.cmh_work.proofs.ShapeLemmas.{leader_stands}
 use Rattle.cmh_work.proofs.shapes.Shapes.shape_of.Goals as goal
 
 -- the table of leaders has a place for the process
