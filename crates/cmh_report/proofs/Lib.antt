@@ -1,14 +1,3 @@
-pub mod Beyond
-pub mod ChosenPaths
-pub mod Counts
-pub mod Examples
-pub mod JoinedTexts
-pub mod Knots
-pub mod Members
-pub mod Numbers
-pub mod Records
-pub mod SiteCounts
-pub mod SpacedNames
+pub mod RecordsLemmas
 pub mod TraceExamples
 pub mod Traces
-pub mod Words

@@ -11,7 +11,7 @@ use Rattle.cmh_run.specs.Legal.{IsBetween}
 use Rattle.cmh_run.specs.declared.fault.RunFault.{RunFault}
 use Rattle.cmh_run.specs.declared.fault.RunFault.TheVariants.{Memory}
 use Rattle.cmh_run.specs.Run.{Run, IsRunOf, IsFirstRunFault}
-use Rattle.cmh_report.specs.Report.{line}
+use Rattle.cmh_text.specs.Report.{line}
 use Rattle.cmh_report.specs.declared.fault.AppFault.{AppFault}
 use Rattle.cmh_report.specs.declared.fault.AppFault.TheVariants as app
 

@@ -5,17 +5,17 @@ ghost use Rattle.cmh_dump.specs.Source.{GaveAtMost};
 ghost use Rattle.cmh_dump.specs.declared.TheConstants.{MAX_BYTES};
 ghost use Rattle.cmh_report.specs.Ends.{IsAnswer, IsCutShort, IsRefused};
 ghost use Rattle.cmh_report.specs.Fault.{IfDump, IfNoSuchProcess, IfRun, IfUnwritten, IfWork, IfWriteFault};
-ghost use Rattle.cmh_report.specs.Outline.{IsOutlineOf};
+ghost use Rattle.cmh_text.specs.Outline.{IsOutlineOf};
 ghost use Rattle.cmh_report.specs.Records.{IsSomeAnalysisOf};
-ghost use Rattle.cmh_report.specs.Report.{IsCountedReport, IsReport, report_text, deadlocked_count};
+ghost use Rattle.cmh_text.specs.Report.{IsCountedReport, IsReport, report_text, deadlocked_count};
 
 use crate::fault::{AppFault, ReportFault};
 use crate::input::read_graph;
-use crate::outline::Outline;
-use crate::text::text_of;
+use crate::records::outline_of;
 use cmh_graph::WaitGraph;
 use cmh_run::{NoList, NoLog, RunLog};
 use cmh_stream::{Pieces, Sink, Source, put_pieces};
+use cmh_text::{Outline, text_of};
 use cmh_work::{Analysis, Gate, Plan, WorkFault, analyse_keeping};
 use std::alloc::{AllocError, Global};
 use std::sync::Wait;
@@ -43,7 +43,7 @@ fn analysed<R: Threads + Wait + Sync, G: Gate>(
 }
 
 /// What the text takes from the analysis, which is given back.
-#[tactic(auto, using(crate::proofs::Records::analysed))]
+#[tactic(auto, using(crate::proofs::RecordsLemmas::analysed))]
 fn outlined(
     alloc: Global,
     graph: &WaitGraph,
@@ -52,7 +52,7 @@ fn outlined(
     requires { IsSomeAnalysisOf graph.now analysis }
     ensures { IfOk result (IsOutlineOf graph.now) }
 {
-    Outline::of_records(alloc, graph, analysis.records())
+    outline_of(alloc, graph, analysis.records())
 }
 
 /// The text of an analysis, which is given back before the text is made: so both aren't held at once.
@@ -70,7 +70,7 @@ fn text_and_count<R: Threads + Sync>(
     let text = text_of(rt, alloc, graph, &outline)?;
     Ok(CountedText {
         text,
-        deadlocked: outline.deadlocked,
+        deadlocked: outline.deadlocked(),
     })
 }
 

@@ -2,24 +2,14 @@
 #![tactic(auto)]
 
 mod analyse;
-mod chunks;
 mod fault;
-mod groups;
 mod input;
-mod knot;
-mod known;
 pub mod laws;
-mod lines;
-mod names;
-mod outline;
-mod parallel;
-mod paths;
-mod sites;
+mod records;
 #[cfg(test)]
 mod tests;
 mod text;
 mod trace;
-mod turned;
 
 pub use analyse::analyse_bytes;
 pub use cmh_stream::{ReadOf, Sink, Source, Stopped, WriteOf};

@@ -1,33 +1,21 @@
-//! The whole report, put together: the line of counts, those of processes and those of groups.
+//! The report on a graph that was analysed, as one text.
 
-ghost use Rattle.std.specs.Prelude.{◌≡◌, ◌++◌, IfOk, flat_map, reverse, string_bytes};
-ghost use Rattle.cmh_report.specs.Outline.{IsOutlineOf};
+ghost use Rattle.std.specs.Prelude.{◌≡◌, IfOk, string_bytes};
 ghost use Rattle.cmh_report.specs.Records.{AreRecordsOf, IsSomeAnalysisOf};
-ghost use Rattle.cmh_report.specs.Report.{report_text};
+ghost use Rattle.cmh_text.specs.Report.{report_text};
 
 use crate::ReportFault;
-use crate::knot::Knot;
-use crate::outline::Outline;
-use crate::parallel::{group_lines, process_lines};
-use crate::paths::Paths;
-use crate::turned::append;
+use crate::records::outline_of;
 use cmh_graph::WaitGraph;
 use cmh_run::{Log, ProcessList, RunLog};
-use cmh_stream::Pieces;
+use cmh_text::text_of;
 use cmh_work::{Analysis, Record};
 use std::alloc::{AllocError, Global};
 use std::thread::Threads;
 
-/// How many bytes a text has at most that is worth a copy to be in one piece.
-const SHORT: usize = 1_048_576;
-
 /// The report on a graph that was analysed: a line of counts, a line for each idle process, and a
-/// line for each group of deadlocked processes. The analysis is of this graph. The graph is searched
-/// once for each group and once for all distances, by which each path is walked; a group that waits
-/// for the greatest one, or for the group after it, goes on from the reach of that. The rest takes time
-/// close to linear in the processes and in the text. Where there is much to do, the lines are made by
-/// as many threads as there are processors. Memory is taken for the lines and for the whole text; lines
-/// are given back once they stand in the text.
+/// line for each group of deadlocked processes. The analysis is of this graph. The cost is that of
+/// `cmh_text::text_of`, and linear in the records and in the text besides.
 ///
 /// # Errors
 ///
@@ -54,55 +42,6 @@ fn told<L: Log, E: ProcessList, R: Threads + Sync>(
     requires { AreRecordsOf graph.now records.now }
     ensures { IfOk result (λ text. string_bytes text ≡ report_text graph.now) }
 {
-    let outline = Outline::of_records(alloc, graph, records)?;
+    let outline = outline_of(alloc, graph, records)?;
     text_of(rt, alloc, graph, &outline)?.into_string(alloc)
-}
-
-/// The report in pieces, by what was taken from the records.
-pub(crate) fn text_of<R: Threads + Sync>(
-    rt: &R,
-    alloc: Global,
-    graph: &WaitGraph,
-    outline: &Outline,
-) -> Result<Pieces, AllocError>
-    requires { IsOutlineOf graph.now outline.now }
-    ensures { IfOk result (λ text. text ≡ report_text graph.now) }
-{
-    let paths = Paths::of_graph(alloc, graph)?;
-    let of_processes = process_lines(rt, alloc, graph, &outline.groups, &paths)?;
-    let knot = Knot::of_groups(alloc, graph, &outline.groups)?;
-    let of_groups = group_lines(rt, alloc, graph, &outline.groups, &knot)?;
-    joined(alloc, &outline.totals, of_processes, of_groups)
-}
-
-/// The lines one after the other, where those of processes and those of groups come in texts from the
-/// last to the first.
-fn joined(
-    alloc: Global,
-    first: &str,
-    of_processes: Vec<Pieces>,
-    of_groups: Vec<Pieces>,
-) -> Result<Pieces, AllocError>
-    ensures { IfOk result (λ text. text ≡ first.now
-        ++ flat_map (λ t. t) (reverse of_processes.items)
-        ++ flat_map (λ t. t) (reverse of_groups.items)) }
-{
-    let mut text = Pieces::new(alloc);
-    text.push(String::from_str(alloc, first)?)?;
-    append(&mut text, of_processes)?;
-    append(&mut text, of_groups)?;
-    as_one_piece_if_short(alloc, text)
-}
-
-/// A short text in one piece, so that one write puts all of it or nothing.
-fn as_one_piece_if_short(alloc: Global, text: Pieces) -> Result<Pieces, AllocError>
-    ensures { IfOk result (λ same. same ≡ text) }
-{
-    if text.len() > SHORT {
-        return Ok(text);
-    }
-    let whole = text.into_string(alloc)?;
-    let mut one = Pieces::new(alloc);
-    one.push(whole)?;
-    Ok(one)
 }

@@ -1,6 +1,6 @@
 use Rattle.std.proofs.Common.{subst, sym}
 use Rattle.cmh_report.specs.Records.{AreRecordsOf}
-use Rattle.cmh_report.proofs.Records.{analysed}
+use Rattle.cmh_report.proofs.RecordsLemmas.{analysed}
 use Rattle.cmh_report.proofs.text.report.Goals as goal
 
 -- the records of an analysis are those of the graph

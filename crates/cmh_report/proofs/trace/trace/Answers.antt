@@ -1,6 +1,6 @@
 use Rattle.std.proofs.Common.{◌≡◌, ◌≤◌, ◌∙◌, length, map, take}
 use Rattle.std.specs.Prelude.{flat_map, string_bytes}
-use Rattle.cmh_report.specs.Report.{line}
+use Rattle.cmh_text.specs.Report.{line}
 use Rattle.cmh_report.specs.Trace.{message_line}
 use Rattle.cmh_report.proofs.Traces.{whole_trace}
 use Rattle.cmh_report.proofs.trace.trace.Goals as goal

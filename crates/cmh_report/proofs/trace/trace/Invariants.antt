@@ -1,6 +1,6 @@
 use Rattle.std.proofs.Common.{◌≡◌, map, take}
 use Rattle.std.specs.Prelude.{flat_map, string_bytes}
-use Rattle.cmh_report.specs.Report.{line}
+use Rattle.cmh_text.specs.Report.{line}
 use Rattle.cmh_report.specs.Trace.{message_line}
 use Rattle.cmh_report.proofs.trace.trace.Given as goal
 

@@ -1,0 +1,201 @@
+-- What records tell of the graph: how many processes are idle and deadlocked, and who leads whom.
+use Rattle.std.proofs.Common.{◌≡◌, ℕ, ◌+◌, ◌<◌, ◌≤◌, Bool, true, false, cond, zero, inl, inr, List, [], ◌∷◌, length, map, take, take_all, get_or, set, replicate, refl, sym, ◌∙◌, ap, subst, arith}
+use Rattle.std.specs.Prelude.{All, Contains, Option, Some, None, filter, count_by}
+use Rattle.std.proofs.lemmas.Bool.{cases_eq}
+use Rattle.std.proofs.lemmas.List.{get_or-map, get_or-set_same, get_or-set_other, length-map, length-set}
+use Rattle.std.proofs.lemmas.List.Elements.{All-tail}
+use Rattle.std.proofs.lemmas.List.FromFn.{fill_by_all}
+use Rattle.std.proofs.lemmas.List.Sums.{sum_by-cons}
+use Rattle.cmh_graph.specs.declared.verdict.Verdict.{Verdict}
+use Rattle.cmh_graph.specs.declared.verdict.Verdict.TheVariants.{Deadlocked, Free}
+use Rattle.cmh_graph.specs.Graph.{Graph, process_count, indices, is_idle, idle_list, IsWithinGraph}
+use Rattle.cmh_graph.specs.Verdict.{is_deadlocked, IsDeadlocked, IsVerdict, says_deadlocked}
+use Rattle.cmh_graph.proofs.PositionLemmas.{taken_last, taken_more, taken_stays}
+use Rattle.cmh_graph.proofs.PathLemmas.{contains_index}
+use Rattle.cmh_graph.proofs.Verdicts.{contains_filter, filter_contains, then_test, test_then}
+use Rattle.cmh_run.specs.Run.{Run}
+use Rattle.cmh_work.specs.declared.record.Analysis.{Analysis}
+use Rattle.cmh_work.specs.declared.record.Record.{Record}
+use Rattle.cmh_work.specs.declared.record.Shape.{Shape}
+use Rattle.cmh_work.specs.declared.record.Shape.TheVariants.{Path, Leader}
+use Rattle.cmh_work.specs.Analysis.{records_of, initiator_of}
+use Rattle.cmh_work.specs.Leaders.{leader_at}
+use Rattle.cmh_graph.specs.Core.{group_leader}
+use Rattle.cmh_work.specs.Shape.{IsShape}
+use Rattle.cmh_work.proofs.LeadersLemmas.{none_at}
+use Rattle.cmh_report.specs.Records.{AreRecordsOf, IsSomeAnalysisOf, leader_in, tells_deadlocked, TellsOf}
+use Rattle.cmh_text.specs.Report.{deadlocked_count}
+use Rattle.cmh_text.proofs.Counts.{active_and_idle}
+
+-- there are as many records as idle processes
+pub records_count : {L : Type 0} (g : Graph) (records : List (Record Run L)) → AreRecordsOf g records
+    → length records ≡ length (idle_list g)
+records_count g records are = sym (length-map records initiator_of) ∙ ap length are.order
+
+-- there are no more records than processes
+pub records_few : {L : Type 0} (g : Graph) (records : List (Record Run L)) → AreRecordsOf g records
+    → length records ≤ process_count g
+records_few g records are = omega (arith, records_count g records are, active_and_idle g)
+
+-- a record is of the idle process at its place
+pub initiator_at : {L : Type 0} (g : Graph) (records : List (Record Run L)) (i : ℕ) (r : Record Run L)
+    → AreRecordsOf g records → i < length records → get_or records i r ≡ r → get_or (idle_list g) i 0 ≡ r.initiator
+initiator_at g records i r are l is =
+    ap (λ xs. get_or xs i 0) (sym are.order)
+    ∙ get_or-map initiator_of records i r 0 l
+    ∙ ap initiator_of is
+
+-- each of the records tells the verdict and the leader of an idle process as they are
+pub tells_at : {L : Type 0} (g : Graph) (records : List (Record Run L)) (i : ℕ) (r : Record Run L)
+    → AreRecordsOf g records → i < length records → get_or records i r ≡ r → TellsOf g r
+tells_at g records i r are l is = subst (TellsOf g) is (are.tell i r l)
+
+-- ---- verdicts
+
+-- a process that isn't deadlocked doesn't pass the test of deadlocked ones
+freed : (g : Graph) (p : ℕ) (b : Bool) → IsWithinGraph g → ¬ (IsDeadlocked g p) → is_deadlocked g p ≡ b → b ≡ false
+freed g p true w free e = absurd (free (test_then g p w e))
+freed g p false w free e = refl
+
+-- a true verdict is what the test says
+verdict_test : (g : Graph) (p : ℕ) (v : Verdict) → IsWithinGraph g → IsVerdict g p v
+    → is_deadlocked g p ≡ says_deadlocked v
+verdict_test g p Deadlocked w is = then_test g p is
+verdict_test g p Free w is = freed g p (is_deadlocked g p) w is refl
+
+-- an element in front adds 1 to a count, where it passes the test
+count_cons : {X : Type 0} (p : X → Bool) (x : X) (xs : List X)
+    → count_by p (x ∷ xs) ≡ cond {A = ℕ} (p x) 1 0 + count_by p xs
+count_cons p x xs = sum_by-cons (λ y. cond {A = ℕ} (p y) 1 0) x xs
+
+-- as many records tell of a deadlocked process as are of one
+counted : {L : Type 0} (g : Graph) (records : List (Record Run L)) → IsWithinGraph g → All (TellsOf g) records
+    → count_by tells_deadlocked records ≡ count_by (is_deadlocked g) (map initiator_of records)
+counted g [] w tell = refl
+counted g (r ∷ rs) w tell =
+    let here = tell zero r (omega arith) in
+    let test = verdict_test g r.initiator r.verdict w here.verdict in
+    let rest = counted g rs w (All-tail (TellsOf g) r rs tell) in
+    count_cons tells_deadlocked r rs
+    ∙ (λ i. cond {A = ℕ} (sym test i) 1 0 + rest i)
+    ∙ sym (count_cons (is_deadlocked g) r.initiator (map initiator_of rs))
+
+-- a process that isn't idle isn't deadlocked
+active_free : (g : Graph) (p : ℕ) → is_idle g p ≡ false → is_deadlocked g p ≡ false
+unfolding is_deadlocked
+active_free g p e = rw e refl
+
+-- where idle processes count as many deadlocked ones as all do, it is so with one process in front
+count_more : (g : Graph) (p : ℕ) (ps : List ℕ) (b : Bool) → is_idle g p ≡ b
+    → count_by (is_deadlocked g) (filter (is_idle g) ps) ≡ count_by (is_deadlocked g) ps
+    → count_by (is_deadlocked g) (cond b (p ∷ filter (is_idle g) ps) (filter (is_idle g) ps))
+    ≡ count_by (is_deadlocked g) (p ∷ ps)
+count_more g p ps true e h =
+    count_cons (is_deadlocked g) p (filter (is_idle g) ps)
+    ∙ ap (λ n. cond {A = ℕ} (is_deadlocked g p) 1 0 + n) h
+    ∙ sym (count_cons (is_deadlocked g) p ps)
+count_more g p ps false e h =
+    let none : cond {A = ℕ} (is_deadlocked g p) 1 0 ≡ 0 = ap (λ b. cond {A = ℕ} b 1 0) (active_free g p e) in
+    omega (arith, h, none, count_cons (is_deadlocked g) p ps)
+
+-- all deadlocked ones are among the idle ones
+count_idle : (g : Graph) (ps : List ℕ)
+    → count_by (is_deadlocked g) (filter (is_idle g) ps) ≡ count_by (is_deadlocked g) ps
+count_idle g [] = refl
+count_idle g (p ∷ ps) = count_more g p ps (is_idle g p) refl (count_idle g ps)
+
+-- as many processes are deadlocked as records tell of one
+pub deadlocked_told : {L : Type 0} (g : Graph) (records : List (Record Run L)) → IsWithinGraph g
+    → AreRecordsOf g records → count_by tells_deadlocked records ≡ deadlocked_count g
+deadlocked_told g records w are =
+    counted g records w are.tell
+    ∙ ap (count_by (is_deadlocked g)) are.order
+    ∙ count_idle g (indices g)
+
+-- ---- leaders
+
+-- a true shape names the leader, if there is one
+shape_leader : {L : Type 0} (listed : L → List ℕ) (g : Graph) (p : ℕ) (v : Verdict) (s : Shape L) → IsWithinGraph g
+    → IsVerdict g p v → IsShape listed g p v s → leader_in s ≡ group_leader g p
+unfolding group_leader
+shape_leader listed g p Deadlocked (Leader leader) w is e = rw (then_test g p is) (ap Some e)
+shape_leader listed g p Deadlocked (Path path) w is e = absurd e
+shape_leader listed g p Free (Leader leader) w is e = absurd e
+shape_leader listed g p Free (Path path) w is e = rw (verdict_test g p Free w is) refl
+
+-- the records of an analysis are those of the graph
+pub analysed : {L : Type 0} (g : Graph) (a : Analysis Run L) → IsSomeAnalysisOf g a → AreRecordsOf g (records_of a)
+analysed g a (listed, choices, is) = record {
+  order = is.order;
+  tell = λ k d l. let r = is.records k d l in let told = get_or (records_of a) k d in record {
+    idle = r.idle;
+    verdict = r.verdict;
+    leader = λ w. shape_leader listed g told.initiator told.verdict told.shape w r.verdict r.shape;
+  };
+}
+
+-- The table of leaders has a place for each process, the leader of each of these, if it is
+-- deadlocked, and nothing for any other.
+pub record AreLeadersOf (g : Graph) (done : List ℕ) (list : List (Option ℕ)) : Type 0 where
+  pub size : length list ≡ process_count g
+  pub named : (p : ℕ) → Contains done p → leader_at list p ≡ group_leader g p
+  pub other : (p : ℕ) → (Contains done p → ⊥) → leader_at list p ≡ None
+
+-- at first the table of leaders has nothing
+pub leaders_none : (g : Graph) (n : ℕ) (list : List (Option ℕ)) → n ≡ process_count g → list ≡ replicate n None
+    → length list ≡ n → AreLeadersOf g [] list
+leaders_none g n list size none long = record {
+  size = long ∙ size;
+  named = λ p c. absurd (omega (arith, c.1));
+  other = λ p n'. ap (λ xs. leader_at xs p) none ∙ none_at n p;
+}
+
+-- once the next process has its leader, the table of leaders has those of the processes up to it
+pub leaders_more : (g : Graph) (ps : List ℕ) (i p : ℕ) (list : List (Option ℕ)) (leader : Option ℕ) → i < length ps
+    → get_or ps i 0 ≡ p → p < length list → leader ≡ group_leader g p → AreLeadersOf g (take i ps) list
+    → AreLeadersOf g (take (i + 1) ps) (set list p leader)
+leaders_more g ps i p list leader l at k is h = record {
+  size = length-set list p leader ∙ h.size;
+  named = λ q c. elim (cases_eq q p) [
+    | inl same ↦
+        ap (leader_at (set list p leader)) same
+        ∙ get_or-set_same list p leader None k
+        ∙ is
+        ∙ ap (group_leader g) (sym same)
+    | inr other ↦
+        get_or-set_other list p q leader None other
+        ∙ elim (taken_more ps i q l c) [
+          | inl d ↦ h.named q d
+          | inr e ↦ absurd (other (e ∙ at))
+        ]
+  ];
+  other = λ q n. elim (cases_eq q p) [
+    | inl same ↦ absurd (n (taken_last ps i q l (same ∙ sym at)))
+    | inr other ↦
+        get_or-set_other list p q leader None other
+        ∙ h.other q (λ d. n (taken_stays ps i q l d))
+  ];
+}
+
+-- a test doesn't pass and fail
+not_both : (b : Bool) → b ≡ true → b ≡ false → ⊥
+not_both true e f = cc
+not_both false e f = cc
+
+-- the table has the leader of each process, if it is deadlocked
+leader_stands : (g : Graph) (p : ℕ) (b : Bool) (list : List (Option ℕ)) → p < process_count g → is_idle g p ≡ b
+    → AreLeadersOf g (idle_list g) list → leader_at list p ≡ group_leader g p
+unfolding group_leader
+leader_stands g p true list l e h =
+    h.named p (contains_filter (is_idle g) (indices g) p (contains_index (process_count g) p l) e)
+leader_stands g p false list l e h =
+    h.other p (λ c. not_both (is_idle g p) (filter_contains (is_idle g) (indices g) p c).1 e)
+    ∙ rw (active_free g p e) refl
+
+-- once all idle processes are done, the table has all leaders
+pub leaders_all : (g : Graph) (i : ℕ) (list : List (Option ℕ)) → length (idle_list g) ≤ i
+    → AreLeadersOf g (take i (idle_list g)) list → list ≡ map (group_leader g) (indices g)
+leaders_all g i list l h =
+    fill_by_all (group_leader g) list (process_count g) None h.size
+    (λ p k. leader_stands g p (is_idle g p) list k refl
+    (subst (λ ps. AreLeadersOf g ps list) (take_all i (idle_list g) l) h))

@@ -1,0 +1,11 @@
+pub mod Beyond
+pub mod ChosenPaths
+pub mod Counts
+pub mod Examples
+pub mod JoinedTexts
+pub mod Knots
+pub mod Members
+pub mod Numbers
+pub mod SiteCounts
+pub mod SpacedNames
+pub mod Words

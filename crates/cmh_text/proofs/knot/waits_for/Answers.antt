@@ -1,0 +1,23 @@
+use Rattle.std.proofs.Common.{◌∙◌, ap, length, subst}
+use Rattle.std.specs.Prelude.{Contains}
+use Rattle.cmh_graph.proofs.IndexLists.{length-by_index}
+use Rattle.cmh_graph.proofs.ForwardSearch.{dependents_within}
+use Rattle.cmh_graph.specs.Core.{group_leader}
+use Rattle.cmh_text.specs.Knot.{HasLed}
+use Rattle.cmh_text.proofs.Knots.{leads_to}
+use Rattle.cmh_text.proofs.knot.waits_for.Goals as goal
+
+pub has_led-requires : goal.has_led-requires
+has_led-requires c =
+    let g = c.args.graph.now in
+    dependents_within g c.args.p _ _ c.requires.groups.well_formed c.dependents.ensures
+    (ap length (c.deref.ensures.value ∙ c.requires.groups.leaders) ∙ length-by_index g (group_leader g))
+
+pub returns : goal.returns
+returns c = λ e.
+    let g = c.args.graph.now in
+    let there =
+    subst (λ xs. HasLed xs c.args.leader c.dependents.result.now) c.deref.ensures.value (c.has_led.ensures e) in
+    leads_to g c.args.groups.now.leaders.items c.args.p there.0 c.args.leader c.requires.groups.well_formed
+    c.requires.groups.leaders c.requires.within
+    (subst (λ xs. Contains xs there.0) c.dependents.ensures there.1) there.2

@@ -1,0 +1,21 @@
+use Rattle.std.proofs.Common.{◌∙◌, ap, arith, length}
+use Rattle.cmh_graph.specs.Path.{reaches}
+use Rattle.cmh_graph.proofs.IndexLists.{length-by_index}
+use Rattle.cmh_graph.proofs.ForwardSearch.{reach_listed}
+use Rattle.rayon.proofs.ListFacts.{IfOk-then}
+use Rattle.cmh_text.proofs.known.reach_of.Goals as goal
+
+pub marked-requires : goal.marked-requires
+marked-requires c =
+    let g = c.args.graph.now in
+    omega (
+      arith,
+      ap length c.requires.marks,
+      length-by_index g (reaches g c.args.leader),
+      c.law_built_graph.ensures.processes,
+    )
+
+pub returns : goal.returns
+returns c =
+    IfOk-then c.marked.result _ _ c.marked.ensures
+    (λ list is. is ∙ reach_listed c.args.graph.now c.args.leader _ c.requires.marks)

@@ -1,0 +1,16 @@
+-- A group whose reach is known while the lines of others are made.
+use Rattle.std.specs.Prelude.{ℕ, List, Contains, IfSome, IsTrue, Option}
+use Rattle.cmh_graph.specs.Graph.{Graph}
+use Rattle.cmh_text.specs.Group.{is_led_by}
+use Rattle.cmh_text.specs.Known.{IsKnownOf}
+use Rattle.cmh_text.specs.Sites.{AreSitesBelow}
+use Rattle.cmh_text.specs.declared.knot.Knot.{Knot}
+
+-- whom the group's leader reaches is known, if there is one, and all sites are below the bound
+pub record IsKnotOf (g : Graph) (knot : Knot) : Type 0 where
+  pub most : IfSome knot.most (IsKnownOf g)
+  pub sites : AreSitesBelow g knot.site_bound
+
+-- the list has somebody whom that leader leads
+abbrev pub HasLed : List (Option ℕ) → ℕ → List ℕ → Type 0
+HasLed leaders leader list = (q : ℕ) × Contains list q × IsTrue (is_led_by leaders leader q)

@@ -1,0 +1,27 @@
+-- Whom a leader reaches, as it is kept for the lines of other groups.
+use Rattle.std.specs.Prelude.{◌≡◌, ℕ, ◌+◌, ◌<◌, Bool, false, List, drop, map, take}
+use Rattle.cmh_graph.specs.Core.{core_of, rest_of}
+use Rattle.cmh_graph.specs.Graph.{Graph, indices, process_count}
+use Rattle.cmh_graph.specs.Path.{reach_of, reaches}
+use Rattle.cmh_graph.specs.Search.{is_marked}
+use Rattle.cmh_text.specs.declared.known.Known.{Known}
+use Rattle.cmh_text.specs.declared.known.Parts.{Parts}
+
+-- the marks and the list are of those that the leader reaches
+pub record IsKnownOf (g : Graph) (known : Known) : Type 0 where
+  pub within : known.leader < process_count g
+  pub marks : known.marks.items ≡ map (reaches g known.leader) (indices g)
+  pub reach : known.reach.items ≡ reach_of g known.leader
+
+-- the parts are what this leader reaches, its core and its rest
+pub record ArePartsOf (g : Graph) (leader : ℕ) (parts : Parts) : Type 0 where
+  pub named : parts.known.leader ≡ leader
+  pub known : IsKnownOf g parts.known
+  pub core : parts.core.items ≡ core_of g leader
+  pub rest : parts.rest.items ≡ rest_of g leader
+
+-- p isn't among the old marks, and the new ones are the same at all other places
+pub record HasOneMore (p : ℕ) (old new : List Bool) : Type 0 where
+  pub apart : is_marked old p ≡ false
+  pub before : take p old ≡ take p new
+  pub after : drop (p + 1) old ≡ drop (p + 1) new

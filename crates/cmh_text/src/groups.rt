@@ -1,0 +1,194 @@
+//! The groups of deadlocked processes: who leads each, its number, its members and their sites.
+
+ghost use Rattle.std.specs.Prelude.{◌≡◌, ◌<◌, map, length, filter, not, All, IfOk, IfSome, IsTrue};
+ghost use Rattle.cmh_graph.specs.Core.{leaders as all_leaders, group_leader};
+ghost use Rattle.cmh_graph.specs.Graph.{indices, process_count};
+ghost use Rattle.cmh_graph.specs.Path.{Reaches};
+ghost use Rattle.cmh_text.specs.Group.{is_led_by, leaders_up_to, AreGroupsOf, IsGroupOf};
+ghost use Rattle.cmh_text.specs.Knot.{IsKnotOf};
+ghost use Rattle.cmh_text.specs.Known.{ArePartsOf, IsKnownOf};
+
+use crate::knot::{Knot, base};
+use crate::known::{Known, Parts, parts_from, parts_of};
+use crate::sites::count_sites;
+use cmh_graph::laws::law_built_graph;
+use cmh_graph::{GraphFault, WaitGraph};
+use std::alloc::{AllocError, Global};
+
+/// Who leads whom, and the numbers of the groups.
+#[derive(Drop)]
+pub(crate) struct Groups {
+    /// For each process the leader of its group, if it is deadlocked.
+    pub(crate) leaders: Vec<Option<u32>>,
+    /// For each process how many leaders there are up to it: for a leader the number of its group.
+    pub(crate) numbers: Vec<u32>,
+    /// The leaders, by rising index.
+    pub(crate) list: Vec<u32>,
+}
+
+impl Groups {
+    /// The groups of these leaders. The graph isn't searched.
+    pub(crate) fn of_leaders(
+        alloc: Global,
+        graph: &WaitGraph,
+        leaders: Vec<Option<u32>>,
+    ) -> Result<Groups, AllocError>
+        requires { leaders.items ≡ map (group_leader graph.now) (indices graph.now) }
+        ensures { IfOk result (AreGroupsOf graph.now) }
+    {
+        law_built_graph(graph);
+        let numbers = group_numbers(alloc, graph, &leaders)?;
+        let list = leader_list(alloc, graph, &leaders)?;
+        Ok(Groups {
+            leaders,
+            numbers,
+            list,
+        })
+    }
+}
+
+/// For each process how many leaders there are up to it.
+fn group_numbers(
+    alloc: Global,
+    graph: &WaitGraph,
+    leaders: &[Option<u32>],
+) -> Result<Vec<u32>, AllocError>
+    requires { leaders.now ≡ map (group_leader graph.now) (indices graph.now) }
+    ensures { IfOk result (λ list. list.items ≡ map (leaders_up_to graph.now) (indices graph.now)) }
+{
+    let mut numbers = Vec::new(alloc);
+    let mut count = 0;
+    for p in 0..graph.len() {
+        if is_led_by(leaders, p, p) {
+            count += 1;
+        }
+        numbers.push(count)?;
+    }
+    Ok(numbers)
+}
+
+/// The leaders, by rising index.
+fn leader_list(
+    alloc: Global,
+    graph: &WaitGraph,
+    leaders: &[Option<u32>],
+) -> Result<Vec<u32>, AllocError>
+    requires { leaders.now ≡ map (group_leader graph.now) (indices graph.now) }
+    ensures { IfOk result (λ list. list.items ≡ all_leaders graph.now) }
+{
+    let mut list = Vec::new(alloc);
+    for p in 0..graph.len() {
+        if is_led_by(leaders, p, p) {
+            list.push(p)?;
+        }
+    }
+    Ok(list)
+}
+
+/// Whether that leader leads the process.
+pub(crate) fn is_led_by(leaders: &[Option<u32>], leader: u32, p: u32) -> bool
+    requires { p < length leaders.now }
+    ensures { result ≡ is_led_by leaders.now leader p }
+{
+    leaders[p as usize] == Some(leader)
+}
+
+/// What the line of a group says.
+#[derive(Drop)]
+pub(crate) struct Group {
+    pub(crate) number: u32,
+    pub(crate) core: Vec<u32>,
+    pub(crate) rest: Vec<u32>,
+    pub(crate) site_count: usize,
+}
+
+/// The group of a leader, and whom the leader reaches. Of the line before it is told what is known.
+pub(crate) fn group_of(
+    alloc: Global,
+    graph: &WaitGraph,
+    groups: &Groups,
+    knot: &Knot,
+    last: &Option<Known>,
+    leader: u32,
+) -> Result<(Group, Known), AllocError>
+    requires within { leader < process_count graph.now }
+    requires groups { AreGroupsOf graph.now groups.now }
+    requires knot { IsKnotOf graph.now knot.now }
+    requires last { IfSome last.now (IsKnownOf graph.now) }
+    requires leads { IsTrue (is_led_by groups.now.leaders.items leader leader) }
+    ensures group { IfOk result (λ made. IsGroupOf graph.now leader made.0) }
+    ensures known { IfOk result (λ made. IsKnownOf graph.now made.1) }
+{
+    let parts = parts_by(
+        alloc,
+        graph,
+        groups,
+        leader,
+        base(graph, groups, knot, last, leader),
+    )?;
+    let site_count = count_sites(alloc, graph, knot.site_bound, &parts.known.reach)?;
+    let Parts { known, core, rest } = parts;
+    let group = Group {
+        number: groups.numbers[leader as usize],
+        core,
+        rest,
+        site_count,
+    };
+    Ok((group, known))
+}
+
+/// The parts of a leader. The graph is searched once, but for what the base reaches.
+fn parts_by(
+    alloc: Global,
+    graph: &WaitGraph,
+    groups: &Groups,
+    leader: u32,
+    base: Option<&Known>,
+) -> Result<Parts, AllocError>
+    requires within { leader < process_count graph.now }
+    requires groups { AreGroupsOf graph.now groups.now }
+    requires leads { IsTrue (is_led_by groups.now.leaders.items leader leader) }
+    requires base { IfSome base (λ known.
+        IsKnownOf graph.now known.now × Reaches graph.now leader known.now.leader) }
+    ensures { IfOk result (ArePartsOf graph.now leader) }
+{
+    match base {
+        Some(known) => parts_from(alloc, graph, groups, leader, known),
+        None => {
+            let marks = graph.reached(alloc, leader).map_err(out_of_memory)?;
+            parts_of(alloc, graph, groups, leader, marks)
+        }
+    }
+}
+
+/// A question to a graph fails for want of memory alone.
+pub(crate) fn out_of_memory(_fault: GraphFault) -> AllocError
+    requires { _fault ≡ GraphFault.Memory }
+{
+    AllocError
+}
+
+/// The core and the rest of a group, by the processes that its leader reaches.
+pub(crate) fn core_and_rest(
+    alloc: Global,
+    leaders: &[Option<u32>],
+    leader: u32,
+    reach: &[u32],
+) -> Result<(Vec<u32>, Vec<u32>), AllocError>
+    requires { All (λ p. p < length leaders.now) reach.now }
+    ensures core { IfOk result (λ parts.
+        parts.0.items ≡ filter (is_led_by leaders.now leader) reach.now) }
+    ensures rest { IfOk result (λ parts.
+        parts.1.items ≡ filter (λ p. not (is_led_by leaders.now leader p)) reach.now) }
+{
+    let mut core = Vec::new(alloc);
+    let mut rest = Vec::new(alloc);
+    for p in reach {
+        if is_led_by(leaders, leader, *p) {
+            core.push(*p)?;
+        } else {
+            rest.push(*p)?;
+        }
+    }
+    Ok((core, rest))
+}

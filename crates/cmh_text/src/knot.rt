@@ -1,0 +1,139 @@
+//! The group whose reach is searched once for all lines: many groups may wait for it.
+
+ghost use Rattle.std.specs.Prelude.{◌<◌, length, All, Contains, IfOk, IfSome, IsTrue};
+ghost use Rattle.cmh_graph.specs.Graph.{process_count};
+ghost use Rattle.cmh_graph.specs.Path.{Reaches};
+ghost use Rattle.cmh_text.specs.Group.{AreGroupsOf};
+ghost use Rattle.cmh_text.specs.Knot.{HasLed, IsKnotOf};
+ghost use Rattle.cmh_text.specs.Known.{IsKnownOf};
+
+use crate::groups::{Groups, is_led_by};
+use crate::known::{Known, known_of};
+use crate::sites::site_bound;
+use cmh_graph::WaitGraph;
+use std::alloc::{AllocError, Global};
+
+/// What the lines of groups share.
+#[derive(Drop)]
+pub(crate) struct Knot {
+    /// Whom the leader of the greatest group reaches, if there is one.
+    pub(crate) most: Option<Known>,
+    /// One more than the greatest site.
+    pub(crate) site_bound: usize,
+}
+
+impl Knot {
+    ghost use Rattle.cmh_text.specs.Knot.{IsKnotOf};
+
+    /// Searches the graph once.
+    pub(crate) fn of_groups(
+        alloc: Global,
+        graph: &WaitGraph,
+        groups: &Groups,
+    ) -> Result<Knot, AllocError>
+        requires { AreGroupsOf graph.now groups.now }
+        ensures { IfOk result (IsKnotOf graph.now) }
+    {
+        let leader = leader_of_most(alloc, groups)?;
+        let most = known_if_any(alloc, graph, leader)?;
+        Ok(Knot {
+            most,
+            site_bound: site_bound(graph),
+        })
+    }
+}
+
+/// What is known from which the search for whom a leader reaches can go on, if there is any: of the
+/// line before, or of the greatest group.
+pub(crate) fn base<'a>(
+    graph: &WaitGraph,
+    groups: &Groups,
+    knot: &'a Knot,
+    last: &'a Option<Known>,
+    leader: u32,
+) -> Option<&'a Known>
+    requires groups { AreGroupsOf graph.now groups.now }
+    requires knot { IsKnotOf graph.now knot.now }
+    requires last { IfSome last.now (IsKnownOf graph.now) }
+    requires within { leader < process_count graph.now }
+    ensures { IfSome result (λ base. IsKnownOf graph.now base.now × Reaches graph.now leader base.now.leader) }
+{
+    if let Some(known) = last {
+        if waits_for(graph, groups, leader, known.leader) {
+            return Some(known);
+        }
+    }
+    if let Some(known) = &knot.most {
+        if waits_for(graph, groups, leader, known.leader) {
+            return Some(known);
+        }
+    }
+    None
+}
+
+/// Whom that leader reaches, if there is one.
+fn known_if_any(
+    alloc: Global,
+    graph: &WaitGraph,
+    leader: Option<u32>,
+) -> Result<Option<Known>, AllocError>
+    requires { IfSome leader (λ l. l < process_count graph.now) }
+    ensures { IfOk result (λ known. IfSome known (IsKnownOf graph.now)) }
+{
+    match leader {
+        Some(leader) => Ok(Some(known_of(alloc, graph, leader)?)),
+        None => Ok(None),
+    }
+}
+
+/// Who leads the most processes, if there is a leader.
+fn leader_of_most(alloc: Global, groups: &Groups) -> Result<Option<u32>, AllocError>
+    ensures { IfOk result (λ leader. IfSome leader (λ l. Contains groups.now.list.items l)) }
+{
+    let counts = led_counts(alloc, &groups.leaders)?;
+    let mut best = None;
+    let mut most = 0;
+    for leader in &groups.list {
+        let count = counts.get(*leader as usize).copied().unwrap_or(0);
+        if count > most {
+            most = count;
+            best = Some(*leader);
+        }
+    }
+    Ok(best)
+}
+
+/// For each process how many it leads.
+fn led_counts(alloc: Global, leaders: &[Option<u32>]) -> Result<Vec<u32>, AllocError> {
+    let mut counts = vec![in alloc; 0u32; leaders.len()]?;
+    for leader in leaders {
+        if let Some(leader) = leader {
+            if let Some(count) = counts.get_mut(*leader as usize) {
+                *count = count.saturating_add(1);
+            }
+        }
+    }
+    Ok(counts)
+}
+
+/// Whether a process has a dependent in the group of that leader.
+fn waits_for(graph: &WaitGraph, groups: &Groups, p: u32, leader: u32) -> bool
+    requires groups { AreGroupsOf graph.now groups.now }
+    requires within { p < process_count graph.now }
+    ensures { IsTrue result → Reaches graph.now p leader }
+{
+    has_led(&groups.leaders, leader, graph.dependents(p))
+}
+
+/// Whether the list has somebody whom that leader leads.
+fn has_led(leaders: &[Option<u32>], leader: u32, list: &[u32]) -> bool
+    requires { All (λ q. q < length leaders.now) list.now }
+    ensures { IsTrue result → HasLed leaders.now leader list.now }
+{
+    for q in list {
+        if is_led_by(leaders, leader, *q) {
+            return true;
+        }
+    }
+    false
+}

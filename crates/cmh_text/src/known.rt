@@ -1,0 +1,219 @@
+//! Whom a leader reaches. Another group that waits for this one reaches them too, so its search goes on
+//! from here, and often its line does.
+
+ghost use Rattle.std.specs.Prelude.{◌≡◌, ◌<◌, ◌^◌, length, filter, map, slice_index, IfOk, IsTrue};
+ghost use Rattle.std.specs.List.{range_with_len};
+ghost use Rattle.cmh_graph.specs.Graph.{indices, process_count};
+ghost use Rattle.cmh_graph.specs.Path.{reach_of, reaches, Reaches};
+ghost use Rattle.cmh_graph.specs.Search.{is_marked};
+ghost use Rattle.cmh_text.specs.Group.{is_led_by, AreGroupsOf};
+ghost use Rattle.cmh_text.specs.Known.{ArePartsOf, HasOneMore, IsKnownOf};
+
+use crate::groups::{Groups, core_and_rest, out_of_memory};
+use cmh_graph::WaitGraph;
+use cmh_graph::laws::law_built_graph;
+use std::alloc::{AllocError, Global};
+
+/// Whom a leader reaches.
+#[derive(Drop)]
+pub(crate) struct Known {
+    pub(crate) leader: u32,
+    /// For each process whether the leader reaches it.
+    pub(crate) marks: Vec<bool>,
+    /// Those that it reaches, by rising index.
+    pub(crate) reach: Vec<u32>,
+}
+
+/// Whom a leader reaches, and who of them is of its group.
+#[derive(Drop)]
+pub(crate) struct Parts {
+    pub(crate) known: Known,
+    pub(crate) core: Vec<u32>,
+    pub(crate) rest: Vec<u32>,
+}
+
+/// Searches the graph for whom a leader reaches.
+pub(crate) fn known_of(alloc: Global, graph: &WaitGraph, leader: u32) -> Result<Known, AllocError>
+    requires { leader < process_count graph.now }
+    ensures { IfOk result (IsKnownOf graph.now) }
+{
+    let marks = graph.reached(alloc, leader).map_err(out_of_memory)?;
+    let reach = reach_of(alloc, graph, leader, &marks)?;
+    Ok(Known {
+        leader,
+        marks,
+        reach,
+    })
+}
+
+/// The parts of a leader that reaches another one. The search goes on from whom that one reaches.
+pub(crate) fn parts_from(
+    alloc: Global,
+    graph: &WaitGraph,
+    groups: &Groups,
+    leader: u32,
+    base: &Known,
+) -> Result<Parts, AllocError>
+    requires within { leader < process_count graph.now }
+    requires groups { AreGroupsOf graph.now groups.now }
+    requires leads { IsTrue (is_led_by groups.now.leaders.items leader leader) }
+    requires base { IsKnownOf graph.now base.now }
+    requires beyond { Reaches graph.now leader base.now.leader }
+    ensures { IfOk result (ArePartsOf graph.now leader) }
+{
+    let marks = graph
+        .reached_by(alloc, leader, base.leader, &base.marks)
+        .map_err(out_of_memory)?;
+    if has_one_more(leader, &base.marks, &marks) {
+        return parts_beyond(alloc, graph, leader, base, marks);
+    }
+    parts_of(alloc, graph, groups, leader, marks)
+}
+
+/// The parts of a leader with these marks.
+pub(crate) fn parts_of(
+    alloc: Global,
+    graph: &WaitGraph,
+    groups: &Groups,
+    leader: u32,
+    marks: Vec<bool>,
+) -> Result<Parts, AllocError>
+    requires within { leader < process_count graph.now }
+    requires groups { AreGroupsOf graph.now groups.now }
+    requires leads { IsTrue (is_led_by groups.now.leaders.items leader leader) }
+    requires marks { marks.items ≡ map (reaches graph.now leader) (indices graph.now) }
+    ensures { IfOk result (ArePartsOf graph.now leader) }
+{
+    let reach = reach_of(alloc, graph, leader, &marks)?;
+    let (core, rest) = core_and_rest(alloc, &groups.leaders, leader, &reach)?;
+    Ok(Parts {
+        known: Known {
+            leader,
+            marks,
+            reach,
+        },
+        core,
+        rest,
+    })
+}
+
+/// The parts of a leader that reaches itself and whom the base does. It is a group by itself, and its
+/// rest is all that the base reaches.
+fn parts_beyond(
+    alloc: Global,
+    graph: &WaitGraph,
+    leader: u32,
+    base: &Known,
+    marks: Vec<bool>,
+) -> Result<Parts, AllocError>
+    requires within { leader < process_count graph.now }
+    requires base { IsKnownOf graph.now base.now }
+    requires beyond { Reaches graph.now leader base.now.leader }
+    requires marks { marks.items ≡ map (reaches graph.now leader) (indices graph.now) }
+    requires more { HasOneMore leader base.now.marks.items marks.items }
+    ensures { IfOk result (ArePartsOf graph.now leader) }
+{
+    law_built_graph(graph);
+    let reach = reach_beyond(alloc, graph, leader, base, &marks)?;
+    let rest = Vec::from_slice(alloc, &base.reach)?;
+    let mut core = Vec::new(alloc);
+    core.push(leader)?;
+    Ok(Parts {
+        known: Known {
+            leader,
+            marks,
+            reach,
+        },
+        core,
+        rest,
+    })
+}
+
+/// The processes that such a leader reaches, by rising index.
+fn reach_beyond(
+    alloc: Global,
+    graph: &WaitGraph,
+    leader: u32,
+    base: &Known,
+    marks: &[bool],
+) -> Result<Vec<u32>, AllocError>
+    requires within { leader < process_count graph.now }
+    requires base { IsKnownOf graph.now base.now }
+    requires beyond { Reaches graph.now leader base.now.leader }
+    requires marks { marks.now ≡ map (reaches graph.now leader) (indices graph.now) }
+    requires more { HasOneMore leader base.now.marks.items marks.now }
+    ensures { IfOk result (λ reach. reach.items ≡ reach_of graph.now leader) }
+{
+    law_built_graph(graph);
+    if is_before(leader, &base.reach) {
+        let mut reach = Vec::with_capacity(alloc, base.reach.len().saturating_add(1))?;
+        reach.push(leader)?;
+        reach.extend_from_slice(&base.reach)?;
+        return Ok(reach);
+    }
+    reach_of(alloc, graph, leader, marks)
+}
+
+/// Whether `p` is less than the first of the list.
+fn is_before(p: u32, list: &[u32]) -> bool
+    ensures { IsTrue result → p < slice_index list.now 0 }
+{
+    !list.is_empty() && p < list[0]
+}
+
+/// Whether the new marks are the old ones and that of `p`.
+fn has_one_more(p: u32, old: &[bool], new: &[bool]) -> bool
+    requires { (p < length old.now) × (length new.now ≡ length old.now) }
+    ensures { IsTrue result → HasOneMore p old.now new.now }
+{
+    let at = p as usize;
+    if old[at] {
+        return false;
+    }
+    if are_same(&old[..at], &new[..at]) {
+        return are_same(&old[at + 1..], &new[at + 1..]);
+    }
+    false
+}
+
+/// Whether two lists of marks are the same.
+fn are_same(old: &[bool], new: &[bool]) -> bool
+    ensures { IsTrue result → old.now ≡ new.now }
+{
+    old == new
+}
+
+/// The marked processes, which a leader reaches, by rising index. Who waits for nobody reaches itself
+/// alone, so that a look at all marks is spared where many such are.
+fn reach_of(
+    alloc: Global,
+    graph: &WaitGraph,
+    leader: u32,
+    marks: &[bool],
+) -> Result<Vec<u32>, AllocError>
+    requires within { leader < process_count graph.now }
+    requires marks { marks.now ≡ map (reaches graph.now leader) (indices graph.now) }
+    ensures { IfOk result (λ reach. reach.items ≡ reach_of graph.now leader) }
+{
+    if graph.dependents(leader).is_empty() {
+        return graph.reach_of(alloc, leader).map_err(out_of_memory);
+    }
+    law_built_graph(graph);
+    marked(alloc, marks)
+}
+
+/// The marked processes, by rising index.
+#[tactic(auto, using(cmh_graph::proofs::IndexLists::filter_indices_kept, cmh_graph::proofs::IndexLists::filter_indices_passed))]
+fn marked(alloc: Global, marks: &[bool]) -> Result<Vec<u32>, AllocError>
+    requires { length marks.now < 2 ^ 32 }
+    ensures { IfOk result (λ list.
+        list.items ≡ filter (is_marked marks.now) (range_with_len 0 (length marks.now))) }
+{
+    let mut list = Vec::new(alloc);
+    for p in 0..marks.len() {
+        if marks[p] {
+            list.push(p as u32)?;
+        }
+    }
+    Ok(list)
+}

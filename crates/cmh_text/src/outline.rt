@@ -1,0 +1,89 @@
+//! What the text of a report takes from an analysis.
+
+ghost use Rattle.std.specs.Prelude.{◌≡◌, length, map, IfOk, string_bytes};
+ghost use Rattle.cmh_graph.specs.Core.{group_leader};
+ghost use Rattle.cmh_graph.specs.Graph.{idle_list, indices};
+ghost use Rattle.cmh_text.specs.Report.{line, counts_line, totals_line, deadlocked_count};
+
+use crate::groups::Groups;
+use cmh_graph::WaitGraph;
+use std::alloc::{AllocError, Global};
+
+/// What the text takes from an analysis, which isn't needed once this is made: the groups of
+/// deadlocked processes, and the counts of the first line.
+#[derive(Drop)]
+pub struct Outline {
+    /// The first line.
+    pub(crate) totals: String,
+    deadlocked: u32,
+    pub(crate) groups: Groups,
+}
+
+impl Outline {
+    ghost use Rattle.cmh_text.specs.Outline.{IsOutlineOf};
+
+    /// Takes for each process the leader of its group, if it is deadlocked, and how many processes
+    /// are idle and deadlocked. The graph isn't searched: it takes time and memory linear in the
+    /// processes.
+    ///
+    /// # Errors
+    ///
+    /// Where memory is refused.
+    pub fn new(
+        alloc: Global,
+        graph: &WaitGraph,
+        leaders: Vec<Option<u32>>,
+        idle: u32,
+        deadlocked: u32,
+    ) -> Result<Outline, AllocError>
+        requires leaders { leaders.items ≡ map (group_leader graph.now) (indices graph.now) }
+        requires idle { idle ≡ length (idle_list graph.now) }
+        requires deadlocked { deadlocked ≡ deadlocked_count graph.now }
+        ensures { IfOk result (IsOutlineOf graph.now) }
+    {
+        let totals = totals(alloc, graph, idle, deadlocked)?;
+        let groups = Groups::of_leaders(alloc, graph, leaders)?;
+        Ok(Outline {
+            totals,
+            deadlocked,
+            groups,
+        })
+    }
+
+    /// How many processes are deadlocked.
+    pub fn deadlocked(&self) -> u32
+        ensures { result ≡ self.now.deadlocked }
+    {
+        self.deadlocked
+    }
+}
+
+/// A line of counts.
+fn counts(
+    alloc: Global,
+    all: u32,
+    active: u32,
+    idle: u32,
+    deadlocked: u32,
+) -> Result<String, AllocError>
+    ensures { IfOk result (λ text.
+        string_bytes text ≡ line (counts_line all active idle deadlocked)) }
+{
+    format!(in alloc; "processes {all} active {active} idle {idle} deadlocked {deadlocked}\n")
+}
+
+/// The first line, where so many processes are idle and deadlocked.
+#[tactic(auto, using(crate::proofs::Counts::active_and_idle))]
+fn totals(
+    alloc: Global,
+    graph: &WaitGraph,
+    idle: u32,
+    deadlocked: u32,
+) -> Result<String, AllocError>
+    requires idle { idle ≡ length (idle_list graph.now) }
+    requires deadlocked { deadlocked ≡ deadlocked_count graph.now }
+    ensures { IfOk result (λ text. string_bytes text ≡ line (totals_line graph.now)) }
+{
+    let all = graph.len();
+    counts(alloc, all, all - idle, idle, deadlocked)
+}
