@@ -14,11 +14,11 @@ use Rattle.cmh_run.specs.declared.fault.RunFault.TheVariants as run
 use Rattle.cmh_plan.specs.Plan.{IsFirstPlanFault}
 use Rattle.cmh_plan.specs.declared.fault.PlanFault.{PlanFault}
 use Rattle.cmh_plan.specs.declared.fault.PlanFault.TheVariants as plan
+use Rattle.cmh_text.specs.Report.{IsCountedReport, IsReport}
 use Rattle.cmh_report.specs.declared.fault.AppFault.{AppFault}
 use Rattle.cmh_report.specs.declared.fault.AppFault.TheVariants.{Dump, Work, NoSuchProcess, Run, Report, WriteFault}
 use Rattle.cmh_report.specs.Ends.{GaveGraph, IsCutShort, IsRefused}
 use Rattle.cmh_report.specs.Fault.{IfDump, IfNoSuchProcess, IfRun, IfUnwritten, IfWriteFault}
-use Rattle.cmh_text.specs.Report.{IsCountedReport, IsReport}
 use Rattle.cmh_report.specs.Trace.{HasNoRun, IsEndedTrace, IsFirstNamed, IsSomeTrace, NobodyIsNamed}
 use Rattle.cmh_command.specs.List.{IsFirstListFault, IsListOf}
 use Rattle.cmh.specs.Status.{status_of, status_of_dump, status_of_run, status_of_list, status_of_plan, AreBadPlanWords, Ends, FitsTrace, HasAnswered, HasCuts, HasDeadlock, HasFailed, HasRefusedDump, IsCutsStatus, IsDone, IsListStatus, IsMisused, IsOutcome, IsOutcomeOf, IsPlanStatus, IsUnread, IsUnwritten, NobodyIdleIsNamed}

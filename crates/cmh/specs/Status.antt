@@ -11,10 +11,10 @@ use Rattle.cmh_plan.specs.Plan.{IsFirstPlanFault}
 use Rattle.cmh_plan.specs.declared.TheConstants.{MAX_CUTS}
 use Rattle.cmh_plan.specs.declared.fault.PlanFault.{PlanFault}
 use Rattle.cmh_plan.specs.declared.fault.PlanFault.TheVariants as plan
+use Rattle.cmh_text.specs.Report.{IsCountedReport, IsReport}
 use Rattle.cmh_report.specs.declared.fault.AppFault.{AppFault}
 use Rattle.cmh_report.specs.declared.fault.AppFault.TheVariants.{Dump, Work, NoSuchProcess, Run, Report, WriteFault}
 use Rattle.cmh_report.specs.Ends.{GaveGraph, IsAnswer, IsCutShort, IsRefused}
-use Rattle.cmh_text.specs.Report.{IsCountedReport, IsReport}
 use Rattle.cmh_report.specs.Trace.{IsFirstNamed, IsSomeTrace}
 use Rattle.cmh_command.specs.List.{IsFirstListFault, IsListOf}
 use Rattle.cmh_command.specs.Words.{IsRequest}

@@ -23,9 +23,9 @@ use Rattle.cmh_work.specs.Leaders.{leader_at}
 use Rattle.cmh_graph.specs.Core.{group_leader}
 use Rattle.cmh_work.specs.Shape.{IsShape}
 use Rattle.cmh_work.proofs.LeadersLemmas.{none_at}
-use Rattle.cmh_report.specs.Records.{AreRecordsOf, IsSomeAnalysisOf, leader_in, tells_deadlocked, TellsOf}
 use Rattle.cmh_text.specs.Report.{deadlocked_count}
 use Rattle.cmh_text.proofs.Counts.{active_and_idle}
+use Rattle.cmh_report.specs.Records.{AreRecordsOf, IsSomeAnalysisOf, leader_in, tells_deadlocked, TellsOf}
 
 -- there are as many records as idle processes
 pub records_count : {L : Type 0} (g : Graph) (records : List (Record Run L)) → AreRecordsOf g records

@@ -8,8 +8,8 @@ use Rattle.cmh_run.specs.declared.delivery.Delivery.{Delivery}
 use Rattle.cmh_run.specs.declared.delivery.Ending.{Ending}
 use Rattle.cmh_run.specs.declared.delivery.Ending.TheVariants.{Declared, AtRest}
 use Rattle.cmh_run.specs.Run.{Run}
-use Rattle.cmh_report.specs.Trace.{trace_text, message_line}
 use Rattle.cmh_text.proofs.Examples.{idle, active, lf, two_in_a_cycle, waits_for_nobody}
+use Rattle.cmh_report.specs.Trace.{trace_text, message_line}
 
 -- the run of process 0 with these messages
 abbrev run_of : List Message → Ending → Run

@@ -23,8 +23,8 @@ use Rattle.cmh_run.specs.Run.{Run, IsRunAnswer, IsRunOf}
 use Rattle.cmh_run.proofs.BetweenLemmas.{messages_are_between}
 use Rattle.cmh_run.proofs.Determinism.{runs_are_deterministic, one_ending}
 use Rattle.cmh_run.proofs.Configurations.{by_test}
-use Rattle.cmh_report.specs.Trace.{ending_lines, message_line, trace_text, IsFirstNamed, HasLines, OneTrace}
 use Rattle.cmh_text.specs.Report.{line}
+use Rattle.cmh_report.specs.Trace.{ending_lines, message_line, trace_text, IsFirstNamed, HasLines, OneTrace}
 
 -- ---- endings
 

@@ -3,11 +3,11 @@
 ghost use Rattle.std.specs.Prelude.{◌≡◌, ◌+◌, true, IfOk, IfErr};
 ghost use Rattle.cmh_dump.specs.Source.{GaveAtMost};
 ghost use Rattle.cmh_dump.specs.declared.TheConstants.{MAX_BYTES};
+ghost use Rattle.cmh_text.specs.Outline.{IsOutlineOf};
+ghost use Rattle.cmh_text.specs.Report.{IsCountedReport, IsReport, report_text, deadlocked_count};
 ghost use Rattle.cmh_report.specs.Ends.{IsAnswer, IsCutShort, IsRefused};
 ghost use Rattle.cmh_report.specs.Fault.{IfDump, IfNoSuchProcess, IfRun, IfUnwritten, IfWork, IfWriteFault};
-ghost use Rattle.cmh_text.specs.Outline.{IsOutlineOf};
 ghost use Rattle.cmh_report.specs.Records.{IsSomeAnalysisOf};
-ghost use Rattle.cmh_text.specs.Report.{IsCountedReport, IsReport, report_text, deadlocked_count};
 
 use crate::fault::{AppFault, ReportFault};
 use crate::input::read_graph;

@@ -4,8 +4,8 @@
 ghost use Rattle.std.specs.Prelude.{◌≡◌, ◌<◌, ◌^◌, length, map, replicate, None, IfOk, count_by};
 ghost use Rattle.cmh_graph.specs.Core.{group_leader};
 ghost use Rattle.cmh_graph.specs.Graph.{indices};
-ghost use Rattle.cmh_report.specs.Records.{AreRecordsOf, leader_in, tells_deadlocked};
 ghost use Rattle.cmh_text.specs.Outline.{IsOutlineOf};
+ghost use Rattle.cmh_report.specs.Records.{AreRecordsOf, leader_in, tells_deadlocked};
 
 use cmh_graph::laws::law_built_graph;
 use cmh_graph::{Verdict, WaitGraph};

@@ -1,8 +1,8 @@
 //! The report on a graph that was analysed, as one text.
 
 ghost use Rattle.std.specs.Prelude.{◌≡◌, IfOk, string_bytes};
-ghost use Rattle.cmh_report.specs.Records.{AreRecordsOf, IsSomeAnalysisOf};
 ghost use Rattle.cmh_text.specs.Report.{report_text};
+ghost use Rattle.cmh_report.specs.Records.{AreRecordsOf, IsSomeAnalysisOf};
 
 use crate::ReportFault;
 use crate::records::outline_of;

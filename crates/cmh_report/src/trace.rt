@@ -6,9 +6,9 @@ ghost use Rattle.cmh_dump.specs.declared.TheConstants.{MAX_BYTES};
 ghost use Rattle.cmh_run.specs.Legal.{IsBetween};
 ghost use Rattle.cmh_run.specs.Run.{IsFirstRunFault};
 ghost use Rattle.cmh_run.specs.declared.fault.RunFault.{RunFault};
+ghost use Rattle.cmh_text.specs.Report.{line};
 ghost use Rattle.cmh_report.specs.Ends.{GaveGraph, IsAnswer, IsCutShort, IsRefused};
 ghost use Rattle.cmh_report.specs.Fault.{IfDump, IfNoSuchProcess, IfRun, IfUnwritten, IfWork, IfWriteFault};
-ghost use Rattle.cmh_text.specs.Report.{line};
 ghost use Rattle.cmh_report.specs.Trace.{ending_lines, message_line, trace_text, HasLines, HasNoRun, IsEndedTrace, IsFirstNamed, IsPlainRun, IsSomeTrace, IsTraceFault, NobodyIsNamed};
 
 use crate::fault::{AppFault, ReportFault};
