@@ -1,9 +1,11 @@
+-- the words of public contracts
 pub mod Analysis
 pub mod Cutting
 pub mod Fault
+pub mod Record
+pub mod Shape
+-- the words of private functions
 pub mod Finding
 pub mod Leaders
 pub mod Numbering
-pub mod Record
-pub mod Shape
 pub mod Working
