@@ -1,6 +1,6 @@
 -- A tree is refused for its first fault, and so are bytes.
 use Rattle.std.proofs.Common.{◌≡◌, ℕ, ◌<◌, ◌≤◌, List, length, Bool, true, false, cond, Option, Some, None, Ok, Err, ◌⊎◌, inl, inr, refl, sym, ap, ◌∙◌, subst, arith}
-use Rattle.std.specs.Prelude.{nat_lt, option_map, unwrap_or}
+use Rattle.std.specs.Prelude.{nat_lt, option_map, unwrap_or, ◌↔◌}
 use Rattle.std.specs.Option.{option_map_or}
 use Rattle.std.proofs.lemmas.Bool.{false≢true, ltb-true, ltb-false}
 use Rattle.serde_json.specs.Data.{Data}
@@ -9,7 +9,7 @@ use Rattle.cmh_dump.specs.declared.TheConstants.{MAX_BYTES}
 use Rattle.cmh_dump.specs.declared.fault.DumpFault.{DumpFault}
 use Rattle.cmh_dump.specs.declared.fault.DumpFault.TheVariants.{Memory, ReadFault, TooLong, NotJson}
 use Rattle.cmh_dump.specs.Dump.{holds, in_order, first_of, tree_graph, dump_of_tree, tree_of, dump}
-use Rattle.cmh_dump.specs.FirstFault.{IsOfTree, HasTreeFault, BytesHave, dump_fault_rank, AreNone, TreeFaultLaw, TreeGraphLaw, FirstFaultLaw, NoFaultLaw}
+use Rattle.cmh_dump.specs.FirstFault.{IsOfTree, HasTreeFault, BytesHave, dump_fault_rank, AreNone}
 use Rattle.cmh_dump.proofs.Order.{dump_fault_comes_before, not_before_itself, not_before_both}
 use Rattle.cmh_dump.proofs.Stages.{allowed_in, IsLeastOfLists, least_of_lists}
 use Rattle.cmh_dump.proofs.Table.{stands, none_holds, in_stages}
@@ -78,7 +78,8 @@ accepted None h g e = (refl, cc)
 accepted (Some f) h g e = absurd cc
 
 -- a tree is refused for the first fault that it has
-pub tree_fault_law : TreeFaultLaw
+pub tree_fault_law : (d : Data) (fault : DumpFault)
+    → (dump_of_tree d ≡ Err fault) ↔ IsFirstBy dump_fault_rank (HasTreeFault d) fault
 unfolding dump_of_tree
 tree_fault_law = λ d fault. (
   λ e. found_is_first d fault (refused (first_of (holds d) (in_order d)) (tree_graph d) fault e),
@@ -86,7 +87,8 @@ tree_fault_law = λ d fault. (
 )
 
 -- a tree without a fault, and no other, means its graph
-pub tree_graph_law : TreeGraphLaw
+pub tree_graph_law : (d : Data) (g : Graph)
+    → (dump_of_tree d ≡ Ok g) ↔ (AreNone (HasTreeFault d) × (g ≡ tree_graph d))
 unfolding dump_of_tree
 tree_graph_law = λ d g. (
   λ e. let a = accepted (first_of (holds d) (in_order d)) (tree_graph d) g e in (none_is_had d a.0, a.1),
@@ -165,7 +167,8 @@ first_in_tree bytes d fault l e h = record {
 }
 
 -- bytes are refused for the first fault that they have
-pub first_fault_law : FirstFaultLaw
+pub first_fault_law : (bytes : List ℕ) (fault : DumpFault)
+    → (dump bytes ≡ Err fault) ↔ IsFirstBy dump_fault_rank (BytesHave bytes) fault
 unfolding dump
 first_fault_law = λ bytes fault. (
   λ e. first bytes fault (nat_lt MAX_BYTES (length bytes)) refl (tree_of bytes) refl e,
@@ -212,7 +215,8 @@ graph_told bytes g e = clean bytes g (nat_lt MAX_BYTES (length bytes)) refl (tre
         (λ fault h. r.0 fault (tree_has bytes d fault (ltb-false MAX_BYTES (length bytes) l) t h), (d, t, r.1))
 
 -- bytes without a fault, and no others, mean the graph of their tree
-pub no_fault_law : NoFaultLaw
+pub no_fault_law : (bytes : List ℕ) (g : Graph)
+    → (dump bytes ≡ Ok g) ↔ (AreNone (BytesHave bytes) × (option_map tree_graph (tree_of bytes) ≡ Some g))
 unfolding dump
 no_fault_law = λ bytes g. (
   λ e. let r = graph_told bytes g e in (r.0, ap (option_map tree_graph) r.1.1 ∙ ap Some (sym r.1.2)),

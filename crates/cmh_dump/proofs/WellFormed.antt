@@ -1,6 +1,7 @@
 -- The graph of a tree without a fault is well formed.
+use Rattle.cmh_graph.specs.Graph.{Graph}
 use Rattle.std.proofs.Common.{◌≡◌, ◌≢◌, ℕ, zero, suc, ◌<◌, ◌≤◌, List, [], ◌∷◌, true, false, ◌&&◌, ◌⊎◌, inl, inr, map, take, length, get_or, sum, None, refl, sym, ap, ◌∙◌, subst, arith}
-use Rattle.std.specs.Prelude.{nat_lt, ◌==◌, not, sum_by}
+use Rattle.std.specs.Prelude.{nat_lt, ◌==◌, not, sum_by, Ok}
 use Rattle.std.specs.List.{list_all}
 use Rattle.std.proofs.lemmas.Bool.{false_from_ne_true, ltb-false, not-false, and_parts, eqb-true, cases_lt}
 use Rattle.std.proofs.lemmas.List.{length-map, get_or-map, get_or-take, length-take-le}
@@ -20,8 +21,8 @@ use Rattle.cmh_dump.specs.declared.fault.DumpFault.TheVariants.{TooManyProcesses
 use Rattle.cmh_dump.specs.Name.{is_among, place_of}
 use Rattle.cmh_dump.specs.Tree.{text_of, texts_of, elements_of}
 use Rattle.cmh_dump.specs.Entry.{sites, processes, transits, Entry, entry_of, entries, entry, names, is_pair}
-use Rattle.cmh_dump.specs.Dump.{holds, in_order, first_of, process_by, places_in_pair, tree_graph}
-use Rattle.cmh_dump.specs.FirstFault.{IsOfTree, HasTreeFault, AreNone, HasDependent, DumpWellFormedLaw}
+use Rattle.cmh_dump.specs.Dump.{holds, in_order, first_of, process_by, places_in_pair, tree_graph, dump}
+use Rattle.cmh_dump.specs.FirstFault.{IsOfTree, HasTreeFault, AreNone, HasDependent}
 use Rattle.cmh_dump.proofs.Places.{place_within, same_from_places, differs}
 use Rattle.cmh_dump.proofs.Table.{none_holds}
 use Rattle.cmh_dump.proofs.FirstFaults.{bytes_have, graph_told}
@@ -215,7 +216,7 @@ clean : (d : Data) → AreNone (HasTreeFault d) → IsClean d
 clean d none fault t = false_from_ne_true (holds d fault) (λ h. none fault (t, h))
 
 -- the graph that bytes mean is well formed
-pub well_formed_law : DumpWellFormedLaw
+pub well_formed_law : (bytes : List ℕ) (g : Graph) → dump bytes ≡ Ok g → IsWellFormed g
 well_formed_law = λ bytes g e.
     let r = graph_told bytes g e in
     let d = r.1.0 in

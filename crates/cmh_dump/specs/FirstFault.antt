@@ -1,14 +1,11 @@
 -- Which fault of a dump is the first, and what the laws of dumps say.
-use Rattle.std.specs.Prelude.{◌≡◌, ◌↔◌, ℕ, ◌<◌, List, [], ◌∷◌, length, Some, None, option_map, Ok, Err, IsTrue, ⊤}
+use Rattle.std.specs.Prelude.{◌≡◌, ℕ, ◌<◌, List, [], ◌∷◌, length, Some, None, IsTrue, ⊤}
 use Rattle.serde_json.specs.Data.{Data}
-use Rattle.cmh_graph.specs.Graph.{Graph}
-use Rattle.cmh_graph.specs.Build.{IsWellFormed}
-use Rattle.cmh_graph.specs.First.{IsFirstBy}
 use Rattle.cmh_dump.specs.declared.TheConstants.{MAX_BYTES}
 use Rattle.cmh_dump.specs.declared.fault.DumpFault.{DumpFault}
 use Rattle.cmh_dump.specs.declared.fault.DumpFault.TheVariants.{Memory, ReadFault, TooLong, NotJson, BadTop, BadVersion, BadSites, RepeatedSite, TooManySites, TooManyProcesses, BadProcess, RepeatedProcess, UnknownSite, UnknownDependent, RepeatedDependent, ActiveWithDependents, TooManyDependencies, TooManyInTransit, BadInTransit, UnknownInTransit}
 use Rattle.cmh_dump.specs.Entry.{sites, processes, transits, entry}
-use Rattle.cmh_dump.specs.Dump.{holds, tree_graph, dump_of_tree, tree_of, dump}
+use Rattle.cmh_dump.specs.Dump.{holds, tree_of}
 
 -- ---- the faults that a tree has, and those that bytes have
 
@@ -79,27 +76,3 @@ abbrev pub AreNone : (DumpFault → Type 0) → Type 0
 AreNone These = (fault : DumpFault) → These fault → ⊥
 
 -- ---- the laws
-
--- a tree is refused for the first fault that it has
-abbrev pub TreeFaultLaw : Type 0
-TreeFaultLaw = (d : Data) (fault : DumpFault)
-    → (dump_of_tree d ≡ Err fault) ↔ IsFirstBy dump_fault_rank (HasTreeFault d) fault
-
--- a tree without a fault, and no other, means a graph, and that is the one of its names
-abbrev pub TreeGraphLaw : Type 0
-TreeGraphLaw = (d : Data) (g : Graph)
-    → (dump_of_tree d ≡ Ok g) ↔ (AreNone (HasTreeFault d) × (g ≡ tree_graph d))
-
--- bytes are refused for the first fault that they have
-abbrev pub FirstFaultLaw : Type 0
-FirstFaultLaw = (bytes : List ℕ) (fault : DumpFault)
-    → (dump bytes ≡ Err fault) ↔ IsFirstBy dump_fault_rank (BytesHave bytes) fault
-
--- bytes without a fault, and no others, mean a graph, and that is the one of their tree
-abbrev pub NoFaultLaw : Type 0
-NoFaultLaw = (bytes : List ℕ) (g : Graph)
-    → (dump bytes ≡ Ok g) ↔ (AreNone (BytesHave bytes) × (option_map tree_graph (tree_of bytes) ≡ Some g))
-
--- what bytes mean is a graph that can be built
-abbrev pub DumpWellFormedLaw : Type 0
-DumpWellFormedLaw = (bytes : List ℕ) (g : Graph) → dump bytes ≡ Ok g → IsWellFormed g

@@ -1,6 +1,6 @@
 -- Well formed is without a fault, and which fault is the first.
 use Rattle.std.proofs.Common.{◌≡◌, ℕ, zero, suc, false, ◌<◌, ◌≤◌, ◌⊎◌, inl, inr, List, [], ◌∷◌, length, get_or, refl, sym, subst, arith}
-use Rattle.std.specs.Prelude.{IsFalse}
+use Rattle.std.specs.Prelude.{IsFalse, ◌↔◌}
 use Rattle.std.specs.Cmp.{nat_cmp_is}
 use Rattle.std.specs.Cmp.Lexicographic.{slice_cmp}
 use Rattle.std.specs.Ordering.{is_lt, nat_cmp}
@@ -9,7 +9,7 @@ use native.Mathlib.Decide.{dec_lt}
 use Rattle.cmh_graph.specs.declared.TheConstants.{MAX_PROCESSES, MAX_DEPENDENCIES, MAX_IN_TRANSIT}
 use Rattle.cmh_graph.specs.declared.fault.GraphFault.{GraphFault}
 use Rattle.cmh_graph.specs.declared.fault.GraphFault.TheVariants.{TooManyProcesses, TooManyDependencies, DependentOutOfRange, RepeatedDependent, ActiveWithDependents, TooManyInTransit, TransitOutOfRange, Memory}
-use Rattle.cmh_graph.specs.Build.{graph_fault_rank, dependent_count, message_at, HasGraphFault, IsFirstGraphFault, IsWellFormed, WellFormedLaw}
+use Rattle.cmh_graph.specs.Build.{graph_fault_rank, dependent_count, message_at, HasGraphFault, IsFirstGraphFault, IsWellFormed}
 use Rattle.cmh_graph.specs.First.{comes_before}
 use Rattle.cmh_graph.specs.Graph.{Process, Graph, process_count, dependents_of, is_idle, nobody, dependent_at, IsWithinGraph}
 use Rattle.cmh_graph.specs.Judge.{IsFirst, IsFirstDependent}
@@ -61,7 +61,7 @@ no_fault g w (TransitOutOfRange i) (l, inr h) = let b = w.received_within i l in
 no_fault g w Memory h = h
 
 -- a graph is well formed just where it has no fault
-pub well_formed_law : WellFormedLaw
+pub well_formed_law : (g : Graph) → IsWellFormed g ↔ ((fault : GraphFault) → HasGraphFault g fault → ⊥)
 well_formed_law = λ g. (λ w fault h. no_fault g w fault h, λ h. without_fault g h)
 
 -- ---- the first fault

@@ -1,6 +1,6 @@
 -- The chosen path.
 use Rattle.std.proofs.Common.{◌≡◌, ℕ, zero, suc, ◌+◌, ◌<◌, ◌≤◌, Bool, true, false, cond, inl, inr, List, [], ◌∷◌, ◌++◌, append_assoc, map, length, get_or, IsFalse, refl, sym, ◌∙◌, ap, subst, arith}
-use Rattle.std.specs.Prelude.{Contains, flat_map, fold, Some, None, Option, is_some, IsSome, unwrap_or, option_and_then}
+use Rattle.std.specs.Prelude.{Contains, flat_map, fold, Some, None, Option, is_some, IsSome, unwrap_or, option_and_then, ◌↔◌}
 use Rattle.std.specs.List.{reduce}
 use Rattle.std.specs.Ordering.{nat_cmp, is_lt}
 use Rattle.std.specs.Cmp.{nat_cmp_is}
@@ -9,7 +9,7 @@ use Rattle.std.proofs.lemmas.List.Elements.{Contains-append_left, Contains-appen
 use Rattle.std.proofs.lemmas.List.MinMax.{IsFirstBest-from_best_of, ranks_by}
 use Rattle.std.proofs.lemmas.Cmp.{nat_list_cmp_total}
 use Rattle.cmh_graph.specs.Build.{IsWellFormed}
-use Rattle.cmh_graph.specs.ChosenPath.{distance_of, chosen_path, lesser_path, IsChosenPath, IsWayOut, ChosenPathLaw, ChosenPathExistsLaw}
+use Rattle.cmh_graph.specs.ChosenPath.{distance_of, chosen_path, lesser_path, IsChosenPath, IsWayOut}
 use Rattle.cmh_graph.specs.Graph.{Depends, IsWithinGraph, Graph, process_count, is_awake, dependencies_of, dependents_of, indices}
 use Rattle.cmh_graph.specs.Path.{Leads, IsPath, Reaches, paths_to, is_nonempty}
 use Rattle.cmh_graph.specs.Search.{IsLeastAt, number_at}
@@ -250,7 +250,8 @@ is_chosen g p path w i c =
     s.1 ∙ ap (λ z. Some z) (one_chosen g p s.0 path (chosen_is g p s.0 s.1) c)
 
 -- the chosen path is the one that its words say
-pub chosen_path_law : ChosenPathLaw
+pub chosen_path_law : (g : Graph) (p : ℕ) (path : List ℕ) → IsWithinGraph g → p < process_count g
+    → (chosen_path g p ≡ Some path) ↔ IsChosenPath g p path
 chosen_path_law = λ g p path w i. (λ e. chosen_is g p path e, λ c. is_chosen g p path w i c)
 
 -- without a chosen path no reached process is awake
@@ -270,7 +271,8 @@ then_none g p (Some path) e h =
     absurd cc
 
 -- there is no chosen path just where no reached process is awake
-pub chosen_path_exists_law : ChosenPathExistsLaw
+pub chosen_path_exists_law : (g : Graph) (p : ℕ) → IsWithinGraph g → p < process_count g
+    → (chosen_path g p ≡ None) ↔ ((q : ℕ) → Reaches g p q → IsFalse (is_awake g q))
 chosen_path_exists_law =
     λ g p w i. (λ e q r. none_then g p q w i e r (is_awake g q) refl, λ h. then_none g p (chosen_path g p) refl h)
 

@@ -1,12 +1,14 @@
 -- Cores.
-use Rattle.cmh_graph.specs.Core.{CoreLaw}
-use Rattle.cmh_graph.specs.Graph.{process_count, indices}
-use Rattle.cmh_graph.specs.Path.{reaches, reach_of}
+use Rattle.std.specs.Prelude.{ℕ, ◌<◌, ◌↔◌, Contains}
+use Rattle.cmh_graph.specs.Core.{core_of}
+use Rattle.cmh_graph.specs.Graph.{process_count, indices, Graph, IsWithinGraph}
+use Rattle.cmh_graph.specs.Path.{reaches, reach_of, Reaches}
 use Rattle.cmh_graph.proofs.PathLemmas.{reaches_then, then_reaches, contains_index}
 use Rattle.cmh_graph.proofs.Verdicts.{contains_filter, reached_within, filter_contains}
 
 -- q is in p's core just where each reaches the other
-pub core_law : CoreLaw
+pub core_law : (g : Graph) (p q : ℕ) → IsWithinGraph g → p < process_count g
+    → Contains (core_of g p) q ↔ (Reaches g p q × Reaches g q p)
 core_law = λ g p q w i. (
   λ c. let outer = filter_contains (λ r. reaches g r p) (reach_of g p) q c in
       let inner = filter_contains (reaches g p) (indices g) q outer.0 in

@@ -1,6 +1,6 @@
 -- The groups of deadlocked processes: rests, leaders and numbers.
 use Rattle.std.proofs.Common.{◌≡◌, ℕ, zero, suc, ◌+◌, ◌<◌, ◌≤◌, ◌&&◌, Bool, true, false, not, cond, ◌⊎◌, inl, inr, eqb, leb, List, [], ◌∷◌, length, get_or, refl, sym, ◌∙◌, ap, subst, arith, eqb-true, eq-eqb}
-use Rattle.std.specs.Prelude.{All, Contains, AllPairs, filter, count_by}
+use Rattle.std.specs.Prelude.{All, Contains, AllPairs, filter, count_by, ◌↔◌}
 use Rattle.std.specs.List.{range_with_len}
 use Rattle.std.specs.List.Sorted.{IsStrictlyIncreasing}
 use Rattle.std.proofs.lemmas.Bool.{leb-true, le-leb, false_from_ne_true}
@@ -11,7 +11,7 @@ use Rattle.std.proofs.lemmas.List.Sums.{count_by-le-length}
 use Rattle.std.proofs.lemmas.List.Recursion.{is_count_by}
 use Rattle.std.proofs.lemmas.List.Kept.{AllPairs-from_increasing, IsStrictlyIncreasing-filter}
 use native.Mathlib.Decide.{dec_lt}
-use Rattle.cmh_graph.specs.Core.{core_of, leader_of, leaders, group_number, RestLaw, RisingLaw, IsLeader, LeaderLaw, LeadersLaw, GroupNumberLaw}
+use Rattle.cmh_graph.specs.Core.{core_of, leader_of, leaders, group_number, IsLeader, rest_of, AreLeaders, AreGroupsNumbered}
 use Rattle.cmh_graph.specs.Graph.{Graph, process_count, indices, IsWithinGraph}
 use Rattle.cmh_graph.specs.Path.{Leads, Reaches, reaches, reach_of}
 use Rattle.cmh_graph.specs.Verdict.{IsDeadlocked, is_deadlocked}
@@ -28,7 +28,8 @@ never_both true e f = cc
 never_both false e f = cc
 
 -- the rest is who is reached and isn't in the core
-pub rest_law : RestLaw
+pub rest_law : (g : Graph) (p q : ℕ) → IsWithinGraph g → p < process_count g
+    → Contains (rest_of g p) q ↔ (Reaches g p q × (Contains (core_of g p) q → ⊥))
 rest_law = λ g p q w i. (
   λ c. let kept = filter_contains (λ r. not (reaches g r p)) (reach_of g p) q c in
       let there = filter_contains (reaches g p) (indices g) q kept.0 in
@@ -62,7 +63,8 @@ core_rises : (g : Graph) (p : ℕ) → IsStrictlyIncreasing (core_of g p)
 core_rises g p = IsStrictlyIncreasing-filter (λ q. reaches g q p) (reach_of g p) (reach_rises g p)
 
 -- what a process reaches, its core and its rest stand by rising index
-pub rising_law : RisingLaw
+pub rising_law : (g : Graph) (p : ℕ) → IsStrictlyIncreasing (reach_of g p)
+    × IsStrictlyIncreasing (core_of g p) × IsStrictlyIncreasing (rest_of g p)
 rising_law =
     λ g p. (
       reach_rises g p,
@@ -170,7 +172,8 @@ one_leader : (g : Graph) (p l m : ℕ) → IsLeader g p l → IsLeader g p m →
 one_leader g p l m a b = omega (arith, a.least m b.member, b.least l a.member)
 
 -- the leader is the one that its words say
-pub leader_law : LeaderLaw
+pub leader_law : (g : Graph) (p leader : ℕ) → IsWithinGraph g → p < process_count g
+    → (leader_of g p ≡ leader) ↔ IsLeader g p leader
 leader_law = λ g p l w i. (
   λ e. subst (λ z. IsLeader g p z) e (leader_is g p w i),
   λ h. one_leader g p (leader_of g p) l (leader_is g p w i) h,
@@ -212,7 +215,7 @@ unfolding leads_itself
 leaders_rise g = IsStrictlyIncreasing-filter (leads_itself g) (indices g) (indices_rise (process_count g))
 
 -- the list of leaders is the one that its words say
-pub leaders_law : LeadersLaw
+pub leaders_law : (g : Graph) → IsWithinGraph g → AreLeaders g (leaders g)
 leaders_law = λ g w. record {
   rise = leaders_rise g;
   lead = λ l. (
@@ -397,7 +400,7 @@ number_at_place g w k l =
     )
 
 -- the groups are numbered as the words say
-pub group_number_law : GroupNumberLaw
+pub group_number_law : (g : Graph) → IsWithinGraph g → AreGroupsNumbered g
 group_number_law = λ g w. record {
   from_one = λ p dead. omega (arith, number_is g p, up_to_one (leaders g) (leader_of g p) (leader_listed g w p dead));
   to_last = λ p dead. count_by-le-length (λ q. leb q (leader_of g p)) (leaders g);

@@ -1,6 +1,6 @@
 -- What the tests of paths say.
 use Rattle.std.proofs.Common.{get_or, ◌≡◌, ℕ, zero, suc, ◌<◌, ◌≤◌, Bool, true, false, cond, ◌||◌, ◌⊎◌, inl, inr, List, [], ◌∷◌, ◌++◌, map, length, refl, sym, ◌∙◌, ap, subst, arith, eqb, eqb-true, eq-eqb}
-use Rattle.std.specs.Prelude.{Contains, flat_map, find, is_some, Some, Option, ⊤}
+use Rattle.std.specs.Prelude.{Contains, flat_map, find, is_some, Some, Option, ⊤, ◌↔◌, IsTrue}
 use Rattle.std.specs.List.{list_any, range_with_len, AllByRecursion, IsDistinct}
 use Rattle.std.proofs.lemmas.List.FromFn.{length-range_with_len, get_or-range_with_len}
 use Rattle.std.proofs.lemmas.List.{get_or_default}
@@ -8,7 +8,7 @@ use Rattle.std.proofs.lemmas.Map.Keys.{IsDistinct-cons, IsDistinct-tail}
 use Rattle.std.proofs.lemmas.Map.Steps.{length-le_from_distinct_below}
 use Rattle.std.proofs.lemmas.Bool.{or_parts}
 use Rattle.cmh_graph.specs.Graph.{IsWithinGraph, Graph, process_count, dependents_of, dependencies_of, is_idle, Depends, indices}
-use Rattle.cmh_graph.specs.Path.{Leads, Reaches, paths_to, is_nonempty, reaches, ReachLaw}
+use Rattle.cmh_graph.specs.Path.{Leads, Reaches, paths_to, is_nonempty, reaches}
 
 -- ---- lists
 
@@ -272,5 +272,6 @@ then_reaches g p q w i ([], e) = absurd e
 then_reaches g p q w i (x ∷ rest, (e, l)) = leads_reaches g p q w i rest l
 
 -- the test of reach says what the relation says
-pub reach_law : ReachLaw
+pub reach_law : (g : Graph) (p q : ℕ) → IsWithinGraph g → p < process_count g
+    → IsTrue (reaches g p q) ↔ Reaches g p q
 reach_law = λ g p q w i. (λ e. reaches_then g p q e, λ r. then_reaches g p q w i r)

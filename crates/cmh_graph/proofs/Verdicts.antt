@@ -1,6 +1,6 @@
 -- The verdict by its test, by paths and by deadlocked sets.
 use Rattle.std.proofs.Common.{◌≡◌, ℕ, zero, suc, ◌<◌, Bool, true, false, not, cond, ◌&&◌, ◌||◌, ◌⊎◌, inl, inr, List, [], ◌∷◌, length, get_or, refl, sym, ◌∙◌, ap, subst, arith}
-use Rattle.std.specs.Prelude.{Contains, filter}
+use Rattle.std.specs.Prelude.{Contains, filter, ◌↔◌, IsTrue}
 use Rattle.std.specs.List.{list_all}
 use Rattle.std.proofs.lemmas.List.FromFn.{get_or-map-range_with_len}
 use Rattle.std.proofs.lemmas.Bool.{not-true, not_from_false}
@@ -8,7 +8,7 @@ use Rattle.cmh_graph.specs.Graph.{IsWithinGraph, Graph, Process, process_count, 
 use Rattle.cmh_graph.specs.Path.{Leads, Reaches, reaches, reach_of}
 use Rattle.cmh_graph.specs.declared.verdict.Verdict.{Verdict}
 use Rattle.cmh_graph.specs.declared.verdict.Verdict.TheVariants.{Deadlocked, Free}
-use Rattle.cmh_graph.specs.Verdict.{IsDeadlocked, is_deadlocked, IsDeadlockedSet, IsVerdict, VerdictLaw, ClosedSetLaw, verdict, verdicts}
+use Rattle.cmh_graph.specs.Verdict.{IsDeadlocked, is_deadlocked, IsDeadlockedSet, IsVerdict, verdict, verdicts, IsInDeadlockedSet}
 use Rattle.cmh_graph.proofs.PathLemmas.{depends_within, cons_contains, contains_cons, reaches_then, then_reaches, contains_index}
 
 -- what is idle is one of the list
@@ -80,7 +80,7 @@ reach_is_set g p w i d = record {
 }
 
 -- deadlocked by paths is deadlocked by sets
-pub closed_set_law : ClosedSetLaw
+pub closed_set_law : (g : Graph) (p : ℕ) → IsWithinGraph g → IsDeadlocked g p ↔ IsInDeadlockedSet g p
 closed_set_law = λ g p w. (
   λ d. let i =
       idle_within g p d.0 in (reaches g p, then_reaches g p p w i (p ∷ [], (refl, refl)), reach_is_set g p w i d),
@@ -167,7 +167,7 @@ then_test g p d =
     ) refl
 
 -- the test of deadlock says what the relation says
-pub verdict_law : VerdictLaw
+pub verdict_law : (g : Graph) (p : ℕ) → IsWithinGraph g → IsTrue (is_deadlocked g p) ↔ IsDeadlocked g p
 verdict_law = λ g p w. (λ e. test_then g p w e, λ d. then_test g p d)
 
 -- ---- the verdict in words

@@ -1,7 +1,7 @@
 -- How long the ways out are.
 use Rattle.std.proofs.Common.{◌≡◌, ℕ, suc, ◌<◌, true, false, List, [], ◌∷◌, length, refl, sym, ◌∙◌, ap, subst, arith}
-use Rattle.std.specs.Prelude.{Contains, Some, None, Option, is_some}
-use Rattle.cmh_graph.specs.ChosenPath.{distance_of, chosen_path, IsWayOut, IsDistance, DistanceLaw, PathLengthLaw}
+use Rattle.std.specs.Prelude.{Contains, Some, None, Option, is_some, ◌↔◌, ◌+◌}
+use Rattle.cmh_graph.specs.ChosenPath.{distance_of, chosen_path, IsWayOut, IsDistance}
 use Rattle.cmh_graph.specs.Graph.{Graph, IsWithinGraph, is_awake, process_count}
 use Rattle.cmh_graph.specs.Path.{IsPath, is_nonempty, paths_to}
 use Rattle.cmh_graph.proofs.ChosenPathLemmas.{chosen_is, chosen_length, has_distance, listed_is, length_is, way_out_length}
@@ -52,7 +52,8 @@ is_distance g w p i distance d =
     is_distance_by g w p i distance (distance_of g p) d refl (distance_is g w p i (distance_of g p) refl)
 
 -- the distance is the one that its words say
-pub distance_law : DistanceLaw
+pub distance_law : (g : Graph) (p : ℕ) (distance : Option ℕ) → IsWithinGraph g → p < process_count g
+    → (distance_of g p ≡ distance) ↔ IsDistance g p distance
 distance_law = λ g p distance w i. (λ e. distance_is g w p i distance e, λ d. is_distance g w p i distance d)
 
 -- a process with a chosen path has a distance, by cases
@@ -63,5 +64,6 @@ length_by g p path e (Some n) f = (n, f, chosen_length g p n path f (chosen_is g
 length_by g p path e None f = cc
 
 -- the chosen path has one process more than its distance
-pub path_length_law : PathLengthLaw
+pub path_length_law : (g : Graph) (p : ℕ) (path : List ℕ) → chosen_path g p ≡ Some path
+    → (n : ℕ) × (distance_of g p ≡ Some n) × (length path ≡ n + 1)
 path_length_law = λ g p path e. let l = length_by g p path e (distance_of g p) refl in (l.0, l.1, omega (arith, l.2))

@@ -1,5 +1,5 @@
 -- The graph that parts and messages in transit stand for, and what refuses it.
-use Rattle.std.specs.Prelude.{◌≡◌, ◌≢◌, ◌⊎◌, ◌↔◌, ℕ, ◌<◌, ◌≤◌, List, [], ◌∷◌, map, length, sum_by, slice_index_or, string_bytes, IsFalse}
+use Rattle.std.specs.Prelude.{◌≡◌, ◌≢◌, ◌⊎◌, ℕ, ◌<◌, ◌≤◌, List, [], ◌∷◌, map, length, sum_by, slice_index_or, string_bytes, IsFalse}
 use Rattle.cmh_graph.specs.declared.TheConstants.{MAX_PROCESSES, MAX_DEPENDENCIES, MAX_IN_TRANSIT}
 use Rattle.cmh_graph.specs.declared.part.Part.{Part}
 use Rattle.cmh_graph.specs.declared.fault.GraphFault.{GraphFault}
@@ -70,7 +70,3 @@ pub record IsWellFormed (g : Graph) : Type 0 where
   pub messages : length g.in_transit ≤ MAX_IN_TRANSIT
   pub sent_within : (i : ℕ) → i < length g.in_transit → (message_at g i).0 < process_count g
   pub received_within : (i : ℕ) → i < length g.in_transit → (message_at g i).1 < process_count g
-
--- a graph is well formed just where it has no fault
-abbrev pub WellFormedLaw : Type 0
-WellFormedLaw = (g : Graph) → IsWellFormed g ↔ ((fault : GraphFault) → HasGraphFault g fault → ⊥)

@@ -1,10 +1,10 @@
 -- The chosen path from a process to an awake one.
-use Rattle.std.specs.Prelude.{◌≡◌, ℕ, ◌+◌, ◌<◌, ◌≤◌, ◌↔◌, false, List, length, IsTrue, IsFalse, Option, Some, None, option_and_then}
+use Rattle.std.specs.Prelude.{◌≡◌, ℕ, ◌+◌, ◌≤◌, false, List, length, IsTrue, Option, Some, None, option_and_then}
 use Rattle.std.specs.List.{reduce}
 use Rattle.std.specs.Ordering.{nat_cmp, ord_min, is_lt}
 use Rattle.std.specs.Cmp.Lexicographic.{slice_cmp}
-use Rattle.cmh_graph.specs.Graph.{Graph, is_awake, process_count, IsWithinGraph}
-use Rattle.cmh_graph.specs.Path.{IsPath, Reaches, paths_to, steps_to}
+use Rattle.cmh_graph.specs.Graph.{Graph, is_awake}
+use Rattle.cmh_graph.specs.Path.{IsPath, paths_to, steps_to}
 
 -- the least number of dependencies from p to an awake process
 unfoldable pub distance_of : Graph → ℕ → Option ℕ
@@ -31,16 +31,6 @@ pub record IsChosenPath (g : Graph) (p : ℕ) (path : List ℕ) : Type 0 where
   pub least : (other : List ℕ) → IsWayOut g p other → length other ≡ length path
       → is_lt (slice_cmp nat_cmp other path) ≡ false
 
--- the chosen path is the one that its words say
-abbrev pub ChosenPathLaw : Type 0
-ChosenPathLaw = (g : Graph) (p : ℕ) (path : List ℕ) → IsWithinGraph g → p < process_count g
-    → (chosen_path g p ≡ Some path) ↔ IsChosenPath g p path
-
--- there is no chosen path just where p reaches no awake process
-abbrev pub ChosenPathExistsLaw : Type 0
-ChosenPathExistsLaw = (g : Graph) (p : ℕ) → IsWithinGraph g → p < process_count g
-    → (chosen_path g p ≡ None) ↔ ((q : ℕ) → Reaches g p q → IsFalse (is_awake g q))
-
 -- A distance in words: a path of so many dependencies leads from p to an awake process, and no
 -- shorter one does. A path has one process more than dependencies. Without a distance no path
 -- leads to an awake process.
@@ -48,13 +38,3 @@ abbrev pub IsDistance : Graph → ℕ → Option ℕ → Type 0
 IsDistance g p (Some n) = ((path : List ℕ) × IsWayOut g p path × (length path ≡ n + 1))
     × ((other : List ℕ) → IsWayOut g p other → n + 1 ≤ length other)
 IsDistance g p None = (path : List ℕ) → IsWayOut g p path → ⊥
-
--- the distance is the one that its words say
-abbrev pub DistanceLaw : Type 0
-DistanceLaw = (g : Graph) (p : ℕ) (distance : Option ℕ) → IsWithinGraph g → p < process_count g
-    → (distance_of g p ≡ distance) ↔ IsDistance g p distance
-
--- the chosen path has one process more than its distance
-abbrev pub PathLengthLaw : Type 0
-PathLengthLaw = (g : Graph) (p : ℕ) (path : List ℕ) → chosen_path g p ≡ Some path
-    → (n : ℕ) × (distance_of g p ≡ Some n) × (length path ≡ n + 1)

@@ -1,8 +1,8 @@
 -- The groups of deadlocked processes: cores, rests, leaders and numbers.
 use Rattle.std.specs.Prelude.{◌≡◌, ℕ, not, ◌<◌, ◌≤◌, ◌↔◌, ◌&&◌, ◌==◌, nat_le, List, length, Contains, filter, slice_index, count_by, if◌then◌else◌, Option, Some, None}
 use Rattle.std.specs.List.Sorted.{IsStrictlyIncreasing}
-use Rattle.cmh_graph.specs.Graph.{Graph, indices, process_count, IsWithinGraph}
-use Rattle.cmh_graph.specs.Path.{Reaches, reaches, reach_of}
+use Rattle.cmh_graph.specs.Graph.{Graph, indices}
+use Rattle.cmh_graph.specs.Path.{reaches, reach_of}
 use Rattle.cmh_graph.specs.Verdict.{IsDeadlocked, is_deadlocked}
 
 -- the processes that p reaches and that reach p, by rising index
@@ -29,39 +29,15 @@ group_leader g p = if is_deadlocked g p then Some (leader_of g p) else None
 abbrev pub group_number : Graph → ℕ → ℕ
 group_number g p = count_by (λ q. nat_le q (leader_of g p)) (leaders g)
 
--- q is in p's core just where each reaches the other
-abbrev pub CoreLaw : Type 0
-CoreLaw = (g : Graph) (p q : ℕ) → IsWithinGraph g → p < process_count g
-    → Contains (core_of g p) q ↔ (Reaches g p q × Reaches g q p)
-
--- q is in p's rest just where p reaches it and it isn't in p's core
-abbrev pub RestLaw : Type 0
-RestLaw = (g : Graph) (p q : ℕ) → IsWithinGraph g → p < process_count g
-    → Contains (rest_of g p) q ↔ (Reaches g p q × (Contains (core_of g p) q → ⊥))
-
--- what is reached, a core and a rest stand by rising index, nobody twice
-abbrev pub RisingLaw : Type 0
-RisingLaw = (g : Graph) (p : ℕ) → IsStrictlyIncreasing (reach_of g p)
-    × IsStrictlyIncreasing (core_of g p) × IsStrictlyIncreasing (rest_of g p)
-
 -- the leader of p in words: it is in p's core, and nobody there is less
 pub record IsLeader (g : Graph) (p leader : ℕ) : Type 0 where
   pub member : Contains (core_of g p) leader
   pub least : (q : ℕ) → Contains (core_of g p) q → leader ≤ q
 
--- the leader is the one that its words say
-abbrev pub LeaderLaw : Type 0
-LeaderLaw = (g : Graph) (p leader : ℕ) → IsWithinGraph g → p < process_count g
-    → (leader_of g p ≡ leader) ↔ IsLeader g p leader
-
 -- The list of leaders rises, and has just those who lead the core of a deadlocked process.
 pub record AreLeaders (g : Graph) (list : List ℕ) : Type 0 where
   pub rise : IsStrictlyIncreasing list
   pub lead : (l : ℕ) → Contains list l ↔ ((p : ℕ) × IsDeadlocked g p × IsLeader g p l)
-
--- the list of leaders is the one that its words say
-abbrev pub LeadersLaw : Type 0
-LeadersLaw = (g : Graph) → IsWithinGraph g → AreLeaders g (leaders g)
 
 -- In words: the numbers of groups go from 1 to the number of leaders and leave none out, deadlocked
 -- processes have one number just where they are of one core, and the numbers rise by the leaders.
@@ -74,7 +50,3 @@ pub record AreGroupsNumbered (g : Graph) : Type 0 where
       → (group_number g p ≡ group_number g q) ↔ Contains (core_of g p) q
   pub rise : (p q : ℕ) → IsDeadlocked g p → IsDeadlocked g q
       → (group_number g p < group_number g q) ↔ (leader_of g p < leader_of g q)
-
--- the groups are numbered as the words say
-abbrev pub GroupNumberLaw : Type 0
-GroupNumberLaw = (g : Graph) → IsWithinGraph g → AreGroupsNumbered g

@@ -1,6 +1,6 @@
 -- Paths along dependencies, and what they reach.
-use Rattle.std.specs.Prelude.{◌≡◌, ℕ, zero, suc, ◌<◌, ◌↔◌, Bool, true, false, ◌==◌, List, [], ◌∷◌, map, if◌then◌else◌, IsTrue, is_some, filter, find, flat_map, Option}
-use Rattle.cmh_graph.specs.Graph.{Graph, Depends, dependencies_of, indices, process_count, IsWithinGraph}
+use Rattle.std.specs.Prelude.{◌≡◌, ℕ, zero, suc, Bool, true, false, ◌==◌, List, [], ◌∷◌, map, if◌then◌else◌, is_some, filter, find, flat_map, Option}
+use Rattle.cmh_graph.specs.Graph.{Graph, Depends, dependencies_of, indices}
 
 -- From p the processes of the list lead to q: the first is a dependency of p, each next one is a
 -- dependency of the one before it, and the last is q.
@@ -40,8 +40,3 @@ reaches g p q = is_some (steps_to g (λ r. r == q) p)
 -- the processes that p reaches, p itself among them, by rising index
 abbrev pub reach_of : Graph → ℕ → List ℕ
 reach_of g p = filter (reaches g p) (indices g)
-
--- the test of reach says what the relation says
-abbrev pub ReachLaw : Type 0
-ReachLaw = (g : Graph) (p q : ℕ) → IsWithinGraph g → p < process_count g
-    → IsTrue (reaches g p q) ↔ Reaches g p q

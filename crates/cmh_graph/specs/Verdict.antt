@@ -1,9 +1,9 @@
 -- Which processes are deadlocked: by paths, and by deadlocked sets.
-use Rattle.std.specs.Prelude.{ℕ, Bool, true, false, not, ◌&&◌, ◌↔◌, List, map, Contains, IsTrue, IsFalse, if◌then◌else◌}
+use Rattle.std.specs.Prelude.{ℕ, Bool, true, false, not, ◌&&◌, List, map, Contains, IsTrue, IsFalse, if◌then◌else◌}
 use Rattle.std.specs.List.{list_all}
 use Rattle.cmh_graph.specs.declared.verdict.Verdict.{Verdict}
 use Rattle.cmh_graph.specs.declared.verdict.Verdict.TheVariants.{Deadlocked, Free}
-use Rattle.cmh_graph.specs.Graph.{Graph, dependents_of, indices, is_idle, is_awake, IsWithinGraph}
+use Rattle.cmh_graph.specs.Graph.{Graph, dependents_of, indices, is_idle, is_awake}
 use Rattle.cmh_graph.specs.Path.{Reaches, reach_of}
 
 -- p is deadlocked: it is idle, and reaches no awake process
@@ -43,11 +43,3 @@ pub record IsDeadlockedSet (g : Graph) (member : ℕ → Bool) : Type 0 where
 -- p belongs to some deadlocked set
 abbrev pub IsInDeadlockedSet : Graph → ℕ → Type 0
 IsInDeadlockedSet g p = (member : ℕ → Bool) × IsTrue (member p) × IsDeadlockedSet g member
-
--- deadlocked by paths is deadlocked by sets
-abbrev pub ClosedSetLaw : Type 0
-ClosedSetLaw = (g : Graph) (p : ℕ) → IsWithinGraph g → IsDeadlocked g p ↔ IsInDeadlockedSet g p
-
--- the test of deadlock says what the relation says
-abbrev pub VerdictLaw : Type 0
-VerdictLaw = (g : Graph) (p : ℕ) → IsWithinGraph g → IsTrue (is_deadlocked g p) ↔ IsDeadlocked g p

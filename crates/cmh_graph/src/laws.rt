@@ -1,89 +1,98 @@
 //! Laws: the definitions that compute say what the relations say. Each function here does nothing;
 //! its contract is the law.
 
-ghost use Rattle.cmh_graph.specs.Path.{ReachLaw};
-ghost use Rattle.cmh_graph.specs.ChosenPath.{ChosenPathLaw, DistanceLaw, ChosenPathExistsLaw, PathLengthLaw};
-ghost use Rattle.cmh_graph.specs.Verdict.{ClosedSetLaw, VerdictLaw};
-ghost use Rattle.cmh_graph.specs.Core.{CoreLaw, GroupNumberLaw, LeaderLaw, LeadersLaw, RestLaw, RisingLaw};
-ghost use Rattle.cmh_graph.specs.Build.{IsWellFormed, WellFormedLaw};
+ghost use Rattle.std.specs.List.Sorted.{IsStrictlyIncreasing};
+ghost use Rattle.std.specs.Prelude.{ℕ, ◌<◌, ◌↔◌, IsTrue, ◌≡◌, List, Some, IsFalse, None, Option, ◌+◌, length, Contains};
+ghost use Rattle.cmh_graph.specs.Graph.{Graph, process_count, IsWithinGraph, is_awake};
+ghost use Rattle.cmh_graph.specs.Path.{reaches, Reaches, reach_of};
+ghost use Rattle.cmh_graph.specs.ChosenPath.{chosen_path, IsChosenPath, IsDistance, distance_of};
+ghost use Rattle.cmh_graph.specs.Verdict.{IsDeadlocked, IsInDeadlockedSet, is_deadlocked};
+ghost use Rattle.cmh_graph.specs.Core.{core_of, rest_of, IsLeader, leader_of, AreLeaders, leaders, AreGroupsNumbered};
+ghost use Rattle.cmh_graph.specs.Build.{IsWellFormed, HasGraphFault};
+ghost use Rattle.cmh_graph.specs.declared.fault.GraphFault.{GraphFault};
 
 use crate::WaitGraph;
 
 /// A process is deadlocked by paths exactly where it belongs to a deadlocked set: a set of idle
 /// processes, none awake, in which each one's dependent set is a subset.
-#[tactic(auto, using(crate::proofs::Verdicts::closed_set_law))]
 pub fn law_closed_set()
-    ensures { ClosedSetLaw }
+    ensures { (g : Graph) (p : ℕ) → IsWithinGraph g → IsDeadlocked g p ↔ IsInDeadlockedSet g p }
 {}
 
 /// The test of reach says that there is a path.
-#[tactic(auto, using(crate::proofs::PathLemmas::reach_law))]
 pub fn law_reach()
-    ensures { ReachLaw }
+    ensures { (g : Graph) (p q : ℕ) → IsWithinGraph g → p < process_count g
+        → IsTrue (reaches g p q) ↔ Reaches g p q }
 {}
 
 /// The test of deadlock says that the process is idle and reaches no awake one.
-#[tactic(auto, using(crate::proofs::Verdicts::verdict_law))]
 pub fn law_verdict()
-    ensures { VerdictLaw }
+    ensures { (g : Graph) (p : ℕ) → IsWithinGraph g → IsTrue (is_deadlocked g p) ↔ IsDeadlocked g p }
 {}
 
 /// The chosen path is a shortest one to an awake process, and of these the least. No other path is.
 pub fn law_chosen_path()
-    ensures { ChosenPathLaw }
+    ensures { (g : Graph) (p : ℕ) (path : List ℕ) → IsWithinGraph g → p < process_count g
+        → (chosen_path g p ≡ Some path) ↔ IsChosenPath g p path }
 {}
 
 /// There is no chosen path exactly where no awake process is reached.
-#[tactic(auto, using(crate::proofs::ChosenPathLemmas::chosen_path_exists_law))]
 pub fn law_chosen_path_exists()
-    ensures { ChosenPathExistsLaw }
+    ensures { (g : Graph) (p : ℕ) → IsWithinGraph g → p < process_count g
+        → (chosen_path g p ≡ None) ↔ ((q : ℕ) → Reaches g p q → IsFalse (is_awake g q)) }
 {}
 
 /// The distance of a process is n exactly where a path of n dependencies leads from it to an awake
 /// one and no shorter path does, and there is none exactly where no path does.
 pub fn law_distance()
-    ensures { DistanceLaw }
+    ensures { (g : Graph) (p : ℕ) (distance : Option ℕ) → IsWithinGraph g → p < process_count g
+        → (distance_of g p ≡ distance) ↔ IsDistance g p distance }
 {}
 
 /// The chosen path has one process more than its distance.
 pub fn law_path_length()
-    ensures { PathLengthLaw }
+    ensures { (g : Graph) (p : ℕ) (path : List ℕ) → chosen_path g p ≡ Some path
+        → (n : ℕ) × (distance_of g p ≡ Some n) × (length path ≡ n + 1) }
 {}
 
 /// A process is in the core of another exactly where each reaches the other.
 pub fn law_core()
-    ensures { CoreLaw }
+    ensures { (g : Graph) (p q : ℕ) → IsWithinGraph g → p < process_count g
+        → Contains (core_of g p) q ↔ (Reaches g p q × Reaches g q p) }
 {}
 
 /// A process is in the rest of another exactly where it is reached and isn't in the core.
 pub fn law_rest()
-    ensures { RestLaw }
+    ensures { (g : Graph) (p q : ℕ) → IsWithinGraph g → p < process_count g
+        → Contains (rest_of g p) q ↔ (Reaches g p q × (Contains (core_of g p) q → ⊥)) }
 {}
 
 /// What a process reaches, its core and its rest stand by rising index, nobody twice.
 pub fn law_rising()
-    ensures { RisingLaw }
+    ensures { (g : Graph) (p : ℕ) → IsStrictlyIncreasing (reach_of g p)
+        × IsStrictlyIncreasing (core_of g p) × IsStrictlyIncreasing (rest_of g p) }
 {}
 
 /// The leader of a process is in its core, and is the least of it. Nobody else is.
 pub fn law_leader()
-    ensures { LeaderLaw }
+    ensures { (g : Graph) (p leader : ℕ) → IsWithinGraph g → p < process_count g
+        → (leader_of g p ≡ leader) ↔ IsLeader g p leader }
 {}
 
 /// The leaders are those of the cores of deadlocked processes, by rising index.
 pub fn law_leaders()
-    ensures { LeadersLaw }
+    ensures { (g : Graph) → IsWithinGraph g → AreLeaders g (leaders g) }
 {}
 
 /// Groups are numbered from 1 by their leaders. Deadlocked processes have the same number exactly
 /// where they are of one core, and each number up to that of the last leader is some group's.
 pub fn law_group_number()
-    ensures { GroupNumberLaw }
+    ensures { (g : Graph) → IsWithinGraph g → AreGroupsNumbered g }
 {}
 
 /// A graph is well formed exactly where it has no fault.
 pub fn law_well_formed()
-    ensures { WellFormedLaw }
+    ensures { (g : Graph) → IsWellFormed g ↔ ((fault : GraphFault) → HasGraphFault g fault → ⊥) }
 {}
 
 /// A graph that was built is well formed. For a caller whose own contract rests on it.

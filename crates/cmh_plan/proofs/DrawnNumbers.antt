@@ -1,4 +1,6 @@
 -- What the weights of drawn numbers mean: how often each number stands among them.
+use Rattle.atomic_table.specs.Table.{State}
+use Rattle.std.specs.Prelude.{◌⊎◌}
 use Rattle.std.proofs.Common.{◌≡◌, ℕ, zero, suc, ◌<◌, ◌≤◌, ⊎_elim, Bool, true, false, eqb, leb, slice_index, cond, List, [], ◌∷◌, refl, sym, ap, ◌∙◌, arith}
 use Rattle.std.proofs.lemmas.Bool.{ne_eqb}
 use Rattle.std.proofs.lemmas.Bool.Decides.{eqb_tells, leb_tells}
@@ -6,7 +8,7 @@ use Rattle.std.specs.List.{sum_by}
 use Rattle.std.proofs.lemmas.List.Sums.{sum_by-cons}
 use Rattle.cmh_rw.specs.Machine.{total}
 use Rattle.cmh_plan.specs.declared.ticket_rule.TicketView.{TicketView}
-use Rattle.cmh_plan.specs.Tickets.{sum_below, times, DrewEachOnceLaw, DrawnOnceLaw}
+use Rattle.cmh_plan.specs.Tickets.{sum_below, times, DrewAll, Dealt}
 
 -- 1 at that number, and 0 elsewhere
 abbrev hit : ℕ → ℕ → ℕ
@@ -47,7 +49,8 @@ times-total : (n : ℕ) (l : List ℕ) → times n l ≡ total (hit n) l
 times-total n l = sym (total-sum_by (hit n) l)
 
 -- a seat that drew all drew each number once
-pub drew_each_once : DrewEachOnceLaw
+pub drew_each_once : (v : TicketView) → DrewAll v → (n : ℕ)
+    → (n < v.chunks → times n v.drawn ≡ 1) × (v.chunks ≤ n → times n v.drawn ≡ 0)
 drew_each_once v all n = (
   λ low. times-total n v.drawn ∙ all (hit n) ∙ once_below n v.chunks low,
   λ high. times-total n v.drawn ∙ all (hit n)
@@ -63,7 +66,9 @@ is_reached n reached chunks word before after low found = ⊎_elim
     (leb_tells word chunks)
 
 -- among all seats each number that is drawn stands once
-pub drawn_once : DrawnOnceLaw
+pub drawn_once : (chunks : ℕ) (s : State (Unit {0}) TicketView) → Dealt chunks s → (n : ℕ)
+    → (n < chunks → n < slice_index s.words 0 → total (λ v. times n v.drawn) s.views ≡ 1)
+    × (chunks ≤ n ⊎ slice_index s.words 0 ≤ n → total (λ v. times n v.drawn) s.views ≡ 0)
 drawn_once chunks s d n =
     let all =
     total-same (λ (v : TicketView). times n v.drawn) (λ v. total (hit n) v.drawn)

@@ -1,5 +1,5 @@
 -- Numbers that threads draw: the rule of their word, over what all seats know, and each step.
-use Rattle.std.specs.Prelude.{◌≡◌, ℕ, zero, suc, ◌+◌, ◌-◌, ◌<◌, ◌≤◌, ◌||◌, ◌^◌, ◌==◌, ◌⊎◌, Bool, true, false, nat_lt, if◌then◌else◌, List, [], ◌∷◌, ◌++◌, length, count_by, slice_index}
+use Rattle.std.specs.Prelude.{◌≡◌, ℕ, zero, suc, ◌+◌, ◌-◌, ◌<◌, ◌≤◌, ◌||◌, ◌^◌, ◌==◌, Bool, true, false, nat_lt, if◌then◌else◌, List, [], ◌∷◌, ◌++◌, length, count_by, slice_index}
 use Rattle.atomic_table.specs.Table.{State, Me, Step}
 use Rattle.cmh_rw.specs.Machine.{IsSeat, total}
 use Rattle.cmh_plan.specs.declared.TheConstants.{MAX_WORKERS}
@@ -97,18 +97,6 @@ pub record Dealt (chunks : ℕ) (s : State (Unit {0}) TicketView) : Type 0 where
 -- how often a number stands in the list
 abbrev pub times : ℕ → List ℕ → ℕ
 times n list = count_by (λ k. k == n) list
-
--- a seat that drew all drew each number below the number of chunks exactly once, and no other
-abbrev pub DrewEachOnceLaw : Type 0
-DrewEachOnceLaw = (v : TicketView) → DrewAll v → (n : ℕ)
-    → (n < v.chunks → times n v.drawn ≡ 1) × (v.chunks ≤ n → times n v.drawn ≡ 0)
-
--- Among what all seats drew each number below the number of chunks and below the word stands
--- exactly once, and no other stands there.
-abbrev pub DrawnOnceLaw : Type 0
-DrawnOnceLaw = (chunks : ℕ) (s : State (Unit {0}) TicketView) → Dealt chunks s → (n : ℕ)
-    → (n < chunks → n < slice_index s.words 0 → total (λ v. times n v.drawn) s.views ≡ 1)
-    × (chunks ≤ n ⊎ slice_index s.words 0 ≤ n → total (λ v. times n v.drawn) s.views ≡ 0)
 
 -- ---- the steps
 

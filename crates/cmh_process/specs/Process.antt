@@ -1,5 +1,5 @@
 -- What one process does at a start, at a query and at a reply: how it is afterwards, and its action.
-use Rattle.std.specs.Prelude.{◌≡◌, ℕ, ◌+◌, ◌-◌, ◌<◌, Bool, true, false, ◌&&◌, ◌==◌, nat_lt, if◌then◌else◌, Option, Some, None}
+use Rattle.std.specs.Prelude.{◌≡◌, ℕ, ◌+◌, ◌-◌, Bool, true, false, ◌&&◌, ◌==◌, nat_lt, if◌then◌else◌, Option, Some, None}
 use Rattle.cmh_process.specs.declared.process.Proc.{Proc}
 use Rattle.cmh_process.specs.declared.process.Action.{Action}
 use Rattle.cmh_process.specs.declared.process.Action.TheVariants.{Nothing, Engage, ReplyTo, Declare}
@@ -81,7 +81,3 @@ pub record IsUnmoved (p : Proc) (number from size : ℕ) : Type 0 where
   pub no_answer : query_action p number from size ≡ Nothing
   pub at_reply : proc_replied p number ≡ p
   pub no_word : reply_action p number ≡ Nothing
-
--- a message numbered below the latest changes nothing and sends nothing
-abbrev pub StaleLaw : Type 0
-StaleLaw = (p : Proc) (number from size : ℕ) → number < p.latest → IsUnmoved p number from size

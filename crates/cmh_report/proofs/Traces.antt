@@ -24,7 +24,7 @@ use Rattle.cmh_run.proofs.BetweenLemmas.{messages_are_between}
 use Rattle.cmh_run.proofs.Determinism.{runs_are_deterministic, one_ending}
 use Rattle.cmh_run.proofs.Configurations.{by_test}
 use Rattle.cmh_text.specs.Report.{line}
-use Rattle.cmh_report.specs.Trace.{ending_lines, message_line, trace_text, IsFirstNamed, HasLines, OneTrace}
+use Rattle.cmh_report.specs.Trace.{ending_lines, message_line, trace_text, IsFirstNamed, HasLines, IsEndedTrace}
 
 -- ---- endings
 
@@ -141,7 +141,9 @@ unfolding trace_text
 text_by_parts g r t a b c = rw (a, b, c) refl
 
 -- a name and choices leave one trace
-pub one_trace : OneTrace
+pub one_trace : (name choices : List ℕ) (g : Graph) (text other : List ℕ) (ending last : Ending)
+    → IsEndedTrace name choices ending g text → IsEndedTrace name choices last g other
+    → (text ≡ other) × (ending ≡ last)
 one_trace name choices g text other ending last a b =
     let r = a.run in
     let t = b.run in

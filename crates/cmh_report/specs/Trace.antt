@@ -73,13 +73,6 @@ IsEndedTrace name choices ending = IsTrace name choices (λ last. ending ≡ las
 abbrev pub IsSomeTrace : List ℕ → List ℕ → Graph → List ℕ → Type 0
 IsSomeTrace name choices = IsTrace name choices (λ last. ⊤)
 
--- name and choices leave one trace, with one ending
-abbrev pub OneTrace : Type 0
-OneTrace =
-    (name choices : List ℕ) (g : Graph) (text other : List ℕ) (ending last : Ending)
-    → IsEndedTrace name choices ending g text → IsEndedTrace name choices last g other
-    → (text ≡ other) × (ending ≡ last)
-
 -- The process of that name has no run by these choices: memory was refused, or this is the first
 -- fault of what was asked.
 pub record HasNoRun (name choices : List ℕ) (fault : RunFault) (g : Graph) : Type 0 where

@@ -1,4 +1,6 @@
 -- The messages of a run go between processes of the graph.
+use Rattle.cmh_run.specs.declared.delivery.Ending.{Ending}
+use Rattle.std.specs.Prelude.{IsTrue}
 use Rattle.std.proofs.Common.{◌≡◌, ℕ, ◌<◌, true, false, cond, List, [], ◌∷◌, Some, None, All}
 use Rattle.std.proofs.lemmas.List.Elements.{All-nil, All-cons}
 use Rattle.cmh_graph.specs.Graph.{Graph, process_count, is_awake, is_idle, IsWithinGraph}
@@ -6,7 +8,7 @@ use Rattle.cmh_graph.proofs.Verdicts.{idle_within}
 use Rattle.cmh_process.specs.declared.message.Message.{Message}
 use Rattle.cmh_run.specs.declared.delivery.Delivery.{Delivery}
 use Rattle.cmh_run.specs.Config.{proc_at, nothing_yet, start}
-use Rattle.cmh_run.specs.Legal.{Going, Rule, going_at_start, going_from, after_due_restart, going_after, DeliveriesLead, IsBetween, MessagesAreBetween}
+use Rattle.cmh_run.specs.Legal.{Going, Rule, going_at_start, going_from, after_due_restart, going_after, DeliveriesLead, IsBetween, IsRun}
 use Rattle.cmh_run.proofs.LiveInvariant.{Fine}
 use Rattle.cmh_run.proofs.Configurations.{by_test, Stands, stepped, first_start, ready_stands, status_none}
 use Rattle.cmh_run.proofs.Tokens.{each_at}
@@ -51,6 +53,9 @@ run_between rule g i restarts log end ok idle =
     (first_start g i ok (idle_within g i idle) e) l)
 
 -- the messages of every legal run of an idle process go between processes of its graph
-pub messages_are_between : MessagesAreBetween
+pub messages_are_between : (rule : Rule) (g : Graph) (i : ℕ) (restarts : List ℕ)
+    (log : List Delivery) (ending : Ending) (end : Going)
+    → IsWithinGraph g → IsTrue (is_idle g i) → IsRun rule g i restarts log ending end
+    → All (λ d. IsBetween g d.message) log
 messages_are_between rule g i restarts log ending end ok idle run =
     run_between rule g i restarts log end ok idle run.leads

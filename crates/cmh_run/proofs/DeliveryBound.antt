@@ -1,4 +1,6 @@
 -- How many deliveries a run has at most.
+use Rattle.cmh_run.specs.declared.delivery.Ending.{Ending}
+use Rattle.std.specs.Prelude.{IsTrue}
 use Rattle.std.proofs.Common.{◌≡◌, ℕ, zero, suc, ◌+◌, ◌-◌, ◌<◌, ◌≤◌, Bool, true, false, ◌&&◌, cond, eqb, ltb, List, [], ◌∷◌, ◌++◌, map, remove, replicate, length, get_or, slice_get, slice_set, Option, Some, None, is_none, sum_by, refl, ap, subst, arith, ⊎_elim}
 use Rattle.std.proofs.lemmas.Bool.{eqb-true, eqb-false, eq-eqb, ne_eqb, cases_eq, and_parts, lt-ltb, ltb-true}
 use Rattle.std.proofs.lemmas.List.{length-replicate}
@@ -20,7 +22,7 @@ use Rattle.cmh_graph.specs.Build.{IsWellFormed}
 use Rattle.cmh_graph.specs.declared.TheConstants.{MAX_PROCESSES, MAX_DEPENDENCIES}
 use Rattle.cmh_graph.proofs.Verdicts.{asleep_is_idle, idle_within}
 use Rattle.cmh_run.specs.Config.{Config, query, proc_at, messages_of, after_step, after_engagement, after_hint, after_message, without_message, after_delivery, start, nothing_yet}
-use Rattle.cmh_run.specs.Legal.{going_at_start, Going, after_first_restart, after_due_restart, going_after, DeliveriesLead, DeliveriesAreBounded}
+use Rattle.cmh_run.specs.Legal.{going_at_start, Going, after_first_restart, after_due_restart, going_after, DeliveriesLead, Rule, IsRun}
 use Rattle.cmh_run.proofs.InvariantSteps.{upd}
 use Rattle.cmh_run.proofs.Tokens.{each_at, set_is}
 use Rattle.cmh_run.proofs.LiveInvariant.{Live, Fine, some_engage}
@@ -447,6 +449,9 @@ leads_are_short rule g i restarts log end ok idle all = by_awake (is_awake g i) 
     by_awake false e = resting e
 
 -- a run that has ended has at most two deliveries for each dependency and start
-pub deliveries_are_bounded : DeliveriesAreBounded
+pub deliveries_are_bounded : (rule : Rule) (g : Graph) (i : ℕ) (restarts : List ℕ)
+    (log : List Delivery) (ending : Ending) (end : Going)
+    → IsWithinGraph g → IsTrue (is_idle g i) → IsRun rule g i restarts log ending end
+    → length log ≤ 2 * dependency_count g * (end.restarted + 1)
 deliveries_are_bounded rule g i restarts log ending end ok idle run =
     leads_are_short rule g i restarts log end ok idle run.leads

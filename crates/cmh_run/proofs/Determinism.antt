@@ -9,9 +9,9 @@ use Rattle.cmh_run.specs.declared.delivery.Ending.{Ending}
 use Rattle.cmh_run.specs.declared.delivery.Ending.TheVariants.{Declared, AtRest, CutFree}
 use Rattle.cmh_graph.specs.Graph.{Graph}
 use Rattle.cmh_run.specs.Config.{Config}
-use Rattle.cmh_run.specs.Run.{Run, OneRun}
+use Rattle.cmh_run.specs.Run.{Run, IsRunOf}
 use Rattle.cmh_run.specs.Legal.{Going, going_at_start, after_due_restart, going_after, MayCome, DeliveriesLead, EndsAs, IsRun}
-use Rattle.cmh_run.specs.Choices.{chosen_place, HasNoHints, RunsAreDeterministic}
+use Rattle.cmh_run.specs.Choices.{chosen_place, HasNoHints}
 
 -- once a run has ended no delivery may come
 pub over : (g : Graph) (c : Config) (x : ℕ) (d : Delivery) (ending : Ending) → EndsAs c ending → MayCome g c x d → ⊥
@@ -47,7 +47,11 @@ decides choices g i (d ∷ log) (h ∷ other) s end far ending last l k e f a b 
     (ap₂ (λ (x : Delivery) (xs : List Delivery). x ∷ xs) same rest.0, rest.1)
 
 -- without hints the choices leave one run
-pub runs_are_deterministic : RunsAreDeterministic
+pub runs_are_deterministic : (choices : List ℕ) (g : Graph) (i : ℕ) (restarts : List ℕ)
+    (log other : List Delivery) (ending last : Ending) (end far : Going)
+    → IsRun (chosen_place choices) g i restarts log ending end
+    → IsRun (chosen_place choices) g i restarts other last far
+    → HasNoHints log → HasNoHints other → (log ≡ other) × (end ≡ far)
 runs_are_deterministic choices g i restarts log other ending last end far r t a b =
     decides choices g i log other (going_at_start g i restarts) end far ending last r.leads t.leads r.ends t.ends a b
 
@@ -89,7 +93,9 @@ same_run r s a b c d e =
     whole
 
 -- without hints there is one run to be kept
-pub one_run : OneRun
+pub one_run : (g : Graph) (choices restarts : List ℕ) (r s : Run) → r.initiator ≡ s.initiator
+    → IsRunOf g choices restarts r → IsRunOf g choices restarts s
+    → HasNoHints r.log → HasNoHints s.log → r ≡ s
 one_run g choices restarts r s mine a b c d =
     let other = subst (λ (i : ℕ). IsRun (chosen_place choices) g i restarts s.log s.ending b.end) (sym mine) b.legal in
     let same =

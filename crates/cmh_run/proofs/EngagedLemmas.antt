@@ -1,7 +1,8 @@
 -- Who is engaged when a run has ended, and that an awake initiator starts nothing.
+use Rattle.std.specs.Prelude.{IsTrue}
 use Rattle.std.proofs.Common.{◌≡◌, ℕ, ◌<◌, Bool, true, false, List, [], ◌∷◌, Contains, Option, Some, refl, sym, ◌∙◌, ap, subst, arith}
 use Rattle.std.proofs.lemmas.Option.{none-some}
-use Rattle.cmh_graph.specs.Graph.{Graph, is_awake}
+use Rattle.cmh_graph.specs.Graph.{Graph, is_awake, is_idle, IsWithinGraph}
 use Rattle.cmh_graph.specs.Verdict.{IsDeadlocked}
 use Rattle.cmh_graph.proofs.Verdicts.{idle_within}
 use Rattle.cmh_process.specs.declared.process.Proc.{Proc}
@@ -9,8 +10,8 @@ use Rattle.cmh_run.specs.declared.delivery.Delivery.{Delivery}
 use Rattle.cmh_run.specs.declared.delivery.Ending.{Ending}
 use Rattle.cmh_run.specs.declared.delivery.Ending.TheVariants.{Declared, AtRest, CutFree}
 use Rattle.cmh_run.specs.Config.{Config, proc_at, nothing_yet, start}
-use Rattle.cmh_run.specs.Legal.{Going, going_from, Rule, DeliveriesLead, EndsAs}
-use Rattle.cmh_run.specs.Engaged.{IsCutAt, AreEngaged, WhoEngages, IsEmptyRun, AwakeOnesStartNothing}
+use Rattle.cmh_run.specs.Legal.{Going, going_from, Rule, DeliveriesLead, EndsAs, IsRun}
+use Rattle.cmh_run.specs.Engaged.{IsCutAt, AreEngaged, IsEmptyRun}
 use Rattle.cmh_run.proofs.Tally.{tally_from_contains, distinct}
 use Rattle.cmh_run.proofs.Configurations.{Status, Stands, Party, CutAt, party_of, first_start, leads_stands, status_none}
 use Rattle.cmh_run.proofs.Soundness.{runs_are_sound}
@@ -75,7 +76,10 @@ nothing_started rule g i [] AtRest end l e = record {
 }
 
 -- an awake initiator starts nothing
-pub awake_ones_start_nothing : AwakeOnesStartNothing
+pub awake_ones_start_nothing : (rule : Rule) (g : Graph) (i : ℕ) (restarts : List ℕ)
+    (log : List Delivery) (ending : Ending) (end : Going)
+    → IsTrue (is_awake g i) → IsRun rule g i restarts log ending end
+    → IsEmptyRun log ending end
 awake_ones_start_nothing rule g i restarts log ending end up run =
     let leads : DeliveriesLead rule g i (going_from (nothing_yet g) []) log end = rw up at run.leads in
     nothing_started rule g i log ending end leads run.ends
@@ -96,7 +100,10 @@ nobody g i log ending end up h = rw (h.nobody, h.at_rest) (record {
     none k c = omega (arith, c.1)
 
 -- the engaged of every legal run are as they should be
-pub who_engages : WhoEngages
+pub who_engages : (rule : Rule) (g : Graph) (i : ℕ) (restarts : List ℕ)
+    (log : List Delivery) (ending : Ending) (end : Going)
+    → IsWithinGraph g → IsTrue (is_idle g i) → IsRun rule g i restarts log ending end
+    → AreEngaged g i ending end.config.engaged
 who_engages rule g i restarts log ending end ok idle run = by_awake (is_awake g i) refl
   where
     resting : is_awake g i ≡ false → AreEngaged g i ending end.config.engaged

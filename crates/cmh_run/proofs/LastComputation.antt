@@ -1,18 +1,19 @@
 -- The last computation of a run, taken alone, begins a run.
+use Rattle.std.specs.Prelude.{IsTrue}
 use Rattle.std.proofs.Common.{◌≡◌, ℕ, zero, suc, ◌+◌, ◌<◌, ◌≤◌, Bool, true, false, ◌&&◌, cond, eqb, ltb, List, [], ◌∷◌, ◌++◌, length, slice_get, Option, Some, None, is_none, refl, sym, ◌∙◌, ap, subst, arith, ◌⊎◌, inl, inr}
 use Rattle.std.proofs.lemmas.Option.{none-some}
 use Rattle.std.proofs.lemmas.Bool.{eqb-true, eq-eqb, ne_eqb, cases_eq, and_parts}
 use Rattle.std.proofs.lemmas.List.{length-replicate}
 use Rattle.cmh_process.specs.declared.message.Message.{Message}
 use Rattle.cmh_process.specs.Process.{new_proc, start_action, counts_reply}
-use Rattle.cmh_graph.specs.Graph.{Graph, process_count, dependents_of, is_awake, IsWithinGraph}
+use Rattle.cmh_graph.specs.Graph.{Graph, process_count, dependents_of, is_awake, IsWithinGraph, is_idle}
 use Rattle.cmh_graph.proofs.Verdicts.{idle_within}
 use Rattle.cmh_run.specs.declared.delivery.Delivery.{Delivery}
 use Rattle.cmh_run.specs.declared.delivery.Ending.{Ending}
 use Rattle.cmh_run.specs.declared.delivery.Ending.TheVariants.{Declared, AtRest, CutFree}
 use Rattle.cmh_run.specs.Config.{Config, proc_at, nothing_yet, start, after_delivery}
-use Rattle.cmh_run.specs.Legal.{Going, going_from, after_restart, after_first_restart, after_due_restart, going_after, Rule, MayCome, any_place, DeliveriesLead, EndsAs}
-use Rattle.cmh_run.specs.Last.{renumber, computation_log, IsUncut, LastIsRun, LastComputationIsARun}
+use Rattle.cmh_run.specs.Legal.{Going, going_from, after_restart, after_first_restart, after_due_restart, going_after, Rule, MayCome, any_place, DeliveriesLead, EndsAs, IsRun}
+use Rattle.cmh_run.specs.Last.{renumber, computation_log, IsUncut, LastIsRun}
 use Rattle.cmh_run.proofs.Tokens.{each_at, each_more}
 use Rattle.cmh_run.proofs.LiveInvariant.{Live, Fine}
 use Rattle.cmh_run.proofs.Soundness.{number_kept}
@@ -383,7 +384,10 @@ awake_is_run rule g i [] ending end up l e = record {
 }
 
 -- the last computation of every run, taken alone, begins a run
-pub last_computation_is_a_run : LastComputationIsARun
+pub last_computation_is_a_run : (rule : Rule) (g : Graph) (i : ℕ) (restarts : List ℕ)
+    (log : List Delivery) (ending : Ending) (end : Going)
+    → IsWithinGraph g → IsTrue (is_idle g i) → IsRun rule g i restarts log ending end
+    → LastIsRun g i log ending end
 last_computation_is_a_run rule g i restarts log ending end ok idle run =
     by_awake (is_awake g i) refl
   where

@@ -9,7 +9,7 @@ use Rattle.cmh_run.specs.declared.delivery.Ending.{Ending}
 use Rattle.cmh_run.specs.declared.fault.CheckFault.{CheckFault}
 use Rattle.cmh_run.specs.declared.fault.CheckFault.TheVariants.{NotIdle, NotUndelivered, FalseHint, AfterEnd, NotEnded, Memory}
 use Rattle.cmh_run.specs.Legal.{Going, going_at_start, after_due_restart, going_after, MayCome, any_place, DeliveriesLead, EndsAs}
-use Rattle.cmh_run.specs.Check.{LeadTo, HasEnded, IsUndelivered, IsLegalRun, ComesAt, IsAfterEnd, IsStray, IsMisled, IsLogCutShort, IsFirstCheckFault, LogsHaveOneAnswer}
+use Rattle.cmh_run.specs.Check.{LeadTo, HasEnded, IsUndelivered, IsLegalRun, ComesAt, IsAfterEnd, IsStray, IsMisled, IsLogCutShort, IsFirstCheckFault, HasOneAnswer}
 use Rattle.cmh_run.proofs.Determinism.{over, one_ending}
 use Rattle.cmh_run.proofs.Places.{one_place}
 use Rattle.cmh_run.proofs.FollowLemmas.{leads_on}
@@ -227,7 +227,7 @@ module _ (g : Graph) (i : ℕ) (w : IsWellFormed g) where
   one_fault log NotEnded NotEnded a b = refl
 
 -- every log has one answer
-pub logs_have_one_answer : LogsHaveOneAnswer
+pub logs_have_one_answer : (g : Graph) (i : ℕ) (log : List Delivery) → IsWellFormed g → HasOneAnswer g i log
 logs_have_one_answer g i log w = record {
   ending = λ a b r s. one_ending r.end.config a b r.legal.ends
       (subst (λ (u : Going). EndsAs u.config b)

@@ -1,4 +1,5 @@
 -- What a run that has ended tells.
+use Rattle.std.specs.Prelude.{IsTrue}
 use Rattle.std.proofs.Common.{◌≡◌, ℕ, ◌+◌, ◌<◌, Bool, true, false, cond, List, [], ◌∷◌, replicate, get_or, slice_get, Contains, Option, Some, None, refl, sym, ◌∙◌, ap, subst, arith, ⊎_elim}
 use Rattle.std.proofs.lemmas.Bool.{eq-eqb, cases_eq, true≢false}
 use Rattle.cmh_process.specs.declared.message.Kind.{Kind}
@@ -10,12 +11,12 @@ use Rattle.cmh_run.specs.declared.delivery.Delivery.{Delivery}
 use Rattle.cmh_run.specs.declared.delivery.Ending.{Ending}
 use Rattle.cmh_run.specs.declared.delivery.Ending.TheVariants.{Declared, AtRest, CutFree}
 use Rattle.cmh_process.specs.Process.{new_proc, engages, proc_queried, query_action}
-use Rattle.cmh_graph.specs.Graph.{Graph, process_count, is_awake, IsWithinGraph}
+use Rattle.cmh_graph.specs.Graph.{Graph, process_count, is_awake, IsWithinGraph, is_idle}
 use Rattle.cmh_graph.specs.Verdict.{IsDeadlocked}
 use Rattle.cmh_graph.proofs.Verdicts.{idle_within}
 use Rattle.cmh_run.proofs.Paths.{reaches_self, reached_deadlocked}
 use Rattle.cmh_run.specs.Config.{Config, proc_at, after_step, after_hint, after_message, without_message, after_delivery, start, nothing_yet}
-use Rattle.cmh_run.specs.Legal.{Going, after_due_restart, going_after, DeliveriesLead, EndsAs, IsRight, RunsAreSound}
+use Rattle.cmh_run.specs.Legal.{Going, after_due_restart, going_after, DeliveriesLead, EndsAs, IsRight, Rule, IsRun}
 use Rattle.cmh_run.proofs.Tally.{tally_from_contains, distinct}
 use Rattle.cmh_run.proofs.Invariant.{engaged_deadlocked, none_on_way, at_rest_free}
 use Rattle.cmh_run.proofs.Tokens.{each_at, tokens, token, edge_from, edge_to}
@@ -169,7 +170,10 @@ empty_run rule g i restarts [] AtRest end up l e = record {
 }
 
 -- every legal run of an idle process tells the truth
-pub runs_are_sound : RunsAreSound
+pub runs_are_sound : (rule : Rule) (g : Graph) (i : ℕ) (restarts : List ℕ)
+    (log : List Delivery) (ending : Ending) (end : Going)
+    → IsWithinGraph g → IsTrue (is_idle g i) → IsRun rule g i restarts log ending end
+    → IsRight g i restarts ending end
 runs_are_sound rule g i restarts log ending end ok idle run =
     by_awake (is_awake g i) refl
   where

@@ -1,7 +1,6 @@
 -- What is wrong with a log of deliveries, checked as a run without restarts.
 use Rattle.std.specs.Prelude.{◌≡◌, ℕ, List, [], take, slice_get, Some, IsTrue, IsFalse}
 use Rattle.cmh_graph.specs.Graph.{Graph, is_idle}
-use Rattle.cmh_graph.specs.Build.{IsWellFormed}
 use Rattle.cmh_process.specs.declared.message.Message.{Message}
 use Rattle.cmh_run.specs.declared.delivery.Delivery.{Delivery}
 use Rattle.cmh_run.specs.declared.delivery.Ending.{Ending}
@@ -80,8 +79,3 @@ pub record HasOneAnswer (g : Graph) (i : ℕ) (log : List Delivery) : Type 0 whe
   pub ending : (a b : Ending) → IsLegalRun g i log a → IsLegalRun g i log b → a ≡ b
   pub sound : (a : Ending) (e : CheckFault) → IsLegalRun g i log a → IsFirstCheckFault g i log e → ⊥
   pub first : (e f : CheckFault) → IsFirstCheckFault g i log e → IsFirstCheckFault g i log f → e ≡ f
-
--- every log of a run of a well-formed graph has one answer
-abbrev pub LogsHaveOneAnswer : Type 0
-LogsHaveOneAnswer =
-    (g : Graph) (i : ℕ) (log : List Delivery) → IsWellFormed g → HasOneAnswer g i log

@@ -1,13 +1,13 @@
 -- Who is engaged when a run has ended, and what an awake initiator does.
-use Rattle.std.specs.Prelude.{◌≡◌, ℕ, nat_eq, List, [], slice_get, Contains, Some, IsTrue, IsFalse}
+use Rattle.std.specs.Prelude.{◌≡◌, ℕ, nat_eq, List, [], slice_get, Contains, Some, IsFalse}
 use Rattle.std.specs.List.{IsDistinct}
-use Rattle.cmh_graph.specs.Graph.{Graph, is_idle, is_awake, IsWithinGraph}
+use Rattle.cmh_graph.specs.Graph.{Graph, is_awake}
 use Rattle.cmh_graph.specs.Path.{Reaches}
 use Rattle.cmh_graph.specs.Verdict.{IsDeadlocked}
 use Rattle.cmh_run.specs.declared.delivery.Delivery.{Delivery}
 use Rattle.cmh_run.specs.declared.delivery.Ending.{Ending}
 use Rattle.cmh_run.specs.declared.delivery.Ending.TheVariants.{Declared, AtRest, CutFree}
-use Rattle.cmh_run.specs.Legal.{Going, Rule, IsRun}
+use Rattle.cmh_run.specs.Legal.{Going}
 
 -- the run was cut at k: k is free, isn't awake, and is reached, and it didn't engage
 pub record IsCutAt (g : Graph) (i k : ℕ) (engaged : List ℕ) : Type 0 where
@@ -27,25 +27,9 @@ pub record AreEngaged (g : Graph) (i : ℕ) (ending : Ending) (engaged : List �
   pub deadlocked : ending ≡ Declared → (k : ℕ) → Contains engaged k → IsDeadlocked g k
   pub cut : (k : ℕ) → ending ≡ CutFree k → IsCutAt g i k engaged
 
--- whenever a legal run of an idle process has ended, those are engaged who should be
-abbrev pub WhoEngages : Type 0
-WhoEngages =
-    (rule : Rule) (g : Graph) (i : ℕ) (restarts : List ℕ)
-    (log : List Delivery) (ending : Ending) (end : Going)
-    → IsWithinGraph g → IsTrue (is_idle g i) → IsRun rule g i restarts log ending end
-    → AreEngaged g i ending end.config.engaged
-
 -- nothing was started, so that nothing is delivered, nobody engages, and nothing starts again
 pub record IsEmptyRun (log : List Delivery) (ending : Ending) (end : Going) : Type 0 where
   pub silent : log ≡ []
   pub at_rest : ending ≡ AtRest
   pub nobody : end.config.engaged ≡ []
   pub once : end.restarted ≡ 0
-
--- an awake initiator starts nothing
-abbrev pub AwakeOnesStartNothing : Type 0
-AwakeOnesStartNothing =
-    (rule : Rule) (g : Graph) (i : ℕ) (restarts : List ℕ)
-    (log : List Delivery) (ending : Ending) (end : Going)
-    → IsTrue (is_awake g i) → IsRun rule g i restarts log ending end
-    → IsEmptyRun log ending end

@@ -1,11 +1,11 @@
 -- The last computation of a run, taken alone.
-use Rattle.std.specs.Prelude.{◌≡◌, ℕ, ◌==◌, if◌then◌else◌, List, [], ◌∷◌, ◌++◌, IsTrue, ⊤}
-use Rattle.cmh_graph.specs.Graph.{Graph, is_idle, IsWithinGraph}
+use Rattle.std.specs.Prelude.{◌≡◌, ℕ, ◌==◌, if◌then◌else◌, List, [], ◌∷◌, ◌++◌, ⊤}
+use Rattle.cmh_graph.specs.Graph.{Graph}
 use Rattle.cmh_process.specs.declared.message.Message.{Message}
 use Rattle.cmh_run.specs.declared.delivery.Delivery.{Delivery}
 use Rattle.cmh_run.specs.declared.delivery.Ending.{Ending}
 use Rattle.cmh_run.specs.declared.delivery.Ending.TheVariants.{Declared, AtRest, CutFree}
-use Rattle.cmh_run.specs.Legal.{Going, Rule, any_place, IsRun}
+use Rattle.cmh_run.specs.Legal.{Going, any_place, IsRun}
 
 -- the message as one of the first computation
 abbrev pub renumber : Message → Message
@@ -46,11 +46,3 @@ pub record LastIsRun (g : Graph) (i : ℕ) (log : List Delivery)
   pub begins : BeginsRun g i (computation_log end.config.number log)
   pub whole : IsUncut ending
       → IsWholeComputation g i (computation_log end.config.number log) ending end.config.engaged
-
--- messages of older numbers have no part in what the last computation tells
-abbrev pub LastComputationIsARun : Type 0
-LastComputationIsARun =
-    (rule : Rule) (g : Graph) (i : ℕ) (restarts : List ℕ)
-    (log : List Delivery) (ending : Ending) (end : Going)
-    → IsWithinGraph g → IsTrue (is_idle g i) → IsRun rule g i restarts log ending end
-    → LastIsRun g i log ending end

@@ -1,8 +1,8 @@
 -- Legal runs of one initiator, and what they tell of the graph.
-use Rattle.std.specs.Prelude.{◌≡◌, ◌≢◌, ℕ, ◌+◌, ◌*◌, ◌<◌, ◌≤◌, Bool, true, nat_eq, ◌&&◌, ◌==◌, if◌then◌else◌, List, [], ◌∷◌, length, slice_get, Contains, All, Option, Some, None, is_none, IsTrue, ⊤}
+use Rattle.std.specs.Prelude.{◌≡◌, ◌≢◌, ℕ, ◌+◌, ◌<◌, Bool, true, nat_eq, ◌&&◌, ◌==◌, if◌then◌else◌, List, [], ◌∷◌, slice_get, Contains, Option, Some, None, is_none, IsTrue, ⊤}
 use Rattle.std.specs.List.{IsDistinct}
 use Rattle.cmh_graph.specs.declared.verdict.Verdict.{Verdict}
-use Rattle.cmh_graph.specs.Graph.{Graph, process_count, is_idle, is_awake, dependency_count, IsWithinGraph}
+use Rattle.cmh_graph.specs.Graph.{Graph, process_count, is_awake}
 use Rattle.cmh_graph.specs.Verdict.{IsDeadlocked, IsVerdict}
 use Rattle.cmh_process.specs.declared.message.Message.{Message}
 use Rattle.cmh_run.specs.declared.delivery.Delivery.{Delivery}
@@ -105,31 +105,6 @@ pub record IsRight (g : Graph) (i : ℕ) (restarts : List ℕ)
       → m.number < end.config.number
   pub all_delivered : restarts ≡ [] → ending ≡ Declared → end.config.bag ≡ []
 
--- Every legal run of an idle process tells the truth, whatever message comes next and whenever the
--- initiator starts again.
-abbrev pub RunsAreSound : Type 0
-RunsAreSound =
-    (rule : Rule) (g : Graph) (i : ℕ) (restarts : List ℕ)
-    (log : List Delivery) (ending : Ending) (end : Going)
-    → IsWithinGraph g → IsTrue (is_idle g i) → IsRun rule g i restarts log ending end
-    → IsRight g i restarts ending end
-
--- a run has at most two deliveries for each dependency and start
-abbrev pub DeliveriesAreBounded : Type 0
-DeliveriesAreBounded =
-    (rule : Rule) (g : Graph) (i : ℕ) (restarts : List ℕ)
-    (log : List Delivery) (ending : Ending) (end : Going)
-    → IsWithinGraph g → IsTrue (is_idle g i) → IsRun rule g i restarts log ending end
-    → length log ≤ 2 * dependency_count g * (end.restarted + 1)
-
 -- the message goes from a process of the graph to another, or to itself
 abbrev pub IsBetween : Graph → Message → Type 0
 IsBetween g m = (m.from < process_count g) × (m.to < process_count g)
-
--- the messages of a run of an idle process go between processes of the graph
-abbrev pub MessagesAreBetween : Type 0
-MessagesAreBetween =
-    (rule : Rule) (g : Graph) (i : ℕ) (restarts : List ℕ)
-    (log : List Delivery) (ending : Ending) (end : Going)
-    → IsWithinGraph g → IsTrue (is_idle g i) → IsRun rule g i restarts log ending end
-    → All (λ d. IsBetween g d.message) log

@@ -14,7 +14,7 @@ use Rattle.cmh_run.specs.declared.TheConstants.{MAX_CHOICES, MAX_RESTARTS}
 use Rattle.cmh_run.specs.Config.{Config, proc_at, without_message, after_message}
 use Rattle.cmh_graph.specs.Verdict.{IsDeadlocked, IsVerdict}
 use Rattle.cmh_run.specs.Legal.{Going, going_at_start, Rule, HintIsFit, DeliveriesLead, IsRun, IsRight}
-use Rattle.cmh_run.specs.Choices.{chosen_place, HasNoHints}
+use Rattle.cmh_run.specs.Choices.{chosen_place}
 use Rattle.cmh_run.specs.Engaged.{AreEngaged}
 use Rattle.cmh_run.specs.Last.{LastIsRun}
 
@@ -157,10 +157,3 @@ pub record IsRunAnswer (g : Graph) (i : ℕ) (choices restarts : List ℕ) (r : 
   pub true_verdict : TellsTruth g r
   pub engaged : AreEngaged g i r.ending r.engaged
   pub awake : IsTrue (is_awake g i) → r ≡ empty_run_of i
-
--- without hints, the choices and the restarts leave one run to be kept
-abbrev pub OneRun : Type 0
-OneRun =
-    (g : Graph) (choices restarts : List ℕ) (r s : Run) → r.initiator ≡ s.initiator
-    → IsRunOf g choices restarts r → IsRunOf g choices restarts s
-    → HasNoHints r.log → HasNoHints s.log → r ≡ s

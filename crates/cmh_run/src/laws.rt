@@ -1,65 +1,90 @@
 //! Laws of all legal runs, over the definitions alone. Each function here has an empty body; its
 //! contract is the law.
 
-ghost use Rattle.cmh_run.specs.Check.{LogsHaveOneAnswer};
-ghost use Rattle.cmh_run.specs.Choices.{RunsAreDeterministic};
-ghost use Rattle.cmh_run.specs.Engaged.{WhoEngages, AwakeOnesStartNothing};
-ghost use Rattle.cmh_run.specs.Last.{LastComputationIsARun};
-ghost use Rattle.cmh_run.specs.Legal.{RunsAreSound, DeliveriesAreBounded, MessagesAreBetween};
-ghost use Rattle.cmh_run.specs.Run.{OneRun};
+ghost use Rattle.std.specs.Prelude.{ℕ, List, ◌≡◌, IsTrue, ◌+◌, ◌*◌, ◌≤◌, length, All};
+ghost use Rattle.cmh_graph.specs.Build.{IsWellFormed};
+ghost use Rattle.cmh_graph.specs.Graph.{Graph, is_idle, IsWithinGraph, is_awake, dependency_count};
+ghost use Rattle.cmh_run.specs.Check.{HasOneAnswer};
+ghost use Rattle.cmh_run.specs.Choices.{HasNoHints, chosen_place};
+ghost use Rattle.cmh_run.specs.Engaged.{AreEngaged, IsEmptyRun};
+ghost use Rattle.cmh_run.specs.Last.{LastIsRun};
+ghost use Rattle.cmh_run.specs.Legal.{Going, IsRun, Rule, IsRight, IsBetween};
+ghost use Rattle.cmh_run.specs.Run.{IsRunOf, Run};
+ghost use Rattle.cmh_run.specs.declared.delivery.Ending.{Ending};
+ghost use Rattle.cmh_run.specs.declared.delivery.Delivery.{Delivery};
 
 /// A run that has ended tells whether its initiator is deadlocked. Where it is declared, everyone
 /// who is engaged is deadlocked too, and no message of the last start is undelivered.
-#[tactic(auto, using(crate::proofs::Soundness::runs_are_sound))]
 pub fn law_runs_sound()
-    ensures { RunsAreSound }
+    ensures { (rule : Rule) (g : Graph) (i : ℕ) (restarts : List ℕ)
+        (log : List Delivery) (ending : Ending) (end : Going)
+        → IsWithinGraph g → IsTrue (is_idle g i) → IsRun rule g i restarts log ending end
+        → IsRight g i restarts ending end }
 {}
 
 /// Whatever the ending, the initiator engaged first, unless it is awake, and nobody twice; the
 /// initiator reaches whoever engaged, and none of them is awake. A run is cut at a free process
 /// that did not engage.
 pub fn law_who_engages()
-    ensures { WhoEngages }
+    ensures { (rule : Rule) (g : Graph) (i : ℕ) (restarts : List ℕ)
+        (log : List Delivery) (ending : Ending) (end : Going)
+        → IsWithinGraph g → IsTrue (is_idle g i) → IsRun rule g i restarts log ending end
+        → AreEngaged g i ending end.config.engaged }
 {}
 
 /// An awake initiator has the empty run: it comes to rest at once, with nobody engaged, and doesn't
 /// start again.
-#[tactic(auto, using(crate::proofs::EngagedLemmas::awake_ones_start_nothing))]
 pub fn law_awake_ones_start_nothing()
-    ensures { AwakeOnesStartNothing }
+    ensures { (rule : Rule) (g : Graph) (i : ℕ) (restarts : List ℕ)
+        (log : List Delivery) (ending : Ending) (end : Going)
+        → IsTrue (is_awake g i) → IsRun rule g i restarts log ending end
+        → IsEmptyRun log ending end }
 {}
 
 /// A run has at most two deliveries for each dependency and start.
-#[tactic(auto, using(crate::proofs::DeliveryBound::deliveries_are_bounded))]
 pub fn law_delivery_bound()
-    ensures { DeliveriesAreBounded }
+    ensures { (rule : Rule) (g : Graph) (i : ℕ) (restarts : List ℕ)
+        (log : List Delivery) (ending : Ending) (end : Going)
+        → IsWithinGraph g → IsTrue (is_idle g i) → IsRun rule g i restarts log ending end
+        → length log ≤ 2 * dependency_count g * (end.restarted + 1) }
 {}
 
 /// The messages of a run of an idle process of a graph go between the graph's processes.
 pub fn law_messages_between()
-    ensures { MessagesAreBetween }
+    ensures { (rule : Rule) (g : Graph) (i : ℕ) (restarts : List ℕ)
+        (log : List Delivery) (ending : Ending) (end : Going)
+        → IsWithinGraph g → IsTrue (is_idle g i) → IsRun rule g i restarts log ending end
+        → All (λ d. IsBetween g d.message) log }
 {}
 
 /// Without hints a list of choices leaves one run, with one ending.
-#[tactic(auto, using(crate::proofs::Determinism::runs_are_deterministic))]
 pub fn law_runs_deterministic()
-    ensures { RunsAreDeterministic }
+    ensures { (choices : List ℕ) (g : Graph) (i : ℕ) (restarts : List ℕ)
+        (log other : List Delivery) (ending last : Ending) (end far : Going)
+        → IsRun (chosen_place choices) g i restarts log ending end
+        → IsRun (chosen_place choices) g i restarts other last far
+        → HasNoHints log → HasNoHints other → (log ≡ other) × (end ≡ far) }
 {}
 
 /// Without hints there is one run to be kept of an initiator, a list of choices and a list of
 /// restarts. So without restarts `run_again` answers what `run` answers.
 pub fn law_one_run()
-    ensures { OneRun }
+    ensures { (g : Graph) (choices restarts : List ℕ) (r s : Run) → r.initiator ≡ s.initiator
+        → IsRunOf g choices restarts r → IsRunOf g choices restarts s
+        → HasNoHints r.log → HasNoHints s.log → r ≡ s }
 {}
 
 /// The deliveries of a run's last number, taken alone and numbered 1, begin a run without restarts.
 /// Where the run was declared or came to rest they are all of one, which ends as it did with the
 /// same engaged processes.
 pub fn law_last_computation_is_a_run()
-    ensures { LastComputationIsARun }
+    ensures { (rule : Rule) (g : Graph) (i : ℕ) (restarts : List ℕ)
+        (log : List Delivery) (ending : Ending) (end : Going)
+        → IsWithinGraph g → IsTrue (is_idle g i) → IsRun rule g i restarts log ending end
+        → LastIsRun g i log ending end }
 {}
 
 /// A log is legal with one ending, or has one first fault: so `check_run` has no choice.
 pub fn law_logs_have_one_answer()
-    ensures { LogsHaveOneAnswer }
+    ensures { (g : Graph) (i : ℕ) (log : List Delivery) → IsWellFormed g → HasOneAnswer g i log }
 {}

@@ -1,9 +1,10 @@
 -- Rows and verdicts can be told from their words.
+use Rattle.cmh_rw.specs.declared.row.Row.{Row}
 use Rattle.std.proofs.Common.{◌≡◌, ◌≢◌, ℕ, zero, suc, ◌+◌, ◌-◌, ◌*◌, ◌/◌, ◌%◌, ◌≤◌, Bool, true, false, cond, eqb, Some, List, [], ◌∷◌, ◌++◌, length, get_or, refl, ap, ◌∙◌, arith}
 use Rattle.cmh_graph.specs.declared.verdict.Verdict.{Verdict}
 use Rattle.cmh_graph.specs.declared.verdict.Verdict.TheVariants.{Deadlocked, Free}
 use Rattle.cmh_rw.specs.declared.TheConstants.{FIRST_VERDICT}
-use Rattle.cmh_rw.specs.History.{bit, free_bit, verdict_code, verdict_from_code, RowCodeLaw}
+use Rattle.cmh_rw.specs.History.{bit, free_bit, verdict_code, verdict_from_code, row_of, row_code}
 use Rattle.cmh_rw.specs.View.{mark}
 
 -- the three parts of a row's word can be told from it
@@ -32,7 +33,7 @@ free-verdict Deadlocked = refl
 free-verdict Free = refl
 
 -- a row can be told from its word
-pub row_code_law : RowCodeLaw
+pub row_code_law : (r : Row) → row_of (row_code r) ≡ r
 row_code_law r =
     let e = parts r.process (bit r.last) (free_bit r.verdict) (bit-small r.last) (free_bit-small r.verdict) in
     λ k. record {

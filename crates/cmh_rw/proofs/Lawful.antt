@@ -9,7 +9,7 @@ use Rattle.cmh_rw.specs.declared.machine.SeatState.{SeatState}
 use Rattle.cmh_rw.specs.declared.machine.SeatState.TheVariants.{Away, Retreating, Reading, Writing, Spent}
 use Rattle.cmh_rw.specs.declared.machine.Event.{Event}
 use Rattle.cmh_rw.specs.declared.machine.Event.TheVariants.{Admit, Leave, TryWrite, EndWrite}
-use Rattle.cmh_rw.specs.Machine.{World, world, total, writes, reads, retreats, IsBadCount, IsLawful, IsLock, StepLaw, turn, seat_of, step_of, run_from, new_world}
+use Rattle.cmh_rw.specs.Machine.{World, world, total, writes, reads, retreats, IsBadCount, IsLawful, IsLock, turn, seat_of, step_of, run_from, new_world}
 
 -- a sum over a list changes by as much as the one item that changes
 pub total-set : {A : Type 0} (f : A → ℕ) (l : List A) (i : ℕ) (a b : A) → get_elem? l i ≡ some a
@@ -147,7 +147,7 @@ step-past e word l h =
     λ k. world (sym is k).0 ((sym (set-past l (seat_of e) (turn e word (get_or l (seat_of e) Spent)).1 h)) k)
 
 -- each event keeps a lawful world lawful
-pub step_law : StepLaw
+pub step_law : (w : World) (e : Event) → IsLawful w → IsLawful (step_of w e)
 step_law w e h = elim (cases_lt (seat_of e) (length w.seats)) as (λ d. IsLawful (step_of w e)) [
   | inl lt ↦ turn-lawful e w.word w.seats (seat_of e) (get_or w.seats (seat_of e) Spent)
       (at_get w.seats (seat_of e) Spent lt) h

@@ -29,10 +29,6 @@ row_of code = record {
   last = code / 2 % 2 == 1;
 }
 
--- each row has a word of its own
-abbrev pub RowCodeLaw : Type 0
-RowCodeLaw = (r : Row) → row_of (row_code r) ≡ r
-
 -- the word that a verdict, or that there is none, is stored as
 abbrev pub verdict_code : Option Verdict → ℕ
 verdict_code None = 0

@@ -79,10 +79,6 @@ step_of w e =
     let after = turn e w.word (slice_index_or w.seats (seat_of e) Spent) in
     world after.0 (slice_set w.seats (seat_of e) after.1)
 
--- each event keeps a lawful world lawful
-abbrev pub StepLaw : Type 0
-StepLaw = (w : World) (e : Event) → IsLawful w → IsLawful (step_of w e)
-
 -- the events, one after the other
 abbrev pub run_from : World → List Event → World
 run_from w [] = w

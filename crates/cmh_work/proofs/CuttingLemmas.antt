@@ -7,7 +7,7 @@ use Rattle.cmh_graph.specs.Graph.{Graph, is_idle, indices, idle_list}
 use Rattle.cmh_graph.proofs.Verdicts.{filter_contains}
 use Rattle.cmh_rw.specs.Machine.{total}
 use Rattle.cmh_plan.specs.Tickets.{sum_below}
-use Rattle.cmh_work.specs.Cutting.{bounds_of, chunks_of, ends_from, concat_chunks, ChunksLaw}
+use Rattle.cmh_work.specs.Cutting.{bounds_of, chunks_of, ends_from, concat_chunks}
 use Rattle.cmh_rw.proofs.Lawful.{total-append}
 
 -- what two lists of numbers gather together is what the one gathers, and then the other
@@ -74,7 +74,8 @@ joined_chunks [] xs = append-nil xs
 joined_chunks (c ∷ cs) xs = ap (λ l. take c xs ++ l) (joined_chunks cs (drop c xs)) ∙ take-append-drop c xs
 
 -- the chunks are the list, cut
-pub chunks_law : ChunksLaw
+pub chunks_law : (cuts list : List ℕ)
+    → (flat_map (λ chunk. chunk) (chunks_of cuts list) ≡ list) × (length (chunks_of cuts list) ≡ length cuts + 1)
 chunks_law cuts xs = (joined_chunks cuts xs, length_chunks cuts xs)
 
 -- a chunk is what lies between its bounds

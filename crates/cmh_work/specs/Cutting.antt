@@ -1,5 +1,5 @@
 -- How the initiators are cut into chunks.
-use Rattle.std.specs.Prelude.{◌≡◌, ℕ, ◌+◌, min, List, [], ◌∷◌, ◌++◌, take, drop, flat_map, length, slice_index_or}
+use Rattle.std.specs.Prelude.{ℕ, ◌+◌, min, List, [], ◌∷◌, ◌++◌, take, drop, slice_index_or}
 
 -- each cut takes that many off the front, or all that are left; the rest is the last chunk
 abbrev pub chunks_of : List ℕ → List ℕ → List (List ℕ)
@@ -19,8 +19,3 @@ bounds_of cuts size = 0 ∷ ends_from size 0 cuts
 abbrev pub concat_chunks : List (List ℕ) → List ℕ → List ℕ
 concat_chunks chunks [] = []
 concat_chunks chunks (number ∷ numbers) = slice_index_or chunks number [] ++ concat_chunks chunks numbers
-
--- the chunks are the list, cut: end to end they are the list, and there is one more than cuts
-abbrev pub ChunksLaw : Type 0
-ChunksLaw = (cuts list : List ℕ)
-    → (flat_map (λ chunk. chunk) (chunks_of cuts list) ≡ list) × (length (chunks_of cuts list) ≡ length cuts + 1)
