@@ -1,5 +1,5 @@
 -- What one process does at a start, at a query and at a reply: how it is afterwards, and its action.
-use Rattle.std.specs.Prelude.{◌≡◌, ℕ, ◌+◌, ◌-◌, Bool, true, false, ◌&&◌, ◌==◌, nat_lt, if◌then◌else◌, Option, Some, None}
+use Rattle.std.specs.Prelude.{ℕ, ◌+◌, ◌-◌, Bool, true, false, ◌&&◌, ◌==◌, nat_lt, if◌then◌else◌, Option, Some, None}
 use Rattle.cmh_process.specs.declared.process.Proc.{Proc}
 use Rattle.cmh_process.specs.declared.process.Action.{Action}
 use Rattle.cmh_process.specs.declared.process.Action.TheVariants.{Nothing, Engage, ReplyTo, Declare}
@@ -74,10 +74,3 @@ reply_action p number =
     if counts_reply p number
     then (if p.num == 1 then last_action p.engager else Nothing)
     else Nothing
-
--- neither a query nor a reply with this number changes the process, nor makes it send
-pub record IsUnmoved (p : Proc) (number from size : ℕ) : Type 0 where
-  pub at_query : proc_queried p number from size ≡ p
-  pub no_answer : query_action p number from size ≡ Nothing
-  pub at_reply : proc_replied p number ≡ p
-  pub no_word : reply_action p number ≡ Nothing
