@@ -38,7 +38,7 @@ pub fn put_all<K: Sink>(sink: &mut K, bytes: &[u8]) -> Result<(), WriteFault>
     ensures works { OnOk result ((K.state sink.new).has_failed ≡ false) }
 
     ensures within { IfErr result (λ e. e.written ≤ length bytes.now) }
-    ensures front { IfErr result (λ e.
+    ensures prefix { IfErr result (λ e.
         (K.state sink.new).taken ≡ (K.state sink.old).taken ++ take e.written bytes.now) }
     ensures stops { OnErr result ((K.state sink.new).has_failed ≡ true) }
     ensures unfinished { IfErr result (λ e. (K.state sink.new).is_finished ≡ true
@@ -65,7 +65,7 @@ pub fn put_pieces<K: Sink>(sink: &mut K, text: &Pieces) -> Result<(), WriteFault
     ensures works { OnOk result ((K.state sink.new).has_failed ≡ false) }
 
     ensures within { IfErr result (λ e. e.written ≤ length text.now) }
-    ensures front { IfErr result (λ e.
+    ensures prefix { IfErr result (λ e.
         (K.state sink.new).taken ≡ (K.state sink.old).taken ++ take e.written text.now) }
     ensures stops { OnErr result ((K.state sink.new).has_failed ≡ true) }
     ensures unfinished { IfErr result (λ e. (K.state sink.new).is_finished ≡ true
@@ -97,7 +97,7 @@ fn put_text<K: Sink>(sink: &mut K, bytes: &[u8]) -> Result<(), WriteFault>
         → ((K.state sink.old).is_finished ≡ true) × (length bytes.now ≡ 0)) }
 
     ensures within { IfErr result (λ e. e.written ≤ length bytes.now) }
-    ensures front { IfErr result (λ e.
+    ensures prefix { IfErr result (λ e.
         (K.state sink.new).taken ≡ (K.state sink.old).taken ++ take e.written bytes.now) }
     ensures stops { OnErr result ((K.state sink.new).has_failed ≡ true) }
     ensures unfinished { IfErr result (λ e. (K.state sink.new).is_finished ≡ true

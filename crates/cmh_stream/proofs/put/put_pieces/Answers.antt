@@ -18,8 +18,8 @@ returns-in-Err-clause-within g c =
     c.piece-item.result c.loop-piece-test.true in
     search (rules, all)
 
-pub returns-in-Err-clause-front : goal.returns-in-Err-clause-front
-returns-in-Err-clause-front g c =
+pub returns-in-Err-clause-prefix : goal.returns-in-Err-clause-prefix
+returns-in-Err-clause-prefix g c =
     let kept = c.loop-piece.invariant in
     rw (sym c.list-pieces.ensures.text)
     (grown-by_next (λ s. string_bytes s) _ _ _ _ _ _ _ _ c.loop-piece-test.true c.piece-item.is kept.written

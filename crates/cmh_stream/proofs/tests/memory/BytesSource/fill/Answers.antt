@@ -1,4 +1,4 @@
--- The front of the buffer holds the next of the bytes.
+-- The buffer begins with the next of the bytes.
 use Rattle.std.proofs.Common.{◌≡◌, length, take, drop, ◌++◌, arith, sym, ap, ◌∙◌}
 use Rattle.std.proofs.lemmas.List.{take_at, length-take-le}
 use Rattle.cmh_stream.proofs.Prefixes.{take-others}
