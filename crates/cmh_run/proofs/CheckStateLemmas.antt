@@ -181,7 +181,7 @@ received_bag g i c bag m Query hint =
     by_hint (Some Free) = rw (append-nil bag) refl
 
 -- the network after m is delivered, where its bag was emptied before
-abbrev pub carried : Graph → ℕ → Config → Message → Option Verdict → Config
+abbrev carried : Graph → ℕ → Config → Message → Option Verdict → Config
 carried g i c m hint = cond (is_awake g m.to) (with_bag c []) (after_message g i (with_bag c []) m m.kind hint)
 
 -- a delivery does what it does with an emptied bag, and its bag is then the rest with what was sent

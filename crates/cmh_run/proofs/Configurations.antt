@@ -350,7 +350,7 @@ module _ (g : Graph) (i : ℕ) (c : Config) (ok : IsWithinGraph g) (size : lengt
       (λ e. receiving e m.kind refl hint fit)
 
 -- what is true of a configuration is true after a start of the initiator with a greater number
-pub starting : (g : Graph) (i : ℕ) (c : Config) → IsWithinGraph g → i < process_count g → is_awake g i ≡ false
+starting : (g : Graph) (i : ℕ) (c : Config) → IsWithinGraph g → i < process_count g → is_awake g i ≡ false
     → length c.procs ≡ process_count g → Calm g i c.number (proc_at c.procs) → c.number ≤ (proc_at c.procs i).latest
     → Each (Fine g i c.number (proc_at c.procs)) c.bag
     → ((k e : ℕ) → (proc_at c.procs k).engager ≡ Some e → e < process_count g) → Stands g i (start g i c)

@@ -2,7 +2,7 @@
 use Rattle.std.proofs.Common.{◌≡◌, ℕ, ◌+◌, ◌-◌, ◌*◌, ◌^◌, ◌<◌, ◌≤◌, ◌≢◌, Bool, true, false, ◌&&◌, cond, eqb, List, [], ◌∷◌, ◌++◌, length, drop, slice_get, Contains, Option, Some, None, is_none, refl, sym, ◌∙◌, ap, subst, arith, ◌⊎◌, ⊎_elim, length-append, mul-le-mul_left}
 use Rattle.std.proofs.lemmas.Bool.{eqb-true, eq-eqb, and_parts}
 use Rattle.std.proofs.lemmas.Option.{none-some}
-use Rattle.std.specs.Prelude.{slice_index}
+use Rattle.std.specs.Prelude.{slice_index, unwrap_or}
 use Rattle.std.specs.List.{IsDistinct}
 use Rattle.std.proofs.lemmas.List.{length-replicate, get_or-drop, drop-drop}
 use Rattle.cmh_process.specs.declared.message.Message.{Message}
@@ -17,7 +17,7 @@ use Rattle.cmh_run.specs.Config.{Config, blank_config, proc_at, nothing_yet, sta
 use Rattle.cmh_run.specs.Legal.{Going, going_from, going_at_start, after_restart, after_first_restart, after_due_restart, going_after, Rule, MayCome, DeliveriesLead, EndsAs, IsRun, HintIsFit, IsRight}
 use Rattle.cmh_run.specs.Choices.{chosen_place, HasNoHints}
 use Rattle.cmh_run.specs.Engaged.{AreEngaged}
-use Rattle.cmh_run.specs.Run.{ProgressState, Follows, Run, IsAccepted, IsRunOf, IsRunAnswer, TellsTruth, empty_run_of, verdict_of, MayStart, place_in, IsTakenBy, progress_after, ending_of}
+use Rattle.cmh_run.specs.Run.{ProgressState, Follows, Run, IsAccepted, IsRunOf, IsRunAnswer, TellsTruth, empty_run_of, verdict_of, MayStart, place_in, IsTakenBy, progress_after}
 use Rattle.cmh_run.specs.Packed.{CanSend, EngagersHaveRoom}
 use Rattle.cmh_run.specs.declared.TheConstants.{MAX_RESTARTS}
 use Rattle.cmh_graph.specs.Verdict.{IsVerdict}
@@ -116,11 +116,11 @@ module _ (g : Graph) (i : ℕ) (ok : IsWithinGraph g) (within : i < process_coun
   first_number = rw (fresh_at (process_count g) i) refl
 
   -- what is true of a configuration is true after the first start
-  pub first_stands : Stands g i (start g i (nothing_yet g))
+  first_stands : Stands g i (start g i (nothing_yet g))
   first_stands = first_start g i ok within rests
 
   -- what is true of a configuration is true wherever deliveries lead from the first start
-  pub follows_stands : (rule : Rule) (restarts : List ℕ) (log : List Delivery) (s : Going)
+  follows_stands : (rule : Rule) (restarts : List ℕ) (log : List Delivery) (s : Going)
       → DeliveriesLead rule g i (going_from (start g i (nothing_yet g)) restarts) log s → Stands g i s.config
   follows_stands rule restarts log s l =
       leads_stands rule g i ok within rests log (going_from (start g i (nothing_yet g)) restarts) s first_stands l
@@ -256,7 +256,7 @@ module _ (g : Graph) (i : ℕ) (choices restarts : List ℕ) (s : ProgressState)
       omega (arith, short, mul-le-mul_left (2 * dependency_count g) most)
 
   -- the run goes on by a delivery that the choices name
-  pub follows_on : (d : Delivery) → MayCome g s.going.config (place_in choices s) d
+  follows_on : (d : Delivery) → MayCome g s.going.config (place_in choices s) d
       → Follows g i choices restarts
       (record { going = after_due_restart g i (going_after g i s.going (place_in choices s) d); log = s.log ++ d ∷ [] })
   follows_on d may = record {
@@ -436,7 +436,8 @@ module _ (g : Graph) (i : ℕ) (choices restarts : List ℕ) (s t : ProgressStat
 -- a run that is over, or has nothing left to deliver, has ended as it says
 ends_as : (g : Graph) (i : ℕ) (choices restarts : List ℕ) (s : ProgressState) → IsWithinGraph g → is_idle g i ≡ true
     → Follows g i choices restarts s
-    → (s.going.config.ended ≢ None) ⊎ (s.going.config.bag ≡ []) → EndsAs s.going.config (ending_of s.going.config.ended)
+    → (s.going.config.ended ≢ None) ⊎ (s.going.config.bag ≡ [])
+    → EndsAs s.going.config (unwrap_or s.going.config.ended AtRest)
 ends_as g i choices restarts s ok idle f over = by_ended s.going.config.ended refl
   where
     not_at_rest : (b : Bool) → is_awake g i ≡ b → s.going.config.ended ≡ Some AtRest → ⊥
@@ -452,7 +453,7 @@ ends_as g i choices restarts s ok idle f over = by_ended s.going.config.ended re
         subst (λ (o : Option Ending). Status g i s.going.config.number
         (proc_at s.going.config.procs) s.going.config.bag s.going.config.engaged o) e stands.status
 
-    by_ended : (o : Option Ending) → s.going.config.ended ≡ o → EndsAs s.going.config (ending_of o)
+    by_ended : (o : Option Ending) → s.going.config.ended ≡ o → EndsAs s.going.config (unwrap_or o AtRest)
     by_ended None e =
         (e, ⊎_elim (λ (n : s.going.config.ended ≢ None). absurd (n e)) (λ (b : s.going.config.bag ≡ []). b) over)
     by_ended (Some Declared) e = e
@@ -478,7 +479,7 @@ pub finished : (g : Graph) (i : ℕ) (choices restarts : List ℕ) (s t : Progre
     → r ≡ record {
       initiator = i;
       log = t.log;
-      ending = ending_of t.going.config.ended;
+      ending = unwrap_or t.going.config.ended AtRest;
       engaged = t.going.config.engaged;
       restarted = t.going.restarted;
     }
@@ -489,7 +490,7 @@ finished g i choices restarts s t r ok idle f over e =
     (λ (w : ProgressState). let z : Run = record {
       initiator = i;
       log = w.log;
-      ending = ending_of w.going.config.ended;
+      ending = unwrap_or w.going.config.ended AtRest;
       engaged = w.going.config.engaged;
       restarted = w.going.restarted;
     } in z) over.0))

@@ -15,7 +15,7 @@ use Rattle.cmh_graph.specs.declared.verdict.Verdict.TheVariants.{Deadlocked, Fre
 use Rattle.cmh_graph.specs.Graph.{Graph, process_count, dependents_of, is_awake}
 use Rattle.cmh_run.specs.declared.delivery.Ending.{Ending}
 use Rattle.cmh_run.specs.declared.delivery.Ending.TheVariants.{Declared, AtRest, CutFree}
-use Rattle.cmh_run.specs.Config.{Config, proc_at, messages_of, ending_after, nothing_yet, start, after_step, after_engagement, after_hint, after_answer, after_message, without_message, after_delivery, after_cut}
+use Rattle.cmh_run.specs.Config.{Config, proc_at, messages_of, ending_after, nothing_yet, start, after_step, after_engagement, after_hint, after_answer, after_message, without_message, after_delivery}
 use Rattle.cmh_run.specs.Legal.{HintIsFit}
 use Rattle.cmh_run.specs.Last.{renumber}
 use Rattle.cmh_run.proofs.Tokens.{Each}
@@ -138,8 +138,8 @@ module _ (g : Graph) (i : ℕ) (c : Config) (x : ℕ) (m : Message) (there : sli
   )
 
   -- a hint that ends the run ends the computation alone too
-  cut_alike : IsAlike (after_cut (without_message c x) m.to)
-      (after_cut (without_message (shadow m.number c None) (place_among m.number c.bag x)) m.to)
+  cut_alike : IsAlike (record (without_message c x) { ended = Some (CutFree m.to) })
+      (record (without_message (shadow m.number c None) (place_among m.number c.bag x)) { ended = Some (CutFree m.to) })
   cut_alike = (Some (CutFree m.to), tt, rw (kept_taken m.number c.bag x m there refl) refl)
 
   -- a query that would engage its receiver leads to the same, with any hint, seen from the computation alone
@@ -271,7 +271,7 @@ module _ (n : ℕ) (g : Graph) (i : ℕ) (c : Config) (x : ℕ) (m : Message) (t
   )
 
   -- where a hint about an older query ends the run, nothing changes as seen from computation n
-  unseen_cut : IsUnseen (after_cut (without_message c x) m.to)
+  unseen_cut : IsUnseen (record (without_message c x) { ended = Some (CutFree m.to) })
   unseen_cut = (tt, rw (kept_other n c.bag x m there other) refl)
 
   -- an older query that would engage changes nothing as seen from computation n, whatever the hint

@@ -336,7 +336,7 @@ module _ (g : Graph) (i n : ℕ) (F : ℕ → Proc) (bag : List Message) (engage
       rw (is_reply, eq-eqb m.number n newest, eq-eqb m.to m.to refl, eq-eqb m.from m.from refl) refl
 
   -- the receiver after a reply that it waited for
-  abbrev pub lowered : Proc
+  abbrev lowered : Proc
   lowered =
       record { latest = (F m.to).latest; engager = (F m.to).engager; num = (F m.to).num - 1; wait = (F m.to).wait }
 

@@ -9,7 +9,7 @@ use Rattle.cmh_run.specs.declared.delivery.Ending.{Ending}
 use Rattle.cmh_run.specs.declared.fault.CheckFault.{CheckFault}
 use Rattle.cmh_run.specs.declared.fault.CheckFault.TheVariants.{NotIdle, NotUndelivered, FalseHint, AfterEnd, NotEnded, Memory}
 use Rattle.cmh_run.specs.Legal.{Going, going_at_start, after_due_restart, going_after, MayCome, any_place, DeliveriesLead, EndsAs}
-use Rattle.cmh_run.specs.Check.{LeadTo, HasEnded, IsUndelivered, IsLegalRun, ComesAt, IsAfterEnd, IsStray, IsMisled, IsLogCutShort, IsFirstCheckFault, HasOneAnswer}
+use Rattle.cmh_run.specs.Check.{LeadTo, HasEnded, IsUndelivered, IsLegalRun, ComesAt, IsAfterEnd, IsStray, IsMisled, IsLogCutShort, IsFirstCheckFault}
 use Rattle.cmh_run.proofs.Determinism.{over, one_ending}
 use Rattle.cmh_run.proofs.Places.{one_place}
 use Rattle.cmh_run.proofs.FollowLemmas.{leads_on}
@@ -226,12 +226,19 @@ module _ (g : Graph) (i : ℕ) (w : IsWellFormed g) where
   one_fault log NotEnded (FalseHint n) a b = absurd (cut_not log n a (misled_bad g i log n b))
   one_fault log NotEnded NotEnded a b = refl
 
--- every log has one answer
-pub logs_have_one_answer : (g : Graph) (i : ℕ) (log : List Delivery) → IsWellFormed g → HasOneAnswer g i log
-logs_have_one_answer g i log w = record {
-  ending = λ a b r s. one_ending r.end.config a b r.legal.ends
-      (subst (λ (u : Going). EndsAs u.config b)
-      (one_state g i w r.idle log s.end r.end s.legal.leads r.legal.leads) s.legal.ends);
-  sound = λ a e r h. legal_not g i w log a e r h;
-  first = λ e f a b. one_fault g i w log e f a b;
-}
+-- a legal log has one ending
+pub one_legal_ending : (g : Graph) (i : ℕ) (log : List Delivery) (a b : Ending) → IsWellFormed g
+    → IsLegalRun g i log a → IsLegalRun g i log b → a ≡ b
+one_legal_ending g i log a b w r s = one_ending r.end.config a b r.legal.ends
+    (subst (λ (u : Going). EndsAs u.config b)
+    (one_state g i w r.idle log s.end r.end s.legal.leads r.legal.leads) s.legal.ends)
+
+-- a legal log has no first fault
+pub legal_no_fault : (g : Graph) (i : ℕ) (log : List Delivery) (a : Ending) (e : CheckFault) → IsWellFormed g
+    → IsLegalRun g i log a → IsFirstCheckFault g i log e → ⊥
+legal_no_fault g i log a e w r h = legal_not g i w log a e r h
+
+-- a log has one first fault
+pub one_first_fault : (g : Graph) (i : ℕ) (log : List Delivery) (e f : CheckFault) → IsWellFormed g
+    → IsFirstCheckFault g i log e → IsFirstCheckFault g i log f → e ≡ f
+one_first_fault g i log e f w a b = one_fault g i w log e f a b

@@ -1,6 +1,6 @@
 -- What lines tell, and which of them are refused.
 use Rattle.std.proofs.Common.{◌≡◌, ℕ, suc, ◌<◌, ◌≤◌, ◌↔◌, Bool, true, false, not, cond, eqb, List, [], ◌∷◌, length, get_or, slice_get, Option, Some, None, refl, sym, ◌∙◌, ap, subst, arith, true≢false, IfSome}
-use Rattle.std.specs.Prelude.{option_map, unwrap_or, find, nat_le, position}
+use Rattle.std.specs.Prelude.{option_map, unwrap_or, find, nat_le, position, ◌&&◌, ◌==◌}
 use Rattle.std.specs.List.{position_or_len}
 use Rattle.std.proofs.lemmas.Bool.{eqb-true, and_parts}
 use Rattle.std.proofs.lemmas.Grind.{common_steps}
@@ -17,7 +17,7 @@ use Rattle.cmh_graph.specs.Judge.{IsFirst}
 use Rattle.cmh_graph.proofs.PartLemmas.{first_place}
 use Rattle.cmh_graph.proofs.IndexLists.{length-by_index, by_index}
 use Rattle.cmh_graph.proofs.Verdicts.{one_verdict, verdict_true}
-use Rattle.cmh_run.specs.Script.{ScriptLine, is_for, told_at, AreTrueOf, IsLineOutOfRange, IsUntrue, IsNever, is_listed}
+use Rattle.cmh_run.specs.Script.{ScriptLine, told_at, AreTrueOf, IsLineOutOfRange, IsUntrue, is_listed}
 use Rattle.cmh_run.proofs.Configurations.{by_test}
 use Rattle.cmh_run.proofs.Verdicts.{same, same_as_itself}
 
@@ -28,8 +28,9 @@ pub told_true : (g : Graph) (lines : List ScriptLine) (ask p : ℕ) → AreTrueO
     → IfSome (told_at lines ask p) (λ v. IsVerdict g p v)
 told_true g [] ask p h = tt
 told_true g (e ∷ lines) ask p h =
-    by_test (is_for ask p e)
-    (λ b. IfSome (option_map (λ (x : ScriptLine). x.2) (cond b (Some e) (find (is_for ask p) lines)))
+    by_test (e.0 == ask && e.1 == p)
+    (λ b. IfSome
+    (option_map (λ (x : ScriptLine). x.2) (cond b (Some e) (find (λ (l : ScriptLine). l.0 == ask && l.1 == p) lines)))
     (λ v. IsVerdict g p v))
     (λ t. subst (λ (q : ℕ). IsVerdict g q e.2) (eqb-true e.1 p (and_parts (eqb e.0 ask) (eqb e.1 p) t).1)
     (h 0 e refl))
@@ -57,7 +58,7 @@ module _ (test : ScriptLine → Bool) (P : ScriptLine → Type 0) (lines : List 
   IsAt k = (line : ScriptLine) × (slice_get lines k ≡ Some line) × P line
 
   -- where no line passes the test, P holds of none
-  none_found : position test lines ≡ None → IsNever IsAt
+  none_found : position test lines ≡ None → (k : ℕ) → IsAt k → ⊥
   none_found e k h = true≢false (sym ((means k h.0 h.1).1 h.2) ∙ each_fails test lines e k h.0 h.1)
 
   -- the first line that passes the test is the first of which P holds
@@ -80,7 +81,7 @@ module _ (n count : ℕ) (lines : List ScriptLine) (is : n ≡ count) where
 
   -- where no line passes the test, none is out of range
   pub never_beyond : position (λ (line : ScriptLine). nat_le n line.1) lines ≡ None
-      → IsNever (IsLineOutOfRange count lines)
+      → (k : ℕ) → IsLineOutOfRange count lines k → ⊥
   never_beyond =
       none_found (λ (line : ScriptLine). nat_le n line.1) (λ (line : ScriptLine). count ≤ line.1) lines beyond_means
 
@@ -113,7 +114,7 @@ passes true e = refl
 passes false e = absurd (cc)
 
 module _ (g : Graph) (truth : List Verdict) (lines : List ScriptLine) (w : IsWithinGraph g)
-    (is : truth ≡ verdicts g) (never : IsNever (IsLineOutOfRange (process_count g) lines)) where
+    (is : truth ≡ verdicts g) (never : (k : ℕ) → IsLineOutOfRange (process_count g) lines k → ⊥) where
   -- a line is in the list of all verdicts exactly where it is true
   listed_means : (k : ℕ) (line : ScriptLine) → slice_get lines k ≡ Some line
       → (is_listed truth line ≡ true) ↔ IsVerdict g line.1 line.2

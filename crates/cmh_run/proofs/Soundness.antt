@@ -14,7 +14,8 @@ use Rattle.cmh_process.specs.Process.{new_proc, engages, proc_queried, query_act
 use Rattle.cmh_graph.specs.Graph.{Graph, process_count, is_awake, IsWithinGraph, is_idle}
 use Rattle.cmh_graph.specs.Verdict.{IsDeadlocked}
 use Rattle.cmh_graph.proofs.Verdicts.{idle_within}
-use Rattle.cmh_run.proofs.Paths.{reaches_self, reached_deadlocked}
+use Rattle.cmh_run.proofs.Paths.{reaches_self}
+use Rattle.cmh_graph.proofs.Groups.{reached_deadlocked}
 use Rattle.cmh_run.specs.Config.{Config, proc_at, after_step, after_hint, after_message, without_message, after_delivery, start, nothing_yet}
 use Rattle.cmh_run.specs.Legal.{Going, after_due_restart, going_after, DeliveriesLead, EndsAs, IsRight, Rule, IsRun}
 use Rattle.cmh_run.proofs.Tally.{tally_from_contains, distinct}
@@ -142,7 +143,7 @@ right_at g i restarts (CutFree k) end ok s e one =
     (proc_at end.config.procs) end.config.bag end.config.engaged o) e s.status in
     record {
       declared = λ q. absurd (cc);
-      free = λ q dead. h.free (reached_deadlocked g i k h.reached dead);
+      free = λ q dead. h.free (reached_deadlocked g i k dead h.reached);
       engaged = λ q. absurd (cc);
       begins = λ q. absurd (cc);
       once = λ q. absurd (cc);
@@ -152,7 +153,7 @@ right_at g i restarts (CutFree k) end ok s e one =
     }
 
 -- an awake initiator has the empty run
-pub empty_run : (rule : ℕ → Config → ℕ → Bool) (g : Graph) (i : ℕ) (restarts : List ℕ) (log : List Delivery)
+empty_run : (rule : ℕ → Config → ℕ → Bool) (g : Graph) (i : ℕ) (restarts : List ℕ) (log : List Delivery)
     (ending : Ending) (end : Going) → is_awake g i ≡ true
     → DeliveriesLead rule g i (record { config = nothing_yet g; done = 0; restarts = []; restarted = 0 }) log end
     → EndsAs end.config ending → IsRight g i restarts ending end

@@ -73,9 +73,3 @@ IsFirstCheckFault g i log (NotUndelivered t) = IsStray g i log t
 IsFirstCheckFault g i log (FalseHint t) = IsMisled g i log t
 IsFirstCheckFault g i log NotEnded = IsLogCutShort g i log
 IsFirstCheckFault g i log Memory = ⊥
-
--- A log is legal with one ending, or has one first fault: never two of these.
-pub record HasOneAnswer (g : Graph) (i : ℕ) (log : List Delivery) : Type 0 where
-  pub ending : (a b : Ending) → IsLegalRun g i log a → IsLegalRun g i log b → a ≡ b
-  pub sound : (a : Ending) (e : CheckFault) → IsLegalRun g i log a → IsFirstCheckFault g i log e → ⊥
-  pub first : (e f : CheckFault) → IsFirstCheckFault g i log e → IsFirstCheckFault g i log f → e ≡ f

@@ -88,19 +88,14 @@ after_action i c number k dependents action = record c {
   ended = ending_after action;
 }
 
--- the configuration with p as process k
-abbrev pub with_proc : Config → ℕ → Proc → Config
-with_proc c k p = record c { procs = slice_set c.procs k p }
-
 -- the configuration after a step of process k, which becomes p and does this
 abbrev pub after_step : ℕ → Config → ℕ → ℕ → List ℕ → Proc → Action → Config
-after_step i c number k dependents p action = after_action i (with_proc c k p) number k dependents action
+after_step i c number k dependents p action = after_action i c' number k dependents action where
+  c' : Config
+  c' = record c { procs = slice_set c.procs k p }
 
--- the engaged once k engages with this number: those of an older number aren't kept
-abbrev pub engaged_list : Config → ℕ → ℕ → List ℕ
-engaged_list c number k = if number == c.number then c.engaged ++ k ∷ [] else c.engaged
-
--- the configuration once a query engages its receiver, which asks these
+-- The configuration once a query engages its receiver, which asks these. Who engaged with an older number isn't kept
+-- among the engaged.
 abbrev pub after_engagement : ℕ → Config → Message → List ℕ → Config
 after_engagement i c m dependents =
     let p = proc_at c.procs m.to in
@@ -109,20 +104,16 @@ after_engagement i c m dependents =
       bag = c.bag ++ messages_of i m.number m.to dependents action;
       procs = slice_set c.procs m.to (proc_queried p m.number m.from (length dependents));
       number = c.number;
-      engaged = engaged_list c m.number m.to;
+      engaged = if m.number == c.number then c.engaged ++ m.to ∷ [] else c.engaged;
       ended = None;
     }
-
--- the configuration once the run is over, since process k is known to be free
-abbrev pub after_cut : Config → ℕ → Config
-after_cut c k = record c { ended = Some (CutFree k) }
 
 -- A query would engage its receiver, and this is the hint about it. Who is known to be deadlocked
 -- engages as a process that has nobody to ask; who is known to be free ends the run.
 abbrev pub after_hint : Graph → ℕ → Config → Message → Option Verdict → Config
 after_hint g i c m None = after_engagement i c m (dependents_of g m.to)
 after_hint g i c m (Some Deadlocked) = after_engagement i c m []
-after_hint g i c m (Some Free) = after_cut c m.to
+after_hint g i c m (Some Free) = record c { ended = Some (CutFree m.to) }
 
 -- the configuration after a query that engages nobody
 abbrev pub after_answer : ℕ → Config → Message → Config

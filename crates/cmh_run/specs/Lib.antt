@@ -1,13 +1,15 @@
+-- the words of public contracts
 pub mod Check
-pub mod CheckState
 pub mod Choices
 pub mod Config
 pub mod Engaged
 pub mod Fault
 pub mod Last
 pub mod Legal
-pub mod Packed
-pub mod Procs
 pub mod Run
 pub mod Script
 pub mod ScriptProofs
+-- the words of private functions
+pub mod CheckState
+pub mod Packed
+pub mod Procs

@@ -11,7 +11,7 @@ use Rattle.cmh_run.specs.declared.delivery.Ending.TheVariants.{Declared, AtRest,
 use Rattle.cmh_run.specs.declared.fault.RunFault.{RunFault}
 use Rattle.cmh_run.specs.declared.fault.RunFault.TheVariants.{NotIdle, TooManyChoices, Memory, BadRestarts}
 use Rattle.cmh_run.specs.declared.TheConstants.{MAX_CHOICES, MAX_RESTARTS}
-use Rattle.cmh_run.specs.Config.{Config, proc_at, without_message, after_message}
+use Rattle.cmh_run.specs.Config.{proc_at, without_message, after_message}
 use Rattle.cmh_graph.specs.Verdict.{IsDeadlocked, IsVerdict}
 use Rattle.cmh_run.specs.Legal.{Going, going_at_start, Rule, HintIsFit, DeliveriesLead, IsRun, IsRight}
 use Rattle.cmh_run.specs.Choices.{chosen_place}
@@ -39,10 +39,6 @@ pub record MayStart (g : Graph) (i : ℕ) (s : Going) : Type 0 where
 abbrev pub place_in : List ℕ → ProgressState → ℕ
 place_in choices s = slice_index choices s.going.done % length s.going.config.bag
 
--- the run on its way with another configuration
-abbrev pub with_config : ProgressState → Config → ProgressState
-with_config s c = record s { going = record s.going { config = c } }
-
 -- the message that the choices name was taken, or there is none to take
 abbrev pub IsTakenBy : List ℕ → ProgressState → ProgressState → Option Message → Type 0
 IsTakenBy choices old new None =
@@ -50,7 +46,7 @@ IsTakenBy choices old new None =
 IsTakenBy choices old new (Some m) =
     let x = place_in choices old in
     (old.going.config.ended ≡ None) × (slice_get old.going.config.bag x ≡ Some m)
-    × (new ≡ with_config old (without_message old.going.config x))
+    × (new ≡ record old { going = record old.going { config = without_message old.going.config x } })
 
 -- the run on its way after the delivery of a message that was taken
 abbrev pub progress_after : Graph → ℕ → ProgressState → Delivery → ProgressState
@@ -96,11 +92,6 @@ empty_run_of i = record {
   engaged = [];
   restarted = 0;
 }
-
--- how a run that is over, or has nothing left to deliver, has ended
-abbrev pub ending_of : Option Ending → Ending
-ending_of None = AtRest
-ending_of (Some ending) = ending
 
 -- the restarts rise
 abbrev pub IsRising : List ℕ → Type 0

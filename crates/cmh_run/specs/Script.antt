@@ -1,5 +1,5 @@
 -- Scripted hints: what is told at which ask, and what makes no script.
-use Rattle.std.specs.Prelude.{◌≡◌, ℕ, ◌+◌, ◌≤◌, Bool, false, ◌&&◌, ◌==◌, nat_lt, if◌then◌else◌, List, find, slice_get, Option, Some, None, option_map, unwrap_or}
+use Rattle.std.specs.Prelude.{◌≡◌, ℕ, ◌≤◌, Bool, false, ◌&&◌, ◌==◌, nat_lt, if◌then◌else◌, List, find, slice_get, Option, Some, None, option_map, unwrap_or}
 use denote.Enum.Bare.{sameb}
 use Rattle.cmh_graph.specs.declared.verdict.Verdict.{Verdict}
 use Rattle.cmh_graph.specs.contracts.verdict.Verdict.{the_type}
@@ -18,21 +18,13 @@ pub record Script : Type 0 where
   pub lines : List ScriptLine
   pub asked : ℕ
 
--- the line is for this ask of p
-abbrev pub is_for : ℕ → ℕ → ScriptLine → Bool
-is_for ask p line = line.0 == ask && line.1 == p
-
 -- what the lines tell at this ask of p
 abbrev pub told_at : List ScriptLine → ℕ → ℕ → Option Verdict
-told_at lines ask p = option_map (λ line. line.2) (find (is_for ask p) lines)
+told_at lines ask p = option_map (λ line. line.2) (find (λ line. line.0 == ask && line.1 == p) lines)
 
 -- what is told at the next ask, of p: after so many asks that they can't be counted, nothing
 abbrev pub answer_of : Script → ℕ → Option Verdict
 answer_of s p = if nat_lt s.asked 4294967295 then told_at s.lines s.asked p else None
-
--- the script after an ask
-abbrev pub after_ask : Script → Script
-after_ask s = record s { asked = if nat_lt s.asked 4294967295 then s.asked + 1 else s.asked }
 
 -- each line tells the truth about a process
 abbrev pub AreTrueOf : Graph → List ScriptLine → Type 0
@@ -50,14 +42,10 @@ IsUntrue g lines k = (line : ScriptLine) × (slice_get lines k ≡ Some line) ×
 abbrev pub is_listed : List Verdict → ScriptLine → Bool
 is_listed truth line = unwrap_or (option_map (λ v. sameb the_type v line.2) (slice_get truth line.1)) false
 
--- what is said of places holds of none
-abbrev pub IsNever : (ℕ → Type 0) → Type 0
-IsNever Holds = (k : ℕ) → Holds k → ⊥
-
 -- the first fault of the lines: all processes are judged before any verdict
 abbrev pub IsFirstScriptFault : Graph → List ScriptLine → ScriptFault → Type 0
 IsFirstScriptFault g lines (ProcessOutOfRange i) =
     IsFirst (IsLineOutOfRange (process_count g) lines) i
 IsFirstScriptFault g lines (FalseVerdict i) =
-    IsNever (IsLineOutOfRange (process_count g) lines) × IsFirst (IsUntrue g lines) i
+    ((k : ℕ) → IsLineOutOfRange (process_count g) lines k → ⊥) × IsFirst (IsUntrue g lines) i
 IsFirstScriptFault g lines Memory = ⊥

@@ -4,13 +4,14 @@
 ghost use Rattle.std.specs.Prelude.{ℕ, List, ◌≡◌, IsTrue, ◌+◌, ◌*◌, ◌≤◌, length, All};
 ghost use Rattle.cmh_graph.specs.Build.{IsWellFormed};
 ghost use Rattle.cmh_graph.specs.Graph.{Graph, is_idle, IsWithinGraph, is_awake, dependency_count};
-ghost use Rattle.cmh_run.specs.Check.{HasOneAnswer};
+ghost use Rattle.cmh_run.specs.Check.{IsLegalRun, IsFirstCheckFault};
 ghost use Rattle.cmh_run.specs.Choices.{HasNoHints, chosen_place};
 ghost use Rattle.cmh_run.specs.Engaged.{AreEngaged, IsEmptyRun};
 ghost use Rattle.cmh_run.specs.Last.{LastIsRun};
 ghost use Rattle.cmh_run.specs.Legal.{Going, IsRun, Rule, IsRight, IsBetween};
 ghost use Rattle.cmh_run.specs.Run.{IsRunOf, Run};
 ghost use Rattle.cmh_run.specs.declared.delivery.Ending.{Ending};
+ghost use Rattle.cmh_run.specs.declared.fault.CheckFault.{CheckFault};
 ghost use Rattle.cmh_run.specs.declared.delivery.Delivery.{Delivery};
 
 /// A run that has ended tells whether its initiator is deadlocked. Where it is declared, everyone
@@ -86,5 +87,10 @@ pub fn law_last_computation_is_a_run()
 
 /// A log is legal with one ending, or has one first fault: so `check_run` has no choice.
 pub fn law_logs_have_one_answer()
-    ensures { (g : Graph) (i : ℕ) (log : List Delivery) → IsWellFormed g → HasOneAnswer g i log }
+    ensures ending { (g : Graph) (i : ℕ) (log : List Delivery) (a b : Ending) → IsWellFormed g
+        → IsLegalRun g i log a → IsLegalRun g i log b → a ≡ b }
+    ensures sound { (g : Graph) (i : ℕ) (log : List Delivery) (a : Ending) (e : CheckFault)
+        → IsWellFormed g → IsLegalRun g i log a → IsFirstCheckFault g i log e → ⊥ }
+    ensures first { (g : Graph) (i : ℕ) (log : List Delivery) (e f : CheckFault) → IsWellFormed g
+        → IsFirstCheckFault g i log e → IsFirstCheckFault g i log f → e ≡ f }
 {}

@@ -1,12 +1,12 @@
 //! A run on its way.
 
-ghost use Rattle.std.specs.Prelude.{◌≡◌, ℕ, List, ◌+◌, ◌<◌, ◌^◌, [], None, Some, length, slice_index, IfOk, IfSome, OnOk};
+ghost use Rattle.std.specs.Prelude.{◌≡◌, ℕ, List, ◌+◌, ◌<◌, ◌^◌, [], None, Some, length, slice_index, IfOk, IfSome, OnOk, unwrap_or};
 ghost use Rattle.cmh_graph.specs.Graph.{process_count};
 ghost use Rattle.cmh_graph.specs.Build.{IsWellFormed};
 ghost use Rattle.cmh_run.specs.Config.{blank_config, nothing_yet};
 ghost use Rattle.cmh_run.specs.Legal.{going_at_start, after_due_restart};
 ghost use Rattle.cmh_run.specs.Packed.{CanSend, EngagersHaveRoom};
-ghost use Rattle.cmh_run.specs.Run.{MayStart, IsTakenBy, IsDelivered, ending_of};
+ghost use Rattle.cmh_run.specs.Run.{MayStart, IsTakenBy, IsDelivered};
 
 use crate::network::Network;
 use crate::{Delivery, Ending, Hints, Log, RunLog};
@@ -165,7 +165,7 @@ impl<'a, L: Log> Progress<'a, L> {
         ensures log { result.0 ≡ record {
           initiator = initiator;
           log = self.entry.log;
-          ending = ending_of self.entry.going.config.ended;
+          ending = unwrap_or self.entry.going.config.ended Ending.AtRest;
           engaged = self.entry.going.config.engaged;
           restarted = self.entry.going.restarted;
         } }

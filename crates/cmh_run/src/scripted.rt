@@ -1,6 +1,6 @@
 //! Hints that are written down before the run, each with the ask at which it is told.
 
-ghost use Rattle.std.specs.Prelude.{◌==◌, ◌≡◌, ◌⊎◌, ◌<◌, [], None, IfOk, IfErr, IfSome, nat_le, not, position, refl};
+ghost use Rattle.std.specs.Prelude.{◌==◌, ◌≡◌, ◌⊎◌, ◌<◌, [], None, IfOk, IfErr, IfSome, nat_le, not, position, refl, ◌+◌, nat_lt, if◌then◌else◌, ℕ};
 ghost use Rattle.std.proofs.Common.{◌∙◌};
 ghost use Rattle.std.proofs.Common.{rules};
 ghost use Rattle.std.specs.Cmp.Lexicographic.{pointwise};
@@ -10,7 +10,7 @@ ghost use Rattle.cmh_graph.specs.contracts.verdict.VerdictEq.TheImpl.Laws as ver
 ghost use Rattle.cmh_graph.specs.contracts.verdict.VerdictPartialEq.TheImpl as verdict;
 ghost use Rattle.cmh_graph.specs.Graph.{Graph, process_count};
 ghost use Rattle.cmh_graph.specs.Verdict.{IsVerdict};
-ghost use Rattle.cmh_run.specs.Script.{AreTrueOf, IsLineOutOfRange, IsNever, IsFirstScriptFault, is_listed as is_listed_lem, told_at, answer_of, after_ask};
+ghost use Rattle.cmh_run.specs.Script.{AreTrueOf, IsLineOutOfRange, IsFirstScriptFault, is_listed as is_listed_lem, told_at, answer_of};
 ghost use Rattle.cmh_run.specs.ScriptProofs.{scripts_keep_graphs, scripts_keep_silent};
 
 use crate::truth::truth_of;
@@ -44,7 +44,7 @@ impl Scripted {
     ) -> Result<Scripted, ScriptFault>
         ensures ok { IfOk result (λ s. s ≡ record { lines = lines.now; asked = 0 }) }
         ensures within { IfOk result (λ s.
-            IsNever (IsLineOutOfRange (process_count graph.now) lines.now)) }
+            (k : ℕ) → IsLineOutOfRange (process_count graph.now) lines.now k → ⊥) }
         ensures speaks { IfOk result (λ s. AreTrueOf graph.now s.lines) }
         ensures fault { IfErr result (λ e.
             (e ≡ ScriptFault.Memory) ⊎ IsFirstScriptFault graph.now lines.now e) }
@@ -70,7 +70,9 @@ impl Hints for Scripted {
 
     fn hint(&mut self, p: u32) -> Option<Verdict>
         ensures answer { result ≡ answer_of self.old p }
-        ensures asked { self.new ≡ after_ask self.old }
+        ensures asked { self.new ≡ record self.old {
+          asked = if nat_lt self.old.asked 4294967295 then self.old.asked + 1 else self.old.asked;
+        } }
         ensures true_verdict { (g : Graph) → AreTrueOf g self.old.lines → p < process_count g
             → IfSome result (λ v. IsVerdict g p v) }
         ensures silent { self.old.lines ≡ [] → result ≡ None }
