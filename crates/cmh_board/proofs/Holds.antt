@@ -7,7 +7,7 @@ use Rattle.cmh_board.specs.Board.{board_view, SitsAt, IsHolding, SeesMore, Reads
 use Rattle.cmh_board.specs.HintProofs.{sees_on}
 
 -- one reading of the history after another makes one reading
-pub reads_on : (u v w : View) → ReadsHistory u v → ReadsHistory v w → ReadsHistory u w
+reads_on : (u v w : View) → ReadsHistory u v → ReadsHistory v w → ReadsHistory u w
 reads_on u v w a b = record {
   lock = b.lock ∙ a.lock;
   loaded = b.loaded;

@@ -55,7 +55,7 @@ abbrev pub done : List Row → List ℕ → ℕ → List ℕ
 done rows ps i = unposted_in rows (take i ps)
 
 -- those of the processes from place i on that stand in no row
-abbrev pub to_come : List Row → List ℕ → ℕ → List ℕ
+abbrev to_come : List Row → List ℕ → ℕ → List ℕ
 to_come rows ps i = unposted_in rows (drop i ps)
 
 -- whether a process stands in no row

@@ -114,7 +114,7 @@ abbrev pub is_empty : List ℕ → Bool
 is_empty [] = true
 is_empty (p ∷ ps) = false
 
--- a row for each of the processes, all with one verdict; the final row alone is a last one
+-- a row for each of the processes, all with one verdict; the last row, and no other, has `last`
 abbrev pub rows_of : Verdict → List ℕ → List Row
 rows_of verdict [] = []
 rows_of verdict (p ∷ ps) = row p verdict (is_empty ps) ∷ rows_of verdict ps

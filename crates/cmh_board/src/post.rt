@@ -50,7 +50,7 @@ fn count_unposted(words: &RwWords, seat: &mut RwSeat, processes: &[u32]) -> usiz
 }
 
 /// Stages a row for each of the processes that stand in none, from row `count` on. The row before
-/// row `end` is the final one.
+/// row `end` is the last one.
 fn stage(
     words: &RwWords,
     seat: &mut RwSeat,

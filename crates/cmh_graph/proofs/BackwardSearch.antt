@@ -27,7 +27,7 @@ pub record ReturnsTo (g : Graph) (p : ℕ) (marks : List Bool) (pending found : 
   pub start : is_marked marks p ≡ true
   pub sound : (q : ℕ) → is_marked marks q ≡ true → Reaches g p q × Reaches g q p
   pub pending_marked : (q : ℕ) → Contains pending q → is_marked marks q ≡ true
-  pub found_marked : (q : ℕ) → Contains found q → is_marked marks q ≡ true
+  found_marked : (q : ℕ) → Contains found q → is_marked marks q ≡ true
   pub closed : (q : ℕ) → is_marked marks q ≡ true
       → Contains pending q ⊎ (Contains found q × ((r : ℕ) → Depends g r q → Reaches g p r → is_marked marks r ≡ true))
   pub count : unmarked_count marks + length pending + length found ≤ process_count g

@@ -11,7 +11,7 @@ use Rattle.cmh_graph.proofs.IndexLists.{by_index, length-by_index}
 use Rattle.cmh_graph.proofs.PathLemmas.{Walk, walk}
 use Rattle.cmh_graph.proofs.PositionLemmas.{numbered}
 use Rattle.cmh_graph.proofs.LevelSearch.{near, has_steps}
-use Rattle.cmh_graph.proofs.Verdicts.{asleep_is_idle, test_then, then_test}
+use Rattle.cmh_graph.proofs.Verdicts.{asleep_is_idle, deadlocked_from_test, test_from_deadlocked}
 
 -- a process with a distance reaches an awake one
 reaches_awake : (g : Graph) (p n : ℕ) → distance_of g p ≡ Some n → (q : ℕ) × (is_awake g q ≡ true) × Reaches g p q
@@ -39,7 +39,7 @@ no_distance_asleep g w p q i e r = elim (cases_Bool (is_awake g q)) [
 deadlocked_by_distance : (g : Graph) → IsWithinGraph g → (p : ℕ) → p < process_count g
     → is_some (distance_of g p) ≡ false → is_deadlocked g p ≡ true
 deadlocked_by_distance g w p i e =
-    then_test g p (
+    test_from_deadlocked g p (
       asleep_is_idle g p (no_distance_asleep g w p p i e (p ∷ [], (refl, refl))),
       λ q r. no_distance_asleep g w p q i e r,
     )
@@ -52,7 +52,7 @@ free_by_distance g w p e =
       | inl d ↦
           let n = numbered (distance_of g p) e in
           let r = reaches_awake g p n.0 n.1 in
-          let bad : true ≡ false = sym r.1 ∙ (test_then g p w d).1 r.0 r.2 in
+          let bad : true ≡ false = sym r.1 ∙ (deadlocked_from_test g p w d).1 r.0 r.2 in
           absurd cc
       | inr d ↦ d
     ]

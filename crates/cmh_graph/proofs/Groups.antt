@@ -11,14 +11,14 @@ use Rattle.std.proofs.lemmas.List.Sums.{count_by-le-length}
 use Rattle.std.proofs.lemmas.List.Recursion.{is_count_by}
 use Rattle.std.proofs.lemmas.List.Kept.{AllPairs-from_increasing, IsStrictlyIncreasing-filter}
 use native.Mathlib.Decide.{dec_lt}
-use Rattle.cmh_graph.specs.Core.{core_of, leader_of, leaders, group_number, IsLeader, rest_of, AreLeaders, AreGroupsNumbered}
+use Rattle.cmh_graph.specs.Core.{core_of, leader_of, leaders, group_number, IsLeader, rest_of}
 use Rattle.cmh_graph.specs.Graph.{Graph, process_count, indices, IsWithinGraph}
 use Rattle.cmh_graph.specs.Path.{Leads, Reaches, reaches, reach_of}
 use Rattle.cmh_graph.specs.Verdict.{IsDeadlocked, is_deadlocked}
 use Rattle.cmh_graph.proofs.Cores.{core_law}
 use Rattle.cmh_graph.proofs.IndexLists.{filter_agree_on}
 use Rattle.cmh_graph.proofs.PathLemmas.{cons_contains, contains_cons, contains_index, index_within, reaches_then, then_reaches}
-use Rattle.cmh_graph.proofs.Verdicts.{and_true, asleep_is_idle, contains_filter, filter_contains, idle_within, reached_within, reaches_more, test_then, then_test}
+use Rattle.cmh_graph.proofs.Verdicts.{and_true, asleep_is_idle, contains_filter, filter_contains, idle_within, reached_within, reaches_more, deadlocked_from_test, test_from_deadlocked}
 
 -- ---- rests
 
@@ -104,7 +104,7 @@ in_own_core g p w i =
     (core_law g p p w i).1 (self, self)
 
 -- members of a core are processes of the graph
-pub core_within : (g : Graph) (p q : ℕ) → Contains (core_of g p) q → q < process_count g
+core_within : (g : Graph) (p q : ℕ) → Contains (core_of g p) q → q < process_count g
 core_within g p q c =
     index_within (process_count g) q
     (filter_contains (reaches g p) (indices g) q (filter_contains (λ r. reaches g r p) (reach_of g p) q c).0).0
@@ -199,7 +199,7 @@ leader_listed g w p dead =
     let there = reached_deadlocked g p l dead ((core_law g p l w i).0 member).0 in
     let own : leader_of g l ≡ l = sym (same_leader g p l w i member) in
     contains_filter (leads_itself g) (indices g) l (contains_index (process_count g) l (core_within g p l member))
-    (rw (then_test g l there, eq-eqb (leader_of g l) l own) refl)
+    (rw (test_from_deadlocked g l there, eq-eqb (leader_of g l) l own) refl)
 
 -- who is listed is deadlocked, and leads itself
 listed_leads : (g : Graph) → IsWithinGraph g → (l : ℕ) → Contains (leaders g) l → IsDeadlocked g l × (leader_of g l ≡ l)
@@ -207,24 +207,22 @@ unfolding leads_itself
 listed_leads g w l c =
     let kept = filter_contains (leads_itself g) (indices g) l c in
     let both = and_true (is_deadlocked g l) (eqb (leader_of g l) l) kept.1 in
-    (test_then g l w both.0, eqb-true (leader_of g l) l both.1)
+    (deadlocked_from_test g l w both.0, eqb-true (leader_of g l) l both.1)
 
 -- the list of leaders rises
-leaders_rise : (g : Graph) → IsStrictlyIncreasing (leaders g)
+pub leaders_rise : (g : Graph) → IsStrictlyIncreasing (leaders g)
 unfolding leads_itself
 leaders_rise g = IsStrictlyIncreasing-filter (leads_itself g) (indices g) (indices_rise (process_count g))
 
--- the list of leaders is the one that its words say
-pub leaders_law : (g : Graph) → IsWithinGraph g → AreLeaders g (leaders g)
-leaders_law = λ g w. record {
-  rise = leaders_rise g;
-  lead = λ l. (
-    λ c. let own = listed_leads g w l c in
-        (l, own.0, subst (λ z. IsLeader g l z) own.1 (leader_is g l w (idle_within g l own.0.0))),
-    λ led. let i = idle_within g led.0 led.1.0 in
-        subst (λ z. Contains (leaders g) z) ((leader_law g led.0 l w i).1 led.2) (leader_listed g w led.0 led.1),
-  );
-}
+-- who is in the list of leaders leads a deadlocked process, and who leads one is in the list
+pub leaders_lead : (g : Graph) (l : ℕ) → IsWithinGraph g
+    → Contains (leaders g) l ↔ ((p : ℕ) × IsDeadlocked g p × IsLeader g p l)
+leaders_lead g l w = (
+  λ c. let own = listed_leads g w l c in
+      (l, own.0, subst (λ z. IsLeader g l z) own.1 (leader_is g l w (idle_within g l own.0.0))),
+  λ led. let i = idle_within g led.0 led.1.0 in
+      subst (λ z. Contains (leaders g) z) ((leader_law g led.0 l w i).1 led.2) (leader_listed g w led.0 led.1),
+)
 
 -- ---- numbers
 
@@ -399,20 +397,30 @@ number_at_place g w k l =
           ∙ up_to_place (leaders g) k (AllPairs-from_increasing (leaders g) (leaders_rise g)) l,
     )
 
--- the groups are numbered as the words say
-pub group_number_law : (g : Graph) → IsWithinGraph g → AreGroupsNumbered g
-group_number_law = λ g w. record {
-  from_one = λ p dead. omega (arith, number_is g p, up_to_one (leaders g) (leader_of g p) (leader_listed g w p dead));
-  to_last = λ p dead. count_by-le-length (λ q. leb q (leader_of g p)) (leaders g);
-  none_left_out = λ n l m. left_out g w n l m;
-  one_core = λ p q a b. (
-    λ e. led_alike g w p q (idle_within g p a.0) (idle_within g q b.0) (one_number g w p q a b e),
-    λ c. number_of_leader g p q (same_leader g p q w (idle_within g p a.0) c),
-  );
-  rise = λ p q a b. (λ l. leaders_by_number g w p q a b l, λ l. numbers_rise g w p q b l);
-}
-  where
-    left_out : (g : Graph) → IsWithinGraph g → (n : ℕ) → 1 ≤ n → n ≤ length (leaders g)
-        → (p : ℕ) × IsDeadlocked g p × (group_number g p ≡ n)
-    left_out g w zero l m = absurd (omega (arith, l))
-    left_out g w (suc k) l m = number_at_place g w k (omega (arith, m))
+-- the number of a group is at least 1
+pub number_from_one : (g : Graph) (p : ℕ) → IsWithinGraph g → IsDeadlocked g p → 1 ≤ group_number g p
+number_from_one g p w dead =
+    omega (arith, number_is g p, up_to_one (leaders g) (leader_of g p) (leader_listed g w p dead))
+
+-- the number of a group is at most how many leaders there are
+pub number_to_last : (g : Graph) (p : ℕ) → group_number g p ≤ length (leaders g)
+number_to_last g p = count_by-le-length (λ q. leb q (leader_of g p)) (leaders g)
+
+-- each number from 1 to how many leaders there are is some group's
+pub number_of_some : (g : Graph) (n : ℕ) → IsWithinGraph g → 1 ≤ n → n ≤ length (leaders g)
+    → (p : ℕ) × IsDeadlocked g p × (group_number g p ≡ n)
+number_of_some g zero w l m = absurd (omega (arith, l))
+number_of_some g (suc k) w l m = number_at_place g w k (omega (arith, m))
+
+-- two deadlocked processes have the same number just where they are of one core
+pub numbers_by_core : (g : Graph) (p q : ℕ) → IsWithinGraph g → IsDeadlocked g p → IsDeadlocked g q
+    → (group_number g p ≡ group_number g q) ↔ Contains (core_of g p) q
+numbers_by_core g p q w a b = (
+  λ e. led_alike g w p q (idle_within g p a.0) (idle_within g q b.0) (one_number g w p q a b e),
+  λ c. number_of_leader g p q (same_leader g p q w (idle_within g p a.0) c),
+)
+
+-- the numbers of two deadlocked processes stand as their leaders do
+pub numbers_by_leader : (g : Graph) (p q : ℕ) → IsWithinGraph g → IsDeadlocked g p → IsDeadlocked g q
+    → (group_number g p < group_number g q) ↔ (leader_of g p < leader_of g q)
+numbers_by_leader g p q w a b = (λ l. leaders_by_number g w p q a b l, λ l. numbers_rise g w p q b l)

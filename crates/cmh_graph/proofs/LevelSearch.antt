@@ -160,7 +160,7 @@ pub record StepsUpTo (g : Graph) (test : ℕ → Bool) (n : ℕ) (steps : List (
   pub sound : (p d : ℕ) → number_at steps p ≡ Some d → (steps_to g test p ≡ Some d) × (d ≤ n)
   pub complete : (p d : ℕ) → p < process_count g → steps_to g test p ≡ Some d → d ≤ n → number_at steps p ≡ Some d
   pub members : (q : ℕ) → Contains level q → (q < process_count g) × (steps_to g test q ≡ Some n)
-  pub level_has : (q : ℕ) → q < process_count g → steps_to g test q ≡ Some n → Contains level q
+  level_has : (q : ℕ) → q < process_count g → steps_to g test q ≡ Some n → Contains level q
 
 -- in a list that numbers the marked places 0, a place has a number just where it is marked
 number_of_mark : (marks : List Bool) (p : ℕ)

@@ -92,7 +92,7 @@ out_more parts i row same before none =
 pub record SeenUpTo (n : ℕ) (list : List ℕ) (count : ℕ) (seen : List Bool) : Type 0 where
   pub size : length seen ≡ count
   pub marked : (r : ℕ) → is_marked seen r ≡ true → Contains (take n list) r
-  pub seen_is : (r : ℕ) → r < count → Contains (take n list) r → is_marked seen r ≡ true
+  seen_is : (r : ℕ) → r < count → Contains (take n list) r → is_marked seen r ≡ true
   pub none : (j : ℕ) → j < n → IsRepeat list j → ⊥
 
 -- which places have the stamp

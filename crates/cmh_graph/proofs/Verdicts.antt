@@ -144,9 +144,9 @@ list_all_contains t (x ∷ xs) y e c =
     elim (cons_contains x xs y c) [ inl s ↦ ap t (sym s) ∙ both.0 | inr d ↦ list_all_contains t xs y both.1 d ]
 
 -- where the test of deadlock holds the process is deadlocked
-pub test_then : (g : Graph) (p : ℕ) → IsWithinGraph g → is_deadlocked g p ≡ true → IsDeadlocked g p
+pub deadlocked_from_test : (g : Graph) (p : ℕ) → IsWithinGraph g → is_deadlocked g p ≡ true → IsDeadlocked g p
 unfolding is_deadlocked
-test_then g p w e =
+deadlocked_from_test g p w e =
     let both = and_true (is_idle g p) (list_all (λ q. not (is_awake g q)) (reach_of g p)) e in
     let i = idle_within g p both.0 in (
       both.0,
@@ -157,9 +157,9 @@ test_then g p w e =
     )
 
 -- where the process is deadlocked the test holds
-pub then_test : (g : Graph) (p : ℕ) → IsDeadlocked g p → is_deadlocked g p ≡ true
+pub test_from_deadlocked : (g : Graph) (p : ℕ) → IsDeadlocked g p → is_deadlocked g p ≡ true
 unfolding is_deadlocked
-then_test g p d =
+test_from_deadlocked g p d =
     rw (
       d.0,
       all_pass (λ q. not (is_awake g q)) (reaches g p) (indices g)
@@ -168,17 +168,17 @@ then_test g p d =
 
 -- the test of deadlock says what the relation says
 pub verdict_law : (g : Graph) (p : ℕ) → IsWithinGraph g → IsTrue (is_deadlocked g p) ↔ IsDeadlocked g p
-verdict_law = λ g p w. (λ e. test_then g p w e, λ d. then_test g p d)
+verdict_law = λ g p w. (λ e. deadlocked_from_test g p w e, λ d. test_from_deadlocked g p d)
 
 -- ---- the verdict in words
 
 -- the verdict that is computed is true, by cases of the test of deadlock
 verdict_by : (g : Graph) (p : ℕ) (v : Verdict) → IsWithinGraph g → (b : Bool) → is_deadlocked g p ≡ b
     → cond b Deadlocked Free ≡ v → IsVerdict g p v
-verdict_by g p Deadlocked w true t e = test_then g p w t
+verdict_by g p Deadlocked w true t e = deadlocked_from_test g p w t
 verdict_by g p Free w true t e = absurd (cc)
 verdict_by g p Deadlocked w false t e = absurd (cc)
-verdict_by g p Free w false t e = λ dead. let z : true ≡ false = sym (then_test g p dead) ∙ t in absurd cc
+verdict_by g p Free w false t e = λ dead. let z : true ≡ false = sym (test_from_deadlocked g p dead) ∙ t in absurd cc
 
 -- the verdict that is computed is true
 pub verdict_true : (g : Graph) (p : ℕ) (v : Verdict) → IsWithinGraph g → verdict g p ≡ v → IsVerdict g p v

@@ -1,9 +1,8 @@
 -- The groups of deadlocked processes: cores, rests, leaders and numbers.
-use Rattle.std.specs.Prelude.{◌≡◌, ℕ, not, ◌<◌, ◌≤◌, ◌↔◌, ◌&&◌, ◌==◌, nat_le, List, length, Contains, filter, slice_index, count_by, if◌then◌else◌, Option, Some, None}
-use Rattle.std.specs.List.Sorted.{IsStrictlyIncreasing}
+use Rattle.std.specs.Prelude.{ℕ, not, ◌≤◌, ◌&&◌, ◌==◌, nat_le, List, Contains, filter, slice_index, count_by, if◌then◌else◌, Option, Some, None}
 use Rattle.cmh_graph.specs.Graph.{Graph, indices}
 use Rattle.cmh_graph.specs.Path.{reaches, reach_of}
-use Rattle.cmh_graph.specs.Verdict.{IsDeadlocked, is_deadlocked}
+use Rattle.cmh_graph.specs.Verdict.{is_deadlocked}
 
 -- the processes that p reaches and that reach p, by rising index
 abbrev pub core_of : Graph → ℕ → List ℕ
@@ -33,20 +32,3 @@ group_number g p = count_by (λ q. nat_le q (leader_of g p)) (leaders g)
 pub record IsLeader (g : Graph) (p leader : ℕ) : Type 0 where
   pub member : Contains (core_of g p) leader
   pub least : (q : ℕ) → Contains (core_of g p) q → leader ≤ q
-
--- The list of leaders rises, and has just those who lead the core of a deadlocked process.
-pub record AreLeaders (g : Graph) (list : List ℕ) : Type 0 where
-  pub rise : IsStrictlyIncreasing list
-  pub lead : (l : ℕ) → Contains list l ↔ ((p : ℕ) × IsDeadlocked g p × IsLeader g p l)
-
--- In words: the numbers of groups go from 1 to the number of leaders and leave none out, deadlocked
--- processes have one number just where they are of one core, and the numbers rise by the leaders.
-pub record AreGroupsNumbered (g : Graph) : Type 0 where
-  pub from_one : (p : ℕ) → IsDeadlocked g p → 1 ≤ group_number g p
-  pub to_last : (p : ℕ) → IsDeadlocked g p → group_number g p ≤ length (leaders g)
-  pub none_left_out : (n : ℕ) → 1 ≤ n → n ≤ length (leaders g)
-      → (p : ℕ) × IsDeadlocked g p × (group_number g p ≡ n)
-  pub one_core : (p q : ℕ) → IsDeadlocked g p → IsDeadlocked g q
-      → (group_number g p ≡ group_number g q) ↔ Contains (core_of g p) q
-  pub rise : (p q : ℕ) → IsDeadlocked g p → IsDeadlocked g q
-      → (group_number g p < group_number g q) ↔ (leader_of g p < leader_of g q)

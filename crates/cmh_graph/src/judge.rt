@@ -28,7 +28,7 @@ pub(crate) fn judge(
     if let Some((i, j)) = out_of_range(parts) {
         return Err(GraphFault::DependentOutOfRange(i, j));
     }
-    if let Some((i, j)) = repeated(alloc, parts)? {
+    if let Some((i, j)) = first_repeated_dependent(alloc, parts)? {
         return Err(GraphFault::RepeatedDependent(i, j));
     }
     if let Some(i) = active_with_dependents(parts) {
@@ -86,7 +86,10 @@ fn first_at_least(bound: usize, list: &[u32]) -> Option<usize>
 
 /// The first dependent that equals an earlier one of its part, by the places of the part and of the
 /// dependent. Each process keeps the number of the last part that named it, counted from 1.
-fn repeated(alloc: Global, parts: &[Part]) -> Result<Option<(usize, usize)>, AllocError>
+fn first_repeated_dependent(
+    alloc: Global,
+    parts: &[Part],
+) -> Result<Option<(usize, usize)>, AllocError>
     requires { IsWithinGraph (parts_graph parts.now []) }
     ensures some { IfOk result (λ found. IfSome found (λ at. IsFirstDependent
         (λ i j. HasGraphFault (parts_graph parts.now []) (RepeatedDependent i j)) at.0 at.1)) }

@@ -2,12 +2,12 @@
 //! its contract is the law.
 
 ghost use Rattle.std.specs.List.Sorted.{IsStrictlyIncreasing};
-ghost use Rattle.std.specs.Prelude.{ℕ, ◌<◌, ◌↔◌, IsTrue, ◌≡◌, List, Some, IsFalse, None, Option, ◌+◌, length, Contains};
+ghost use Rattle.std.specs.Prelude.{ℕ, ◌<◌, ◌↔◌, IsTrue, ◌≡◌, ◌≤◌, List, Some, IsFalse, None, Option, ◌+◌, length, Contains};
 ghost use Rattle.cmh_graph.specs.Graph.{Graph, process_count, IsWithinGraph, is_awake};
 ghost use Rattle.cmh_graph.specs.Path.{reaches, Reaches, reach_of};
 ghost use Rattle.cmh_graph.specs.ChosenPath.{chosen_path, IsChosenPath, IsDistance, distance_of};
 ghost use Rattle.cmh_graph.specs.Verdict.{IsDeadlocked, IsInDeadlockedSet, is_deadlocked};
-ghost use Rattle.cmh_graph.specs.Core.{core_of, rest_of, IsLeader, leader_of, AreLeaders, leaders, AreGroupsNumbered};
+ghost use Rattle.cmh_graph.specs.Core.{core_of, rest_of, IsLeader, leader_of, leaders, group_number};
 ghost use Rattle.cmh_graph.specs.Build.{IsWellFormed, HasGraphFault};
 ghost use Rattle.cmh_graph.specs.declared.fault.GraphFault.{GraphFault};
 
@@ -81,13 +81,23 @@ pub fn law_leader()
 
 /// The leaders are those of the cores of deadlocked processes, by rising index.
 pub fn law_leaders()
-    ensures { (g : Graph) → IsWithinGraph g → AreLeaders g (leaders g) }
+    ensures rise { (g : Graph) → IsStrictlyIncreasing (leaders g) }
+    ensures lead { (g : Graph) (l : ℕ) → IsWithinGraph g
+        → Contains (leaders g) l ↔ ((p : ℕ) × IsDeadlocked g p × IsLeader g p l) }
 {}
 
 /// Groups are numbered from 1 by their leaders. Deadlocked processes have the same number exactly
 /// where they are of one core, and each number up to that of the last leader is some group's.
 pub fn law_group_number()
-    ensures { (g : Graph) → IsWithinGraph g → AreGroupsNumbered g }
+    ensures from_one { (g : Graph) (p : ℕ) → IsWithinGraph g → IsDeadlocked g p
+        → 1 ≤ group_number g p }
+    ensures to_last { (g : Graph) (p : ℕ) → group_number g p ≤ length (leaders g) }
+    ensures none_left_out { (g : Graph) (n : ℕ) → IsWithinGraph g → 1 ≤ n → n ≤ length (leaders g)
+        → (p : ℕ) × IsDeadlocked g p × (group_number g p ≡ n) }
+    ensures one_core { (g : Graph) (p q : ℕ) → IsWithinGraph g → IsDeadlocked g p → IsDeadlocked g q
+        → (group_number g p ≡ group_number g q) ↔ Contains (core_of g p) q }
+    ensures in_order { (g : Graph) (p q : ℕ) → IsWithinGraph g → IsDeadlocked g p → IsDeadlocked g q
+        → (group_number g p < group_number g q) ↔ (leader_of g p < leader_of g q) }
 {}
 
 /// A graph is well formed exactly where it has no fault.

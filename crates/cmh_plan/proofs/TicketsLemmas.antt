@@ -55,8 +55,9 @@ small-word : (key : ℕ) (s : St) → Dealt key s → get_or s.words 0 0 < 42949
 small-word key s h = let d = done-le s.views in let a = h.over in let b = h.small in let c = h.shares in omega arith
 
 -- what is true of a seat stays true when the word grows
-later : (key x y : ℕ) (v : TicketView) → x ≤ y → IsTicketSeat key x v → IsTicketSeat key y v
-later key x y v le h = record { bare = h.bare; knows = h.knows; past = λ d. let p = h.past d in omega arith }
+holds_of_larger_word : (key x y : ℕ) (v : TicketView) → x ≤ y → IsTicketSeat key x v → IsTicketSeat key y v
+holds_of_larger_word key x y v le h =
+    record { bare = h.bare; knows = h.knows; past = λ d. let p = h.past d in omega arith }
 
 -- where nobody has a share, nobody has drawn a number
 none_drawn : (key x : ℕ) (views : List TicketView) (f : ℕ → ℕ)
@@ -116,7 +117,7 @@ drawn_kept key s id me h at mine fresh some_share low = let x = get_or s.words 0
       each = λ i u g. ⊎_elim
           (λ t. subst (IsTicketSeat key (get_or (set s.words 0 n) 0 0)) t.1 record
           { bare = λ z. absurd (omega arith); knows = λ _. mine; past = λ d. absurd (false≢true (sym fresh ∙ d)) })
-          (λ t. later key x (get_or (set s.words 0 n) 0 0) u (omega arith) (h.each i u t.1))
+          (λ t. holds_of_larger_word key x (get_or (set s.words 0 n) 0 0) u (omega arith) (h.each i u t.1))
           (at_set s.views id i w u g);
       numbers = λ f. let t = total-set (λ (u : TicketView). total f u.drawn) s.views id me.0 w at in let l =
           total-snoc f me.0.drawn x in let k = h.numbers f in let e = ap f r in
@@ -145,7 +146,7 @@ done_kept key s id me h at mine fresh some_share high = let x = get_or s.words 0
       each = λ i u g. ⊎_elim
           (λ t. subst (IsTicketSeat key (get_or (set s.words 0 n) 0 0)) t.1 record
           { bare = λ z. absurd (omega arith); knows = λ _. mine; past = λ d. omega arith })
-          (λ t. later key x (get_or (set s.words 0 n) 0 0) u (omega arith) (h.each i u t.1))
+          (λ t. holds_of_larger_word key x (get_or (set s.words 0 n) 0 0) u (omega arith) (h.each i u t.1))
           (at_set s.views id i w u g);
       numbers = λ f. let t = total-set (λ (u : TicketView). total f u.drawn) s.views id me.0 w at in let k =
           h.numbers f in omega arith;

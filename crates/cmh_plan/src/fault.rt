@@ -12,13 +12,10 @@ use std::fmt;
 pub enum PlanFault {
     /// There is no worker, or there are more than `MAX_WORKERS`.
     BadWorkers,
-
     /// There are more than `MAX_CUTS` cuts.
     TooManyCuts,
-
     /// There are more choices than a run may be given.
     TooManyChoices,
-
     /// Memory was refused.
     Memory,
 }

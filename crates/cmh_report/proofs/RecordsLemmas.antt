@@ -12,7 +12,7 @@ use Rattle.cmh_graph.specs.Graph.{Graph, process_count, indices, is_idle, idle_l
 use Rattle.cmh_graph.specs.Verdict.{is_deadlocked, IsDeadlocked, IsVerdict, says_deadlocked}
 use Rattle.cmh_graph.proofs.PositionLemmas.{taken_last, taken_more, taken_stays}
 use Rattle.cmh_graph.proofs.PathLemmas.{contains_index}
-use Rattle.cmh_graph.proofs.Verdicts.{contains_filter, filter_contains, then_test, test_then}
+use Rattle.cmh_graph.proofs.Verdicts.{contains_filter, filter_contains, test_from_deadlocked, deadlocked_from_test}
 use Rattle.cmh_run.specs.Run.{Run}
 use Rattle.cmh_work.specs.declared.record.Analysis.{Analysis}
 use Rattle.cmh_work.specs.declared.record.Record.{Record}
@@ -22,7 +22,7 @@ use Rattle.cmh_work.specs.Analysis.{records_of, initiator_of}
 use Rattle.cmh_work.specs.Leaders.{leader_at}
 use Rattle.cmh_graph.specs.Core.{group_leader}
 use Rattle.cmh_work.specs.Shape.{IsShape}
-use Rattle.cmh_work.proofs.LeadersLemmas.{none_at}
+use Rattle.cmh_work.proofs.LeadersLemmas.{no_leader_at}
 use Rattle.cmh_text.specs.Report.{deadlocked_count}
 use Rattle.cmh_text.proofs.Counts.{active_and_idle}
 use Rattle.cmh_report.specs.Records.{AreRecordsOf, IsSomeAnalysisOf, leader_in, tells_deadlocked, TellsOf}
@@ -53,15 +53,16 @@ tells_at g records i r are l is = subst (TellsOf g) is (are.tell i r l)
 -- ---- verdicts
 
 -- a process that isn't deadlocked doesn't pass the test of deadlocked ones
-freed : (g : Graph) (p : ℕ) (b : Bool) → IsWithinGraph g → ¬ (IsDeadlocked g p) → is_deadlocked g p ≡ b → b ≡ false
-freed g p true w free e = absurd (free (test_then g p w e))
-freed g p false w free e = refl
+fails_where_free : (g : Graph) (p : ℕ) (b : Bool) → IsWithinGraph g
+    → ¬ (IsDeadlocked g p) → is_deadlocked g p ≡ b → b ≡ false
+fails_where_free g p true w free e = absurd (free (deadlocked_from_test g p w e))
+fails_where_free g p false w free e = refl
 
 -- a true verdict is what the test says
 verdict_test : (g : Graph) (p : ℕ) (v : Verdict) → IsWithinGraph g → IsVerdict g p v
     → is_deadlocked g p ≡ says_deadlocked v
-verdict_test g p Deadlocked w is = then_test g p is
-verdict_test g p Free w is = freed g p (is_deadlocked g p) w is refl
+verdict_test g p Deadlocked w is = test_from_deadlocked g p is
+verdict_test g p Free w is = fails_where_free g p (is_deadlocked g p) w is refl
 
 -- an element in front adds 1 to a count, where it passes the test
 count_cons : {X : Type 0} (p : X → Bool) (x : X) (xs : List X)
@@ -118,7 +119,7 @@ deadlocked_told g records w are =
 shape_leader : {L : Type 0} (listed : L → List ℕ) (g : Graph) (p : ℕ) (v : Verdict) (s : Shape L) → IsWithinGraph g
     → IsVerdict g p v → IsShape listed g p v s → leader_in s ≡ group_leader g p
 unfolding group_leader
-shape_leader listed g p Deadlocked (Leader leader) w is e = rw (then_test g p is) (ap Some e)
+shape_leader listed g p Deadlocked (Leader leader) w is e = rw (test_from_deadlocked g p is) (ap Some e)
 shape_leader listed g p Deadlocked (Path path) w is e = absurd e
 shape_leader listed g p Free (Leader leader) w is e = absurd e
 shape_leader listed g p Free (Path path) w is e = rw (verdict_test g p Free w is) refl
@@ -147,7 +148,7 @@ pub leaders_none : (g : Graph) (n : ℕ) (list : List (Option ℕ)) → n ≡ pr
 leaders_none g n list size none long = record {
   size = long ∙ size;
   named = λ p c. absurd (omega (arith, c.1));
-  other = λ p n'. ap (λ xs. leader_at xs p) none ∙ none_at n p;
+  other = λ p n'. ap (λ xs. leader_at xs p) none ∙ no_leader_at n p;
 }
 
 -- once the next process has its leader, the table of leaders has those of the processes up to it

@@ -147,10 +147,10 @@ leaves key slots id me inside s b homes at small =
     )
 
 -- where a writer with nothing staged ends its hold, the rule is kept
-pub ends : (key : Graph) (slots id : ℕ) (me : TableSeat) → me.0.lock.state ≡ Writing → me.0.staged ≡ []
+pub write_ends : (key : Graph) (slots id : ℕ) (me : TableSeat) → me.0.lock.state ≡ Writing → me.0.staged ≡ []
     → Allows (WordsRule key) slots id me 0 (λ n. (n + (2 ^ 64 - 4294967296)) % 2 ^ 64)
     (Ended (step slots 0 4294967296 0 none) me)
-ends key slots id me is clear s b homes at small =
+write_ends key slots id me is clear s b homes at small =
     let v = me.0 in
     let x = get_or s.words 0 0 in
     let low = end_kept key (lock_moment s) id (lock_me me) is b.lock (at_map lock_of s.views id v at) in

@@ -44,16 +44,16 @@ abbrev pub fold_at : List Row → ℕ → Option Verdict
 fold_at [] p = None
 fold_at (r ∷ rs) p = if r.process == p then Some r.verdict else fold_at rs p
 
--- no row is a last one
+-- no row has `last`
 abbrev pub IsOpen : List Row → Type 0
 IsOpen [] = Unit {0}
 IsOpen (r ∷ rs) = (r.last ≡ false) × IsOpen rs
 
--- the final row is a last one
+-- the last row has `last`
 abbrev pub EndsLast : List Row → Type 0
 EndsLast rows = (before : List Row) × (r : Row) × (rows ≡ before ++ r ∷ []) × (r.last ≡ true)
 
--- the final row alone is a last one
+-- the last row, and no other, has `last`
 abbrev pub IsPosting : List Row → Type 0
 IsPosting rows = (before : List Row) × (r : Row) × (rows ≡ before ++ r ∷ [])
     × IsOpen before × (r.last ≡ true)

@@ -88,7 +88,7 @@ pub record WordsRule (key : Graph) (s : Moment) : Type 0 where
   pub whole : ArePostings postings
   -- history and staged rows are true for the graph
   pub true_of : IsTrueOf key (rows_in postings ++ staged)
-  -- no staged row before the final one is a last one
+  -- no staged row before the last one has `last`
   pub part : IsOpen staged ⊎ IsPosting staged
   -- a verdict is told as its row says
   pub told_of : (p : ℕ) → (fold_at told p ≡ None) ⊎ (fold_at told p ≡ fold_at staged p)

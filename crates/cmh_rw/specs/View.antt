@@ -83,7 +83,7 @@ pub record AfterLoad (v : View) (word found : ℕ) (w : View) : Type 0 where
   pub verdict : (p : ℕ) → word ≡ FIRST_VERDICT + p → p < MAX_PROCESSES →
       found ≡ verdict_code (fold_at (w.seen ++ v.told) p)
 
--- What a writer needs for its next row: no staged row is a last one, the process is idle and has no
+-- What a writer needs for its next row: no staged row has `last`, the process is idle and has no
 -- row yet, and the verdict is its own.
 pub record CanStage (v : View) (r : Row) : Type 0 where
   pub unended : IsOpen v.staged

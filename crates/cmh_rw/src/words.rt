@@ -136,7 +136,7 @@ impl RwWords {
         Entry::Busy(found)
     }
 
-    /// Ends a read.
+    /// The reader takes back what it counted in the lock word, and is away again.
     pub fn end_read(&self, seat: &mut RwSeat)
         requires own { IsSeatOf self.now seat.old }
         requires reading { (rw_view seat.old).lock.state ≡ Reading }
@@ -177,7 +177,8 @@ impl RwWords {
             .fetch_sub::<End>(&mut seat.seat, 0, WRITER);
     }
 
-    /// How much of the whole share the seat has. A seat that has all of it is the only one.
+    /// How many seats can still come of this one by splits, itself among them. A seat that has all
+    /// `MAX_SEATS` shares is the only one.
     pub fn share(&self, seat: &RwSeat) -> u32
         ensures { result ≡ (rw_view seat.now).lock.share }
     {

@@ -5,7 +5,7 @@ use Rattle.std.specs.Prelude.{All, IsSome, None, Option, Some, option_map}
 use Rattle.cmh_graph.specs.ChosenPath.{chosen_path, IsWayOut}
 use Rattle.cmh_graph.specs.Graph.{Graph, process_count, IsWithinGraph}
 use Rattle.cmh_graph.specs.Verdict.{is_deadlocked, IsDeadlocked}
-use Rattle.cmh_graph.proofs.Verdicts.{then_test}
+use Rattle.cmh_graph.proofs.Verdicts.{test_from_deadlocked}
 use Rattle.cmh_graph.proofs.ChosenPathLemmas.{chosen_path_law}
 use Rattle.cmh_graph.proofs.PathLemmas.{AllBelow, within}
 
@@ -30,7 +30,7 @@ path_within g p path w i e = way_within g p path w i ((chosen_path_law g p path 
 
 -- who isn't found deadlocked isn't deadlocked
 pub not_deadlocked : (g : Graph) (p : ℕ) → is_deadlocked g p ≡ false → ¬ (IsDeadlocked g p)
-not_deadlocked g p free dead = true≢false (sym (then_test g p dead) ∙ free)
+not_deadlocked g p free dead = true≢false (sym (test_from_deadlocked g p dead) ∙ free)
 
 -- an option is there where what it is mapped to is
 pub some_before : {A B : Type 0} (f : A → B) (o : Option A) (q : Option B) → option_map f o ≡ q → IsSome q → IsSome o

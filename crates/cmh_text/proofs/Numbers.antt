@@ -14,7 +14,7 @@ use Rattle.cmh_graph.proofs.Cores.{core_law}
 use Rattle.cmh_graph.proofs.Groups.{leader_in_core, reached_deadlocked, same_leader, same_test}
 use Rattle.cmh_graph.proofs.IndexLists.{by_index, filter_agree_on, filter_indices_kept, filter_indices_passed}
 use Rattle.cmh_graph.proofs.PathLemmas.{index_within, reaches_then, then_reaches}
-use Rattle.cmh_graph.proofs.Verdicts.{and_true, filter_contains, test_then, then_test}
+use Rattle.cmh_graph.proofs.Verdicts.{and_true, filter_contains, deadlocked_from_test, test_from_deadlocked}
 use Rattle.cmh_text.specs.Group.{is_led_by, leaders_up_to}
 
 -- whether a process is deadlocked and leads itself
@@ -175,7 +175,7 @@ leads_back g list l q w i are leads c =
     let kept = filter_contains (reaches g l) (indices g) q c in
     let j = index_within (process_count g) q kept.0 in
     let there = reaches_then g l q kept.1 in
-    let dead = then_test g q (reached_deadlocked g l q (test_then g l w itself.0) there) in
+    let dead = test_from_deadlocked g q (reached_deadlocked g l q (deadlocked_from_test g l w itself.0) there) in
     led_test g list l q are j
     ∙ ap (λ b. b && eqb (leader_of g q) l) dead
     ∙ same_test (eqb (leader_of g q) l) (reaches g q l)

@@ -74,7 +74,7 @@ fn count_hashed(alloc: Global, graph: &WaitGraph, list: &[u32]) -> Result<usize,
     Ok(sites_of(alloc, graph, list)?.len())
 }
 
-/// The sites of the processes.
+/// The sites at which the listed processes are, each once.
 fn sites_of(alloc: Global, graph: &WaitGraph, list: &[u32]) -> Result<HashSet<u32>, AllocError>
     requires { All (λ p. p < process_count graph.now) list.now }
     ensures { IfOk result (IsFromIterResult nat_eq (map (site_of graph.now) list.now)) }

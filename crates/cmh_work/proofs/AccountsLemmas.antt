@@ -42,10 +42,10 @@ next_posting mine more [] e = inl e
 next_posting mine more (r ∷ rs) e = inr e
 
 -- what a run tells, once it is posted, is an answer
-pub ran : (g : Graph) (choices : List ℕ) (p : ℕ) (v v1 v2 w : View) (run : Run) → SeesMore v v1 → SeesMore v1 v2
+pub run_answers : (g : Graph) (choices : List ℕ) (p : ℕ) (v v1 v2 w : View) (run : Run) → SeesMore v v1 → SeesMore v1 v2
     → IsRunFor g choices p (verdict_of run.ending) run → TellsTruth g run → AddsPosting (posting_of run) v2 w
     → IsAnswered g choices p v w record { verdict = verdict_of run.ending; run = Some run }
-ran g choices p v v1 v2 w run s t is truth added =
+run_answers g choices p v v1 v2 w run s t is truth added =
     let step : StartsWith w.seen v2.seen =
     (added.between ++ added.rows, added.seen ∙ append_assoc v2.seen added.between added.rows) in
     let mine : v2.mine ≡ v.mine = t.mine ∙ s.mine in

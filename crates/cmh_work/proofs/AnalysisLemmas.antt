@@ -31,7 +31,7 @@ use Rattle.cmh_work.specs.Finding.{finding_initiator, IsSound}
 use Rattle.cmh_work.specs.Numbering.{IsNumbered, AreNumbered, IsNamed}
 use Rattle.cmh_work.specs.Working.{IsMadeFor, AreSeated, IsWorked}
 use Rattle.cmh_work.proofs.AccountsLemmas.{sound_more, all_explained_more}
-use Rattle.cmh_work.proofs.ClosedHistory.{each_explained, explained_permuted, of_records}
+use Rattle.cmh_work.proofs.ClosedHistory.{each_explained, explained_permuted, postings_of_records}
 use Rattle.cmh_work.proofs.FindingLemmas.{all_worked}
 use Rattle.cmh_work.proofs.RisingLists.{Rises, rises_from, sorted_same}
 
@@ -151,6 +151,6 @@ analysed listed g plan j s found sorted a well for p up sit whole w begins true_
         made.postings,
         made.is_laid,
         made.whole,
-        of_records g rows sorted (records_of a) [] made.postings true_of made.is_laid made.whole each n,
+        postings_of_records g rows sorted (records_of a) [] made.postings true_of made.is_laid made.whole each n,
       );
     }

@@ -102,12 +102,12 @@ record_of rows (x ∷ xs) (y ∷ ys) f run h (suc k, low, at) is =
     (r, (suc n, omega arith, here), ran)
 
 -- explained postings of a history, laid end to end, are of records' runs, with what stands before each
-pub of_records : {L : Type 0} (g : Graph) (rows : List Row) (found : List (Finding Run L))
+pub postings_of_records : {L : Type 0} (g : Graph) (rows : List Row) (found : List (Finding Run L))
     (records : List (Record Run L)) (before : List Row) (postings : List (List Row)) → IsTrueOf g rows
     → rows ≡ before ++ rows_in postings → ArePostings postings → AreExplained rows found postings
     → AreNumbered rows found records → AreOfRecords records before postings
-of_records g rows found records before [] true_of e whole explained n = tt
-of_records g rows found records before (m ∷ ms) true_of e whole explained n =
+postings_of_records g rows found records before [] true_of e whole explained n = tt
+postings_of_records g rows found records before (m ∷ ms) true_of e whole explained n =
     let (f, there, run, is, from) = explained.0 in
     let other : rows ≡ from.before ++ (m ++ from.place.0) = from.place.1 ∙ append_assoc from.before m from.place.0 in
     let same : before ≡ from.before =
@@ -115,7 +115,7 @@ of_records g rows found records before (m ∷ ms) true_of e whole explained n =
     (sym e ∙ other) in
     let (r, in_records, ran) = record_of rows found records f run n there is in (
       (r, in_records, run, ran, subst (λ b. IsPostedBy b m run) (sym same) from.posted),
-      of_records g rows found records (before ++ m) ms true_of
+      postings_of_records g rows found records (before ++ m) ms true_of
           (e ∙ sym (append_assoc before m (rows_in ms))) whole.1 explained.1 n,
     )
 

@@ -128,10 +128,10 @@ none_below leader true e = absurd (omega (arith, ltb-true leader 0 e))
 none_below leader false e = refl
 
 -- a table of nothing has no leader at any place
-pub none_at : (n p : ℕ) → leader_at (replicate n None) p ≡ None
-none_at zero p = refl
-none_at (suc n) zero = refl
-none_at (suc n) (suc p) = none_at n p
+pub no_leader_at : (n p : ℕ) → leader_at (replicate n None) p ≡ None
+no_leader_at zero p = refl
+no_leader_at (suc n) zero = refl
+no_leader_at (suc n) (suc p) = no_leader_at n p
 
 -- a table without a leader is that of the leaders below 0
 pub leaders_start : (g : Graph) (list : List (Option ℕ)) → length list ≡ process_count g

@@ -20,7 +20,6 @@ use std::fmt;
 pub enum WorkFault {
     /// Memory was refused.
     Memory,
-
     /// A worker was lost. Workers are started and joined by a call that goes on in the thread of
     /// its caller where no other can be had, so none is lost today.
     WorkerLost,

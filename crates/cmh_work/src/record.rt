@@ -20,7 +20,6 @@ pub struct Record<R = RunLog, P = Vec<u32>> {
 pub enum Origin<R = RunLog> {
     /// By this run of the process, which it posted.
     FromRun(R),
-
     /// By the row of this number of the history, from 0.
     FromBoard(u32),
 }
@@ -30,7 +29,6 @@ pub enum Origin<R = RunLog> {
 pub enum Shape<P = Vec<u32>> {
     /// The chosen path of a free process to an awake one.
     Path(P),
-
     /// The leader of a deadlocked process's group: the least of those that it reaches and that reach
     /// it.
     Leader(u32),

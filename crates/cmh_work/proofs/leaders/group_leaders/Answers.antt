@@ -5,7 +5,7 @@ use Rattle.cmh_graph.specs.Graph.{process_count}
 use Rattle.cmh_graph.proofs.Groups.{members_within}
 use Rattle.cmh_work.specs.Leaders.{is_deadlocked_at, leader_at, LeadsEach}
 use Rattle.cmh_run.proofs.Scripts.{verdict_count}
-use Rattle.cmh_work.proofs.LeadersLemmas.{AreLeadersBelow, leaders_all, leaders_led_more, leaders_passed, leaders_size, leaders_start, none_at}
+use Rattle.cmh_work.proofs.LeadersLemmas.{AreLeadersBelow, leaders_all, leaders_led_more, leaders_passed, leaders_size, leaders_start, no_leader_at}
 use Rattle.cmh_work.proofs.leaders.group_leaders.Goals as goal
 use Rattle.cmh_work.proofs.leaders.group_leaders.Goals.{then-is_new_leader+in_ok-core, else-is_new_leader}
 
@@ -15,7 +15,7 @@ loop-p-init c =
     leaders_start c.args.graph.now _
     (ap length none ∙ length-replicate (length c.args.known.now) None ∙ ap length c.requires.verdicts
     ∙ verdict_count c.args.graph.now)
-    (λ p. ap (λ list. leader_at list p) none ∙ none_at (length c.args.known.now) p)
+    (λ p. ap (λ list. leader_at list p) none ∙ no_leader_at (length c.args.known.now) p)
 
 pub is_new_leader-requires-clause-known : goal.is_new_leader-requires-clause-known
 is_new_leader-requires-clause-known c =

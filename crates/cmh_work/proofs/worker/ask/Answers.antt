@@ -2,7 +2,7 @@ use Rattle.std.proofs.Common.{rules, subst, sym}
 use Rattle.std.specs.Prelude.{Some}
 use Rattle.cmh_board.specs.Board.{board_view, AddsPosting}
 use Rattle.cmh_work.specs.Finding.{IsAnswered}
-use Rattle.cmh_work.proofs.AccountsLemmas.{ran}
+use Rattle.cmh_work.proofs.AccountsLemmas.{run_answers}
 use Rattle.cmh_work.proofs.worker.ask.Goals as goal
 
 pub returns : goal.returns
@@ -17,7 +17,7 @@ returns g c =
     let answered =
     subst (λ v. IsAnswered gr choices p (board_view c.args.seat.now) w record { verdict = v; run = Some run })
     (sym c.verdict.ensures)
-    (ran gr choices p (board_view c.args.seat.now) (board_view c.look.new.seat)
+    (run_answers gr choices p (board_view c.args.seat.now) (board_view c.look.new.seat)
     (board_view c.run_of.new.seat) w run c.look.ensures.sees c.run_of.ensures.sees (search rules)
     (search rules) added) in record {
       runner = search rules;
