@@ -1,7 +1,7 @@
 -- Worked lists of numbers, by computation.
 use Rattle.std.proofs.Common.{◌≡◌, [], ◌∷◌, map, Some, refl, false}
-use Rattle.std.specs.Prelude.{codes}
-use Rattle.cmh_command.specs.List.{items_of, item_at, is_number, number_of}
+use Rattle.std.specs.Prelude.{codes, slice_index_or}
+use Rattle.cmh_command.specs.List.{items_of, is_number, number_of}
 
 ones : map number_of (items_of (codes "1,1,1")) ≡ map Some (1 ∷ 1 ∷ 1 ∷ [])
 unfolding is_number
@@ -14,15 +14,15 @@ leading_zeros = refl
 nothing : items_of (codes "") ≡ []
 nothing = refl
 
-empty_item : is_number (item_at (codes "1,,2") 1) ≡ false
+empty_item : is_number (slice_index_or (items_of (codes "1,,2")) 1 []) ≡ false
 unfolding is_number
 empty_item = refl
 
-last_item_empty : is_number (item_at (codes "1,") 1) ≡ false
+last_item_empty : is_number (slice_index_or (items_of (codes "1,")) 1 []) ≡ false
 unfolding is_number
 last_item_empty = refl
 
-signed : is_number (item_at (codes "+1") 0) ≡ false
+signed : is_number (slice_index_or (items_of (codes "+1")) 0 []) ≡ false
 unfolding is_number
 signed = refl
 

@@ -9,7 +9,7 @@ use Rattle.std.specs.Str.Parse.{digits_value, ParsesUnsigned}
 use Rattle.std.proofs.lemmas.Bool.{and_parts, and_from, ltb-true, lt-ltb, true≢false}
 use Rattle.std.proofs.lemmas.List.{get_or-map, take_more, map-append}
 use Rattle.std.proofs.lemmas.Str.Parse.{IsNumeralModel, numerals_by_value, tells_all_ascii_digits, parse_plain}
-use Rattle.cmh_command.specs.List.{IsFirstListFault, IsListOf, items_of, item_at, is_number, number_of}
+use Rattle.cmh_command.specs.List.{IsFirstListFault, IsListOf, items_of, is_number, number_of}
 use Rattle.cmh_command.specs.declared.TheConstants.{MAX_NUMBERS}
 use Rattle.cmh_command.specs.declared.list.ListFault.{ListFault}
 use Rattle.cmh_command.specs.declared.list.ListFault.TheVariants.{Memory}
@@ -96,7 +96,8 @@ cut_items (b ∷ bs) some = refl
 
 -- what was cut from the text at place i is item i of the text
 pub item_is : (list : List (Bor (List ℕ))) (text : List ℕ) (i : ℕ) (d : Bor (List ℕ))
-    → map (λ item. item.now) list ≡ items_of text → i < length list → (get_or list i d).now ≡ item_at text i
+    → map (λ item. item.now) list ≡ items_of text → i < length list
+    → (get_or list i d).now ≡ get_or (items_of text) i []
 item_is list text i d e l =
     sym (get_or-map (λ (item : Bor (List ℕ)). item.now) list i d [] l) ∙ ap (λ xs. get_or xs i []) e
 

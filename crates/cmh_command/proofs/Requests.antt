@@ -15,7 +15,7 @@ use Rattle.clap.specs.declared.parser.matches.ArgMatches.TheViews.{out-ArgMatche
 use Rattle.clap.specs.declared.parser.matches.Found.{Found}
 use Rattle.clap.proofs.WalkLemmas.{first_value-rows}
 use Rattle.cmh_command.specs.List.{number_of}
-use Rattle.cmh_command.specs.Words.{HasBadWorkers, HasWorkers, IsCommand, IsKnown, IsOfKind, IsRequest, program, given_text}
+use Rattle.cmh_command.specs.Words.{HasBadWorkers, HasWorkers, IsCommand, IsKnown, IsOfKind, IsRequest, program}
 use Rattle.cmh_command.specs.declared.request.Request.{Request}
 use Rattle.cmh_command.specs.declared.request.TheConstants.{DEFAULT_WORKERS}
 
@@ -34,7 +34,7 @@ value_is f id r e = e ∙ first_value-rows f id
 -- where the empty text stands for none, what a getter gives is the option's text in the rows
 pub text_is : (f : Found) (id : Text) (r : Option (Bor Text)) (d u : Bor Text)
     → option_map (λ s. s.now) r ≡ first_value f id → u ≡ unwrap_or r d → d.now ≡ []
-    → u.now ≡ given_text id (rows_of f)
+    → u.now ≡ unwrap_or (first_of id (rows_of f)) []
 text_is f id r d u e is empty =
     ap (λ (b : Bor Text). b.now) is ∙ by_value r ∙ ap (λ (o : Option Text). unwrap_or o []) (value_is f id r e)
   where

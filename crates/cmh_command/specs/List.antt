@@ -13,10 +13,6 @@ abbrev pub items_of : List ℕ → List (List ℕ)
 items_of [] = []
 items_of (b ∷ bs) = slice_split (λ c. c == 44) (b ∷ bs)
 
--- item i of a text
-abbrev pub item_at : List ℕ → ℕ → List ℕ
-item_at text i = slice_index_or (items_of text) i []
-
 -- a number is one or more decimal digits whose value fits 64 bits
 unfoldable pub is_number : List ℕ → Bool
 is_number item =
@@ -31,16 +27,14 @@ pub record IsListOf (text numbers : List ℕ) : Type 0 where
   pub few : length (items_of text) ≤ MAX_NUMBERS
   pub written : map number_of (items_of text) ≡ map Some numbers
 
--- each item before place i is a number
-abbrev pub AreNumbersBefore : List ℕ → ℕ → Type 0
-AreNumbersBefore text i = (k : ℕ) → k < i → IsTrue (is_number (item_at text k))
-
--- the first fault from the left: an item that is no number, or one too many, whatever it holds
+-- the first fault from the left: an item that is no number, or one too many, whatever it holds; each
+-- item before it is a number
 abbrev pub IsFirstListFault : List ℕ → ListFault → Type 0
 IsFirstListFault text (BadNumber i) = (i < MAX_NUMBERS) × (i < length (items_of text))
-    × IsFalse (is_number (item_at text i)) × AreNumbersBefore text i
-IsFirstListFault text TooManyNumbers =
-    (MAX_NUMBERS < length (items_of text)) × AreNumbersBefore text MAX_NUMBERS
+    × IsFalse (is_number (slice_index_or (items_of text) i []))
+    × ((k : ℕ) → k < i → IsTrue (is_number (slice_index_or (items_of text) k [])))
+IsFirstListFault text TooManyNumbers = (MAX_NUMBERS < length (items_of text))
+    × ((k : ℕ) → k < MAX_NUMBERS → IsTrue (is_number (slice_index_or (items_of text) k [])))
 IsFirstListFault text Memory = ⊥
 
 -- what is printed of a fault

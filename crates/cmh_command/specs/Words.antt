@@ -6,7 +6,6 @@ use Rattle.clap.specs.declared.error.kind.ErrorKind.TheVariants.{DisplayHelp, Di
 use Rattle.clap.specs.declared.builder.value_parser.ValueParser.TheVariants as parser
 use Rattle.cmh_plan.specs.declared.TheConstants.{MAX_WORKERS}
 use Rattle.cmh_command.specs.List.{number_of}
-use Rattle.cmh_command.specs.declared.request.PlanWords.{PlanWords}
 use Rattle.cmh_command.specs.declared.request.Request.{Request}
 use Rattle.cmh_command.specs.declared.request.Request.TheVariants.{Analyse, Trace, Show, Refused}
 use Rattle.cmh_command.specs.declared.request.TheConstants.{DEFAULT_WORKERS}
@@ -17,23 +16,16 @@ use Rattle.cmh_command.specs.declared.request.TheConstants.{DEFAULT_WORKERS}
 abbrev pub option_rule : Text → Rule
 option_rule name = record (new_rule name) { long = Some name; value_names = 1 }
 
--- the option `--workers`, of a number from 1 to `MAX_WORKERS`
-abbrev pub workers_rule : Rule
-workers_rule =
-    record (option_rule (codes "workers")) { parser = Some (parser.Signed (pos 1) (pos MAX_WORKERS)) }
-
--- the name of a process, which has to be given
-abbrev pub name_rule : Rule
-name_rule = record (new_rule (codes "NAME")) { required = true }
-
--- the command `analyse` with its options
+-- the command `analyse` with its options, of which `--workers` takes a number from 1 to `MAX_WORKERS`
 abbrev pub analyse_app : App
-analyse_app = with_rule (with_rule (with_rule (new_app (codes "analyse")) workers_rule)
+analyse_app = with_rule (with_rule (with_rule (new_app (codes "analyse"))
+    (record (option_rule (codes "workers")) { parser = Some (parser.Signed (pos 1) (pos MAX_WORKERS)) }))
     (option_rule (codes "cuts"))) (option_rule (codes "choices"))
 
--- the command `trace` with its name and its option
+-- the command `trace` with the name of a process, which has to be given, and its option
 abbrev pub trace_app : App
-trace_app = with_rule (with_rule (new_app (codes "trace")) name_rule) (option_rule (codes "choices"))
+trace_app = with_rule (with_rule (new_app (codes "trace"))
+    (record (new_rule (codes "NAME")) { required = true })) (option_rule (codes "choices"))
 
 -- the command line without its commands
 abbrev pub top_app : App
@@ -51,10 +43,6 @@ program = with_subcommand (with_subcommand top_app analyse_app.top) trace_app.to
 
 -- ---- what the words ask for
 
--- what stands with an option or a name, the empty text where it isn't given
-abbrev pub given_text : List ℕ → List Row → Text
-given_text name options = unwrap_or (first_of name options) []
-
 -- the number of workers is written as in a list, and fits; without the option it is the default
 abbrev pub HasWorkers : ℕ → List Row → Type 0
 HasWorkers n options = MatchOption (first_of (codes "workers") options) (n ≡ DEFAULT_WORKERS)
@@ -65,26 +53,20 @@ abbrev pub HasBadWorkers : List Row → Type 0
 HasBadWorkers options = (text : Text) × (first_of (codes "workers") options ≡ Some text)
     × MatchOption (number_of text) ⊤ (λ n. 2 ^ 32 ≤ n)
 
--- the options of an analysis are these
-pub record ArePlanWords (words : PlanWords) (options : List Row) : Type 0 where
-  pub workers : HasWorkers words.workers options
-  pub cuts : option_map (λ text. text.now) words.cuts ≡ first_of (codes "cuts") options
-  pub choices : words.choices.now ≡ given_text (codes "choices") options
-
--- the name and the choices of a trace are these
-pub record AreTraceWords (name choices : Text) (options : List Row) : Type 0 where
-  pub named : name ≡ given_text (codes "NAME") options
-  pub listed : choices ≡ given_text (codes "choices") options
-
--- what is asked for by the command `analyse` with these options
+-- what is asked for by the command `analyse` with these options: workers, cuts and choices are
+-- theirs, and choices that aren't given are the empty text
 abbrev pub IsAnalysis : List Row → Request → Type 0
-IsAnalysis options (Analyse plan) = ArePlanWords plan options
+IsAnalysis options (Analyse plan) = HasWorkers plan.workers options
+    × (option_map (λ text. text.now) plan.cuts ≡ first_of (codes "cuts") options)
+    × (plan.choices.now ≡ unwrap_or (first_of (codes "choices") options) [])
 IsAnalysis options (Refused text) = HasBadWorkers options
 IsAnalysis options request = ⊥
 
--- what is asked for by the command `trace` with these options
+-- what is asked for by the command `trace` with these options: name and choices are theirs,
+-- and what isn't given is the empty text
 abbrev pub IsTracing : List Row → Request → Type 0
-IsTracing options (Trace name choices) = AreTraceWords name.now choices.now options
+IsTracing options (Trace name choices) = (name.now ≡ unwrap_or (first_of (codes "NAME") options) [])
+    × (choices.now ≡ unwrap_or (first_of (codes "choices") options) [])
 IsTracing options request = ⊥
 
 -- the command of that name was entered, and the fact holds of its options
@@ -101,23 +83,16 @@ IsCommand entered request = Enters (codes "analyse") (λ options. IsAnalysis opt
 abbrev pub IsKnown : Option (Text × List Row) → Type 0
 IsKnown entered = Enters (codes "analyse") (λ options. ⊤) entered ⊎ Enters (codes "trace") (λ options. ⊤) entered
 
--- some kind of fault that `clap` finds in the words is such a kind
-abbrev pub HaveFault : (ErrorKind → Type 0) → List Text → Type 0
-HaveFault Holds words = (kind : ErrorKind) × IsAmong kind (fault_of program words) × Holds kind
-
--- the kinds by which `clap` answers a request for help or for the version
-abbrev pub AsksForText : ErrorKind → Type 0
-AsksForText kind = (kind ≡ DisplayHelp) ⊎ (kind ≡ DisplayVersion)
-
--- what is asked for where `clap` answers with an error of this kind: its text, or nothing
+-- what is asked for where `clap` answers with an error of this kind: its text, where that is the help or
+-- the version, and else nothing
 abbrev pub IsOfKind : ErrorKind → Request → Type 0
-IsOfKind kind (Show text) = AsksForText kind
-IsOfKind kind (Refused text) = ¬ (AsksForText kind)
+IsOfKind kind (Show text) = (kind ≡ DisplayHelp) ⊎ (kind ≡ DisplayVersion)
+IsOfKind kind (Refused text) = ¬ ((kind ≡ DisplayHelp) ⊎ (kind ≡ DisplayVersion))
 IsOfKind kind request = ⊥
 
 -- This is what the words ask for: a command where `clap` finds no fault in them, and else a text or
--- nothing.
+-- nothing, by the kind of some fault that it finds.
 abbrev pub IsRequest : List Text → Request → Type 0
 IsRequest words request =
     ((fault_of program words ≡ []) × IsCommand (subcommand_of program words) request)
-    ⊎ HaveFault (λ kind. IsOfKind kind request) words
+    ⊎ ((kind : ErrorKind) × IsAmong kind (fault_of program words) × IsOfKind kind request)

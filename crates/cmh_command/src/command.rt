@@ -1,9 +1,10 @@
 //! What `clap` is told of the command line.
 
-ghost use Rattle.std.specs.Prelude.{◌≡◌, true, false, codes, IfOk};
-ghost use Rattle.clap.specs.Words.{app_of, new_app, rule_of, with_subcommand};
+ghost use Rattle.std.specs.Prelude.{◌≡◌, Some, true, false, codes, pos, IfOk};
+ghost use Rattle.clap.specs.Words.{app_of, new_app, new_rule, rule_of, with_subcommand};
 ghost use Rattle.clap.specs.declared.builder.command.Command.TheViews.{out-Command};
-ghost use Rattle.cmh_command.specs.Words.{analyse_app, name_rule, option_rule, program, top_app, trace_app, workers_rule};
+ghost use Rattle.clap.specs.declared.builder.value_parser.ValueParser.TheVariants.{Signed};
+ghost use Rattle.cmh_command.specs.Words.{analyse_app, option_rule, program, top_app, trace_app};
 
 use clap::{Arg, Command, value_parser};
 use cmh_plan::MAX_WORKERS;
@@ -126,7 +127,7 @@ fn trace_command<'a>(alloc: Global) -> Result<Command<'a>, AllocError>
 }
 
 fn name_argument<'a>(alloc: Global) -> Arg<'a>
-    ensures rule { rule_of result ≡ name_rule }
+    ensures rule { rule_of result ≡ record (new_rule (codes "NAME")) { required = true } }
     ensures local { result.global ≡ false }
 {
     Arg::new(alloc, "NAME")
@@ -135,7 +136,8 @@ fn name_argument<'a>(alloc: Global) -> Arg<'a>
 }
 
 fn workers_option<'a>(alloc: Global) -> Arg<'a>
-    ensures rule { rule_of result ≡ workers_rule }
+    ensures rule { rule_of result ≡ record (option_rule (codes "workers"))
+        { parser = Some (Signed (pos 1) (pos MAX_WORKERS)) } }
     ensures local { result.global ≡ false }
 {
     Arg::new(alloc, "workers")

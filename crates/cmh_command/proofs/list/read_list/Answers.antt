@@ -1,6 +1,6 @@
-use Rattle.std.proofs.Common.{◌≡◌, ◌∙◌, Bor, List, ℕ, length, map, sym, ap, arith, below_more, inr, None, Some}
+use Rattle.std.proofs.Common.{◌≡◌, ◌∙◌, Bor, List, [], ℕ, get_or, length, map, sym, ap, arith, below_more, inr, None, Some}
 use Rattle.std.proofs.lemmas.List.{length-map}
-use Rattle.cmh_command.specs.List.{items_of, item_at, number_of}
+use Rattle.cmh_command.specs.List.{items_of, number_of}
 use Rattle.cmh_command.proofs.Lists.{item_is, no_number_is, number_is, out_of_memory, written_more}
 use Rattle.cmh_command.proofs.list.read_list.Goals as goal
 
@@ -13,7 +13,7 @@ loop-i-preserved c =
     rw (c.deref-item-items.ensures.value) c.in_ok-items.ensures in
     let count : length list ≡ length (items_of text) =
     sym (length-map list (λ (item : Bor (List ℕ)). item.now)) ∙ ap length cut in
-    let writes : number_of (item_at text i) ≡ Some c.in-Some.number =
+    let writes : number_of (get_or (items_of text) i []) ≡ Some c.in-Some.number =
     ap number_of (sym (item_is list text i _ cut c.loop-i-test.true)) ∙ sym c.in-Some.ensures in
     record {
       few = omega arith;
@@ -21,7 +21,9 @@ loop-i-preserved c =
           rw (c.in_ok-push.ensures.items)
           (written_more (items_of text) c.loop-i.numbers.items i c.in-Some.number (omega arith)
           c.loop-i.invariant.written writes);
-      before = below_more _ _ c.loop-i.invariant.before (number_is (item_at text i) c.in-Some.number writes);
+      before =
+          below_more _ _ c.loop-i.invariant.before
+          (number_is (get_or (items_of text) i []) c.in-Some.number writes);
     }
 
 pub returns-in_default : goal.returns-in_default
@@ -33,12 +35,18 @@ returns-in_default c =
     rw (c.deref-item-items.ensures.value) c.in_ok-items.ensures in
     let count : length list ≡ length (items_of text) =
     sym (length-map list (λ (item : Bor (List ℕ)). item.now)) ∙ ap length cut in
-    let none : number_of (item_at text i) ≡ None =
+    let none : number_of (get_or (items_of text) i []) ≡ None =
     ap number_of (sym (item_is list text i _ cut c.loop-i-test.true)) ∙ sym c.in_default.ensures in
     record {
       ok = tt;
       few = tt;
-      fault = inr (omega arith, omega arith, no_number_is (item_at text i) none, c.loop-i.invariant.before);
+      fault =
+          inr (
+            omega arith,
+            omega arith,
+            no_number_is (get_or (items_of text) i []) none,
+            c.loop-i.invariant.before,
+          );
     }
 
 pub returns-in_err-push : goal.returns-in_err-push

@@ -5,12 +5,9 @@ use Rattle.cmh_command.proofs.request.analysis_in.Goals as goal
 
 pub returns : goal.returns
 returns c =
-    let found = found_of c.args.options.now in
-    record {
-      workers =
-          some_workers (rows_of found) c.read_workers.result c.in-Some.workers c.read_workers.ensures (search rules);
-      cuts = value_is found (codes "cuts") c.get_str.result c.get_str.ensures;
-      choices =
-          text_is found (codes "choices") c.get_str-2.result _ c.unwrap_or.result c.get_str-2.ensures
-          c.unwrap_or.ensures (search rules);
-    }
+    let found = found_of c.args.options.now in (
+      some_workers (rows_of found) c.read_workers.result c.in-Some.workers c.read_workers.ensures (search rules),
+      value_is found (codes "cuts") c.get_str.result c.get_str.ensures,
+      text_is found (codes "choices") c.get_str-2.result _ c.unwrap_or.result c.get_str-2.ensures
+          c.unwrap_or.ensures (search rules),
+    )

@@ -5,12 +5,9 @@ use Rattle.cmh_command.proofs.request.trace_in.Goals as goal
 
 pub returns : goal.returns
 returns c =
-    let found = found_of c.args.options.now in
-    record {
-      named =
-          text_is found (codes "NAME") c.get_str.result _ c.unwrap_or.result c.get_str.ensures c.unwrap_or.ensures
-          (search rules);
-      listed =
-          text_is found (codes "choices") c.get_str-2.result _ c.unwrap_or-2.result c.get_str-2.ensures
-          c.unwrap_or-2.ensures (search rules);
-    }
+    let found = found_of c.args.options.now in (
+      text_is found (codes "NAME") c.get_str.result _ c.unwrap_or.result c.get_str.ensures c.unwrap_or.ensures
+          (search rules),
+      text_is found (codes "choices") c.get_str-2.result _ c.unwrap_or-2.result c.get_str-2.ensures
+          c.unwrap_or-2.ensures (search rules),
+    )
