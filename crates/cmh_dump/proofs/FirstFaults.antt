@@ -1,6 +1,6 @@
 -- A tree is refused for its first fault, and so are bytes.
 use Rattle.std.proofs.Common.{◌≡◌, ℕ, ◌<◌, ◌≤◌, List, length, Bool, true, false, cond, Option, Some, None, Ok, Err, ◌⊎◌, inl, inr, refl, sym, ap, ◌∙◌, subst, arith}
-use Rattle.std.specs.Prelude.{nat_lt, option_map, unwrap_or, ◌↔◌}
+use Rattle.std.specs.Prelude.{◌↔◌, nat_lt, option_map, unwrap_or}
 use Rattle.std.specs.Option.{option_map_or}
 use Rattle.std.proofs.lemmas.Bool.{false≢true, ltb-true, ltb-false}
 use Rattle.serde_json.specs.Data.{Data}
@@ -9,7 +9,7 @@ use Rattle.cmh_dump.specs.declared.TheConstants.{MAX_BYTES}
 use Rattle.cmh_dump.specs.declared.fault.DumpFault.{DumpFault}
 use Rattle.cmh_dump.specs.declared.fault.DumpFault.TheVariants.{Memory, ReadFault, TooLong, NotJson}
 use Rattle.cmh_dump.specs.Dump.{holds, in_order, first_of, tree_graph, dump_of_tree, tree_of, dump}
-use Rattle.cmh_dump.specs.FirstFault.{IsOfTree, HasTreeFault, BytesHave, dump_fault_rank, AreNone}
+use Rattle.cmh_dump.specs.FirstFault.{IsOfTree, HasTreeFault, BytesHave, dump_fault_rank}
 use Rattle.cmh_dump.proofs.Order.{dump_fault_comes_before, not_before_itself, not_before_both}
 use Rattle.cmh_dump.proofs.Stages.{allowed_in, IsLeastOfLists, least_of_lists}
 use Rattle.cmh_dump.proofs.Table.{stands, none_holds, in_stages}
@@ -40,7 +40,8 @@ found_is_first d fault e = record {
     after other (inr b) = not_before_both fault other b
 
 -- where the search through the table finds no fault, the tree has none
-none_is_had : (d : Data) → first_of (holds d) (in_order d) ≡ None → AreNone (HasTreeFault d)
+none_is_had : (d : Data) → first_of (holds d) (in_order d) ≡ None → (fault : DumpFault)
+    → ¬ (HasTreeFault d fault)
 none_is_had d e fault h = false≢true (sym (none_holds d e fault h.0) ∙ h.1)
 
 -- the search through the table finds the first fault that the tree has
@@ -59,7 +60,8 @@ first_is_found d fault h = by (first_of (holds d) (in_order d)) refl
     by (Some f) e = ap (λ g. Some g) (same f e ((least d f e).least fault (stands d fault h.had.0) h.had.1))
 
 -- where the tree has no fault, the search through the table finds none
-none_is_found : (d : Data) → AreNone (HasTreeFault d) → first_of (holds d) (in_order d) ≡ None
+none_is_found : (d : Data) → ((fault : DumpFault) → ¬ (HasTreeFault d fault))
+    → first_of (holds d) (in_order d) ≡ None
 none_is_found d h = by (first_of (holds d) (in_order d)) refl
   where
     by : (o : Option DumpFault) → first_of (holds d) (in_order d) ≡ o → o ≡ None
@@ -88,7 +90,7 @@ tree_fault_law = λ d fault. (
 
 -- a tree without a fault, and no other, means its graph
 pub tree_graph_law : (d : Data) (g : Graph)
-    → (dump_of_tree d ≡ Ok g) ↔ (AreNone (HasTreeFault d) × (g ≡ tree_graph d))
+    → (dump_of_tree d ≡ Ok g) ↔ (((fault : DumpFault) → ¬ (HasTreeFault d fault)) × (g ≡ tree_graph d))
 unfolding dump_of_tree
 tree_graph_law = λ d g. (
   λ e. let a = accepted (first_of (holds d) (in_order d)) (tree_graph d) g e in (none_is_had d a.0, a.1),
@@ -201,13 +203,14 @@ first_fault_law = λ bytes fault. (
 
 -- bytes that mean a graph have no fault, and a tree of which it is the graph
 pub graph_told : (bytes : List ℕ) (g : Graph) → dump bytes ≡ Ok g
-    → AreNone (BytesHave bytes) × ((d : Data) × (tree_of bytes ≡ Some d) × (g ≡ tree_graph d))
+    → ((fault : DumpFault) → ¬ (BytesHave bytes fault)) × ((d : Data) × (tree_of bytes ≡ Some d) × (g ≡ tree_graph d))
 unfolding dump
 graph_told bytes g e = clean bytes g (nat_lt MAX_BYTES (length bytes)) refl (tree_of bytes) refl e
   where
     clean : (bytes : List ℕ) (g : Graph) (long : Bool) → nat_lt MAX_BYTES (length bytes) ≡ long → (tree : Option Data)
         → tree_of bytes ≡ tree → cond long (Err TooLong) (of_tree tree) ≡ Ok g
-        → AreNone (BytesHave bytes) × ((d : Data) × (tree_of bytes ≡ Some d) × (g ≡ tree_graph d))
+        → ((fault : DumpFault) → ¬ (BytesHave bytes fault))
+        × ((d : Data) × (tree_of bytes ≡ Some d) × (g ≡ tree_graph d))
     clean bytes g true l tree t e = absurd cc
     clean bytes g false l None t e = absurd cc
     clean bytes g false l (Some d) t e =
@@ -216,7 +219,8 @@ graph_told bytes g e = clean bytes g (nat_lt MAX_BYTES (length bytes)) refl (tre
 
 -- bytes without a fault, and no others, mean the graph of their tree
 pub no_fault_law : (bytes : List ℕ) (g : Graph)
-    → (dump bytes ≡ Ok g) ↔ (AreNone (BytesHave bytes) × (option_map tree_graph (tree_of bytes) ≡ Some g))
+    → (dump bytes ≡ Ok g)
+    ↔ (((fault : DumpFault) → ¬ (BytesHave bytes fault)) × (option_map tree_graph (tree_of bytes) ≡ Some g))
 unfolding dump
 no_fault_law = λ bytes g. (
   λ e. let r = graph_told bytes g e in (r.0, ap (option_map tree_graph) r.1.1 ∙ ap Some (sym r.1.2)),
@@ -224,7 +228,7 @@ no_fault_law = λ bytes g. (
 )
   where
     answered : (bytes : List ℕ) (g : Graph) (long : Bool) → nat_lt MAX_BYTES (length bytes) ≡ long
-        → (tree : Option Data) → tree_of bytes ≡ tree → AreNone (BytesHave bytes)
+        → (tree : Option Data) → tree_of bytes ≡ tree → ((fault : DumpFault) → ¬ (BytesHave bytes fault))
         → option_map tree_graph (tree_of bytes) ≡ Some g → cond long (Err TooLong) (of_tree tree) ≡ Ok g
     answered bytes g true l tree t n h = absurd (n TooLong (ltb-true MAX_BYTES (length bytes) l))
     answered bytes g false l None t n h = absurd (n NotJson t)

@@ -1,13 +1,11 @@
 -- Names put into an index one after the other.
-use Rattle.std.proofs.Common.{◌≡◌, ℕ, zero, suc, ◌+◌, ◌<◌, ◌≤◌, List, [], ◌∷◌, ◌++◌, Bool, true, false, not, ◌||◌, cond, Some, None, take, length, get_or, nat_lt, refl, sym, ap, ◌∙◌, arith, Bor, below_more, subst}
+use Rattle.std.proofs.Common.{◌≡◌, ℕ, zero, suc, ◌+◌, ◌<◌, ◌≤◌, List, [], ◌∷◌, ◌++◌, Bool, true, false, not, ◌||◌, cond, Some, None, take, length, get_or, nat_lt, refl, sym, ap, ◌∙◌, arith, Bor, below_more}
 use Rattle.std.specs.Prelude.{bytes_eq, slice_get}
 use Rattle.std.specs.List.{list_any, position_or_len}
 use Rattle.std.proofs.lemmas.List.{get_or-map, take_all}
 use Rattle.cmh_dump.specs.Name.{is_among, place_of, repeats}
 use Rattle.cmh_dump.specs.Texts.{texts}
-use Rattle.cmh_dump.specs.Index.{first_repeat, TellsRepeat}
-use Rattle.cmh_dump.specs.declared.index.IndexFault.{IndexFault}
-use Rattle.cmh_dump.specs.declared.index.IndexFault.TheVariants.{Repeated}
+use Rattle.cmh_dump.specs.Index.{first_repeat}
 use Rattle.cmh_dump.proofs.Faults.{none_found}
 use Rattle.cmh_dump.proofs.Keys.{any_of_texts}
 use Rattle.cmh_dump.proofs.Taken.{take-next, texts-append}
@@ -107,8 +105,3 @@ pub place_is : (name : List ℕ) (keys : List (Bor (List ℕ)))
 place_is name keys =
     (λ i. cond (nat_lt (position-texts name keys i) (sym (length-texts keys) i)) (Some (position-texts name keys i))
     None) ∙ ap (λ b. cond b (Some (place_of (texts keys) name)) None) (among name (texts keys))
-
--- an error of the index that tells a repeat tells the first repeat of the names
-pub repeat_of : (all : List (List ℕ)) (e : IndexFault) (i : ℕ) → e ≡ Repeated i → TellsRepeat all e
-    → first_repeat all ≡ Some i
-repeat_of all e i is h = subst (TellsRepeat all) is h

@@ -3,14 +3,16 @@ use Rattle.std.proofs.Common.{◌≡◌, ℕ, List, [], ◌∷◌, Bool, true, f
 use Rattle.std.specs.Prelude.{is_some, bytes_eq, option_map}
 use Rattle.std.specs.List.{list_all, list_any}
 use Rattle.std.specs.Option.{option_map_or}
+use Rattle.std.specs.Global.{Global}
 use Rattle.json.specs.Find as json_find
 use Rattle.json.specs.Json as json
 use Rattle.json.specs.Value.{members_view}
+use Rattle.json.specs.declared.value.Value.{Value}
 use Rattle.serde_json.specs.Data.{Members, no_members}
 use Rattle.serde_json.specs.Find.{get, as_object}
 use Rattle.cmh_dump.specs.Tree.{has_keys, keys_of}
 use Rattle.cmh_dump.specs.Texts.{texts}
-use Rattle.cmh_dump.specs.View.{Tree, data_of, members_data}
+use Rattle.cmh_dump.specs.View.{data_of, members_data}
 use Rattle.cmh_dump.proofs.Views.{written_keys, all_keys_are, object_at}
 
 -- a test of all borrows is one of all texts
@@ -31,7 +33,7 @@ is_allowed needed allowed key =
     list_any (λ k. bytes_eq key k.now) needed || list_any (λ k. bytes_eq key k.now) allowed
 
 -- the keys that stand in memory are tested as those that are written
-only : (needed allowed : List (Bor (List ℕ))) (es : List (Bor (List ℕ) × Tree))
+only : (needed allowed : List (Bor (List ℕ))) (es : List (Bor (List ℕ) × Value Global))
     → list_all (λ m. is_allowed needed allowed m.0.now) es
     ≡ list_all (λ k. list_any (bytes_eq k) (texts needed) || list_any (bytes_eq k) (texts allowed))
     (written_keys (members_view es))
@@ -41,12 +43,12 @@ only needed allowed (e ∷ es) =
     && only needed allowed es i
 
 -- the data of the members that the reader finds in an object are those of the object's data
-members_are : (es : List (Bor (List ℕ) × Tree)) (j : json.Json) → Some (members_view es) ≡ json_find.as_object j
+members_are : (es : List (Bor (List ℕ) × Value Global)) (j : json.Json) → Some (members_view es) ≡ json_find.as_object j
     → Some (members_data (members_view es) no_members) ≡ as_object (data_of j)
 members_are es j h = ap (option_map (λ ms. members_data ms no_members)) h ∙ object_at j
 
 -- the test of the needed keys and that of all written keys are together the test of an object's keys
-object_keys : (needed allowed : List (Bor (List ℕ))) (es : List (Bor (List ℕ) × Tree)) (j : json.Json)
+object_keys : (needed allowed : List (Bor (List ℕ))) (es : List (Bor (List ℕ) × Value Global)) (j : json.Json)
     → Some (members_view es) ≡ json_find.as_object j
     → (list_all (λ k. is_some (get k.now (data_of j))) needed && list_all (λ m. is_allowed needed allowed m.0.now) es)
     ≡ has_keys (texts needed) (texts allowed) (data_of j)
@@ -61,7 +63,7 @@ object_keys needed allowed es j e =
     (members_are es j e)
 
 -- where all needed keys are there, the test of all written keys is the test of an object's keys
-pub keys_then : (needed allowed : List (Bor (List ℕ))) (es : List (Bor (List ℕ) × Tree)) (j : json.Json)
+pub keys_then : (needed allowed : List (Bor (List ℕ))) (es : List (Bor (List ℕ) × Value Global)) (j : json.Json)
     (each others : Bool) → each ≡ list_all (λ k. is_some (get k.now (data_of j))) needed → each ≡ true
     → others ≡ list_all (λ m. is_allowed needed allowed m.0.now) es
     → Some (members_view es) ≡ json_find.as_object j
@@ -71,7 +73,7 @@ keys_then needed allowed es j each others e t o h =
     ∙ object_keys needed allowed es j h
 
 -- where a needed key is missing, the test of an object's keys fails too
-pub keys_else : (needed allowed : List (Bor (List ℕ))) (es : List (Bor (List ℕ) × Tree)) (j : json.Json)
+pub keys_else : (needed allowed : List (Bor (List ℕ))) (es : List (Bor (List ℕ) × Value Global)) (j : json.Json)
     (each : Bool) → each ≡ list_all (λ k. is_some (get k.now (data_of j))) needed → each ≡ false
     → Some (members_view es) ≡ json_find.as_object j → each ≡ has_keys (texts needed) (texts allowed) (data_of j)
 keys_else needed allowed es j each e f h =

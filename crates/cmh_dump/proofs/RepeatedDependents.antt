@@ -3,11 +3,13 @@ use Rattle.std.proofs.Common.{◌≡◌, ℕ, zero, suc, ◌+◌, ◌<◌, List,
 use Rattle.std.specs.Prelude.{bytes_eq, find, option_map}
 use Rattle.std.specs.List.{list_all, list_any, position_or_len}
 use Rattle.std.specs.Option.{option_or}
+use Rattle.std.specs.Global.{Global}
 use Rattle.std.proofs.lemmas.Bool.{false_from_ne_true, false≢true, and_parts, ltb-true}
 use Rattle.std.proofs.lemmas.List.{length-map, get_or-take, length-take-le, take-map}
 use Rattle.std.proofs.lemmas.List.Folds.{list_any_at}
 use Rattle.std.proofs.lemmas.List.Sums.{passes_at_first}
 use Rattle.std.proofs.lemmas.Slice.Eq.{bytes_eq-Decides}
+use Rattle.json.specs.declared.value.Value.{Value}
 use Rattle.cmh_graph.specs.Build as graph
 use Rattle.cmh_graph.specs.Graph.{Process}
 use Rattle.cmh_graph.specs.Judge.{IsFirst, IsRepeat}
@@ -18,8 +20,8 @@ use Rattle.cmh_dump.specs.Index.{first_repeat}
 use Rattle.cmh_dump.specs.Name.{is_among, place_of, repeats}
 use Rattle.cmh_dump.specs.Places.{first_unknown, unknown_dependent, place_repeats, first_repeated_place}
 use Rattle.cmh_dump.specs.Read.{entry_view, first_pair}
-use Rattle.cmh_dump.specs.Texts.{value_text}
-use Rattle.cmh_dump.specs.View.{Tree}
+use Rattle.cmh_dump.specs.Tree.{text_of}
+use Rattle.cmh_dump.specs.View.{view}
 use Rattle.cmh_dump.proofs.Faults.{below, least_found, none_found, find_alike}
 use Rattle.cmh_dump.proofs.IndexLemmas.{among}
 use Rattle.cmh_dump.proofs.Places.{first_within, same_from_places}
@@ -132,10 +134,11 @@ module _ (names : List (List ℕ)) where
       ∙ find_alike (place_repeats (map (place_of names) xs)) (repeats xs) (length xs) (repeats_alike xs h)
 
   -- where no value is unknown, the texts of all are among the names
-  none_unknown : (values : List Tree) → first_unknown names values ≡ None → AreAmong (map value_text values)
+  none_unknown : (values : List (Value Global)) → first_unknown names values ≡ None
+      → AreAmong (map (λ v. text_of (view v)) values)
   none_unknown values h =
-      sym (all-map (is_among names) value_text values)
-      ∙ all_pass (λ v. is_among names (value_text v)) values h
+      sym (all-map (is_among names) (λ v. text_of (view v)) values)
+      ∙ all_pass (λ v. is_among names (text_of (view v))) values h
 
   -- the places of texts that are all among the names are below the number of names
   row_within : (xs : List (List ℕ)) → AreAmong xs
@@ -146,23 +149,25 @@ module _ (names : List (List ℕ)) where
   -- where no process has an unknown dependent, the places of all dependents are below the number of names
   rows_within : (i : ℕ) (es : List declared.Entry) → first_pair (λ e. first_unknown names e.dependents.now) i es ≡ None
       → list_all
-      (λ e. list_all (λ p. nat_lt p (length names)) (map (place_of names) (map value_text e.dependents.now))) es ≡ true
+      (λ e. list_all (λ p. nat_lt p (length names))
+      (map (place_of names) (map (λ v. text_of (view v)) e.dependents.now))) es ≡ true
   rows_within i [] h = refl
   rows_within i (e ∷ es) h =
       let both = neither_row i (first_unknown names e.dependents.now) _ h in
-      λ k. row_within (map value_text e.dependents.now) (none_unknown e.dependents.now both.0) k
+      λ k. row_within (map (λ v. text_of (view v)) e.dependents.now) (none_unknown e.dependents.now both.0) k
       && rows_within (i + 1) es both.1 k
 
   -- where no dependent is unknown, the first repeat among all dependents is the same by places and by names
   rows_alike : (i : ℕ) (es : List declared.Entry) → first_pair (λ e. first_unknown names e.dependents.now) i es ≡ None
-      → first_pair (λ e. first_repeated_place (map (place_of names) (map value_text e.dependents.now))) i es
-      ≡ first_pair (λ e. first_repeat (map value_text e.dependents.now)) i es
+      → first_pair
+      (λ e. first_repeated_place (map (place_of names) (map (λ v. text_of (view v)) e.dependents.now))) i es
+      ≡ first_pair (λ e. first_repeat (map (λ v. text_of (view v)) e.dependents.now)) i es
   rows_alike i [] h = refl
   rows_alike i (e ∷ es) h =
       let both = neither_row i (first_unknown names e.dependents.now) _ h in
       λ k. option_or
       (option_map (λ j. (i, j))
-      (first_alike (map value_text e.dependents.now) (none_unknown e.dependents.now both.0) k))
+      (first_alike (map (λ v. text_of (view v)) e.dependents.now) (none_unknown e.dependents.now both.0) k))
       (rows_alike (i + 1) es both.1 k)
 
   -- ---- of the parts that are made of the entries
@@ -186,7 +191,7 @@ module _ (names : List (List ℕ)) where
 
     -- the first place that repeats in parts made of the entries is the first repeated dependent
     pub pairs_alike : first_pair (λ part. first_repeated_place part.dependents.items) 0 parts
-        ≡ first_pair (λ e. first_repeat (map value_text e.dependents.now)) 0 es
+        ≡ first_pair (λ e. first_repeat (map (λ v. text_of (view v)) e.dependents.now)) 0 es
     pairs_alike =
         let search = λ (p : Process). first_repeated_place p.dependents in
         pairs-map search graph.process_of 0 parts ∙ ap (first_pair search 0) made

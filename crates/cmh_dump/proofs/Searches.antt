@@ -17,8 +17,9 @@ use Rattle.cmh_dump.specs.Index.{first_repeat}
 use Rattle.cmh_dump.specs.Name.{is_name, is_among}
 use Rattle.cmh_dump.specs.Read.{entry_view, first_pair}
 use Rattle.cmh_dump.specs.Places.{unknown_dependent}
-use Rattle.cmh_dump.specs.Texts.{texts, value_text}
-use Rattle.cmh_dump.specs.Tree.{texts_of}
+use Rattle.cmh_dump.specs.Texts.{texts}
+use Rattle.cmh_dump.specs.Tree.{text_of, texts_of}
+use Rattle.cmh_dump.specs.View.{view}
 use Rattle.cmh_dump.proofs.Faults.{below}
 use Rattle.cmh_dump.proofs.Trees.{map-map}
 use Rattle.cmh_dump.proofs.FirstFaultSearches.{each_seen, pairs_seen, find-map, get-map}
@@ -155,27 +156,28 @@ module _ (d : Data) (es : List declared.Entry) (seen : map entry_view es ≡ ent
       ≡ option_map (λ p. UnknownDependent p.0 p.1) (unknown_dependent keys es)
   unknown_dependents keys same =
       pairs_seen (holds d) UnknownDependent (λ i. map (UnknownDependent i) (below (length (entry d i).dependents)))
-      (λ e. position (λ v. not (is_among keys (value_text v))) e.dependents.now) es (length (processes d)) process_count
+      (λ e. position (λ v. not (is_among keys (text_of (view v)))) e.dependents.now) es (length (processes d))
+      process_count
       (λ k e h. row k e (entry_seen k e h))
     where
       row : (k : ℕ) (e : declared.Entry) → entry d k ≡ entry_view e
           → find (holds d) (map (UnknownDependent k) (below (length (entry d k).dependents)))
-          ≡ option_map (UnknownDependent k) (position (λ v. not (is_among keys (value_text v))) e.dependents.now)
+          ≡ option_map (UnknownDependent k) (position (λ v. not (is_among keys (text_of (view v)))) e.dependents.now)
       row k e is =
-          each_seen (holds d) (UnknownDependent k) value_text (λ name. not (is_among keys name))
+          each_seen (holds d) (UnknownDependent k) (λ v. text_of (view v)) (λ name. not (is_among keys name))
           e.dependents.now (length (entry d k).dependents)
-          (size_of value_text e.dependents.now (entry d k).dependents (ap (λ x. x.dependents) (sym is)))
+          (size_of (λ v. text_of (view v)) e.dependents.now (entry d k).dependents (ap (λ x. x.dependents) (sym is)))
           (λ j z h. ap (λ t. not (is_among (names d) t))
-          (or_seen value_text e.dependents.now (entry d k).dependents j z []
+          (or_seen (λ v. text_of (view v)) e.dependents.now (entry d k).dependents j z []
           (ap (λ x. x.dependents) (sym is)) h) ∙ ap (λ ks. not (is_among ks z)) (sym same))
 
   -- the first repeated dependent stands where the search by rows finds it
   pub repeated_dependents : find (holds d) (each_dependent d RepeatedDependent)
       ≡ option_map (λ p. RepeatedDependent p.0 p.1)
-      (first_pair (λ e. first_repeat (map value_text e.dependents.now)) 0 es)
+      (first_pair (λ e. first_repeat (map (λ v. text_of (view v)) e.dependents.now)) 0 es)
   repeated_dependents =
       pairs_seen (holds d) RepeatedDependent (λ i. map (RepeatedDependent i) (below (length (entry d i).dependents)))
-      (λ e. first_repeat (map value_text e.dependents.now)) es (length (processes d)) process_count
+      (λ e. first_repeat (map (λ v. text_of (view v)) e.dependents.now)) es (length (processes d)) process_count
       (λ k e h. find-map (holds d) (RepeatedDependent k) (below (length (entry d k).dependents))
       ∙ ap (λ x. option_map (RepeatedDependent k) (first_repeat x.dependents)) (entry_seen k e h))
 
@@ -189,14 +191,15 @@ module _ (d : Data) (es : List declared.Entry) (seen : map entry_view es ≡ ent
       (λ k z h. ap (λ e. not (is_idle_state e.state) && nat_lt 0 (length e.dependents)) (entry_is k z h))
       ∙
       (λ i. option_map ActiveWithDependents
-      (position (λ e. not (is_idle_state e.state) && nat_lt 0 (length-map e.dependents.now value_text i)) es))
+      (position
+      (λ e. not (is_idle_state e.state) && nat_lt 0 (length-map e.dependents.now (λ v. text_of (view v)) i)) es))
 
   -- the dependents that were read are as many as those of the tree
   pub dependent_total_is : sum_by (λ e. length e.dependents.now) es ≡ sum_by (λ e. length e.dependents) (entries d)
   dependent_total_is =
       sym
       (sum_by-map (λ e. length e.dependents) entry_view es
-      ∙ λ i. sum_by (λ e. length-map e.dependents.now value_text i) es)
+      ∙ λ i. sum_by (λ e. length-map e.dependents.now (λ v. text_of (view v)) i) es)
       ∙ ap (sum_by (λ e. length e.dependents)) seen
 
 -- ---- messages in transit

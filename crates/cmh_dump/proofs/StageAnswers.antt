@@ -15,10 +15,11 @@ use Rattle.cmh_dump.specs.Dump.{holds, first_of, each, each_dependent}
 use Rattle.cmh_dump.specs.Entry.{sites, processes, transits, entries, names, is_process, is_pair}
 use Rattle.cmh_dump.specs.Index.{first_repeat}
 use Rattle.cmh_dump.specs.Name.{is_name, is_among}
-use Rattle.cmh_dump.specs.Read.{entry_view, first_pair, site_faults, process_faults, name_faults, entry_faults, transit_faults}
+use Rattle.cmh_dump.specs.Read.{entry_view, first_pair, entry_faults, transit_faults}
 use Rattle.cmh_dump.specs.Places.{first_unknown}
-use Rattle.cmh_dump.specs.Texts.{texts, value_text}
-use Rattle.cmh_dump.specs.Tree.{texts_of}
+use Rattle.cmh_dump.specs.Texts.{texts}
+use Rattle.cmh_dump.specs.Tree.{text_of, texts_of}
+use Rattle.cmh_dump.specs.View.{view}
 use Rattle.cmh_dump.proofs.Trees.{map-map}
 use Rattle.cmh_dump.proofs.Searches.{first_here, first_later, alone, bad_sites, repeated_sites, bad_processes, repeated_processes, unknown_sites, unknown_dependents, repeated_dependents, active_with_dependents, dependent_total_is, bad_transits, unknown_transits}
 
@@ -41,24 +42,27 @@ module _ (d : Data) (ys : List (Bor (List ℕ))) (seen : texts ys ≡ sites d) w
   abbrev bad_name : Option ℕ
   bad_name = position (λ t. not (is_name t.now)) ys
 
+  -- the kinds of faults of the sites after the bad names
+  abbrev from_repeated : List (List DumpFault)
+  from_repeated = each (sites d) RepeatedSite ∷ (TooManySites ∷ []) ∷ []
+
   -- a bad name is the first fault of the sites
-  pub site_bad : (i : ℕ) → bad_name ≡ Some i → first_of (holds d) (site_faults d) ≡ Some (BadSites i)
+  pub site_bad : (i : ℕ) → bad_name ≡ Some i
+      → first_of (holds d) (each (sites d) BadSites ∷ from_repeated) ≡ Some (BadSites i)
   site_bad i h =
-      first_here (holds d) (each (sites d) BadSites) (each (sites d) RepeatedSite ∷ (TooManySites ∷ []) ∷ []) _
-      (BadSites i)
+      first_here (holds d) (each (sites d) BadSites) from_repeated _ (BadSites i)
       (bad_sites d ys seen) (ap (option_map BadSites) h)
 
   -- where no name of a site is bad, the other kinds of faults of the sites decide
-  names_only : (r : Option DumpFault) → bad_name ≡ None
-      → first_of (holds d) (each (sites d) RepeatedSite ∷ (TooManySites ∷ []) ∷ []) ≡ r
-      → first_of (holds d) (site_faults d) ≡ r
+  names_only : (r : Option DumpFault) → bad_name ≡ None → first_of (holds d) from_repeated ≡ r
+      → first_of (holds d) (each (sites d) BadSites ∷ from_repeated) ≡ r
   names_only r h later =
-      first_later (holds d) (each (sites d) BadSites) (each (sites d) RepeatedSite ∷ (TooManySites ∷ []) ∷ []) _ r
+      first_later (holds d) (each (sites d) BadSites) from_repeated _ r
       (bad_sites d ys seen) (ap (option_map BadSites) h) later
 
   -- where no name of a site is bad, a repeated site is the first fault of the sites
   pub site_repeated : (i : ℕ) → bad_name ≡ None → first_repeat (texts ys) ≡ Some i
-      → first_of (holds d) (site_faults d) ≡ Some (RepeatedSite i)
+      → first_of (holds d) (each (sites d) BadSites ∷ from_repeated) ≡ Some (RepeatedSite i)
   site_repeated i h r =
       names_only (Some (RepeatedSite i)) h
       (first_here (holds d) (each (sites d) RepeatedSite) ((TooManySites ∷ []) ∷ []) _ (RepeatedSite i)
@@ -66,7 +70,8 @@ module _ (d : Data) (ys : List (Bor (List ℕ))) (seen : texts ys ≡ sites d) w
 
   -- where no name of a site is bad and none repeats, the number of sites decides
   apart_only : (r : Option DumpFault) → bad_name ≡ None → first_repeat (texts ys) ≡ None
-      → first_of (holds d) ((TooManySites ∷ []) ∷ []) ≡ r → first_of (holds d) (site_faults d) ≡ r
+      → first_of (holds d) ((TooManySites ∷ []) ∷ []) ≡ r
+      → first_of (holds d) (each (sites d) BadSites ∷ from_repeated) ≡ r
   apart_only r h apart later =
       names_only r h
       (first_later (holds d) (each (sites d) RepeatedSite) ((TooManySites ∷ []) ∷ []) _ r
@@ -74,7 +79,7 @@ module _ (d : Data) (ys : List (Bor (List ℕ))) (seen : texts ys ≡ sites d) w
 
   -- where no name of a site is bad and none repeats, too many sites are the first fault of the sites
   pub sites_many : bad_name ≡ None → first_repeat (texts ys) ≡ None → MAX_SITES < length ys
-      → first_of (holds d) (site_faults d) ≡ Some TooManySites
+      → first_of (holds d) (each (sites d) BadSites ∷ from_repeated) ≡ Some TooManySites
   sites_many h apart many =
       apart_only (Some TooManySites) h apart
       (first_here (holds d) (TooManySites ∷ []) [] _ TooManySites
@@ -82,7 +87,7 @@ module _ (d : Data) (ys : List (Bor (List ℕ))) (seen : texts ys ≡ sites d) w
 
   -- where no name of a site is bad, none repeats and the sites are few enough, they have no fault
   pub sites_judged : bad_name ≡ None → first_repeat (texts ys) ≡ None → length ys ≤ MAX_SITES
-      → first_of (holds d) (site_faults d) ≡ None
+      → first_of (holds d) (each (sites d) BadSites ∷ from_repeated) ≡ None
   sites_judged h apart few =
       apart_only None h apart
       (first_later (holds d) (TooManySites ∷ []) [] _ None
@@ -97,21 +102,23 @@ module _ {V : Type 0} (view : V → Data) (d : Data) (vs : List V) (seen : map v
 
   -- where the processes are few enough, the kind of bad processes decides
   few_only : (r : Option DumpFault) → length vs ≤ MAX_PROCESSES
-      → first_of (holds d) (each (processes d) BadProcess ∷ []) ≡ r → first_of (holds d) (process_faults d) ≡ r
+      → first_of (holds d) (each (processes d) BadProcess ∷ []) ≡ r
+      → first_of (holds d) ((TooManyProcesses ∷ []) ∷ each (processes d) BadProcess ∷ []) ≡ r
   few_only r few later =
       first_later (holds d) (TooManyProcesses ∷ []) (each (processes d) BadProcess ∷ []) _ r
       (alone (holds d) TooManyProcesses false (within view vs (processes d) MAX_PROCESSES seen few)) refl later
 
   -- where the processes are few enough, a bad one is the first fault of the processes
   pub process_bad : (i : ℕ) → length vs ≤ MAX_PROCESSES → bad_process ≡ Some i
-      → first_of (holds d) (process_faults d) ≡ Some (BadProcess i)
+      → first_of (holds d) ((TooManyProcesses ∷ []) ∷ each (processes d) BadProcess ∷ []) ≡ Some (BadProcess i)
   process_bad i few h =
       few_only (Some (BadProcess i)) few
       (first_here (holds d) (each (processes d) BadProcess) [] _ (BadProcess i) (bad_processes view d vs seen)
       (ap (option_map BadProcess) h))
 
   -- where the processes are few enough and none is bad, they have no fault of their stage
-  pub processes_judged : length vs ≤ MAX_PROCESSES → bad_process ≡ None → first_of (holds d) (process_faults d) ≡ None
+  pub processes_judged : length vs ≤ MAX_PROCESSES → bad_process ≡ None
+      → first_of (holds d) ((TooManyProcesses ∷ []) ∷ each (processes d) BadProcess ∷ []) ≡ None
   processes_judged few h =
       few_only None few
       (first_later (holds d) (each (processes d) BadProcess) [] _ None (bad_processes view d vs seen)
@@ -126,14 +133,14 @@ names_seen d es seen = map-map (λ e. e.name) entry_view es ∙ ap (map (λ e. e
 
 -- a repeated name is the first fault of the names of the processes
 pub name_repeated : (d : Data) (ns : List (List ℕ)) (i : ℕ) → ns ≡ names d → first_repeat ns ≡ Some i
-    → first_of (holds d) (name_faults d) ≡ Some (RepeatedProcess i)
+    → first_of (holds d) (each (processes d) RepeatedProcess ∷ []) ≡ Some (RepeatedProcess i)
 name_repeated d ns i seen r =
     first_here (holds d) (each (processes d) RepeatedProcess) [] _ (RepeatedProcess i)
     (repeated_processes d) (ap (option_map RepeatedProcess) (ap first_repeat (sym seen) ∙ r))
 
 -- names of processes of which none repeats have no fault
 pub names_judged : (d : Data) (ns : List (List ℕ)) → ns ≡ names d → first_repeat ns ≡ None
-    → first_of (holds d) (name_faults d) ≡ None
+    → first_of (holds d) (each (processes d) RepeatedProcess ∷ []) ≡ None
 names_judged d ns seen apart =
     first_later (holds d) (each (processes d) RepeatedProcess) [] _ None
     (repeated_processes d) (ap (option_map RepeatedProcess) (ap first_repeat (sym seen) ∙ apart)) refl
@@ -151,7 +158,7 @@ module _ (d : Data) (es : List declared.Entry) (seen : map entry_view es ≡ ent
   unknown_dependent = first_pair (λ e. first_unknown process_names e.dependents.now) 0 es
 
   abbrev repeated_dependent : Option (ℕ × ℕ)
-  repeated_dependent = first_pair (λ e. first_repeat (map value_text e.dependents.now)) 0 es
+  repeated_dependent = first_pair (λ e. first_repeat (map (λ v. text_of (view v)) e.dependents.now)) 0 es
 
   abbrev active : Option ℕ
   active = position (λ e. not (is_idle_state e.state) && nat_lt 0 (length e.dependents.now)) es

@@ -1,5 +1,5 @@
 -- A tree that is judged stage by stage: its first fault, or the graph that it means.
-use Rattle.std.proofs.Common.{◌≡◌, ◌≢◌, ℕ, List, ◌++◌, ◌⊎◌, Some, None, Result, Ok, Err, map, sym, ap, subst, ◌∙◌}
+use Rattle.std.proofs.Common.{◌≡◌, ◌≢◌, ℕ, List, [], ◌∷◌, ◌++◌, ◌⊎◌, Some, None, Result, Ok, Err, map, sym, ap, subst, ◌∙◌}
 use Rattle.std.specs.Global.{Vec}
 use Rattle.std.specs.Option.{option_map_or}
 use Rattle.serde_json.specs.Data.{Data}
@@ -10,10 +10,10 @@ use Rattle.cmh_graph.specs.declared.fault.GraphFault.{GraphFault}
 use Rattle.cmh_graph.specs.declared.fault.GraphFault.TheVariants.{Memory as GraphMemory}
 use Rattle.cmh_dump.specs.declared.entry.Entry as declared
 use Rattle.cmh_dump.specs.declared.fault.DumpFault.{DumpFault}
-use Rattle.cmh_dump.specs.declared.fault.DumpFault.TheVariants.{Memory}
-use Rattle.cmh_dump.specs.Dump.{holds, in_order, first_of, tree_graph, places_in_pair, process_by, dump_of_tree}
-use Rattle.cmh_dump.specs.Entry.{entries, names, sites, transits}
-use Rattle.cmh_dump.specs.Read.{entry_view, top_faults, site_faults, process_faults, AreRead, Builds, name_faults, entry_faults, transit_faults}
+use Rattle.cmh_dump.specs.declared.fault.DumpFault.TheVariants.{Memory, BadTop, BadVersion, BadSites, RepeatedSite, TooManySites, TooManyProcesses, BadProcess, RepeatedProcess}
+use Rattle.cmh_dump.specs.Dump.{holds, each, in_order, first_of, tree_graph, places_in_pair, process_by, dump_of_tree}
+use Rattle.cmh_dump.specs.Entry.{entries, names, processes, sites, transits}
+use Rattle.cmh_dump.specs.Read.{entry_view, Builds, entry_faults, transit_faults}
 use Rattle.cmh_dump.proofs.Searches.{first_after, first_among}
 use Rattle.cmh_dump.proofs.Trees.{map-map}
 use Rattle.cmh_dump.proofs.WellFormed.{well_formed, refused_for_memory}
@@ -24,7 +24,11 @@ faults_from_entries d = entry_faults d ++ transit_faults d
 
 -- the kinds that are judged once sites and processes are read
 abbrev pub faults_from_names : Data → List (List DumpFault)
-faults_from_names d = name_faults d ++ faults_from_entries d
+faults_from_names d = each (processes d) RepeatedProcess ∷ faults_from_entries d
+
+-- the kinds that are judged once the sites are read
+abbrev pub faults_from_processes : Data → List (List DumpFault)
+faults_from_processes d = (TooManyProcesses ∷ []) ∷ each (processes d) BadProcess ∷ faults_from_names d
 
 module _ (d : Data) where
   -- the fault of a stage is that of the kinds from the stage on
@@ -38,13 +42,14 @@ module _ (d : Data) where
   refused_later xs ys e none h m = first_after (holds d) xs ys none ∙ h m
 
   -- where no fault of the top and none of the sites holds, the kinds after these decide
-  pub refused_past_sites : (e : DumpFault) → first_of (holds d) (top_faults d) ≡ None
-      → first_of (holds d) (site_faults d) ≡ None
-      → (e ≢ Memory → first_of (holds d) (process_faults d ++ faults_from_names d) ≡ Some e) → e ≢ Memory
+  pub refused_past_sites : (e : DumpFault) → first_of (holds d) ((BadTop ∷ []) ∷ (BadVersion ∷ []) ∷ []) ≡ None
+      → first_of (holds d) (each (sites d) BadSites ∷ each (sites d) RepeatedSite ∷ (TooManySites ∷ []) ∷ []) ≡ None
+      → (e ≢ Memory → first_of (holds d) (faults_from_processes d) ≡ Some e) → e ≢ Memory
       → first_of (holds d) (in_order d) ≡ Some e
   refused_past_sites e top apart h =
-      refused_later (top_faults d) (site_faults d ++ process_faults d ++ faults_from_names d) e top
-      (refused_later (site_faults d) (process_faults d ++ faults_from_names d) e apart h)
+      let site_kinds = each (sites d) BadSites ∷ each (sites d) RepeatedSite ∷ (TooManySites ∷ []) ∷ [] in
+      refused_later ((BadTop ∷ []) ∷ (BadVersion ∷ []) ∷ []) (site_kinds ++ faults_from_processes d) e top
+      (refused_later site_kinds (faults_from_processes d) e apart h)
 
   -- where no kind of a stage holds, an answer that fits the kinds after it fits both together
   pub built_later : (xs ys : List (List DumpFault)) (r : Result (Vec Part × Vec (ℕ × ℕ)) DumpFault)
@@ -65,15 +70,16 @@ module _ (d : Data) where
 
   -- the parts and messages that are read make the graph of the tree
   pub graph_is : (parts : List Part) (messages : List (ℕ × ℕ)) (es : List declared.Entry)
-      (site_names process_names : List (List ℕ)) → AreRead d es site_names → process_names ≡ names d
+      (site_names process_names : List (List ℕ)) → map entry_view es ≡ entries d → site_names ≡ sites d
+      → process_names ≡ names d
       → map graph.process_of parts ≡ map (λ e. process_by site_names process_names (entry_view e)) es
       → messages ≡ map (places_in_pair (names d)) (transits d) → graph.parts_graph parts messages ≡ tree_graph d
-  graph_is parts messages es site_names process_names read are_names made sent =
+  graph_is parts messages es site_names process_names written are_sites are_names made sent =
       let processes : map graph.process_of parts ≡ map (process_by (sites d) (names d)) (entries d) =
       made
-      ∙ (λ i. map (λ e. process_by (read.are_sites i) (are_names i) (entry_view e)) es)
+      ∙ (λ i. map (λ e. process_by (are_sites i) (are_names i) (entry_view e)) es)
       ∙ map-map (process_by (sites d) (names d)) entry_view es
-      ∙ ap (map (process_by (sites d) (names d))) read.written in
+      ∙ ap (map (process_by (sites d) (names d))) written in
       λ i. record { processes = processes i; in_transit = sent i }
 
   -- the graph of a tree without a fault is refused for want of memory alone

@@ -5,6 +5,7 @@ use Rattle.std.specs.Prelude.{nat_le, is_some, option_map, option_and_then, unwr
 use Rattle.std.specs.Cmp.Lexicographic.{slice_cmp}
 use Rattle.std.specs.List.{list_all}
 use Rattle.std.specs.Ordering.{match_ordering}
+use Rattle.std.specs.Global.{Global}
 use Rattle.std.proofs.lemmas.Bool.{and_parts, false≢true}
 use Rattle.std.proofs.lemmas.Map.Text.{is_eq-slice_cmp}
 use Rattle.std.proofs.lemmas.Slice.Eq.{bytes_eq-Decides}
@@ -14,6 +15,7 @@ use Rattle.json.specs.Lex.{tokens}
 use Rattle.json.specs.Json as json
 use Rattle.json.specs.Find as json_find
 use Rattle.json.specs.Value.{value_view, items_view}
+use Rattle.json.specs.declared.value.Value.{Value}
 use Rattle.serde_json.specs.Data.{Num, negative, float, Data, null, number, array, object, item, Members, no_members, member, put}
 use Rattle.serde_json.specs.Find.{get, get_member, as_str, as_array, as_object, as_number, as_u64}
 use Rattle.serde_json.specs.Read.{read, of_json, of_items, of_members, is_integer, number_from, number_of}
@@ -21,7 +23,7 @@ use Rattle.serde_json.specs.View.{items_of}
 use Rattle.serde_json.proofs.Views.{get_member-put, get_member-put_other}
 use Rattle.cmh_dump.specs.Tree.{keys_of}
 use Rattle.cmh_dump.proofs.Pairs.{drop_next, drop_all}
-use Rattle.cmh_dump.specs.View.{data_of, items_data, members_data, fits, items_fit, members_fit, Tree, view}
+use Rattle.cmh_dump.specs.View.{data_of, items_data, members_data, fits, items_fit, members_fit, view}
 
 -- ---- a tree whose numbers are in range is what the reader makes of its text
 
@@ -169,12 +171,12 @@ natural_at (json.array js) = refl
 natural_at (json.object ms) = refl
 
 -- the data of values as items are the data of those values' items
-items_are_data : (vs : List Tree) → items_of (map view vs) ≡ items_data (items_view vs)
+items_are_data : (vs : List (Value Global)) → items_of (map view vs) ≡ items_data (items_view vs)
 items_are_data [] = refl
 items_are_data (v ∷ vs) = ap (item (view v)) (items_are_data vs)
 
 -- what the reader finds as the array of a tree of JSON is, as data, the array of the tree's data
-pub array_seen : {X : Type 0} (items : X → List Tree) (r : Option X) (j : json.Json)
+pub array_seen : {X : Type 0} (items : X → List (Value Global)) (r : Option X) (j : json.Json)
     → option_map (λ x. items_view (items x)) r ≡ json_find.as_array j
     → option_map (λ x. items_of (map view (items x))) r ≡ as_array (data_of j)
 array_seen {X = X} items r j h = by r ∙ ap (option_map items_data) h ∙ array_at j
@@ -239,11 +241,11 @@ get_is q (json.object ms) = sym (members_get q ms no_members ∙ by (json_find.g
     by (Some x) = refl
 
 -- what the reader finds at a key of a tree of JSON is, as data, the member at that key of its data
-pub member_seen : (r : Option (Bor Tree)) (q : List ℕ) (j : json.Json)
+pub member_seen : (r : Option (Bor (Value Global))) (q : List ℕ) (j : json.Json)
     → option_map (λ v. value_view v.now) r ≡ json_find.get q j → option_map (λ v. view v.now) r ≡ get q (data_of j)
 member_seen r q j h = by r ∙ ap (option_map data_of) h ∙ get_is q j
   where
-    by : (o : Option (Bor Tree)) → option_map (λ v. view v.now) o
+    by : (o : Option (Bor (Value Global))) → option_map (λ v. view v.now) o
         ≡ option_map data_of (option_map (λ v. value_view v.now) o)
     by None = refl
     by (Some v) = refl

@@ -1,7 +1,6 @@
 -- The graph of a tree without a fault is well formed.
-use Rattle.cmh_graph.specs.Graph.{Graph}
-use Rattle.std.proofs.Common.{◌≡◌, ◌≢◌, ℕ, zero, suc, ◌<◌, ◌≤◌, List, [], ◌∷◌, true, false, ◌&&◌, ◌⊎◌, inl, inr, map, take, length, get_or, sum, None, refl, sym, ap, ◌∙◌, subst, arith}
-use Rattle.std.specs.Prelude.{nat_lt, ◌==◌, not, sum_by, Ok}
+use Rattle.std.proofs.Common.{◌≡◌, ◌≢◌, ℕ, zero, suc, ◌<◌, ◌≤◌, List, [], ◌∷◌, true, false, ◌&&◌, ◌⊎◌, inl, inr, map, take, length, get_or, sum, None, Ok, refl, sym, ap, ◌∙◌, subst, arith}
+use Rattle.std.specs.Prelude.{nat_lt, ◌==◌, not, sum_by}
 use Rattle.std.specs.List.{list_all}
 use Rattle.std.proofs.lemmas.Bool.{false_from_ne_true, ltb-false, not-false, and_parts, eqb-true, cases_lt}
 use Rattle.std.proofs.lemmas.List.{length-map, get_or-map, get_or-take, length-take-le}
@@ -22,7 +21,7 @@ use Rattle.cmh_dump.specs.Name.{is_among, place_of}
 use Rattle.cmh_dump.specs.Tree.{text_of, texts_of, elements_of}
 use Rattle.cmh_dump.specs.Entry.{sites, processes, transits, Entry, entry_of, entries, entry, names, is_pair}
 use Rattle.cmh_dump.specs.Dump.{holds, in_order, first_of, process_by, places_in_pair, tree_graph, dump}
-use Rattle.cmh_dump.specs.FirstFault.{IsOfTree, HasTreeFault, AreNone, HasDependent}
+use Rattle.cmh_dump.specs.FirstFault.{IsOfTree, HasTreeFault}
 use Rattle.cmh_dump.proofs.Places.{place_within, same_from_places, differs}
 use Rattle.cmh_dump.proofs.Table.{none_holds}
 use Rattle.cmh_dump.proofs.FirstFaults.{bytes_have, graph_told}
@@ -61,7 +60,8 @@ dependents_are d i = dependents_by d (processes d) i
 
 -- an entry of a dependent set is the place of the dependent that the tree names
 entry_is : (d : Data) (i j : ℕ) → graph.HasDependentAt (tree_graph d) i j
-    → HasDependent d i j × (graph.dependent_at (tree_graph d) i j ≡ place_of (names d) (dependent d i j))
+    → ((i < length (processes d)) × (j < length (entry d i).dependents))
+    × (graph.dependent_at (tree_graph d) i j ≡ place_of (names d) (dependent d i j))
 entry_is d i j h =
     let ds = (entry d i).dependents in
     let l : length (graph.dependents_of (tree_graph d) i) ≡ length ds =
@@ -72,7 +72,8 @@ entry_is d i j h =
     )
 
 -- in a clean tree each dependent is a name of the tree
-known : (d : Data) → IsClean d → (i j : ℕ) → HasDependent d i j → is_among (names d) (dependent d i j) ≡ true
+known : (d : Data) → IsClean d → (i j : ℕ) → (i < length (processes d)) × (j < length (entry d i).dependents)
+    → is_among (names d) (dependent d i j) ≡ true
 known d clean i j h = not-false (is_among (names d) (dependent d i j)) (clean (UnknownDependent i j) h)
 
 -- in the graph of a clean tree each dependent is a process
@@ -212,11 +213,11 @@ refused_for_memory g w e (inl m) = m
 refused_for_memory g w e (inr f) = absurd ((graph_law g).0 w e f.had)
 
 -- a tree that has no fault is clean
-clean : (d : Data) → AreNone (HasTreeFault d) → IsClean d
+clean : (d : Data) → ((fault : DumpFault) → ¬ (HasTreeFault d fault)) → IsClean d
 clean d none fault t = false_from_ne_true (holds d fault) (λ h. none fault (t, h))
 
 -- the graph that bytes mean is well formed
-pub well_formed_law : (bytes : List ℕ) (g : Graph) → dump bytes ≡ Ok g → IsWellFormed g
+pub well_formed_law : (bytes : List ℕ) (g : graph.Graph) → dump bytes ≡ Ok g → IsWellFormed g
 well_formed_law = λ bytes g e.
     let r = graph_told bytes g e in
     let d = r.1.0 in

@@ -1,4 +1,4 @@
--- Which fault of a dump is the first, and what the laws of dumps say.
+-- Which faults a dump has, and their order.
 use Rattle.std.specs.Prelude.{◌≡◌, ℕ, ◌<◌, List, [], ◌∷◌, length, Some, None, IsTrue, ⊤}
 use Rattle.serde_json.specs.Data.{Data}
 use Rattle.cmh_dump.specs.declared.TheConstants.{MAX_BYTES}
@@ -8,10 +8,6 @@ use Rattle.cmh_dump.specs.Entry.{sites, processes, transits, entry}
 use Rattle.cmh_dump.specs.Dump.{holds, tree_of}
 
 -- ---- the faults that a tree has, and those that bytes have
-
--- the tree has a process i with a dependent j
-abbrev pub HasDependent : Data → ℕ → ℕ → Type 0
-HasDependent d i j = (i < length (processes d)) × (j < length (entry d i).dependents)
 
 -- the fault speaks of what stands in the tree; those of reading never do
 abbrev pub IsOfTree : Data → DumpFault → Type 0
@@ -28,8 +24,8 @@ IsOfTree d TooManyProcesses = ⊤
 IsOfTree d (BadProcess i) = i < length (processes d)
 IsOfTree d (RepeatedProcess i) = i < length (processes d)
 IsOfTree d (UnknownSite i) = i < length (processes d)
-IsOfTree d (UnknownDependent i j) = HasDependent d i j
-IsOfTree d (RepeatedDependent i j) = HasDependent d i j
+IsOfTree d (UnknownDependent i j) = (i < length (processes d)) × (j < length (entry d i).dependents)
+IsOfTree d (RepeatedDependent i j) = (i < length (processes d)) × (j < length (entry d i).dependents)
 IsOfTree d (ActiveWithDependents i) = i < length (processes d)
 IsOfTree d TooManyDependencies = ⊤
 IsOfTree d TooManyInTransit = ⊤
@@ -70,9 +66,3 @@ dump_fault_rank TooManyDependencies = 16 ∷ []
 dump_fault_rank TooManyInTransit = 17 ∷ []
 dump_fault_rank (BadInTransit i) = 18 ∷ i ∷ []
 dump_fault_rank (UnknownInTransit i) = 19 ∷ i ∷ []
-
--- no fault is one of these
-abbrev pub AreNone : (DumpFault → Type 0) → Type 0
-AreNone These = (fault : DumpFault) → These fault → ⊥
-
--- ---- the laws

@@ -7,10 +7,11 @@ use Rattle.cmh_graph.specs.Build as graph
 use Rattle.cmh_graph.specs.declared.part.Part.{Part}
 use Rattle.cmh_dump.specs.declared.entry.Entry as declared
 use Rattle.cmh_dump.specs.declared.fault.DumpFault.{DumpFault}
-use Rattle.cmh_dump.specs.declared.fault.DumpFault.TheVariants.{Memory, BadTop, BadVersion, BadSites, RepeatedSite, TooManySites, TooManyProcesses, BadProcess, RepeatedProcess, UnknownSite, UnknownDependent, RepeatedDependent, ActiveWithDependents, TooManyDependencies, TooManyInTransit, BadInTransit, UnknownInTransit}
+use Rattle.cmh_dump.specs.declared.fault.DumpFault.TheVariants.{Memory, UnknownSite, UnknownDependent, RepeatedDependent, ActiveWithDependents, TooManyDependencies, TooManyInTransit, BadInTransit, UnknownInTransit}
 use Rattle.cmh_dump.specs.Dump.{holds, first_of, tree_graph, each, each_dependent}
-use Rattle.cmh_dump.specs.Entry.{Entry, sites, processes, transits, entries}
-use Rattle.cmh_dump.specs.Texts.{value_text}
+use Rattle.cmh_dump.specs.Entry.{Entry, processes, transits}
+use Rattle.cmh_dump.specs.Tree.{text_of}
+use Rattle.cmh_dump.specs.View.{view}
 
 -- a process as it is written, without where it lies in memory
 abbrev pub entry_view : declared.Entry → Entry
@@ -18,7 +19,7 @@ entry_view e = record {
   name = e.name.now;
   site = e.site.now;
   state = e.state;
-  dependents = map value_text e.dependents.now;
+  dependents = map (λ v. text_of (view v)) e.dependents.now;
 }
 
 -- the first row at which the search answers, and its answer, where the rows are counted from i
@@ -34,22 +35,6 @@ first_pair search i (y ∷ ys) =
 abbrev pub Judges : {T : Type 0} → Data → List (List DumpFault) → Result T DumpFault → Type 0
 Judges d kinds (Ok x) = first_of (holds d) kinds ≡ None
 Judges d kinds (Err e) = e ≢ Memory → first_of (holds d) kinds ≡ Some e
-
--- what is wrong at the top
-abbrev pub top_faults : Data → List (List DumpFault)
-top_faults d = (BadTop ∷ []) ∷ (BadVersion ∷ []) ∷ []
-
--- what is wrong with the sites
-abbrev pub site_faults : Data → List (List DumpFault)
-site_faults d = each (sites d) BadSites ∷ each (sites d) RepeatedSite ∷ (TooManySites ∷ []) ∷ []
-
--- what is wrong with the processes, each looked at alone
-abbrev pub process_faults : Data → List (List DumpFault)
-process_faults d = (TooManyProcesses ∷ []) ∷ each (processes d) BadProcess ∷ []
-
--- what is wrong with the names of the processes
-abbrev pub name_faults : Data → List (List DumpFault)
-name_faults d = each (processes d) RepeatedProcess ∷ []
 
 -- what is wrong with the processes beside the sites and one another
 abbrev pub entry_faults : Data → List (List DumpFault)
@@ -67,11 +52,6 @@ transit_faults d =
     (TooManyInTransit ∷ []) ∷ each (transits d) BadInTransit ∷ each (transits d) UnknownInTransit ∷ []
 
 -- ---- what the graph is built of
-
--- the processes and the names of the sites are those of the tree
-pub record AreRead (d : Data) (es : List declared.Entry) (site_names : List (List ℕ)) : Type 0 where
-  pub written : map entry_view es ≡ entries d
-  pub are_sites : site_names ≡ sites d
 
 -- None of the kinds holds, and the parts and messages in transit make the graph of the tree; or the
 -- fault answered is the first that holds, want of memory apart.

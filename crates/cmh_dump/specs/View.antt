@@ -44,10 +44,6 @@ abbrev mutual
   members_fit json.no_members = true
   members_fit (json.member k j ms) = fits j && members_fit ms
 
--- a tree as it lies in memory
-abbrev pub Tree : Type 0
-Tree = Value Global
-
 -- the data that a tree in memory stands for
-abbrev pub view : Tree → Data
+abbrev pub view : Value Global → Data
 view v = data_of (value_view v)

@@ -1,9 +1,9 @@
 //! From the bytes of a dump to its graph, or to the first fault that refuses it.
 
-ghost use Rattle.std.specs.Prelude.{◌≡◌, ◌≢◌, ◌<◌, ◌^◌, ◌++◌, length, Ok, Err, IfOk, IfErr};
-ghost use Rattle.cmh_dump.specs.Dump.{in_order, dump, dump_of_tree};
-ghost use Rattle.cmh_dump.specs.Entry.{names as names_lem};
-ghost use Rattle.cmh_dump.specs.Read.{AreRead, Builds, name_faults, entry_faults, transit_faults};
+ghost use Rattle.std.specs.Prelude.{◌≡◌, ◌≢◌, ◌<◌, ◌^◌, ◌∷◌, ◌++◌, length, map, Ok, Err, IfOk, IfErr};
+ghost use Rattle.cmh_dump.specs.Dump.{each, in_order, dump, dump_of_tree};
+ghost use Rattle.cmh_dump.specs.Entry.{sites as sites_lem, processes, entries as entries_lem, names as names_lem};
+ghost use Rattle.cmh_dump.specs.Read.{Builds, entry_faults, entry_view, transit_faults};
 ghost use Rattle.cmh_dump.specs.Texts.{texts};
 ghost use Rattle.cmh_dump.specs.View.{view};
 
@@ -30,7 +30,8 @@ fn read_linked(
 ) -> Result<GraphParts, DumpFault>
     requires few_sites { length (texts sites.now.keys) < 2 ^ 32 }
     requires few_names { length (texts names.now.keys) < 2 ^ 32 }
-    ensures { AreRead (view tree.now) entries.now (texts sites.now.keys)
+    ensures { map entry_view entries.now ≡ entries_lem (view tree.now)
+        → texts sites.now.keys ≡ sites_lem (view tree.now)
         → texts names.now.keys ≡ names_lem (view tree.now)
         → Builds (view tree.now) (entry_faults (view tree.now)
         ++ transit_faults (view tree.now)) result }
@@ -49,9 +50,10 @@ fn read_named(
 ) -> Result<GraphParts, DumpFault>
     requires few_sites { length (texts sites.now.keys) < 2 ^ 32 }
     requires few_processes { length entries.now < 2 ^ 32 }
-    ensures { AreRead (view tree.now) entries.now (texts sites.now.keys)
-        → Builds (view tree.now) (name_faults (view tree.now)
-        ++ entry_faults (view tree.now) ++ transit_faults (view tree.now)) result }
+    ensures { map entry_view entries.now ≡ entries_lem (view tree.now)
+        → texts sites.now.keys ≡ sites_lem (view tree.now)
+        → Builds (view tree.now) (each (processes (view tree.now)) DumpFault.RepeatedProcess
+        ∷ (entry_faults (view tree.now) ++ transit_faults (view tree.now))) result }
 {
     let names = read_names(alloc, entries)?;
     read_linked(alloc, tree, entries, sites, &names)

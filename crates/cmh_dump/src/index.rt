@@ -1,10 +1,12 @@
 //! An index of names: each name by its place.
 
-ghost use Rattle.std.specs.Prelude.{◌≡◌, ◌<◌, ◌^◌, length, Some, None, if◌then◌else◌};
-ghost use Rattle.cmh_dump.specs.Index.{IndexOrRepeat};
+ghost use Rattle.std.specs.Prelude.{◌≡◌, ◌<◌, ◌^◌, ℕ, length, map, Some, None, IfOk, IfErr, OnOk, if◌then◌else◌};
+ghost use Rattle.cmh_dump.specs.Index.{first_repeat};
 ghost use Rattle.cmh_dump.specs.Name.{is_among, place_of as place_of_lem};
-ghost use Rattle.cmh_dump.specs.Places.{PlacesOrUnknown};
+ghost use Rattle.cmh_dump.specs.Places.{first_unknown};
 ghost use Rattle.cmh_dump.specs.Texts.{texts};
+ghost use Rattle.cmh_dump.specs.Tree.{text_of};
+ghost use Rattle.cmh_dump.specs.View.{view};
 ghost use Rattle.cmh_dump.specs.declared.index.IndexFault.TheVariants.{Memory};
 ghost use Rattle.cmh_dump.specs.declared.index.PlaceFault.TheVariants.{Memory as NoMemory};
 
@@ -58,7 +60,10 @@ pub(crate) fn index_of<'v>(
     alloc: Global,
     names: &[&'v str],
 ) -> Result<IndexSet<&'v str>, IndexFault>
-    ensures { IndexOrRepeat (texts names.now) result }
+    ensures names { IfOk result (λ index. texts index.keys ≡ texts names.now) }
+    ensures distinct { OnOk result (first_repeat (texts names.now) ≡ None) }
+    ensures repeated { IfErr result (λ e. (i : ℕ) → e ≡ IndexFault.Repeated i
+        → first_repeat (texts names.now) ≡ Some i) }
 {
     let mut index = IndexSet::new(alloc);
     for (i, name) in names.iter().enumerate() {
@@ -104,7 +109,11 @@ pub(crate) fn places_of(
     values: &[Value<'_>],
 ) -> Result<Vec<u32>, PlaceFault>
     requires { length (texts index.now.keys) < 2 ^ 32 }
-    ensures { PlacesOrUnknown (texts index.now.keys) values.now result }
+    ensures known { OnOk result (first_unknown (texts index.now.keys) values.now ≡ None) }
+    ensures places { IfOk result (λ places. places.items
+        ≡ map (λ v. place_of_lem (texts index.now.keys) (text_of (view v))) values.now) }
+    ensures unknown { IfErr result (λ e. (j : ℕ) → e ≡ PlaceFault.Unknown j
+        → first_unknown (texts index.now.keys) values.now ≡ Some j) }
 {
     let mut places = Vec::with_capacity(alloc, values.len())?;
     for (j, value) in values.iter().enumerate() {

@@ -1,14 +1,14 @@
 //! The stages in which a tree is judged, each over some kinds of faults.
 
-ghost use Rattle.std.specs.Prelude.{◌≡◌, ◌<◌, ◌≤◌, ◌^◌, ◌&&◌, not, [], map, sum_by, length, position, nat_lt, vec_len, IfOk};
+ghost use Rattle.std.specs.Prelude.{◌≡◌, ◌<◌, ◌≤◌, ◌^◌, ◌&&◌, not, [], ◌∷◌, map, sum_by, length, position, nat_lt, vec_len, IfOk};
 ghost use Rattle.serde_json.specs.Data.{Data};
 ghost use Rattle.cmh_dump.specs.View.{view};
 ghost use Rattle.cmh_graph.specs.Build.{process_of};
 ghost use Rattle.cmh_graph.specs.Graph.{is_idle_state};
-ghost use Rattle.cmh_dump.specs.Dump.{is_top as is_top_lem, process_by, top_keys};
-ghost use Rattle.cmh_dump.specs.Entry.{is_version as is_version_lem, sites as sites_lem, entries as entries_lem, names as names_lem};
+ghost use Rattle.cmh_dump.specs.Dump.{each, is_top as is_top_lem, process_by, top_keys};
+ghost use Rattle.cmh_dump.specs.Entry.{is_version as is_version_lem, sites as sites_lem, processes, entries as entries_lem, names as names_lem};
 ghost use Rattle.cmh_dump.specs.Name.{is_among};
-ghost use Rattle.cmh_dump.specs.Read.{Judges, entry_view, top_faults, site_faults, process_faults, name_faults, entry_faults};
+ghost use Rattle.cmh_dump.specs.Read.{Judges, entry_view, entry_faults};
 ghost use Rattle.cmh_dump.specs.Texts.{texts};
 ghost use Rattle.cmh_dump.specs.Tree.{has_keys as has_keys_lem};
 
@@ -52,7 +52,8 @@ fn is_top(tree: &Value<'_>) -> bool
 
 /// Judges the keys at the top and the version.
 pub(crate) fn judge_top(tree: &Value<'_>) -> Result<(), DumpFault>
-    ensures { Judges (view tree.now) (top_faults (view tree.now)) result }
+    ensures { Judges (view tree.now) ((DumpFault.BadTop ∷ [])
+        ∷ (DumpFault.BadVersion ∷ []) ∷ []) result }
 {
     if !is_top(tree) {
         return Err(DumpFault::BadTop);
@@ -68,7 +69,9 @@ pub(crate) fn read_sites<'a>(
     alloc: Global,
     tree: &Value<'a>,
 ) -> Result<IndexSet<&'a str>, DumpFault>
-    ensures judges { Judges (view tree.now) (site_faults (view tree.now)) result }
+    ensures judges { Judges (view tree.now) (each (sites_lem (view tree.now)) DumpFault.BadSites
+        ∷ each (sites_lem (view tree.now)) DumpFault.RepeatedSite
+        ∷ (DumpFault.TooManySites ∷ []) ∷ []) result }
     ensures read { IfOk result (λ index. texts index.keys ≡ sites_lem (view tree.now)) }
     ensures few { IfOk result (λ index. length (texts index.keys) ≤ MAX_SITES) }
 {
@@ -92,7 +95,8 @@ pub(crate) fn read_processes<'v, 'a>(
     alloc: Global,
     tree: &'v Value<'a>,
 ) -> Result<Vec<Entry<'v, 'a>>, DumpFault>
-    ensures judges { Judges (view tree.now) (process_faults (view tree.now)) result }
+    ensures judges { Judges (view tree.now) ((DumpFault.TooManyProcesses ∷ [])
+        ∷ each (processes (view tree.now)) DumpFault.BadProcess ∷ []) result }
     ensures read { IfOk result (λ v. map entry_view v.items ≡ entries_lem (view tree.now)) }
     ensures few { IfOk result (λ v. vec_len v ≤ MAX_PROCESSES) }
 {
@@ -112,7 +116,7 @@ pub(crate) fn read_names<'a>(
     entries: &[Entry<'_, 'a>],
 ) -> Result<IndexSet<&'a str>, DumpFault>
     ensures judges { (d : Data) → map entry_view entries.now ≡ entries_lem d
-        → Judges d (name_faults d) result }
+        → Judges d (each (processes d) DumpFault.RepeatedProcess ∷ []) result }
     ensures read { IfOk result (λ index.
         texts index.keys ≡ map (λ e. (entry_view e).name) entries.now) }
 {

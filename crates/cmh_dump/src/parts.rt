@@ -1,7 +1,10 @@
 //! From processes as they are written to the parts of the wait graph: names become indices.
 
-ghost use Rattle.std.specs.Prelude.{◌<◌, ◌^◌, length};
-ghost use Rattle.cmh_dump.specs.Places.{PartOrUnknown, PartsOrUnknown};
+ghost use Rattle.std.specs.Prelude.{◌≡◌, ◌≢◌, ◌<◌, ◌^◌, ℕ, length, map, Some, None, IfOk, IfErr, OnOk};
+ghost use Rattle.cmh_graph.specs.Build.{process_of};
+ghost use Rattle.cmh_dump.specs.Dump.{process_by};
+ghost use Rattle.cmh_dump.specs.Places.{first_unknown, unknown_dependent};
+ghost use Rattle.cmh_dump.specs.Read.{entry_view};
 ghost use Rattle.cmh_dump.specs.Texts.{texts};
 
 use crate::DumpFault;
@@ -20,7 +23,12 @@ fn part_of(
 ) -> Result<Part, PlaceFault>
     requires few_sites { length (texts sites.now.keys) < 2 ^ 32 }
     requires few_names { length (texts names.now.keys) < 2 ^ 32 }
-    ensures { PartOrUnknown (texts sites.now.keys) (texts names.now.keys) entry.now result }
+    ensures known { OnOk result
+        (first_unknown (texts names.now.keys) entry.now.dependents.now ≡ None) }
+    ensures made { IfOk result (λ part. process_of part
+        ≡ process_by (texts sites.now.keys) (texts names.now.keys) (entry_view entry.now)) }
+    ensures unknown { IfErr result (λ e. (j : ℕ) → e ≡ PlaceFault.Unknown j
+        → first_unknown (texts names.now.keys) entry.now.dependents.now ≡ Some j) }
 {
     let dependents = places_of(alloc, names, entry.dependents)?;
     let name = String::from_str(alloc, entry.name)?;
@@ -41,7 +49,13 @@ pub(crate) fn parts_of(
 ) -> Result<Vec<Part>, DumpFault>
     requires few_sites { length (texts sites.now.keys) < 2 ^ 32 }
     requires few_names { length (texts names.now.keys) < 2 ^ 32 }
-    ensures { PartsOrUnknown (texts sites.now.keys) (texts names.now.keys) entries.now result }
+    ensures known { OnOk result (unknown_dependent (texts names.now.keys) entries.now ≡ None) }
+    ensures made { IfOk result (λ parts. map process_of parts.items
+        ≡ map (λ e. process_by (texts sites.now.keys) (texts names.now.keys) (entry_view e))
+        entries.now) }
+    ensures unknown { IfErr result (λ e. e ≢ DumpFault.Memory
+        → (i j : ℕ) × (e ≡ DumpFault.UnknownDependent i j)
+        × (unknown_dependent (texts names.now.keys) entries.now ≡ Some (i, j))) }
 {
     let mut parts = Vec::with_capacity(alloc, entries.len())?;
     for (i, entry) in entries.iter().enumerate() {

@@ -1,8 +1,8 @@
 //! From a source to all its bytes, if they aren't too many for a dump.
 
 ghost use Rattle.std.specs.Io.KnownBytes.{Consumes, IsAtEnd};
-ghost use Rattle.std.specs.Prelude.{◌≡◌, ◌↔◌, ◌≤◌, ◌+◌, ◌++◌, length, vec_len, true, IfOk, OnOk, IsErrOf};
-ghost use Rattle.cmh_dump.specs.Source.{GaveAtMost, IsOfReading};
+ghost use Rattle.std.specs.Prelude.{◌≡◌, ◌⊎◌, ◌↔◌, ◌≤◌, ◌+◌, ◌++◌, length, vec_len, true, IfErr, IfOk, OnOk, IsErrOf};
+ghost use Rattle.cmh_dump.specs.Source.{GaveAtMost};
 
 use crate::{DumpFault, MAX_BYTES};
 use cmh_stream::Source;
@@ -25,7 +25,8 @@ pub fn read_all<S: Source>(alloc: Global, source: &mut S) -> Result<Vec<u8>, Dum
         ↔ ((S.state source.new).has_failed ≡ true) }
     ensures too_long { IsErrOf result DumpFault.TooLong
         → length (S.state source.new).given ≡ length (S.state source.old).given + (MAX_BYTES + 1) }
-    ensures only { IsOfReading result }
+    ensures only { IfErr result (λ e. (e ≡ DumpFault.Memory)
+        ⊎ (e ≡ DumpFault.ReadFault) ⊎ (e ≡ DumpFault.TooLong)) }
 
     ensures taken { GaveAtMost (MAX_BYTES + 1) (S.state source.old) (S.state source.new) }
 

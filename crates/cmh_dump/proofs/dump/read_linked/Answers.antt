@@ -12,27 +12,27 @@ pub returns-in_err-parts : goal.returns-in_err-parts
 returns-in_err-parts c =
     let d = view c.args.tree.now in
     let p = err_from_is_err_and c.from_residual.result c.from_residual.ensures.1 in
-    λ read are_names. rw (p.1, p.2)
+    λ written are_sites are_names. rw (p.1, p.2)
     (refused_here d (entry_faults d) (transit_faults d) _
-    (c.in_err-parts.ensures.judges d read.written read.are_sites are_names))
+    (c.in_err-parts.ensures.judges d written are_sites are_names))
 
 pub returns-in_err-in_transit : goal.returns-in_err-in_transit
 returns-in_err-in_transit c =
     let d = view c.args.tree.now in
     let p = err_from_is_err_and c.from_residual-in_err-in_transit.result c.from_residual-in_err-in_transit.ensures.1 in
-    λ read are_names. rw (p.1, p.2)
+    λ written are_sites are_names. rw (p.1, p.2)
     (refused_later d (entry_faults d) (transit_faults d) _
-    (c.in_ok-parts.ensures.judges d read.written read.are_sites are_names)
+    (c.in_ok-parts.ensures.judges d written are_sites are_names)
     (c.in_err-in_transit.ensures.judges are_names))
 
 pub returns : goal.returns
 returns c =
     let d = view c.args.tree.now in
-    λ read are_names. (
+    λ written are_sites are_names. (
       first_after (holds d) (entry_faults d) (transit_faults d)
-          (c.in_ok-parts.ensures.judges d read.written read.are_sites are_names)
+          (c.in_ok-parts.ensures.judges d written are_sites are_names)
           ∙ c.in_ok-in_transit.ensures.judges are_names,
       graph_is d c.in_ok-parts.parts.items c.in_ok-in_transit.in_transit.items c.args.entries.now
-          (texts c.args.sites.now.keys) (texts c.args.names.now.keys) read are_names c.in_ok-parts.ensures.made
-          (c.in_ok-in_transit.ensures.read are_names),
+          (texts c.args.sites.now.keys) (texts c.args.names.now.keys) written are_sites are_names
+          c.in_ok-parts.ensures.made (c.in_ok-in_transit.ensures.read are_names),
     )

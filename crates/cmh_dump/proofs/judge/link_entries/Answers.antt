@@ -15,7 +15,7 @@ first_repeated_dependent-requires c =
     let found = c.in_ok-parts.ensures in
     (λ i. list_all (λ part. list_all (λ p. nat_lt p (count i)) part.dependents.items) (c.deref.ensures.value i))
     ∙ parts_within (texts c.args.names.now.keys) (texts c.args.sites.now.keys) c.args.entries.now
-    c.in_ok-parts.parts.items found.0 found.1
+    c.in_ok-parts.parts.items found.known found.made
 
 pub returns-in-Some-clause-judges : goal.returns-in-Some-clause-judges
 returns-in-Some-clause-judges c =
@@ -28,14 +28,14 @@ returns-in_err-parts-clause-judges c =
     let p = err_from_is_err_and c.from_residual.result c.from_residual.ensures.1 in
     λ d seen are_sites are_names. rw (p.1, p.2)
     (dependent_told d c.args.entries.now seen (texts c.args.sites.now.keys) (texts c.args.names.now.keys) are_sites
-    are_names _ (sym c.first_unknown_site.ensures ∙ c.in_default.is) c.in_err-parts.ensures)
+    are_names _ (sym c.first_unknown_site.ensures ∙ c.in_default.is) c.in_err-parts.ensures.unknown)
 
 pub returns-in-Some-2-clause-judges : goal.returns-in-Some-2-clause-judges
 returns-in-Some-2-clause-judges c =
     let found = c.in_ok-parts.ensures in
     let alike =
     pairs_alike (texts c.args.names.now.keys) (texts c.args.sites.now.keys) c.args.entries.now c.in_ok-parts.parts.items
-    found.0 found.1 in
+    found.known found.made in
     let repeat =
     sym alike ∙ ap (first_pair (λ part. first_repeated_place part.dependents.items) 0) (sym c.deref.ensures.value)
     ∙ sym c.in_ok-i.ensures ∙ c.in-Some-2.is in
@@ -43,7 +43,7 @@ returns-in-Some-2-clause-judges c =
     (texts c.args.names.now.keys) are_sites are_names
     c.in-Some-2.i c.in-Some-2.j
     (sym c.first_unknown_site.ensures ∙ c.in_default.is)
-    found.0 repeat
+    found.known repeat
 
 pub returns-in-Some-first_active_with_dependents-clause-judges :
     goal.returns-in-Some-first_active_with_dependents-clause-judges
@@ -51,7 +51,7 @@ returns-in-Some-first_active_with_dependents-clause-judges c =
     let found = c.in_ok-parts.ensures in
     let alike =
     pairs_alike (texts c.args.names.now.keys) (texts c.args.sites.now.keys) c.args.entries.now c.in_ok-parts.parts.items
-    found.0 found.1 in
+    found.known found.made in
     let none =
     sym alike ∙ ap (first_pair (λ part. first_repeated_place part.dependents.items) 0) (sym c.deref.ensures.value)
     ∙ sym c.in_ok-i.ensures ∙ c.in_default-2.is in
@@ -59,7 +59,7 @@ returns-in-Some-first_active_with_dependents-clause-judges c =
     (texts c.args.names.now.keys) are_sites are_names
     c.in-Some-first_active_with_dependents.i
     (sym c.first_unknown_site.ensures ∙ c.in_default.is)
-    found.0 none
+    found.known none
     (sym c.first_active_with_dependents.ensures ∙ c.in-Some-first_active_with_dependents.is)
 
 pub returns-then-has_too_many_dependents-clause-judges : goal.returns-then-has_too_many_dependents-clause-judges
@@ -67,14 +67,14 @@ returns-then-has_too_many_dependents-clause-judges c =
     let found = c.in_ok-parts.ensures in
     let alike =
     pairs_alike (texts c.args.names.now.keys) (texts c.args.sites.now.keys) c.args.entries.now c.in_ok-parts.parts.items
-    found.0 found.1 in
+    found.known found.made in
     let none =
     sym alike ∙ ap (first_pair (λ part. first_repeated_place part.dependents.items) 0) (sym c.deref.ensures.value)
     ∙ sym c.in_ok-i.ensures ∙ c.in_default-2.is in
     λ d seen are_sites are_names _. dependencies_many d c.args.entries.now seen (texts c.args.sites.now.keys)
     (texts c.args.names.now.keys) are_sites are_names
     (sym c.first_unknown_site.ensures ∙ c.in_default.is)
-    found.0 none
+    found.known none
     (sym c.first_active_with_dependents.ensures ∙ c.in_default-first_active_with_dependents.is)
     (sym c.has_too_many_dependents.ensures ∙ c.if-has_too_many_dependents.true)
 
@@ -83,13 +83,13 @@ returns-clause-judges c =
     let found = c.in_ok-parts.ensures in
     let alike =
     pairs_alike (texts c.args.names.now.keys) (texts c.args.sites.now.keys) c.args.entries.now c.in_ok-parts.parts.items
-    found.0 found.1 in
+    found.known found.made in
     let none =
     sym alike ∙ ap (first_pair (λ part. first_repeated_place part.dependents.items) 0) (sym c.deref.ensures.value)
     ∙ sym c.in_ok-i.ensures ∙ c.in_default-2.is in
     λ d seen are_sites are_names. entries_judged d c.args.entries.now seen (texts c.args.sites.now.keys)
     (texts c.args.names.now.keys) are_sites are_names
     (sym c.first_unknown_site.ensures ∙ c.in_default.is)
-    found.0 none
+    found.known none
     (sym c.first_active_with_dependents.ensures ∙ c.in_default-first_active_with_dependents.is)
     (sym c.has_too_many_dependents.ensures ∙ c.if-has_too_many_dependents.false)

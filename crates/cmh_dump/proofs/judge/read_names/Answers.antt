@@ -1,17 +1,16 @@
 use Rattle.std.proofs.Common.{ap, ◌∙◌}
 use Rattle.cmh_dump.specs.Texts.{texts}
-use Rattle.cmh_dump.proofs.IndexLemmas.{repeat_of}
 use Rattle.cmh_dump.proofs.StageAnswers.{names_seen, name_repeated, names_judged}
 use Rattle.cmh_dump.proofs.judge.read_names.Goals as goal
 
 pub returns-in-Ok-clause-judges : goal.returns-in-Ok-clause-judges
 returns-in-Ok-clause-judges c =
     λ d seen. names_judged d (texts c.deref.result.now)
-    (ap texts c.deref.ensures.value ∙ c.in_ok-names.ensures ∙ names_seen d c.args.entries.now seen) c.in-Ok.ensures.1
+    (ap texts c.deref.ensures.value ∙ c.in_ok-names.ensures ∙ names_seen d c.args.entries.now seen)
+    c.in-Ok.ensures.distinct
 
 pub returns-clause-judges : goal.returns-clause-judges
 returns-clause-judges c =
     λ d seen _. name_repeated d (texts c.deref.result.now) c.in-Err-Repeated.i
     (ap texts c.deref.ensures.value ∙ c.in_ok-names.ensures ∙ names_seen d c.args.entries.now seen)
-    (repeat_of (texts c.deref.result.now) c.in-Err-Repeated.field-0 c.in-Err-Repeated.i c.in-Err-Repeated.field-0-is
-    c.in-Err-Repeated.ensures)
+    (c.in-Err-Repeated.ensures.repeated c.in-Err-Repeated.i c.in-Err-Repeated.field-0-is)

@@ -5,7 +5,7 @@ use Rattle.cmh_dump.specs.declared.TheConstants.{MAX_SITES}
 use Rattle.cmh_dump.specs.Index.{first_repeat}
 use Rattle.cmh_dump.specs.Name.{is_name}
 use Rattle.cmh_dump.specs.Texts.{texts}
-use Rattle.cmh_dump.proofs.IndexLemmas.{repeat_of, length-texts}
+use Rattle.cmh_dump.proofs.IndexLemmas.{length-texts}
 use Rattle.cmh_dump.proofs.StageAnswers.{site_bad, site_repeated, sites_many, sites_judged}
 use Rattle.cmh_dump.proofs.judge.read_sites.Goals as goal
 
@@ -21,9 +21,7 @@ returns-in-Err-Repeated-clause-judges c =
     let none =
     sym (ap (position (λ t. not (is_name t.now))) c.deref.ensures.value) ∙ sym c.first_bad_name.ensures
     ∙ c.in_default.is in
-    let repeat =
-    repeat_of (texts c.deref-2.result.now) c.in-Err-Repeated.field-0 c.in-Err-Repeated.i
-    c.in-Err-Repeated.field-0-is c.in-Err-Repeated.ensures in
+    let repeat = c.in-Err-Repeated.ensures.repeated c.in-Err-Repeated.i c.in-Err-Repeated.field-0-is in
     let same = ap texts c.deref-2.ensures.value in
     λ _. site_repeated (view c.args.tree.now) c.in_ok-sites.sites.items c.in_ok-sites.ensures c.in-Err-Repeated.i none
     (ap first_repeat (sym same) ∙ repeat)
@@ -35,7 +33,7 @@ returns-then-len-gt-MAX_SITES-clause-judges c =
     ∙ c.in_default.is in
     let many : MAX_SITES < length c.in_ok-sites.sites.items = omega arith in
     λ _. sites_many (view c.args.tree.now) c.in_ok-sites.sites.items c.in_ok-sites.ensures none
-    (ap first_repeat (ap texts (sym c.deref-2.ensures.value)) ∙ c.in-Ok.ensures.1) many
+    (ap first_repeat (ap texts (sym c.deref-2.ensures.value)) ∙ c.in-Ok.ensures.distinct) many
 
 pub returns-clause-judges : goal.returns-clause-judges
 returns-clause-judges c =
@@ -44,10 +42,10 @@ returns-clause-judges c =
     ∙ c.in_default.is in
     let few : length c.in_ok-sites.sites.items ≤ MAX_SITES = omega arith in
     sites_judged (view c.args.tree.now) c.in_ok-sites.sites.items c.in_ok-sites.ensures none
-    (ap first_repeat (ap texts (sym c.deref-2.ensures.value)) ∙ c.in-Ok.ensures.1) few
+    (ap first_repeat (ap texts (sym c.deref-2.ensures.value)) ∙ c.in-Ok.ensures.distinct) few
 
 pub returns-clause-few : goal.returns-clause-few
 returns-clause-few c =
     let size =
-    ap length (c.in-Ok.ensures.0 ∙ ap texts c.deref-2.ensures.value) ∙ length-texts c.in_ok-sites.sites.items in
+    ap length (c.in-Ok.ensures.names ∙ ap texts c.deref-2.ensures.value) ∙ length-texts c.in_ok-sites.sites.items in
     omega (arith, size)

@@ -1,6 +1,8 @@
 use Rattle.std.proofs.Common.{◌∙◌}
 use Rattle.cmh_dump.specs.Name.{place_of}
-use Rattle.cmh_dump.specs.Texts.{texts, value_text}
+use Rattle.cmh_dump.specs.Texts.{texts}
+use Rattle.cmh_dump.specs.Tree.{text_of}
+use Rattle.cmh_dump.specs.View.{view}
 use Rattle.cmh_dump.proofs.Trees.{map-map}
 use Rattle.cmh_dump.proofs.parts.part_of.Goals as goal
 
@@ -8,12 +10,16 @@ pub returns : goal.returns
 returns c =
     let found = c.in_ok-dependents.ensures in
     let places =
-    found.1 ∙ map-map (place_of (texts c.args.names.now.keys)) value_text c.args.entry.now.dependents.now in (
-      found.0,
-      λ i. record {
-        name = c.in_ok-name.ensures.ok i;
-        site = c.place_of.ensures i;
-        state = c.args.entry.now.state;
-        dependents = places i;
-      },
-    )
+    found.places
+    ∙ map-map (place_of (texts c.args.names.now.keys)) (λ v. text_of (view v)) c.args.entry.now.dependents.now in
+    record {
+      known = found.known;
+      made =
+          λ i. record {
+            name = c.in_ok-name.ensures.ok i;
+            site = c.place_of.ensures i;
+            state = c.args.entry.now.state;
+            dependents = places i;
+          };
+      unknown = tt;
+    }
