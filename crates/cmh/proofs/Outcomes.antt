@@ -1,7 +1,7 @@
 -- What each fault and each answer says of the table of statuses.
 use Rattle.std.proofs.Common.{◌≡◌, ◌≢◌, ◌⊎◌, inl, inr, ℕ, ◌<◌, ◌≤◌, ◌++◌, List, [], length, true, take, refl, sym, subst, arith, Bor}
 use Rattle.std.proofs.lemmas.Bool.{cases_order}
-use Rattle.std.specs.Prelude.{IsFalse, String, string_bytes}
+use Rattle.std.specs.Prelude.{IsFalse, MatchOption, String, string_bytes}
 use Rattle.std.specs.Global.{Global}
 use Rattle.cmh_graph.specs.Graph.{Graph, is_idle}
 use Rattle.cmh_dump.specs.declared.fault.DumpFault.{DumpFault}
@@ -21,7 +21,7 @@ use Rattle.cmh_report.specs.Ends.{GaveGraph, IsCutShort, IsRefused}
 use Rattle.cmh_report.specs.Fault.{IfDump, IfNoSuchProcess, IfRun, IfUnwritten, IfWriteFault}
 use Rattle.cmh_report.specs.Trace.{HasNoRun, IsEndedTrace, IsFirstNamed, IsSomeTrace, NobodyIsNamed}
 use Rattle.cmh_command.specs.List.{IsFirstListFault, IsListOf}
-use Rattle.cmh.specs.Status.{status_of, status_of_dump, status_of_run, status_of_list, status_of_plan, AreBadPlanWords, Ends, FitsTrace, HasAnswered, HasCuts, HasDeadlock, HasFailed, HasRefusedDump, IsCutsStatus, IsDone, IsListStatus, IsMisused, IsOutcome, IsOutcomeOf, IsPlanStatus, IsUnread, IsUnwritten, NobodyIdleIsNamed}
+use Rattle.cmh.specs.Status.{status_of, status_of_list, status_of_plan, AreBadPlanWords, Ends, FitsTrace, HasAnswered, HasCuts, HasDeadlock, HasFailed, HasRefusedDump, IsBadList, IsDone, IsMisused, IsOutcome, IsUnread, IsUnwritten}
 use Rattle.cmh_command.specs.Words.{IsRequest}
 use Rattle.cmh_command.specs.declared.list.ListFault.{ListFault}
 use Rattle.cmh_command.specs.declared.list.ListFault.TheVariants as list
@@ -73,7 +73,7 @@ has_failed r e h = record {
 }
 
 -- a fault of the dump is its own, or one of memory or of the source
-dump_status : (f : DumpFault) → (status_of_dump f ≡ REFUSED) ⊎ (status_of_dump f ≡ FAILED)
+dump_status : (f : DumpFault) → (status_of (Dump f) ≡ REFUSED) ⊎ (status_of (Dump f) ≡ FAILED)
 dump_status dump.Memory = inr refl
 dump_status dump.ReadFault = inr refl
 dump_status dump.TooLong = inl refl
@@ -96,9 +96,9 @@ dump_status (dump.BadInTransit i) = inl refl
 dump_status (dump.UnknownInTransit i) = inl refl
 
 -- where the dump is refused, the status says whether by a fault of its own
-refused_dump : (r : Request) (e : Ends) (f : DumpFault) → (status_of_dump f ≡ REFUSED → HasRefusedDump r e)
-    → HasFailed r e → IsOutcome r (status_of_dump f) e
-refused_dump r e f own failed = by_status (status_of_dump f) (dump_status f) own
+refused_dump : (r : Request) (e : Ends) (f : DumpFault) → (status_of (Dump f) ≡ REFUSED → HasRefusedDump r e)
+    → HasFailed r e → IsOutcome r (status_of (Dump f)) e
+refused_dump r e f own failed = by_status (status_of (Dump f)) (dump_status f) own
   where
     by_status : (s : ℕ) → (s ≡ REFUSED) ⊎ (s ≡ FAILED) → (s ≡ REFUSED → HasRefusedDump r e) → IsOutcome r s e
     by_status s (inl is) own = record {
@@ -122,7 +122,7 @@ refused_dump r e f own failed = by_status (status_of_dump f) (dump_status f) own
 
 -- a list is refused for want of memory, or for its own fault
 pub list_status : (text : List ℕ) (f : ListFault) → (f ≡ list.Memory) ⊎ IsFirstListFault text f
-    → IsListStatus text (status_of_list f)
+    → (status_of_list f ≡ FAILED) ⊎ ((status_of_list f ≡ MISUSED) × IsBadList text)
 list_status text list.Memory h = inl refl
 list_status text (list.BadNumber i) (inl h) = cc
 list_status text (list.BadNumber i) (inr h) = inr (refl, (list.BadNumber i, h))
@@ -130,12 +130,15 @@ list_status text list.TooManyNumbers (inl h) = cc
 list_status text list.TooManyNumbers (inr h) = inr (refl, (list.TooManyNumbers, h))
 
 -- the status of refused cuts is one of the plan
-pub cuts_first : (w : PlanWords) (s : ℕ) → IsCutsStatus w.cuts s → IsPlanStatus w s
+pub cuts_first : (w : PlanWords) (s : ℕ)
+    → (s ≡ FAILED) ⊎ ((s ≡ MISUSED) × MatchOption w.cuts ⊥ (λ text. IsBadList text.now))
+    → (s ≡ FAILED) ⊎ ((s ≡ MISUSED) × AreBadPlanWords w)
 cuts_first w s (inl h) = inl h
 cuts_first w s (inr h) = inr (h.0, inl h.1)
 
 -- the status of refused choices is one of the plan
-pub choices_next : (w : PlanWords) (s : ℕ) → IsListStatus w.choices.now s → IsPlanStatus w s
+pub choices_next : (w : PlanWords) (s : ℕ) → (s ≡ FAILED) ⊎ ((s ≡ MISUSED) × IsBadList w.choices.now)
+    → (s ≡ FAILED) ⊎ ((s ≡ MISUSED) × AreBadPlanWords w)
 choices_next w s (inl h) = inl h
 choices_next w s (inr h) = inr (h.0, inr (inl h.1))
 
@@ -143,25 +146,16 @@ choices_next w s (inr h) = inr (h.0, inr (inl h.1))
 pub plan_status : (w : PlanWords) (cuts choices : List ℕ) (f : PlanFault) → HasCuts w.cuts cuts
     → IsListOf w.choices.now choices
     → (f ≡ plan.Memory) ⊎ IsFirstPlanFault record { workers = w.workers; cuts = cuts; choices = choices } f
-    → IsPlanStatus w (status_of_plan f)
+    → (status_of_plan f ≡ FAILED) ⊎ ((status_of_plan f ≡ MISUSED) × AreBadPlanWords w)
 plan_status w cuts choices f listed next h = by_fault f h
   where
     bad : (f : PlanFault) → IsFirstPlanFault record { workers = w.workers; cuts = cuts; choices = choices } f
         → AreBadPlanWords w
-    bad f first =
-        inr (inr
-        (record {
-          cuts = cuts;
-          choices = choices;
-          cuts_listed = listed;
-          choices_listed = next;
-          fault = f;
-          first = first;
-        }))
+    bad f first = inr (inr (cuts, choices, listed, next, (f, first)))
 
     by_fault : (f : PlanFault)
         → (f ≡ plan.Memory) ⊎ IsFirstPlanFault record { workers = w.workers; cuts = cuts; choices = choices } f
-        → IsPlanStatus w (status_of_plan f)
+        → (status_of_plan f ≡ FAILED) ⊎ ((status_of_plan f ≡ MISUSED) × AreBadPlanWords w)
     by_fault plan.Memory h = inl refl
     by_fault plan.BadWorkers (inl h) = cc
     by_fault plan.BadWorkers (inr h) = inr (refl, bad plan.BadWorkers h)
@@ -173,8 +167,8 @@ plan_status w cuts choices f listed next h = by_fault f h
 -- ---- an analysis
 
 -- where the plan is refused before anything is read, the outcome has the status of that refusal
-pub misplanned : (w : PlanWords) (s : ℕ) (e : Ends) → IsPlanStatus w s → IsUnread e → IsUnwritten e
-    → IsOutcome (Analyse w) s e
+pub misplanned : (w : PlanWords) (s : ℕ) (e : Ends) → (s ≡ FAILED) ⊎ ((s ≡ MISUSED) × AreBadPlanWords w)
+    → IsUnread e → IsUnwritten e → IsOutcome (Analyse w) s e
 misplanned w s e (inl h) unread unwritten =
     subst (λ (n : ℕ). IsOutcome (Analyse w) n e) (sym h) (has_failed (Analyse w) e (inl unwritten))
 misplanned w s e (inr h) unread unwritten =
@@ -207,7 +201,8 @@ analysis_failed w e (WriteFault n) refused nobody no_run unwritten cut stopped =
 -- ---- a trace
 
 -- where the list of choices is refused before anything is read, the outcome has the status of that refusal
-pub mislisted : (name list : Bor (List ℕ)) (s : ℕ) (e : Ends) → IsListStatus list.now s → IsUnread e → IsUnwritten e
+pub mislisted : (name list : Bor (List ℕ)) (s : ℕ) (e : Ends)
+    → (s ≡ FAILED) ⊎ ((s ≡ MISUSED) × IsBadList list.now) → IsUnread e → IsUnwritten e
     → IsOutcome (Trace name list) s e
 mislisted name list s e (inl h) unread unwritten =
     subst (λ (n : ℕ). IsOutcome (Trace name list) n e) (sym h) (has_failed (Trace name list) e (inl unwritten))
@@ -234,7 +229,8 @@ traced name list choices ending e listed h = is_done (Trace name list) e (record
 })
 
 -- where nobody has the name, nobody idle has it
-nobody_named : (name : List ℕ) (g : Graph) → NobodyIsNamed g name → NobodyIdleIsNamed name g
+nobody_named : (name : List ℕ) (g : Graph) → NobodyIsNamed g name → (p : ℕ) → IsFirstNamed g name p
+    → IsFalse (is_idle g p)
 nobody_named name g none p h = absurd (none p h.within h.named)
 
 -- at most one process is the first of a name
@@ -255,11 +251,11 @@ no_restarts = record {
 
 -- where a named process has no run by few choices, memory is wanting or nobody idle has the name
 not_idle : (name choices : List ℕ) (f : RunFault) (g : Graph) → length choices ≤ MAX_CHOICES → HasNoRun name choices f g
-    → (f ≡ run.Memory) ⊎ NobodyIdleIsNamed name g
+    → (f ≡ run.Memory) ⊎ ((p : ℕ) → IsFirstNamed g name p → IsFalse (is_idle g p))
 not_idle name choices f g few h = by_fault f h.cause
   where
     by_fault : (f : RunFault) → (f ≡ run.Memory) ⊎ IsFirstRunFault g h.initiator choices [] f
-        → (f ≡ run.Memory) ⊎ NobodyIdleIsNamed name g
+        → (f ≡ run.Memory) ⊎ ((p : ℕ) → IsFirstNamed g name p → IsFalse (is_idle g p))
     by_fault f (inl memory) = inl memory
     by_fault run.NotIdle (inr active) =
         inr (λ p first. subst (λ (q : ℕ). IsFalse (is_idle g q))
@@ -290,13 +286,15 @@ trace_failed name list choices e NoSuchProcess listed few refused nobody no_run 
 trace_failed name list choices e (Run f) listed few refused nobody no_run unwritten cut stopped =
     by_run f (not_idle name.now choices f no_run.graph few no_run.holds)
   where
-    misused : NobodyIdleIsNamed name.now no_run.graph → IsOutcome (Trace name list) MISUSED e
+    misused : ((p : ℕ) → IsFirstNamed no_run.graph name.now p → IsFalse (is_idle no_run.graph p))
+        → IsOutcome (Trace name list) MISUSED e
     misused none =
         is_misused (Trace name list) e
         (unwritten, inr (record { graph = no_run.graph; dump = no_run.dump; holds = none }))
 
-    by_run : (f : RunFault) → (f ≡ run.Memory) ⊎ NobodyIdleIsNamed name.now no_run.graph
-        → IsOutcome (Trace name list) (status_of_run f) e
+    by_run : (f : RunFault)
+        → (f ≡ run.Memory) ⊎ ((p : ℕ) → IsFirstNamed no_run.graph name.now p → IsFalse (is_idle no_run.graph p))
+        → IsOutcome (Trace name list) (status_of (Run f)) e
     by_run run.Memory h = has_failed (Trace name list) e (inl unwritten)
     by_run run.NotIdle (inl memory) = cc
     by_run run.NotIdle (inr none) = misused none
@@ -352,11 +350,14 @@ shown text s e (inr is) unread taken finished front = record {
 
 -- where the request is what the words ask for, its outcome is one of the words
 pub requested : (words : List (List ℕ)) (r : Request) (s : ℕ) (e : Ends) → IsRequest words r → IsOutcome r s e
-    → IsOutcomeOf words s e
+    → ((request : Request) × IsRequest words request × IsOutcome request s e)
+    ⊎ ((s ≡ FAILED) × IsUnread e × IsUnwritten e)
 requested words r s e asked h = inl (r, asked, h)
 
 -- where the words are refused and nothing is touched, the outcome has the status `MISUSED`
 pub refused_words : (words : List (List ℕ)) (text : String Global) (e : Ends) → IsRequest words (Refused text)
-    → IsUnread e → IsUnwritten e → IsOutcomeOf words MISUSED e
+    → IsUnread e → IsUnwritten e
+    → ((request : Request) × IsRequest words request × IsOutcome request MISUSED e)
+    ⊎ ((MISUSED ≡ FAILED) × IsUnread e × IsUnwritten e)
 refused_words words text e asked unread unwritten =
     inl (Refused text, asked, is_misused (Refused text) e (unwritten, unread))

@@ -5,7 +5,6 @@ use Rattle.cmh_graph.specs.Graph.{Graph, is_idle}
 use Rattle.cmh_stream.specs.Device.{SinkState, SourceState}
 use Rattle.cmh_dump.specs.declared.fault.DumpFault.{DumpFault}
 use Rattle.cmh_dump.specs.declared.fault.DumpFault.TheVariants as dump
-use Rattle.cmh_run.specs.declared.fault.RunFault.{RunFault}
 use Rattle.cmh_run.specs.declared.fault.RunFault.TheVariants as run
 use Rattle.cmh_plan.specs.Plan.{IsFirstPlanFault}
 use Rattle.cmh_plan.specs.declared.TheConstants.{MAX_CUTS}
@@ -17,7 +16,6 @@ use Rattle.cmh_report.specs.declared.fault.AppFault.TheVariants.{Dump, Work, NoS
 use Rattle.cmh_report.specs.Ends.{GaveGraph, IsAnswer, IsCutShort, IsRefused}
 use Rattle.cmh_report.specs.Trace.{IsFirstNamed, IsSomeTrace}
 use Rattle.cmh_command.specs.List.{IsFirstListFault, IsListOf}
-use Rattle.cmh_command.specs.Words.{IsRequest}
 use Rattle.cmh_command.specs.declared.list.ListFault.{ListFault}
 use Rattle.cmh_command.specs.declared.list.ListFault.TheVariants as list
 use Rattle.cmh_command.specs.declared.request.PlanWords.{PlanWords}
@@ -27,23 +25,16 @@ use Rattle.cmh.specs.declared.status.TheConstants.{FREE, REFUSED, MISUSED, DEADL
 
 -- ---- the status after a fault
 
--- the status after a fault in reading a dump: want of memory and a failed source are no fault of the dump
-abbrev pub status_of_dump : DumpFault → ℕ
-status_of_dump dump.Memory = FAILED
-status_of_dump dump.ReadFault = FAILED
-status_of_dump fault = REFUSED
-
--- the status after a fault of a run: all but want of memory lie in what was asked
-abbrev pub status_of_run : RunFault → ℕ
-status_of_run run.Memory = FAILED
-status_of_run fault = MISUSED
-
--- the status with which a fault of an analysis or a trace ends the program
+-- The status with which a fault of an analysis or a trace ends the program. Want of memory and a failed
+-- source are no fault of the dump, and the faults of a run lie in what was asked, all but want of memory.
 abbrev pub status_of : AppFault → ℕ
-status_of (Dump fault) = status_of_dump fault
+status_of (Dump dump.Memory) = FAILED
+status_of (Dump dump.ReadFault) = FAILED
+status_of (Dump fault) = REFUSED
 status_of (Work fault) = FAILED
 status_of NoSuchProcess = MISUSED
-status_of (Run fault) = status_of_run fault
+status_of (Run run.Memory) = FAILED
+status_of (Run fault) = MISUSED
 status_of (Report fault) = FAILED
 status_of (WriteFault written) = FAILED
 
@@ -83,16 +74,7 @@ abbrev pub HasStopped : (Graph → List ℕ → Type 0) → Ends → Type 0
 HasStopped Fits e = (e.out_new.has_failed ≡ true) × ((written : ℕ)
     × IsCutShort Fits e.source_old e.source_new e.out_old e.out_new written)
 
--- ---- what is said of the dump, of lists and of plans
-
--- the dump has a fault of its own, whose status is that of a refusal
-abbrev pub IsDumpRefused : Ends → Type 0
-IsDumpRefused e = (fault : DumpFault) × (status_of_dump fault ≡ REFUSED)
-    × IsRefused e.source_old e.source_new fault
-
--- no idle process has that name
-abbrev pub NobodyIdleIsNamed : List ℕ → Graph → Type 0
-NobodyIdleIsNamed name g = (p : ℕ) → IsFirstNamed g name p → IsFalse (is_idle g p)
+-- ---- what is said of lists and of plans
 
 -- a trace of the process of that name, by the choices that the text lists
 abbrev pub FitsTrace : List ℕ → List ℕ → Graph → List ℕ → Type 0
@@ -108,32 +90,14 @@ abbrev pub HasCuts : Option (Bor (List ℕ)) → List ℕ → Type 0
 HasCuts words cuts =
     MatchOption words (cuts ≡ replicate MAX_CUTS 1) (λ text. IsListOf text.now cuts)
 
--- cuts and choices are lists, but there is no such plan
-pub record IsBadPlan (words : PlanWords) : Type 0 where
-  pub cuts : List ℕ
-  pub choices : List ℕ
-  pub cuts_listed : HasCuts words.cuts cuts
-  pub choices_listed : IsListOf words.choices.now choices
-  pub fault : PlanFault
-  pub first : IsFirstPlanFault record { workers = words.workers; cuts = cuts; choices = choices } fault
-
--- the words for a plan have a fault
+-- the words for a plan have a fault: cuts or choices are no list, or they are lists of which there is
+-- no plan
 abbrev pub AreBadPlanWords : PlanWords → Type 0
 AreBadPlanWords words = MatchOption words.cuts ⊥ (λ text. IsBadList text.now)
-    ⊎ IsBadList words.choices.now ⊎ IsBadPlan words
-
--- the status of a refused list, or of one for which there was no memory
-abbrev pub IsListStatus : List ℕ → ℕ → Type 0
-IsListStatus text status = (status ≡ FAILED) ⊎ ((status ≡ MISUSED) × IsBadList text)
-
--- the status of a refused list of cuts that was given, or of cuts for which there was no memory
-abbrev pub IsCutsStatus : Option (Bor (List ℕ)) → ℕ → Type 0
-IsCutsStatus words status = (status ≡ FAILED)
-    ⊎ ((status ≡ MISUSED) × MatchOption words ⊥ (λ text. IsBadList text.now))
-
--- the status of refused words for a plan, or of a plan for which there was no memory
-abbrev pub IsPlanStatus : PlanWords → ℕ → Type 0
-IsPlanStatus words status = (status ≡ FAILED) ⊎ ((status ≡ MISUSED) × AreBadPlanWords words)
+    ⊎ IsBadList words.choices.now
+    ⊎ ((cuts choices : List ℕ) × HasCuts words.cuts cuts × IsListOf words.choices.now choices
+    × ((fault : PlanFault)
+    × IsFirstPlanFault record { workers = words.workers; cuts = cuts; choices = choices } fault))
 
 -- ---- the rows of the table, by what was asked for
 
@@ -145,18 +109,21 @@ IsDone (Show text) e = IsUnread e × (e.out_new.taken ≡ e.out_old.taken ++ str
     × (e.out_new.is_finished ≡ true)
 IsDone (Refused text) e = ⊥
 
--- the dump is refused, and nothing was written
+-- the dump of an analysis or a trace has a fault of its own, whose status is that of a refusal, and
+-- nothing was written
 abbrev pub HasRefusedDump : Request → Ends → Type 0
-HasRefusedDump (Analyse plan) e = IsUnwritten e × IsDumpRefused e
-HasRefusedDump (Trace name choices) e = IsUnwritten e × IsDumpRefused e
-HasRefusedDump request e = ⊥
+HasRefusedDump (Show text) e = ⊥
+HasRefusedDump (Refused text) e = ⊥
+HasRefusedDump request e = IsUnwritten e × ((fault : DumpFault)
+    × (status_of (Dump fault) ≡ REFUSED) × IsRefused e.source_old e.source_new fault)
 
 -- the words, a list or the plan are refused before anything is read, or the name is of no idle
 -- process of the dump; nothing was written
 abbrev pub IsMisused : Request → Ends → Type 0
 IsMisused (Analyse plan) e = IsUnwritten e × IsUnread e × AreBadPlanWords plan
 IsMisused (Trace name choices) e = IsUnwritten e × ((IsUnread e × IsBadList choices.now)
-    ⊎ GaveGraph e.source_old e.source_new (NobodyIdleIsNamed name.now))
+    ⊎ GaveGraph e.source_old e.source_new
+    (λ g. (p : ℕ) → IsFirstNamed g name.now p → IsFalse (is_idle g p)))
 IsMisused (Show text) e = ⊥
 IsMisused (Refused text) e = IsUnwritten e × IsUnread e
 
@@ -182,9 +149,3 @@ pub record IsOutcome (request : Request) (status : ℕ) (e : Ends) : Type 0 wher
   pub deadlocked : status ≡ DEADLOCKED → HasDeadlock request e
   pub failed : status ≡ FAILED → HasFailed request e
   pub known : status ≤ FAILED
-
--- The outcome of what the words ask for. There may be no memory to read them: then nothing else was
--- done.
-abbrev pub IsOutcomeOf : List (List ℕ) → ℕ → Ends → Type 0
-IsOutcomeOf words status e = ((request : Request) × IsRequest words request × IsOutcome request status e)
-    ⊎ ((status ≡ FAILED) × IsUnread e × IsUnwritten e)

@@ -1,8 +1,9 @@
 //! The plan that the words ask for: its lists, read in order.
 
-ghost use Rattle.std.specs.Prelude.{◌≡◌, ◌≤◌, length, IfOk, IfErr, OnOk};
+ghost use Rattle.std.specs.Prelude.{◌≡◌, ◌⊎◌, ◌≤◌, length, IfOk, IfErr, MatchOption, OnOk};
 ghost use Rattle.cmh_command.specs.List.{IsListOf};
-ghost use Rattle.cmh.specs.Status.{HasCuts, IsCutsStatus, IsListStatus, IsPlanStatus};
+ghost use Rattle.cmh.specs.Status.{AreBadPlanWords, HasCuts, IsBadList};
+ghost use Rattle.cmh.specs.declared.status.TheConstants.{FAILED, MISUSED};
 ghost use Rattle.cmh_command.specs.declared.TheConstants.{MAX_NUMBERS};
 
 use crate::tell::{refuse_list, refuse_plan};
@@ -22,7 +23,8 @@ pub(crate) fn read_numbers<E: Sink>(
     ensures listed { IfOk result (λ numbers. IsListOf list.now numbers.items) }
     ensures few { IfOk result (λ numbers. length numbers.items ≤ MAX_NUMBERS) }
     ensures quiet { OnOk result ((E.state err.new).taken ≡ (E.state err.old).taken) }
-    ensures refused { IfErr result (IsListStatus list.now) }
+    ensures refused { IfErr result (λ status. (status ≡ FAILED)
+        ⊎ ((status ≡ MISUSED) × IsBadList list.now)) }
 {
     match read_list(alloc, list) {
         Ok(numbers) => Ok(numbers),
@@ -35,7 +37,8 @@ pub(crate) fn read_numbers<E: Sink>(
 fn read_cuts<E: Sink>(alloc: Global, list: Option<&str>, err: &mut E) -> Result<Vec<u64>, u8>
     ensures cuts { IfOk result (λ cuts. HasCuts list.entry cuts.items) }
     ensures quiet { OnOk result ((E.state err.new).taken ≡ (E.state err.old).taken) }
-    ensures refused { IfErr result (IsCutsStatus list.entry) }
+    ensures refused { IfErr result (λ status. (status ≡ FAILED)
+        ⊎ ((status ≡ MISUSED) × MatchOption list.entry ⊥ (λ text. IsBadList text.now))) }
 {
     if let Some(list) = list {
         return read_numbers(alloc, "cuts", list, err);
@@ -54,7 +57,8 @@ pub(crate) fn read_plan<E: Sink>(alloc: Global, words: &PlanWords, err: &mut E) 
     ensures cuts { IfOk result (λ plan. HasCuts words.now.cuts plan.cuts) }
     ensures choices { IfOk result (λ plan. IsListOf words.now.choices.now plan.choices) }
     ensures quiet { OnOk result ((E.state err.new).taken ≡ (E.state err.old).taken) }
-    ensures refused { IfErr result (IsPlanStatus words.now) }
+    ensures refused { IfErr result (λ status. (status ≡ FAILED)
+        ⊎ ((status ≡ MISUSED) × AreBadPlanWords words.now)) }
 {
     let cuts = read_cuts(alloc, words.cuts, err)?;
     let choices = read_numbers(alloc, "choices", words.choices, err)?;

@@ -1,7 +1,9 @@
 //! The whole program as one call: words and streams in, a status out.
 
 ghost use Rattle.std.specs.Prelude.{◌≡◌, ◌⊎◌, ◌++◌, ℕ, map, take, true};
-ghost use Rattle.cmh.specs.Status.{IsOutcome, IsOutcomeOf};
+ghost use Rattle.cmh.specs.Status.{IsOutcome};
+ghost use Rattle.cmh_command.specs.Words.{IsRequest};
+ghost use Rattle.cmh_command.specs.declared.request.Request.{Request};
 ghost use Rattle.cmh_command.specs.declared.request.Request.TheVariants.{Analyse, Trace};
 ghost use Rattle.cmh.specs.declared.status.TheConstants.{FREE, DEADLOCKED, FAILED};
 
@@ -104,12 +106,15 @@ pub fn serve<R: AllocGlobal + Threads + Wait + Sync, T: AsStr, S: Source, O: Sin
     out: &mut O,
     err: &mut E,
 ) -> u8
-    ensures outcome { IsOutcomeOf (map T.text words.now) result record {
-      source_old = S.state source.old;
-      source_new = S.state source.new;
-      out_old = O.state out.old;
-      out_new = O.state out.new;
-    } }
+    // There may be no memory to read the words: then nothing else was done.
+    ensures outcome { ((request : Request) × IsRequest (map T.text words.now) request
+        × IsOutcome request result record {
+          source_old = S.state source.old;
+          source_new = S.state source.new;
+          out_old = O.state out.old;
+          out_new = O.state out.new;
+        }) ⊎ ((result ≡ FAILED) × ((S.state source.new).given ≡ (S.state source.old).given)
+        × ((O.state out.new).taken ≡ (O.state out.old).taken)) }
     ensures quiet { (result ≡ FREE) ⊎ (result ≡ DEADLOCKED)
         → (E.state err.new).taken ≡ (E.state err.old).taken }
 {
