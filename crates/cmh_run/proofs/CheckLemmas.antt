@@ -1,5 +1,5 @@
 -- What a checker answers, against the run that the deliveries make.
-use Rattle.std.proofs.Common.{◌≡◌, ℕ, ◌<◌, arith, Bool, true, false, not, ◌&&◌, cond, List, [], ◌∷◌, ◌++◌, length, get_or, slice_get, Option, Some, None, is_some, refl, sym, ◌∙◌, ap, subst, ◌⊎◌, inr, ⊎_elim}
+use Rattle.std.proofs.Common.{◌≡◌, ℕ, ◌<◌, arith, Bool, true, false, not, ◌&&◌, cond, List, [], ◌∷◌, ◌++◌, length, get_or, slice_get, Option, Some, None, is_some, refl, sym, ◌∙◌, ap, subst, ◌⊎◌, inr, ⊎_elim, IsTrue}
 use Rattle.std.specs.Prelude.{IfSome, IfNone, IfOk, IfErr, ok_or, ◌↔◌, take}
 use Rattle.std.proofs.lemmas.Bool.{true≢false, cases_Bool}
 use Rattle.cmh_process.specs.declared.message.Message.{Message}
@@ -22,9 +22,9 @@ use Rattle.cmh_run.specs.Legal.{Going, going_after, HintIsFit, any_place, EndsAs
 use Rattle.cmh_run.specs.declared.fault.CheckFault.{CheckFault}
 use Rattle.cmh_run.specs.declared.fault.CheckFault.TheVariants.{NotIdle, NotUndelivered, FalseHint, AfterEnd, NotEnded, Memory}
 use Rattle.cmh_run.specs.Packed.{CanSend, EngagersHaveRoom}
-use Rattle.cmh_run.specs.Check.{LeadTo, HasEnded, IsUndelivered, IsLegalRun, IsAfterEnd, IsStray, IsMisled, IsFirstCheckFault}
+use Rattle.cmh_run.specs.Check.{LeadTo, HasEnded, IsUndelivered, IsLegalRun, IsFlaw, IsFirstCheckFault}
 use Rattle.cmh_run.proofs.Soundness.{runs_are_sound}
-use Rattle.cmh_run.specs.CheckState.{is_waiting, goes_like, UndeliveredState, CheckState, with_bag, Agrees, IsSettled, IsAwaited, IsChecked, IsFlaw}
+use Rattle.cmh_run.specs.CheckState.{is_waiting, goes_like, UndeliveredState, CheckState, with_bag, Agrees, IsSettled, IsChecked}
 use Rattle.cmh_run.proofs.Tokens.{each_at}
 use Rattle.cmh_run.proofs.LiveInvariant.{Fine}
 use Rattle.cmh_run.proofs.Places.{IsIn, in_nothing, none_in}
@@ -77,20 +77,20 @@ module _ (g : Graph) (i : ℕ) (log : List Delivery) (s : Going) (a : CheckState
 
   module _ (settled : IsSettled a) where
     -- an undelivered message is awaited
-    pub awaited : (m : Message) → IsUndelivered s.config m → IsAwaited i a m
+    pub awaited : (m : Message) → IsUndelivered s.config m
+        → (m.initiator ≡ i) × (m.number ≡ 1) × IsTrue (is_waiting a.undelivered m)
     awaited m u =
-        let mine = each_at (Own i) s.config.bag u.0 m here.own u.1 in
-        record {
-          mine = mine.mine;
-          first = mine.first;
-          waits = ⊎_elim (λ (q : is_waiting a.undelivered m ≡ true). q)
+        let mine = each_at (Own i) s.config.bag u.0 m here.own u.1 in (
+          mine.mine,
+          mine.first,
+          ⊎_elim (λ (q : is_waiting a.undelivered m ≡ true). q)
               (λ (n : IsUndelivered a.network m). absurd
-              (in_nothing m (subst (λ (bag : List Message). IsIn bag m) settled n))) (h.pending m u);
-        }
+              (in_nothing m (subst (λ (bag : List Message). IsIn bag m) settled n))) (h.pending m u),
+        )
 
     -- where nothing is awaited, the run is at rest unless it was ended
     pub rests : a.network.ended ≡ None → ((m : Message) → is_waiting a.undelivered m ≡ false) → EndsAs s.config AtRest
-    rests e none = (sym same_ended ∙ e, none_in s.config.bag (λ m u. true≢false (sym (awaited m u).waits ∙ none m)))
+    rests e none = (sym same_ended ∙ e, none_in s.config.bag (λ m u. true≢false (sym (awaited m u).2 ∙ none m)))
 
     -- where some message is waiting and nothing has ended the network, the run hasn't ended
     pub goes_on : a.network.ended ≡ None → (((m : Message) → is_waiting a.undelivered m ≡ false) → ⊥)
@@ -140,10 +140,11 @@ where_none None P e h = h
 where_none (Some x) P e h = absurd (true≢false (sym e))
 
 module _ (g : Graph) (i : ℕ) (log : List Delivery) (s : Going) (a : CheckState) (d : Delivery) (h : Agrees g i log s a)
-    (settled : IsSettled a) (going : ¬ (HasEnded s.config)) (aw : IsAwaited i a d.message) where
+    (settled : IsSettled a) (going : ¬ (HasEnded s.config))
+    (aw : (d.message.initiator ≡ i) × (d.message.number ≡ 1) × IsTrue (is_waiting a.undelivered d.message)) where
   -- the message of the delivery is undelivered
   pub is_there : IsUndelivered s.config d.message
-  is_there = h.waiting d.message aw.mine aw.first aw.waits
+  is_there = h.waiting d.message aw.0 aw.1 aw.2
 
   -- an awaited message of a run that hasn't ended goes to a process of the graph
   pub delivery_within : d.message.to < process_count g
@@ -153,7 +154,7 @@ module _ (g : Graph) (i : ℕ) (log : List Delivery) (s : Going) (a : CheckState
   pub delivery_sender : CanSend i d.message.number d.message.to
   delivery_sender = record {
     initiator = omega (arith, h.graph.processes, idle_within g i h.idle);
-    number = omega (arith, aw.first);
+    number = omega (arith, aw.1);
     from = omega (arith, h.graph.processes, delivery_within);
   }
 
@@ -209,27 +210,11 @@ pub flaw_is_fault : (g : Graph) (i : ℕ) (log : List Delivery) (t : ℕ) (d : D
     → is_idle g i ≡ true → slice_get log t ≡ Some d → LeadTo g i (take t log) s
     → IsFlaw g s.config t d e → IsFirstCheckFault g i log e
 flaw_is_fault g i log t d s (AfterEnd n) idle there leads f =
-    subst (λ (k : ℕ). IsAfterEnd g i log k) (sym f.0)
-    (record { delivery = d; state = s; comes = record { idle = idle; there = there; before = leads }; ended = f.1 })
+    (t, d, s, record { idle = idle; there = there; before = leads }, f)
 flaw_is_fault g i log t d s (NotUndelivered n) idle there leads f =
-    subst (λ (k : ℕ). IsStray g i log k) (sym f.0)
-    (record {
-      delivery = d;
-      state = s;
-      comes = record { idle = idle; there = there; before = leads };
-      going = f.1;
-      stray = f.2;
-    })
+    (t, d, s, record { idle = idle; there = there; before = leads }, f)
 flaw_is_fault g i log t d s (FalseHint n) idle there leads f =
-    subst (λ (k : ℕ). IsMisled g i log k) (sym f.0)
-    (record {
-      delivery = d;
-      state = s;
-      comes = record { idle = idle; there = there; before = leads };
-      going = f.1;
-      there = f.2;
-      misled = f.3;
-    })
+    (t, d, s, record { idle = idle; there = there; before = leads }, f)
 flaw_is_fault g i log t d s NotIdle idle there leads f = absurd f
 flaw_is_fault g i log t d s NotEnded idle there leads f = absurd f
 flaw_is_fault g i log t d s Memory idle there leads f = absurd f
@@ -282,10 +267,5 @@ module _ (g : Graph) (i : ℕ) (log : List Delivery) (a : CheckState) (checked :
   pub answer_cut : (o : Option Ending) → IsNoAnswer o
       → IfErr (ok_or o NotEnded) (λ e. (e ≡ Memory) ⊎ IsFirstCheckFault g i log e)
   answer_cut None f =
-      inr (record {
-        idle = checked.1.idle;
-        state = checked.0;
-        leads = checked.1.leads;
-        going = f g i log checked.0 checked.1 checked.2;
-      })
+      inr (checked.1.idle, checked.0, checked.1.leads, f g i log checked.0 checked.1 checked.2)
   answer_cut (Some e) f = tt

@@ -1,5 +1,5 @@
 -- The last computation of a run, taken alone, begins a run.
-use Rattle.std.specs.Prelude.{IsTrue}
+use Rattle.std.specs.Prelude.{IsTrue, ◌≢◌}
 use Rattle.std.proofs.Common.{◌≡◌, ℕ, zero, suc, ◌+◌, ◌<◌, ◌≤◌, Bool, true, false, ◌&&◌, cond, eqb, ltb, List, [], ◌∷◌, ◌++◌, length, slice_get, Option, Some, None, is_none, refl, sym, ◌∙◌, ap, subst, arith, ◌⊎◌, inl, inr}
 use Rattle.std.proofs.lemmas.Option.{none-some}
 use Rattle.std.proofs.lemmas.Bool.{eqb-true, eq-eqb, ne_eqb, cases_eq, and_parts}
@@ -13,7 +13,7 @@ use Rattle.cmh_run.specs.declared.delivery.Ending.{Ending}
 use Rattle.cmh_run.specs.declared.delivery.Ending.TheVariants.{Declared, AtRest, CutFree}
 use Rattle.cmh_run.specs.Config.{Config, proc_at, nothing_yet, start, after_delivery}
 use Rattle.cmh_run.specs.Legal.{Going, going_from, after_restart, after_first_restart, after_due_restart, going_after, Rule, MayCome, any_place, DeliveriesLead, EndsAs, IsRun}
-use Rattle.cmh_run.specs.Last.{renumber, computation_log, IsUncut, LastIsRun}
+use Rattle.cmh_run.specs.Last.{renumber, computation_log, LastIsRun}
 use Rattle.cmh_run.proofs.Tokens.{each_at, each_more}
 use Rattle.cmh_run.proofs.LiveInvariant.{Live, Fine}
 use Rattle.cmh_run.proofs.Soundness.{number_kept}
@@ -330,22 +330,22 @@ module _ (rule : Rule) (g : Graph) (i : ℕ) (ok : IsWithinGraph g) (within : i 
       → DeliveriesLead rule g i (going_from (start g i (nothing_yet g)) restarts) log end → EndsAs end.config ending
       → LastIsRun g i log ending end
   last_is_run restarts log ending end l e = record {
-    begins = record {
-      rest = on.rest;
-      ending = on.ending;
-      end = on.end;
-      legal = record {
+    begins = (
+      on.rest,
+      on.ending,
+      on.end,
+      record {
         leads = rw rests
             (joined g i (computation_log end.config.number log) on.rest
             (start g i (nothing_yet g)) a.at 0 a.done on.end a.leads on.leads);
         ends = on.ends;
-      };
-    };
-    whole = λ uncut. record {
-      end = plain a.at a.done;
-      legal = record { leads = rw rests a.leads; ends = same_ending ending uncut e };
-      engaged = ap (λ (c : Config). c.engaged) here.2;
-    };
+      },
+    );
+    whole = λ uncut. (
+      plain a.at a.done,
+      record { leads = rw rests a.leads; ends = same_ending ending uncut e },
+      ap (λ (c : Config). c.engaged) here.2,
+    );
   }
     where
       a : Alone end.config.number log (start g i (nothing_yet g)) 0 end
@@ -361,10 +361,10 @@ module _ (rule : Rule) (g : Graph) (i : ℕ) (ok : IsWithinGraph g) (within : i 
       here : (o : Option Ending) × SameEnd end.config.ended o × (a.at ≡ shadow end.config.number end.config o)
       here = a.shadows.newest refl
 
-      same_ending : (last : Ending) → IsUncut last → EndsAs end.config last → EndsAs a.at last
+      same_ending : (last : Ending) → ((k : ℕ) → last ≢ CutFree k) → EndsAs end.config last → EndsAs a.at last
       same_ending Declared u f =
           ap (λ (c : Config). c.ended) here.2 ∙ subst (λ (o : Option Ending). SameEnd o here.0) f here.1
-      same_ending (CutFree k) u f = absurd u
+      same_ending (CutFree k) u f = absurd (u k refl)
       same_ending AtRest u f = (
         ap (λ (c : Config). c.ended) here.2
             ∙ still_going end.config.ended here.0 f.0 here.1,
@@ -379,8 +379,8 @@ awake_is_run : (rule : Rule) (g : Graph) (i : ℕ) (log : List Delivery) (ending
     → LastIsRun g i log ending end
 awake_is_run rule g i (d ∷ log) ending end up l e = absurd (none-some _ l.1.there)
 awake_is_run rule g i [] ending end up l e = record {
-  begins = record { rest = []; ending = ending; end = end; legal = record { leads = rw up l; ends = e } };
-  whole = λ uncut. record { end = end; legal = record { leads = rw up l; ends = e }; engaged = refl };
+  begins = ([], ending, end, record { leads = rw up l; ends = e });
+  whole = λ uncut. (end, record { leads = rw up l; ends = e }, refl);
 }
 
 -- the last computation of every run, taken alone, begins a run

@@ -9,7 +9,8 @@ use Rattle.cmh_run.specs.declared.delivery.Ending.{Ending}
 use Rattle.cmh_run.specs.declared.fault.CheckFault.{CheckFault}
 use Rattle.cmh_run.specs.declared.fault.CheckFault.TheVariants.{NotIdle, NotUndelivered, FalseHint, AfterEnd, NotEnded, Memory}
 use Rattle.cmh_run.specs.Legal.{Going, going_at_start, after_due_restart, going_after, MayCome, any_place, DeliveriesLead, EndsAs}
-use Rattle.cmh_run.specs.Check.{LeadTo, HasEnded, IsUndelivered, IsLegalRun, ComesAt, IsAfterEnd, IsStray, IsMisled, IsLogCutShort, IsFirstCheckFault}
+use Rattle.cmh_run.specs.Check.{LeadTo, IsUndelivered, IsLegalRun, ComesAt, IsFlaw, IsFirstCheckFault}
+use Rattle.cmh_run.specs.Config.{Config}
 use Rattle.cmh_run.proofs.Determinism.{over, one_ending}
 use Rattle.cmh_run.proofs.Places.{one_place}
 use Rattle.cmh_run.proofs.FollowLemmas.{leads_on}
@@ -59,25 +60,37 @@ record BadAt (g : Graph) (i : ℕ) (log : List Delivery) (t : ℕ) : Type 0 wher
   comes : ComesAt g i log t delivery state
   cannot : (x : ℕ) → MayCome g state.config x delivery → ⊥
 
--- a delivery after the end is one that may not come
-after_end_bad : (g : Graph) (i : ℕ) (log : List Delivery) (t : ℕ) → IsAfterEnd g i log t → BadAt g i log t
-after_end_bad g i log t h =
-    record {
-      delivery = h.delivery;
-      state = h.state;
-      comes = h.comes;
-      cannot = λ x may. over g h.state.config x h.delivery h.ended.0 h.ended.1 may;
-    }
+-- a delivery with which something is wrong is one that may not come
+flaw_bad : (g : Graph) (i : ℕ) (log : List Delivery) (t : ℕ) (d : Delivery) (s : Going) (e : CheckFault)
+    → ComesAt g i log t d s → IsFlaw g s.config t d e → BadAt g i log t
+flaw_bad g i log t d s (AfterEnd n) comes f =
+    record { delivery = d; state = s; comes = comes; cannot = λ x may. over g s.config x d f.1.0 f.1.1 may }
+flaw_bad g i log t d s (NotUndelivered n) comes f =
+    record { delivery = d; state = s; comes = comes; cannot = λ x may. f.2 (x, may.there) }
+flaw_bad g i log t d s (FalseHint n) comes f =
+    record { delivery = d; state = s; comes = comes; cannot = λ x may. f.3 may.hint }
+flaw_bad g i log t d s NotIdle comes f = absurd f
+flaw_bad g i log t d s NotEnded comes f = absurd f
+flaw_bad g i log t d s Memory comes f = absurd f
 
--- a delivery whose message isn't undelivered is one that may not come
-stray_bad : (g : Graph) (i : ℕ) (log : List Delivery) (t : ℕ) → IsStray g i log t → BadAt g i log t
-stray_bad g i log t h =
-    record { delivery = h.delivery; state = h.state; comes = h.comes; cannot = λ x may. h.stray (x, may.there) }
-
--- a delivery whose hint isn't fit is one that may not come
-misled_bad : (g : Graph) (i : ℕ) (log : List Delivery) (t : ℕ) → IsMisled g i log t → BadAt g i log t
-misled_bad g i log t h =
-    record { delivery = h.delivery; state = h.state; comes = h.comes; cannot = λ x may. h.misled may.hint }
+-- one thing alone is wrong with a delivery
+one_flaw : (g : Graph) (c : Config) (t : ℕ) (d : Delivery) (e f : CheckFault) → IsFlaw g c t d e → IsFlaw g c t d f
+    → e ≡ f
+one_flaw g c t d (AfterEnd n) (AfterEnd m) a b = ap AfterEnd (a.0 ∙ sym b.0)
+one_flaw g c t d (AfterEnd n) (NotUndelivered m) a b = absurd (b.1 a.1)
+one_flaw g c t d (AfterEnd n) (FalseHint m) a b = absurd (b.1 a.1)
+one_flaw g c t d (NotUndelivered n) (AfterEnd m) a b = absurd (a.1 b.1)
+one_flaw g c t d (NotUndelivered n) (NotUndelivered m) a b = ap NotUndelivered (a.0 ∙ sym b.0)
+one_flaw g c t d (NotUndelivered n) (FalseHint m) a b = absurd (a.2 b.2)
+one_flaw g c t d (FalseHint n) (AfterEnd m) a b = absurd (a.1 b.1)
+one_flaw g c t d (FalseHint n) (NotUndelivered m) a b = absurd (b.2 a.2)
+one_flaw g c t d (FalseHint n) (FalseHint m) a b = ap FalseHint (a.0 ∙ sym b.0)
+one_flaw g c t d NotIdle f a b = absurd a
+one_flaw g c t d NotEnded f a b = absurd a
+one_flaw g c t d Memory f a b = absurd a
+one_flaw g c t d e NotIdle a b = absurd b
+one_flaw g c t d e NotEnded a b = absurd b
+one_flaw g c t d e Memory a b = absurd b
 
 module _ (g : Graph) (i : ℕ) (w : IsWellFormed g) where
   -- from where deliveries have led, the same deliveries lead on to one state
@@ -150,27 +163,22 @@ module _ (g : Graph) (i : ℕ) (w : IsWellFormed g) where
     same_Some d e (sym a.there ∙ ap (λ (k : ℕ). slice_get log k) same ∙ b.there),
   )
 
-  -- a delivery doesn't come both after the end and before it
-  end_not : (log : List Delivery) (t n : ℕ) (h : IsAfterEnd g i log t) (b : BadAt g i log n)
-      → ¬ (HasEnded b.state.config) → ⊥
-  end_not log t n h b going =
-      let same =
-      one_there log t n h.delivery b.delivery h.state b.state
-      (one_bad log t n (after_end_bad g i log t h) b) h.comes b.comes in
-      going (subst (λ (u : Going). HasEnded u.config) same.0 h.ended)
+  -- something is wrong with a delivery of the log, and those before it are legal
+  HasFlaw : List Delivery → CheckFault → Type 0
+  HasFlaw log e = (t : ℕ) × (d : Delivery) × (s : Going) × ComesAt g i log t d s × IsFlaw g s.config t d e
 
-  -- a delivery of no undelivered message and one with an unfit hint aren't both the first bad one of a log
-  stray_not : (log : List Delivery) (t n : ℕ) → IsStray g i log t → IsMisled g i log n → ⊥
-  stray_not log t n h m =
-      let same =
-      one_there log t n h.delivery m.delivery h.state m.state
-      (one_bad log t n (stray_bad g i log t h) (misled_bad g i log n m)) h.comes m.comes in
-      h.stray (subst (λ (u : Going). IsUndelivered u.config h.delivery.message) (sym same.0)
-      (subst (λ (d : Delivery). IsUndelivered m.state.config d.message) (sym same.1) m.there))
+  -- a log whose deliveries are all legal has none with which something is wrong
+  no_flaw : (log : List Delivery) (end : Going) (e : CheckFault) → LeadTo g i log end → HasFlaw log e → ⊥
+  unfolding HasFlaw
+  no_flaw log end e l (t, d, s, comes, f) = none_bad log t end l (flaw_bad g i log t d s e comes f)
 
-  -- a log that is legal but goes on has no bad delivery, and hasn't ended
-  cut_not : (log : List Delivery) (t : ℕ) → IsLogCutShort g i log → BadAt g i log t → ⊥
-  cut_not log t h b = none_bad log t h.state h.leads b
+  -- a log has one delivery with which something is wrong while those before it are legal, and one thing is
+  one_wrong : (log : List Delivery) (e f : CheckFault) → HasFlaw log e → HasFlaw log f → e ≡ f
+  unfolding HasFlaw
+  one_wrong log e f (t, d, s, comes, a) (n, c, u, there, b) =
+      let at = one_bad log t n (flaw_bad g i log t d s e comes a) (flaw_bad g i log n c u f there b) in
+      let same = one_there log t n d c s u at comes there in
+      one_flaw g s.config t d e f a (rw (at, same.0, same.1) b)
 
   -- an initiator that is idle isn't one that isn't
   idle_not : is_idle g i ≡ false → is_idle g i ≡ true → ⊥
@@ -179,52 +187,49 @@ module _ (g : Graph) (i : ℕ) (w : IsWellFormed g) where
   -- a legal run has no fault
   legal_not : (log : List Delivery) (a : Ending) (e : CheckFault) → IsLegalRun g i log a → IsFirstCheckFault g i log e
       → ⊥
+  unfolding HasFlaw
   legal_not log a NotIdle r h = idle_not h r.idle
-  legal_not log a (AfterEnd t) r h = none_bad log t r.end r.legal.leads (after_end_bad g i log t h)
-  legal_not log a (NotUndelivered t) r h = none_bad log t r.end r.legal.leads (stray_bad g i log t h)
-  legal_not log a (FalseHint t) r h = none_bad log t r.end r.legal.leads (misled_bad g i log t h)
   legal_not log a NotEnded r h =
-      h.going (
+      h.3 (
         a,
-        subst (λ (u : Going). EndsAs u.config a)
-            (one_state r.idle log r.end h.state r.legal.leads h.leads) r.legal.ends,
+        subst (λ (u : Going). EndsAs u.config a) (one_state r.idle log r.end h.1 r.legal.leads h.2) r.legal.ends,
       )
-  legal_not log a Memory r h = h
+  legal_not log a (AfterEnd t) r h = no_flaw log r.end (AfterEnd t) r.legal.leads h
+  legal_not log a (NotUndelivered t) r h = no_flaw log r.end (NotUndelivered t) r.legal.leads h
+  legal_not log a (FalseHint t) r h = no_flaw log r.end (FalseHint t) r.legal.leads h
+  legal_not log a Memory r h = absurd h.4
 
   -- a log has one first fault at most
   one_fault : (log : List Delivery) (e f : CheckFault) → IsFirstCheckFault g i log e → IsFirstCheckFault g i log f
       → e ≡ f
-  unfolding stray_bad misled_bad
-  one_fault log Memory f a b = absurd a
-  one_fault log e Memory a b = absurd b
+  unfolding HasFlaw
+  one_fault log Memory f a b = absurd a.4
+  one_fault log e Memory a b = absurd b.4
   one_fault log NotIdle NotIdle a b = refl
-  one_fault log NotIdle (AfterEnd n) a b = absurd (idle_not a b.comes.idle)
-  one_fault log NotIdle (NotUndelivered n) a b = absurd (idle_not a b.comes.idle)
-  one_fault log NotIdle (FalseHint n) a b = absurd (idle_not a b.comes.idle)
-  one_fault log NotIdle NotEnded a b = absurd (idle_not a b.idle)
-  one_fault log (AfterEnd t) NotIdle a b = absurd (idle_not b a.comes.idle)
-  one_fault log (AfterEnd t) (AfterEnd n) a b =
-      ap AfterEnd (one_bad log t n (after_end_bad g i log t a) (after_end_bad g i log n b))
-  one_fault log (AfterEnd t) (NotUndelivered n) a b = absurd (end_not log t n a (stray_bad g i log n b) b.going)
-  one_fault log (AfterEnd t) (FalseHint n) a b = absurd (end_not log t n a (misled_bad g i log n b) b.going)
-  one_fault log (AfterEnd t) NotEnded a b = absurd (cut_not log t b (after_end_bad g i log t a))
-  one_fault log (NotUndelivered t) NotIdle a b = absurd (idle_not b a.comes.idle)
-  one_fault log (NotUndelivered t) (AfterEnd n) a b = absurd (end_not log n t b (stray_bad g i log t a) a.going)
-  one_fault log (NotUndelivered t) (NotUndelivered n) a b =
-      ap NotUndelivered (one_bad log t n (stray_bad g i log t a) (stray_bad g i log n b))
-  one_fault log (NotUndelivered t) (FalseHint n) a b = absurd (stray_not log t n a b)
-  one_fault log (NotUndelivered t) NotEnded a b = absurd (cut_not log t b (stray_bad g i log t a))
-  one_fault log (FalseHint t) NotIdle a b = absurd (idle_not b a.comes.idle)
-  one_fault log (FalseHint t) (AfterEnd n) a b = absurd (end_not log n t b (misled_bad g i log t a) a.going)
-  one_fault log (FalseHint t) (NotUndelivered n) a b = absurd (stray_not log n t b a)
-  one_fault log (FalseHint t) (FalseHint n) a b =
-      ap FalseHint (one_bad log t n (misled_bad g i log t a) (misled_bad g i log n b))
-  one_fault log (FalseHint t) NotEnded a b = absurd (cut_not log t b (misled_bad g i log t a))
-  one_fault log NotEnded NotIdle a b = absurd (idle_not b a.idle)
-  one_fault log NotEnded (AfterEnd n) a b = absurd (cut_not log n a (after_end_bad g i log n b))
-  one_fault log NotEnded (NotUndelivered n) a b = absurd (cut_not log n a (stray_bad g i log n b))
-  one_fault log NotEnded (FalseHint n) a b = absurd (cut_not log n a (misled_bad g i log n b))
+  one_fault log NotIdle (AfterEnd n) a b = absurd (idle_not a b.3.idle)
+  one_fault log NotIdle (NotUndelivered n) a b = absurd (idle_not a b.3.idle)
+  one_fault log NotIdle (FalseHint n) a b = absurd (idle_not a b.3.idle)
+  one_fault log NotIdle NotEnded a b = absurd (idle_not a b.0)
+  one_fault log (AfterEnd t) NotIdle a b = absurd (idle_not b a.3.idle)
+  one_fault log (NotUndelivered t) NotIdle a b = absurd (idle_not b a.3.idle)
+  one_fault log (FalseHint t) NotIdle a b = absurd (idle_not b a.3.idle)
+  one_fault log NotEnded NotIdle a b = absurd (idle_not b a.0)
   one_fault log NotEnded NotEnded a b = refl
+  one_fault log NotEnded (AfterEnd n) a b = absurd (no_flaw log a.1 (AfterEnd n) a.2 b)
+  one_fault log NotEnded (NotUndelivered n) a b = absurd (no_flaw log a.1 (NotUndelivered n) a.2 b)
+  one_fault log NotEnded (FalseHint n) a b = absurd (no_flaw log a.1 (FalseHint n) a.2 b)
+  one_fault log (AfterEnd t) NotEnded a b = absurd (no_flaw log b.1 (AfterEnd t) b.2 a)
+  one_fault log (NotUndelivered t) NotEnded a b = absurd (no_flaw log b.1 (NotUndelivered t) b.2 a)
+  one_fault log (FalseHint t) NotEnded a b = absurd (no_flaw log b.1 (FalseHint t) b.2 a)
+  one_fault log (AfterEnd t) (AfterEnd n) a b = one_wrong log (AfterEnd t) (AfterEnd n) a b
+  one_fault log (AfterEnd t) (NotUndelivered n) a b = one_wrong log (AfterEnd t) (NotUndelivered n) a b
+  one_fault log (AfterEnd t) (FalseHint n) a b = one_wrong log (AfterEnd t) (FalseHint n) a b
+  one_fault log (NotUndelivered t) (AfterEnd n) a b = one_wrong log (NotUndelivered t) (AfterEnd n) a b
+  one_fault log (NotUndelivered t) (NotUndelivered n) a b = one_wrong log (NotUndelivered t) (NotUndelivered n) a b
+  one_fault log (NotUndelivered t) (FalseHint n) a b = one_wrong log (NotUndelivered t) (FalseHint n) a b
+  one_fault log (FalseHint t) (AfterEnd n) a b = one_wrong log (FalseHint t) (AfterEnd n) a b
+  one_fault log (FalseHint t) (NotUndelivered n) a b = one_wrong log (FalseHint t) (NotUndelivered n) a b
+  one_fault log (FalseHint t) (FalseHint n) a b = one_wrong log (FalseHint t) (FalseHint n) a b
 
 -- a legal log has one ending
 pub one_legal_ending : (g : Graph) (i : ℕ) (log : List Delivery) (a b : Ending) → IsWellFormed g

@@ -34,42 +34,21 @@ pub record ComesAt (g : Graph) (i : ℕ) (log : List Delivery) (t : ℕ)
   pub there : slice_get log t ≡ Some d
   pub before : LeadTo g i (take t log) s
 
--- delivery t is the first that has come after the end
-pub record IsAfterEnd (g : Graph) (i : ℕ) (log : List Delivery) (t : ℕ) : Type 0 where
-  pub delivery : Delivery
-  pub state : Going
-  pub comes : ComesAt g i log t delivery state
-  pub ended : HasEnded state.config
+-- what is wrong with delivery t, which comes at c
+abbrev pub IsFlaw : Graph → Config → ℕ → Delivery → CheckFault → Type 0
+IsFlaw g c t d (AfterEnd n) = (n ≡ t) × HasEnded c
+IsFlaw g c t d (NotUndelivered n) = (n ≡ t) × ¬ (HasEnded c) × ¬ (IsUndelivered c d.message)
+IsFlaw g c t d (FalseHint n) =
+    (n ≡ t) × ¬ (HasEnded c) × IsUndelivered c d.message × ¬ (HintIsFit g c d.message d.hint)
+IsFlaw g c t d NotIdle = ⊥
+IsFlaw g c t d NotEnded = ⊥
+IsFlaw g c t d Memory = ⊥
 
--- delivery t is the first that was not undelivered
-pub record IsStray (g : Graph) (i : ℕ) (log : List Delivery) (t : ℕ) : Type 0 where
-  pub delivery : Delivery
-  pub state : Going
-  pub comes : ComesAt g i log t delivery state
-  pub going : ¬ (HasEnded state.config)
-  pub stray : ¬ (IsUndelivered state.config delivery.message)
-
--- delivery t is the first with a hint where none is asked, or with one that isn't true
-pub record IsMisled (g : Graph) (i : ℕ) (log : List Delivery) (t : ℕ) : Type 0 where
-  pub delivery : Delivery
-  pub state : Going
-  pub comes : ComesAt g i log t delivery state
-  pub going : ¬ (HasEnded state.config)
-  pub there : IsUndelivered state.config delivery.message
-  pub misled : ¬ (HintIsFit g state.config delivery.message delivery.hint)
-
--- all deliveries are legal, and the run could go on
-pub record IsLogCutShort (g : Graph) (i : ℕ) (log : List Delivery) : Type 0 where
-  pub idle : IsTrue (is_idle g i)
-  pub state : Going
-  pub leads : LeadTo g i log state
-  pub going : ¬ (HasEnded state.config)
-
--- the first thing that is wrong with the log
+-- The first thing that is wrong with the log: its initiator isn't idle, or all deliveries are legal and
+-- the run could go on, or something is wrong with a delivery, and those before it are legal.
 abbrev pub IsFirstCheckFault : Graph → ℕ → List Delivery → CheckFault → Type 0
 IsFirstCheckFault g i log NotIdle = IsFalse (is_idle g i)
-IsFirstCheckFault g i log (AfterEnd t) = IsAfterEnd g i log t
-IsFirstCheckFault g i log (NotUndelivered t) = IsStray g i log t
-IsFirstCheckFault g i log (FalseHint t) = IsMisled g i log t
-IsFirstCheckFault g i log NotEnded = IsLogCutShort g i log
-IsFirstCheckFault g i log Memory = ⊥
+IsFirstCheckFault g i log NotEnded =
+    IsTrue (is_idle g i) × (s : Going) × LeadTo g i log s × ¬ (HasEnded s.config)
+IsFirstCheckFault g i log fault = (t : ℕ) × (d : Delivery) × (s : Going) × ComesAt g i log t d s
+    × IsFlaw g s.config t d fault

@@ -10,11 +10,9 @@ use Rattle.cmh_process.specs.declared.message.Kind.{Kind}
 use Rattle.cmh_process.specs.declared.message.Kind.TheVariants.{Query, Reply}
 use Rattle.cmh_process.specs.declared.message.Message.{Message}
 use Rattle.cmh_run.specs.declared.delivery.Delivery.{Delivery}
-use Rattle.cmh_run.specs.declared.fault.CheckFault.{CheckFault}
-use Rattle.cmh_run.specs.declared.fault.CheckFault.TheVariants.{NotIdle, NotUndelivered, FalseHint, AfterEnd, NotEnded, Memory}
 use Rattle.cmh_run.specs.Config.{Config}
-use Rattle.cmh_run.specs.Legal.{Going, HintIsFit}
-use Rattle.cmh_run.specs.Check.{LeadTo, HasEnded, IsUndelivered}
+use Rattle.cmh_run.specs.Legal.{Going}
+use Rattle.cmh_run.specs.Check.{LeadTo, IsUndelivered}
 
 -- pairs by their first parts, then by their second ones
 abbrev pub pair_cmp : ℕ × ℕ → ℕ × ℕ → Ordering
@@ -66,12 +64,6 @@ pub record Agrees (g : Graph) (i : ℕ) (log : List Delivery) (s : Going)
   pub waiting : (m : Message) → m.initiator ≡ i → m.number ≡ 1 → IsTrue (is_waiting a.undelivered m)
       → IsUndelivered s.config m
 
--- the message is of the first computation, and waits
-pub record IsAwaited (i : ℕ) (a : CheckState) (m : Message) : Type 0 where
-  pub mine : m.initiator ≡ i
-  pub first : m.number ≡ 1
-  pub waits : IsTrue (is_waiting a.undelivered m)
-
 -- nothing that was just sent is left in the bag of the network
 abbrev pub IsSettled : CheckState → Type 0
 IsSettled a = a.network.bag ≡ []
@@ -79,13 +71,3 @@ IsSettled a = a.network.bag ≡ []
 -- the deliveries have led somewhere, and what is kept agrees with it
 abbrev pub IsChecked : Graph → ℕ → List Delivery → CheckState → Type 0
 IsChecked g i log a = (s : Going) × Agrees g i log s a × IsSettled a
-
--- what is wrong with delivery t, which comes at c
-abbrev pub IsFlaw : Graph → Config → ℕ → Delivery → CheckFault → Type 0
-IsFlaw g c t d (AfterEnd n) = (n ≡ t) × HasEnded c
-IsFlaw g c t d (NotUndelivered n) = (n ≡ t) × ¬ (HasEnded c) × ¬ (IsUndelivered c d.message)
-IsFlaw g c t d (FalseHint n) =
-    (n ≡ t) × ¬ (HasEnded c) × IsUndelivered c d.message × ¬ (HintIsFit g c d.message d.hint)
-IsFlaw g c t d NotIdle = ⊥
-IsFlaw g c t d NotEnded = ⊥
-IsFlaw g c t d Memory = ⊥

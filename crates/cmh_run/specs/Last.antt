@@ -1,10 +1,10 @@
 -- The last computation of a run, taken alone.
-use Rattle.std.specs.Prelude.{◌≡◌, ℕ, ◌==◌, if◌then◌else◌, List, [], ◌∷◌, ◌++◌, ⊤}
+use Rattle.std.specs.Prelude.{◌≡◌, ◌≢◌, ℕ, ◌==◌, if◌then◌else◌, List, [], ◌∷◌, ◌++◌}
 use Rattle.cmh_graph.specs.Graph.{Graph}
 use Rattle.cmh_process.specs.declared.message.Message.{Message}
 use Rattle.cmh_run.specs.declared.delivery.Delivery.{Delivery}
 use Rattle.cmh_run.specs.declared.delivery.Ending.{Ending}
-use Rattle.cmh_run.specs.declared.delivery.Ending.TheVariants.{Declared, AtRest, CutFree}
+use Rattle.cmh_run.specs.declared.delivery.Ending.TheVariants.{CutFree}
 use Rattle.cmh_run.specs.Legal.{Going, any_place, IsRun}
 
 -- the message as one of the first computation
@@ -19,30 +19,12 @@ computation_log n (d ∷ log) =
     then record { message = renumber d.message; hint = d.hint } ∷ computation_log n log
     else computation_log n log
 
--- the deliveries begin a legal run without restarts
-pub record BeginsRun (g : Graph) (i : ℕ) (log : List Delivery) : Type 0 where
-  pub rest : List Delivery
-  pub ending : Ending
-  pub end : Going
-  pub legal : IsRun any_place g i [] (log ++ rest) ending end
-
--- no hint has ended the run
-abbrev pub IsUncut : Ending → Type 0
-IsUncut Declared = ⊤
-IsUncut AtRest = ⊤
-IsUncut (CutFree k) = ⊥
-
--- the deliveries are a whole run without restarts, with this ending and these engaged
-pub record IsWholeComputation (g : Graph) (i : ℕ) (log : List Delivery)
-    (ending : Ending) (those : List ℕ) : Type 0 where
-  pub end : Going
-  pub legal : IsRun any_place g i [] log ending end
-  pub engaged : end.config.engaged ≡ those
-
--- The deliveries of the last number begin a run of their own, and are all of it where the run was
--- declared or came to rest.
+-- The deliveries of the last number begin a legal run without restarts, and are all of one where the run
+-- was declared or came to rest: then with this ending and the same engaged.
 pub record LastIsRun (g : Graph) (i : ℕ) (log : List Delivery)
     (ending : Ending) (end : Going) : Type 0 where
-  pub begins : BeginsRun g i (computation_log end.config.number log)
-  pub whole : IsUncut ending
-      → IsWholeComputation g i (computation_log end.config.number log) ending end.config.engaged
+  pub begins : (rest : List Delivery) × (last : Ending) × (on : Going)
+      × IsRun any_place g i [] (computation_log end.config.number log ++ rest) last on
+  pub whole : ((k : ℕ) → ending ≢ CutFree k) → (on : Going)
+      × IsRun any_place g i [] (computation_log end.config.number log) ending on
+      × (on.config.engaged ≡ end.config.engaged)

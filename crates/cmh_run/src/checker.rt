@@ -7,8 +7,8 @@ ghost use Rattle.cmh_graph.specs.Verdict.{verdicts};
 ghost use Rattle.cmh_process.specs.declared.message.Message.{Message};
 ghost use Rattle.cmh_run.specs.declared.delivery.Delivery.{Delivery};
 ghost use Rattle.cmh_run.specs.Legal.{Going, HintIsFit, EndsAs};
-ghost use Rattle.cmh_run.specs.Check.{HasEnded};
-ghost use Rattle.cmh_run.specs.CheckState.{is_waiting, goes_like, Agrees, IsChecked, IsSettled, IsAwaited, IsFlaw};
+ghost use Rattle.cmh_run.specs.Check.{HasEnded, IsFlaw};
+ghost use Rattle.cmh_run.specs.CheckState.{is_waiting, goes_like, Agrees, IsChecked, IsSettled};
 
 use crate::network::Network;
 use crate::undelivered::Undelivered;
@@ -106,7 +106,8 @@ impl Checker {
 
     /// Takes the message out of the undelivered ones, if it is among them.
     fn take(&mut self, initiator: u32, message: Message) -> bool
-        ensures found { IsTrue result ↔ IsAwaited initiator self.old message }
+        ensures found { IsTrue result ↔ ((message.initiator ≡ initiator) × (message.number ≡ 1)
+            × IsTrue (is_waiting self.old.undelivered message)) }
         ensures network { self.new.network ≡ self.old.network }
         ensures rest { IsTrue result → (m : Message) → is_waiting self.new.undelivered m
             ≡ (not (goes_like message m) && is_waiting self.old.undelivered m) }

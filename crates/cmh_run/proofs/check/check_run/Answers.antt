@@ -9,8 +9,8 @@ use Rattle.cmh_run.specs.declared.delivery.Delivery.{Delivery}
 use Rattle.cmh_run.specs.declared.delivery.Ending.TheVariants.{Declared}
 use Rattle.cmh_run.specs.declared.fault.CheckFault.TheVariants.{Memory}
 use Rattle.cmh_run.specs.Legal.{Going}
-use Rattle.cmh_run.specs.Check.{IsLegalRun, IsFirstCheckFault}
-use Rattle.cmh_run.specs.CheckState.{Agrees, IsSettled, IsChecked, IsFlaw}
+use Rattle.cmh_run.specs.Check.{IsLegalRun, IsFlaw, IsFirstCheckFault}
+use Rattle.cmh_run.specs.CheckState.{Agrees, IsSettled, IsChecked}
 use Rattle.cmh_run.proofs.CheckLemmas.{flaw_is_fault, answer_legal, answer_true, answer_cut}
 use Rattle.cmh_run.proofs.check.check_run.Goals as goal
 
