@@ -48,46 +48,45 @@ process n =
 -- needn't be written out.
 module _ (d : Data) (top : first_of (holds d) ((BadTop ∷ []) ∷ (BadVersion ∷ []) ∷ []) ≡ None)
     (apart : first_of (holds d)
-    (each (sites d) BadSites ∷ each (sites d) RepeatedSite ∷ (TooManySites ∷ []) ∷ []) ≡ None)
-  where
-    -- fault 0 of a kind, where it holds, is the first of the kind
-    first_of_kind : (F : ℕ → DumpFault) (n : ℕ) → 0 < n → holds d (F 0) ≡ true
-        → find (holds d) (map F (below n)) ≡ Some (F 0)
-    first_of_kind F n l h = found_at (holds d) F n 0 l (λ k before. absurd (omega arith)) h
+    (each (sites d) BadSites ∷ each (sites d) RepeatedSite ∷ (TooManySites ∷ []) ∷ []) ≡ None) where
+  -- fault 0 of a kind, where it holds, is the first of the kind
+  first_of_kind : (F : ℕ → DumpFault) (n : ℕ) → 0 < n → holds d (F 0) ≡ true
+      → find (holds d) (map F (below n)) ≡ Some (F 0)
+  first_of_kind F n l h = found_at (holds d) F n 0 l (λ k before. absurd (omega arith)) h
 
-    -- a tree whose first process is bad is refused for it, where no kind of fault before it holds
-    first_process_bad : holds d TooManyProcesses ≡ false → 0 < length (processes d) → holds d (BadProcess 0) ≡ true
-        → dump_of_tree d ≡ Err (BadProcess 0)
-    first_process_bad few l h =
-        let bad =
-        first_later (holds d) (TooManyProcesses ∷ []) (each (processes d) BadProcess ∷ []) _ _
-        (alone (holds d) TooManyProcesses false few) refl
-        (first_here (holds d) (each (processes d) BadProcess) [] _ (BadProcess 0)
-        (first_of_kind BadProcess (length (processes d)) l h) refl) in
-        refused d (BadProcess 0)
-        (refused_past_sites d (BadProcess 0) top apart
-        (refused_here d ((TooManyProcesses ∷ []) ∷ each (processes d) BadProcess ∷ []) (faults_from_names d)
-        (BadProcess 0) (λ m. bad)))
-        (λ m. cc)
+  -- a tree whose first process is bad is refused for it, where no kind of fault before it holds
+  first_process_bad : holds d TooManyProcesses ≡ false → 0 < length (processes d) → holds d (BadProcess 0) ≡ true
+      → dump_of_tree d ≡ Err (BadProcess 0)
+  first_process_bad few l h =
+      let bad =
+      first_later (holds d) (TooManyProcesses ∷ []) (each (processes d) BadProcess ∷ []) _ _
+      (alone (holds d) TooManyProcesses false few) refl
+      (first_here (holds d) (each (processes d) BadProcess) [] _ (BadProcess 0)
+      (first_of_kind BadProcess (length (processes d)) l h) refl) in
+      refused d (BadProcess 0)
+      (refused_past_sites d (BadProcess 0) top apart
+      (refused_here d ((TooManyProcesses ∷ []) ∷ each (processes d) BadProcess ∷ []) (faults_from_names d)
+      (BadProcess 0) (λ m. bad)))
+      (λ m. cc)
 
-    -- a tree whose first message in transit is bad is refused for it, where no kind of fault before it holds
-    first_message_bad : first_of (holds d) ((TooManyProcesses ∷ []) ∷ each (processes d) BadProcess ∷ []) ≡ None
-        → first_of (holds d) (each (processes d) RepeatedProcess ∷ []) ≡ None
-        → first_of (holds d) (entry_faults d) ≡ None → holds d TooManyInTransit ≡ false → 0 < length (transits d)
-        → holds d (BadInTransit 0) ≡ true → dump_of_tree d ≡ Err (BadInTransit 0)
-    first_message_bad p n e few l h =
-        let rest = each (transits d) BadInTransit ∷ each (transits d) UnknownInTransit ∷ [] in
-        let bad = first_later (holds d) (TooManyInTransit ∷ []) rest _ _ (alone (holds d) TooManyInTransit false few) refl
-        (first_here (holds d) (each (transits d) BadInTransit) (each (transits d) UnknownInTransit ∷ []) _
-        (BadInTransit 0)
-        (first_of_kind BadInTransit (length (transits d)) l h) refl) in
-        refused d (BadInTransit 0)
-        (refused_past_sites d (BadInTransit 0) top apart
-        (refused_later d ((TooManyProcesses ∷ []) ∷ each (processes d) BadProcess ∷ []) (faults_from_names d)
-        (BadInTransit 0) p
-        (refused_later d (each (processes d) RepeatedProcess ∷ []) (faults_from_entries d) (BadInTransit 0) n
-        (refused_later d (entry_faults d) (transit_faults d) (BadInTransit 0) e (λ m. bad)))))
-        (λ m. cc)
+  -- a tree whose first message in transit is bad is refused for it, where no kind of fault before it holds
+  first_message_bad : first_of (holds d) ((TooManyProcesses ∷ []) ∷ each (processes d) BadProcess ∷ []) ≡ None
+      → first_of (holds d) (each (processes d) RepeatedProcess ∷ []) ≡ None
+      → first_of (holds d) (entry_faults d) ≡ None → holds d TooManyInTransit ≡ false → 0 < length (transits d)
+      → holds d (BadInTransit 0) ≡ true → dump_of_tree d ≡ Err (BadInTransit 0)
+  first_message_bad p n e few l h =
+      let rest = each (transits d) BadInTransit ∷ each (transits d) UnknownInTransit ∷ [] in
+      let bad = first_later (holds d) (TooManyInTransit ∷ []) rest _ _ (alone (holds d) TooManyInTransit false few) refl
+      (first_here (holds d) (each (transits d) BadInTransit) (each (transits d) UnknownInTransit ∷ []) _
+      (BadInTransit 0)
+      (first_of_kind BadInTransit (length (transits d)) l h) refl) in
+      refused d (BadInTransit 0)
+      (refused_past_sites d (BadInTransit 0) top apart
+      (refused_later d ((TooManyProcesses ∷ []) ∷ each (processes d) BadProcess ∷ []) (faults_from_names d)
+      (BadInTransit 0) p
+      (refused_later d (each (processes d) RepeatedProcess ∷ []) (faults_from_entries d) (BadInTransit 0) n
+      (refused_later d (entry_faults d) (transit_faults d) (BadInTransit 0) e (λ m. bad)))))
+      (λ m. cc)
 
 -- 4,096 sites are not too many
 most_sites : holds (tree (copies 4096 (string (codes "a"))) no_items) TooManySites ≡ false
