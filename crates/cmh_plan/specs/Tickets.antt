@@ -1,6 +1,6 @@
--- Numbers that threads draw: the rule of their word, over what all seats know, and each step.
-use Rattle.std.specs.Prelude.{◌≡◌, ℕ, zero, suc, ◌+◌, ◌-◌, ◌<◌, ◌≤◌, ◌||◌, ◌^◌, ◌==◌, Bool, true, false, nat_lt, if◌then◌else◌, List, [], ◌∷◌, ◌++◌, length, count_by, slice_index}
-use Rattle.atomic_table.specs.Table.{State, Me, Step}
+-- Numbers that threads draw: the rule of their word, over what all seats know.
+use Rattle.std.specs.Prelude.{◌≡◌, ℕ, zero, suc, ◌+◌, ◌-◌, ◌<◌, ◌≤◌, ◌||◌, ◌^◌, ◌==◌, true, false, if◌then◌else◌, List, [], ◌∷◌, ◌++◌, length, count_by, slice_index}
+use Rattle.atomic_table.specs.Table.{State}
 use Rattle.cmh_rw.specs.Machine.{IsSeat, total}
 use Rattle.cmh_plan.specs.declared.TheConstants.{MAX_WORKERS}
 use Rattle.cmh_plan.specs.declared.ticket_rule.TicketView.{TicketView}
@@ -34,17 +34,9 @@ joined_views v w = record v {
   done = v.done || w.done;
 }
 
--- what is left of a seat that was taken in
-abbrev pub spent_ticket_view : TicketView
-spent_ticket_view = record { chunks = 0; share = 0; drawn = []; done = false }
-
 -- the seat once it has drawn chunk n
 abbrev pub with_drawn : TicketView → ℕ → TicketView
 with_drawn v n = record v { drawn = v.drawn ++ n ∷ [] }
-
--- the seat once it has found no chunk left
-abbrev pub with_done : TicketView → TicketView
-with_done v = record v { done = true }
 
 -- each number below the number of chunks was drawn once, and no other, however they are weighed
 abbrev pub DrewAll : TicketView → Type 0
@@ -56,17 +48,9 @@ KnowsAll v = v.done ≡ true → v.share ≡ MAX_WORKERS → DrewAll v
 
 -- ---- the rule
 
--- how many of all shares the seat has
-abbrev pub ticket_share : TicketView → ℕ
-ticket_share v = v.share
-
--- the shares where the test holds, else none
-abbrev pub share_if : Bool → ℕ → ℕ
-share_if done share = if done then share else 0
-
 -- the share of a seat, where it found no chunk left, else none
 abbrev pub done_share : TicketView → ℕ
-done_share v = share_if v.done v.share
+done_share v = if v.done then v.share else 0
 
 -- What is true of each seat. One with no share is spent, and has drawn nothing. Each other knows the
 -- number of chunks, and where one got none, the word is past the last chunk.
@@ -85,7 +69,7 @@ pub record Dealt (chunks : ℕ) (s : State (Unit {0}) TicketView) : Type 0 where
   pub before_end : slice_index s.words 0 ≤ chunks → reached ≡ slice_index s.words 0
   pub at_end : chunks ≤ slice_index s.words 0 → reached ≡ chunks
   pub small : chunks < 2 ^ 32
-  pub shares : total ticket_share s.views ≤ MAX_WORKERS
+  pub shares : total (λ v. v.share) s.views ≤ MAX_WORKERS
   pub over : slice_index s.words 0 ≤ chunks + total done_share s.views
   pub each : (i : ℕ) (v : TicketView) → IsSeat s.views i v
       → IsTicketSeat chunks (slice_index s.words 0) v
@@ -97,21 +81,3 @@ pub record Dealt (chunks : ℕ) (s : State (Unit {0}) TicketView) : Type 0 where
 -- how often a number stands in the list
 abbrev pub times : ℕ → List ℕ → ℕ
 times n list = count_by (λ k. k == n) list
-
--- ---- the steps
-
--- a seat, at the table
-abbrev Sitting : Type 0
-Sitting = Me (Unit {0}) TicketView
-
--- what a seat knows after a draw that found n
-abbrev pub after_draw : ℕ → TicketView → TicketView
-after_draw n v = if nat_lt n v.chunks then with_drawn v n else with_done v
-
--- what a draw tells the seat that draws
-abbrev pub Drew : Step (Unit {0}) → Sitting → ℕ → Sitting → Type 0
-Drew st m n m' = (m' ≡ (after_draw n m.0, m.1)) × (length m.0.drawn ≤ n) × KnowsAll m'.0
-
--- what a load tells the seat that loads
-abbrev pub Measured : Step (Unit {0}) → Sitting → ℕ → Sitting → Type 0
-Measured st m n m' = (m' ≡ m) × (m.0.share ≤ MAX_WORKERS) × KnowsAll m.0

@@ -26,25 +26,31 @@ impl TableRule<(), TicketView, u32> for TicketRule {
     ghost first = { ticket_opening_view };
 }
 
-/// The step that draws.
+/// The step that draws. Where it finds a number below the number of chunks, the seat has drawn it,
+/// and else it knows that none is left.
 pub(crate) struct Draw;
 
 impl Play<(), TicketView> for Draw {
-    ghost use Rattle.cmh_plan.specs.Tickets.{Drew};
+    ghost use Rattle.std.specs.Prelude.{◌≡◌, ◌≤◌, nat_lt, true, if◌then◌else◌, length};
+    ghost use Rattle.cmh_plan.specs.Tickets.{with_drawn, KnowsAll};
 
-    ghost then = { Drew };
+    ghost then = { λ st m n m'.
+        (m' ≡ (if nat_lt n m.0.chunks then with_drawn m.0 n else record m.0 { done = true }, m.1))
+        × (length m.0.drawn ≤ n) × KnowsAll m'.0 };
 }
 
 /// The step after a join, which tells a seat what it knows with its new share.
 pub(crate) struct Measure;
 
 impl Play<(), TicketView> for Measure {
-    ghost use Rattle.cmh_plan.specs.Tickets.{Measured};
+    ghost use Rattle.std.specs.Prelude.{◌≡◌, ◌≤◌};
+    ghost use Rattle.cmh_plan.specs.declared.TheConstants.{MAX_WORKERS};
+    ghost use Rattle.cmh_plan.specs.Tickets.{KnowsAll};
 
-    ghost then = { Measured };
+    ghost then = { λ st m n m'. (m' ≡ m) × (m.0.share ≤ MAX_WORKERS) × KnowsAll m.0 };
 }
 
-/// How seats are split and joined.
+/// How seats are split and joined. A seat that was taken in has no share, and has drawn nothing.
 pub(crate) struct Parts;
 
 impl Split<TicketView> for Parts {
@@ -56,9 +62,10 @@ impl Split<TicketView> for Parts {
 }
 
 impl Join<TicketView> for Parts {
-    ghost use Rattle.cmh_plan.specs.Tickets.{joined_views, spent_ticket_view};
+    ghost use Rattle.std.specs.Prelude.{[], false};
+    ghost use Rattle.cmh_plan.specs.Tickets.{joined_views};
 
     ghost both = { joined_views };
 
-    ghost spent = { spent_ticket_view };
+    ghost spent = { record { chunks = 0; share = 0; drawn = []; done = false } };
 }

@@ -36,7 +36,7 @@ pub struct TicketSeat {
 
 impl Tickets {
     ghost use Rattle.std.specs.Prelude.{◌≡◌, ◌<◌, ◌≤◌, true, length, IfOk, IfErr, IfSome, IfNone, IsNone};
-    ghost use Rattle.cmh_plan.specs.Tickets.{ticket_opening_view, ticket_less_one, ticket_newcomer, joined_views, with_drawn, with_done, DrewAll};
+    ghost use Rattle.cmh_plan.specs.Tickets.{ticket_opening_view, ticket_less_one, ticket_newcomer, joined_views, with_drawn, DrewAll};
     ghost use Rattle.cmh_plan.specs.declared.TheConstants.{MAX_WORKERS};
     ghost use Rattle.cmh_plan.specs.TicketSeats.{ticket_view, IsTicketSeatOf, chunk_count};
 
@@ -106,7 +106,8 @@ impl Tickets {
         ensures within { IfSome result (λ n. n < chunk_count self.now) }
         ensures few { IfSome result (λ n. length (ticket_view seat.old).drawn ≤ n) }
         ensures some { IfSome result (λ n. ticket_view seat.new ≡ with_drawn (ticket_view seat.old) n) }
-        ensures none { IfNone result (ticket_view seat.new ≡ with_done (ticket_view seat.old)) }
+        ensures none { IfNone result
+            (ticket_view seat.new ≡ record (ticket_view seat.old) { done = true }) }
         ensures after { (ticket_view seat.old).done ≡ true → IsNone result × (seat.new ≡ seat.old) }
         ensures all { IfNone result ((ticket_view seat.new).share ≡ MAX_WORKERS → DrewAll (ticket_view seat.new)) }
     {
