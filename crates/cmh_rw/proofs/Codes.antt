@@ -4,7 +4,7 @@ use Rattle.std.proofs.Common.{◌≡◌, ◌≢◌, ℕ, zero, suc, ◌+◌, ◌
 use Rattle.cmh_graph.specs.declared.verdict.Verdict.{Verdict}
 use Rattle.cmh_graph.specs.declared.verdict.Verdict.TheVariants.{Deadlocked, Free}
 use Rattle.cmh_rw.specs.declared.TheConstants.{FIRST_VERDICT}
-use Rattle.cmh_rw.specs.History.{bit, free_bit, verdict_code, verdict_from_code, row_of, row_code}
+use Rattle.cmh_rw.specs.History.{bit, free_bit, verdict_code, row_of, row_code}
 use Rattle.cmh_rw.specs.View.{mark}
 
 -- the three parts of a row's word can be told from it
@@ -43,13 +43,13 @@ row_code_law r =
     }
 
 -- a verdict can be told from its word
-verdict_of-code : (v : Verdict) → verdict_from_code (verdict_code (Some v)) ≡ v
+verdict_of-code : (v : Verdict) → cond (eqb (verdict_code (Some v)) 2) Free Deadlocked ≡ v
 verdict_of-code Deadlocked = refl
 verdict_of-code Free = refl
 
 -- the process and the verdict can be told from the store of a verdict
 pub mark_of : (p : ℕ) (v : Verdict)
-    → mark (FIRST_VERDICT + p - FIRST_VERDICT) (verdict_from_code (verdict_code (Some v))) ≡ mark p v
+    → mark (FIRST_VERDICT + p - FIRST_VERDICT) (cond (eqb (verdict_code (Some v)) 2) Free Deadlocked) ≡ mark p v
 mark_of p v = let e : FIRST_VERDICT + p - FIRST_VERDICT ≡ p = omega arith in λ k. mark (e k) (verdict_of-code v k)
 
 -- with one more put behind a list, it stands at the list's end

@@ -1,7 +1,6 @@
 -- The store of the count keeps the rule: the staged rows become the next posting.
 use Rattle.std.proofs.Common.{◌≡◌, ℕ, ◌+◌, true, [], ◌∷◌, ◌++◌, map, length, get_or, sym, refl, ap, ◌∙◌, subst, arith, length-append, append-nil, get_or-set_same, get_or-set_other, inl, ⊎_elim}
-use mathlib.Core.Option.{none}
-use Rattle.atomic_table.specs.Table.{step, keeps, Allows}
+use Rattle.atomic_table.specs.Table.{keeps, Allows}
 use Rattle.atomic_table.proofs.Lists.{at_set}
 use Rattle.cmh_graph.specs.Graph.{Graph}
 use Rattle.cmh_rw.specs.declared.TheConstants.{FIRST_ROW, FIRST_VERDICT}
@@ -11,17 +10,17 @@ use Rattle.cmh_rw.specs.Machine.{total, writes}
 use Rattle.cmh_rw.specs.History.{rows_in, row_code, verdict_code, fold_at, EndsLast, IsPosting, IsTrueOf, AreTold}
 use Rattle.cmh_rw.specs.View.{view_after_posting}
 use Rattle.cmh_rw.specs.Rule.{SeatRule, WordsRule}
-use Rattle.cmh_rw.specs.Steps.{TableSeat, Counted}
 use Rattle.cmh_rw.proofs.Folds.{fold-same, told-all}
 use Rattle.cmh_rw.proofs.Lawful.{total-set, total-append}
-use Rattle.cmh_rw.proofs.Moments.{writes-Writing, beside_writer, lock_beside}
+use Rattle.cmh_rw.proofs.Moments.{TableSeat, writes-Writing, beside_writer, lock_beside}
 use Rattle.cmh_rw.proofs.Postings.{rows_in-snoc, whole-snoc, seen-grows, posting_from, ends-some}
 
 -- where a writer stores the count, the rule is kept, and its staged rows are the next posting
 pub counts_in : (key : Graph) (slots id n : ℕ) (me : TableSeat) → me.0.lock.state ≡ Writing → EndsLast me.0.staged
     → AreTold me.0.staged me.0.told
     → n ≡ length me.0.seen + length me.0.staged
-    → Allows (WordsRule key) slots id me 1 (λ _. n) (λ _. Counted (step slots 1 n 0 none) me n)
+    → Allows (WordsRule key) slots id me 1 (λ _. n)
+    (λ _ m. (m ≡ (view_after_posting me.0, me.1)) × IsPosting me.0.staged)
 counts_in key slots id n me writing ends stored is s b _ at _ =
     let v = me.0 in let w = view_after_posting v in let old = rows_in b.postings in
     let k = b.each id v at in let own = k.writing writing in

@@ -1,20 +1,19 @@
 -- A load in a hold keeps the rule, and tells the history.
-use Rattle.std.proofs.Common.{◌≡◌, ◌≢◌, ℕ, ◌+◌, ◌<◌, ◌≤◌, ◌++◌, map, length, get_or, set, sym, refl, ap, ◌∙◌, subst, arith, inr}
+use Rattle.std.proofs.Common.{◌≡◌, ◌≢◌, ℕ, ◌+◌, ◌<◌, ◌≤◌, true, ◌++◌, map, length, get_or, set, sym, refl, ap, ◌∙◌, subst, arith, inr}
 use Rattle.std.proofs.lemmas.List.{set-get_or, get_or_append_left, length-map}
 use mathlib.Core.List.{map-append}
-use mathlib.Core.Option.{none}
-use Rattle.atomic_table.specs.Table.{step, keeps, Allows}
+use Rattle.atomic_table.specs.Table.{keeps, Allows}
 use Rattle.atomic_table.proofs.Lists.{at_map}
 use Rattle.cmh_graph.specs.declared.TheConstants.{MAX_PROCESSES}
 use Rattle.cmh_graph.specs.Graph.{Graph}
 use Rattle.cmh_rw.specs.declared.machine.SeatState.TheVariants.{Reading, Writing}
 use Rattle.cmh_rw.specs.History.{rows_in, row_code, verdict_code, fold_at, IsTrueOf}
-use Rattle.cmh_rw.specs.View.{IsHeld, view_after_load}
+use Rattle.cmh_rw.specs.View.{IsHeld, AfterLoad}
 use Rattle.cmh_rw.specs.Rule.{Moment, lock_of, SeatRule, WordsRule}
-use Rattle.cmh_rw.specs.Steps.{TableSeat, Loaded}
+use Rattle.cmh_rw.specs.declared.view.View.{View}
 use Rattle.cmh_rw.proofs.Folds.{true-left, true-few}
 use Rattle.cmh_rw.proofs.Postings.{seen-prefix, all-seen}
-use Rattle.cmh_rw.proofs.Moments.{held_graph, own_rows, reviewed}
+use Rattle.cmh_rw.proofs.Moments.{TableSeat, held_graph, own_rows, reviewed}
 
 -- the rows of the history are true for the graph
 pub history-true : (key : Graph) (s : Moment) (b : WordsRule key s) → IsTrueOf key (rows_in b.postings)
@@ -39,11 +38,11 @@ reading_writing e = cc
 
 -- a load in a hold tells the history
 pub loads : (key : Graph) (slots id word : ℕ) (me : TableSeat) → IsHeld me.0.lock.state
-    → Allows (WordsRule key) slots id me word (λ n. n) (Loaded (step slots word 0 0 none) me)
+    → Allows (WordsRule key) slots id me word (λ n. n) (λ found m. AfterLoad me.0 word found m.0 × (m.1 ≡ me.1))
 loads key slots id word me held s b _ at _ =
     let v = me.0 in
     let rows = rows_in b.postings in
-    let w = view_after_load v rows in
+    let w : View = record v { loaded = true; seen = rows; loads = v.loads + 1 } in
     let k = b.each id v at in
     let own = own_rows key s b id v at held in
     let graph : v.lock.graph ≡ key =

@@ -14,9 +14,8 @@ use Rattle.cmh_rw.specs.declared.machine.Event.{Event}
 use Rattle.cmh_rw.specs.declared.machine.Event.TheVariants.{Admit, Leave, TryWrite, EndWrite}
 use Rattle.cmh_rw.specs.declared.view.LockView.{LockView}
 use Rattle.cmh_rw.specs.Machine.{world, total, writes, reads, retreats, turn, IsLawful}
-use Rattle.cmh_rw.specs.View.{lock_after_end, lock_less_one, newcomer_lock, lock_of_both, spent_lock}
+use Rattle.cmh_rw.specs.View.{lock_after_try, lock_less_one, newcomer_lock, lock_of_both, spent_view}
 use Rattle.cmh_rw.specs.Rule.{LockMoment, state_of, share_of, HasShare, HasLockShare, LockRule}
-use Rattle.cmh_rw.specs.Steps.{after_try}
 use Rattle.cmh_rw.proofs.Lawful.{total-set, total-in, total-snoc, lawful-set, turn-lawful}
 
 -- a seat of the table, with what it knows of the lock alone
@@ -120,9 +119,10 @@ pub enter_kept : (key : Graph) (s : LockMoment) (id : ℕ) (me : LockSeat) → m
     → get_elem? s.views id ≡ some me.0
     → LockRule key
     (stepped s 0 ((get_or s.words 0 0 + 1) % 18446744073709551616) id me.1
-    (after_try (Admit 0) (get_or s.words 0 0) me.0) keeps)
+    (lock_after_try me.0 (turn (Admit 0) (get_or s.words 0 0) me.0.state).1 (get_or s.words 0 0)) keeps)
 enter_kept key s id me away h at =
-    let x = get_or s.words 0 0 in let w = after_try (Admit 0) x me.0 in let small = word-small key s h in
+    let x = get_or s.words 0 0 in let w = lock_after_try me.0 (turn (Admit 0) x me.0.state).1 x in
+    let small = word-small key s h in
     let t : turn (Admit 0) x me.0.state ≡ (x + 1, cond (ltb x 4294967296) Reading Retreating) =
     ap (turn (Admit 0) x) away in
     let n : (x + 1) % 18446744073709551616 ≡ (turn (Admit 0) x me.0.state).0 = omega (arith, ap (λ p. p.0) t) in
@@ -149,13 +149,14 @@ pub leave_kept : (key : Graph) (s : LockMoment) (id : ℕ) (me : LockSeat) → r
     → LockRule key s → get_elem? s.views id ≡ some me.0
     → LockRule key
     (stepped s 0 ((get_or s.words 0 0 + 18446744073709551615) % 18446744073709551616) id me.1
-    (lock_after_end me.0) keeps)
+    (record me.0 { state = Away }) keeps)
 leave_kept key s id me inside h at =
     let x = get_or s.words 0 0 in let small = word-small key s h in let one = counts key s id me.0 h at in
     let t = leave_turn x me.0.state inside in
     let n : (x + 18446744073709551615) % 18446744073709551616 ≡ (turn (Leave 0) x me.0.state).0 =
     omega (arith, ap (λ p. p.0) t) in
-    placed key (Leave 0) s ((x + 18446744073709551615) % 18446744073709551616) id me (lock_after_end me.0) h at n
+    placed key (Leave 0) s ((x + 18446744073709551615) % 18446744073709551616) id me (record me.0 { state = Away })
+    h at n
     (sym (ap (λ p. p.1) t)) refl (has_same key me.0 Away (h.each id me.0 at) (in-not_spent me.0.state inside) (λ e. cc))
 
 -- where a writer ends its hold, the lock's part of the rule is kept
@@ -163,14 +164,15 @@ pub end_kept : (key : Graph) (s : LockMoment) (id : ℕ) (me : LockSeat) → me.
     → get_elem? s.views id ≡ some me.0
     → LockRule key
     (stepped s 0 ((get_or s.words 0 0 + 18446744069414584320) % 18446744073709551616) id me.1
-    (lock_after_end me.0) keeps)
+    (record me.0 { state = Away }) keeps)
 end_kept key s id me writing h at =
     let x = get_or s.words 0 0 in let small = word-small key s h in let one = counts key s id me.0 h at in
     let is : writes me.0.state ≡ 1 = ap writes writing in
     let t : turn (EndWrite 0) x me.0.state ≡ (x - 4294967296, Away) = ap (turn (EndWrite 0) x) writing in
     let n : (x + 18446744069414584320) % 18446744073709551616 ≡ (turn (EndWrite 0) x me.0.state).0 =
     omega (arith, ap (λ p. p.0) t) in
-    placed key (EndWrite 0) s ((x + 18446744069414584320) % 18446744073709551616) id me (lock_after_end me.0) h at n
+    placed key (EndWrite 0) s ((x + 18446744069414584320) % 18446744073709551616) id me (record me.0 { state = Away })
+    h at n
     (sym (ap (λ p. p.1) t)) refl
     (has_same key me.0 Away (h.each id me.0 at) (not_spent me.0.state Writing writing (λ e. cc)) (λ e. cc))
 
@@ -193,8 +195,9 @@ pub take_kept : (key : Graph) (s : LockMoment) (id : ℕ) (me : LockSeat) → me
     → get_elem? s.views id ≡ some me.0
     → LockRule key
     (stepped s 0 (either (eqb (get_or s.words 0 0) 0) 4294967296 (get_or s.words 0 0)) id me.1
-    (after_try (TryWrite 0) (get_or s.words 0 0) me.0) keeps)
-take_kept key s id me away h at = let x = get_or s.words 0 0 in let w = after_try (TryWrite 0) x me.0 in
+    (lock_after_try me.0 (turn (TryWrite 0) (get_or s.words 0 0) me.0.state).1 (get_or s.words 0 0)) keeps)
+take_kept key s id me away h at = let x = get_or s.words 0 0 in
+    let w = lock_after_try me.0 (turn (TryWrite 0) x me.0.state).1 x in
     let t : turn (TryWrite 0) x me.0.state ≡ tried (eqb x 0) x = ap (turn (TryWrite 0) x) away in
     let n : either (eqb x 0) 4294967296 x ≡ (turn (TryWrite 0) x me.0.state).0 =
     either_cond (eqb x 0) x ∙ sym (ap (λ p. p.0) t) in
@@ -260,10 +263,10 @@ split_kept key id v away more s h at =
 
 -- where a seat that is away is joined into another that is, the lock's part of the rule is kept
 pub join_kept : (key : Graph) (id : ℕ) (v : LockView) (other : ℕ) (w : LockView) → v.state ≡ Away → w.state ≡ Away
-    → Joins (LockRule key) id v other w (lock_of_both v w) spent_lock
+    → Joins (LockRule key) id v other w (lock_of_both v w) spent_view.lock
 join_kept key id v other w away away' s h at apart there = let mid = set s.views id (lock_of_both v w) in
     let sum = total-set share_of s.views id v (lock_of_both v w) at in
-    let all = total-set share_of mid other w spent_lock there in
+    let all = total-set share_of mid other w spent_view.lock there in
     let few = h.shares in
     let has = has_share key v (h.each id v at) away in
     let e = at_map state_of s.views id v at in
@@ -279,12 +282,12 @@ join_kept key id v other w away away' s h at apart there = let mid = set s.views
           subst (λ l. IsLawful (world x l)) (sym (map-set state_of s.views id (lock_of_both v w))) one in
           let two : IsLawful (world x (set (map state_of mid) other Spent)) =
           quiet x (map state_of mid) other w.state Spent e' away' refl one' in
-          subst (λ l. IsLawful (world x l)) (sym (map-set state_of mid other spent_lock)) two;
+          subst (λ l. IsLawful (world x l)) (sym (map-set state_of mid other spent_view.lock)) two;
       shares = omega arith;
       each = λ i u g. ⊎_elim (λ t. subst (HasLockShare key) t.1 refl)
           (λ t. ⊎_elim (λ t'. subst (HasLockShare key) t'.1 (has_from key (lock_of_both v w) away (omega arith, has.1)))
           (λ t'. h.each i u t'.1) (at_set s.views id i (lock_of_both v w) u t.1))
-          (at_set mid other i spent_lock u g);
+          (at_set mid other i spent_view.lock u g);
     }
 
 -- a view without a share neither writes nor reads nor retreats

@@ -2,10 +2,10 @@
 use Rattle.std.proofs.Common.{◌≡◌, ◌≢◌, ℕ, ◌+◌, ◌-◌, ◌%◌, ◌^◌, Bool, true, false, cond, eqb, ltb, [], map, get_or, set, sym, refl, ap, ◌∙◌, subst, arith, get_or-set_other, ⊎_elim, inl}
 use Rattle.std.proofs.lemmas.Bool.{eqb-true, false≢true}
 use Rattle.std.proofs.lemmas.List.{map-set}
-use mathlib.Core.Option.{none, some}
+use mathlib.Core.Option.{some}
 use lib.ListN.{get_elem?}
 use prog.Atomic.{either}
-use Rattle.atomic_table.specs.Table.{Me, step, keeps, stepped, Allows}
+use Rattle.atomic_table.specs.Table.{Me, keeps, stepped, Allows}
 use Rattle.atomic_table.proofs.Lists.{at_set, at_map}
 use Rattle.cmh_graph.specs.Graph.{Graph}
 use Rattle.cmh_rw.specs.declared.TheConstants.{FIRST_ROW, FIRST_VERDICT, WRITER}
@@ -16,13 +16,12 @@ use Rattle.cmh_rw.specs.declared.view.LockView.{LockView}
 use Rattle.cmh_rw.specs.declared.view.View.{View}
 use Rattle.cmh_rw.specs.Machine.{total, writes, reads, retreats, turn}
 use Rattle.cmh_rw.specs.History.{fold_at}
-use Rattle.cmh_rw.specs.View.{view_after_end}
+use Rattle.cmh_rw.specs.View.{lock_after_try, view_after_try, view_after_end}
 use Rattle.cmh_rw.specs.Rule.{Moment, lock_of, lock_moment, state_of, LockRule, SeatRule, WordsRule}
-use Rattle.cmh_rw.specs.Steps.{TableSeat, after_try, with_lock, Entered, Ended, Taken}
 use Rattle.cmh_rw.proofs.Folds.{fold-nothing}
 use Rattle.cmh_rw.proofs.Lawful.{total-set}
 use Rattle.cmh_rw.proofs.Lock.{enter_kept, leave_kept, take_kept, end_kept}
-use Rattle.cmh_rw.proofs.Moments.{away_writing, away_spent, not_held, idle_still, state_at}
+use Rattle.cmh_rw.proofs.Moments.{TableSeat, away_writing, away_spent, not_held, idle_still, state_at}
 
 -- the lock's part of a seat
 abbrev lock_me : TableSeat → Me (Unit {0}) LockView
@@ -73,7 +72,8 @@ cond-not_spent false = λ e. cc
 -- a seat that is away knows the same where it comes to hold the lock with nothing staged
 entering : (key : Graph) (s : Moment) (b : WordsRule key s) (id : ℕ) (v : View) (l : LockView)
     → get_elem? s.views id ≡ some v → v.lock.state ≡ Away → l.state ≢ Spent
-    → (l.state ≡ Writing → (b.staged ≡ []) × (b.told ≡ [])) → SeatRule b.postings b.staged b.told (with_lock v l)
+    → (l.state ≡ Writing → (b.staged ≡ []) × (b.told ≡ []))
+    → SeatRule b.postings b.staged b.told (record v { lock = l })
 entering key s b id v l at is not_spent clear =
     let k = b.each id v at in let bare = k.bare (λ e. away_writing (sym is ∙ e)) in record {
       writing = λ e. (bare.0 ∙ sym (clear e).0, bare.1 ∙ sym (clear e).1);
@@ -87,17 +87,18 @@ entering key s b id v l at is not_spent clear =
 
 -- where a seat that is away counts itself in, the rule is kept
 pub enters : (key : Graph) (slots id : ℕ) (me : TableSeat) → me.0.lock.state ≡ Away
-    → Allows (WordsRule key) slots id me 0 (λ n. (n + 1) % 2 ^ 64) (Entered (step slots 0 1 0 none) me)
+    → Allows (WordsRule key) slots id me 0 (λ n. (n + 1) % 2 ^ 64)
+    (λ n m. m ≡ (view_after_try me.0 (turn (Admit 0) n me.0.lock.state).1 n, me.1))
 enters key slots id me is s b homes at small =
     let v = me.0 in
     let x = get_or s.words 0 0 in
     let low = enter_kept key (lock_moment s) id (lock_me me) is b.lock (at_map lock_of s.views id v at) in
-    let l = after_try (Admit 0) x v.lock in
+    let l = lock_after_try v.lock (turn (Admit 0) x v.lock.state).1 x in
     let state : l.state ≡ cond (ltb x WRITER) Reading Retreating = ap (λ a. (turn (Admit 0) x a).1) is in (
-      with_lock v l,
+      record v { lock = l },
       keeps,
       tt,
-      locked key s b ((x + 1) % 18446744073709551616) id me (with_lock v l) at low refl
+      locked key s b ((x + 1) % 18446744073709551616) id me (record v { lock = l }) at low refl
           (entering key s b id v l at is (λ e. cond-not_spent (ltb x WRITER) (sym state ∙ e))
           (λ e. absurd (cond-not_writing (ltb x WRITER) (sym state ∙ e))))
           (λ z. b.idle
@@ -129,7 +130,7 @@ inside-not_writing Spent h = (λ e. cc, refl)
 
 -- where a reader ends its hold or a seat retreats, the rule is kept
 pub leaves : (key : Graph) (slots id : ℕ) (me : TableSeat) → reads me.0.lock.state + retreats me.0.lock.state ≡ 1
-    → Allows (WordsRule key) slots id me 0 (λ n. (n + (2 ^ 64 - 1)) % 2 ^ 64) (Ended (step slots 0 1 0 none) me)
+    → Allows (WordsRule key) slots id me 0 (λ n. (n + (2 ^ 64 - 1)) % 2 ^ 64) (λ _ m. m ≡ (view_after_end me.0, me.1))
 leaves key slots id me inside s b homes at small =
     let v = me.0 in
     let x = get_or s.words 0 0 in
@@ -149,7 +150,7 @@ leaves key slots id me inside s b homes at small =
 -- where a writer with nothing staged ends its hold, the rule is kept
 pub write_ends : (key : Graph) (slots id : ℕ) (me : TableSeat) → me.0.lock.state ≡ Writing → me.0.staged ≡ []
     → Allows (WordsRule key) slots id me 0 (λ n. (n + (2 ^ 64 - 4294967296)) % 2 ^ 64)
-    (Ended (step slots 0 4294967296 0 none) me)
+    (λ _ m. m ≡ (view_after_end me.0, me.1))
 write_ends key slots id me is clear s b homes at small =
     let v = me.0 in
     let x = get_or s.words 0 0 in
@@ -182,21 +183,22 @@ taken-writing false x e = absurd (cc)
 -- where a seat that is away tries to become the writer, the rule is kept
 pub takes_lock : (key : Graph) (slots id : ℕ) (me : TableSeat) → me.0.lock.state ≡ Away
     → Allows (WordsRule key) slots id me 0 (λ n. either (eqb n 0) 4294967296 n)
-    (Taken (step slots 0 0 4294967296 none) me)
+    (λ n m. (m ≡ (view_after_try me.0 (turn (TryWrite 0) n me.0.lock.state).1 n, me.1))
+    × (me.0.staged ≡ []) × (me.0.told ≡ []))
 takes_lock key slots id me is s b homes at small =
     let v = me.0 in
     let x = get_or s.words 0 0 in
     let low = take_kept key (lock_moment s) id (lock_me me) is b.lock (at_map lock_of s.views id v at) in
-    let l = after_try (TryWrite 0) x v.lock in
+    let l = lock_after_try v.lock (turn (TryWrite 0) x v.lock.state).1 x in
     let state : l.state ≡ (taken (eqb x 0) x).1 = ap (λ a. (turn (TryWrite 0) x a).1) is in
     let bare = (b.each id v at).bare (λ e. away_writing (sym is ∙ e)) in
     let law = b.lock.lock.word in
     let clear : l.state ≡ Writing → (b.staged ≡ []) × (b.told ≡ []) =
     λ e. let free : x ≡ 0 = eqb-true x 0 (taken-writing (eqb x 0) x (sym state ∙ e)) in b.idle (omega arith) in (
-      with_lock v l,
+      record v { lock = l },
       keeps,
       tt,
-      locked key s b (either (eqb x 0) 4294967296 x) id me (with_lock v l) at low refl
+      locked key s b (either (eqb x 0) 4294967296 x) id me (record v { lock = l }) at low refl
           (entering key s b id v l at is (λ e. taken-not_spent (eqb x 0) x (sym state ∙ e)) clear)
           (λ z. b.idle
           (idle_still (map state_of (map lock_of s.views)) id v.lock.state l.state (state_at s.views id v at)

@@ -3,6 +3,7 @@ use Rattle.std.proofs.Common.{◌≡◌, ◌≢◌, ℕ, zero, suc, ◌+◌, ◌
 use Rattle.std.proofs.lemmas.List.{map-set}
 use mathlib.Core.Option.{some, some-injective, some-ne-none}
 use lib.ListN.{get_elem?}
+use Rattle.atomic_table.specs.Table.{Me}
 use Rattle.atomic_table.proofs.Lists.{at_set, at_map, set_again}
 use Rattle.cmh_graph.specs.Graph.{Graph}
 use Rattle.cmh_rw.specs.declared.machine.SeatState.{SeatState}
@@ -13,6 +14,10 @@ use Rattle.cmh_rw.specs.Machine.{world, total, writes, reads, IsLawful}
 use Rattle.cmh_rw.specs.View.{IsHeld}
 use Rattle.cmh_rw.specs.Rule.{Moment, lock_of, state_of, HasShare, HasLockShare, LockRule, SeatRule, WordsRule}
 use Rattle.cmh_rw.proofs.Lawful.{total-set, total-in}
+
+-- a seat of the table: its view, and no slots
+abbrev pub TableSeat : Type 0
+TableSeat = Me (Unit {0}) View
 
 -- to be away isn't to write
 pub away_writing : Away ≢ Writing

@@ -1,5 +1,5 @@
 -- Postings laid end to end, and what of them a seat has seen.
-use Rattle.std.proofs.Common.{◌≡◌, ◌⊎◌, ◌+◌, ◌≤◌, true, false, ltb, length, length-append, List, [], ◌∷◌, ◌++◌, drop, get_or, sym, refl, ap, ◌∙◌, subst, arith, append_assoc, append-nil, inl, inr, ⊎_elim}
+use Rattle.std.proofs.Common.{◌≡◌, ◌⊎◌, ◌≤◌, true, false, ltb, length, length-append, List, [], ◌∷◌, ◌++◌, drop, get_or, sym, refl, ap, ◌∙◌, subst, arith, append_assoc, append-nil, inl, inr, ⊎_elim}
 use Rattle.cmh_rw.specs.declared.row.Row.{Row}
 use Rattle.std.proofs.lemmas.Bool.{ltb-true, ltb-false, cond_both}
 use Rattle.cmh_rw.specs.View.{longer_list}

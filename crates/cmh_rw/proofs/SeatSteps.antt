@@ -1,29 +1,28 @@
 -- The opening moment meets the rule, and a split and a join of seats that are away keep it.
-use Rattle.std.proofs.Common.{◌≡◌, ◌≢◌, ℕ, zero, suc, ◌+◌, ◌<◌, ◌≤◌, false, ltb, List, [], ◌∷◌, ◌++◌, map, length, replicate, set, sym, refl, ap, ◌∙◌, subst, arith, append-nil, inl, ⊎_elim}
+use Rattle.std.proofs.Common.{◌≡◌, ◌≢◌, ℕ, zero, suc, ◌+◌, ◌<◌, ◌≤◌, false, ltb, List, [], ◌∷◌, ◌++◌, map, length, replicate, set, sym, refl, ap, ◌∙◌, subst, arith, append-nil, inl, ◌⊎◌, ⊎_elim}
 use Rattle.std.proofs.lemmas.List.{map-set, set-get_or, length-replicate, get_or-replicate}
 use Rattle.std.proofs.lemmas.Bool.{cond_both, false≢true}
 use mathlib.Core.List.{map-append}
-use mathlib.Core.Option.{none, some, some-injective, some-ne-none}
+use mathlib.Core.Option.{some, some-injective, some-ne-none}
 use lib.ListN.{get_elem?}
-use Rattle.atomic_table.specs.Table.{opening, step, keeps, Allows, Splits, Joins}
+use Rattle.atomic_table.specs.Table.{opening, keeps, Allows, Splits, Joins}
 use Rattle.atomic_table.proofs.Lists.{at_set, at_map, at_snoc}
 use Rattle.cmh_graph.specs.declared.TheConstants.{MAX_PROCESSES}
 use Rattle.cmh_graph.specs.Graph.{Graph, process_count}
-use Rattle.cmh_rw.specs.declared.TheConstants.{FIRST_ROW, FIRST_VERDICT, BOARD_WORDS}
+use Rattle.cmh_rw.specs.declared.TheConstants.{MAX_SEATS, FIRST_ROW, FIRST_VERDICT, BOARD_WORDS}
 use Rattle.cmh_rw.specs.declared.machine.SeatState.TheVariants.{Away, Writing, Spent}
 use Rattle.cmh_rw.specs.declared.row.Row.{Row}
 use Rattle.cmh_rw.specs.declared.view.LockView.{LockView}
 use Rattle.cmh_rw.specs.declared.view.View.{View}
 use Rattle.cmh_rw.specs.Machine.{total, writes}
-use Rattle.cmh_rw.specs.History.{IsSeen, IsTrueOf}
-use Rattle.cmh_rw.specs.View.{opening_lock, opening_view, lock_less_one, view_less_one, newcomer_lock, newcomer_view, lock_of_both, view_before_compare, view_after_compare, spent_lock, spent_view}
+use Rattle.cmh_rw.specs.History.{IsSeen, IsTrueOf, StartsWith}
+use Rattle.cmh_rw.specs.View.{opening_view, lock_less_one, view_less_one, newcomer_lock, newcomer_view, lock_of_both, view_before_compare, view_after_compare, spent_view}
 use Rattle.cmh_rw.specs.Rule.{lock_of, lock_moment, state_of, share_of, HasLockShare, LockRule, SeatRule, WordsRule}
-use Rattle.cmh_rw.specs.Steps.{TableSeat, Compared}
 use Rattle.cmh_rw.proofs.Folds.{true-left}
 use Rattle.cmh_rw.proofs.Lawful.{total-set, total-append, total-snoc, total-in}
 use Rattle.cmh_rw.proofs.Lock.{split_kept, join_kept}
 use Rattle.cmh_rw.proofs.LoadSteps.{history-true}
-use Rattle.cmh_rw.proofs.Moments.{away_writing, away_spent, not_held, idle_still, state_at, away_graph, reviewed}
+use Rattle.cmh_rw.proofs.Moments.{TableSeat, away_writing, away_spent, not_held, idle_still, state_at, away_graph, reviewed}
 use Rattle.cmh_rw.proofs.Postings.{none-seen, seen-prefix, seen_compare}
 
 -- a view that doesn't write, and has loaded, staged, told and added nothing, is as the rule asks
@@ -75,8 +74,8 @@ opens key small = record {
   owners = λ h. refl;
 }
   where
-    only : (i : ℕ) (l : LockView) → get_elem? (opening_lock key ∷ []) i ≡ some l → HasLockShare key l
-    only zero l e = subst (HasLockShare key) (some-injective (opening_lock key) l e) (omega arith, refl)
+    only : (i : ℕ) (l : LockView) → get_elem? ((opening_view key).lock ∷ []) i ≡ some l → HasLockShare key l
+    only zero l e = subst (HasLockShare key) (some-injective (opening_view key).lock l e) (omega arith, refl)
     only (suc i) l e = absurd (some-ne-none l (sym e))
 
     first : (i : ℕ) (v : View) → get_elem? (opening_view key ∷ []) i ≡ some v → SeatRule [] [] [] v
@@ -151,8 +150,8 @@ joins key id v other w away away' s b at apart there =
     join_kept key id v.lock other w.lock away away' (lock_moment s) b.lock (at_map lock_of s.views id v at) apart
     there' in
     let views : map lock_of (set mid other spent_view)
-    ≡ set (set (map lock_of s.views) id (lock_of_both v.lock w.lock)) other spent_lock =
-    map-set lock_of mid other spent_view ∙ ap (λ l. set l other spent_lock) first in
+    ≡ set (set (map lock_of s.views) id (lock_of_both v.lock w.lock)) other spent_view.lock =
+    map-set lock_of mid other spent_view ∙ ap (λ l. set l other spent_view.lock) first in
     let was : SeatRule b.postings b.staged b.told w =
     ⊎_elim (λ t. absurd (apart t.0)) (λ t. b.each other w t.1) (at_set s.views id other both w there) in
     record {
@@ -173,7 +172,7 @@ joins key id v other w away away' s b at apart there =
           ap (map state_of) first ∙ map-set state_of (map lock_of s.views) id (lock_of_both v.lock w.lock) in
           let two : map state_of (map lock_of (set mid other spent_view)) ≡ set m other Spent =
           ap (map state_of) (map-set lock_of mid other spent_view)
-          ∙ map-set state_of (map lock_of mid) other spent_lock in
+          ∙ map-set state_of (map lock_of mid) other spent_view.lock in
           let y =
           idle_still m other w.lock.state Spent (state_at mid other w there) (ap writes away')
           (ap (total writes) (sym two) ∙ z) in
@@ -205,7 +204,9 @@ joins key id v other w away away' s b at apart there =
 
 -- a load after a join keeps the rule: one of the two histories begins the other, and the longer is kept
 pub compares : (key : Graph) (slots id : ℕ) (me : TableSeat) → me.0.lock.state ≡ Away
-    → Allows (WordsRule key) slots id me 0 (λ n. n) (Compared (step slots 0 0 0 none) me)
+    → Allows (WordsRule key) slots id me 0 (λ n. n) (λ _ m. (m ≡ (view_after_compare me.0, me.1))
+    × (StartsWith me.0.seen me.0.other ⊎ StartsWith me.0.other me.0.seen)
+    × IsTrueOf me.0.lock.graph (m.0.seen ++ m.0.staged) × (me.0.lock.share ≤ MAX_SEATS))
 compares key slots id me away s b _ at _ =
     let v = me.0 in let w = view_after_compare v in let k = b.each id v at in let few = b.lock.shares in
     let seen : IsSeen w.seen b.postings =

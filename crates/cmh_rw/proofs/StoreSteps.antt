@@ -1,28 +1,27 @@
 -- The stores of a row and of a verdict keep the rule.
-use Rattle.std.proofs.Common.{◌≡◌, ℕ, ◌+◌, ◌<◌, true, Some, List, [], ◌∷◌, ◌++◌, map, length, get_or, set, sym, refl, ap, ◌∙◌, subst, arith, length-append, append_assoc, get_or-set_same, get_or-set_other, inl, inr, ⊎_elim}
+use Rattle.std.proofs.Common.{◌≡◌, ℕ, ◌+◌, ◌-◌, ◌<◌, true, cond, eqb, Some, List, [], ◌∷◌, ◌++◌, map, length, get_or, set, sym, refl, ap, ◌∙◌, subst, arith, length-append, append_assoc, get_or-set_same, get_or-set_other, inl, inr, ⊎_elim}
 use Rattle.std.proofs.lemmas.List.{length-map}
 use Rattle.std.proofs.lemmas.Bool.{cases_eq, cases_Bool, ne_eqb}
 use mathlib.Core.List.{map-append}
-use mathlib.Core.Option.{none}
-use Rattle.atomic_table.specs.Table.{step, keeps, Allows}
+use Rattle.atomic_table.specs.Table.{keeps, Allows}
 use Rattle.atomic_table.proofs.Lists.{at_set, at_map}
 use Rattle.cmh_graph.specs.declared.TheConstants.{MAX_PROCESSES}
 use Rattle.cmh_graph.specs.declared.verdict.Verdict.{Verdict}
+use Rattle.cmh_graph.specs.declared.verdict.Verdict.TheVariants.{Deadlocked, Free}
 use Rattle.cmh_graph.specs.Graph.{Graph, is_idle}
 use Rattle.cmh_graph.specs.Verdict.{verdict}
 use Rattle.cmh_rw.specs.declared.TheConstants.{FIRST_ROW, FIRST_VERDICT}
 use Rattle.cmh_rw.specs.declared.machine.SeatState.TheVariants.{Writing}
 use Rattle.cmh_rw.specs.declared.row.Row.{Row}
 use Rattle.cmh_rw.specs.declared.view.View.{View}
-use Rattle.cmh_rw.specs.History.{rows_in, row_code, verdict_code, fold_at, IsOpen, IsTrueOf}
+use Rattle.cmh_rw.specs.History.{rows_in, row_code, row_of, verdict_code, fold_at, IsOpen, IsTrueOf}
 use Rattle.cmh_rw.specs.Machine.{total}
 use Rattle.cmh_rw.specs.View.{CanStage, with_row, with_told, mark}
 use Rattle.cmh_rw.specs.Rule.{lock_of, SeatRule, WordsRule}
-use Rattle.cmh_rw.specs.Steps.{TableSeat, Staged, Told}
 use Rattle.cmh_rw.proofs.Codes.{row_code_law, mark_of, get-seam, get-else}
 use Rattle.cmh_rw.proofs.Folds.{fold-else, fold-keeps, fold-skip, true-snoc, true-apart, told-now}
 use Rattle.cmh_rw.proofs.Lawful.{total-set}
-use Rattle.cmh_rw.proofs.Moments.{held_graph, writes-Writing, beside_writer, some_writer, lock_beside}
+use Rattle.cmh_rw.proofs.Moments.{TableSeat, held_graph, writes-Writing, beside_writer, some_writer, lock_beside}
 use Rattle.cmh_rw.proofs.Postings.{part-snoc}
 
 -- beside a writer, a seat knows the same whatever is staged and told
@@ -43,7 +42,7 @@ still postings staged told more_staged more_told u not k =
 pub stages : (key : Graph) (slots id n : ℕ) (r : Row) (me : TableSeat) → me.0.lock.state ≡ Writing → me.0.loaded ≡ true
     → CanStage me.0 r → n ≡ length me.0.seen + length me.0.staged → n < MAX_PROCESSES
     → Allows (WordsRule key) slots id me (FIRST_ROW + n) (λ _. row_code r)
-    (λ _. Staged (step slots (FIRST_ROW + n) (row_code r) 0 none) me (row_code r))
+    (λ _ m. m ≡ (with_row me.0 (row_of (row_code r)), me.1))
 stages key slots id n r me writing loaded can is low s b _ at _ =
     let v = me.0 in let w = with_row v r in let old = rows_in b.postings in
     let k = b.each id v at in let own = k.writing writing in let fresh = k.fresh loaded in let all = old ++ b.staged in
@@ -114,7 +113,11 @@ stages key slots id n r me writing loaded can is low s b _ at _ =
 pub tells : (key : Graph) (slots id p : ℕ) (says : Verdict) (me : TableSeat) → me.0.lock.state ≡ Writing
     → fold_at me.0.staged p ≡ Some says → p < MAX_PROCESSES
     → Allows (WordsRule key) slots id me (FIRST_VERDICT + p) (λ _. verdict_code (Some says))
-    (λ _. Told (step slots (FIRST_VERDICT + p) (verdict_code (Some says)) 0 none) me (verdict_code (Some says)))
+    (λ _ m. m ≡ (
+      with_told me.0
+          (mark (FIRST_VERDICT + p - FIRST_VERDICT) (cond (eqb (verdict_code (Some says)) 2) Free Deadlocked)),
+      me.1,
+    ))
 tells key slots id p says me writing staged_says low s b _ at _ =
     let v = me.0 in let q = mark p says in let w = with_told v q in let old = rows_in b.postings in
     let k = b.each id v at in let own = k.writing writing in let code = verdict_code (Some says) in

@@ -35,10 +35,6 @@ verdict_code None = 0
 verdict_code (Some Deadlocked) = 1
 verdict_code (Some Free) = 2
 
--- the verdict that is stored as this word, which isn't 0
-abbrev pub verdict_from_code : ℕ → Verdict
-verdict_from_code code = if code == 2 then Free else Deadlocked
-
 -- what the rows say of a process
 abbrev pub fold_at : List Row → ℕ → Option Verdict
 fold_at [] p = None

@@ -3,5 +3,4 @@ pub mod History
 pub mod Machine
 pub mod Rule
 pub mod Seats
-pub mod Steps
 pub mod View

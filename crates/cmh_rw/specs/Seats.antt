@@ -11,8 +11,7 @@ use Rattle.cmh_rw.specs.declared.words.RwWords.{RwWords}
 use Rattle.cmh_rw.specs.declared.words.RwSeat.{RwSeat}
 use Rattle.cmh_rw.specs.declared.words.Closed.{Closed}
 use Rattle.cmh_rw.specs.History.{row_code, verdict_code, fold_at, rows_in, ArePostings, IsTrueOf, IsSeen}
-use Rattle.cmh_rw.specs.Machine.{IsSeat, total}
-use Rattle.cmh_rw.specs.Rule.{Moment, WordsRule}
+use Rattle.cmh_rw.specs.Machine.{total}
 
 -- what the seat knows
 abbrev pub rw_view : RwSeat → View
@@ -33,13 +32,6 @@ words_graph w = w.table.shared.key
 -- the values of the closed words
 abbrev pub words_of : Closed → List ℕ
 words_of c = slots_items c.inner.words
-
--- the words are those of a moment that meets the rule, in which some seat has this view
-pub record ClosedBy (key : Graph) (v : View) (words : List ℕ) : Type 0 where
-  pub moment : Moment
-  pub rule : WordsRule key moment
-  pub here : moment.words ≡ words
-  pub seat : (id : ℕ) × IsSeat moment.views id v
 
 -- Nobody holds the lock and nothing is staged: past the history the row words are 0, and the
 -- verdict words are what it says. The postings are the seat's own, however they weigh.

@@ -19,14 +19,10 @@ use Rattle.cmh_rw.specs.History.{row_code, verdict_code, fold_at, IsHistory, IsO
 abbrev pub IsHeld : SeatState → Type 0
 IsHeld state = writes state + reads state ≡ 1
 
--- what the first seat knows of the lock: it is away, and has the whole share
-abbrev pub opening_lock : Graph → LockView
-opening_lock g = record { graph = g; state = Away; share = MAX_SEATS; tries = 0; found = 0 }
-
--- what the first seat knows: it has seen nothing and added nothing
+-- what the first seat knows: it is away, has the whole share, and has seen and added nothing
 abbrev pub opening_view : Graph → View
 opening_view g = record {
-  lock = opening_lock g;
+  lock = record { graph = g; state = Away; share = MAX_SEATS; tries = 0; found = 0 };
   loaded = false;
   seen = [];
   other = [];
@@ -44,13 +40,9 @@ lock_after_try l state found = record l { state = state; tries = l.tries + 1; fo
 abbrev pub view_after_try : View → SeatState → ℕ → View
 view_after_try v state found = record v { lock = lock_after_try v.lock state found }
 
--- what a seat knows of the lock once it has left it
-abbrev pub lock_after_end : LockView → LockView
-lock_after_end l = record l { state = Away }
-
 -- the seat holds nothing any more, and what it loaded and told in the hold is over
 abbrev pub view_after_end : View → View
-view_after_end v = record v { lock = lock_after_end v.lock; loaded = false; told = [] }
+view_after_end v = record v { lock = record v.lock { state = Away }; loaded = false; told = [] }
 
 -- after a try to read: the lock was got where no writer was found, else the seat retreated
 abbrev pub AfterRead : View → Entry → View → Type 0
@@ -62,14 +54,10 @@ abbrev pub AfterWrite : View → Entry → View → Type 0
 AfterWrite v Held w = (w ≡ view_after_try v Writing 0) × (v.staged ≡ []) × (v.told ≡ [])
 AfterWrite v (Busy n) w = (0 < n) × (w ≡ view_after_try v Away n)
 
--- the view once a word was loaded, where this is the history
-abbrev pub view_after_load : View → List Row → View
-view_after_load v rows = record v { loaded = true; seen = rows; loads = v.loads + 1 }
-
 -- What a load says. The seat sees the whole history: one that begins with all that it had seen, and
 -- the same as at an earlier load of the hold.
 pub record AfterLoad (v : View) (word found : ℕ) (w : View) : Type 0 where
-  pub view : w ≡ view_after_load v w.seen
+  pub view : w ≡ record v { loaded = true; seen = w.seen; loads = v.loads + 1 }
   pub begins : StartsWith w.seen v.seen
   pub same : v.loaded ≡ true → w.seen ≡ v.seen
   pub whole : IsHistory w.seen
@@ -126,7 +114,7 @@ view_less_one v = record v { lock = lock_less_one v.lock }
 
 -- what a new seat knows of the lock, which was given one share
 abbrev pub newcomer_lock : LockView → LockView
-newcomer_lock l = record (opening_lock l.graph) { share = 1 }
+newcomer_lock l = record { graph = l.graph; state = Away; share = 1; tries = 0; found = 0 }
 
 -- a new seat that has seen the same
 abbrev pub newcomer_view : View → View
@@ -156,14 +144,8 @@ view_after_compare v = record v { seen = longer_list v.seen v.other; other = [] 
 abbrev pub joined_view : View → View → View
 joined_view v w = view_after_compare (view_before_compare v w)
 
--- the graph of nothing
-abbrev pub no_graph : Graph
-no_graph = record { processes = []; in_transit = [] }
-
--- what is left of a seat that was joined into another: no share
-abbrev pub spent_lock : LockView
-spent_lock = record (opening_lock no_graph) { state = Spent; share = 0 }
-
--- the view of a seat that was joined into another: it knows nothing any more
+-- the view of a seat that was joined into another: it has no share, and knows nothing any more
 abbrev pub spent_view : View
-spent_view = record (opening_view no_graph) { lock = spent_lock }
+spent_view =
+    let v = opening_view record { processes = []; in_transit = [] } in
+    record v { lock = record v.lock { state = Spent; share = 0 } }

@@ -20,72 +20,99 @@ impl TableRule<(), View, WaitGraph> for HistoryRule {
 pub(crate) struct Enter;
 
 impl Play<(), View> for Enter {
-    ghost use Rattle.cmh_rw.specs.Steps.{Entered};
+    ghost use Rattle.std.specs.Prelude.{◌≡◌};
+    ghost use Rattle.cmh_rw.specs.declared.machine.Event.TheVariants.{Admit};
+    ghost use Rattle.cmh_rw.specs.Machine.{turn};
+    ghost use Rattle.cmh_rw.specs.View.{view_after_try};
 
-    ghost then = { Entered };
+    ghost then = { λ st m found m'.
+        m' ≡ (view_after_try m.0 (turn (Admit 0) found m.0.lock.state).1 found, m.1) };
 }
 
 /// A seat ends its hold, or retreats.
 pub(crate) struct End;
 
 impl Play<(), View> for End {
-    ghost use Rattle.cmh_rw.specs.Steps.{Ended};
+    ghost use Rattle.std.specs.Prelude.{◌≡◌};
+    ghost use Rattle.cmh_rw.specs.View.{view_after_end};
 
-    ghost then = { Ended };
+    ghost then = { λ st m found m'. m' ≡ (view_after_end m.0, m.1) };
 }
 
-/// A seat tries to become the writer.
+/// A seat tries to become the writer. Nothing is staged yet.
 pub(crate) struct Take;
 
 impl Play<(), View> for Take {
-    ghost use Rattle.cmh_rw.specs.Steps.{Taken};
+    ghost use Rattle.std.specs.Prelude.{◌≡◌, []};
+    ghost use Rattle.cmh_rw.specs.declared.machine.Event.TheVariants.{TryWrite};
+    ghost use Rattle.cmh_rw.specs.Machine.{turn};
+    ghost use Rattle.cmh_rw.specs.View.{view_after_try};
 
-    ghost then = { Taken };
+    ghost then = { λ st m found m'.
+        (m' ≡ (view_after_try m.0 (turn (TryWrite 0) found m.0.lock.state).1 found, m.1))
+        × (m.0.staged ≡ []) × (m.0.told ≡ []) };
 }
 
 /// A seat loads a word in a hold.
 pub(crate) struct Load;
 
 impl Play<(), View> for Load {
-    ghost use Rattle.cmh_rw.specs.Steps.{Loaded};
+    ghost use Rattle.std.specs.Prelude.{◌≡◌};
+    ghost use Rattle.cmh_rw.specs.View.{AfterLoad};
 
-    ghost then = { Loaded };
+    ghost then = { λ st m found m'. AfterLoad m.0 st.word found m'.0 × (m'.1 ≡ m.1) };
 }
 
 /// A writer stores a row.
 pub(crate) struct StoreRow;
 
 impl Play<(), View> for StoreRow {
-    ghost use Rattle.cmh_rw.specs.Steps.{Staged};
+    ghost use Rattle.std.specs.Prelude.{◌≡◌};
+    ghost use Rattle.cmh_rw.specs.History.{row_of};
+    ghost use Rattle.cmh_rw.specs.View.{with_row};
 
-    ghost then = { Staged };
+    ghost then = { λ st m found m'. m' ≡ (with_row m.0 (row_of st.first), m.1) };
 }
 
 /// A writer stores a verdict.
 pub(crate) struct StoreVerdict;
 
 impl Play<(), View> for StoreVerdict {
-    ghost use Rattle.cmh_rw.specs.Steps.{Told};
+    ghost use Rattle.std.specs.Prelude.{◌≡◌, ◌-◌, ◌==◌, if◌then◌else◌};
+    ghost use Rattle.cmh_graph.specs.declared.verdict.Verdict.TheVariants.{Deadlocked, Free};
+    ghost use Rattle.cmh_rw.specs.declared.TheConstants.{FIRST_VERDICT};
+    ghost use Rattle.cmh_rw.specs.View.{mark, with_told};
 
-    ghost then = { Told };
+    ghost then = { λ st m found m'. m' ≡ (
+      with_told m.0
+          (mark (st.word - FIRST_VERDICT) (if st.first == 2 then Free else Deadlocked)),
+      m.1,
+    ) };
 }
 
-/// A writer stores the count.
+/// A writer stores the count. What it had staged was a posting.
 pub(crate) struct StoreCount;
 
 impl Play<(), View> for StoreCount {
-    ghost use Rattle.cmh_rw.specs.Steps.{Counted};
+    ghost use Rattle.std.specs.Prelude.{◌≡◌};
+    ghost use Rattle.cmh_rw.specs.History.{IsPosting};
+    ghost use Rattle.cmh_rw.specs.View.{view_after_posting};
 
-    ghost then = { Counted };
+    ghost then = { λ st m found m'. (m' ≡ (view_after_posting m.0, m.1)) × IsPosting m.0.staged };
 }
 
 /// A seat that has just joined another compares what the two have seen.
 pub(crate) struct Compare;
 
 impl Play<(), View> for Compare {
-    ghost use Rattle.cmh_rw.specs.Steps.{Compared};
+    ghost use Rattle.std.specs.Prelude.{◌≡◌, ◌⊎◌, ◌≤◌, ◌++◌};
+    ghost use Rattle.cmh_rw.specs.declared.TheConstants.{MAX_SEATS};
+    ghost use Rattle.cmh_rw.specs.History.{IsTrueOf, StartsWith};
+    ghost use Rattle.cmh_rw.specs.View.{view_after_compare};
 
-    ghost then = { Compared };
+    ghost then = { λ st m found m'. (m' ≡ (view_after_compare m.0, m.1))
+        × (StartsWith m.0.seen m.0.other ⊎ StartsWith m.0.other m.0.seen)
+        × IsTrueOf m.0.lock.graph (m'.0.seen ++ m'.0.staged) × (m.0.lock.share ≤ MAX_SEATS) };
 }
 
 /// How seats are split and joined.

@@ -55,12 +55,14 @@ pub enum Entry {
 // Seats, tries, and the end.
 
 impl RwWords {
-    ghost use Rattle.std.specs.Prelude.{◌≡◌, ◌<◌, ◌≤◌, [], IfOk, IfErr, IfSome, IfNone};
+    ghost use Rattle.std.specs.Prelude.{◌≡◌, ◌<◌, ◌≤◌, ℕ, [], IfOk, IfErr, IfSome, IfNone};
     ghost use Rattle.cmh_rw.specs.declared.TheConstants.{MAX_SEATS};
     ghost use Rattle.cmh_rw.specs.History.{StartsWith};
     ghost use Rattle.cmh_rw.specs.declared.machine.SeatState.TheVariants.{Reading, Writing};
     ghost use Rattle.cmh_rw.specs.View.{opening_view, AfterRead, AfterWrite, view_after_end, view_less_one, newcomer_view, joined_view};
-    ghost use Rattle.cmh_rw.specs.Seats.{rw_view, IsSeatOf, IsAway, words_graph, words_of, ClosedBy, ClosedHistory};
+    ghost use Rattle.cmh_rw.specs.Seats.{rw_view, IsSeatOf, IsAway, words_graph, words_of, ClosedHistory};
+    ghost use Rattle.cmh_rw.specs.Machine.{IsSeat};
+    ghost use Rattle.cmh_rw.specs.Rule.{Moment, WordsRule};
 
     /// All words are 0. The seat is away and has the whole share.
     pub fn open(alloc: Global, graph: &WaitGraph) -> Result<(RwWords, RwSeat), RwFault>
@@ -185,11 +187,13 @@ impl RwWords {
         seat.share()
     }
 
-    /// The words at the end. With the whole share no other seat is left, so that the lock is free.
+    /// The words at the end, which are those of a moment that meets the rule, in which some seat has
+    /// this view. With the whole share no other seat is left, so that the lock is free.
     pub fn close_with(self, seat: RwSeat) -> Closed
         requires own { IsSeatOf self seat }
         requires away { IsAway seat }
-        ensures rule { ClosedBy (words_graph self) (rw_view seat) (words_of result) }
+        ensures rule { (s : Moment) × WordsRule (words_graph self) s × (s.words ≡ words_of result)
+            × ((id : ℕ) × IsSeat s.views id (rw_view seat)) }
         ensures history { ClosedHistory (words_graph self) (rw_view seat) (words_of result) }
     {
         let RwWords { table } = self;

@@ -1,12 +1,11 @@
 //! Postings of two processes.
 
-ghost use Rattle.std.specs.Prelude.{◌≡◌, ◌≢◌, ◌+◌, ◌<◌, ◌≤◌, [], None, IsTrue, length};
+ghost use Rattle.std.specs.Prelude.{◌≡◌, ◌≢◌, ◌+◌, ◌<◌, ◌≤◌, true, [], None, IsTrue, length};
 ghost use Rattle.cmh_graph.specs.declared.TheConstants.{MAX_PROCESSES};
 ghost use Rattle.cmh_graph.specs.Graph.{process_count, is_idle};
 ghost use Rattle.cmh_graph.specs.Verdict.{verdict, verdicts};
 ghost use Rattle.cmh_rw.specs.declared.machine.SeatState.TheVariants.{Writing};
 ghost use Rattle.cmh_rw.specs.History.{fold_at};
-ghost use Rattle.cmh_rw.specs.View.{view_after_load};
 ghost use Rattle.cmh_rw.specs.Seats.{rw_view, IsSeatOf, IsAway};
 
 use crate::{Entry, FIRST_VERDICT, RwSeat, RwWords};
@@ -29,7 +28,8 @@ pub(super) fn is_new(words: &RwWords, seat: &mut RwSeat, p: u32) -> bool
     requires clear { (rw_view seat.old).told ≡ [] }
     requires within { p < MAX_PROCESSES }
     ensures own { IsSeatOf words.now seat.new }
-    ensures view { rw_view seat.new ≡ view_after_load (rw_view seat.old) (rw_view seat.old).seen }
+    ensures view { rw_view seat.new
+        ≡ record (rw_view seat.old) { loaded = true; loads = (rw_view seat.old).loads + 1 } }
     ensures new { IsTrue result → fold_at (rw_view seat.old).seen p ≡ None }
 {
     words.load(seat, FIRST_VERDICT + p as usize) == 0

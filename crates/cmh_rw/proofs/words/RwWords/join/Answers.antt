@@ -1,6 +1,6 @@
 use Rattle.std.proofs.Common.{◌≡◌, rules, arith, ap, ◌∙◌}
 use Rattle.cmh_rw.specs.View.{view_after_compare, view_before_compare}
-use Rattle.cmh_rw.specs.Steps.{TableSeat}
+use Rattle.cmh_rw.proofs.Moments.{TableSeat}
 use Rattle.cmh_rw.proofs.Room.{fits_joined, joined_begins}
 use Rattle.cmh_rw.proofs.SeatSteps.{joins, compares}
 use Rattle.cmh_rw.proofs.words.RwWords.join.Goals as goal

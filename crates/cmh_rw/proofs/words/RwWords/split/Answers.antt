@@ -1,5 +1,5 @@
 use Rattle.std.proofs.Common.{rules, arith, ap, sym, subst}
-use Rattle.cmh_rw.specs.Steps.{TableSeat}
+use Rattle.cmh_rw.proofs.Moments.{TableSeat}
 use Rattle.cmh_rw.proofs.Room.{Fits, fits_newcomer}
 use Rattle.cmh_rw.proofs.SeatSteps.{splits}
 use Rattle.cmh_rw.proofs.words.RwWords.split.Goals as goal

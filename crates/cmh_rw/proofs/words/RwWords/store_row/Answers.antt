@@ -2,7 +2,7 @@ use Rattle.std.proofs.Common.{◌≡◌, ◌<◌, rules, arith, ap, sym, ◌∙�
 use Rattle.cmh_graph.specs.declared.TheConstants.{MAX_PROCESSES}
 use Rattle.cmh_rw.specs.History.{row_of}
 use Rattle.cmh_rw.specs.View.{row, with_row}
-use Rattle.cmh_rw.specs.Steps.{TableSeat}
+use Rattle.cmh_rw.proofs.Moments.{TableSeat}
 use Rattle.cmh_rw.proofs.Codes.{row_code_law}
 use Rattle.cmh_rw.proofs.StoreSteps.{stages}
 use Rattle.cmh_rw.proofs.Room.{Fits, row_has_word, fits_with_row}
