@@ -10,12 +10,13 @@ use Rattle.std.proofs.lemmas.Option.{slice_get_within, get_or_from_slice_get}
 use Rattle.cmh_graph.specs.declared.verdict.Verdict.{Verdict}
 use Rattle.cmh_graph.specs.declared.TheConstants.{MAX_PROCESSES}
 use Rattle.cmh_graph.specs.Graph.{Graph, process_count, IsWithinGraph}
+use Rattle.cmh_graph.specs.Verdict.{IsVerdict}
 use Rattle.cmh_graph.proofs.Verdicts.{idle_within, verdict_true}
 use Rattle.cmh_rw.specs.declared.row.Row.{Row}
 use Rattle.cmh_rw.specs.History.{row_code, row_of, fold_at, IsTrueOf}
 use Rattle.cmh_rw.proofs.Codes.{bit-small, free_bit-small, row_code_law}
 use Rattle.cmh_rw.proofs.Folds.{true-few, true-idle}
-use Rattle.cmh_board.specs.Snap.{verdict_at, Shows, IsTrueSnap}
+use Rattle.cmh_board.specs.Snap.{verdict_at, Shows}
 use Rattle.cmh_board.proofs.Histories.{verdict_in}
 
 -- a row that stands in true rows has a place among the processes
@@ -77,5 +78,5 @@ verdicts_more rows verdicts p e =
 
 -- where the rows are true, what a snapshot shows of them is the truth
 pub snap_true : (g : Graph) (rows : List Row) (verdicts : List (Option Verdict)) → IsWithinGraph g → IsTrueOf g rows
-    → Shows verdicts rows → IsTrueSnap g verdicts
+    → Shows verdicts rows → (p : ℕ) (v : Verdict) → verdict_at verdicts p ≡ Some v → IsVerdict g p v
 snap_true g rows verdicts within t shows p v e = verdict_true g p v within (verdict_in g rows p v t (sym (shows p) ∙ e))

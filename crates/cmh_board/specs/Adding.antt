@@ -13,13 +13,9 @@ use Rattle.cmh_rw.specs.View.{mark}
 use Rattle.cmh_board.specs.Board.{unposted_in, rows_of, AddsPosting}
 use Rattle.cmh_board.specs.Posting.{PostingValue}
 
--- each of the processes is idle
-abbrev pub AreIdle : Graph → List ℕ → Type 0
-AreIdle g processes = (p : ℕ) → Contains processes p → IsTrue (is_idle g p)
-
--- rows of these processes may be posted, with this verdict
+-- each of these processes is idle, and rows of them may be posted, with this verdict
 pub record CanPost (g : Graph) (v : Verdict) (processes : List ℕ) : Type 0 where
-  pub idle : AreIdle g processes
+  pub idle : (p : ℕ) → Contains processes p → IsTrue (is_idle g p)
   pub truth : (p : ℕ) → Contains processes p → v ≡ verdict g p
   pub once : IsDistinct nat_eq processes
 

@@ -100,11 +100,6 @@ abbrev pub ExplainsReadFault : View → View → BoardFault → Type 0
 ExplainsReadFault v w (fault.Busy n) = TriesOnce v w × IsTurnedAway n v w
 ExplainsReadFault v w fault.Memory = w ≡ v
 
--- the board was read whole, by one try
-pub record IsReadOnce (v w : View) : Type 0 where
-  pub tried : TriesOnce v w
-  pub read : IsRead v w
-
 -- those of the processes that stand in no row, in order
 abbrev pub unposted_in : List Row → List ℕ → List ℕ
 unposted_in rows processes = filter (λ p. is_none (fold_at rows p)) processes

@@ -1,8 +1,6 @@
 -- What a snapshot holds.
-use Rattle.std.specs.Prelude.{◌≡◌, ℕ, List, slice_index_or, Option, Some, None}
+use Rattle.std.specs.Prelude.{◌≡◌, ℕ, List, slice_index_or, Option, None}
 use Rattle.cmh_graph.specs.declared.verdict.Verdict.{Verdict}
-use Rattle.cmh_graph.specs.Graph.{Graph}
-use Rattle.cmh_graph.specs.Verdict.{IsVerdict}
 use Rattle.cmh_rw.specs.declared.row.Row.{Row}
 use Rattle.cmh_rw.specs.History.{fold_at}
 
@@ -13,7 +11,3 @@ verdict_at verdicts p = slice_index_or verdicts p None
 -- the snapshot says of each process what the rows say
 abbrev pub Shows : List (Option Verdict) → List Row → Type 0
 Shows verdicts rows = (p : ℕ) → verdict_at verdicts p ≡ fold_at rows p
-
--- each verdict in the snapshot is the truth
-abbrev pub IsTrueSnap : Graph → List (Option Verdict) → Type 0
-IsTrueSnap g verdicts = (p : ℕ) (v : Verdict) → verdict_at verdicts p ≡ Some v → IsVerdict g p v

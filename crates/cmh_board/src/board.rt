@@ -53,15 +53,16 @@ pub enum Post {
 }
 
 impl Board {
-    ghost use Rattle.std.specs.Prelude.{◌≡◌, ◌≤◌, ◌<◌, IfOk, IfErr, IfSome, IfNone, length, true, [], vec_capacity, slice_get, Some};
+    ghost use Rattle.std.specs.Prelude.{◌≡◌, ◌≤◌, ◌<◌, ℕ, IfOk, IfErr, IfSome, IfNone, length, true, [], vec_capacity, slice_get, Some};
     ghost use Rattle.cmh_graph.specs.Graph.{process_count};
     ghost use Rattle.cmh_rw.specs.declared.TheConstants.{MAX_SEATS};
     ghost use Rattle.cmh_rw.specs.History.{StartsWith, fold_at, IsHistory, IsTrueOf};
     ghost use Rattle.cmh_rw.specs.View.{opening_view, view_less_one, newcomer_view, joined_view, view_after_end};
-    ghost use Rattle.cmh_board.specs.Board.{board_view, board_graph, SitsAt, IsAway, IsHolding, SeesMore, TriesOnce, AnswersLook, IsTrueLook, AnswersHold, ReadsHistory, AnswersPost, Posts, IsReadOnce, ExplainsReadFault, IsMadeOf};
+    ghost use Rattle.cmh_board.specs.Board.{board_view, board_graph, SitsAt, IsAway, IsHolding, SeesMore, TriesOnce, AnswersLook, IsTrueLook, AnswersHold, ReadsHistory, AnswersPost, Posts, IsRead, ExplainsReadFault, IsMadeOf};
+    ghost use Rattle.cmh_graph.specs.declared.verdict.Verdict.{Verdict};
     ghost use Rattle.cmh_graph.specs.Verdict.{IsVerdict};
     ghost use Rattle.cmh_board.specs.Posting.{IsTruth};
-    ghost use Rattle.cmh_board.specs.Snap.{Shows, IsTrueSnap};
+    ghost use Rattle.cmh_board.specs.Snap.{verdict_at, Shows};
 
     /// A board on which nothing is posted. The seat has the whole share, which is 64.
     pub fn open(alloc: Global, graph: &WaitGraph) -> Result<(Board, BoardSeat), BoardFault>
@@ -215,9 +216,11 @@ impl Board {
         requires away { IsAway seat.old }
         ensures sits { SitsAt self.now seat.new × IsAway seat.new }
         ensures sees { SeesMore (board_view seat.old) (board_view seat.new) }
-        ensures read { IfOk result (λ snap. IsReadOnce (board_view seat.old) (board_view seat.new)) }
+        ensures tried { IfOk result (λ snap. TriesOnce (board_view seat.old) (board_view seat.new)) }
+        ensures read { IfOk result (λ snap. IsRead (board_view seat.old) (board_view seat.new)) }
         ensures shows { IfOk result (λ snap. Shows snap (board_view seat.new).seen) }
-        ensures true_verdicts { IfOk result (λ snap. IsTrueSnap (board_graph self.now) snap) }
+        ensures true_verdicts { IfOk result (λ snap. (p : ℕ) (v : Verdict) → verdict_at snap p ≡ Some v
+            → IsVerdict (board_graph self.now) p v) }
         ensures fault { IfErr result (ExplainsReadFault (board_view seat.old) (board_view seat.new)) }
     {
         let mut verdicts = Vec::with_capacity(alloc, self.processes as usize)?;
@@ -235,7 +238,8 @@ impl Board {
         requires away { IsAway seat.old }
         ensures sits { SitsAt self.now seat.new × IsAway seat.new }
         ensures sees { SeesMore (board_view seat.old) (board_view seat.new) }
-        ensures read { IfOk result (λ rows. IsReadOnce (board_view seat.old) (board_view seat.new)) }
+        ensures tried { IfOk result (λ rows. TriesOnce (board_view seat.old) (board_view seat.new)) }
+        ensures read { IfOk result (λ rows. IsRead (board_view seat.old) (board_view seat.new)) }
         ensures whole { IfOk result (λ rows. rows.items ≡ (board_view seat.new).seen) }
         ensures fault { IfErr result (ExplainsReadFault (board_view seat.old) (board_view seat.new)) }
     {

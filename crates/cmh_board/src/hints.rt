@@ -1,10 +1,12 @@
 //! The board as hints of a run.
 
-ghost use Rattle.std.specs.Prelude.{◌≡◌, ◌<◌, IfSome, None};
+ghost use Rattle.std.specs.Prelude.{◌≡◌, ◌<◌, ◌≤◌, IfSome, None};
 ghost use Rattle.cmh_graph.specs.Graph.{Graph, process_count};
 ghost use Rattle.cmh_graph.specs.Verdict.{IsVerdict};
+ghost use Rattle.cmh_rw.specs.declared.TheConstants.{WRITER};
+ghost use Rattle.cmh_rw.specs.History.{fold_at};
 ghost use Rattle.cmh_board.specs.Board.{board_view, board_graph, SitsAt, IsAway, TriesOnce};
-ghost use Rattle.cmh_board.specs.Hints.{SpeaksOf, Keeps, AnswersHint};
+ghost use Rattle.cmh_board.specs.Hints.{SpeaksOf, Keeps};
 ghost use Rattle.cmh_board.specs.HintProofs.{keeps_itself, keeps_on};
 
 use crate::{Board, BoardSeat, Look};
@@ -45,7 +47,11 @@ impl<'a> Hints for BoardHints<'a> {
     fn hint(&mut self, p: u32) -> Option<Verdict>
         requires { (g : Graph) × SpeaksOf self.old g × (p < process_count g) }
         ensures tried { TriesOnce (board_view self.old.seat.now) (board_view self.new.seat.now) }
-        ensures answer { AnswersHint p (board_view self.old.seat.now) (board_view self.new.seat.now) result }
+        ensures answer { (board_view self.new.seat.now).lock.found < WRITER
+            → result ≡ fold_at (board_view self.new.seat.now).seen p }
+        ensures loads { (board_view self.new.seat.now).lock.found < WRITER
+            → (board_view self.old.seat.now).loads < (board_view self.new.seat.now).loads }
+        ensures busy { WRITER ≤ (board_view self.new.seat.now).lock.found → result ≡ None }
         ensures true_verdict { (g : Graph) → SpeaksOf self.old g → p < process_count g
             → IfSome result (λ v. IsVerdict g p v) }
         ensures silent { ⊥ → result ≡ None }

@@ -1,12 +1,13 @@
 //! Adding the rows of a posting, in a hold for writing.
 
-ghost use Rattle.std.specs.Prelude.{◌≡◌, ◌+◌, ◌<◌, ◌++◌, length, is_none, true};
+ghost use Rattle.std.specs.Prelude.{◌≡◌, ℕ, ◌+◌, ◌<◌, ◌++◌, length, is_none, true, Contains, IsTrue};
 ghost use Rattle.cmh_graph.specs.declared.TheConstants.{MAX_PROCESSES};
+ghost use Rattle.cmh_graph.specs.Graph.{is_idle};
 ghost use Rattle.cmh_rw.specs.declared.machine.SeatState.TheVariants.{Writing};
 ghost use Rattle.cmh_rw.specs.History.{fold_at};
 ghost use Rattle.cmh_rw.specs.Seats.{rw_view, IsSeatOf};
 ghost use Rattle.cmh_board.specs.Board.{unposted_in};
-ghost use Rattle.cmh_board.specs.Adding.{AreIdle, CanPost, IsWriter, OnlyLoads, Stages, Adds};
+ghost use Rattle.cmh_board.specs.Adding.{CanPost, IsWriter, OnlyLoads, Stages, Adds};
 
 use crate::Posting;
 use cmh_graph::Verdict;
@@ -35,7 +36,8 @@ fn count_unposted(words: &RwWords, seat: &mut RwSeat, processes: &[u32]) -> usiz
     requires own { IsSeatOf words.now seat.old }
     requires writer { IsWriter (rw_view seat.old) }
     requires loaded { (rw_view seat.old).loaded ≡ true }
-    requires idle { AreIdle (rw_view seat.old).lock.graph processes.now }
+    requires idle { (p : ℕ) → Contains processes.now p
+        → IsTrue (is_idle (rw_view seat.old).lock.graph p) }
     ensures own { IsSeatOf words.now seat.new }
     ensures loads { OnlyLoads (rw_view seat.old) (rw_view seat.new) }
     ensures count { result ≡ length (unposted_in (rw_view seat.old).seen processes.now) }
