@@ -9,7 +9,7 @@ use Rattle.cmh_rw.specs.declared.view.View.{View}
 use Rattle.cmh_rw.specs.History.{fold_at, EndsLast, IsPosting, IsHistory, IsTrueOf, AreTold}
 use Rattle.cmh_rw.specs.declared.machine.SeatState.TheVariants.{Writing}
 use Rattle.cmh_rw.specs.View.{AfterLoad, view_after_posting, view_after_try, view_after_end}
-use Rattle.cmh_board.specs.Board.{unposted_in, rows_of, with_posting, row_times, IsWritten, Posts}
+use Rattle.cmh_board.specs.Board.{unposted_in, rows_of, with_posting, row_times, Posts}
 use Rattle.cmh_board.specs.Posting.{PostingValue, IsTruth}
 use Rattle.cmh_board.specs.Adding.{CanPost, IsWriter, OnlyLoads, Stages, Adds}
 use Rattle.cmh_board.proofs.PostingRows.{rows_end, rows_told, true_behind, said_behind, once_behind, history-snoc, length-rows_of}
@@ -118,17 +118,15 @@ can_post g t within truth = record {
 -- a seat that took the lock, added a posting and let the lock go has posted it
 pub posts_from : (t : PostingValue) (v u a w : View) → u ≡ view_after_try v Writing 0 → Adds t u a → w
     ≡ view_after_end a
-    → IsWritten v w × Posts t v w
+    → (w.lock.found ≡ 0) × (v.loads < w.loads) × Posts t v w
 posts_from t v u a w took adds ended =
     let added = adds.added in
     let lock = adds.lock ∙ ap (λ (x : View). x.lock) took in
     let before = ap (λ (x : View). x.seen) took in
     let seen = ap (λ (x : View). x.seen) ended in (
-      record {
-        found = ap (λ (x : View). x.lock.found) ended ∙ ap (λ l. l.found) lock;
-        loads = (let x = ap (λ (y : View). y.loads) took in let y = adds.loads in
-            let z = ap (λ (y : View). y.loads) ended in omega arith);
-      },
+      ap (λ (x : View). x.lock.found) ended ∙ ap (λ l. l.found) lock,
+      (let x = ap (λ (y : View). y.loads) took in let y = adds.loads in
+      let z = ap (λ (y : View). y.loads) ended in omega arith),
       record {
         added = record {
           between = added.between;

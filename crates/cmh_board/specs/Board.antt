@@ -1,24 +1,17 @@
 -- What clauses see of the board and of a seat, and what its calls tell.
-use Rattle.std.specs.Prelude.{◌≡◌, ◌↔◌, ℕ, ◌+◌, ◌<◌, ◌≤◌, ◌==◌, Bool, true, false, is_none, List, [], ◌∷◌, ◌++◌, filter, count_by, Contains, Some, None, ⊤}
+use Rattle.std.specs.Prelude.{◌≡◌, ◌↔◌, ℕ, ◌+◌, ◌<◌, ◌≤◌, ◌==◌, Bool, true, false, is_none, List, [], ◌∷◌, ◌++◌, filter, count_by, Contains, Some}
 use Rattle.cmh_graph.specs.declared.verdict.Verdict.{Verdict}
 use Rattle.cmh_graph.specs.Graph.{Graph}
-use Rattle.cmh_graph.specs.Verdict.{IsVerdict}
 use Rattle.cmh_rw.specs.declared.TheConstants.{WRITER}
 use Rattle.cmh_rw.specs.declared.machine.SeatState.TheVariants.{Away, Reading}
 use Rattle.cmh_rw.specs.declared.row.Row.{Row}
 use Rattle.cmh_rw.specs.declared.view.View.{View}
-use Rattle.cmh_rw.specs.declared.words.Entry.{Entry}
-use Rattle.cmh_rw.specs.declared.words.Entry.TheVariants as entry
 use Rattle.cmh_rw.specs.History.{fold_at, rows_in, IsHistory, ArePostings, IsTrueOf, StartsWith}
 use Rattle.cmh_rw.specs.Machine.{total}
 use Rattle.cmh_rw.specs.View.{row}
 use Rattle.cmh_rw.specs.Seats as words
 use Rattle.cmh_board.specs.declared.board.Board.{Board}
 use Rattle.cmh_board.specs.declared.board.BoardSeat.{BoardSeat}
-use Rattle.cmh_board.specs.declared.board.Look.{Look}
-use Rattle.cmh_board.specs.declared.board.Look.TheVariants.{Known, Unknown, Busy}
-use Rattle.cmh_board.specs.declared.board.Post.{Post}
-use Rattle.cmh_board.specs.declared.board.Post.TheVariants as post
 use Rattle.cmh_board.specs.declared.fault.BoardFault.{BoardFault}
 use Rattle.cmh_board.specs.declared.fault.BoardFault.TheVariants as fault
 use Rattle.cmh_board.specs.Posting.{PostingValue}
@@ -70,23 +63,6 @@ pub record IsTurnedAway (n : ℕ) (v w : View) : Type 0 where
   pub seen : w.seen ≡ v.seen
   pub staged : w.staged ≡ v.staged
   pub loads : w.loads ≡ v.loads
-
--- what a look at process p answers
-abbrev pub AnswersLook : ℕ → View → View → Look → Type 0
-AnswersLook p v w (Known verdict) = IsRead v w × (fold_at w.seen p ≡ Some verdict)
-AnswersLook p v w Unknown = IsRead v w × (fold_at w.seen p ≡ None)
-AnswersLook p v w (Busy n) = IsTurnedAway n v w
-
--- what a look answers of p is the truth
-abbrev pub IsTrueLook : Graph → ℕ → Look → Type 0
-IsTrueLook g p (Known verdict) = IsVerdict g p verdict
-IsTrueLook g p Unknown = ⊤
-IsTrueLook g p (Busy n) = ⊤
-
--- what a try to hold the board answers
-abbrev pub AnswersHold : View → View → Entry → Type 0
-AnswersHold v w entry.Held = (w.lock.state ≡ Reading) × (w.lock.found < WRITER)
-AnswersHold v w (entry.Busy n) = (w.lock.state ≡ Away) × IsTurnedAway n v w
 
 -- in one hold the history is read, and it is the same at each later reading
 pub record ReadsHistory (v w : View) : Type 0 where
@@ -148,16 +124,6 @@ pub record IsBlocked (n : ℕ) (v w : View) : Type 0 where
   pub seen : w.seen ≡ v.seen
   pub staged : w.staged ≡ v.staged
   pub loads : w.loads ≡ v.loads
-
--- nobody held the board, and words were loaded
-pub record IsWritten (v w : View) : Type 0 where
-  pub found : w.lock.found ≡ 0
-  pub loads : v.loads < w.loads
-
--- what became of a try to post
-abbrev pub AnswersPost : PostingValue → View → View → Post → Type 0
-AnswersPost t v w post.Done = IsWritten v w × Posts t v w
-AnswersPost t v w (post.Busy n) = IsBlocked n v w
 
 -- the rows are whole postings, which are just these, however they weigh
 pub record IsMadeOf (mine : List (List Row)) (rows : List Row) : Type 0 where

@@ -53,12 +53,12 @@ pub enum Post {
 }
 
 impl Board {
-    ghost use Rattle.std.specs.Prelude.{◌≡◌, ◌≤◌, ◌<◌, ℕ, IfOk, IfErr, IfSome, IfNone, length, true, [], vec_capacity, slice_get, Some};
+    ghost use Rattle.std.specs.Prelude.{◌≡◌, ◌≤◌, ◌<◌, ℕ, IfOk, IfErr, IfSome, IfNone, length, true, [], vec_capacity, slice_get, Some, None};
     ghost use Rattle.cmh_graph.specs.Graph.{process_count};
-    ghost use Rattle.cmh_rw.specs.declared.TheConstants.{MAX_SEATS};
+    ghost use Rattle.cmh_rw.specs.declared.TheConstants.{MAX_SEATS, WRITER};
     ghost use Rattle.cmh_rw.specs.History.{StartsWith, fold_at, IsHistory, IsTrueOf};
     ghost use Rattle.cmh_rw.specs.View.{opening_view, view_less_one, newcomer_view, joined_view, view_after_end};
-    ghost use Rattle.cmh_board.specs.Board.{board_view, board_graph, SitsAt, IsAway, IsHolding, SeesMore, TriesOnce, AnswersLook, IsTrueLook, AnswersHold, ReadsHistory, AnswersPost, Posts, IsRead, ExplainsReadFault, IsMadeOf};
+    ghost use Rattle.cmh_board.specs.Board.{board_view, board_graph, SitsAt, IsAway, IsHolding, SeesMore, TriesOnce, IsRead, IsTurnedAway, ReadsHistory, Posts, IsBlocked, ExplainsReadFault, IsMadeOf};
     ghost use Rattle.cmh_graph.specs.declared.verdict.Verdict.{Verdict};
     ghost use Rattle.cmh_graph.specs.Verdict.{IsVerdict};
     ghost use Rattle.cmh_board.specs.Posting.{IsTruth};
@@ -116,8 +116,16 @@ impl Board {
         ensures sits { SitsAt self.now seat.new × IsAway seat.new }
         ensures sees { SeesMore (board_view seat.old) (board_view seat.new) }
         ensures tried { TriesOnce (board_view seat.old) (board_view seat.new) }
-        ensures answer { AnswersLook p (board_view seat.old) (board_view seat.new) result }
-        ensures true_verdict { IsTrueLook (board_graph self.now) p result }
+        ensures known { (v : Verdict) → result ≡ Look.Known v
+            → IsRead (board_view seat.old) (board_view seat.new)
+            × (fold_at (board_view seat.new).seen p ≡ Some v) }
+        ensures unknown { result ≡ Look.Unknown
+            → IsRead (board_view seat.old) (board_view seat.new)
+            × (fold_at (board_view seat.new).seen p ≡ None) }
+        ensures busy { (n : ℕ) → result ≡ Look.Busy n
+            → IsTurnedAway n (board_view seat.old) (board_view seat.new) }
+        ensures true_verdict { (v : Verdict) → result ≡ Look.Known v
+            → IsVerdict (board_graph self.now) p v }
     {
         if let Entry::Busy(found) = self.hold(seat) {
             return Look::Busy(found);
@@ -139,7 +147,10 @@ impl Board {
         ensures sees { SeesMore (board_view seat.old) (board_view seat.new) }
         ensures tried { TriesOnce (board_view seat.old) (board_view seat.new) }
         ensures loads { (board_view seat.new).loads ≡ (board_view seat.old).loads }
-        ensures answer { AnswersHold (board_view seat.old) (board_view seat.new) result }
+        ensures held { result ≡ Entry.Held → IsHolding seat.new
+            × ((board_view seat.new).lock.found < WRITER) }
+        ensures busy { (n : ℕ) → result ≡ Entry.Busy n
+            → IsAway seat.new × IsTurnedAway n (board_view seat.old) (board_view seat.new) }
     {
         self.words.try_read(&mut seat.seat)
     }
@@ -177,7 +188,12 @@ impl Board {
         requires truth { IsTruth (board_graph self.now) posting.now }
         ensures sits { SitsAt self.now seat.new × IsAway seat.new }
         ensures tried { TriesOnce (board_view seat.old) (board_view seat.new) }
-        ensures answer { AnswersPost posting.now (board_view seat.old) (board_view seat.new) result }
+        ensures written { result ≡ Post.Done → ((board_view seat.new).lock.found ≡ 0)
+            × ((board_view seat.old).loads < (board_view seat.new).loads) }
+        ensures posts { result ≡ Post.Done
+            → Posts posting.now (board_view seat.old) (board_view seat.new) }
+        ensures busy { (n : ℕ) → result ≡ Post.Busy n
+            → IsBlocked n (board_view seat.old) (board_view seat.new) }
     {
         match self.words.try_write(&mut seat.seat) {
             Entry::Busy(found) => Post::Busy(found),

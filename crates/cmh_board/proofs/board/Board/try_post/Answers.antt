@@ -13,8 +13,15 @@ add-requires-clause-can c =
     subst (λ g. CanPost g told.verdict told.processes) (sym graph)
     (can_post (board_graph c.args.self.now) told c.args.self.now.within c.requires.truth)
 
-pub returns-in-Held-clause-answer : goal.returns-in-Held-clause-answer
-returns-in-Held-clause-answer c =
-    posts_from c.args.posting.now (board_view c.args.seat.now) (rw_view c.try_write.new.seat) (rw_view c.add.new.seat)
-    (rw_view c.end_write.new.seat)
-    c.in-Held.ensures.tried.0 c.add.ensures.adds c.end_write.ensures.ended
+pub returns-in-Held-clause-written : goal.returns-in-Held-clause-written
+returns-in-Held-clause-written c is =
+    let whole = posts_from c.args.posting.now (board_view c.args.seat.now) (rw_view c.try_write.new.seat)
+    (rw_view c.add.new.seat) (rw_view c.end_write.new.seat)
+    c.in-Held.ensures.tried.0 c.add.ensures.adds c.end_write.ensures.ended in
+    (whole.0, whole.1)
+
+pub returns-in-Held-clause-posts : goal.returns-in-Held-clause-posts
+returns-in-Held-clause-posts c is =
+    (posts_from c.args.posting.now (board_view c.args.seat.now) (rw_view c.try_write.new.seat)
+    (rw_view c.add.new.seat) (rw_view c.end_write.new.seat)
+    c.in-Held.ensures.tried.0 c.add.ensures.adds c.end_write.ensures.ended).2
