@@ -124,7 +124,7 @@ pub analysed : {L : Type 0} (listed : L → List ℕ) (g : Graph) (plan : Setup)
 analysed listed g plan j s found sorted a well for p up sit whole w begins true_of made n =
     let choices = plan.choices in
     let rows = history_of a in
-    let sound = all_stand listed g choices rows (board_view s.board).seen found sorted p begins w.of.accounts.sound in
+    let sound = all_stand listed g choices rows (board_view s.board).seen found sorted p begins w.accounts.sound in
     let order : map initiator_of (records_of a) ≡ idle_list g =
     same_order rows sorted (records_of a) n
     ∙ sorted_same finding_initiator found sorted j.idle.items p up (subst Rises (sym for.idle) (rises_from g))
@@ -132,7 +132,7 @@ analysed listed g plan j s found sorted a well for p up sit whole w begins true_
     ∙ for.idle in
     let explained =
     all_explained_more rows (board_view s.board).seen found found (board_view s.board).mine begins
-    (λ f c. c) w.of.accounts.explained in
+    (λ f c. c) w.accounts.explained in
     let each =
     explained_permuted rows found sorted made.postings p
     (each_explained rows found (board_view s.board).mine made.postings explained (λ m c. (made.same m).0 c)) in

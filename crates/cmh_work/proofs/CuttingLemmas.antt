@@ -56,7 +56,7 @@ total-chunks h [] xs = omega arith
 total-chunks h (c ∷ cs) xs = omega (arith, total-chunks h cs (drop c xs), total-parts h c xs)
 
 -- there is one chunk more than cuts
-length_chunks : (cuts xs : List ℕ) → length (chunks_of cuts xs) ≡ length cuts + 1
+pub length_chunks : (cuts xs : List ℕ) → length (chunks_of cuts xs) ≡ length cuts + 1
 length_chunks [] xs = refl
 length_chunks (c ∷ cs) xs = omega (arith, length_chunks cs (drop c xs))
 
@@ -69,14 +69,9 @@ gathered_once h cuts xs ds all = let cs = chunks_of cuts xs in
     ∙ total-chunks h cuts xs
 
 -- end to end, the chunks are the list
-joined_chunks : (cuts xs : List ℕ) → flat_map (λ chunk. chunk) (chunks_of cuts xs) ≡ xs
+pub joined_chunks : (cuts xs : List ℕ) → flat_map (λ chunk. chunk) (chunks_of cuts xs) ≡ xs
 joined_chunks [] xs = append-nil xs
 joined_chunks (c ∷ cs) xs = ap (λ l. take c xs ++ l) (joined_chunks cs (drop c xs)) ∙ take-append-drop c xs
-
--- the chunks are the list, cut
-pub chunks_law : (cuts list : List ℕ)
-    → (flat_map (λ chunk. chunk) (chunks_of cuts list) ≡ list) × (length (chunks_of cuts list) ≡ length cuts + 1)
-chunks_law cuts xs = (joined_chunks cuts xs, length_chunks cuts xs)
 
 -- a chunk is what lies between its bounds
 chunk_between : (cuts xs : List ℕ) (begin n : ℕ) → n ≤ length cuts

@@ -18,9 +18,9 @@ use Rattle.cmh_rw.specs.History.{StartsWith}
 use Rattle.cmh_rw.specs.View.{joined_view}
 use Rattle.cmh_board.specs.Board.{board_view}
 use Rattle.cmh_rw.specs.Machine.{total}
-use Rattle.cmh_work.specs.Cutting.{concat_chunks}
-use Rattle.cmh_work.specs.Finding.{finding_initiator}
-use Rattle.cmh_work.specs.Working.{chunks_in, AreNew, AreOf, IsMadeFor, IsWorked}
+use Rattle.cmh_work.specs.Cutting.{chunks_of, concat_chunks}
+use Rattle.cmh_work.specs.Finding.{finding_initiator, Accounts}
+use Rattle.cmh_work.specs.Working.{AreNew, IsMadeFor, IsWorked}
 use Rattle.cmh_work.proofs.AccountsLemmas.{accounts_joined}
 use Rattle.cmh_work.proofs.CuttingLemmas.{concat_chunks-append, gathered_snoc, gathered_once}
 
@@ -46,36 +46,38 @@ pub joined_worked : {L : Type 0} (listed : L → List ℕ) (g : Graph) (plan : S
     → StartsWith (board_view u.board).seen (board_view t.board).seen
     → IsWorked listed g plan j s a → IsWorked listed g plan j t b → IsWorked listed g plan j u (a ++ b)
 joined_worked listed g plan j s t u a b is jo first second w x = record {
-  of = record {
-    accounts =
-        accounts_joined listed g plan.choices (board_view s.board) (board_view t.board)
-        (board_view u.board) a b first second
-        (ap (λ v. v.mine) jo) w.of.accounts x.of.accounts;
-    order = map-append finding_initiator a b ∙ (λ k. w.of.order k ++ x.of.order k)
-        ∙ sym (concat_chunks-append (chunks_in plan j) (ticket_view s.tickets).drawn (ticket_view t.tickets).drawn)
-        ∙ ap (λ v. concat_chunks (chunks_in plan j) v.drawn) (sym is);
-  };
+  accounts =
+      accounts_joined listed g plan.choices (board_view s.board) (board_view t.board)
+      (board_view u.board) a b first second
+      (ap (λ v. v.mine) jo) w.accounts x.accounts;
+  order = map-append finding_initiator a b ∙ (λ k. w.order k ++ x.order k)
+      ∙ sym (concat_chunks-append (chunks_of plan.cuts j.idle.items) (ticket_view s.tickets).drawn
+      (ticket_view t.tickets).drawn)
+      ∙ ap (λ v. concat_chunks (chunks_of plan.cuts j.idle.items) v.drawn) (sym is);
   done = ap (λ v. v.done) is ∙ ap (λ d. d || (ticket_view t.tickets).done) w.done;
 }
 
--- new seats have found nothing
-pub nothing_found : {L : Type 0} (listed : L → List ℕ) (g : Graph) (plan : Setup) (j : Shared) (s : Seats) → AreNew s
-    → AreOf listed g plan j s []
-nothing_found listed g plan j s new = record {
-  accounts = record { sound = λ k d l. absurd (omega (arith, l)); explained = rw new.mine tt };
-  order = rw new.drawn refl;
-}
+-- new seats have added nothing that a finding would explain
+pub nothing_found : {L : Type 0} (listed : L → List ℕ) (g : Graph) (choices : List ℕ) (s : Seats) → AreNew s
+    → Accounts listed g choices (board_view s.board) []
+nothing_found listed g choices s new =
+    record { sound = λ k d l. absurd (omega (arith, l)); explained = rw new.mine tt }
+
+-- new seats have drawn no chunk
+pub nothing_drawn : (chunks : List (List ℕ)) (s : Seats) → AreNew s
+    → [] ≡ concat_chunks chunks (ticket_view s.tickets).drawn
+nothing_drawn chunks s new = rw new.drawn refl
 
 -- with one chunk more drawn and its findings added, the findings are of the chunks drawn, in order
 pub drawn_more : {L : Type 0} (plan : Setup) (j : Shared) (s u : TicketSeat) (n : ℕ) (a b : List (Finding Run L))
     → ticket_view u ≡ with_drawn (ticket_view s) n
-    → map finding_initiator a ≡ concat_chunks (chunks_in plan j) (ticket_view s).drawn
-    → map finding_initiator b ≡ map finding_initiator a ++ slice_index_or (chunks_in plan j) n []
-    → map finding_initiator b ≡ concat_chunks (chunks_in plan j) (ticket_view u).drawn
+    → map finding_initiator a ≡ concat_chunks (chunks_of plan.cuts j.idle.items) (ticket_view s).drawn
+    → map finding_initiator b ≡ map finding_initiator a ++ slice_index_or (chunks_of plan.cuts j.idle.items) n []
+    → map finding_initiator b ≡ concat_chunks (chunks_of plan.cuts j.idle.items) (ticket_view u).drawn
 drawn_more plan j s u n a b is was more =
-    more ∙ ap (λ l. l ++ slice_index_or (chunks_in plan j) n []) was
-    ∙ sym (gathered_snoc (chunks_in plan j) (ticket_view s).drawn n)
-    ∙ ap (λ v. concat_chunks (chunks_in plan j) v.drawn) (sym is)
+    more ∙ ap (λ l. l ++ slice_index_or (chunks_of plan.cuts j.idle.items) n []) was
+    ∙ sym (gathered_snoc (chunks_of plan.cuts j.idle.items) (ticket_view s).drawn n)
+    ∙ ap (λ v. concat_chunks (chunks_of plan.cuts j.idle.items) v.drawn) (sym is)
 
 -- with the whole share, the findings weigh what the idle processes do
 pub all_worked : {L : Type 0} (listed : L → List ℕ) (g : Graph) (plan : Setup) (j : Shared) (s : Seats)
@@ -86,5 +88,5 @@ pub all_worked : {L : Type 0} (listed : L → List ℕ) (g : Graph) (plan : Setu
 all_worked listed g plan j s found made own whole w weight =
     let all = s.tickets.knows w.done whole in
     let n : (ticket_view s.tickets).chunks ≡ length plan.cuts + 1 = own.1 ∙ made.tickets in
-    ap (total weight) w.of.order
+    ap (total weight) w.order
     ∙ gathered_once weight plan.cuts j.idle.items (ticket_view s.tickets).drawn (λ f. all f ∙ ap (sum_below f) n)

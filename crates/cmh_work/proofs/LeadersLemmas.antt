@@ -14,7 +14,7 @@ use Rattle.cmh_graph.proofs.Groups.{in_own_core, leader_in_core, leader_least, s
 use Rattle.cmh_graph.proofs.IndexLists.{by_index, by_index_agree, length-by_index}
 use Rattle.cmh_graph.proofs.PositionLemmas.{taken_last, taken_more, taken_stays}
 use Rattle.cmh_graph.proofs.Verdicts.{verdict_listed}
-use Rattle.cmh_work.specs.Leaders.{is_deadlocked_at, leader_at, LeadsEach}
+use Rattle.cmh_work.specs.Leaders.{leader_at, LeadsEach}
 use Rattle.cmh_work.proofs.Cores.{core_back, core_deadlocked, deadlocked_within}
 
 -- a deadlocked process's leader is deadlocked, and leads itself
@@ -232,7 +232,7 @@ says_chosen false = refl
 
 -- the known verdicts say who is deadlocked
 says_at : (g : Graph) (known : List Verdict) (p : ℕ) → known ≡ verdicts g → p < process_count g
-    → is_deadlocked_at known p ≡ is_deadlocked g p
+    → says_deadlocked (get_or known p Free) ≡ is_deadlocked g p
 says_at g known p are i = ap says_deadlocked (verdict_listed g known p Free are i) ∙ says_chosen (is_deadlocked g p)
 
 -- where the test of a new leader holds, the process is deadlocked and has no leader yet
@@ -250,9 +250,10 @@ no_leader_by true None e = cc
 -- where p is no new leader, the table of leaders below p is that below p + 1
 pub leaders_passed : (g : Graph) (known : List Verdict) (p : ℕ) (list : List (Option ℕ)) (test : Bool) → IsWithinGraph g
     → p < process_count g → known ≡ verdicts g → AreLeadersBelow g p list
-    → test ≡ (is_deadlocked_at known p && is_none (leader_at list p)) → test ≡ false → AreLeadersBelow g (p + 1) list
+    → test ≡ (says_deadlocked (get_or known p Free) && is_none (leader_at list p)) → test ≡ false
+    → AreLeadersBelow g (p + 1) list
 leaders_passed g known p list test w i are table is not_so =
-    elim (no_leader_by (is_deadlocked_at known p) (leader_at list p) (sym is ∙ not_so)) [
+    elim (no_leader_by (says_deadlocked (get_or known p Free)) (leader_at list p) (sym is ∙ not_so)) [
       | inl free ↦ leaders_kept g p list table (free_leads_nobody g p w (sym (says_at g known p are i) ∙ free))
       | inr led ↦ leaders_led g p list w i table led
     ]
@@ -260,8 +261,8 @@ leaders_passed g known p list test w i are table is not_so =
 -- where p is a new leader and its core is led, the table of leaders below p has become that below p + 1
 pub leaders_led_more : (g : Graph) (known : List Verdict) (p : ℕ) (core : List ℕ) (list new : List (Option ℕ))
     (test : Bool) → IsWithinGraph g → p < process_count g → known ≡ verdicts g → AreLeadersBelow g p list
-    → test ≡ (is_deadlocked_at known p && is_none (leader_at list p)) → test ≡ true → core ≡ core_of g p
+    → test ≡ (says_deadlocked (get_or known p Free) && is_none (leader_at list p)) → test ≡ true → core ≡ core_of g p
     → LeadsEach p core list new → AreLeadersBelow g (p + 1) new
 leaders_led_more g known p core list new test w i are table is so =
-    let both = new_leader_by (is_deadlocked_at known p) (leader_at list p) (sym is ∙ so) in
+    let both = new_leader_by (says_deadlocked (get_or known p Free)) (leader_at list p) (sym is ∙ so) in
     leaders_more g p core list new w table (sym (says_at g known p are i) ∙ both.0) both.1

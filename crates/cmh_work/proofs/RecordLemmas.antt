@@ -13,7 +13,7 @@ use Rattle.cmh_rw.specs.History.{fold_at, IsTrueOf}
 use Rattle.cmh_work.specs.declared.finding.Finding.{Finding}
 use Rattle.cmh_work.specs.declared.record.Record.{Record}
 use Rattle.cmh_work.specs.Record.{IsRowFor}
-use Rattle.cmh_work.specs.Numbering.{IsNumbered, AreNumbered, AreRowNumbers}
+use Rattle.cmh_work.specs.Numbering.{IsNumbered, AreNumbered}
 
 -- numbered findings with one more, and its record, are numbered
 pub numbered_more : {L : Type 0} {R : Type 0} (rows : List Row) (fs : List (Finding R L)) (rs : List (Record R L))
@@ -107,10 +107,13 @@ numbers_more rows count k n d numbers next w s =
           ];
     }
 
+-- each process that stands in the rows has a number
+pub numbers_within : (rows : List Row) (count n : ℕ) (numbers : List ℕ)
+    → All (λ (r : Row). r.process < count) rows → NumbersFrom rows count n numbers
+    → (p : ℕ) (v : Verdict) → fold_at rows p ≡ Some v → p < length numbers
+numbers_within rows count n numbers w s p v e = omega (arith, stands_within rows count p v w e, s.size)
+
 -- numbers from the first row on are the numbers of all rows
-pub numbers_all : (rows : List Row) (count n : ℕ) (numbers : List ℕ) → n ≡ 0
-    → All (λ (r : Row). r.process < count) rows → NumbersFrom rows count n numbers → AreRowNumbers rows numbers
-numbers_all rows count n numbers first w s = record {
-  within = λ p v e. omega (arith, stands_within rows count p v w e, s.size);
-  rows = λ p v e. s.each p v (ap (λ m. fold_at (drop m rows) p) first ∙ e);
-}
+pub numbers_all : (rows : List Row) (count n : ℕ) (numbers : List ℕ) → n ≡ 0 → NumbersFrom rows count n numbers
+    → (p : ℕ) (v : Verdict) → fold_at rows p ≡ Some v → IsRowFor rows (get_or numbers p 0) p v
+numbers_all rows count n numbers first s p v e = s.each p v (ap (λ m. fold_at (drop m rows) p) first ∙ e)

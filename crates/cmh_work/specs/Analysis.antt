@@ -29,15 +29,12 @@ abbrev pub IsPostedBy : List Row → List Row → Run → Type 0
 IsPostedBy before posting run = let told = posting_of run in
     posting ≡ rows_of told.verdict (unposted_in before told.processes)
 
--- the posting is what the run of a record tells, but for whom stood in a row before
-abbrev pub IsOfRecord : {L : Type 0} → List (Record Run L) → List Row → List Row → Type 0
-IsOfRecord {L = L} records before posting = (r : Record Run L) × Contains records r
-    × (run : Run) × (r.source ≡ FromRun run) × IsPostedBy before posting run
-
--- each posting, with what stands before it, is of a record's run
+-- each posting is what the run of a record tells, but for whom stood in a row before
 abbrev pub AreOfRecords : {L : Type 0} → List (Record Run L) → List Row → List (List Row) → Type 0
 AreOfRecords records before [] = Unit {0}
-AreOfRecords records before (posting ∷ postings) = IsOfRecord records before posting
+AreOfRecords {L = L} records before (posting ∷ postings) =
+    ((r : Record Run L) × Contains records r
+    × (run : Run) × (r.source ≡ FromRun run) × IsPostedBy before posting run)
     × AreOfRecords records (before ++ posting) postings
 
 -- the history is postings, end to end, each of a record's run

@@ -1,12 +1,5 @@
 -- Who leads the group of a process, while leaders are found by rising index.
-use Rattle.std.specs.Prelude.{◌≡◌, ℕ, Bool, List, length, slice_index_or, Contains, Option, Some, None}
-use Rattle.cmh_graph.specs.declared.verdict.Verdict.{Verdict}
-use Rattle.cmh_graph.specs.declared.verdict.Verdict.TheVariants.{Free}
-use Rattle.cmh_graph.specs.Verdict.{says_deadlocked}
-
--- whether the verdict at that place is that the process is deadlocked; past the end it isn't
-abbrev pub is_deadlocked_at : List Verdict → ℕ → Bool
-is_deadlocked_at known p = says_deadlocked (slice_index_or known p Free)
+use Rattle.std.specs.Prelude.{◌≡◌, ℕ, List, length, slice_index_or, Contains, Option, Some, None}
 
 -- the leader that stands at that place, where there is one
 abbrev pub leader_at : List (Option ℕ) → ℕ → Option ℕ

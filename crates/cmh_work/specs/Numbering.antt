@@ -1,5 +1,5 @@
 -- Findings as they are given out, once the history is closed.
-use Rattle.std.specs.Prelude.{◌≡◌, ℕ, ◌<◌, List, [], ◌∷◌, length, slice_index, Option, Some, None}
+use Rattle.std.specs.Prelude.{◌≡◌, ℕ, List, [], ◌∷◌, Option, Some, None}
 use Rattle.cmh_graph.specs.declared.verdict.Verdict.{Verdict}
 use Rattle.cmh_rw.specs.declared.row.Row.{Row}
 use Rattle.cmh_rw.specs.History.{fold_at}
@@ -12,12 +12,6 @@ use Rattle.cmh_work.specs.Record.{IsRowFor}
 -- what was found stands in the history
 abbrev pub Stands : {R L : Type 0} → List Row → Finding R L → Type 0
 Stands history f = fold_at history f.initiator ≡ Some f.verdict
-
--- each process that stands in the history has the number of a row that tells what the history says of it
-pub record AreRowNumbers (history : List Row) (numbers : List ℕ) : Type 0 where
-  pub within : (p : ℕ) (v : Verdict) → fold_at history p ≡ Some v → p < length numbers
-  pub rows : (p : ℕ) (v : Verdict) → fold_at history p ≡ Some v
-      → IsRowFor history (slice_index numbers p) p v
 
 -- the run of a finding is kept, and where there is none, the row is named
 abbrev pub IsNamed : {R : Type 0} → List Row → ℕ → Verdict → Option R → Origin R → Type 0

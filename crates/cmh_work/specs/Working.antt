@@ -21,10 +21,6 @@ pub record IsMadeFor (g : Graph) (plan : Setup) (s : Shared) : Type 0 where
   pub board : board_graph s.board ≡ g
   pub tickets : chunk_count s.tickets ≡ length plan.cuts + 1
 
--- the chunks of the idle processes
-abbrev pub chunks_in : Setup → Shared → List (List ℕ)
-chunks_in plan s = chunks_of plan.cuts s.idle.items
-
 -- a seat of the shared board, which holds nothing
 pub record SitsIn (s : Shared) (seat : BoardSeat) : Type 0 where
   pub sits : SitsAt s.board seat
@@ -46,16 +42,12 @@ pub record AreBack (s : Shared) (old new : Seats) : Type 0 where
   pub tickets : (ticket_view new.tickets).share ≡ (ticket_view old.tickets).share
   pub board : (board_view new.board).lock.share ≡ (board_view old.board).lock.share
 
--- what was found is of the chunks that the seat drew, in order, and explains what it added
-pub record AreOf {L : Type 0} (listed : L → List ℕ) (g : Graph) (plan : Setup) (s : Shared) (seats : Seats)
-    (found : List (Finding Run L))
-    : Type 0 where
-  pub accounts : Accounts listed g plan.choices (board_view seats.board) found
-  pub order : map finding_initiator found ≡ concat_chunks (chunks_in plan s) (ticket_view seats.tickets).drawn
-
--- what was found is of the chunks that the seat drew, in order, and no chunk is left
+-- what was found is of the chunks that the seat drew, in order, and explains what it added, and no
+-- chunk is left
 pub record IsWorked {L : Type 0} (listed : L → List ℕ) (g : Graph) (plan : Setup) (s : Shared) (seats : Seats)
     (found : List (Finding Run L))
     : Type 0 where
-  pub of : AreOf listed g plan s seats found
+  pub accounts : Accounts listed g plan.choices (board_view seats.board) found
+  pub order : map finding_initiator found
+      ≡ concat_chunks (chunks_of plan.cuts s.idle.items) (ticket_view seats.tickets).drawn
   pub done : (ticket_view seats.tickets).done ≡ true

@@ -1,14 +1,14 @@
 //! Who leads the group of each deadlocked process: the least of those that it reaches and that reach
 //! it.
 
-ghost use Rattle.std.specs.Prelude.{◌≡◌, ◌<◌, ◌&&◌, is_none, map, length, All, IfOk};
+ghost use Rattle.std.specs.Prelude.{◌≡◌, ◌<◌, ◌&&◌, is_none, slice_index_or, map, length, All, IfOk};
 ghost use Rattle.cmh_graph.specs.Build.{IsWellFormed};
 ghost use Rattle.cmh_graph.specs.Alone.{AreAlone};
 ghost use Rattle.cmh_graph.specs.Core.{core_of, group_leader};
 ghost use Rattle.cmh_graph.specs.Graph.{indices, process_count};
 ghost use Rattle.cmh_graph.specs.Search.{ArePredecessors};
-ghost use Rattle.cmh_graph.specs.Verdict.{verdicts};
-ghost use Rattle.cmh_work.specs.Leaders.{is_deadlocked_at, leader_at, LeadsEach};
+ghost use Rattle.cmh_graph.specs.Verdict.{says_deadlocked, verdicts};
+ghost use Rattle.cmh_work.specs.Leaders.{leader_at, LeadsEach};
 
 use crate::fault::want_in_graph;
 use cmh_graph::{Predecessors, Verdict, WaitGraph};
@@ -63,7 +63,8 @@ fn core_by(
 fn is_new_leader(known: &[Verdict], leaders: &[Option<u32>], p: u32) -> bool
     requires known { p < length known.now }
     requires leaders { p < length leaders.now }
-    ensures { result ≡ (is_deadlocked_at known.now p && is_none (leader_at leaders.now p)) }
+    ensures { result ≡ (says_deadlocked (slice_index_or known.now p Verdict.Free)
+        && is_none (leader_at leaders.now p)) }
 {
     matches!(known[p as usize], Verdict::Deadlocked) && leaders[p as usize].is_none()
 }

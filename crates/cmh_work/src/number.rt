@@ -1,9 +1,11 @@
 //! Records as they are given out: each names its run, or its row of the closed history.
 
-ghost use Rattle.std.specs.Prelude.{◌<◌, ◌^◌, List, length, All, IfOk};
+ghost use Rattle.std.specs.Prelude.{◌≡◌, ℕ, ◌<◌, ◌^◌, List, length, slice_index, All, Some, IfOk};
+ghost use Rattle.cmh_graph.specs.declared.verdict.Verdict.{Verdict};
 ghost use Rattle.cmh_rw.specs.declared.row.Row.{Row};
+ghost use Rattle.cmh_rw.specs.History.{fold_at};
 ghost use Rattle.cmh_work.specs.Record.{IsRowFor};
-ghost use Rattle.cmh_work.specs.Numbering.{Stands, IsNumbered, AreNumbered, AreRowNumbers};
+ghost use Rattle.cmh_work.specs.Numbering.{Stands, IsNumbered, AreNumbered};
 
 use crate::finding::Finding;
 use crate::record::{Origin, Record};
@@ -15,7 +17,10 @@ use std::alloc::{AllocError, Global};
 fn row_numbers(alloc: Global, history: &[Row], count: u32) -> Result<Vec<u32>, AllocError>
     requires within { All (λ row. row.process < count) history.now }
     requires few { length history.now < 2 ^ 32 }
-    ensures { IfOk result (λ numbers. AreRowNumbers history.now numbers.items) }
+    ensures within { IfOk result (λ numbers. (p : ℕ) (v : Verdict)
+        → fold_at history.now p ≡ Some v → p < length numbers.items) }
+    ensures rows { IfOk result (λ numbers. (p : ℕ) (v : Verdict) → fold_at history.now p ≡ Some v
+        → IsRowFor history.now (slice_index numbers.items p) p v) }
 {
     let mut numbers = vec![in alloc; 0; count as usize]?;
     for n in (0..history.len()).rev() {

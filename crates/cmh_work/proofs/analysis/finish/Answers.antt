@@ -28,7 +28,7 @@ number_all-requires-clause-stand g c =
     all_stand g.E.ProcessList.processes gr plan.choices rows
     (board_view seats.board).seen c.in_ok-found.found.items sorted c.sort_unstable_by_key.ensures.permutation
     (given c.close.result c.map_err.result c.in_ok-history.history _ _ c.map_err.ensures.cases
-    c.in_ok-history.was c.close.ensures.begins) w.of.accounts.sound in
+    c.in_ok-history.was c.close.ensures.begins) w.accounts.sound in
     subst (λ l. All (Stands l) sorted) (sym c.deref.ensures.value) (λ k d low. (sound k d low).stands)
 
 pub number_all-requires-clause-within : goal.number_all-requires-clause-within

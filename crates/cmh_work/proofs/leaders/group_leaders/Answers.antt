@@ -1,9 +1,11 @@
-use Rattle.std.proofs.Common.{◌≡◌, ◌∙◌, ◌<◌, ◌+◌, ◌&&◌, ap, arith, length, None, rules, sym, subst}
+use Rattle.std.proofs.Common.{◌≡◌, ◌∙◌, ◌<◌, ◌+◌, ◌&&◌, ap, arith, get_or, length, None, rules, sym, subst}
 use Rattle.std.specs.Prelude.{is_none}
 use Rattle.std.proofs.lemmas.List.{length-replicate, with_items_is}
 use Rattle.cmh_graph.specs.Graph.{process_count}
 use Rattle.cmh_graph.proofs.Groups.{members_within}
-use Rattle.cmh_work.specs.Leaders.{is_deadlocked_at, leader_at, LeadsEach}
+use Rattle.cmh_graph.specs.declared.verdict.Verdict.TheVariants.{Free}
+use Rattle.cmh_graph.specs.Verdict.{says_deadlocked}
+use Rattle.cmh_work.specs.Leaders.{leader_at, LeadsEach}
 use Rattle.cmh_run.proofs.Scripts.{verdict_count}
 use Rattle.cmh_work.proofs.LeadersLemmas.{AreLeadersBelow, leaders_all, leaders_led_more, leaders_passed, leaders_size, leaders_start, no_leader_at}
 use Rattle.cmh_work.proofs.leaders.group_leaders.Goals as goal
@@ -51,7 +53,7 @@ loop-p-preserved c =
     let well = c.len-p-end.ensures.well_formed.within in
     let test =
     subst (λ list. c.is_new_leader.result
-    ≡ (is_deadlocked_at c.args.known.now c.loop-p.p && is_none (leader_at list c.loop-p.p)))
+    ≡ (says_deadlocked (get_or c.args.known.now c.loop-p.p Free) && is_none (leader_at list c.loop-p.p)))
     c.deref.ensures.value c.is_new_leader.ensures in
     elim c.if-is_new_leader.branch [
       | then-is_new_leader+in_ok-core w ↦

@@ -1,6 +1,6 @@
 use Rattle.std.proofs.Common.{◌-◌, ◌∙◌, ap, arith, length, rules}
 use Rattle.std.proofs.lemmas.List.{length-replicate}
-use Rattle.cmh_work.proofs.RecordLemmas.{numbers_all, numbers_more, numbers_start}
+use Rattle.cmh_work.proofs.RecordLemmas.{numbers_all, numbers_more, numbers_start, numbers_within}
 use Rattle.cmh_work.proofs.number.row_numbers.Goals as goal
 
 pub loop-n-init : goal.loop-n-init
@@ -13,5 +13,9 @@ loop-n-preserved c =
     numbers_more c.args.history.now c.args.count c.loop-n.n (c.loop-n.n - 1) _ _ (omega arith) c.requires.within
     c.loop-n.invariant
 
-pub returns : goal.returns
-returns c = numbers_all c.args.history.now c.args.count c.loop-n.n _ (omega arith) c.requires.within c.loop-n.invariant
+pub returns-clause-within : goal.returns-clause-within
+returns-clause-within c =
+    numbers_within c.args.history.now c.args.count c.loop-n.n _ c.requires.within c.loop-n.invariant
+
+pub returns-clause-rows : goal.returns-clause-rows
+returns-clause-rows c = numbers_all c.args.history.now c.args.count c.loop-n.n _ (omega arith) c.loop-n.invariant

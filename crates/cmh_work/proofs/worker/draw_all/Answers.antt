@@ -1,8 +1,10 @@
-use Rattle.std.proofs.Common.{ℕ, rules, sym, subst, All}
+use Rattle.std.proofs.Common.{◌∙◌, ℕ, ap, map, rules, sym, subst, All}
 use Rattle.std.specs.Prelude.{IsTrue}
 use Rattle.cmh_graph.specs.Graph.{is_idle, idle_list}
-use Rattle.cmh_work.specs.Working.{AreOf}
-use Rattle.cmh_work.proofs.FindingLemmas.{drawn_more, nothing_found}
+use Rattle.cmh_board.specs.Board.{board_view}
+use Rattle.cmh_work.specs.Cutting.{chunks_of}
+use Rattle.cmh_work.specs.Finding.{finding_initiator, Accounts}
+use Rattle.cmh_work.proofs.FindingLemmas.{drawn_more, nothing_drawn, nothing_found}
 use Rattle.cmh_work.proofs.CuttingLemmas.{all_chunk, all_idle}
 use Rattle.cmh_work.proofs.worker.draw_all.Goals as goal
 
@@ -19,21 +21,22 @@ pub loop-number-init : goal.loop-number-init
 loop-number-init g c = record {
   runner = search rules;
   back = search rules;
-  of = subst
-      (AreOf g.E.ProcessList.processes c.args.job.now.graph.now c.args.job.now.plan.now c.args.job.now.shared.now
-      c.args.seats.now) (sym c.new-found.ensures.items)
-      (nothing_found g.E.ProcessList.processes c.args.job.now.graph.now c.args.job.now.plan.now
-      c.args.job.now.shared.now c.args.seats.now c.requires.new);
+  accounts = subst
+      (Accounts g.E.ProcessList.processes c.args.job.now.graph.now c.args.job.now.plan.now.choices
+      (board_view c.args.seats.now.board)) (sym c.new-found.ensures.items)
+      (nothing_found g.E.ProcessList.processes c.args.job.now.graph.now c.args.job.now.plan.now.choices
+      c.args.seats.now c.requires.new);
+  order = ap (map finding_initiator) c.new-found.ensures.items
+      ∙ nothing_drawn (chunks_of c.args.job.now.plan.now.cuts c.args.job.now.shared.now.idle.items) c.args.seats.now
+      c.requires.new;
 }
 
 pub loop-number-preserved : goal.loop-number-preserved
 loop-number-preserved g c = record {
   runner = search rules;
   back = search rules;
-  of = record {
-    accounts = search rules;
-    order = drawn_more c.args.job.now.plan.now c.args.job.now.shared.now c.loop-number.seats.tickets c.draw.new.seat
-        c.in-Some.number c.loop-number.found.items c.find_each.new.found.items (search rules) (search rules)
-        (search rules);
-  };
+  accounts = search rules;
+  order = drawn_more c.args.job.now.plan.now c.args.job.now.shared.now c.loop-number.seats.tickets c.draw.new.seat
+      c.in-Some.number c.loop-number.found.items c.find_each.new.found.items (search rules) (search rules)
+      (search rules);
 }
