@@ -1,9 +1,9 @@
 -- What was found accounts for what a seat added: with each finding, after a join, and at the close.
 use Rattle.std.proofs.Common.{◌≡◌, ◌⊎◌, ℕ, zero, suc, List, [], ◌∷◌, ◌++◌, append_assoc, All, get_or, Some, sym, refl, ap, ◌∙◌, subst, arith, inl, inr, ⊎_elim}
-use Rattle.std.specs.Prelude.{Contains, IsTrue, slice_get}
+use Rattle.std.specs.Prelude.{Contains, slice_get}
 use Rattle.std.proofs.lemmas.Option.{slice_get_within, get_or_from_slice_get}
 use Rattle.std.proofs.lemmas.List.Elements.{All-append, Contains-append_left, Contains-append_right}
-use Rattle.cmh_graph.specs.Graph.{Graph, is_idle}
+use Rattle.cmh_graph.specs.Graph.{Graph}
 use Rattle.cmh_run.specs.declared.delivery.Ending.{Ending}
 use Rattle.cmh_run.specs.declared.delivery.Ending.TheVariants.{Declared, AtRest, CutFree}
 use Rattle.cmh_graph.specs.Verdict.{IsVerdict}
@@ -13,12 +13,9 @@ use Rattle.cmh_rw.specs.declared.view.View.{View}
 use Rattle.cmh_rw.specs.History.{StartsWith, fold_at}
 use Rattle.cmh_board.specs.Board.{SeesMore, AddsPosting, with_posting}
 use Rattle.cmh_board.specs.Posting.{posting_of, spoken_of}
-use Rattle.cmh_work.specs.declared.record.Shape.{Shape}
-use Rattle.cmh_work.specs.declared.finding.Answer.{Answer}
 use Rattle.cmh_work.specs.declared.finding.Finding.{Finding}
-use Rattle.cmh_work.specs.Shape.{IsShape}
 use Rattle.cmh_work.specs.Record.{IsRunFor}
-use Rattle.cmh_work.specs.Finding.{IsAnswered, IsSound, IsRecorded, IsExplained, AreExplained, Accounts}
+use Rattle.cmh_work.specs.Finding.{IsAnswered, IsSound, AddsOneOf, IsExplained, AreExplained, Accounts}
 use Rattle.cmh_rw.proofs.Postings.{starts_same}
 use Rattle.cmh_work.proofs.Rows.{starts_trans, fold_more}
 
@@ -71,16 +68,6 @@ run_answers g choices p v v1 v2 w run s t is truth added =
           (next_posting v2.mine w.mine added.rows added.mine);
     }
 
--- an answer with its shape is a finding
-pub recorded : {L : Type 0} (listed : L → List ℕ) (g : Graph) (choices : List ℕ) (p : ℕ) (v w : View) (a : Answer Run)
-    (shape : Shape L) → IsTrue (is_idle g p) → IsAnswered g choices p v w a → IsShape listed g p a.verdict shape
-    → IsRecorded listed g choices v w record { initiator = p; verdict = a.verdict; run = a.run; shape = shape }
-recorded listed g choices p v w a shape idle is shaped = record {
-  sees = is.sees;
-  sound = record { idle = idle; verdict = is.verdict; shape = shaped; run = is.run; stands = is.stands };
-  mine = is.mine;
-}
-
 -- ---- many
 
 -- a sound finding stays sound when more is seen
@@ -127,21 +114,22 @@ all_one P f p (suc k) d low = absurd (omega arith)
 -- findings that account for what a seat added do so with one more that was recorded
 pub accounts_more : {L : Type 0} (listed : L → List ℕ) (g : Graph) (choices : List ℕ) (v w : View)
     (found : List (Finding Run L)) (f : Finding Run L) → Accounts listed g choices v found
-    → IsRecorded listed g choices v w f → Accounts listed g choices w (found ++ f ∷ [])
-accounts_more listed g choices v w found f a h =
+    → StartsWith w.seen v.seen → IsSound listed g choices w.seen f → AddsOneOf v w f.run
+    → Accounts listed g choices w (found ++ f ∷ [])
+accounts_more listed g choices v w found f a sees sound mine =
     let all = found ++ f ∷ [] in
     let old : AreExplained w.seen all v.mine =
-    all_explained_more w.seen v.seen found all v.mine h.sees
+    all_explained_more w.seen v.seen found all v.mine sees
     (λ q c. Contains-append_left found (f ∷ []) q c) a.explained in record {
       sound = All-append (IsSound listed g choices w.seen) found (f ∷ [])
-          (λ k d low. sound_more listed g choices w.seen v.seen (get_or found k d) h.sees (a.sound k d low))
-          (all_one (IsSound listed g choices w.seen) f h.sound);
+          (λ k d low. sound_more listed g choices w.seen v.seen (get_or found k d) sees (a.sound k d low))
+          (all_one (IsSound listed g choices w.seen) f sound);
       explained = ⊎_elim
           (λ same. subst (AreExplained w.seen all) (sym same) old)
           (λ (m, is, run, ran, from). subst (AreExplained w.seen all) (sym is)
           (all_explained_append w.seen all v.mine (m ∷ []) old
           ((f, Contains-append_right found (f ∷ []) f (0, omega arith, refl), run, ran, from), tt)))
-          h.mine;
+          mine;
     }
 
 -- once the seats of two workers are joined, the findings of both account for what both added

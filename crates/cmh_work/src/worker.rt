@@ -3,9 +3,10 @@
 ghost use Rattle.std.specs.Prelude.{◌≡◌, ◌++◌, map, All, IfOk, OnOk, IsTrue};
 ghost use Rattle.cmh_graph.specs.Graph.{is_idle};
 ghost use Rattle.cmh_run.specs.Run.{verdict_of, TellsTruth};
+ghost use Rattle.cmh_rw.specs.History.{StartsWith};
 ghost use Rattle.cmh_board.specs.Board.{board_view, SeesMore};
 ghost use Rattle.cmh_work.specs.Record.{IsRunFor};
-ghost use Rattle.cmh_work.specs.Finding.{finding_initiator, IsAnswered, IsRecorded, Accounts};
+ghost use Rattle.cmh_work.specs.Finding.{finding_initiator, AddsOneOf, IsAnswered, IsSound, Accounts};
 ghost use Rattle.cmh_work.specs.Working.{IsMadeFor, SitsIn, AreSeated, AreNew, AreBack, IsWorked};
 
 use crate::Gate;
@@ -91,8 +92,12 @@ fn find_one<L: Log, E: ProcessList, R: Wait, G: Gate>(
     ensures sits { SitsIn job.now.shared.now seat.new }
     ensures share { (board_view seat.new).lock.share ≡ (board_view seat.old).lock.share }
     ensures is { IfOk result (λ f. f.initiator ≡ initiator) }
-    ensures recorded { IfOk result (IsRecorded E.processes
-        job.now.graph.now job.now.plan.now.choices (board_view seat.old) (board_view seat.new)) }
+    ensures sees { IfOk result (λ _. StartsWith
+        (board_view seat.new).seen (board_view seat.old).seen) }
+    ensures sound { IfOk result (IsSound E.processes
+        job.now.graph.now job.now.plan.now.choices (board_view seat.new).seen) }
+    ensures mine { IfOk result (λ f. AddsOneOf
+        (board_view seat.old) (board_view seat.new) f.run) }
 {
     gate.pass(initiator);
     let Answer { verdict, run } = ask(rt, alloc, job, runner, seat, initiator)?;

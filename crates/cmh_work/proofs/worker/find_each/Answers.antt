@@ -18,6 +18,7 @@ loop-initiator-preserved g c =
       share = search rules;
       accounts = subst (Accounts g.E.ProcessList.processes gr choices w) (sym pushed)
           (accounts_more g.E.ProcessList.processes gr choices v w c.loop-initiator.found.items c.in_ok-finding.finding
-          c.loop-initiator.invariant.accounts c.in_ok-finding.ensures.recorded);
+          c.loop-initiator.invariant.accounts c.in_ok-finding.ensures.sees c.in_ok-finding.ensures.sound
+          c.in_ok-finding.ensures.mine);
       order = grind (arith, common_steps);
     }
