@@ -126,7 +126,7 @@ posts_from t v u a w took adds ended =
     let seen = ap (λ (x : View). x.seen) ended in (
       ap (λ (x : View). x.lock.found) ended ∙ ap (λ l. l.found) lock,
       (let x = ap (λ (y : View). y.loads) took in let y = adds.loads in
-      let z = ap (λ (y : View). y.loads) ended in omega arith),
+          let z = ap (λ (y : View). y.loads) ended in omega arith),
       record {
         added = record {
           between = added.between;

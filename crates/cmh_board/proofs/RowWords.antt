@@ -16,7 +16,7 @@ use Rattle.cmh_rw.specs.declared.row.Row.{Row}
 use Rattle.cmh_rw.specs.History.{row_code, row_of, fold_at, IsTrueOf}
 use Rattle.cmh_rw.proofs.Codes.{bit-small, free_bit-small, row_code_law}
 use Rattle.cmh_rw.proofs.Folds.{true-few, true-idle}
-use Rattle.cmh_board.specs.Snap.{verdict_at, Shows}
+use Rattle.cmh_board.specs.Snap.{verdict_at}
 use Rattle.cmh_board.proofs.Histories.{verdict_in}
 
 -- a row that stands in true rows has a place among the processes
@@ -56,7 +56,8 @@ absent_past g rows p t past (Some v) e = let there = idle_within g p (true-idle 
 
 -- the list of what true rows say of each process shows the rows
 pub shows_all : (g : Graph) (rows : List Row) (verdicts : List (Option Verdict)) → IsTrueOf g rows
-    → verdicts ≡ map (fold_at rows) (range_with_len 0 (process_count g)) → Shows verdicts rows
+    → verdicts ≡ map (fold_at rows) (range_with_len 0 (process_count g))
+    → (p : ℕ) → verdict_at verdicts p ≡ fold_at rows p
 shows_all g rows verdicts t e p = elim (cases_lt p (process_count g)) [
   | inl l ↦ ap (λ l. verdict_at l p) e
       ∙ get_or-map-range_with_len (fold_at rows) 0 (process_count g) p p None l (omega arith)
@@ -78,5 +79,6 @@ verdicts_more rows verdicts p e =
 
 -- where the rows are true, what a snapshot shows of them is the truth
 pub snap_true : (g : Graph) (rows : List Row) (verdicts : List (Option Verdict)) → IsWithinGraph g → IsTrueOf g rows
-    → Shows verdicts rows → (p : ℕ) (v : Verdict) → verdict_at verdicts p ≡ Some v → IsVerdict g p v
+    → ((p : ℕ) → verdict_at verdicts p ≡ fold_at rows p)
+    → (p : ℕ) (v : Verdict) → verdict_at verdicts p ≡ Some v → IsVerdict g p v
 snap_true g rows verdicts within t shows p v e = verdict_true g p v within (verdict_in g rows p v t (sym (shows p) ∙ e))

@@ -62,7 +62,7 @@ impl Board {
     ghost use Rattle.cmh_graph.specs.declared.verdict.Verdict.{Verdict};
     ghost use Rattle.cmh_graph.specs.Verdict.{IsVerdict};
     ghost use Rattle.cmh_board.specs.Posting.{IsTruth};
-    ghost use Rattle.cmh_board.specs.Snap.{verdict_at, Shows};
+    ghost use Rattle.cmh_board.specs.Snap.{verdict_at};
 
     /// A board on which nothing is posted. The seat has the whole share, which is 64.
     pub fn open(alloc: Global, graph: &WaitGraph) -> Result<(Board, BoardSeat), BoardFault>
@@ -234,7 +234,8 @@ impl Board {
         ensures sees { SeesMore (board_view seat.old) (board_view seat.new) }
         ensures tried { IfOk result (λ snap. TriesOnce (board_view seat.old) (board_view seat.new)) }
         ensures read { IfOk result (λ snap. IsRead (board_view seat.old) (board_view seat.new)) }
-        ensures shows { IfOk result (λ snap. Shows snap (board_view seat.new).seen) }
+        ensures shows { IfOk result (λ snap. (p : ℕ)
+            → verdict_at snap p ≡ fold_at (board_view seat.new).seen p) }
         ensures true_verdicts { IfOk result (λ snap. (p : ℕ) (v : Verdict) → verdict_at snap p ≡ Some v
             → IsVerdict (board_graph self.now) p v) }
         ensures fault { IfErr result (ExplainsReadFault (board_view seat.old) (board_view seat.new)) }
@@ -312,7 +313,8 @@ impl Board {
         ensures sits { SitsAt self.now seat.new }
         ensures sees { SeesMore (board_view seat.old) (board_view seat.new) }
         ensures reads { ReadsHistory (board_view seat.old) (board_view seat.new) }
-        ensures shows { Shows verdicts.new.items (board_view seat.new).seen }
+        ensures shows { (p : ℕ)
+            → verdict_at verdicts.new.items p ≡ fold_at (board_view seat.new).seen p }
     {
         // A graph without processes is looked at too: a look loads at least one word.
         let _rows = self.held_count(seat);

@@ -1,8 +1,8 @@
 //! Runs that the board gives hints to, and what they post.
 
-ghost use Rattle.std.specs.Prelude.{◌≡◌, IfOk};
+ghost use Rattle.std.specs.Prelude.{◌≡◌, ℕ, ◌<◌, IfOk};
 ghost use Rattle.cmh_run.specs.Run.{TellsTruth};
-ghost use Rattle.cmh_board.specs.Board.{board_view, board_graph, SitsAt, IsAway, SeesMore, AnswersPost};
+ghost use Rattle.cmh_board.specs.Board.{board_view, board_graph, SitsAt, IsAway, SeesMore, Posts, IsBlocked};
 ghost use Rattle.cmh_board.specs.Posting.{posting_of};
 
 use crate::{Board, BoardHints, BoardSeat, Post, Posting};
@@ -33,7 +33,12 @@ pub(super) fn try_post_run(board: &Board, seat: &mut BoardSeat, run: &RunLog) ->
     requires sits { SitsAt board.now seat.old × IsAway seat.old }
     requires truth { TellsTruth (board_graph board.now) run.now }
     ensures sits { SitsAt board.now seat.new × IsAway seat.new }
-    ensures answer { AnswersPost (posting_of run.now) (board_view seat.old) (board_view seat.new) result }
+    ensures written { result ≡ Post.Done → ((board_view seat.new).lock.found ≡ 0)
+        × ((board_view seat.old).loads < (board_view seat.new).loads) }
+    ensures posts { result ≡ Post.Done
+        → Posts (posting_of run.now) (board_view seat.old) (board_view seat.new) }
+    ensures busy { (n : ℕ) → result ≡ Post.Busy n
+        → IsBlocked n (board_view seat.old) (board_view seat.new) }
 {
     board.try_post(seat, &Posting::of_run(run))
 }
