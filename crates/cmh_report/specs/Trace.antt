@@ -12,8 +12,6 @@ use Rattle.cmh_run.specs.declared.fault.RunFault.{RunFault}
 use Rattle.cmh_run.specs.declared.fault.RunFault.TheVariants.{Memory}
 use Rattle.cmh_run.specs.Run.{Run, IsRunOf, IsFirstRunFault}
 use Rattle.cmh_text.specs.Report.{line}
-use Rattle.cmh_report.specs.declared.fault.AppFault.{AppFault}
-use Rattle.cmh_report.specs.declared.fault.AppFault.TheVariants as app
 
 -- the word for the kind of a message
 abbrev pub kind_word : Kind → List ℕ
@@ -31,14 +29,10 @@ ending_lines name Declared = (codes "declared" ∷ name ∷ []) ∷ []
 ending_lines name AtRest = (codes "at" ∷ codes "rest" ∷ name ∷ []) ∷ []
 ending_lines name (CutFree k) = []
 
--- the words of each line of the trace
-abbrev pub trace_lines : Graph → Run → List (List (List ℕ))
-trace_lines g r =
-    map (λ d. message_line g d.message) r.log ++ ending_lines (name_of g r.initiator) r.ending
-
--- the lines of the trace, one after the other
+-- the lines of the trace, one after the other: one for each delivery, and the last line
 unfoldable pub trace_text : Graph → Run → List ℕ
-trace_text g r = flat_map line (trace_lines g r)
+trace_text g r = flat_map line
+    (map (λ d. message_line g d.message) r.log ++ ending_lines (name_of g r.initiator) r.ending)
 
 -- p is the first process of that name
 pub record IsFirstNamed (g : Graph) (name : List ℕ) (p : ℕ) : Type 0 where
@@ -79,13 +73,6 @@ pub record HasNoRun (name choices : List ℕ) (fault : RunFault) (g : Graph) : T
   pub initiator : ℕ
   pub named : IsFirstNamed g name initiator
   pub cause : (fault ≡ Memory) ⊎ IsFirstRunFault g initiator choices [] fault
-
--- why a graph has no trace of that name by these choices: the name, the run, or memory for the text
-abbrev pub IsTraceFault : List ℕ → List ℕ → Graph → AppFault → Type 0
-IsTraceFault name choices g app.NoSuchProcess = NobodyIsNamed g name
-IsTraceFault name choices g (app.Run fault) = HasNoRun name choices fault g
-IsTraceFault name choices g (app.Report fault) = ⊤
-IsTraceFault name choices g fault = ⊥
 
 -- what the lines of a run ask of it: processes of the graph, and an ending that has a line
 pub record HasLines (g : Graph) (r : Run) : Type 0 where

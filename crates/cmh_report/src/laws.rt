@@ -1,8 +1,8 @@
 //! Laws over the definitions alone. Each function here has an empty body; its contract is the law.
 
 ghost use Rattle.std.specs.Prelude.{◌≡◌, ℕ, List};
-ghost use Rattle.cmh_run.specs.declared.delivery.Ending.{Ending};
 ghost use Rattle.cmh_graph.specs.Graph.{Graph};
+ghost use Rattle.cmh_run.specs.declared.delivery.Ending.{Ending};
 ghost use Rattle.cmh_report.specs.Trace.{IsEndedTrace};
 
 /// The name of a process and a list of choices leave one trace, with one ending.

@@ -9,7 +9,7 @@ ghost use Rattle.cmh_run.specs.declared.fault.RunFault.{RunFault};
 ghost use Rattle.cmh_text.specs.Report.{line};
 ghost use Rattle.cmh_report.specs.Ends.{GaveGraph, IsAnswer, IsCutShort, IsRefused};
 ghost use Rattle.cmh_report.specs.Fault.{IfDump, IfNoSuchProcess, IfRun, IfUnwritten, IfWork, IfWriteFault};
-ghost use Rattle.cmh_report.specs.Trace.{ending_lines, message_line, trace_text, HasLines, HasNoRun, IsEndedTrace, IsFirstNamed, IsPlainRun, IsSomeTrace, IsTraceFault, NobodyIsNamed};
+ghost use Rattle.cmh_report.specs.Trace.{ending_lines, message_line, trace_text, HasLines, HasNoRun, IsEndedTrace, IsFirstNamed, IsPlainRun, IsSomeTrace, NobodyIsNamed};
 
 use crate::fault::{AppFault, ReportFault};
 use crate::input::read_graph;
@@ -86,7 +86,12 @@ fn trace_of(
     ensures trace { IfOk result (λ t.
         IsEndedTrace name.now choices.now t.ending graph.now (string_bytes t.text)) }
     ensures never_cut { IfOk result (λ t. (k : ℕ) → t.ending ≢ Ending.CutFree k) }
-    ensures fault { IfErr result (IsTraceFault name.now choices.now graph.now) }
+    ensures nobody { IfErr result (λ e. IfNoSuchProcess e (NobodyIsNamed graph.now name.now)) }
+    ensures no_run { IfErr result (λ e. IfRun e (λ fault.
+        HasNoRun name.now choices.now fault graph.now)) }
+    ensures no_dump_fault { IfErr result (λ e. IfDump e (λ _. ⊥)) }
+    ensures no_work_fault { IfErr result (λ e. IfWork e (λ _. ⊥)) }
+    ensures no_write_fault { IfErr result (λ e. IfWriteFault e (λ _. ⊥)) }
 {
     let Some(initiator) = find_process(graph, name) else {
         return Err(AppFault::NoSuchProcess);
