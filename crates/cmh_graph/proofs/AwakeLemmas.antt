@@ -5,13 +5,13 @@ use Rattle.std.proofs.lemmas.List.{length-map, take_all}
 use Rattle.std.proofs.lemmas.List.FromFn.{fill_by_all}
 use Rattle.cmh_graph.specs.declared.part.Part.{Part}
 use Rattle.cmh_graph.specs.Build.{parts_graph}
-use Rattle.cmh_graph.specs.Graph.{Graph, has_dependent, indices, is_awake, is_idle, is_idle_state, process_count}
+use Rattle.cmh_graph.specs.Graph.{Graph, dependents_of, indices, is_awake, is_idle, is_idle_state, process_count}
 use Rattle.cmh_graph.specs.Search.{is_marked}
 use Rattle.cmh_graph.proofs.PartLemmas.{as_many}
 
 -- the message lets p go on
 abbrev pub wakes : Graph → ℕ → ℕ × ℕ → Bool
-wakes g p message = eqb message.1 p && has_dependent g p message.0
+wakes g p message = eqb message.1 p && list_any (λ d. eqb d message.0) (dependents_of g p)
 
 -- The marks say which processes are active, or woken by one of the first n messages.
 pub record AwakeUpTo (g : Graph) (n : ℕ) (marks : List Bool) : Type 0 where

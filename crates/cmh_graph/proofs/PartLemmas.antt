@@ -8,7 +8,7 @@ use Rattle.cmh_graph.specs.declared.part.Part.{Part}
 use Rattle.cmh_graph.specs.declared.fault.GraphFault.TheVariants.{DependentOutOfRange, RepeatedDependent, TransitOutOfRange}
 use Rattle.cmh_graph.specs.Build.{process_of, parts_graph, HasGraphFault}
 use Rattle.cmh_graph.specs.Graph.{process_count, dependents_of, is_idle, is_idle_state, nobody, IsWithinGraph}
-use Rattle.cmh_graph.specs.Judge.{IsAtLeast, IsFirst, IsFirstDependent, IsRepeat}
+use Rattle.cmh_graph.specs.Judge.{IsFirst, IsFirstDependent, IsRepeat}
 use Rattle.cmh_graph.specs.Search.{is_marked}
 use Rattle.cmh_graph.proofs.LevelSearch.{marked_within}
 use Rattle.cmh_graph.proofs.PositionLemmas.{taken_last, taken_more, taken_stays}
@@ -73,14 +73,15 @@ idle_at parts t i part e l = ap (λ p. is_idle_state p.state) e
 
 -- a dependent out of range is a dependent of its row that is too large
 then_out : (parts : List Part) (i j : ℕ) (row : List ℕ) → row ≡ dependents_of (parts_graph parts []) i
-    → HasGraphFault (parts_graph parts []) (DependentOutOfRange i j) → IsAtLeast (length parts) row j
+    → HasGraphFault (parts_graph parts []) (DependentOutOfRange i j)
+    → (j < length row) × (length parts ≤ get_or row j 0)
 then_out parts i j row same h =
-    subst (λ r. IsAtLeast (length parts) r j) (sym same) (h.0.1, omega (arith, h.1, as_many parts))
+    subst (λ r. (j < length r) × (length parts ≤ get_or r j 0)) (sym same) (h.0.1, omega (arith, h.1, as_many parts))
 
 -- where no row before i has a dependent out of range, nor has row i, none before i + 1 has
 pub out_more : (parts : List Part) (i : ℕ) (row : List ℕ) → row ≡ dependents_of (parts_graph parts []) i
     → ((k j : ℕ) → k < i → HasGraphFault (parts_graph parts []) (DependentOutOfRange k j) → ⊥)
-    → ((j : ℕ) → IsAtLeast (length parts) row j → ⊥) → (k j : ℕ) → k < i + 1
+    → ((j : ℕ) → (j < length row) × (length parts ≤ get_or row j 0) → ⊥) → (k j : ℕ) → k < i + 1
     → HasGraphFault (parts_graph parts []) (DependentOutOfRange k j) → ⊥
 out_more parts i row same before none =
     dependents_more (λ k j. HasGraphFault (parts_graph parts []) (DependentOutOfRange k j)) i before

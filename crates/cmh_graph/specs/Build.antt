@@ -28,21 +28,17 @@ dependent_count g = sum_by (λ p. length p.dependents) g.processes
 abbrev pub message_at : Graph → ℕ → ℕ × ℕ
 message_at g i = slice_index_or g.in_transit i (0, 0)
 
--- the graph has no process of that index
-abbrev pub IsOutOfRange : Graph → ℕ → Type 0
-IsOutOfRange g p = process_count g ≤ p
-
 -- when the graph has the fault
 abbrev pub HasGraphFault : Graph → GraphFault → Type 0
 HasGraphFault g TooManyProcesses = MAX_PROCESSES < process_count g
 HasGraphFault g TooManyDependencies = MAX_DEPENDENCIES < dependent_count g
-HasGraphFault g (DependentOutOfRange i j) = HasDependentAt g i j × IsOutOfRange g (dependent_at g i j)
+HasGraphFault g (DependentOutOfRange i j) = HasDependentAt g i j × (process_count g ≤ dependent_at g i j)
 HasGraphFault g (RepeatedDependent i j) = HasDependentAt g i j × (k : ℕ) × (k < j)
     × (dependent_at g i k ≡ dependent_at g i j)
 HasGraphFault g (ActiveWithDependents i) = HasDependentAt g i 0 × IsFalse (is_idle g i)
 HasGraphFault g TooManyInTransit = MAX_IN_TRANSIT < length g.in_transit
 HasGraphFault g (TransitOutOfRange i) = (i < length g.in_transit)
-    × (IsOutOfRange g (message_at g i).0 ⊎ IsOutOfRange g (message_at g i).1)
+    × ((process_count g ≤ (message_at g i).0) ⊎ (process_count g ≤ (message_at g i).1))
 HasGraphFault g Memory = ⊥
 
 -- the number of the fault's kind in the order of the variants, from 1, and its indices

@@ -51,13 +51,10 @@ is_idle_state Active = false
 abbrev pub is_idle : Graph → ℕ → Bool
 is_idle g p = is_idle_state (process_at g p).state
 
--- r belongs to the dependent set of p
-abbrev pub has_dependent : Graph → ℕ → ℕ → Bool
-has_dependent g p r = list_any (λ d. d == r) (dependents_of g p)
-
 -- a message is in transit to p from a member of its dependent set
 abbrev pub is_woken : Graph → ℕ → Bool
-is_woken g p = list_any (λ message. (message.1 == p) && has_dependent g p message.0) g.in_transit
+is_woken g p =
+    list_any (λ message. message.1 == p && list_any (λ d. d == message.0) (dependents_of g p)) g.in_transit
 
 -- an awake process can still send: it is active, or a message in transit lets it go on
 abbrev pub is_awake : Graph → ℕ → Bool

@@ -12,10 +12,6 @@ pub record IsFirstDependent (Holds : ℕ → ℕ → Type 0) (i j : ℕ) : Type 
   pub holds : Holds i j
   pub first : (k l : ℕ) → Holds k l → (i < k) ⊎ ((i ≡ k) × (j ≤ l))
 
--- the list has a dependent j, which is the bound or more
-abbrev pub IsAtLeast : ℕ → List ℕ → ℕ → Type 0
-IsAtLeast bound list j = (j < length list) × (bound ≤ slice_index list j)
-
 -- the list has a dependent j, which equals an earlier one
 abbrev pub IsRepeat : List ℕ → ℕ → Type 0
 IsRepeat list j =

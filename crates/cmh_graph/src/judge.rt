@@ -1,10 +1,10 @@
 //! Whether parts and messages in transit make a wait graph, and if not, which fault comes first.
 
-ghost use Rattle.std.specs.Prelude.{◌≡◌, ◌⊎◌, ◌<◌, ◌≤◌, ◌↔◌, ℕ, [], length, slice_index_or, All, IfOk, IfErr, IfNone, IfSome, IsTrue, OnOk};
+ghost use Rattle.std.specs.Prelude.{◌≡◌, ◌⊎◌, ◌<◌, ◌≤◌, ◌↔◌, ℕ, [], length, slice_index, slice_index_or, All, IfOk, IfErr, IfNone, IfSome, IsTrue, OnOk};
 ghost use Rattle.cmh_graph.specs.declared.fault.GraphFault.TheVariants.{DependentOutOfRange, RepeatedDependent, ActiveWithDependents};
 ghost use Rattle.cmh_graph.specs.Graph.{IsWithinGraph};
 ghost use Rattle.cmh_graph.specs.Build.{dependent_count, parts_graph, HasGraphFault, IsFirstGraphFault, IsWellFormed};
-ghost use Rattle.cmh_graph.specs.Judge.{IsAtLeast, IsFirst, IsFirstDependent, IsRepeat};
+ghost use Rattle.cmh_graph.specs.Judge.{IsFirst, IsFirstDependent, IsRepeat};
 
 use crate::{GraphFault, MAX_DEPENDENCIES, MAX_IN_TRANSIT, MAX_PROCESSES, Part, State};
 use std::alloc::{AllocError, Global};
@@ -73,8 +73,10 @@ fn out_of_range(parts: &[Part]) -> Option<(usize, usize)>
 
 /// The first dependent that is `bound` or more.
 fn first_at_least(bound: usize, list: &[u32]) -> Option<usize>
-    ensures some { IfSome result (IsFirst (IsAtLeast bound list.now)) }
-    ensures none { IfNone result ((j : ℕ) → IsAtLeast bound list.now j → ⊥) }
+    ensures some { IfSome result
+        (IsFirst (λ j. (j < length list.now) × (bound ≤ slice_index list.now j))) }
+    ensures none { IfNone result
+        ((j : ℕ) → (j < length list.now) × (bound ≤ slice_index list.now j) → ⊥) }
 {
     for (j, dependent) in list.iter().enumerate() {
         if *dependent as usize >= bound {

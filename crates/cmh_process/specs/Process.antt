@@ -55,13 +55,9 @@ query_action p number from size =
 abbrev pub counts_reply : Proc → ℕ → Bool
 counts_reply p number = p.wait && (p.latest == number && nat_lt 0 p.num)
 
--- a process with one reply fewer to wait for
-abbrev pub proc_lowered : Proc → Proc
-proc_lowered p = record p { num = p.num - 1 }
-
--- a process after a reply with this number
+-- a process after a reply with this number: where it counts, there is one fewer to wait for
 abbrev pub proc_replied : Proc → ℕ → Proc
-proc_replied p number = if counts_reply p number then proc_lowered p else p
+proc_replied p number = if counts_reply p number then record p { num = p.num - 1 } else p
 
 -- what a process does once the last reply has come: the initiator alone has no engager
 abbrev pub last_action : Option ℕ → Action
