@@ -9,20 +9,21 @@ use Rattle.cmh_process.specs.declared.message.Message.{Message}
 use Rattle.cmh_run.specs.declared.delivery.Delivery.{Delivery}
 use Rattle.cmh_run.specs.Config.{proc_at, nothing_yet, start}
 use Rattle.cmh_run.specs.Legal.{Going, Rule, going_at_start, going_from, after_due_restart, going_after, DeliveriesLead, IsBetween, IsRun}
-use Rattle.cmh_run.proofs.LiveInvariant.{Fine}
-use Rattle.cmh_run.proofs.Configurations.{by_test, Stands, stepped, first_start, ready_stands, status_none}
+use Rattle.cmh_run.proofs.LiveInvariant.{IsSoundMessage}
+use Rattle.cmh_run.proofs.Configurations.{by_test, IsSoundConfig, stepped, first_start, ready_stands, status_none}
 use Rattle.cmh_run.proofs.Tokens.{each_at}
 
 -- what leads on from a sound state has messages between processes of the graph alone
 leads_between : (rule : Rule) (g : Graph) (i : ℕ) → IsWithinGraph g → i < process_count g → is_awake g i ≡ false
-    → (log : List Delivery) (s end : Going) → Stands g i s.config → DeliveriesLead rule g i s log end
+    → (log : List Delivery) (s end : Going) → IsSoundConfig g i s.config → DeliveriesLead rule g i s log end
     → All (λ d. IsBetween g d.message) log
 leads_between rule g i ok within rests [] s end h l = All-nil (λ d. IsBetween g d.message)
 leads_between rule g i ok within rests (d ∷ log) s end h l =
-    let now : Stands g i (after_due_restart g i s).config = ready_stands g i s ok within rests h s.restarts in
+    let now : IsSoundConfig g i (after_due_restart g i s).config = ready_stands g i s ok within rests h s.restarts in
     let live = status_none g i (after_due_restart g i s).config now l.1.going in
     let fine =
-    each_at (Fine g i (after_due_restart g i s).config.number (proc_at (after_due_restart g i s).config.procs))
+    each_at (IsSoundMessage g i (after_due_restart g i s).config.number
+    (proc_at (after_due_restart g i s).config.procs))
     (after_due_restart g i s).config.bag l.0 d.message live.0.fine l.1.there in
     All-cons (λ (x : Delivery). IsBetween g x.message) d log (fine.from_in, fine.to_in)
     (leads_between rule g i ok within rests log (going_after g i (after_due_restart g i s) l.0 d) end

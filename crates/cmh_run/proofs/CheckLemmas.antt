@@ -26,7 +26,7 @@ use Rattle.cmh_run.specs.Check.{LeadTo, HasEnded, IsUndelivered, IsLegalRun, IsF
 use Rattle.cmh_run.proofs.Soundness.{runs_are_sound}
 use Rattle.cmh_run.specs.CheckState.{is_waiting, goes_like, UndeliveredState, CheckState, with_bag, Agrees, IsSettled, IsChecked}
 use Rattle.cmh_run.proofs.Tokens.{each_at}
-use Rattle.cmh_run.proofs.LiveInvariant.{Fine}
+use Rattle.cmh_run.proofs.LiveInvariant.{IsSoundMessage}
 use Rattle.cmh_run.proofs.Places.{IsIn, in_nothing, none_in}
 use Rattle.cmh_run.proofs.CheckStateLemmas.{Own, Firm, firm, agrees_after}
 
@@ -69,7 +69,7 @@ module _ (g : Graph) (i : ℕ) (log : List Delivery) (s : Going) (a : CheckState
   receiver_within : (m : Message) → IsUndelivered s.config m → s.config.ended ≡ None → m.to < process_count g
   receiver_within m u going =
       let live = here.live m u going in
-      (each_at (Fine g i s.config.number (proc_at s.config.procs)) s.config.bag u.0 m live.fine u.1).to_in
+      (each_at (IsSoundMessage g i s.config.number (proc_at s.config.procs)) s.config.bag u.0 m live.fine u.1).to_in
 
   -- hints are fit for the network as they are for the run
   fit_run : (m : Message) (hint : Option Verdict) → HintIsFit g a.network m hint → HintIsFit g s.config m hint
@@ -166,7 +166,7 @@ module _ (g : Graph) (i : ℕ) (log : List Delivery) (s : Going) (a : CheckState
         arith,
         h.graph.processes,
         (each_at
-            (Fine g i s.config.number (proc_at s.config.procs)) s.config.bag is_there.0 d.message live.fine
+            (IsSoundMessage g i s.config.number (proc_at s.config.procs)) s.config.bag is_there.0 d.message live.fine
             is_there.1).from_in,
       )
 

@@ -22,10 +22,10 @@ use Rattle.cmh_graph.proofs.Verdicts.{asleep_is_idle}
 use Rattle.cmh_run.specs.Config.{Config, reply, proc_at, messages_of, ending_after, after_step, after_engagement, after_hint, after_message, without_message, after_delivery, start, nothing_yet}
 use Rattle.cmh_run.specs.Legal.{HintIsFit, Going, after_first_restart, after_due_restart, going_after, DeliveriesLead}
 use Rattle.cmh_run.proofs.Tally.{tally, tally-le-length, tally_from_contains, contains_from_tally}
-use Rattle.cmh_run.proofs.InvariantSteps.{upd, place, Calm, calm}
+use Rattle.cmh_run.proofs.InvariantSteps.{upd, place, AllowsStart, allows_start}
 use Rattle.cmh_run.proofs.Tokens.{Each, each_at, tokens, set_is, is_token, is_token_parts}
 use Rattle.cmh_run.proofs.LiveInvariant as live
-use Rattle.cmh_run.proofs.LiveInvariant.{Live, Fine, started}
+use Rattle.cmh_run.proofs.LiveInvariant.{IsSoundRun, IsSoundMessage, started}
 
 -- a fact that goes by a test, with what the test said
 pub by_test : (b : Bool) (M : Bool → Type 0) → (b ≡ true → M true) → (b ≡ false → M false) → M b
@@ -50,7 +50,8 @@ pub record CutAt (g : Graph) (i n : ℕ) (F : ℕ → Proc) (engaged : List ℕ)
   pub reached : Reaches g i k
 
 -- what stays true of a run tells who is engaged
-pub party_of : (g : Graph) (i n : ℕ) (F : ℕ → Proc) (bag : List Message) (engaged : List ℕ) → Live g i n F bag engaged
+pub party_of : (g : Graph) (i n : ℕ) (F : ℕ → Proc) (bag : List Message) (engaged : List ℕ)
+    → IsSoundRun g i n F bag engaged
     → Party g i n F engaged
 party_of g i n F bag engaged L =
     record {
@@ -64,12 +65,13 @@ party_of g i n F bag engaged L =
 
 -- what is true of a configuration, by how the run ended
 abbrev pub Status : Graph → ℕ → ℕ → (ℕ → Proc) → List Message → List ℕ → Option Ending → Type 0
-Status g i n F bag engaged None = Live g i n F bag engaged × (0 < (F i).num)
-Status g i n F bag engaged (Some Declared) = Live g i n F bag engaged × ((F i).num ≡ 0)
+Status g i n F bag engaged None = IsSoundRun g i n F bag engaged × (0 < (F i).num)
+Status g i n F bag engaged (Some Declared) = IsSoundRun g i n F bag engaged × ((F i).num ≡ 0)
 Status g i n F bag engaged (Some AtRest) = ⊥
 Status g i n F bag engaged (Some (CutFree k)) = CutAt g i n F engaged k
 
-pub record Stands (g : Graph) (i : ℕ) (c : Config) : Type 0 where
+-- what stays true of a configuration, on its way and at its end
+pub record IsSoundConfig (g : Graph) (i : ℕ) (c : Config) : Type 0 where
   pub size : length c.procs ≡ process_count g
   pub status : Status g i c.number (proc_at c.procs) c.bag c.engaged c.ended
 
@@ -77,7 +79,7 @@ pub record Stands (g : Graph) (i : ℕ) (c : Config) : Type 0 where
 changed : (g : Graph) (i n : ℕ) (procs : List Proc) (k : ℕ) (p : Proc) (bag : List Message) (engaged : List ℕ)
     (e : Option Ending) → length procs ≡ process_count g → k < process_count g
     → Status g i n (upd (proc_at procs) k p) bag engaged e
-    → Stands g i (record { bag = bag; procs = slice_set procs k p; number = n; engaged = engaged; ended = e })
+    → IsSoundConfig g i (record { bag = bag; procs = slice_set procs k p; number = n; engaged = engaged; ended = e })
 changed g i n procs k p bag engaged e size within h = record {
   size = length-set procs k p ∙ size;
   status = subst (λ (G : ℕ → Proc). Status g i n G bag engaged e) (sym (set_is procs k p (omega arith))) h;
@@ -89,11 +91,12 @@ upd_self F k = fun_ext (λ x. place k x (λ b. cond b (F k) (F x) ≡ F x) (λ q
 
 module _ (g : Graph) (i : ℕ) (c : Config) (ok : IsWithinGraph g) (size : length c.procs ≡ process_count g)
     (going : c.ended ≡ None)
-    (L : Live g i c.number (proc_at c.procs) c.bag c.engaged) (more : 0 < (proc_at c.procs i).num) (x : ℕ) (m : Message)
+    (L : IsSoundRun g i c.number (proc_at c.procs) c.bag c.engaged) (more : 0 < (proc_at c.procs i).num) (x : ℕ)
+    (m : Message)
     (there : slice_get c.bag x ≡ Some m) where
   -- what is true of each undelivered message is true of m
-  fine_m : Fine g i c.number (proc_at c.procs) m
-  fine_m = each_at (Fine g i c.number (proc_at c.procs)) c.bag x m L.fine there
+  fine_m : IsSoundMessage g i c.number (proc_at c.procs) m
+  fine_m = each_at (IsSoundMessage g i c.number (proc_at c.procs)) c.bag x m L.fine there
 
   -- a receiver that isn't in the newest computation isn't the initiator, which waits as before
   not_i : (proc_at c.procs m.to).latest < c.number → (p : Proc)
@@ -106,10 +109,10 @@ module _ (g : Graph) (i : ℕ) (c : Config) (ok : IsWithinGraph g) (size : lengt
   engaging : (ds : List ℕ) → m.kind ≡ Query → engages (proc_at c.procs m.to) m.number ≡ true → is_awake g m.to ≡ false
       → ((r : ℕ) → 0 < tally r ds → Depends g m.to r) → ((r : ℕ) → tally r ds ≤ tally r (dependents_of g m.to))
       → IsDeadlocked g m.to ⊎ ((r : ℕ) → Contains (dependents_of g m.to) r → 0 < tally r ds)
-      → Stands g i (after_engagement i (without_message c x) m ds)
+      → IsSoundConfig g i (after_engagement i (without_message c x) m ds)
   engaging ds kind new rests known few settled =
       rw new (by_test (eqb m.number c.number)
-      (λ b. Stands g i
+      (λ b. IsSoundConfig g i
       (record {
         bag = remove c.bag x ++ messages_of i m.number m.to ds (engage_action m.from (length ds));
         procs = slice_set c.procs m.to (proc_engaged m.number m.from (length ds));
@@ -142,8 +145,8 @@ module _ (g : Graph) (i : ℕ) (c : Config) (ok : IsWithinGraph g) (size : lengt
       before = ltb-true (proc_at c.procs m.to).latest m.number new
 
   -- the bag without the message, and nothing else changed
-  quiet : Live g i c.number (proc_at c.procs) (remove c.bag x) c.engaged → (k : ℕ) → k < process_count g
-      → Stands g i
+  quiet : IsSoundRun g i c.number (proc_at c.procs) (remove c.bag x) c.engaged → (k : ℕ) → k < process_count g
+      → IsSoundConfig g i
       (record {
         bag = remove c.bag x ++ [];
         procs = slice_set c.procs k (proc_at c.procs k);
@@ -158,12 +161,12 @@ module _ (g : Graph) (i : ℕ) (c : Config) (ok : IsWithinGraph g) (size : lengt
 
   -- what is true of a configuration stays true after a query that engages nobody
   not_engaging : m.kind ≡ Query → engages (proc_at c.procs m.to) m.number ≡ false
-      → Stands g i
+      → IsSoundConfig g i
       (after_step i (without_message c x) m.number m.to [] (proc_queried (proc_at c.procs m.to) m.number m.from 0)
       (query_action (proc_at c.procs m.to) m.number m.from 0))
   not_engaging kind old =
       rw old (by_test ((proc_at c.procs m.to).wait && eqb (proc_at c.procs m.to).latest m.number)
-      (λ b. Stands g i
+      (λ b. IsSoundConfig g i
       (record {
         bag = remove c.bag x ++ messages_of i m.number m.to [] (cond b (ReplyTo m.from) Nothing);
         procs = slice_set c.procs m.to (proc_at c.procs m.to);
@@ -206,12 +209,12 @@ module _ (g : Graph) (i : ℕ) (c : Config) (ok : IsWithinGraph g) (size : lengt
 
   -- what is true of a configuration stays true after a reply
   replying : m.kind ≡ Reply
-      → Stands g i
+      → IsSoundConfig g i
       (after_step i (without_message c x) m.number m.to [] (proc_replied (proc_at c.procs m.to) m.number)
       (reply_action (proc_at c.procs m.to) m.number))
   replying kind =
       by_test (counts_reply (proc_at c.procs m.to) m.number)
-      (λ b. Stands g i (record {
+      (λ b. IsSoundConfig g i (record {
         bag = remove c.bag x
             ++ messages_of i m.number m.to []
             (cond b (cond (eqb (proc_at c.procs m.to).num 1) (last_action (proc_at c.procs m.to).engager) Nothing)
@@ -283,7 +286,7 @@ module _ (g : Graph) (i : ℕ) (c : Config) (ok : IsWithinGraph g) (size : lengt
       finish : (proc_at c.procs m.to).latest ≡ m.number → 0 < (proc_at c.procs m.to).num
           → (m.number ≡ c.number) ⊎ (m.number < c.number)
           → (b : Bool) → eqb (proc_at c.procs m.to).num 1 ≡ b → (o : Option ℕ) → (proc_at c.procs m.to).engager ≡ o
-          → Live g i c.number (upd (proc_at c.procs) m.to lower)
+          → IsSoundRun g i c.number (upd (proc_at c.procs) m.to lower)
           (remove c.bag x ++ messages_of i m.number m.to [] (cond b (last_action o) Nothing)) c.engaged
           → Status g i c.number (upd (proc_at c.procs) m.to lower)
           (remove c.bag x ++ messages_of i m.number m.to [] (cond b (last_action o) Nothing)) c.engaged
@@ -304,7 +307,7 @@ module _ (g : Graph) (i : ℕ) (c : Config) (ok : IsWithinGraph g) (size : lengt
 
   -- what is true of a configuration stays true after a query that would engage, with any fit hint
   asked : m.kind ≡ Query → engages (proc_at c.procs m.to) m.number ≡ true → is_awake g m.to ≡ false
-      → (hint : Option Verdict) → HintIsFit g c m hint → Stands g i (after_hint g i (without_message c x) m hint)
+      → (hint : Option Verdict) → HintIsFit g c m hint → IsSoundConfig g i (after_hint g i (without_message c x) m hint)
   asked kind new rests None fit =
       engaging (dependents_of g m.to) kind new rests
       (λ r h. (asleep_is_idle g m.to rests, contains_from_tally r (dependents_of g m.to) h)) (λ r. omega arith)
@@ -324,10 +327,10 @@ module _ (g : Graph) (i : ℕ) (c : Config) (ok : IsWithinGraph g) (size : lengt
 
   -- what m does to a receiver that isn't awake, with a fit hint, keeps what is true of a configuration
   receiving : is_awake g m.to ≡ false → (k : Kind) → m.kind ≡ k → (hint : Option Verdict) → HintIsFit g c m hint
-      → Stands g i (after_message g i (without_message c x) m k hint)
+      → IsSoundConfig g i (after_message g i (without_message c x) m k hint)
   receiving rests Query kind hint fit =
       by_test (engages (proc_at c.procs m.to) m.number)
-      (λ b. Stands g i
+      (λ b. IsSoundConfig g i
       (cond b (after_hint g i (without_message c x) m hint)
       (after_step i (without_message c x) m.number m.to [] (proc_queried (proc_at c.procs m.to) m.number m.from 0)
       (query_action (proc_at c.procs m.to) m.number m.from 0))))
@@ -336,9 +339,9 @@ module _ (g : Graph) (i : ℕ) (c : Config) (ok : IsWithinGraph g) (size : lengt
   receiving rests Reply kind hint fit = replying kind
 
   -- a delivery with a fit hint keeps what is true of a configuration
-  pub stepped : (hint : Option Verdict) → HintIsFit g c m hint → Stands g i (after_delivery g i c x m hint)
+  pub stepped : (hint : Option Verdict) → HintIsFit g c m hint → IsSoundConfig g i (after_delivery g i c x m hint)
   stepped hint fit =
-      by_test (is_awake g m.to) (λ b. Stands g i (cond b (without_message c x)
+      by_test (is_awake g m.to) (λ b. IsSoundConfig g i (cond b (without_message c x)
       (after_message g i (without_message c x) m m.kind hint)))
       (λ e. record {
         size = size;
@@ -351,10 +354,11 @@ module _ (g : Graph) (i : ℕ) (c : Config) (ok : IsWithinGraph g) (size : lengt
 
 -- what is true of a configuration is true after a start of the initiator with a greater number
 starting : (g : Graph) (i : ℕ) (c : Config) → IsWithinGraph g → i < process_count g → is_awake g i ≡ false
-    → length c.procs ≡ process_count g → Calm g i c.number (proc_at c.procs) → c.number ≤ (proc_at c.procs i).latest
-    → Each (Fine g i c.number (proc_at c.procs)) c.bag
-    → ((k e : ℕ) → (proc_at c.procs k).engager ≡ Some e → e < process_count g) → Stands g i (start g i c)
-starting g i c ok within rests size calm later fine range =
+    → length c.procs ≡ process_count g → AllowsStart g i c.number (proc_at c.procs)
+    → c.number ≤ (proc_at c.procs i).latest
+    → Each (IsSoundMessage g i c.number (proc_at c.procs)) c.bag
+    → ((k e : ℕ) → (proc_at c.procs k).engager ≡ Some e → e < process_count g) → IsSoundConfig g i (start g i c)
+starting g i c ok within rests size allows_start later fine range =
     changed g i ((proc_at c.procs i).latest + 1) c.procs i
     (proc_started (proc_at c.procs i) (length (dependents_of g i)))
     (c.bag ++ messages_of i ((proc_at c.procs i).latest + 1) i (dependents_of g i)
@@ -365,12 +369,12 @@ starting g i c ok within rests size calm later fine range =
     num_is p = place i i (λ b. (cond b p (proc_at c.procs i)).num ≡ p.num) (λ q. refl) (λ w. absurd (w refl))
 
     begins : (ds : List ℕ) → ds ≡ dependents_of g i
-        → Live g i ((proc_at c.procs i).latest + 1)
+        → IsSoundRun g i ((proc_at c.procs i).latest + 1)
         (upd (proc_at c.procs) i (proc_started (proc_at c.procs i) (length ds)))
         (c.bag ++ messages_of i ((proc_at c.procs i).latest + 1) i ds (start_action (length ds))) (i ∷ [])
     begins ds e =
         started g i c.number ((proc_at c.procs i).latest + 1) (proc_at c.procs) c.bag
-        (proc_started (proc_at c.procs i) (length ds)) ds ok within rests calm (omega arith) fine range e refl
+        (proc_started (proc_at c.procs i) (length ds)) ds ok within rests allows_start (omega arith) fine range e refl
 
     status : (ds : List ℕ) → ds ≡ dependents_of g i
         → Status g i ((proc_at c.procs i).latest + 1)
@@ -392,7 +396,7 @@ fresh_at (suc n) (suc k) = fresh_at n k
 
 -- what is true of a configuration is true after the first start
 pub first_start : (g : Graph) (i : ℕ) → IsWithinGraph g → i < process_count g → is_awake g i ≡ false
-    → Stands g i (start g i (nothing_yet g))
+    → IsSoundConfig g i (start g i (nothing_yet g))
 first_start g i ok within rests =
     starting g i (nothing_yet g) ok within rests (length-replicate (process_count g) new_proc)
     (record {
@@ -411,27 +415,27 @@ is_none_true None h = refl
 is_none_true (Some e) h = absurd (true≢false (sym h))
 
 -- while the run isn't over, it is live and the initiator still waits for a reply
-pub status_none : (g : Graph) (i : ℕ) (c : Config) → Stands g i c → c.ended ≡ None
-    → Live g i c.number (proc_at c.procs) c.bag c.engaged × (0 < (proc_at c.procs i).num)
+pub status_none : (g : Graph) (i : ℕ) (c : Config) → IsSoundConfig g i c → c.ended ≡ None
+    → IsSoundRun g i c.number (proc_at c.procs) c.bag c.engaged × (0 < (proc_at c.procs i).num)
 status_none g i c s e =
     subst (λ (o : Option Ending). Status g i c.number (proc_at c.procs) c.bag c.engaged o) e s.status
 
 -- while the run isn't over, a start of the initiator keeps what is true of a configuration
 restarting : (g : Graph) (i : ℕ) (c : Config) → IsWithinGraph g → i < process_count g → is_awake g i ≡ false
-    → Stands g i c → c.ended ≡ None → Stands g i (start g i c)
+    → IsSoundConfig g i c → c.ended ≡ None → IsSoundConfig g i (start g i c)
 restarting g i c ok within rests s e =
     let l = status_none g i c s e in
     starting g i c ok within rests s.size
-    (calm g i c.number (proc_at c.procs) (tokens c.number c.bag) l.0.out l.0.rank l.0.clock l.0.sound)
+    (allows_start g i c.number (proc_at c.procs) (tokens c.number c.bag) l.0.out l.0.rank l.0.clock l.0.sound)
     (omega (arith, l.0.sound.root_in)) l.0.fine l.0.in_range
 
 -- a restart that is due keeps what is true of a configuration
 pub ready_stands : (g : Graph) (i : ℕ) (s : Going) → IsWithinGraph g → i < process_count g → is_awake g i ≡ false
-    → Stands g i s.config → (ns : List ℕ) → Stands g i (after_first_restart g i s ns).config
+    → IsSoundConfig g i s.config → (ns : List ℕ) → IsSoundConfig g i (after_first_restart g i s ns).config
 ready_stands g i s ok within rests h [] = h
 ready_stands g i s ok within rests h (n ∷ ns) =
     by_test (is_none s.config.ended && eqb n s.done)
-    (λ b. Stands g i
+    (λ b. IsSoundConfig g i
     (cond b (record { config = start g i s.config; done = s.done; restarts = ns; restarted = s.restarted + 1 })
     s).config)
     (λ e. restarting g i s.config ok within rests h
@@ -440,13 +444,13 @@ ready_stands g i s ok within rests h (n ∷ ns) =
 
 -- what is true of a configuration stays true wherever deliveries lead
 pub leads_stands : (rule : ℕ → Config → ℕ → Bool) (g : Graph) (i : ℕ) → IsWithinGraph g → i < process_count g
-    → is_awake g i ≡ false → (log : List Delivery) (s end : Going) → Stands g i s.config
+    → is_awake g i ≡ false → (log : List Delivery) (s end : Going) → IsSoundConfig g i s.config
     → DeliveriesLead rule g i s log end
-    → Stands g i end.config
+    → IsSoundConfig g i end.config
 leads_stands rule g i ok within rests [] s end h l =
-    subst (λ (t : Going). Stands g i t.config) l (ready_stands g i s ok within rests h s.restarts)
+    subst (λ (t : Going). IsSoundConfig g i t.config) l (ready_stands g i s ok within rests h s.restarts)
 leads_stands rule g i ok within rests (d ∷ log) s end h l =
-    let now : Stands g i (after_due_restart g i s).config = ready_stands g i s ok within rests h s.restarts in
+    let now : IsSoundConfig g i (after_due_restart g i s).config = ready_stands g i s ok within rests h s.restarts in
     let live = status_none g i (after_due_restart g i s).config now l.1.going in
     leads_stands rule g i ok within rests log (going_after g i (after_due_restart g i s) l.0 d) end
     (stepped g i (after_due_restart g i s).config ok now.size l.1.going live.0 live.1 l.0 d.message l.1.there d.hint

@@ -25,9 +25,9 @@ use Rattle.cmh_run.specs.Config.{Config, query, proc_at, messages_of, after_step
 use Rattle.cmh_run.specs.Legal.{going_at_start, Going, after_first_restart, after_due_restart, going_after, DeliveriesLead, Rule, IsRun}
 use Rattle.cmh_run.proofs.InvariantSteps.{upd}
 use Rattle.cmh_run.proofs.Tokens.{each_at, set_is}
-use Rattle.cmh_run.proofs.LiveInvariant.{Live, Fine, some_engage}
+use Rattle.cmh_run.proofs.LiveInvariant.{IsSoundRun, IsSoundMessage, some_engage}
 use Rattle.cmh_run.proofs.Soundness.{number_kept}
-use Rattle.cmh_run.proofs.Configurations.{by_test, is_none_true, Stands, first_start, status_none, fresh_at, stepped, ready_stands}
+use Rattle.cmh_run.proofs.Configurations.{by_test, is_none_true, IsSoundConfig, first_start, status_none, fresh_at, stepped, ready_stands}
 use Rattle.std.proofs.lemmas.List.Sums.{get_or-le-sum_by, sum_by-remove, sum_by-append, sum_by-cons}
 use Rattle.std.proofs.Common.{mul-le-mul_left, mul-suc, ◌*◌, add-one}
 use Rattle.std.proofs.lemmas.Option.{none-some, slice_get_within, get_or_from_slice_get}
@@ -130,15 +130,15 @@ engaging_pays g i n k number from old owed (d ∷ ds) h a b =
     omega (arith, less, wide, mul-suc (width g k) (n - number)))
 
 module _ (g : Graph) (i : ℕ) (c : Config) (ok : IsWithinGraph g) (size : length c.procs ≡ process_count g)
-    (L : Live g i c.number (proc_at c.procs) c.bag c.engaged) (x : ℕ) (m : Message)
+    (L : IsSoundRun g i c.number (proc_at c.procs) c.bag c.engaged) (x : ℕ) (m : Message)
     (there : slice_get c.bag x ≡ Some m) where
   -- the measure is lower in this configuration than before the delivery
   falls_here : Config → Type 0
   falls_here d = phi g c.number (proc_at d.procs) d.bag + 1 ≤ phi g c.number (proc_at c.procs) c.bag
 
   -- what is true of each undelivered message is true of m
-  fine_m : Fine g i c.number (proc_at c.procs) m
-  fine_m = each_at (Fine g i c.number (proc_at c.procs)) c.bag x m L.fine there
+  fine_m : IsSoundMessage g i c.number (proc_at c.procs) m
+  fine_m = each_at (IsSoundMessage g i c.number (proc_at c.procs)) c.bag x m L.fine there
 
   -- once m is taken the measure is lower
   taken_off : phi g c.number (proc_at c.procs) (remove c.bag x) + 1 ≤ phi g c.number (proc_at c.procs) c.bag
@@ -331,7 +331,7 @@ phi_of g c = phi g c.number (proc_at c.procs) c.bag
 
 -- a delivery lowers the measure of a configuration
 pub delivered_falls : (g : Graph) (i : ℕ) (c : Config) → IsWithinGraph g → length c.procs ≡ process_count g
-    → Live g i c.number (proc_at c.procs) c.bag c.engaged → (x : ℕ) (m : Message) → slice_get c.bag x ≡ Some m
+    → IsSoundRun g i c.number (proc_at c.procs) c.bag c.engaged → (x : ℕ) (m : Message) → slice_get c.bag x ≡ Some m
     → (hint : Option Verdict)
     → phi_of g (after_delivery g i c x m hint) + 1 ≤ phi_of g c
 unfolding phi_of falls_here
@@ -340,7 +340,7 @@ delivered_falls g i c ok size L x m there hint =
 
 -- a restart that is due raises the measure by at most two for each dependency
 ready_raises : (g : Graph) (i : ℕ) (s : Going) → IsWithinGraph g → i < process_count g → is_idle g i ≡ true
-    → Stands g i s.config → (ns : List ℕ)
+    → IsSoundConfig g i s.config → (ns : List ℕ)
     → phi_of g (after_first_restart g i s ns).config + 2 * dependency_count g * s.restarted
     ≤ phi_of g s.config + 2 * dependency_count g * (after_first_restart g i s ns).restarted
 unfolding phi_of
@@ -365,7 +365,7 @@ ready_raises g i s ok within idle h (n ∷ ns) =
 
 -- the deliveries are at most the measure, and two for each dependency and later restart
 leads_short : (rule : ℕ → Config → ℕ → Bool) (g : Graph) (i : ℕ) → IsWithinGraph g → i < process_count g
-    → is_idle g i ≡ true → is_awake g i ≡ false → (log : List Delivery) (s end : Going) → Stands g i s.config
+    → is_idle g i ≡ true → is_awake g i ≡ false → (log : List Delivery) (s end : Going) → IsSoundConfig g i s.config
     → DeliveriesLead rule g i s log end
     → length log + 2 * dependency_count g * s.restarted ≤ phi_of g s.config + 2 * dependency_count g * end.restarted
 leads_short rule g i ok within idle rests [] s end h l =
@@ -373,7 +373,7 @@ leads_short rule g i ok within idle rests [] s end h l =
     let same : (after_first_restart g i s s.restarts).restarted ≡ end.restarted = ap (λ (t : Going). t.restarted) l in
     rw (← same) (omega (arith, now))
 leads_short rule g i ok within idle rests (d ∷ log) s end h l =
-    let now : Stands g i (after_due_restart g i s).config = ready_stands g i s ok within rests h s.restarts in
+    let now : IsSoundConfig g i (after_due_restart g i s).config = ready_stands g i s ok within rests h s.restarts in
     let live = status_none g i (after_due_restart g i s).config now l.1.going in
     let raised = ready_raises g i s ok within idle h s.restarts in
     let fell = delivered_falls g i (after_due_restart g i s).config ok now.size live.0 l.0 d.message l.1.there d.hint in

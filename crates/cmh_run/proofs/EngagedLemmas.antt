@@ -11,9 +11,9 @@ use Rattle.cmh_run.specs.declared.delivery.Ending.{Ending}
 use Rattle.cmh_run.specs.declared.delivery.Ending.TheVariants.{Declared, AtRest, CutFree}
 use Rattle.cmh_run.specs.Config.{Config, proc_at, nothing_yet, start}
 use Rattle.cmh_run.specs.Legal.{Going, going_from, Rule, DeliveriesLead, EndsAs, IsRun}
-use Rattle.cmh_run.specs.Engaged.{IsCutAt, AreEngaged, IsEmptyRun}
+use Rattle.cmh_run.specs.Engaged.{AreEngaged, IsEmptyRun}
 use Rattle.cmh_run.proofs.Tally.{tally_from_contains, distinct}
-use Rattle.cmh_run.proofs.Configurations.{Status, Stands, Party, CutAt, party_of, first_start, leads_stands, status_none}
+use Rattle.cmh_run.proofs.Configurations.{Status, IsSoundConfig, Party, CutAt, party_of, first_start, leads_stands, status_none}
 use Rattle.cmh_run.proofs.Soundness.{runs_are_sound}
 
 module _ (g : Graph) (i n : ℕ) (F : ℕ → Proc) (engaged : List ℕ) (p : Party g i n F engaged) where
@@ -21,29 +21,25 @@ module _ (g : Graph) (i n : ℕ) (F : ℕ → Proc) (engaged : List ℕ) (p : Pa
   heard : (k : ℕ) → Contains engaged k → 0 < (F k).latest
   heard k c = omega (arith, p.positive, p.engaged_in k (tally_from_contains k engaged c))
 
-  -- a process that is about to engage isn't engaged
-  cut_at : (k : ℕ) → CutAt g i n F engaged k → IsCutAt g i k engaged
-  cut_at k h = record {
-    free = h.free;
-    asleep = h.rests;
-    reached = h.reached;
-    out = λ c. omega (arith, h.before, p.engaged_in k (tally_from_contains k engaged c));
-  }
-
   -- those who are engaged are as they should be, where what the ending says of them is true
   engaged_by_ending : (ending : Ending) → (ending ≡ Declared → (k : ℕ) → Contains engaged k → IsDeadlocked g k)
-      → ((k : ℕ) → ending ≡ CutFree k → IsCutAt g i k engaged) → AreEngaged g i ending engaged
+      → ((k : ℕ) → ending ≡ CutFree k → CutAt g i n F engaged k) → AreEngaged g i ending engaged
   engaged_by_ending ending deadlocked cut = record {
     begins = λ e. p.begins;
     once = distinct engaged p.once;
     asleep = λ k c. p.rests k (heard k c);
     reached = λ k c. p.reached k (heard k c);
     deadlocked = deadlocked;
-    cut = cut;
+    cut = λ k e. let h = cut k e in (
+      h.free,
+      h.rests,
+      h.reached,
+      λ c. omega (arith, h.before, p.engaged_in k (tally_from_contains k engaged c)),
+    );
   }
 
 -- where what stays true of a run holds at its end, the engaged are as they should be
-engaged_at : (g : Graph) (i : ℕ) (ending : Ending) (c : Config) → Stands g i c → EndsAs c ending
+engaged_at : (g : Graph) (i : ℕ) (ending : Ending) (c : Config) → IsSoundConfig g i c → EndsAs c ending
     → (ending ≡ Declared → (k : ℕ) → Contains c.engaged k → IsDeadlocked g k) → AreEngaged g i ending c.engaged
 engaged_at g i Declared c s e dead =
     let h : Status g i c.number (proc_at c.procs) c.bag c.engaged (Some Declared) =
@@ -59,7 +55,7 @@ engaged_at g i (CutFree p) c s e dead =
     subst (λ (o : Option Ending). Status g i c.number (proc_at c.procs) c.bag c.engaged o) e s.status in
     engaged_by_ending g i c.number (proc_at c.procs) c.engaged h.party (CutFree p) dead
     (λ k q. let same : p ≡ k = cc in
-    subst (λ (x : ℕ). IsCutAt g i x c.engaged) same (cut_at g i c.number (proc_at c.procs) c.engaged h.party p h))
+    subst (CutAt g i c.number (proc_at c.procs) c.engaged) same h)
 
 -- where nothing was started, nothing comes
 nothing_started : (rule : Rule) (g : Graph) (i : ℕ) (log : List Delivery) (ending : Ending) (end : Going)

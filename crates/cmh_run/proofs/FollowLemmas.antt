@@ -17,14 +17,14 @@ use Rattle.cmh_run.specs.Config.{Config, blank_config, proc_at, nothing_yet, sta
 use Rattle.cmh_run.specs.Legal.{Going, going_from, going_at_start, after_restart, after_first_restart, after_due_restart, going_after, Rule, MayCome, DeliveriesLead, EndsAs, IsRun, HintIsFit, IsRight}
 use Rattle.cmh_run.specs.Choices.{chosen_place, HasNoHints}
 use Rattle.cmh_run.specs.Engaged.{AreEngaged}
-use Rattle.cmh_run.specs.Run.{ProgressState, Follows, Run, IsAccepted, IsRunOf, IsRunAnswer, TellsTruth, empty_run_of, verdict_of, MayStart, place_in, IsTakenBy, progress_after}
+use Rattle.cmh_run.specs.Run.{ProgressState, Follows, Run, IsAccepted, IsRunOf, IsRunAnswer, TellsTruth, verdict_of, MayStart, place_in, IsTakenBy, progress_after}
 use Rattle.cmh_run.specs.Packed.{CanSend, EngagersHaveRoom}
 use Rattle.cmh_run.specs.declared.TheConstants.{MAX_RESTARTS}
 use Rattle.cmh_graph.specs.Verdict.{IsVerdict}
-use Rattle.cmh_run.proofs.LiveInvariant.{Fine}
+use Rattle.cmh_run.proofs.LiveInvariant.{IsSoundMessage}
 use Rattle.cmh_run.proofs.Tokens.{each_at}
 use Rattle.cmh_run.proofs.Soundness.{number_kept, runs_are_sound}
-use Rattle.cmh_run.proofs.Configurations.{by_test, is_none_true, Status, Stands, first_start, leads_stands, status_none, fresh_at, stepped, ready_stands}
+use Rattle.cmh_run.proofs.Configurations.{by_test, is_none_true, Status, IsSoundConfig, first_start, leads_stands, status_none, fresh_at, stepped, ready_stands}
 use Rattle.cmh_run.proofs.LastComputation.{last_computation_is_a_run}
 use Rattle.cmh_run.proofs.Determinism.{same_run}
 use Rattle.cmh_run.proofs.EngagedLemmas.{who_engages, awake_ones_start_nothing}
@@ -79,7 +79,7 @@ leads_restarts rule g i (d ∷ log) s end l =
 
 module _ (g : Graph) (i : ℕ) (ok : IsWithinGraph g) (within : i < process_count g) (rests : is_awake g i ≡ false) where
   -- a restart keeps the number of the last start one more than the restarts
-  ready_numbered : (s : Going) (ns : List ℕ) → Stands g i s.config → s.config.number ≡ s.restarted + 1
+  ready_numbered : (s : Going) (ns : List ℕ) → IsSoundConfig g i s.config → s.config.number ≡ s.restarted + 1
       → (after_first_restart g i s ns).config.number ≡ (after_first_restart g i s ns).restarted + 1
   ready_numbered s [] h e = e
   ready_numbered s (n ∷ ns) h e =
@@ -91,13 +91,13 @@ module _ (g : Graph) (i : ℕ) (ok : IsWithinGraph g) (within : i < process_coun
       (λ t. e)
 
   -- deliveries keep the number of the last start one more than the restarts
-  leads_numbered : (rule : Rule) (log : List Delivery) (s end : Going) → Stands g i s.config
+  leads_numbered : (rule : Rule) (log : List Delivery) (s end : Going) → IsSoundConfig g i s.config
       → s.config.number ≡ s.restarted + 1
       → DeliveriesLead rule g i s log end → end.config.number ≡ end.restarted + 1
   leads_numbered rule [] s end h e l =
       subst (λ (t : Going). t.config.number ≡ t.restarted + 1) l (ready_numbered s s.restarts h e)
   leads_numbered rule (d ∷ log) s end h e l =
-      let now : Stands g i (after_due_restart g i s).config = ready_stands g i s ok within rests h s.restarts in
+      let now : IsSoundConfig g i (after_due_restart g i s).config = ready_stands g i s ok within rests h s.restarts in
       let live = status_none g i (after_due_restart g i s).config now l.1.going in
       leads_numbered rule log (going_after g i (after_due_restart g i s) l.0 d) end
       (stepped g i (after_due_restart g i s).config ok now.size l.1.going live.0 live.1 l.0 d.message l.1.there d.hint
@@ -105,7 +105,7 @@ module _ (g : Graph) (i : ℕ) (ok : IsWithinGraph g) (within : i < process_coun
       (number_kept g i (after_due_restart g i s).config l.0 d.message d.hint ∙ ready_numbered s s.restarts h e) l.3
 
   -- the initiator may start again while few restarts were
-  may_start : (s : Going) → Stands g i s.config → s.config.number ≡ s.restarted + 1 → s.restarted ≤ MAX_RESTARTS
+  may_start : (s : Going) → IsSoundConfig g i s.config → s.config.number ≡ s.restarted + 1 → s.restarted ≤ MAX_RESTARTS
       → s.config.ended ≡ None → MayStart g i s
   may_start s h e few going =
       let live = status_none g i s.config h going in
@@ -116,12 +116,12 @@ module _ (g : Graph) (i : ℕ) (ok : IsWithinGraph g) (within : i < process_coun
   first_number = rw (fresh_at (process_count g) i) refl
 
   -- what is true of a configuration is true after the first start
-  first_stands : Stands g i (start g i (nothing_yet g))
+  first_stands : IsSoundConfig g i (start g i (nothing_yet g))
   first_stands = first_start g i ok within rests
 
   -- what is true of a configuration is true wherever deliveries lead from the first start
   follows_stands : (rule : Rule) (restarts : List ℕ) (log : List Delivery) (s : Going)
-      → DeliveriesLead rule g i (going_from (start g i (nothing_yet g)) restarts) log s → Stands g i s.config
+      → DeliveriesLead rule g i (going_from (start g i (nothing_yet g)) restarts) log s → IsSoundConfig g i s.config
   follows_stands rule restarts log s l =
       leads_stands rule g i ok within rests log (going_from (start g i (nothing_yet g)) restarts) s first_stands l
 
@@ -139,9 +139,9 @@ nothing_comes rule g i [] s l = sym l
 nothing_comes rule g i (d ∷ log) s l = absurd (none-some _ l.1.there)
 
 -- what a step may count on
-pub record Steady (g : Graph) (i : ℕ) (s : Going) : Type 0 where
+pub record AllowsStep (g : Graph) (i : ℕ) (s : Going) : Type 0 where
   pub rests : is_awake g i ≡ false
-  pub stands : Stands g i s.config
+  pub stands : IsSoundConfig g i s.config
   pub numbered : s.config.number ≡ s.restarted + 1
 
 module _ (g : Graph) (i : ℕ) (choices restarts : List ℕ) (s : ProgressState) (ok : IsWithinGraph g)
@@ -161,10 +161,10 @@ module _ (g : Graph) (i : ℕ) (choices restarts : List ℕ) (s : ProgressState)
   awake_leads e = rw e at f.leads
 
   -- while a message is undelivered the run stands firm
-  steady : (x : ℕ) (m : Message) → slice_get s.going.config.bag x ≡ Some m → Steady g i s.going
+  steady : (x : ℕ) (m : Message) → slice_get s.going.config.bag x ≡ Some m → AllowsStep g i s.going
   steady x m there = by_awake (is_awake g i) refl
     where
-      by_awake : (b : Bool) → is_awake g i ≡ b → Steady g i s.going
+      by_awake : (b : Bool) → is_awake g i ≡ b → AllowsStep g i s.going
       by_awake true e =
           absurd (none-some _
           (subst (λ (t : Going). slice_get t.config.bag x ≡ Some m)
@@ -194,7 +194,7 @@ module _ (g : Graph) (i : ℕ) (choices restarts : List ℕ) (s : ProgressState)
       let firm = steady x m there in
       let live = status_none g i s.going.config firm.stands going in
       (each_at
-      (Fine g i s.going.config.number (proc_at s.going.config.procs)) s.going.config.bag x m live.0.fine
+      (IsSoundMessage g i s.going.config.number (proc_at s.going.config.procs)) s.going.config.bag x m live.0.fine
       there).to_in
 
   -- no more restarts have come than may be given
@@ -562,12 +562,13 @@ run_engages g i choices restarts r ok idle same k =
 -- what is kept of the run of an awake initiator is the empty run
 awake_runs_nothing : (g : Graph) (i : ℕ) (choices restarts : List ℕ) (r : Run) → r.initiator ≡ i
     → IsRunOf g choices restarts r
-    → is_awake g i ≡ true → r ≡ empty_run_of i
+    → is_awake g i ≡ true → r ≡ record { initiator = i; log = []; ending = AtRest; engaged = []; restarted = 0 }
 awake_runs_nothing g i choices restarts r same k up =
     let legal : IsRun (chosen_place choices) g i restarts r.log r.ending k.end =
     subst (λ (x : ℕ). IsRun (chosen_place choices) g x restarts r.log r.ending k.end) same k.legal in
     let none = awake_ones_start_nothing (chosen_place choices) g i restarts r.log r.ending k.end up legal in
-    same_run r (empty_run_of i) same none.silent none.at_rest (k.engaged ∙ none.nobody) (k.restarted ∙ none.once)
+    same_run r (record { initiator = i; log = []; ending = AtRest; engaged = []; restarted = 0 }) same none.silent
+    none.at_rest (k.engaged ∙ none.nobody) (k.restarted ∙ none.once)
 
 -- a legal run of an initiator that is accepted is what is answered of it
 pub answered : (g : Graph) (i : ℕ) (choices restarts : List ℕ) (r : Run) → IsWithinGraph g

@@ -316,7 +316,7 @@ module _ (g : Graph) (i m : ℕ) (P : ℕ → Proc) (T : ℕ → ℕ → ℕ) (o
           (cases_eq r y)
 
 -- what a start with a greater number needs of the processes before it
-pub record Calm (g : Graph) (i m : ℕ) (P : ℕ → Proc) : Type 0 where
+pub record AllowsStart (g : Graph) (i m : ℕ) (P : ℕ → Proc) : Type 0 where
   pub latest : (k : ℕ) → (P k).latest ≤ m
   pub waits : (k : ℕ) → 0 < (P k).latest → (P k).wait ≡ true
   pub tops : (k : ℕ) → 0 < (P k).latest → (P k).engager ≡ None → k ≡ i
@@ -324,13 +324,14 @@ pub record Calm (g : Graph) (i m : ℕ) (P : ℕ → Proc) : Type 0 where
   pub reached : (k : ℕ) → 0 < (P k).latest → Reaches g i k
 
 -- where what stays true of a run is true, there is what a start needs
-pub calm : (g : Graph) (i m : ℕ) (P : ℕ → Proc) (T : ℕ → ℕ → ℕ) (out : ℕ → List ℕ) (rank : ℕ → ℕ) (clock : ℕ)
-    → Sound g i m P T out rank clock → Calm g i m P
-calm g i m P T out rank clock s =
+pub allows_start : (g : Graph) (i m : ℕ) (P : ℕ → Proc) (T : ℕ → ℕ → ℕ) (out : ℕ → List ℕ) (rank : ℕ → ℕ) (clock : ℕ)
+    → Sound g i m P T out rank clock → AllowsStart g i m P
+allows_start g i m P T out rank clock s =
     record { latest = s.latest; waits = s.waits; tops = s.tops; rests = s.rests; reached = s.reached }
 
 -- a start with a greater number makes what is true of a run true of the new computation
-pub starts : (g : Graph) (i m m' : ℕ) (P : ℕ → Proc) (p : Proc) (ds : List ℕ) (T' : ℕ → ℕ → ℕ) → Calm g i m P → m < m'
+pub starts : (g : Graph) (i m m' : ℕ) (P : ℕ → Proc) (p : Proc) (ds : List ℕ) (T' : ℕ → ℕ → ℕ) → AllowsStart g i m P
+    → m < m'
     → p.latest ≡ m' → p.engager ≡ None → p.num ≡ length ds → p.wait ≡ true
     → is_awake g i ≡ false → ((r : ℕ) → 0 < tally r ds → Depends g i r)
     → ((r : ℕ) → Contains (dependents_of g i) r → 0 < tally r ds) → ((r : ℕ) → tally r ds ≤ tally r (dependents_of g i))

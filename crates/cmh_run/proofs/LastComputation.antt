@@ -15,9 +15,9 @@ use Rattle.cmh_run.specs.Config.{Config, proc_at, nothing_yet, start, after_deli
 use Rattle.cmh_run.specs.Legal.{Going, going_from, after_restart, after_first_restart, after_due_restart, going_after, Rule, MayCome, any_place, DeliveriesLead, EndsAs, IsRun}
 use Rattle.cmh_run.specs.Last.{renumber, computation_log, LastIsRun}
 use Rattle.cmh_run.proofs.Tokens.{each_at, each_more}
-use Rattle.cmh_run.proofs.LiveInvariant.{Live, Fine}
+use Rattle.cmh_run.proofs.LiveInvariant.{IsSoundRun, IsSoundMessage}
 use Rattle.cmh_run.proofs.Soundness.{number_kept}
-use Rattle.cmh_run.proofs.Configurations.{by_test, is_none_true, Status, Stands, first_start, leads_stands, status_none, fresh_at, stepped, ready_stands}
+use Rattle.cmh_run.proofs.Configurations.{by_test, is_none_true, Status, IsSoundConfig, first_start, leads_stands, status_none, fresh_at, stepped, ready_stands}
 use Rattle.cmh_run.proofs.DeliveryBound.{phi_of, delivered_falls}
 use Rattle.cmh_run.proofs.OneComputation.{kept, place_among, kept_at}
 use Rattle.cmh_run.proofs.LastComputationSteps.{SameEnd, same_end, still_going, shadow, delivered_alike, fit_alike, unseen_delivered, start_alone}
@@ -42,7 +42,7 @@ joined g i (d ∷ log) rest a b k j end l r =
 module _ (rule : Rule) (g : Graph) (i : ℕ) (ok : IsWithinGraph g) (within : i < process_count g)
     (rests : is_awake g i ≡ false) where
   -- a restart that is due raises the number
-  ready_rises : (s : Going) (ns : List ℕ) → Stands g i s.config
+  ready_rises : (s : Going) (ns : List ℕ) → IsSoundConfig g i s.config
       → s.config.number ≤ (after_first_restart g i s ns).config.number
   ready_rises s [] h = omega arith
   ready_rises s (n ∷ ns) h =
@@ -54,11 +54,11 @@ module _ (rule : Rule) (g : Graph) (i : ℕ) (ok : IsWithinGraph g) (within : i 
       (λ t. omega arith)
 
   -- deliveries and restarts never lower the number of the last start
-  leads_rises : (log : List Delivery) (s end : Going) → Stands g i s.config → DeliveriesLead rule g i s log end
+  leads_rises : (log : List Delivery) (s end : Going) → IsSoundConfig g i s.config → DeliveriesLead rule g i s log end
       → s.config.number ≤ end.config.number
   leads_rises [] s end h l = subst (λ (t : Going). s.config.number ≤ t.config.number) l (ready_rises s s.restarts h)
   leads_rises (d ∷ log) s end h l =
-      let now : Stands g i (after_due_restart g i s).config = ready_stands g i s ok within rests h s.restarts in
+      let now : IsSoundConfig g i (after_due_restart g i s).config = ready_stands g i s ok within rests h s.restarts in
       let live = status_none g i (after_due_restart g i s).config now l.1.going in
       omega (
         arith,
@@ -72,16 +72,16 @@ module _ (rule : Rule) (g : Graph) (i : ℕ) (ok : IsWithinGraph g) (within : i 
 
   module _ (n : ℕ) where
     -- a start that begins computation n, seen from it alone, is the first start
-    started : (c : Config) → Stands g i c → c.ended ≡ None → c.number + 1 ≡ n
+    started : (c : Config) → IsSoundConfig g i c → c.ended ≡ None → c.number + 1 ≡ n
         → ◌≡◌ {A = Config} (shadow n (start g i c) (start g i c).ended) (start g i (nothing_yet g))
     started c h going next =
         let live = status_none g i c h going in
         start_alone g i n c h.size (omega (arith, live.0.sound.root_in)) (λ k. omega (arith, live.0.sound.latest k))
-        (each_more (Fine g i c.number (proc_at c.procs)) (λ m. m.number < n) c.bag
+        (each_more (IsSoundMessage g i c.number (proc_at c.procs)) (λ m. m.number < n) c.bag
         (λ m f. omega (arith, f.low)) live.0.fine)
 
     -- a restart changes nothing of where the run of computation n alone is
-    ready_shadows : (s : Going) (a : Config) → Stands g i s.config → Shadows g i n s.config a → (ns : List ℕ)
+    ready_shadows : (s : Going) (a : Config) → IsSoundConfig g i s.config → Shadows g i n s.config a → (ns : List ℕ)
         → (after_first_restart g i s ns).config.number ≤ n
         → Shadows g i n (after_first_restart g i s ns).config a
     ready_shadows s a h sh [] = λ low. sh
@@ -112,15 +112,16 @@ module _ (rule : Rule) (g : Graph) (i : ℕ) (ok : IsWithinGraph g) (within : i 
       leads : DeliveriesLead any_place g i (plain a k) (computation_log n log) (plain at done)
       shadows : Shadows g i n end.config at
 
-    module _ (s : Going) (d : Delivery) (x : ℕ) (h : Stands g i s.config) (may : MayCome g s.config x d)
+    module _ (s : Going) (d : Delivery) (x : ℕ) (h : IsSoundConfig g i s.config) (may : MayCome g s.config x d)
         (low : s.config.number ≤ n) where
       -- a message may come, so the run is live
-      live : Live g i s.config.number (proc_at s.config.procs) s.config.bag s.config.engaged
+      live : IsSoundRun g i s.config.number (proc_at s.config.procs) s.config.bag s.config.engaged
       live = (status_none g i s.config h may.going).0
 
       -- what is true of each undelivered message is true of the one delivered
-      fine : Fine g i s.config.number (proc_at s.config.procs) d.message
-      fine = each_at (Fine g i s.config.number (proc_at s.config.procs)) s.config.bag x d.message live.fine may.there
+      fine : IsSoundMessage g i s.config.number (proc_at s.config.procs) d.message
+      fine = each_at (IsSoundMessage g i s.config.number (proc_at s.config.procs)) s.config.bag x d.message live.fine
+          may.there
 
       -- the delivery of a message of another computation leaves the run of computation n alone where it is
       older_shadows : (d.message.number ≡ n → ⊥) → (a : Config) → Shadows g i n s.config a
@@ -217,7 +218,8 @@ module _ (rule : Rule) (g : Graph) (i : ℕ) (ok : IsWithinGraph g) (within : i 
           }
 
     -- the deliveries of computation n, the last one, lead its run alone on by themselves
-    chain : (log : List Delivery) (s end : Going) (a : Config) (k : ℕ) → Stands g i s.config → end.config.number ≡ n
+    chain : (log : List Delivery) (s end : Going) (a : Config) (k : ℕ) → IsSoundConfig g i s.config
+        → end.config.number ≡ n
         → Shadows g i n s.config a → DeliveriesLead rule g i s log end → Alone log a k end
     chain [] s end a k h is_end sh l = record {
       at = a;
@@ -235,10 +237,10 @@ module _ (rule : Rule) (g : Graph) (i : ℕ) (ok : IsWithinGraph g) (within : i 
         shadows l.3)
         (cases_eq d.message.number n)
       where
-        now : Stands g i (after_due_restart g i s).config
+        now : IsSoundConfig g i (after_due_restart g i s).config
         now = ready_stands g i s ok within rests h s.restarts
 
-        next : Stands g i (going_after g i (after_due_restart g i s) l.0 d).config
+        next : IsSoundConfig g i (going_after g i (after_due_restart g i s) l.0 d).config
         next =
             let live = status_none g i (after_due_restart g i s).config now l.1.going in
             stepped g i (after_due_restart g i s).config ok now.size l.1.going live.0 live.1 l.0 d.message l.1.there
@@ -278,7 +280,7 @@ module _ (rule : Rule) (g : Graph) (i : ℕ) (ok : IsWithinGraph g) (within : i 
     ends : EndsAs end.config ending
 
   -- a run can be finished, if it can be where it isn't over and a message is undelivered
-  finished_or : (c : Config) (k : ℕ) → Stands g i c
+  finished_or : (c : Config) (k : ℕ) → IsSoundConfig g i c
       → ((m : Message) → c.ended ≡ None → slice_get c.bag 0 ≡ Some m → Finish c k) → Finish c k
   finished_or c k h on = by_ended c.ended refl
     where
@@ -294,7 +296,7 @@ module _ (rule : Rule) (g : Graph) (i : ℕ) (ok : IsWithinGraph g) (within : i 
           absurd (subst (λ (o : Option Ending). Status g i c.number (proc_at c.procs) c.bag c.engaged o) e h.status)
 
   -- a run can be finished by the delivery of the first message, again and again
-  finish : (fuel : ℕ) (c : Config) (k : ℕ) → Stands g i c → phi_of g c ≤ fuel → Finish c k
+  finish : (fuel : ℕ) (c : Config) (k : ℕ) → IsSoundConfig g i c → phi_of g c ≤ fuel → Finish c k
   finish zero c k h enough =
       finished_or c k h
       (λ m going there. absurd

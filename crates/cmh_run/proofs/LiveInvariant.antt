@@ -22,7 +22,7 @@ use Rattle.cmh_run.proofs.InvariantSteps.{upd, place}
 use Rattle.cmh_run.proofs.Tokens.{Each, each_append, each_remove, each_at, each_more, each_map, is_token, token, tokens, is_token_parts, token_old, tokens-remove, tokens-append, tokens-one, tokens-queries, tokens-old}
 
 -- what is true of each undelivered message
-pub record Fine (g : Graph) (i n : ℕ) (F : ℕ → Proc) (x : Message) : Type 0 where
+pub record IsSoundMessage (g : Graph) (i n : ℕ) (F : ℕ → Proc) (x : Message) : Type 0 where
   pub low : x.number ≤ n
   pub positive : 0 < x.number
   pub from_in : x.from < process_count g
@@ -30,12 +30,13 @@ pub record Fine (g : Graph) (i n : ℕ) (F : ℕ → Proc) (x : Message) : Type 
   pub asked : x.kind ≡ Query → Depends g x.from x.to × Reaches g i x.to
   pub told : x.kind ≡ Reply → x.number ≡ n → (F x.from).latest ≡ n
 
-pub record Live (g : Graph) (i n : ℕ) (F : ℕ → Proc) (bag : List Message) (engaged : List ℕ) : Type 0 where
+-- what stays true of a run while it goes on
+pub record IsSoundRun (g : Graph) (i n : ℕ) (F : ℕ → Proc) (bag : List Message) (engaged : List ℕ) : Type 0 where
   pub out : ℕ → List ℕ
   pub rank : ℕ → ℕ
   pub clock : ℕ
   pub sound : Sound g i n F (tokens n bag) out rank clock
-  pub fine : Each (Fine g i n F) bag
+  pub fine : Each (IsSoundMessage g i n F) bag
   pub in_range : (k e : ℕ) → (F k).engager ≡ Some e → e < process_count g
   pub engaged_in : (k : ℕ) → 0 < tally k engaged → (F k).latest ≡ n
   pub once : (k : ℕ) → tally k engaged ≤ 1
@@ -53,8 +54,9 @@ begins_append (x ∷ xs) ys i h = h
 
 -- what is true of each undelivered message stays true while nobody leaves the newest computation
 fine_on : (g : Graph) (i n : ℕ) (F F' : ℕ → Proc) (bag : List Message)
-    → ((k : ℕ) → (F k).latest ≡ n → (F' k).latest ≡ n) → Each (Fine g i n F) bag → Each (Fine g i n F') bag
-fine_on g i n F F' bag still a = each_more (Fine g i n F) (Fine g i n F') bag
+    → ((k : ℕ) → (F k).latest ≡ n → (F' k).latest ≡ n) → Each (IsSoundMessage g i n F) bag
+    → Each (IsSoundMessage g i n F') bag
+fine_on g i n F F' bag still a = each_more (IsSoundMessage g i n F) (IsSoundMessage g i n F') bag
     (λ x f. record {
       low = f.low;
       positive = f.positive;
@@ -96,10 +98,10 @@ both_sides false true = refl
 both_sides false false = refl
 
 module _ (g : Graph) (i n : ℕ) (F : ℕ → Proc) (bag : List Message) (engaged : List ℕ) (ok : IsWithinGraph g)
-    (L : Live g i n F bag engaged) (x : ℕ) (m : Message) (there : slice_get bag x ≡ Some m) where
+    (L : IsSoundRun g i n F bag engaged) (x : ℕ) (m : Message) (there : slice_get bag x ≡ Some m) where
   -- what is true of each undelivered message is true of m
-  fine_m : Fine g i n F m
-  fine_m = each_at (Fine g i n F) bag x m L.fine there
+  fine_m : IsSoundMessage g i n F m
+  fine_m = each_at (IsSoundMessage g i n F) bag x m L.fine there
 
   -- along each dependency m counts no longer once it is taken
   spent : (a r : ℕ) → tokens n (remove bag x) a r + token n a r m ≡ tokens n bag a r
@@ -117,7 +119,8 @@ module _ (g : Graph) (i n : ℕ) (F : ℕ → Proc) (bag : List Message) (engage
       )
 
   -- m may be dropped unless it goes along a dependency on a process that isn't awake
-  pub dropped : ((a r : ℕ) → is_awake g r ≡ false → is_token n a r m ≡ true → ⊥) → Live g i n F (remove bag x) engaged
+  pub dropped : ((a r : ℕ) → is_awake g r ≡ false → is_token n a r m ≡ true → ⊥)
+      → IsSoundRun g i n F (remove bag x) engaged
   dropped none = record {
     out = L.out;
     rank = L.rank;
@@ -126,7 +129,7 @@ module _ (g : Graph) (i n : ℕ) (F : ℕ → Proc) (bag : List Message) (engage
         (λ a r. omega (arith, spent a r))
         (λ a r rest. ⊎_elim (λ (y : is_token n a r m ≡ true). absurd (none a r rest y))
         (λ (no : is_token n a r m ≡ false). omega (arith, rw no at (spent a r))) (cases_Bool (is_token n a r m)));
-    fine = each_remove (Fine g i n F) x bag L.fine;
+    fine = each_remove (IsSoundMessage g i n F) x bag L.fine;
     in_range = L.in_range;
     engaged_in = L.engaged_in;
     once = L.once;
@@ -134,7 +137,7 @@ module _ (g : Graph) (i n : ℕ) (F : ℕ → Proc) (bag : List Message) (engage
   }
 
   -- a message to an awake process may be dropped, and the run stays live
-  pub discarded : is_awake g m.to ≡ true → Live g i n F (remove bag x) engaged
+  pub discarded : is_awake g m.to ≡ true → IsSoundRun g i n F (remove bag x) engaged
   discarded awake = dropped (λ a r rest y. by_kind a r rest y m.kind refl)
     where
       by_kind : (a r : ℕ) → is_awake g r ≡ false → is_token n a r m ≡ true → (k : Kind) → m.kind ≡ k → ⊥
@@ -151,7 +154,7 @@ module _ (g : Graph) (i n : ℕ) (F : ℕ → Proc) (bag : List Message) (engage
 
   -- a query to a process of its own computation is answered at once, and the run stays live
   pub repeated : m.kind ≡ Query → (F m.to).latest ≡ m.number
-      → Live g i n F (remove bag x ++ reply i m.number m.to m.from ∷ []) engaged
+      → IsSoundRun g i n F (remove bag x ++ reply i m.number m.to m.from ∷ []) engaged
   repeated is_query latest = record {
     out = L.out;
     rank = L.rank;
@@ -160,8 +163,8 @@ module _ (g : Graph) (i n : ℕ) (F : ℕ → Proc) (bag : List Message) (engage
         (tokens n (remove bag x ++ reply i m.number m.to m.from ∷ []))
         (λ a r. omega (arith, same a r))
         (λ a r rest. omega (arith, same a r));
-    fine = each_append (Fine g i n F) (remove bag x) (reply i m.number m.to m.from ∷ [])
-        (each_remove (Fine g i n F) x bag L.fine) (
+    fine = each_append (IsSoundMessage g i n F) (remove bag x) (reply i m.number m.to m.from ∷ [])
+        (each_remove (IsSoundMessage g i n F) x bag L.fine) (
           record {
             low = fine_m.low;
             positive = fine_m.positive;
@@ -194,8 +197,8 @@ module _ (g : Graph) (i n : ℕ) (F : ℕ → Proc) (bag : List Message) (engage
   -- where the receiver takes part in an older computation, the run stays live
   pub older : (p : Proc) (new : List Message) → m.number < n → (F m.to).latest < n → p.latest < n → p.wait ≡ true
       → (p.engager ≡ None → m.to ≡ i) → is_awake g m.to ≡ false → Reaches g i m.to
-      → ((e : ℕ) → p.engager ≡ Some e → e < process_count g) → Each (Fine g i n (upd F m.to p)) new
-      → Each (λ y. y.number ≡ n → ⊥) new → Live g i n (upd F m.to p) (remove bag x ++ new) engaged
+      → ((e : ℕ) → p.engager ≡ Some e → e < process_count g) → Each (IsSoundMessage g i n (upd F m.to p)) new
+      → Each (λ y. y.number ≡ n → ⊥) new → IsSoundRun g i n (upd F m.to p) (remove bag x ++ new) engaged
   older p new low before after waits top rests reached range fine old = record {
     out = L.out;
     rank = L.rank;
@@ -205,8 +208,8 @@ module _ (g : Graph) (i n : ℕ) (F : ℕ → Proc) (bag : List Message) (engage
         (tokens n (remove bag x ++ new))
         (λ a r. omega (arith, same a r))
         (λ a r rest. omega (arith, same a r));
-    fine = each_append (Fine g i n (upd F m.to p)) (remove bag x) new
-        (fine_on g i n F (upd F m.to p) (remove bag x) still (each_remove (Fine g i n F) x bag L.fine)) fine;
+    fine = each_append (IsSoundMessage g i n (upd F m.to p)) (remove bag x) new
+        (fine_on g i n F (upd F m.to p) (remove bag x) still (each_remove (IsSoundMessage g i n F) x bag L.fine)) fine;
     in_range =
         λ k e. place m.to k (λ b. (cond b p (F k)).engager ≡ Some e → e < process_count g) (λ q h. range e h)
         (λ w. L.in_range k e);
@@ -234,7 +237,7 @@ module _ (g : Graph) (i n : ℕ) (F : ℕ → Proc) (bag : List Message) (engage
   pub engages : (ds : List ℕ) → m.kind ≡ Query → m.number ≡ n → (F m.to).latest < n → is_awake g m.to ≡ false
       → ((r : ℕ) → 0 < tally r ds → Depends g m.to r) → ((r : ℕ) → tally r ds ≤ tally r (dependents_of g m.to))
       → IsDeadlocked g m.to ⊎ ((r : ℕ) → Contains (dependents_of g m.to) r → 0 < tally r ds)
-      → Live g i n (upd F m.to (proc_engaged m.number m.from (length ds)))
+      → IsSoundRun g i n (upd F m.to (proc_engaged m.number m.from (length ds)))
       (remove bag x ++ messages_of i m.number m.to ds (engage_action m.from (length ds))) (engaged ++ m.to ∷ [])
   engages ds is_query newest before rests known few settled = record {
     out = upd L.out m.to ds;
@@ -246,8 +249,8 @@ module _ (g : Graph) (i n : ℕ) (F : ℕ → Proc) (bag : List Message) (engage
         (rw (is_query, eq-eqb m.number n newest, eq-eqb m.from m.from refl, eq-eqb m.to m.to refl) refl)).0 rests
         (fine_m.asked is_query).1 known few settled
         (λ a y. omega (arith, spent a y, tokens-append n (remove bag x) new a y, moved ds a y));
-    fine = each_append (Fine g i n (upd F m.to p)) (remove bag x) new
-        (fine_on g i n F (upd F m.to p) (remove bag x) still (each_remove (Fine g i n F) x bag L.fine))
+    fine = each_append (IsSoundMessage g i n (upd F m.to p)) (remove bag x) new
+        (fine_on g i n F (upd F m.to p) (remove bag x) still (each_remove (IsSoundMessage g i n F) x bag L.fine))
         (new_fine ds known);
     in_range =
         λ k e. place m.to k (λ b. (cond b p (F k)).engager ≡ Some e → e < process_count g)
@@ -303,7 +306,8 @@ module _ (g : Graph) (i n : ℕ) (F : ℕ → Proc) (bag : List Message) (engage
       still_to = place m.to m.to (λ b. (cond b p (F m.to)).latest ≡ n) (λ q. newest) (λ w. absurd (w refl))
 
       new_fine : (es : List ℕ) → ((r : ℕ) → 0 < tally r es → Depends g m.to r)
-          → Each (Fine g i n (upd F m.to p)) (messages_of i m.number m.to es (engage_action m.from (length es)))
+          → Each (IsSoundMessage g i n (upd F m.to p))
+          (messages_of i m.number m.to es (engage_action m.from (length es)))
       new_fine [] all = (
         record {
           low = fine_m.low;
@@ -317,8 +321,8 @@ module _ (g : Graph) (i n : ℕ) (F : ℕ → Proc) (bag : List Message) (engage
       )
       new_fine (e ∷ es) all =
           rw (some_engage m.from (length es))
-          (each_map (Fine g i n (upd F m.to p)) (λ (r : ℕ). query i m.number m.to r) (e ∷ es)
-          (each_from (λ (r : ℕ). Fine g i n (upd F m.to p) (query i m.number m.to r)) (e ∷ es)
+          (each_map (IsSoundMessage g i n (upd F m.to p)) (λ (r : ℕ). query i m.number m.to r) (e ∷ es)
+          (each_from (λ (r : ℕ). IsSoundMessage g i n (upd F m.to p) (query i m.number m.to r)) (e ∷ es)
           (λ r h. record {
             low = fine_m.low;
             positive = fine_m.positive;
@@ -343,7 +347,7 @@ module _ (g : Graph) (i n : ℕ) (F : ℕ → Proc) (bag : List Message) (engage
   -- where the receiver engages in an older computation, the run stays live
   pub engages_older : (ds : List ℕ) → m.kind ≡ Query → m.number < n → (F m.to).latest < n → is_awake g m.to ≡ false
       → ((r : ℕ) → 0 < tally r ds → Depends g m.to r)
-      → Live g i n (upd F m.to (proc_engaged m.number m.from (length ds)))
+      → IsSoundRun g i n (upd F m.to (proc_engaged m.number m.from (length ds)))
       (remove bag x ++ messages_of i m.number m.to ds (engage_action m.from (length ds))) engaged
   engages_older ds is_query low before rests known =
       older p (messages_of i m.number m.to ds (engage_action m.from (length ds))) low before low refl
@@ -356,7 +360,8 @@ module _ (g : Graph) (i n : ℕ) (F : ℕ → Proc) (bag : List Message) (engage
       p = proc_engaged m.number m.from (length ds)
 
       new_fine : (es : List ℕ) → ((r : ℕ) → 0 < tally r es → Depends g m.to r)
-          → Each (Fine g i n (upd F m.to p)) (messages_of i m.number m.to es (engage_action m.from (length es)))
+          → Each (IsSoundMessage g i n (upd F m.to p))
+          (messages_of i m.number m.to es (engage_action m.from (length es)))
       new_fine [] all = (
         record {
           low = fine_m.low;
@@ -370,8 +375,8 @@ module _ (g : Graph) (i n : ℕ) (F : ℕ → Proc) (bag : List Message) (engage
       )
       new_fine (e ∷ es) all =
           rw (some_engage m.from (length es))
-          (each_map (Fine g i n (upd F m.to p)) (λ (r : ℕ). query i m.number m.to r) (e ∷ es)
-          (each_from (λ (r : ℕ). Fine g i n (upd F m.to p) (query i m.number m.to r)) (e ∷ es)
+          (each_map (IsSoundMessage g i n (upd F m.to p)) (λ (r : ℕ). query i m.number m.to r) (e ∷ es)
+          (each_from (λ (r : ℕ). IsSoundMessage g i n (upd F m.to p) (query i m.number m.to r)) (e ∷ es)
           (λ r h. record {
             low = fine_m.low;
             positive = fine_m.positive;
@@ -393,7 +398,7 @@ module _ (g : Graph) (i n : ℕ) (F : ℕ → Proc) (bag : List Message) (engage
 
   -- where a reply of the newest computation is received, the run stays live
   pub replied : m.kind ≡ Reply → m.number ≡ n
-      → Live g i n (upd F m.to lowered)
+      → IsSoundRun g i n (upd F m.to lowered)
       (remove bag x
       ++ messages_of i m.number m.to [] (if (F m.to).num == 1 then last_action (F m.to).engager else Nothing)) engaged
   replied is_reply newest = record {
@@ -411,8 +416,8 @@ module _ (g : Graph) (i n : ℕ) (F : ℕ → Proc) (bag : List Message) (engage
           token_is a y,
           debts (F m.to).engager refl (eqb (F m.to).num 1) refl a y,
         ));
-    fine = each_append (Fine g i n (upd F m.to lowered)) (remove bag x) new
-        (fine_on g i n F (upd F m.to lowered) (remove bag x) still (each_remove (Fine g i n F) x bag L.fine))
+    fine = each_append (IsSoundMessage g i n (upd F m.to lowered)) (remove bag x) new
+        (fine_on g i n F (upd F m.to lowered) (remove bag x) still (each_remove (IsSoundMessage g i n F) x bag L.fine))
         (new_fine (F m.to).engager refl (eqb (F m.to).num 1));
     in_range =
         λ k e. place m.to k (λ b. (cond b lowered (F k)).engager ≡ Some e → e < process_count g)
@@ -481,7 +486,8 @@ module _ (g : Graph) (i n : ℕ) (F : ℕ → Proc) (bag : List Message) (engage
           (λ w. omega (arith, elsewhere o b a y (λ e. w (sym e))))
 
       new_fine : (o : Option ℕ) → (F m.to).engager ≡ o → (b : Bool)
-          → Each (Fine g i n (upd F m.to lowered)) (messages_of i m.number m.to [] (cond b (last_action o) Nothing))
+          → Each (IsSoundMessage g i n (upd F m.to lowered))
+          (messages_of i m.number m.to [] (cond b (last_action o) Nothing))
       new_fine o top false = tt
       new_fine None top true = tt
       new_fine (Some e) top true = (
@@ -498,7 +504,7 @@ module _ (g : Graph) (i n : ℕ) (F : ℕ → Proc) (bag : List Message) (engage
 
   -- where a reply of an older computation is received, the run stays live
   pub replied_older : m.number < n → (F m.to).wait ≡ true → (F m.to).latest ≡ m.number → (b : Bool)
-      → Live g i n (upd F m.to lowered)
+      → IsSoundRun g i n (upd F m.to lowered)
       (remove bag x ++ messages_of i m.number m.to [] (cond b (last_action (F m.to).engager) Nothing)) engaged
   replied_older low waits latest b =
       older lowered (messages_of i m.number m.to [] (cond b (last_action (F m.to).engager) Nothing)) low
@@ -510,7 +516,8 @@ module _ (g : Graph) (i n : ℕ) (F : ℕ → Proc) (bag : List Message) (engage
       heard = omega (arith, latest, fine_m.positive)
 
       new_fine : (o : Option ℕ) → (F m.to).engager ≡ o → (b : Bool)
-          → Each (Fine g i n (upd F m.to lowered)) (messages_of i m.number m.to [] (cond b (last_action o) Nothing))
+          → Each (IsSoundMessage g i n (upd F m.to lowered))
+          (messages_of i m.number m.to [] (cond b (last_action o) Nothing))
       new_fine o top false = tt
       new_fine None top true = tt
       new_fine (Some e) top true = (
@@ -533,15 +540,16 @@ module _ (g : Graph) (i n : ℕ) (F : ℕ → Proc) (bag : List Message) (engage
 
 -- where the initiator starts with a greater number, the run is live in the new computation
 pub started : (g : Graph) (i n n' : ℕ) (F : ℕ → Proc) (bag : List Message) (p : Proc) (ds : List ℕ) → IsWithinGraph g
-    → i < process_count g → is_awake g i ≡ false → steps.Calm g i n F → n < n'
-    → Each (Fine g i n F) bag → ((k e : ℕ) → (F k).engager ≡ Some e → e < process_count g) → ds ≡ dependents_of g i
+    → i < process_count g → is_awake g i ≡ false → steps.AllowsStart g i n F → n < n'
+    → Each (IsSoundMessage g i n F) bag → ((k e : ℕ) → (F k).engager ≡ Some e → e < process_count g)
+    → ds ≡ dependents_of g i
     → p ≡ record { latest = n'; engager = None; num = length ds; wait = true }
-    → Live g i n' (upd F i p) (bag ++ messages_of i n' i ds (if length ds == 0 then Declare else Engage)) (i ∷ [])
-started g i n n' F bag p ds ok within rests calm later fine range is_deps is_p = record {
+    → IsSoundRun g i n' (upd F i p) (bag ++ messages_of i n' i ds (if length ds == 0 then Declare else Engage)) (i ∷ [])
+started g i n n' F bag p ds ok within rests allows_start later fine range is_deps is_p = record {
   out = upd (λ x. []) i ds;
   rank = λ x. 0;
   clock = 1;
-  sound = steps.starts g i n n' F p ds (tokens n' (bag ++ new)) calm later (ap (λ (q : Proc). q.latest) is_p)
+  sound = steps.starts g i n n' F p ds (tokens n' (bag ++ new)) allows_start later (ap (λ (q : Proc). q.latest) is_p)
       (ap (λ (q : Proc). q.engager) is_p) (ap (λ (q : Proc). q.num) is_p) (ap (λ (q : Proc). q.wait) is_p) rests
       (λ r h. on_it r h)
       (λ r c. tally_from_contains r ds (subst (λ (es : List ℕ). Contains es r) (sym is_deps) c))
@@ -550,10 +558,11 @@ started g i n n' F bag p ds ok within rests calm later fine range is_deps is_p =
         arith,
         tokens-append n' bag new a y,
         tokens-old n' a y bag
-            (each_more (Fine g i n F) (λ z. z.number ≡ n' → ⊥) bag (λ z f e. omega (arith, f.low)) fine),
+            (each_more (IsSoundMessage g i n F) (λ z. z.number ≡ n' → ⊥) bag (λ z f e. omega (arith, f.low)) fine),
         moved ds a y,
       ));
-  fine = each_append (Fine g i n' (upd F i p)) bag new (each_more (Fine g i n F) (Fine g i n' (upd F i p)) bag
+  fine = each_append (IsSoundMessage g i n' (upd F i p)) bag new
+      (each_more (IsSoundMessage g i n F) (IsSoundMessage g i n' (upd F i p)) bag
       (λ z f. record {
         low = omega (arith, f.low);
         positive = f.positive;
@@ -586,12 +595,12 @@ started g i n n' F bag p ds ok within rests calm later fine range is_deps is_p =
     moved (e ∷ es) a y = rw (ne_eqb (suc (length es)) 0 (λ q. omega arith)) (tokens-queries i n' n' i a y (e ∷ es) refl)
 
     new_fine : (es : List ℕ) → ((r : ℕ) → 0 < tally r es → Depends g i r)
-        → Each (Fine g i n' (upd F i p)) (messages_of i n' i es (if length es == 0 then Declare else Engage))
+        → Each (IsSoundMessage g i n' (upd F i p)) (messages_of i n' i es (if length es == 0 then Declare else Engage))
     new_fine [] all = tt
     new_fine (e ∷ es) all =
         rw (ne_eqb (suc (length es)) 0 (λ q. omega arith))
-        (each_map (Fine g i n' (upd F i p)) (λ (r : ℕ). query i n' i r) (e ∷ es)
-        (each_from (λ (r : ℕ). Fine g i n' (upd F i p) (query i n' i r)) (e ∷ es)
+        (each_map (IsSoundMessage g i n' (upd F i p)) (λ (r : ℕ). query i n' i r) (e ∷ es)
+        (each_from (λ (r : ℕ). IsSoundMessage g i n' (upd F i p) (query i n' i r)) (e ∷ es)
         (λ r h. record {
           low = omega arith;
           positive = omega arith;

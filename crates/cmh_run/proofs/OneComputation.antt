@@ -1,12 +1,12 @@
 -- Processes and messages seen from one computation alone, which is numbered 1 then.
-use Rattle.std.proofs.Common.{◌≡◌, ℕ, zero, suc, ◌<◌, ◌≤◌, true, false, ◌&&◌, cond, eqb, ltb, List, [], ◌∷◌, ◌++◌, map, remove, replicate, length, slice_get, Some, refl, sym, ap, arith, ⊎_elim}
+use Rattle.std.proofs.Common.{◌≡◌, ℕ, zero, suc, ◌-◌, ◌<◌, ◌≤◌, true, false, ◌&&◌, cond, eqb, ltb, List, [], ◌∷◌, ◌++◌, map, remove, replicate, length, slice_get, Some, refl, sym, ap, arith, ⊎_elim}
 use Rattle.std.proofs.lemmas.Bool.{eqb-true, eq-eqb, ne_eqb, cases_eq, and_parts, lt-ltb, le-ltb, ltb-true, ltb-false}
 use Rattle.std.proofs.Math.Bool.{and-false}
 use Rattle.cmh_process.specs.declared.message.Message.{Message}
 use Rattle.cmh_process.specs.declared.process.Proc.{Proc}
 use Rattle.cmh_process.specs.declared.process.Action.{Action}
 use Rattle.cmh_process.specs.declared.process.Action.TheVariants.{Nothing, Engage, ReplyTo, Declare}
-use Rattle.cmh_process.specs.Process.{new_proc, engages, proc_engaged, engage_action, last_action, repeat_action, proc_queried, query_action, counts_reply, proc_lowered, proc_replied, reply_action}
+use Rattle.cmh_process.specs.Process.{new_proc, engages, proc_engaged, engage_action, last_action, repeat_action, proc_queried, query_action, counts_reply, proc_replied, reply_action}
 use Rattle.cmh_run.specs.Config.{query, proc_at, messages_of}
 use Rattle.cmh_run.specs.Last.{renumber}
 use Rattle.cmh_run.proofs.Configurations.{by_test}
@@ -152,7 +152,8 @@ module _ (n : ℕ) (p : Proc) (low : p.latest ≤ n) (positive : 0 < n) where
   pub same_replied : proc_replied (recast n p) 1 ≡ recast n (proc_replied p n)
   same_replied = rw same_counts
       (by_test (counts_reply p n)
-      (λ b. cond b (proc_lowered (recast n p)) (recast n p) ≡ recast n (cond b (proc_lowered p) p))
+      (λ b. cond b (record (recast n p) { num = (recast n p).num - 1 }) (recast n p)
+      ≡ recast n (cond b (record p { num = p.num - 1 }) p))
       (λ e. rw (eq-eqb p.latest n (counts_in e)) refl) (λ e. refl))
 
   -- on a reply a process as computation n has it acts just as the process does
@@ -179,7 +180,7 @@ module _ (n l : ℕ) (p : Proc) (below : l < n) where
   pub replied_below : recast n (proc_replied p l) ≡ recast n p
   replied_below =
       by_test (counts_reply p l)
-      (λ b. recast n (cond b (proc_lowered p) p) ≡ recast n p)
+      (λ b. recast n (cond b (record p { num = p.num - 1 }) p) ≡ recast n p)
       (λ e.
       let same : p.latest ≡ l =
       eqb-true p.latest l

@@ -1,15 +1,15 @@
 -- Messages in words, one and many.
-use Rattle.std.proofs.Common.{◌≡◌, ◌∙◌, ℕ, suc, ◌+◌, ◌*◌, ◌%◌, ◌<◌, List, [], ◌∷◌, ◌++◌, length, map, remove, arith, refl, ap}
+use Rattle.std.proofs.Common.{◌≡◌, ◌∙◌, ℕ, suc, ◌+◌, ◌*◌, ◌%◌, ◌<◌, cond, eqb, List, [], ◌∷◌, ◌++◌, length, map, remove, arith, refl, ap}
 use Rattle.std.proofs.lemmas.Nat.{div-mul-add, mod-mul-add}
 use Rattle.std.proofs.lemmas.List.{length-map, map-append, take-map, drop-map}
 use Rattle.cmh_process.specs.declared.message.Kind.{Kind}
 use Rattle.cmh_process.specs.declared.message.Kind.TheVariants.{Query, Reply}
 use Rattle.cmh_process.specs.declared.message.Message.{Message}
 use Rattle.cmh_run.specs.Config.{query}
-use Rattle.cmh_run.specs.Packed.{bit_of, kind_of, message_of, head_of, CanSend, HaveRoom}
+use Rattle.cmh_run.specs.Packed.{bit_of, message_of, head_of, CanSend, HaveRoom}
 
 -- a kind is that of its bit
-kind_back : (k : Kind) → kind_of (bit_of k) ≡ k
+kind_back : (k : Kind) → cond (eqb (bit_of k) 0) Query Reply ≡ k
 kind_back Query = refl
 kind_back Reply = refl
 

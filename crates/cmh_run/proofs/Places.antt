@@ -10,7 +10,7 @@ use Rattle.cmh_graph.specs.Build.{IsWellFormed}
 use Rattle.cmh_run.specs.Config.{Config, proc_at}
 use Rattle.cmh_run.proofs.Tally.{tally, contains_from_tally}
 use Rattle.cmh_run.proofs.Tokens.{each_at, edge_from, edge_to, token, tokens, tokens-remove}
-use Rattle.cmh_run.proofs.LiveInvariant.{Live, Fine}
+use Rattle.cmh_run.proofs.LiveInvariant.{IsSoundRun, IsSoundMessage}
 
 -- the message stands somewhere in the list
 abbrev pub IsIn : List Message → Message → Type 0
@@ -107,11 +107,12 @@ two_places n a r (z ∷ bag) (suc x) (suc y) m d there also one =
     rw (sum_by-cons (token n a r) z bag) (omega (arith, two_places n a r bag x y m (λ e. d (ap suc e)) there also one))
 
 -- in a run with one start a message stands in the bag at one place
-pub one_place : (g : Graph) (i : ℕ) (c : Config) → IsWellFormed g → Live g i c.number (proc_at c.procs) c.bag c.engaged
+pub one_place : (g : Graph) (i : ℕ) (c : Config) → IsWellFormed g
+    → IsSoundRun g i c.number (proc_at c.procs) c.bag c.engaged
     → c.number ≡ 1
     → (x y : ℕ) (m : Message) → slice_get c.bag x ≡ Some m → slice_get c.bag y ≡ Some m → x ≡ y
 one_place g i c w L first x y m there also =
-    let fine = each_at (Fine g i c.number (proc_at c.procs)) c.bag x m L.fine there in
+    let fine = each_at (IsSoundMessage g i c.number (proc_at c.procs)) c.bag x m L.fine there in
     let newest : m.number ≡ c.number = omega (arith, first, fine.low, fine.positive) in
     let one : token c.number (edge_from m.kind m) (edge_to m.kind m) m ≡ 1 =
     rw (

@@ -17,7 +17,7 @@ use Rattle.cmh_graph.specs.Judge.{IsFirst}
 use Rattle.cmh_graph.proofs.PartLemmas.{first_place}
 use Rattle.cmh_graph.proofs.IndexLists.{length-by_index, by_index}
 use Rattle.cmh_graph.proofs.Verdicts.{one_verdict, verdict_true}
-use Rattle.cmh_run.specs.Script.{ScriptLine, told_at, AreTrueOf, IsLineOutOfRange, IsUntrue, is_listed}
+use Rattle.cmh_run.specs.Script.{ScriptLine, told_at, AreTrueOf, IsLineOutOfRange, is_listed}
 use Rattle.cmh_run.proofs.Configurations.{by_test}
 use Rattle.cmh_run.proofs.Verdicts.{same, same_as_itself}
 
@@ -139,7 +139,7 @@ module _ (g : Graph) (truth : List Verdict) (lines : List ScriptLine) (w : IsWit
 
   -- the first line that isn't in the list of all verdicts is the first that isn't true
   pub first_untrue : (i : ℕ) → position (λ (line : ScriptLine). not (is_listed truth line)) lines ≡ Some i
-      → IsFirst (IsUntrue g lines) i
+      → IsFirst (λ k. (line : ScriptLine) × (slice_get lines k ≡ Some line) × ¬ (IsVerdict g line.1 line.2)) i
   first_untrue =
       first_found (λ (line : ScriptLine). not (is_listed truth line))
       (λ (line : ScriptLine). IsVerdict g line.1 line.2 → ⊥) lines unlisted_means

@@ -21,8 +21,8 @@ use Rattle.cmh_run.specs.Legal.{Going, after_due_restart, going_after, Deliverie
 use Rattle.cmh_run.proofs.Tally.{tally_from_contains, distinct}
 use Rattle.cmh_run.proofs.Invariant.{engaged_deadlocked, none_on_way, at_rest_free}
 use Rattle.cmh_run.proofs.Tokens.{each_at, tokens, token, edge_from, edge_to}
-use Rattle.cmh_run.proofs.LiveInvariant.{Live, Fine}
-use Rattle.cmh_run.proofs.Configurations.{by_test, Status, Stands, first_start, leads_stands, status_none, fresh_at}
+use Rattle.cmh_run.proofs.LiveInvariant.{IsSoundRun, IsSoundMessage}
+use Rattle.cmh_run.proofs.Configurations.{by_test, Status, IsSoundConfig, first_start, leads_stands, status_none, fresh_at}
 use Rattle.std.proofs.lemmas.List.Sums.{get_or-le-sum_by}
 use Rattle.std.proofs.lemmas.Option.{none-some, slice_get-get_or}
 
@@ -60,12 +60,12 @@ one_number rule g i (d ∷ log) s end none l =
     ∙ number_kept g i (after_due_restart g i s).config l.0 d.message d.hint ∙ ap (λ (t : Going). t.config.number) same
 
 module _ (g : Graph) (i : ℕ) (c : Config) (ok : IsWithinGraph g)
-    (L : Live g i c.number (proc_at c.procs) c.bag c.engaged) where
+    (L : IsSoundRun g i c.number (proc_at c.procs) c.bag c.engaged) where
   -- once the initiator waits for no reply, each undelivered message has a lower number
   low_number : (proc_at c.procs i).num ≡ 0 → (m : Message) → Contains c.bag m → m.number < c.number
   low_number top m h =
       let there : slice_get c.bag h.0 ≡ Some m = slice_get-get_or c.bag h.0 m h.1 ∙ ap Some h.2 in
-      let fine = each_at (Fine g i c.number (proc_at c.procs)) c.bag h.0 m L.fine there in
+      let fine = each_at (IsSoundMessage g i c.number (proc_at c.procs)) c.bag h.0 m L.fine there in
       ⊎_elim
       (λ (newest : m.number ≡ c.number). absurd (
       let one : token c.number (edge_from m.kind m) (edge_to m.kind m) (get_or c.bag h.0 m) ≡ 1 =
@@ -102,7 +102,7 @@ no_member (m ∷ bag) none = absurd (none m (0, omega arith, refl))
 
 -- where what stays true of a run holds at its end, the run tells the truth
 right_at : (g : Graph) (i : ℕ) (restarts : List ℕ) (ending : Ending) (end : Going) → IsWithinGraph g
-    → Stands g i end.config → EndsAs end.config ending → (restarts ≡ [] → end.config.number ≡ 1)
+    → IsSoundConfig g i end.config → EndsAs end.config ending → (restarts ≡ [] → end.config.number ≡ 1)
     → IsRight g i restarts ending end
 right_at g i restarts Declared end ok s e one =
     let h : Status g i end.config.number (proc_at end.config.procs) end.config.bag end.config.engaged (Some Declared) =
@@ -121,7 +121,8 @@ right_at g i restarts Declared end ok s e one =
           let there : slice_get end.config.bag m_in.0 ≡ Some m =
           slice_get-get_or end.config.bag m_in.0 m m_in.1 ∙ ap Some m_in.2 in
           let fine =
-          each_at (Fine g i end.config.number (proc_at end.config.procs)) end.config.bag m_in.0 m h.0.fine there in
+          each_at (IsSoundMessage g i end.config.number (proc_at end.config.procs)) end.config.bag m_in.0 m h.0.fine
+          there in
           omega (arith, low_number g i end.config ok h.0 h.1 m m_in, one none, fine.positive));
     }
 right_at g i restarts AtRest end ok s e one =

@@ -9,23 +9,17 @@ use Rattle.cmh_run.specs.declared.delivery.Ending.{Ending}
 use Rattle.cmh_run.specs.declared.delivery.Ending.TheVariants.{Declared, AtRest, CutFree}
 use Rattle.cmh_run.specs.Legal.{Going}
 
--- the run was cut at k: k is free, isn't awake, and is reached, and it didn't engage
-pub record IsCutAt (g : Graph) (i k : ℕ) (engaged : List ℕ) : Type 0 where
-  pub free : ¬ (IsDeadlocked g k)
-  pub asleep : IsFalse (is_awake g k)
-  pub reached : Reaches g i k
-  pub out : ¬ (Contains engaged k)
-
 -- Who is engaged: the initiator first, unless it is awake, and nobody twice. It reaches them all, and
--- none of them is awake. All are deadlocked where the run was declared, and the process at which it
--- was cut is none of them.
+-- none of them is awake. All are deadlocked where the run was declared. The process at which it was
+-- cut is none of them: it is free, isn't awake, and is reached.
 pub record AreEngaged (g : Graph) (i : ℕ) (ending : Ending) (engaged : List ℕ) : Type 0 where
   pub begins : IsFalse (is_awake g i) → slice_get engaged 0 ≡ Some i
   pub once : IsDistinct nat_eq engaged
   pub asleep : (k : ℕ) → Contains engaged k → IsFalse (is_awake g k)
   pub reached : (k : ℕ) → Contains engaged k → Reaches g i k
   pub deadlocked : ending ≡ Declared → (k : ℕ) → Contains engaged k → IsDeadlocked g k
-  pub cut : (k : ℕ) → ending ≡ CutFree k → IsCutAt g i k engaged
+  pub cut : (k : ℕ) → ending ≡ CutFree k
+      → (¬ (IsDeadlocked g k)) × IsFalse (is_awake g k) × Reaches g i k × ¬ (Contains engaged k)
 
 -- nothing was started, so that nothing is delivered, nobody engages, and nothing starts again
 pub record IsEmptyRun (log : List Delivery) (ending : Ending) (end : Going) : Type 0 where

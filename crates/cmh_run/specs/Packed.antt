@@ -1,11 +1,9 @@
 -- A message in one word, and what has room there.
-use Rattle.std.specs.Prelude.{◌≡◌, ℕ, ◌+◌, ◌*◌, ◌/◌, ◌%◌, ◌^◌, ◌<◌, ◌==◌, if◌then◌else◌, List, length, slice_index, Some, ⊤}
+use Rattle.std.specs.Prelude.{◌≡◌, ℕ, ◌+◌, ◌*◌, ◌/◌, ◌%◌, ◌^◌, ◌<◌, ◌==◌, if◌then◌else◌, List, length, slice_index, Some}
 use Rattle.cmh_process.specs.declared.message.Kind.{Kind}
 use Rattle.cmh_process.specs.declared.message.Kind.TheVariants.{Query, Reply}
 use Rattle.cmh_process.specs.declared.message.Message.{Message}
 use Rattle.cmh_process.specs.declared.process.Proc.{Proc}
-use Rattle.cmh_process.specs.declared.process.Action.{Action}
-use Rattle.cmh_process.specs.declared.process.Action.TheVariants.{Nothing, Engage, ReplyTo, Declare}
 use Rattle.cmh_run.specs.Config.{proc_at}
 
 -- the bit that stands for the kind of a message
@@ -13,15 +11,11 @@ abbrev pub bit_of : Kind → ℕ
 bit_of Query = 0
 bit_of Reply = 1
 
--- the kind of message that a bit stands for
-abbrev pub kind_of : ℕ → Kind
-kind_of bit = if bit == 0 then Query else Reply
-
 -- From the lowest bits on: the receiver, the sender and the initiator in 12 bits each, the kind in
--- one, and the number in the 27 that are left.
+-- one, which `bit_of` gives, and the number in the 27 that are left.
 abbrev pub message_of : ℕ → Message
 message_of word = record {
-  kind = kind_of (word / 4096 / 4096 / 4096 % 2);
+  kind = if word / 4096 / 4096 / 4096 % 2 == 0 then Query else Reply;
   initiator = word / 4096 / 4096 % 4096;
   number = word / 4096 / 4096 / 4096 / 2;
   from = word / 4096 % 4096;
@@ -41,13 +35,6 @@ pub record CanSend (i n k : ℕ) : Type 0 where
 -- each of these has room in a word
 abbrev pub HaveRoom : List ℕ → Type 0
 HaveRoom places = (k : ℕ) → k < length places → slice_index places k < 4096
-
--- if the action is a reply, its receiver has room in a word
-abbrev pub RepliesWithin : Action → Type 0
-RepliesWithin (ReplyTo to) = to < 4096
-RepliesWithin Nothing = ⊤
-RepliesWithin Engage = ⊤
-RepliesWithin Declare = ⊤
 
 -- whoever engaged one of these has room in a word
 abbrev pub EngagersHaveRoom : List Proc → Type 0

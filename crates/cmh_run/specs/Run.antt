@@ -1,6 +1,7 @@
 -- What is kept of a run, on its way and when it has ended.
-use Rattle.std.specs.Prelude.{◌≡◌, ◌≢◌, ◌⊎◌, ℕ, suc, nat_eq, ◌+◌, ◌*◌, ◌%◌, Contains, ◌<◌, ◌≤◌, ◌^◌, IsTrue, IsFalse, if◌then◌else◌, List, [], ◌∷◌, ◌++◌, length, slice_get, slice_index, Option, Some, None}
+use Rattle.std.specs.Prelude.{◌≡◌, ◌≢◌, ◌⊎◌, ℕ, nat_eq, ◌+◌, ◌*◌, ◌%◌, Contains, ◌<◌, ◌≤◌, ◌^◌, IsTrue, IsFalse, if◌then◌else◌, List, [], ◌∷◌, ◌++◌, length, slice_get, slice_index, Option, Some, None}
 use Rattle.std.specs.List.{IsDistinct}
+use Rattle.std.specs.List.Sorted.{IsStrictlyIncreasing}
 use Rattle.cmh_graph.specs.Graph.{Graph, process_count, is_idle, is_awake, dependency_count}
 use Rattle.cmh_graph.specs.declared.verdict.Verdict.{Verdict}
 use Rattle.cmh_graph.specs.declared.verdict.Verdict.TheVariants.{Deadlocked, Free}
@@ -13,7 +14,7 @@ use Rattle.cmh_run.specs.declared.fault.RunFault.TheVariants.{NotIdle, TooManyCh
 use Rattle.cmh_run.specs.declared.TheConstants.{MAX_CHOICES, MAX_RESTARTS}
 use Rattle.cmh_run.specs.Config.{proc_at, without_message, after_message}
 use Rattle.cmh_graph.specs.Verdict.{IsDeadlocked, IsVerdict}
-use Rattle.cmh_run.specs.Legal.{Going, going_at_start, Rule, HintIsFit, DeliveriesLead, IsRun, IsRight}
+use Rattle.cmh_run.specs.Legal.{Going, going_at_start, Rule, DeliveriesLead, IsRun, IsRight}
 use Rattle.cmh_run.specs.Choices.{chosen_place}
 use Rattle.cmh_run.specs.Engaged.{AreEngaged}
 use Rattle.cmh_run.specs.Last.{LastIsRun}
@@ -60,14 +61,6 @@ progress_after g i s d = record {
   log = s.log ++ d ∷ [];
 }
 
--- the message is delivered, with a hint that fits, and with none where nobody answers
-pub record IsDelivered (g : Graph) (i : ℕ) (old new : ProgressState) (m : Message)
-    (nobody_answers : Type 0) : Type 0 where
-  pub hint : Option Verdict
-  pub fit : HintIsFit g old.going.config m hint
-  pub is : new ≡ progress_after g i old (record { message = m; hint = hint })
-  pub silent : nobody_answers → hint ≡ None
-
 -- what is kept of a run that has ended
 pub record Run : Type 0 where
   pub initiator : ℕ
@@ -83,24 +76,10 @@ pub record IsRunOf (g : Graph) (choices restarts : List ℕ) (r : Run) : Type 0 
   pub engaged : r.engaged ≡ end.config.engaged
   pub restarted : r.restarted ≡ end.restarted
 
--- what is kept of the run of an awake initiator, which starts nothing
-abbrev pub empty_run_of : ℕ → Run
-empty_run_of i = record {
-  initiator = i;
-  log = [];
-  ending = AtRest;
-  engaged = [];
-  restarted = 0;
-}
-
--- the restarts rise
-abbrev pub IsRising : List ℕ → Type 0
-IsRising list = (k : ℕ) → suc k < length list → slice_index list k < slice_index list (suc k)
-
 -- restarts that a run may be given
 pub record AreRestarts (restarts : List ℕ) : Type 0 where
   pub few : length restarts ≤ MAX_RESTARTS
-  pub rising : IsRising restarts
+  pub rising : IsStrictlyIncreasing restarts
 
 -- what a run may be asked for
 pub record IsAccepted (g : Graph) (i : ℕ) (choices restarts : List ℕ) : Type 0 where
@@ -139,7 +118,8 @@ pub record TellsTruth (g : Graph) (r : Run) : Type 0 where
       → LastIsRun g r.initiator r.log r.ending end
   pub short : length r.log ≤ 2 * dependency_count g * (r.restarted + 1)
 
--- what is answered of an accepted initiator: a legal run of it that tells the truth, with those engaged who should be
+-- what is answered of an accepted initiator: a legal run of it that tells the truth, with those engaged who should be,
+-- and where it is awake, one that starts nothing
 pub record IsRunAnswer (g : Graph) (i : ℕ) (choices restarts : List ℕ) (r : Run) : Type 0 where
   pub accepted : IsAccepted g i choices restarts
   pub initiator : r.initiator ≡ i
@@ -147,4 +127,5 @@ pub record IsRunAnswer (g : Graph) (i : ℕ) (choices restarts : List ℕ) (r : 
   pub restarted : r.restarted ≤ length restarts
   pub true_verdict : TellsTruth g r
   pub engaged : AreEngaged g i r.ending r.engaged
-  pub awake : IsTrue (is_awake g i) → r ≡ empty_run_of i
+  pub awake : IsTrue (is_awake g i)
+      → r ≡ record { initiator = i; log = []; ending = AtRest; engaged = []; restarted = 0 }

@@ -1,5 +1,5 @@
 -- Scripted hints: what is told at which ask, and what makes no script.
-use Rattle.std.specs.Prelude.{◌≡◌, ℕ, ◌≤◌, Bool, false, ◌&&◌, ◌==◌, nat_lt, if◌then◌else◌, List, find, slice_get, Option, Some, None, option_map, unwrap_or}
+use Rattle.std.specs.Prelude.{◌≡◌, ℕ, ◌≤◌, Bool, false, ◌&&◌, ◌==◌, List, find, slice_get, Option, Some, option_map, unwrap_or}
 use denote.Enum.Bare.{sameb}
 use Rattle.cmh_graph.specs.declared.verdict.Verdict.{Verdict}
 use Rattle.cmh_graph.specs.contracts.verdict.Verdict.{the_type}
@@ -22,10 +22,6 @@ pub record Script : Type 0 where
 abbrev pub told_at : List ScriptLine → ℕ → ℕ → Option Verdict
 told_at lines ask p = option_map (λ line. line.2) (find (λ line. line.0 == ask && line.1 == p) lines)
 
--- what is told at the next ask, of p: after so many asks that they can't be counted, nothing
-abbrev pub answer_of : Script → ℕ → Option Verdict
-answer_of s p = if nat_lt s.asked 4294967295 then told_at s.lines s.asked p else None
-
 -- each line tells the truth about a process
 abbrev pub AreTrueOf : Graph → List ScriptLine → Type 0
 AreTrueOf g lines = (k : ℕ) (line : ScriptLine) → slice_get lines k ≡ Some line → IsVerdict g line.1 line.2
@@ -33,10 +29,6 @@ AreTrueOf g lines = (k : ℕ) (line : ScriptLine) → slice_get lines k ≡ Some
 -- line k is about none of so many processes
 abbrev pub IsLineOutOfRange : ℕ → List ScriptLine → ℕ → Type 0
 IsLineOutOfRange count lines k = (line : ScriptLine) × (slice_get lines k ≡ Some line) × (count ≤ line.1)
-
--- line k isn't true
-abbrev pub IsUntrue : Graph → List ScriptLine → ℕ → Type 0
-IsUntrue g lines k = (line : ScriptLine) × (slice_get lines k ≡ Some line) × ¬ (IsVerdict g line.1 line.2)
 
 -- the list has the verdict that the line tells of its process
 abbrev pub is_listed : List Verdict → ScriptLine → Bool
@@ -47,5 +39,6 @@ abbrev pub IsFirstScriptFault : Graph → List ScriptLine → ScriptFault → Ty
 IsFirstScriptFault g lines (ProcessOutOfRange i) =
     IsFirst (IsLineOutOfRange (process_count g) lines) i
 IsFirstScriptFault g lines (FalseVerdict i) =
-    ((k : ℕ) → IsLineOutOfRange (process_count g) lines k → ⊥) × IsFirst (IsUntrue g lines) i
+    ((k : ℕ) → IsLineOutOfRange (process_count g) lines k → ⊥)
+    × IsFirst (λ k. (line : ScriptLine) × (slice_get lines k ≡ Some line) × ¬ (IsVerdict g line.1 line.2)) i
 IsFirstScriptFault g lines Memory = ⊥

@@ -6,7 +6,7 @@ ghost use Rattle.cmh_graph.specs.Build.{IsWellFormed};
 ghost use Rattle.cmh_process.specs.Process.{engages};
 ghost use Rattle.cmh_graph.specs.Verdict.{IsVerdict};
 ghost use Rattle.cmh_run.specs.Legal.{going_at_start, HintIsFit};
-ghost use Rattle.cmh_run.specs.Packed.{CanSend, EngagersHaveRoom, HaveRoom, RepliesWithin};
+ghost use Rattle.cmh_run.specs.Packed.{CanSend, EngagersHaveRoom, HaveRoom};
 ghost use Rattle.cmh_run.specs.Config.{blank_config, proc_at, nothing_yet, start, after_action, after_engagement, after_hint, query, after_answer, after_reply, after_message, asks_hint, without_message};
 
 use crate::procs::Procs;
@@ -363,12 +363,9 @@ impl Network {
     ) -> Result<(), AllocError>
         requires sender { CanSend initiator number to }
         requires dependents { HaveRoom dependents.now }
-        ensures ok { OnOk result (self.new ≡ record {
+        ensures ok { OnOk result (self.new ≡ record self.old {
           bag = self.old.bag ++ map (λ (r : ℕ). query initiator number to r) dependents.now;
-          procs = self.old.procs;
-          number = self.old.number;
           engaged = self.old.engaged ++ to ∷ [];
-          ended = self.old.ended;
         }) }
     {
         self.engaged.push(to)?;
@@ -441,7 +438,7 @@ impl Network {
         requires going { self.old.ended ≡ None }
         requires sender { CanSend sender.initiator sender.number sender.from }
         requires dependents { HaveRoom dependents.now }
-        requires reply { RepliesWithin action }
+        requires reply { (to : ℕ) → action ≡ Action.ReplyTo to → to < 4096 }
         ensures ok { OnOk result (self.new ≡
             after_action sender.initiator self.old sender.number sender.from dependents.now action) }
     {

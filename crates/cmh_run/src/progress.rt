@@ -1,12 +1,13 @@
 //! A run on its way.
 
-ghost use Rattle.std.specs.Prelude.{◌≡◌, ℕ, List, ◌+◌, ◌<◌, ◌^◌, [], None, Some, length, slice_index, IfOk, IfSome, OnOk, unwrap_or};
+ghost use Rattle.std.specs.Prelude.{◌≡◌, ℕ, List, ◌+◌, ◌<◌, ◌^◌, [], None, Option, Some, length, slice_index, IfOk, IfSome, OnOk, unwrap_or};
 ghost use Rattle.cmh_graph.specs.Graph.{process_count};
 ghost use Rattle.cmh_graph.specs.Build.{IsWellFormed};
 ghost use Rattle.cmh_run.specs.Config.{blank_config, nothing_yet};
-ghost use Rattle.cmh_run.specs.Legal.{going_at_start, after_due_restart};
+ghost use Rattle.cmh_graph.specs.declared.verdict.Verdict.{Verdict};
+ghost use Rattle.cmh_run.specs.Legal.{going_at_start, after_due_restart, HintIsFit};
 ghost use Rattle.cmh_run.specs.Packed.{CanSend, EngagersHaveRoom};
-ghost use Rattle.cmh_run.specs.Run.{MayStart, IsTakenBy, IsDelivered};
+ghost use Rattle.cmh_run.specs.Run.{MayStart, IsTakenBy, progress_after};
 
 use crate::network::Network;
 use crate::{Delivery, Ending, Hints, Log, RunLog};
@@ -80,10 +81,8 @@ impl<'a, L: Log> Progress<'a, L> {
         requires graph { IsWellFormed graph.now }
         requires may { self.old.going.config.ended ≡ None
             → MayStart graph.now initiator self.old.going }
-        ensures ok { OnOk result (self.new ≡ record {
-          going = after_due_restart graph.now initiator self.old.going;
-          log = self.old.log;
-        }) }
+        ensures ok { OnOk result (self.new
+            ≡ record self.old { going = after_due_restart graph.now initiator self.old.going }) }
     {
         match self.restarts.first() {
             None => Ok(()),
@@ -97,10 +96,8 @@ impl<'a, L: Log> Progress<'a, L> {
         requires graph { IsWellFormed graph.now }
         requires may { self.old.going.config.ended ≡ None
             → MayStart graph.now initiator self.old.going }
-        ensures ok { OnOk result (self.new ≡ record {
-          going = after_due_restart graph.now initiator self.old.going;
-          log = self.old.log;
-        }) }
+        ensures ok { OnOk result (self.new
+            ≡ record self.old { going = after_due_restart graph.now initiator self.old.going }) }
     {
         let Some(next) = self.restarts.first() else {
             return Ok(());
@@ -147,8 +144,11 @@ impl<'a, L: Log> Progress<'a, L> {
         requires engagers { EngagersHaveRoom self.old.going.config.procs }
         requires few { self.old.going.done + 1 < 2 ^ 64 }
         requires speaks { H.speaks_of hints.old graph.now }
-        ensures ok { OnOk result
-            (IsDelivered graph.now initiator self.old self.new message (H.is_silent hints.old)) }
+        ensures ok { OnOk result ((hint : Option Verdict)
+            × HintIsFit graph.now self.old.going.config message hint
+            × (self.new ≡ progress_after graph.now initiator self.old
+            (record { message = message; hint = hint }))
+            × (H.is_silent hints.old → hint ≡ None)) }
         ensures kept { H.keeps hints.old hints.new }
     {
         let hint = self

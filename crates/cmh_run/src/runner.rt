@@ -5,7 +5,8 @@ ghost use Rattle.cmh_graph.specs.Graph.{is_idle, dependency_count};
 ghost use Rattle.cmh_graph.specs.Build.{IsWellFormed};
 ghost use Rattle.cmh_run.specs.Choices.{HasNoHints};
 ghost use Rattle.cmh_run.specs.Config.{nothing_yet};
-ghost use Rattle.cmh_run.specs.Run.{Follows, IsRising, IsAccepted, IsFirstRunFault, IsRunAnswer};
+ghost use Rattle.std.specs.List.Sorted.{IsStrictlyIncreasing};
+ghost use Rattle.cmh_run.specs.Run.{Follows, IsAccepted, IsFirstRunFault, IsRunAnswer};
 
 use crate::choices::Choices;
 use crate::network::Network;
@@ -131,7 +132,7 @@ fn judge(
 
 /// Whether each is greater than the one before it.
 fn is_rising(list: &[u32]) -> bool
-    ensures { IsTrue result ↔ IsRising list.now }
+    ensures { IsTrue result ↔ IsStrictlyIncreasing list.now }
 {
     for i in 1..list.len() {
         if list[i - 1] >= list[i] {

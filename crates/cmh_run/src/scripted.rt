@@ -10,7 +10,7 @@ ghost use Rattle.cmh_graph.specs.contracts.verdict.VerdictEq.TheImpl.Laws as ver
 ghost use Rattle.cmh_graph.specs.contracts.verdict.VerdictPartialEq.TheImpl as verdict;
 ghost use Rattle.cmh_graph.specs.Graph.{Graph, process_count};
 ghost use Rattle.cmh_graph.specs.Verdict.{IsVerdict};
-ghost use Rattle.cmh_run.specs.Script.{AreTrueOf, IsLineOutOfRange, IsFirstScriptFault, is_listed as is_listed_lem, told_at, answer_of};
+ghost use Rattle.cmh_run.specs.Script.{AreTrueOf, IsLineOutOfRange, IsFirstScriptFault, is_listed as is_listed_lem, told_at};
 ghost use Rattle.cmh_run.specs.ScriptProofs.{scripts_keep_graphs, scripts_keep_silent};
 
 use crate::truth::truth_of;
@@ -69,7 +69,8 @@ impl Hints for Scripted {
     ghost is_silent = { λ s. s.lines ≡ [] };
 
     fn hint(&mut self, p: u32) -> Option<Verdict>
-        ensures answer { result ≡ answer_of self.old p }
+        ensures answer { result
+            ≡ (if nat_lt self.old.asked 4294967295 then told_at self.old.lines self.old.asked p else None) }
         ensures asked { self.new ≡ record self.old {
           asked = if nat_lt self.old.asked 4294967295 then self.old.asked + 1 else self.old.asked;
         } }

@@ -1,8 +1,8 @@
 //! What a process puts into the queue by an action.
 
-ghost use Rattle.std.specs.Prelude.{◌≡◌, ◌++◌, OnOk};
+ghost use Rattle.std.specs.Prelude.{◌≡◌, ◌++◌, ◌<◌, ℕ, OnOk};
 ghost use Rattle.cmh_run.specs.Config.{messages_of};
-ghost use Rattle.cmh_run.specs.Packed.{CanSend, HaveRoom, RepliesWithin};
+ghost use Rattle.cmh_run.specs.Packed.{CanSend, HaveRoom};
 
 use crate::queue::Queue;
 use cmh_process::{Action, Kind, Message};
@@ -42,7 +42,7 @@ impl Sender {
     ) -> Result<(), AllocError>
         requires sender { CanSend self.initiator self.number self.from }
         requires dependents { HaveRoom dependents.now }
-        requires reply { RepliesWithin action }
+        requires reply { (to : ℕ) → action ≡ Action.ReplyTo to → to < 4096 }
         ensures ok { OnOk result (queue.new ≡
             queue.old ++ messages_of self.initiator self.number self.from dependents.now action) }
     {

@@ -77,7 +77,7 @@ restart_if_due-requires-in-Some-clause-may g c =
     (c.in-Some.ensures.taken c.args.choices.now
     (next_is c.args.choices.now c.loop-message.left c.loop-message.progress.going.done c.next.result
     c.loop-message.invariant.left c.next.ensures.first))
-    c.in_ok-deliver.ensures.ok.hint c.in_ok-deliver.ensures.ok.fit c.deliver.new.self c.in_ok-deliver.ensures.ok.is
+    c.in_ok-deliver.ensures.ok.0 c.in_ok-deliver.ensures.ok.1 c.deliver.new.self c.in_ok-deliver.ensures.ok.2
     c.requires.accepted.restarts_good.few
 
 -- the hints are kept where a restart runs out of memory
@@ -95,7 +95,7 @@ loop-message-smaller g c =
     (c.in-Some.ensures.taken c.args.choices.now
     (next_is c.args.choices.now c.loop-message.left c.loop-message.progress.going.done c.next.result
     c.loop-message.invariant.left c.next.ensures.first))
-    c.in_ok-deliver.ensures.ok.hint c.in_ok-deliver.ensures.ok.fit c.deliver.new.self c.in_ok-deliver.ensures.ok.is
+    c.in_ok-deliver.ensures.ok.0 c.in_ok-deliver.ensures.ok.1 c.deliver.new.self c.in_ok-deliver.ensures.ok.2
     c.restart_if_due-in-Some.new.self c.in_ok-restart_if_due-2.ensures.ok c.requires.accepted.restarts_good.few
 
 -- each delivery leads on by the choices, keeps the hints, and stays silent where they are
@@ -108,7 +108,7 @@ loop-message-preserved g c = record {
       (c.in-Some.ensures.taken c.args.choices.now
       (next_is c.args.choices.now c.loop-message.left c.loop-message.progress.going.done c.next.result
       c.loop-message.invariant.left c.next.ensures.first))
-      c.in_ok-deliver.ensures.ok.hint c.in_ok-deliver.ensures.ok.fit c.deliver.new.self c.in_ok-deliver.ensures.ok.is
+      c.in_ok-deliver.ensures.ok.0 c.in_ok-deliver.ensures.ok.1 c.deliver.new.self c.in_ok-deliver.ensures.ok.2
       c.restart_if_due-in-Some.new.self c.in_ok-restart_if_due-2.ensures.ok;
   left = next_left c.args.choices.now c.loop-message.left c.next.new.self c.loop-message.progress.going.done
       c.restart_if_due-in-Some.new.self.going.done
@@ -119,7 +119,7 @@ loop-message-preserved g c = record {
       (c.in-Some.ensures.taken c.args.choices.now
       (next_is c.args.choices.now c.loop-message.left c.loop-message.progress.going.done c.next.result
       c.loop-message.invariant.left c.next.ensures.first))
-      c.in_ok-deliver.ensures.ok.hint c.in_ok-deliver.ensures.ok.fit c.deliver.new.self c.in_ok-deliver.ensures.ok.is
+      c.in_ok-deliver.ensures.ok.0 c.in_ok-deliver.ensures.ok.1 c.deliver.new.self c.in_ok-deliver.ensures.ok.2
       c.restart_if_due-in-Some.new.self c.in_ok-restart_if_due-2.ensures.ok);
   kept = g.met.H.Hints.keeps_on c.args.hints.now c.loop-message.hints c.deliver.new.hints
       c.loop-message.invariant.kept c.deliver.ensures.kept;
@@ -131,12 +131,12 @@ loop-message-preserved g c = record {
       (c.in-Some.ensures.taken c.args.choices.now
       (next_is c.args.choices.now c.loop-message.left c.loop-message.progress.going.done c.next.result
       c.loop-message.invariant.left c.next.ensures.first))
-      c.in_ok-deliver.ensures.ok.hint c.in_ok-deliver.ensures.ok.fit c.deliver.new.self c.in_ok-deliver.ensures.ok.is
+      c.in_ok-deliver.ensures.ok.0 c.in_ok-deliver.ensures.ok.1 c.deliver.new.self c.in_ok-deliver.ensures.ok.2
       c.restart_if_due-in-Some.new.self c.in_ok-restart_if_due-2.ensures.ok))
       (no_hints_on c.loop-message.progress.log
-      (record { message = c.in-Some.message; hint = c.in_ok-deliver.ensures.ok.hint })
+      (record { message = c.in-Some.message; hint = c.in_ok-deliver.ensures.ok.0 })
       (c.loop-message.invariant.silent q)
-      (c.in_ok-deliver.ensures.ok.silent
+      (c.in_ok-deliver.ensures.ok.3
       (g.met.H.Hints.keeps_silent c.args.hints.now c.loop-message.hints c.loop-message.invariant.kept q)));
 }
 

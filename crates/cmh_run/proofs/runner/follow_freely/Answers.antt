@@ -64,14 +64,14 @@ loop-message-smaller g c =
     c.requires.graph.within c.requires.idle c.loop-message.invariant.follows (c.in-Some.ensures.taken
     c.args.choices.now
     (no_choice c.args.choices.now c.loop-message.progress.going.done c.loop-message.invariant.none))
-    c.in_ok-deliver.ensures.ok.hint c.in_ok-deliver.ensures.ok.fit c.deliver.new.self c.in_ok-deliver.ensures.ok.is
+    c.in_ok-deliver.ensures.ok.0 c.in_ok-deliver.ensures.ok.1 c.deliver.new.self c.in_ok-deliver.ensures.ok.2
     c.deliver.new.self (taken_rests c.args.graph.now c.args.initiator c.args.choices.now c.args.restarts.now
     c.loop-message.progress
     c.take.new.self c.in-Some.message
     c.requires.graph.within c.requires.idle c.loop-message.invariant.follows
     (c.in-Some.ensures.taken c.args.choices.now
     (no_choice c.args.choices.now c.loop-message.progress.going.done c.loop-message.invariant.none))
-    c.in_ok-deliver.ensures.ok.hint c.in_ok-deliver.ensures.ok.fit c.deliver.new.self c.in_ok-deliver.ensures.ok.is
+    c.in_ok-deliver.ensures.ok.0 c.in_ok-deliver.ensures.ok.1 c.deliver.new.self c.in_ok-deliver.ensures.ok.2
     c.loop-message.invariant.rests) c.requires.few
 
 -- each delivery leads on by the choices, keeps the hints, and stays silent where they are
@@ -83,15 +83,15 @@ loop-message-preserved g c = record {
       c.requires.graph.within c.requires.idle c.loop-message.invariant.follows
       (c.in-Some.ensures.taken c.args.choices.now
       (no_choice c.args.choices.now c.loop-message.progress.going.done c.loop-message.invariant.none))
-      c.in_ok-deliver.ensures.ok.hint c.in_ok-deliver.ensures.ok.fit c.deliver.new.self c.in_ok-deliver.ensures.ok.is
+      c.in_ok-deliver.ensures.ok.0 c.in_ok-deliver.ensures.ok.1 c.deliver.new.self c.in_ok-deliver.ensures.ok.2
       c.deliver.new.self (taken_rests c.args.graph.now c.args.initiator c.args.choices.now c.args.restarts.now
       c.loop-message.progress
       c.take.new.self c.in-Some.message
       c.requires.graph.within c.requires.idle c.loop-message.invariant.follows
       (c.in-Some.ensures.taken c.args.choices.now
       (no_choice c.args.choices.now c.loop-message.progress.going.done c.loop-message.invariant.none))
-      c.in_ok-deliver.ensures.ok.hint c.in_ok-deliver.ensures.ok.fit c.deliver.new.self
-      c.in_ok-deliver.ensures.ok.is c.loop-message.invariant.rests);
+      c.in_ok-deliver.ensures.ok.0 c.in_ok-deliver.ensures.ok.1 c.deliver.new.self
+      c.in_ok-deliver.ensures.ok.2 c.loop-message.invariant.rests);
   none = c.loop-message.invariant.none;
   rests = taken_restarts c.args.graph.now c.args.initiator c.args.choices.now c.args.restarts.now
       c.loop-message.progress
@@ -99,8 +99,8 @@ loop-message-preserved g c = record {
       c.requires.graph.within c.requires.idle c.loop-message.invariant.follows
       (c.in-Some.ensures.taken c.args.choices.now
       (no_choice c.args.choices.now c.loop-message.progress.going.done c.loop-message.invariant.none))
-      c.in_ok-deliver.ensures.ok.hint c.in_ok-deliver.ensures.ok.fit c.deliver.new.self
-      c.in_ok-deliver.ensures.ok.is c.loop-message.invariant.rests;
+      c.in_ok-deliver.ensures.ok.0 c.in_ok-deliver.ensures.ok.1 c.deliver.new.self
+      c.in_ok-deliver.ensures.ok.2 c.loop-message.invariant.rests;
   kept = g.met.H.Hints.keeps_on c.args.hints.now c.loop-message.hints c.deliver.new.hints
       c.loop-message.invariant.kept c.deliver.ensures.kept;
   silent = λ q.
@@ -110,19 +110,19 @@ loop-message-preserved g c = record {
       c.requires.graph.within c.requires.idle c.loop-message.invariant.follows
       (c.in-Some.ensures.taken c.args.choices.now
       (no_choice c.args.choices.now c.loop-message.progress.going.done c.loop-message.invariant.none))
-      c.in_ok-deliver.ensures.ok.hint c.in_ok-deliver.ensures.ok.fit c.deliver.new.self c.in_ok-deliver.ensures.ok.is
+      c.in_ok-deliver.ensures.ok.0 c.in_ok-deliver.ensures.ok.1 c.deliver.new.self c.in_ok-deliver.ensures.ok.2
       c.deliver.new.self (taken_rests c.args.graph.now c.args.initiator c.args.choices.now c.args.restarts.now
       c.loop-message.progress
       c.take.new.self c.in-Some.message
       c.requires.graph.within c.requires.idle c.loop-message.invariant.follows
       (c.in-Some.ensures.taken c.args.choices.now
       (no_choice c.args.choices.now c.loop-message.progress.going.done c.loop-message.invariant.none))
-      c.in_ok-deliver.ensures.ok.hint c.in_ok-deliver.ensures.ok.fit c.deliver.new.self
-      c.in_ok-deliver.ensures.ok.is c.loop-message.invariant.rests)))
+      c.in_ok-deliver.ensures.ok.0 c.in_ok-deliver.ensures.ok.1 c.deliver.new.self
+      c.in_ok-deliver.ensures.ok.2 c.loop-message.invariant.rests)))
       (no_hints_on c.loop-message.progress.log
-      (record { message = c.in-Some.message; hint = c.in_ok-deliver.ensures.ok.hint })
+      (record { message = c.in-Some.message; hint = c.in_ok-deliver.ensures.ok.0 })
       (c.loop-message.invariant.silent q)
-      (c.in_ok-deliver.ensures.ok.silent
+      (c.in_ok-deliver.ensures.ok.3
       (g.met.H.Hints.keeps_silent c.args.hints.now c.loop-message.hints c.loop-message.invariant.kept q)));
 }
 

@@ -1,5 +1,5 @@
-use Rattle.std.proofs.Common.{ℕ, suc, ◌<◌, get_or}
+use Rattle.std.proofs.Common.{ℕ, ◌+◌, ◌<◌, get_or}
 use Rattle.cmh_run.proofs.runner.is_rising.Given as goal
 
 abbrev pub invariant-loop-i : goal.invariant-loop-i
-invariant-loop-i l = (k : ℕ) → suc k < l.i → get_or l.list k 0 < get_or l.list (suc k) 0
+invariant-loop-i l = (k : ℕ) → k + 1 < l.i → get_or l.list k 0 < get_or l.list (k + 1) 0
