@@ -14,7 +14,7 @@ use Rattle.cmh_rw.specs.declared.row.Row.{Row}
 use Rattle.cmh_rw.specs.declared.TheConstants.{FIRST_ROW, FIRST_VERDICT, BOARD_WORDS}
 use Rattle.cmh_rw.specs.Machine.{world, new_world, run_from, IsLawful}
 use Rattle.cmh_rw.specs.History.{row_code, row_of, verdict_code, fold_at, rows_in, ArePostings, IsPosting, IsTrueOf}
-use Rattle.cmh_rw.specs.View.{row, opening_view, view_after_posting, with_row, longer_list}
+use Rattle.cmh_rw.specs.View.{row, opening_view, view_after_compare, view_after_posting, with_row}
 
 -- ---- words
 
@@ -104,7 +104,11 @@ posting_p_and_q :
 posting_p_and_q = refl
 
 -- of two prefixes the longer is kept
-longer_of_two : longer_list (row 0 Deadlocked true ∷ []) (row 0 Deadlocked true ∷ row 1 Free true ∷ [])
+longer_of_two :
+    (view_after_compare (record (opening_view cycle_and_follower) {
+      seen = row 0 Deadlocked true ∷ [];
+      other = row 0 Deadlocked true ∷ row 1 Free true ∷ [];
+    })).seen
     ≡ row 0 Deadlocked true ∷ row 1 Free true ∷ []
 longer_of_two = refl
 

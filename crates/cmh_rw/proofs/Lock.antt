@@ -14,7 +14,7 @@ use Rattle.cmh_rw.specs.declared.machine.Event.{Event}
 use Rattle.cmh_rw.specs.declared.machine.Event.TheVariants.{Admit, Leave, TryWrite, EndWrite}
 use Rattle.cmh_rw.specs.declared.view.LockView.{LockView}
 use Rattle.cmh_rw.specs.Machine.{world, total, writes, reads, retreats, turn, IsLawful}
-use Rattle.cmh_rw.specs.View.{lock_after_try, lock_less_one, newcomer_lock, lock_of_both, spent_view}
+use Rattle.cmh_rw.specs.View.{lock_less_one, newcomer_lock, lock_of_both, spent_view}
 use Rattle.cmh_rw.specs.Rule.{LockMoment, state_of, share_of, HasShare, HasLockShare, LockRule}
 use Rattle.cmh_rw.proofs.Lawful.{total-set, total-in, total-snoc, lawful-set, turn-lawful}
 
@@ -119,9 +119,14 @@ pub enter_kept : (key : Graph) (s : LockMoment) (id : ℕ) (me : LockSeat) → m
     → get_elem? s.views id ≡ some me.0
     → LockRule key
     (stepped s 0 ((get_or s.words 0 0 + 1) % 18446744073709551616) id me.1
-    (lock_after_try me.0 (turn (Admit 0) (get_or s.words 0 0) me.0.state).1 (get_or s.words 0 0)) keeps)
+    (record me.0 {
+      state = (turn (Admit 0) (get_or s.words 0 0) me.0.state).1;
+      tries = me.0.tries + 1;
+      found = get_or s.words 0 0;
+    }) keeps)
 enter_kept key s id me away h at =
-    let x = get_or s.words 0 0 in let w = lock_after_try me.0 (turn (Admit 0) x me.0.state).1 x in
+    let x = get_or s.words 0 0 in
+    let w = record me.0 { state = (turn (Admit 0) x me.0.state).1; tries = me.0.tries + 1; found = x } in
     let small = word-small key s h in
     let t : turn (Admit 0) x me.0.state ≡ (x + 1, cond (ltb x 4294967296) Reading Retreating) =
     ap (turn (Admit 0) x) away in
@@ -195,9 +200,13 @@ pub take_kept : (key : Graph) (s : LockMoment) (id : ℕ) (me : LockSeat) → me
     → get_elem? s.views id ≡ some me.0
     → LockRule key
     (stepped s 0 (either (eqb (get_or s.words 0 0) 0) 4294967296 (get_or s.words 0 0)) id me.1
-    (lock_after_try me.0 (turn (TryWrite 0) (get_or s.words 0 0) me.0.state).1 (get_or s.words 0 0)) keeps)
+    (record me.0 {
+      state = (turn (TryWrite 0) (get_or s.words 0 0) me.0.state).1;
+      tries = me.0.tries + 1;
+      found = get_or s.words 0 0;
+    }) keeps)
 take_kept key s id me away h at = let x = get_or s.words 0 0 in
-    let w = lock_after_try me.0 (turn (TryWrite 0) x me.0.state).1 x in
+    let w = record me.0 { state = (turn (TryWrite 0) x me.0.state).1; tries = me.0.tries + 1; found = x } in
     let t : turn (TryWrite 0) x me.0.state ≡ tried (eqb x 0) x = ap (turn (TryWrite 0) x) away in
     let n : either (eqb x 0) 4294967296 x ≡ (turn (TryWrite 0) x me.0.state).0 =
     either_cond (eqb x 0) x ∙ sym (ap (λ p. p.0) t) in

@@ -1,8 +1,7 @@
 -- Postings laid end to end, and what of them a seat has seen.
-use Rattle.std.proofs.Common.{◌≡◌, ◌⊎◌, ◌≤◌, true, false, ltb, length, length-append, List, [], ◌∷◌, ◌++◌, drop, get_or, sym, refl, ap, ◌∙◌, subst, arith, append_assoc, append-nil, inl, inr, ⊎_elim}
+use Rattle.std.proofs.Common.{◌≡◌, ◌⊎◌, ◌≤◌, true, false, cond, ltb, length, length-append, List, [], ◌∷◌, ◌++◌, drop, get_or, sym, refl, ap, ◌∙◌, subst, arith, append_assoc, append-nil, inl, inr, ⊎_elim}
 use Rattle.cmh_rw.specs.declared.row.Row.{Row}
 use Rattle.std.proofs.lemmas.Bool.{ltb-true, ltb-false, cond_both}
-use Rattle.cmh_rw.specs.View.{longer_list}
 use Rattle.cmh_rw.specs.History.{rows_in, IsOpen, IsPosting, EndsLast, ArePostings, IsSeen, StartsWith}
 
 -- postings and more postings, laid end to end, are the rows of the one and then of the other
@@ -72,9 +71,9 @@ none_left [] e = refl
 none_left (x ∷ xs) e = absurd (omega arith)
 
 -- of two lists of which one begins the other, the longer begins with both
-pub longer_list-begins : (xs ys : List Row) → StartsWith xs ys ⊎ StartsWith ys xs
-    → StartsWith (longer_list xs ys) xs × StartsWith (longer_list xs ys) ys
-longer_list-begins xs ys starts = let P : List Row → Type 0 = λ l. StartsWith l xs × StartsWith l ys in
+pub longer_begins : (xs ys : List Row) → StartsWith xs ys ⊎ StartsWith ys xs
+    → let longer = cond (ltb (length xs) (length ys)) ys xs in StartsWith longer xs × StartsWith longer ys
+longer_begins xs ys starts = let P : List Row → Type 0 = λ l. StartsWith l xs × StartsWith l ys in
     cond_both (ltb (length xs) (length ys)) ys xs P
     (λ less. let lt = ltb-true (length xs) (length ys) less in (
       ⊎_elim (λ (h : StartsWith xs ys). absurd (let e = ap length h.1 in let n = length-append ys h.0 in omega arith))

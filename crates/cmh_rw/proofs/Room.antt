@@ -11,7 +11,7 @@ use Rattle.cmh_rw.specs.declared.view.View.{View}
 use Rattle.cmh_rw.specs.History.{fold_at, FitsIn, IsTrueOf, StartsWith}
 use Rattle.cmh_rw.specs.View.{AfterLoad, CanStage, with_row, view_before_compare, view_after_compare}
 use Rattle.cmh_rw.proofs.Folds.{true-snoc, true-few, true-idle, true-left, true-right}
-use Rattle.cmh_rw.proofs.Postings.{longer_list-begins}
+use Rattle.cmh_rw.proofs.Postings.{longer_begins}
 
 -- what a seat knows of its rows
 abbrev pub Fits : View → Type 0
@@ -110,4 +110,4 @@ pub joined_begins : (v w : View) (mid : View) (end : View) → mid ≡ view_befo
 joined_begins v w mid end first told h =
     let P : View → Type 0 = λ u. StartsWith u.seen u.other ⊎ StartsWith u.other u.seen in
     let Q : View → Type 0 = λ u. StartsWith u.seen v.seen × StartsWith u.seen w.seen in
-    subst Q (sym told) (longer_list-begins v.seen w.seen (subst P first h))
+    subst Q (sym told) (longer_begins v.seen w.seen (subst P first h))

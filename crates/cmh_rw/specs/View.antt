@@ -1,15 +1,13 @@
 -- What a seat knows, and how the calls change it.
-use Rattle.std.specs.Prelude.{◌≡◌, ℕ, ◌+◌, ◌-◌, ◌<◌, ◌≤◌, nat_lt, Bool, true, false, if◌then◌else◌, IsTrue, None, List, [], ◌∷◌, ◌++◌, map, length, slice_index}
+use Rattle.std.specs.Prelude.{◌≡◌, ℕ, ◌+◌, ◌-◌, ◌<◌, ◌≤◌, nat_lt, Bool, true, false, if◌then◌else◌, IsTrue, None, [], ◌∷◌, ◌++◌, map, length, slice_index}
 use Rattle.cmh_graph.specs.declared.TheConstants.{MAX_PROCESSES}
 use Rattle.cmh_graph.specs.declared.verdict.Verdict.{Verdict}
 use Rattle.cmh_graph.specs.Graph.{Graph, is_idle}
 use Rattle.cmh_graph.specs.Verdict.{verdict}
-use Rattle.cmh_rw.specs.declared.TheConstants.{WRITER, MAX_SEATS, FIRST_ROW, FIRST_VERDICT}
+use Rattle.cmh_rw.specs.declared.TheConstants.{MAX_SEATS, FIRST_ROW, FIRST_VERDICT}
 use Rattle.cmh_rw.specs.declared.machine.SeatState.{SeatState}
-use Rattle.cmh_rw.specs.declared.machine.SeatState.TheVariants.{Away, Retreating, Reading, Writing, Spent}
+use Rattle.cmh_rw.specs.declared.machine.SeatState.TheVariants.{Away, Reading, Spent}
 use Rattle.cmh_rw.specs.declared.row.Row.{Row}
-use Rattle.cmh_rw.specs.declared.words.Entry.{Entry}
-use Rattle.cmh_rw.specs.declared.words.Entry.TheVariants.{Held, Busy}
 use Rattle.cmh_rw.specs.declared.view.LockView.{LockView}
 use Rattle.cmh_rw.specs.declared.view.View.{View}
 use Rattle.cmh_rw.specs.Machine.{writes, reads}
@@ -32,27 +30,14 @@ opening_view g = record {
   loads = 0;
 }
 
--- a try to get the lock found this word, and left the seat in this state
-abbrev pub lock_after_try : LockView → SeatState → ℕ → LockView
-lock_after_try l state found = record l { state = state; tries = l.tries + 1; found = found }
-
 -- the view of a seat whose try to get the lock found this word and left it in this state
 abbrev pub view_after_try : View → SeatState → ℕ → View
-view_after_try v state found = record v { lock = lock_after_try v.lock state found }
+view_after_try v state found =
+    record v { lock = record v.lock { state = state; tries = v.lock.tries + 1; found = found } }
 
 -- the seat holds nothing any more, and what it loaded and told in the hold is over
 abbrev pub view_after_end : View → View
 view_after_end v = record v { lock = record v.lock { state = Away }; loaded = false; told = [] }
-
--- after a try to read: the lock was got where no writer was found, else the seat retreated
-abbrev pub AfterRead : View → Entry → View → Type 0
-AfterRead v Held w = (w.lock.found < WRITER) × (w ≡ view_after_try v Reading w.lock.found)
-AfterRead v (Busy n) w = (WRITER ≤ n) × (w ≡ view_after_end (view_after_try v Retreating n))
-
--- after a try to write: the lock was got where the word was 0, and nothing is staged yet
-abbrev pub AfterWrite : View → Entry → View → Type 0
-AfterWrite v Held w = (w ≡ view_after_try v Writing 0) × (v.staged ≡ []) × (v.told ≡ [])
-AfterWrite v (Busy n) w = (0 < n) × (w ≡ view_after_try v Away n)
 
 -- What a load says. The seat sees the whole history: one that begins with all that it had seen, and
 -- the same as at an earlier load of the hold.
@@ -132,13 +117,12 @@ view_before_compare v w = record v {
   mine = v.mine ++ w.mine;
 }
 
--- the longer of two lists, and the first where they are as long
-abbrev pub longer_list : List Row → List Row → List Row
-longer_list xs ys = if nat_lt (length xs) (length ys) then ys else xs
-
--- of two that have seen one history, the longer prefix is kept
+-- of two that have seen one history, the longer prefix is kept, and the first where they are as long
 abbrev pub view_after_compare : View → View
-view_after_compare v = record v { seen = longer_list v.seen v.other; other = [] }
+view_after_compare v = record v {
+  seen = if nat_lt (length v.seen) (length v.other) then v.other else v.seen;
+  other = [];
+}
 
 -- the view of two seats made one
 abbrev pub joined_view : View → View → View

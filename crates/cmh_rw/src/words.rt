@@ -56,10 +56,10 @@ pub enum Entry {
 
 impl RwWords {
     ghost use Rattle.std.specs.Prelude.{◌≡◌, ◌<◌, ◌≤◌, ℕ, [], IfOk, IfErr, IfSome, IfNone};
-    ghost use Rattle.cmh_rw.specs.declared.TheConstants.{MAX_SEATS};
+    ghost use Rattle.cmh_rw.specs.declared.TheConstants.{MAX_SEATS, WRITER};
     ghost use Rattle.cmh_rw.specs.History.{StartsWith};
-    ghost use Rattle.cmh_rw.specs.declared.machine.SeatState.TheVariants.{Reading, Writing};
-    ghost use Rattle.cmh_rw.specs.View.{opening_view, AfterRead, AfterWrite, view_after_end, view_less_one, newcomer_view, joined_view};
+    ghost use Rattle.cmh_rw.specs.declared.machine.SeatState.TheVariants.{Away, Reading, Retreating, Writing};
+    ghost use Rattle.cmh_rw.specs.View.{opening_view, view_after_try, view_after_end, view_less_one, newcomer_view, joined_view};
     ghost use Rattle.cmh_rw.specs.Seats.{rw_view, IsSeatOf, IsAway, words_graph, words_of, ClosedHistory};
     ghost use Rattle.cmh_rw.specs.Machine.{IsSeat};
     ghost use Rattle.cmh_rw.specs.Rule.{Moment, WordsRule};
@@ -128,7 +128,11 @@ impl RwWords {
         requires own { IsSeatOf self.now seat.old }
         requires away { IsAway seat.old }
         ensures own { IsSeatOf self.now seat.new }
-        ensures tried { AfterRead (rw_view seat.old) result (rw_view seat.new) }
+        ensures held { result ≡ Entry.Held → ((rw_view seat.new).lock.found < WRITER)
+            × (rw_view seat.new
+            ≡ view_after_try (rw_view seat.old) Reading (rw_view seat.new).lock.found) }
+        ensures busy { (n : ℕ) → result ≡ Entry.Busy n → (WRITER ≤ n)
+            × (rw_view seat.new ≡ view_after_end (view_after_try (rw_view seat.old) Retreating n)) }
     {
         let found = self.table.shared.fetch_add::<Enter>(&mut seat.seat, 0, 1);
         if found < WRITER {
@@ -154,7 +158,10 @@ impl RwWords {
         requires own { IsSeatOf self.now seat.old }
         requires away { IsAway seat.old }
         ensures own { IsSeatOf self.now seat.new }
-        ensures tried { AfterWrite (rw_view seat.old) result (rw_view seat.new) }
+        ensures held { result ≡ Entry.Held → (rw_view seat.new ≡ view_after_try (rw_view seat.old) Writing 0)
+            × ((rw_view seat.old).staged ≡ []) × ((rw_view seat.old).told ≡ []) }
+        ensures busy { (n : ℕ) → result ≡ Entry.Busy n → (0 < n)
+            × (rw_view seat.new ≡ view_after_try (rw_view seat.old) Away n) }
     {
         let found = self
             .table
