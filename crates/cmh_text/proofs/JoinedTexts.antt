@@ -15,7 +15,6 @@ use Rattle.cmh_graph.specs.Core.{leaders, group_leader}
 use Rattle.cmh_graph.proofs.PathLemmas.{index_within}
 use Rattle.cmh_graph.proofs.Verdicts.{filter_contains}
 use Rattle.cmh_text.specs.Group.{is_led_by}
-use Rattle.cmh_text.specs.Lines.{AreLines}
 use Rattle.cmh_text.specs.Report.{line, report_text, totals_line, process_line, group_line}
 use Rattle.cmh_text.proofs.Numbers.{leads_itself, led_test}
 use Rattle.cmh_text.proofs.Words.{whole_text}
@@ -128,8 +127,9 @@ leaders_lead g table list are is =
 
 -- the totals and all lines are the report
 pub whole_report : (g : Graph) (first text : List ℕ) (processes groups : List (List ℕ))
-    → first ≡ line (totals_line g) → AreLines (map (process_line g) (idle_list g)) processes
-    → AreLines (map (group_line g) (leaders g)) groups
+    → first ≡ line (totals_line g)
+    → flat_map (λ t. t) (reverse processes) ≡ flat_map line (map (process_line g) (idle_list g))
+    → flat_map (λ t. t) (reverse groups) ≡ flat_map line (map (group_line g) (leaders g))
     → text ≡ (first ++ flat_map (λ t. t) (reverse processes)) ++ flat_map (λ t. t) (reverse groups)
     → text ≡ report_text g
 whole_report g first text processes groups e p q is = is ∙ (λ i. (e i ++ p i) ++ q i) ∙ whole_text g

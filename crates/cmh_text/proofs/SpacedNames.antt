@@ -3,7 +3,6 @@ use Rattle.std.proofs.Common.{◌≡◌, ℕ, ◌+◌, ◌-◌, ◌^◌, ◌<◌
 use Rattle.std.proofs.lemmas.List.{get_or-append-add, map-append, take-append-drop, take_more}
 use Rattle.std.proofs.lemmas.List.Concat.{flat_map-append}
 use Rattle.cmh_graph.specs.Graph.{Graph, name_of}
-use Rattle.cmh_text.specs.Names.{SharesEnd}
 use Rattle.cmh_text.specs.Report.{names_of, spaced_words}
 
 -- the names of two lists together are those of the one and then of the other
@@ -77,16 +76,17 @@ names_but g list shown size k count text same long of_list few is =
     (is ∙ (λ i. min (length (spaced_words (names_of g (take (long i - k) (same i))))) (2 ^ 64 - 1)))
 
 -- new names, put before those that both lists end with, make the names of the new list
-pub names_renewed : (g : Graph) (old new : List ℕ) (k cut : ℕ) (before front after : List ℕ) → SharesEnd k old new
+pub names_renewed : (g : Graph) (old new : List ℕ) (k cut : ℕ) (before front after : List ℕ)
+    → drop (length old - k) old ≡ drop (length new - k) new
     → before ≡ spaced_words (names_of g old) → front ≡ spaced_words (names_of g (take (length new - k) new))
     → length (spaced_words (names_of g (take (length old - k) old))) ≡ cut → after ≡ front ++ drop cut before
     → after ≡ spaced_words (names_of g new)
-names_renewed g old new k cut before front after shares of_old of_front is_cut is =
+names_renewed g old new k cut before front after same of_old of_front is_cut is =
     let first = spaced_words (names_of g (take (length old - k) old)) in
     let last = spaced_words (names_of g (drop (length old - k) old)) in
     let kept : drop cut before ≡ last =
     ap (drop cut) (of_old ∙ names_cut g old (length old - k)) ∙ drop_at first last cut is_cut in
     is
     ∙ (λ i. of_front i ++ kept i)
-    ∙ ap (λ ys. spaced_words (names_of g (take (length new - k) new)) ++ spaced_words (names_of g ys)) shares.same
+    ∙ ap (λ ys. spaced_words (names_of g (take (length new - k) new)) ++ spaced_words (names_of g ys)) same
     ∙ sym (names_cut g new (length new - k))

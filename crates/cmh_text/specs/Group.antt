@@ -3,10 +3,7 @@ use Rattle.std.specs.Prelude.{◌≡◌, ℕ, Bool, nat_eq, nat_le, List, map, c
 use Rattle.std.specs.Option.{option_eq}
 use Rattle.cmh_graph.specs.Graph.{Graph, indices}
 use Rattle.cmh_graph.specs.Build.{IsWellFormed}
-use Rattle.cmh_graph.specs.Path.{reach_of}
-use Rattle.cmh_graph.specs.Core.{core_of, rest_of, leaders as all_leaders, group_number, group_leader}
-use Rattle.cmh_text.specs.Report.{site_count}
-use Rattle.cmh_text.specs.declared.groups.Group.{Group}
+use Rattle.cmh_graph.specs.Core.{leaders as all_leaders, group_leader}
 use Rattle.cmh_text.specs.declared.groups.Groups.{Groups}
 
 -- how many leaders there are up to this place
@@ -23,10 +20,3 @@ pub record AreGroupsOf (g : Graph) (groups : Groups) : Type 0 where
   pub leaders : groups.leaders.items ≡ map (group_leader g) (indices g)
   pub numbers : groups.numbers.items ≡ map (leaders_up_to g) (indices g)
   pub list : groups.list.items ≡ all_leaders g
-
--- the group of that leader
-pub record IsGroupOf (g : Graph) (leader : ℕ) (group : Group) : Type 0 where
-  pub number : group.number ≡ group_number g leader
-  pub core : group.core.items ≡ core_of g leader
-  pub rest : group.rest.items ≡ rest_of g leader
-  pub sites : group.site_count ≡ site_count g (reach_of g leader)

@@ -1,7 +1,6 @@
 -- A group whose reach is known while the lines of others are made.
-use Rattle.std.specs.Prelude.{ℕ, List, Contains, IfSome, IsTrue, Option}
+use Rattle.std.specs.Prelude.{IfSome}
 use Rattle.cmh_graph.specs.Graph.{Graph}
-use Rattle.cmh_text.specs.Group.{is_led_by}
 use Rattle.cmh_text.specs.Known.{IsKnownOf}
 use Rattle.cmh_text.specs.Sites.{AreSitesBelow}
 use Rattle.cmh_text.specs.declared.knot.Knot.{Knot}
@@ -10,7 +9,3 @@ use Rattle.cmh_text.specs.declared.knot.Knot.{Knot}
 pub record IsKnotOf (g : Graph) (knot : Knot) : Type 0 where
   pub most : IfSome knot.most (IsKnownOf g)
   pub sites : AreSitesBelow g knot.site_bound
-
--- the list has somebody whom that leader leads
-abbrev pub HasLed : List (Option ℕ) → ℕ → List ℕ → Type 0
-HasLed leaders leader list = (q : ℕ) × Contains list q × IsTrue (is_led_by leaders leader q)

@@ -5,7 +5,6 @@ pub mod Report
 pub mod Group
 pub mod Knot
 pub mod Known
-pub mod Lines
 pub mod Names
 pub mod Paths
 pub mod Sites

@@ -25,10 +25,6 @@ abbrev pub names_or_dash : Graph → List ℕ → List (List ℕ)
 names_or_dash g [] = codes "-" ∷ []
 names_or_dash g (p ∷ ps) = names_of g (p ∷ ps)
 
--- how many processes aren't idle
-abbrev pub active_count : Graph → ℕ
-active_count g = count_by (λ p. not (is_idle g p)) (indices g)
-
 -- how many processes are deadlocked
 abbrev pub deadlocked_count : Graph → ℕ
 deadlocked_count g = count_by (is_deadlocked g) (indices g)
@@ -46,10 +42,11 @@ counts_line all active idle deadlocked =
     ∷ codes "deadlocked" ∷ decimal deadlocked
     ∷ []
 
--- the words of the first line
+-- the words of the first line: who isn't idle is active
 unfoldable pub totals_line : Graph → List (List ℕ)
 totals_line g =
-    counts_line (process_count g) (active_count g) (length (idle_list g)) (deadlocked_count g)
+    counts_line (process_count g) (count_by (λ p. not (is_idle g p)) (indices g)) (length (idle_list g))
+    (deadlocked_count g)
 
 -- the words of the line of a deadlocked process
 unfoldable pub deadlocked_line : Graph → ℕ → List (List ℕ)
@@ -72,14 +69,10 @@ group_line g p =
     ++ codes "|" ∷ names_or_dash g (rest_of g p)
     ++ codes "|" ∷ codes "sites" ∷ decimal (site_count g (reach_of g p)) ∷ []
 
--- the words of each line of the report
-abbrev pub report_lines : Graph → List (List (List ℕ))
-report_lines g =
-    totals_line g ∷ map (process_line g) (idle_list g) ++ map (group_line g) (leaders g)
-
--- the lines of the report, one after the other
+-- the report: the totals, a line for each idle process, and one for each group
 unfoldable pub report_text : Graph → List ℕ
-report_text g = flat_map line (report_lines g)
+report_text g =
+    flat_map line (totals_line g ∷ map (process_line g) (idle_list g) ++ map (group_line g) (leaders g))
 
 -- the text is the report on the graph
 abbrev pub IsReport : Graph → List ℕ → Type 0

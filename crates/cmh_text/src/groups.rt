@@ -1,12 +1,13 @@
 //! The groups of deadlocked processes: who leads each, its number, its members and their sites.
 
 ghost use Rattle.std.specs.Prelude.{◌≡◌, ◌<◌, map, length, filter, not, All, IfOk, IfSome, IsTrue};
-ghost use Rattle.cmh_graph.specs.Core.{leaders as all_leaders, group_leader};
+ghost use Rattle.cmh_graph.specs.Core.{core_of, rest_of, leaders as all_leaders, group_leader, group_number};
 ghost use Rattle.cmh_graph.specs.Graph.{indices, process_count};
-ghost use Rattle.cmh_graph.specs.Path.{Reaches};
-ghost use Rattle.cmh_text.specs.Group.{is_led_by, leaders_up_to, AreGroupsOf, IsGroupOf};
+ghost use Rattle.cmh_graph.specs.Path.{Reaches, reach_of};
+ghost use Rattle.cmh_text.specs.Group.{is_led_by, leaders_up_to, AreGroupsOf};
 ghost use Rattle.cmh_text.specs.Knot.{IsKnotOf};
 ghost use Rattle.cmh_text.specs.Known.{ArePartsOf, IsKnownOf};
+ghost use Rattle.cmh_text.specs.Report.{site_count};
 
 use crate::knot::{Knot, base};
 use crate::known::{Known, Parts, parts_from, parts_of};
@@ -116,7 +117,11 @@ pub(crate) fn group_of(
     requires knot { IsKnotOf graph.now knot.now }
     requires last { IfSome last.now (IsKnownOf graph.now) }
     requires leads { IsTrue (is_led_by groups.now.leaders.items leader leader) }
-    ensures group { IfOk result (λ made. IsGroupOf graph.now leader made.0) }
+    ensures number { IfOk result (λ made. made.0.number ≡ group_number graph.now leader) }
+    ensures core { IfOk result (λ made. made.0.core.items ≡ core_of graph.now leader) }
+    ensures rest { IfOk result (λ made. made.0.rest.items ≡ rest_of graph.now leader) }
+    ensures sites { IfOk result (λ made.
+        made.0.site_count ≡ site_count graph.now (reach_of graph.now leader)) }
     ensures known { IfOk result (λ made. IsKnownOf graph.now made.1) }
 {
     let parts = parts_by(

@@ -1,10 +1,10 @@
 //! The group whose reach is searched once for all lines: many groups may wait for it.
 
-ghost use Rattle.std.specs.Prelude.{◌<◌, length, All, Contains, IfOk, IfSome, IsTrue};
+ghost use Rattle.std.specs.Prelude.{ℕ, ◌<◌, length, All, Contains, IfOk, IfSome, IsTrue};
 ghost use Rattle.cmh_graph.specs.Graph.{process_count};
 ghost use Rattle.cmh_graph.specs.Path.{Reaches};
-ghost use Rattle.cmh_text.specs.Group.{AreGroupsOf};
-ghost use Rattle.cmh_text.specs.Knot.{HasLed, IsKnotOf};
+ghost use Rattle.cmh_text.specs.Group.{AreGroupsOf, is_led_by};
+ghost use Rattle.cmh_text.specs.Knot.{IsKnotOf};
 ghost use Rattle.cmh_text.specs.Known.{IsKnownOf};
 
 use crate::groups::{Groups, is_led_by};
@@ -128,7 +128,8 @@ fn waits_for(graph: &WaitGraph, groups: &Groups, p: u32, leader: u32) -> bool
 /// Whether the list has somebody whom that leader leads.
 fn has_led(leaders: &[Option<u32>], leader: u32, list: &[u32]) -> bool
     requires { All (λ q. q < length leaders.now) list.now }
-    ensures { IsTrue result → HasLed leaders.now leader list.now }
+    ensures { IsTrue result
+        → (q : ℕ) × Contains list.now q × IsTrue (is_led_by leaders.now leader q) }
 {
     for q in list {
         if is_led_by(leaders, leader, *q) {

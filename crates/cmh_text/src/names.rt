@@ -1,9 +1,8 @@
 //! The names of lists of processes, as text. A line often ends with names of the line before it, so
 //! those of the last list are kept.
 
-ghost use Rattle.std.specs.Prelude.{◌≡◌, ◌++◌, ◌-◌, ◌<◌, ◌^◌, length, min, All, IfOk, OnOk, string_bytes};
+ghost use Rattle.std.specs.Prelude.{◌≡◌, ◌++◌, ◌-◌, ◌<◌, ◌≤◌, ◌^◌, drop, length, min, All, IfOk, OnOk, string_bytes};
 ghost use Rattle.cmh_graph.specs.Graph.{process_count};
-ghost use Rattle.cmh_text.specs.Names.{SharesEnd};
 ghost use Rattle.cmh_text.specs.Report.{names_of, spaced_words};
 
 use cmh_graph::WaitGraph;
@@ -56,7 +55,8 @@ impl LastNames {
 /// How many processes at the end of the old list are also those at the end of the new one, where one
 /// of the lists is the end of the other.
 fn kept_count(old: &[u32], new: &[u32]) -> usize
-    ensures { SharesEnd result old.now new.now }
+    ensures within { (result ≤ length old.now) × (result ≤ length new.now) }
+    ensures same { drop (length old.now - result) old.now ≡ drop (length new.now - result) new.now }
 {
     if new.ends_with(old) {
         old.len()

@@ -8,7 +8,6 @@ ghost use Rattle.cmh_graph.specs.Graph.{idle_list, process_count};
 ghost use Rattle.cmh_text.specs.Group.{AreGroupsOf, is_led_by};
 ghost use Rattle.cmh_text.specs.Knot.{IsKnotOf};
 ghost use Rattle.cmh_text.specs.Known.{IsKnownOf};
-ghost use Rattle.cmh_text.specs.Lines.{AreLines};
 ghost use Rattle.cmh_text.specs.Names.{AreNamesOf};
 ghost use Rattle.cmh_text.specs.Paths.{ArePathsOf};
 ghost use Rattle.cmh_text.specs.Report.{line, process_line, group_line};
@@ -37,8 +36,8 @@ pub(crate) fn process_lines<R: Threads + Sync>(
 ) -> Result<Vec<Pieces>, AllocError>
     requires groups { AreGroupsOf graph.now groups.now }
     requires paths { ArePathsOf graph.now paths.now }
-    ensures { IfOk result (λ texts.
-        AreLines (map (process_line graph.now) (idle_list graph.now)) texts.items) }
+    ensures { IfOk result (λ texts. flat_map (λ t. t) (reverse texts.items)
+        ≡ flat_map line (map (process_line graph.now) (idle_list graph.now))) }
 {
     let idle = from_last(alloc, &paths.idle)?;
     idle.as_slice()
@@ -65,8 +64,8 @@ pub(crate) fn group_lines<R: Threads + Sync>(
 ) -> Result<Vec<Pieces>, AllocError>
     requires groups { AreGroupsOf graph.now groups.now }
     requires knot { IsKnotOf graph.now knot.now }
-    ensures { IfOk result (λ texts.
-        AreLines (map (group_line graph.now) (leaders graph.now)) texts.items) }
+    ensures { IfOk result (λ texts. flat_map (λ t. t) (reverse texts.items)
+        ≡ flat_map line (map (group_line graph.now) (leaders graph.now))) }
 {
     let leaders = from_last(alloc, &groups.list)?;
     leaders

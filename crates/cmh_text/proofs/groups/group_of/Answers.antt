@@ -14,17 +14,17 @@ count_sites-requires c =
     let all = c.deref.ensures.value ∙ parts.known.reach ∙ ap (reach_of g) parts.named in
     record { within = reach_within g c.args.leader _ _ all refl; below = c.requires.knot.sites }
 
-pub returns-clause-group : goal.returns-clause-group
-returns-clause-group c =
+pub returns-clause-number : goal.returns-clause-number
+returns-clause-number c =
     let g = c.args.graph.now in
     let leader = c.args.leader in
     let groups = c.requires.groups in
+    c.index.ensures ∙ by_index g (leaders_up_to g) _ leader _ groups.numbers c.requires.within
+    ∙ own_number g c.args.groups.now.leaders.items leader groups.leaders c.requires.within c.requires.leads
+
+pub returns-clause-sites : goal.returns-clause-sites
+returns-clause-sites c =
+    let g = c.args.graph.now in
     let parts = c.in_ok-parts.ensures in
     let all = c.deref.ensures.value ∙ parts.known.reach ∙ ap (reach_of g) parts.named in
-    record {
-      number = c.index.ensures ∙ by_index g (leaders_up_to g) _ leader _ groups.numbers c.requires.within
-          ∙ own_number g c.args.groups.now.leaders.items leader groups.leaders c.requires.within c.requires.leads;
-      core = parts.core;
-      rest = parts.rest;
-      sites = c.in_ok-site_count.ensures ∙ ap (site_count g) all;
-    }
+    c.in_ok-site_count.ensures ∙ ap (site_count g) all

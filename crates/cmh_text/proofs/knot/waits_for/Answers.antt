@@ -1,9 +1,9 @@
-use Rattle.std.proofs.Common.{◌∙◌, ap, length, subst}
-use Rattle.std.specs.Prelude.{Contains}
+use Rattle.std.proofs.Common.{◌∙◌, ℕ, ap, length, subst}
+use Rattle.std.specs.Prelude.{Contains, IsTrue}
 use Rattle.cmh_graph.proofs.IndexLists.{length-by_index}
 use Rattle.cmh_graph.proofs.ForwardSearch.{dependents_within}
 use Rattle.cmh_graph.specs.Core.{group_leader}
-use Rattle.cmh_text.specs.Knot.{HasLed}
+use Rattle.cmh_text.specs.Group.{is_led_by}
 use Rattle.cmh_text.proofs.Knots.{leads_to}
 use Rattle.cmh_text.proofs.knot.waits_for.Goals as goal
 
@@ -17,7 +17,8 @@ pub returns : goal.returns
 returns c = λ e.
     let g = c.args.graph.now in
     let there =
-    subst (λ xs. HasLed xs c.args.leader c.dependents.result.now) c.deref.ensures.value (c.has_led.ensures e) in
+    subst (λ xs. (q : ℕ) × Contains c.dependents.result.now q × IsTrue (is_led_by xs c.args.leader q))
+    c.deref.ensures.value (c.has_led.ensures e) in
     leads_to g c.args.groups.now.leaders.items c.args.p there.0 c.args.leader c.requires.groups.well_formed
     c.requires.groups.leaders c.requires.within
     (subst (λ xs. Contains xs there.0) c.dependents.ensures there.1) there.2

@@ -1,8 +1,8 @@
-use Rattle.std.proofs.Common.{◌≡◌, ◌<◌, ◌∙◌, ◌++◌, List, ℕ, [], ap, arith, cond, length, subst, sym}
+use Rattle.std.proofs.Common.{◌≡◌, ◌<◌, ◌∙◌, ◌++◌, ◌-◌, List, ℕ, [], ap, arith, cond, drop, length, subst, sym}
 use Rattle.std.specs.Prelude.{All, Err, Ok, OnOk, Result, is_ok, string_bytes}
 use Rattle.std.specs.declared.alloc.AllocError.{AllocError}
 use Rattle.cmh_graph.specs.Graph.{Graph, process_count}
-use Rattle.cmh_text.specs.Names.{AreNamesOf, SharesEnd}
+use Rattle.cmh_text.specs.Names.{AreNamesOf}
 use Rattle.cmh_text.specs.Report.{names_of, spaced_words}
 use Rattle.cmh_text.specs.declared.names.LastNames.{LastNames}
 use Rattle.cmh_text.proofs.SpacedNames.{names_but, names_renewed}
@@ -44,7 +44,8 @@ returns-clause-text c =
     whatever c.extend_from_slice.result _
     (names_renewed g old.items c.args.list.now kept.result c.names_room-cut.result text.items
     c.deref-3.result.now _
-    (subst (λ xs. SharesEnd kept.result xs c.args.list.now) c.deref.ensures.value kept.ensures)
+    (subst (λ (xs : List ℕ). drop (length xs - kept.result) xs
+    ≡ drop (length c.args.list.now - kept.result) c.args.list.now) c.deref.ensures.value kept.ensures.same)
     c.requires.known.text (c.deref-3.ensures ∙ c.in_ok-front.ensures) before.0 c.in_ok-replace_range.ensures.bytes)
   where
     whatever : {T E : Type 0} (r : Result T E) (P : Type 0) → P → OnOk r P
