@@ -113,14 +113,14 @@ length-rows_of v (p ∷ ps) = let e = length-rows_of v ps in omega arith
 -- ---- rows that come behind a history
 
 -- what a process needs for a row behind these: it is idle, has this verdict, and has no row yet
-pub record Fresh (g : Graph) (v : Verdict) (xs : List Row) (p : ℕ) : Type 0 where
+pub record AllowsRow (g : Graph) (v : Verdict) (xs : List Row) (p : ℕ) : Type 0 where
   pub idle : is_idle g p ≡ true
   pub says : v ≡ verdict g p
   pub none : fold_at xs p ≡ None
 
 -- true rows stay true with the rows of fresh, distinct processes behind them
 true-rows : (g : Graph) (v : Verdict) (ps : List ℕ) (xs : List Row) → IsTrueOf g xs
-    → ((p : ℕ) → Contains ps p → Fresh g v xs p) → IsDistinct eqb ps → IsTrueOf g (xs ++ rows_of v ps)
+    → ((p : ℕ) → Contains ps p → AllowsRow g v xs p) → IsDistinct eqb ps → IsTrueOf g (xs ++ rows_of v ps)
 true-rows g v [] xs t fresh distinct = subst (IsTrueOf g) (sym (append-nil xs)) t
 true-rows g v (p ∷ ps) xs t fresh distinct =
     let f = fresh p (contains_first p ps) in
@@ -154,7 +154,7 @@ none_is (Some u) e = absurd (cc)
 
 -- a process that may be posted, and has no row, is fresh
 fresh_in : (g : Graph) (v : Verdict) (ps : List ℕ) (xs : List Row) → CanPost g v ps
-    → (p : ℕ) → Contains (unposted_in xs ps) p → Fresh g v xs p
+    → (p : ℕ) → Contains (unposted_in xs ps) p → AllowsRow g v xs p
 fresh_in g v ps xs can p c =
     let f : ℕ → Bool = λ q. is_none (fold_at xs q) in
     let kept = filter_contains f ps p c in record {

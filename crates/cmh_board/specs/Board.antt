@@ -116,15 +116,6 @@ pub record Posts (t : PostingValue) (v w : View) : Type 0 where
   pub share : w.lock.share ≡ v.lock.share
   pub graph : w.lock.graph ≡ v.lock.graph
 
--- somebody held the board, by this lock word, and nothing was posted
-pub record IsBlocked (n : ℕ) (v w : View) : Type 0 where
-  pub found : n ≡ w.lock.found
-  pub cause : 0 < n
-  pub sees : SeesMore v w
-  pub seen : w.seen ≡ v.seen
-  pub staged : w.staged ≡ v.staged
-  pub loads : w.loads ≡ v.loads
-
 -- the rows are whole postings, which are just these, however they weigh
 pub record IsMadeOf (mine : List (List Row)) (rows : List Row) : Type 0 where
   pub postings : List (List Row)

@@ -17,16 +17,12 @@ abbrev pub spoken_of : Verdict → List ℕ → List ℕ → List ℕ
 spoken_of Deadlocked initiator engaged = engaged
 spoken_of Free initiator engaged = initiator
 
--- what a run with this verdict, initiator and engaged processes tells
-abbrev pub told_of : Verdict → List ℕ → List ℕ → PostingValue
-told_of verdict initiator engaged = record {
-  processes = spoken_of verdict initiator engaged;
-  verdict = verdict;
-}
-
 -- what a run tells: who is engaged is deadlocked where it is declared, else the initiator is free
 abbrev pub posting_of : Run → PostingValue
-posting_of r = told_of (verdict_of r.ending) (r.initiator ∷ []) r.engaged
+posting_of r = record {
+  processes = spoken_of (verdict_of r.ending) (r.initiator ∷ []) r.engaged;
+  verdict = verdict_of r.ending;
+}
 
 -- the posting tells the truth about idle processes of the graph, and names none twice
 pub record IsTruth (g : Graph) (t : PostingValue) : Type 0 where

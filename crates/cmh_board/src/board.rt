@@ -6,7 +6,7 @@ ghost use Rattle.cmh_graph.specs.Graph.{process_count, IsWithinGraph};
 ghost use Rattle.cmh_rw.specs.Seats.{words_graph};
 
 use crate::fault::unopened;
-use crate::post::add;
+use crate::post::add_posting;
 use crate::reading::read_closed;
 use crate::{BoardFault, Posting, Snap};
 use cmh_graph::{Verdict, WaitGraph};
@@ -57,8 +57,9 @@ impl Board {
     ghost use Rattle.cmh_graph.specs.Graph.{process_count};
     ghost use Rattle.cmh_rw.specs.declared.TheConstants.{MAX_SEATS, WRITER};
     ghost use Rattle.cmh_rw.specs.History.{StartsWith, fold_at, IsHistory, IsTrueOf};
-    ghost use Rattle.cmh_rw.specs.View.{opening_view, view_less_one, newcomer_view, joined_view, view_after_end};
-    ghost use Rattle.cmh_board.specs.Board.{board_view, board_graph, SitsAt, IsAway, IsHolding, SeesMore, TriesOnce, IsRead, IsTurnedAway, ReadsHistory, Posts, IsBlocked, ExplainsReadFault, IsMadeOf};
+    ghost use Rattle.cmh_rw.specs.declared.machine.SeatState.TheVariants.{Away};
+    ghost use Rattle.cmh_rw.specs.View.{opening_view, view_after_try, view_less_one, newcomer_view, joined_view, view_after_end};
+    ghost use Rattle.cmh_board.specs.Board.{board_view, board_graph, SitsAt, IsAway, IsHolding, SeesMore, TriesOnce, IsRead, IsTurnedAway, ReadsHistory, Posts, ExplainsReadFault, IsMadeOf};
     ghost use Rattle.cmh_graph.specs.declared.verdict.Verdict.{Verdict};
     ghost use Rattle.cmh_graph.specs.Verdict.{IsVerdict};
     ghost use Rattle.cmh_board.specs.Posting.{IsTruth};
@@ -192,13 +193,13 @@ impl Board {
             × ((board_view seat.old).loads < (board_view seat.new).loads) }
         ensures posts { result ≡ Post.Done
             → Posts posting.now (board_view seat.old) (board_view seat.new) }
-        ensures busy { (n : ℕ) → result ≡ Post.Busy n
-            → IsBlocked n (board_view seat.old) (board_view seat.new) }
+        ensures busy { (n : ℕ) → result ≡ Post.Busy n → (0 < n)
+            × (board_view seat.new ≡ view_after_try (board_view seat.old) Away n) }
     {
         match self.words.try_write(&mut seat.seat) {
             Entry::Busy(found) => Post::Busy(found),
             Entry::Held => {
-                add(&self.words, &mut seat.seat, posting);
+                add_posting(&self.words, &mut seat.seat, posting);
                 self.words.end_write(&mut seat.seat);
                 Post::Done
             }

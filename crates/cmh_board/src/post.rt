@@ -14,7 +14,7 @@ use cmh_graph::Verdict;
 use cmh_rw::{FIRST_VERDICT, ROW_COUNT, RwSeat, RwWords};
 
 /// Adds the posting's new rows to the history, if there are any.
-pub(crate) fn add(words: &RwWords, seat: &mut RwSeat, posting: &Posting)
+pub(crate) fn add_posting(words: &RwWords, seat: &mut RwSeat, posting: &Posting)
     requires own { IsSeatOf words.now seat.old }
     requires writer { IsWriter (rw_view seat.old) }
     requires can { CanPost (rw_view seat.old).lock.graph posting.now.verdict posting.now.processes }
@@ -26,7 +26,7 @@ pub(crate) fn add(words: &RwWords, seat: &mut RwSeat, posting: &Posting)
     let new = count_unposted(words, seat, processes);
     if new > 0 {
         let end = count + new;
-        stage(words, seat, processes, posting.verdict(), count, end);
+        stage_rows(words, seat, processes, posting.verdict(), count, end);
         words.store_count(seat, end);
     }
 }
@@ -53,7 +53,7 @@ fn count_unposted(words: &RwWords, seat: &mut RwSeat, processes: &[u32]) -> usiz
 
 /// Stages a row for each of the processes that stand in none, from row `count` on. The row before
 /// row `end` is the last one.
-fn stage(
+fn stage_rows(
     words: &RwWords,
     seat: &mut RwSeat,
     processes: &[u32],

@@ -18,11 +18,14 @@ pub struct Posting<'a> {
 }
 
 impl<'a> Model for Posting<'a> {
-    ghost use Rattle.cmh_board.specs.Posting.{PostingValue, told_of};
+    ghost use Rattle.cmh_board.specs.Posting.{PostingValue, spoken_of};
 
     ghost Value = { PostingValue };
 
-    ghost view = { λ p. told_of p.verdict p.initiator p.engaged.now };
+    ghost view = { λ p. record {
+      processes = spoken_of p.verdict p.initiator p.engaged.now;
+      verdict = p.verdict;
+    } };
 }
 
 impl<'a> Posting<'a> {

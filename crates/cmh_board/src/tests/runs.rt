@@ -2,7 +2,9 @@
 
 ghost use Rattle.std.specs.Prelude.{◌≡◌, ℕ, ◌<◌, IfOk};
 ghost use Rattle.cmh_run.specs.Run.{TellsTruth};
-ghost use Rattle.cmh_board.specs.Board.{board_view, board_graph, SitsAt, IsAway, SeesMore, Posts, IsBlocked};
+ghost use Rattle.cmh_rw.specs.declared.machine.SeatState.TheVariants.{Away};
+ghost use Rattle.cmh_rw.specs.View.{view_after_try};
+ghost use Rattle.cmh_board.specs.Board.{board_view, board_graph, SitsAt, IsAway, SeesMore, Posts};
 ghost use Rattle.cmh_board.specs.Posting.{posting_of};
 
 use crate::{Board, BoardHints, BoardSeat, Post, Posting};
@@ -38,7 +40,7 @@ pub(super) fn try_post_run(board: &Board, seat: &mut BoardSeat, run: &RunLog) ->
     ensures posts { result ≡ Post.Done
         → Posts (posting_of run.now) (board_view seat.old) (board_view seat.new) }
     ensures busy { (n : ℕ) → result ≡ Post.Busy n
-        → IsBlocked n (board_view seat.old) (board_view seat.new) }
+        → (0 < n) × (board_view seat.new ≡ view_after_try (board_view seat.old) Away n) }
 {
     board.try_post(seat, &Posting::of_run(run))
 }

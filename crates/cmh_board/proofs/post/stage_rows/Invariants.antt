@@ -1,6 +1,6 @@
 use Rattle.cmh_rw.specs.Seats.{rw_view, IsSeatOf}
 use Rattle.cmh_board.proofs.StagedRows.{Staging}
-use Rattle.cmh_board.proofs.post.stage.Given as goal
+use Rattle.cmh_board.proofs.post.stage_rows.Given as goal
 
 abbrev pub invariant-loop-p : goal.invariant-loop-p
 invariant-loop-p l =

@@ -5,8 +5,8 @@ use Rattle.cmh_rw.specs.declared.words.RwSeat.{RwSeat}
 use Rattle.cmh_rw.specs.Seats.{rw_view, IsSeatOf}
 use Rattle.cmh_board.specs.Board.{unposted_in}
 use Rattle.cmh_board.proofs.StagedRows.{Staging, found_new, below_end, next_number, can_stage, can_tell, is_last, staging-old, staging-new}
-use Rattle.cmh_board.proofs.post.stage.Goals as goal
-use Rattle.cmh_board.proofs.post.stage.Goals.{then-is_unposted, else-is_unposted}
+use Rattle.cmh_board.proofs.post.stage_rows.Goals as goal
+use Rattle.cmh_board.proofs.post.stage_rows.Goals.{then-is_unposted, else-is_unposted}
 
 pub is_unposted-requires-clause-process : goal.is_unposted-requires-clause-process
 is_unposted-requires-clause-process c =

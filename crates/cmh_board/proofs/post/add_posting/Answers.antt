@@ -7,7 +7,7 @@ use Rattle.cmh_board.specs.Board.{unposted_in}
 use Rattle.cmh_board.specs.Adding.{Stages}
 use Rattle.cmh_board.proofs.Lists.{length-filter-le}
 use Rattle.cmh_board.proofs.AddingLemmas.{adds_none, adds_rows, staged_ends, staged_told, staged_number}
-use Rattle.cmh_board.proofs.post.add.Goals as goal
+use Rattle.cmh_board.proofs.post.add_posting.Goals as goal
 
 pub overflow_add-end : goal.overflow_add-end
 overflow_add-end c =
@@ -24,7 +24,7 @@ overflow_add-end c =
 pub store_count-requires-clause-ended : goal.store_count-requires-clause-ended
 store_count-requires-clause-ended c =
     staged_ends c.verdict.result c.processes-processes.result.now (rw_view c.count_unposted-new.new.seat)
-    (rw_view c.stage.new.seat) c.stage.ensures.stages
+    (rw_view c.stage_rows.new.seat) c.stage_rows.ensures.stages
     (subst (λ l. 0 < length (unposted_in l c.processes-processes.result.now))
     (sym c.count_unposted-new.ensures.loads.seen)
     (omega (arith, c.if-new-gt0.true, c.count_unposted-new.ensures.count)))
@@ -32,23 +32,24 @@ store_count-requires-clause-ended c =
 pub store_count-requires-clause-told : goal.store_count-requires-clause-told
 store_count-requires-clause-told c =
     staged_told c.verdict.result c.processes-processes.result.now (rw_view c.count_unposted-new.new.seat)
-    (rw_view c.stage.new.seat) c.stage.ensures.stages
+    (rw_view c.stage_rows.new.seat) c.stage_rows.ensures.stages
 
 pub store_count-requires-clause-end : goal.store_count-requires-clause-end
 store_count-requires-clause-end c =
     let kept = sym c.count_unposted-new.ensures.loads.seen in
     staged_number c.verdict.result c.processes-processes.result.now (rw_view c.count_unposted-new.new.seat)
-    (rw_view c.stage.new.seat)
-    c.load-count.result c.count_unposted-new.result c.stage.ensures.stages
+    (rw_view c.stage_rows.new.seat)
+    c.load-count.result c.count_unposted-new.result c.stage_rows.ensures.stages
     (c.load-count.ensures.loaded.count refl ∙ ap length kept)
     (c.count_unposted-new.ensures.count ∙ ap (λ l. length (unposted_in l c.processes-processes.result.now)) kept)
 
 pub returns-then-new-gt0-clause-adds : goal.returns-then-new-gt0-clause-adds
 returns-then-new-gt0-clause-adds c =
     let counted = rw_view c.count_unposted-new.new.seat in
-    let staged = rw_view c.stage.new.seat in
+    let staged = rw_view c.stage_rows.new.seat in
     let stages = subst (λ d. Stages d c.args.posting.now.processes counted staged) c.verdict.ensures
-    (subst (λ ps. Stages c.verdict.result ps counted staged) c.processes-processes.ensures c.stage.ensures.stages) in
+    (subst (λ ps. Stages c.verdict.result ps counted staged) c.processes-processes.ensures
+    c.stage_rows.ensures.stages) in
     let some : 0 < length (unposted_in (rw_view c.load-count.new.seat).seen c.args.posting.now.processes) =
     subst (λ ps. 0 < length (unposted_in (rw_view c.load-count.new.seat).seen ps)) c.processes-processes.ensures
     (omega (arith, c.if-new-gt0.true, c.count_unposted-new.ensures.count)) in
