@@ -2,16 +2,11 @@
 use Rattle.std.specs.Prelude.{◌≡◌, ℕ, List, [], ◌∷◌, Option, Some, None}
 use Rattle.cmh_graph.specs.declared.verdict.Verdict.{Verdict}
 use Rattle.cmh_rw.specs.declared.row.Row.{Row}
-use Rattle.cmh_rw.specs.History.{fold_at}
 use Rattle.cmh_work.specs.declared.finding.Finding.{Finding}
 use Rattle.cmh_work.specs.declared.record.Record.{Record}
 use Rattle.cmh_work.specs.declared.record.Origin.{Origin}
 use Rattle.cmh_work.specs.declared.record.Origin.TheVariants.{FromRun, FromBoard}
 use Rattle.cmh_work.specs.Record.{IsRowFor}
-
--- what was found stands in the history
-abbrev pub Stands : {R L : Type 0} → List Row → Finding R L → Type 0
-Stands history f = fold_at history f.initiator ≡ Some f.verdict
 
 -- the run of a finding is kept, and where there is none, the row is named
 abbrev pub IsNamed : {R : Type 0} → List Row → ℕ → Verdict → Option R → Origin R → Type 0

@@ -5,7 +5,7 @@ ghost use Rattle.cmh_graph.specs.declared.verdict.Verdict.{Verdict};
 ghost use Rattle.cmh_rw.specs.declared.row.Row.{Row};
 ghost use Rattle.cmh_rw.specs.History.{fold_at};
 ghost use Rattle.cmh_work.specs.Record.{IsRowFor};
-ghost use Rattle.cmh_work.specs.Numbering.{Stands, IsNumbered, AreNumbered};
+ghost use Rattle.cmh_work.specs.Numbering.{IsNumbered, AreNumbered};
 
 use crate::finding::Finding;
 use crate::record::{Origin, Record};
@@ -61,7 +61,7 @@ pub(crate) fn number_all<R: Drop, P: Drop>(
 ) -> Result<Vec<Record<R, P>>, AllocError>
     requires within { All (λ row. row.process < count) history.now }
     requires few { length history.now < 2 ^ 32 }
-    requires stand { All (Stands history.now) found.items }
+    requires stand { All (λ f. fold_at history.now f.initiator ≡ Some f.verdict) found.items }
     ensures { IfOk result (λ records. AreNumbered history.now found.items records.items) }
 {
     let numbers = row_numbers(alloc, history, count)?;

@@ -97,27 +97,27 @@ pub(crate) fn workers<L: Log + Send, E: ProcessList + Send, R: Threads + Wait + 
         return work(rt, alloc, graph, plan, shared, gate, seats);
     }
     let fewer = others - 1;
-    let mut rest = seats;
-    let Some(one) = split_off(shared, &mut rest) else {
-        return work(rt, alloc, graph, plan, shared, gate, rest);
+    let mut left = seats;
+    let Some(next) = split_off(shared, &mut left) else {
+        return work(rt, alloc, graph, plan, shared, gate, left);
     };
-    let ((one, found), (mut rest, more)) = join(
+    let ((next, next_found), (mut left, left_found)) = join(
         rt,
         || -> (Seats, Result<Vec<Finding<RunLog<L, E>, E>>, AllocError>)
             requires { IsSync R.row × IsMadeFor graph.now plan.now shared.now
-                × AreSeated shared.now one × AreNew one }
-            ensures { AreBack shared.entry.now one result.0 × IfOk result.1 (λ found. IsWorked E.processes
+                × AreSeated shared.now next × AreNew next }
+            ensures { AreBack shared.entry.now next result.0 × IfOk result.1 (λ found. IsWorked E.processes
                 graph.entry.now plan.entry.now shared.entry.now result.0 found.items) }
-        { work(rt, alloc, graph, plan, shared, gate, one) },
+        { work(rt, alloc, graph, plan, shared, gate, next) },
         || -> (Seats, Result<Vec<Finding<RunLog<L, E>, E>>, AllocError>)
             requires { IsSync R.row × IsMadeFor graph.now plan.now shared.now
-                × AreSeated shared.now rest
-                × ((board_view rest.board).lock.share ≡ (ticket_view rest.tickets).share)
-                × AreNew rest × (fewer < (ticket_view rest.tickets).share) }
-            ensures { AreBack shared.entry.now rest result.0 × IfOk result.1 (λ found. IsWorked E.processes
+                × AreSeated shared.now left
+                × ((board_view left.board).lock.share ≡ (ticket_view left.tickets).share)
+                × AreNew left × (fewer < (ticket_view left.tickets).share) }
+            ensures { AreBack shared.entry.now left result.0 × IfOk result.1 (λ found. IsWorked E.processes
                 graph.entry.now plan.entry.now shared.entry.now result.0 found.items) }
-        { workers(rt, alloc, graph, plan, shared, gate, rest, fewer) },
+        { workers(rt, alloc, graph, plan, shared, gate, left, fewer) },
     );
-    take_back(shared, &mut rest, one);
-    (rest, concat_findings(more, found))
+    take_back(shared, &mut left, next);
+    (left, concat_findings(left_found, next_found))
 }

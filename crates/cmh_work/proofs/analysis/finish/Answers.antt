@@ -1,14 +1,14 @@
-use Rattle.std.proofs.Common.{◌<◌, ◌≤◌, ◌∙◌, All, IfOk, ap, arith, length, rules, subst, sym}
+use Rattle.std.proofs.Common.{◌≡◌, ◌<◌, ◌≤◌, ◌∙◌, All, IfOk, Some, ap, arith, length, rules, subst, sym}
 use Rattle.std.specs.List.Sorted.{IsNonDecreasingBy}
 use Rattle.std.proofs.lemmas.List.Sorted.{IsNonDecreasingBy-from_sort, answers_always}
 use Rattle.cmh_graph.specs.Graph.{process_count}
 use Rattle.cmh_graph.proofs.Faults.{given}
 use Rattle.cmh_rw.specs.declared.row.Row.{Row}
-use Rattle.cmh_rw.specs.History.{IsTrueOf}
+use Rattle.cmh_rw.specs.History.{IsTrueOf, fold_at}
 use Rattle.cmh_rw.proofs.Folds.{true-few}
 use Rattle.cmh_board.specs.Board.{board_view, IsMadeOf}
 use Rattle.cmh_work.specs.Finding.{finding_initiator}
-use Rattle.cmh_work.specs.Numbering.{Stands, AreNumbered}
+use Rattle.cmh_work.specs.Numbering.{AreNumbered}
 use Rattle.cmh_work.specs.Working.{IsWorked}
 use Rattle.cmh_work.proofs.AnalysisLemmas.{all_stand, analysed}
 use Rattle.cmh_work.proofs.RecordLemmas.{rows_within}
@@ -29,7 +29,8 @@ number_all-requires-clause-stand g c =
     (board_view seats.board).seen c.in_ok-found.found.items sorted c.sort_unstable_by_key.ensures.permutation
     (given c.close.result c.map_err.result c.in_ok-history.history _ _ c.map_err.ensures.cases
     c.in_ok-history.was c.close.ensures.begins) w.accounts.sound in
-    subst (λ l. All (Stands l) sorted) (sym c.deref.ensures.value) (λ k d low. (sound k d low).stands)
+    subst (λ l. All (λ f. fold_at l f.initiator ≡ Some f.verdict) sorted) (sym c.deref.ensures.value)
+    (λ k d low. (sound k d low).stands)
 
 pub number_all-requires-clause-within : goal.number_all-requires-clause-within
 number_all-requires-clause-within g c =
