@@ -148,12 +148,12 @@ one_trace name choices g text other ending last a b =
     let r = a.run in
     let t = b.run in
     let same = named_once g name r.initiator t.initiator a.named b.named in
-    let its : IsRun (chosen_place choices) g r.initiator [] t.log t.ending b.plain.legal.end =
-    subst (λ (i : ℕ). IsRun (chosen_place choices) g i [] t.log t.ending b.plain.legal.end)
-    (sym same) b.plain.legal.legal in
-    let one = runs_are_deterministic choices g r.initiator [] r.log t.log r.ending t.ending a.plain.legal.end
-    b.plain.legal.end
-    a.plain.legal.legal its a.plain.unhinted b.plain.unhinted in
-    let ended : r.ending ≡ t.ending = one_ending b.plain.legal.end.config r.ending t.ending
-    (subst (λ (s : Going). EndsAs s.config r.ending) one.1 a.plain.legal.legal.ends) b.plain.legal.legal.ends in
+    let its : IsRun (chosen_place choices) g r.initiator [] t.log t.ending b.legal.end =
+    subst (λ (i : ℕ). IsRun (chosen_place choices) g i [] t.log t.ending b.legal.end)
+    (sym same) b.legal.legal in
+    let one = runs_are_deterministic choices g r.initiator [] r.log t.log r.ending t.ending a.legal.end
+    b.legal.end
+    a.legal.legal its a.unhinted b.unhinted in
+    let ended : r.ending ≡ t.ending = one_ending b.legal.end.config r.ending t.ending
+    (subst (λ (s : Going). EndsAs s.config r.ending) one.1 a.legal.legal.ends) b.legal.legal.ends in
     (a.lines ∙ text_by_parts g r t same one.0 ended ∙ sym b.lines, a.ends ∙ ended ∙ sym b.ends)

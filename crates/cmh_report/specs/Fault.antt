@@ -2,19 +2,13 @@
 use Rattle.std.specs.Prelude.{ℕ, ⊤}
 use Rattle.cmh_dump.specs.declared.fault.DumpFault.{DumpFault}
 use Rattle.cmh_run.specs.declared.fault.RunFault.{RunFault}
-use Rattle.cmh_work.specs.declared.fault.WorkFault.{WorkFault}
 use Rattle.cmh_report.specs.declared.fault.AppFault.{AppFault}
-use Rattle.cmh_report.specs.declared.fault.AppFault.TheVariants.{Dump, Work, NoSuchProcess, Run, WriteFault}
+use Rattle.cmh_report.specs.declared.fault.AppFault.TheVariants.{Dump, NoSuchProcess, Run, WriteFault}
 
 -- the fact holds of the dump's fault, if it is one
 abbrev pub IfDump : AppFault → (DumpFault → Type 0) → Type 0
 IfDump (Dump f) P = P f
 IfDump _ P = ⊤
-
--- the fact holds of the workers' fault, if it is one
-abbrev pub IfWork : AppFault → (WorkFault → Type 0) → Type 0
-IfWork (Work f) P = P f
-IfWork _ P = ⊤
 
 -- the fact holds, if no process has the name
 abbrev pub IfNoSuchProcess : AppFault → Type 0 → Type 0

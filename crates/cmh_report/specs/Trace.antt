@@ -44,18 +44,15 @@ pub record IsFirstNamed (g : Graph) (name : List ℕ) (p : ℕ) : Type 0 where
 abbrev pub NobodyIsNamed : Graph → List ℕ → Type 0
 NobodyIsNamed g name = (p : ℕ) → p < process_count g → name_of g p ≢ name
 
--- a run of an idle process that follows the choices without hints
-pub record IsPlainRun (choices : List ℕ) (g : Graph) (r : Run) : Type 0 where
-  pub idle : IsTrue (is_idle g r.initiator)
-  pub legal : IsRunOf g choices [] r
-  pub unhinted : HasNoHints r.log
-
--- the text is the trace of the process of that name by these choices, and its run has ended so
+-- The text is the trace of the idle process of that name: of its run that follows these choices
+-- without hints, and that has ended so.
 pub record IsTrace (name choices : List ℕ) (EndsSo : Ending → Type 0) (g : Graph)
     (text : List ℕ) : Type 0 where
   pub run : Run
   pub named : IsFirstNamed g name run.initiator
-  pub plain : IsPlainRun choices g run
+  pub idle : IsTrue (is_idle g run.initiator)
+  pub legal : IsRunOf g choices [] run
+  pub unhinted : HasNoHints run.log
   pub ends : EndsSo run.ending
   pub lines : text ≡ trace_text g run
 

@@ -6,7 +6,7 @@ ghost use Rattle.cmh_dump.specs.declared.TheConstants.{MAX_BYTES};
 ghost use Rattle.cmh_text.specs.Outline.{IsOutlineOf};
 ghost use Rattle.cmh_text.specs.Report.{IsCountedReport, IsReport, report_text, deadlocked_count};
 ghost use Rattle.cmh_report.specs.Ends.{IsAnswer, IsCutShort, IsRefused};
-ghost use Rattle.cmh_report.specs.Fault.{IfDump, IfNoSuchProcess, IfRun, IfUnwritten, IfWork, IfWriteFault};
+ghost use Rattle.cmh_report.specs.Fault.{IfDump, IfNoSuchProcess, IfRun, IfUnwritten, IfWriteFault};
 ghost use Rattle.cmh_report.specs.Records.{IsSomeAnalysisOf};
 
 use crate::fault::{AppFault, ReportFault};
@@ -111,7 +111,7 @@ pub fn analyse_bytes<R: Threads + Wait + Sync, S: Source, K: Sink, G: Gate>(
 
     ensures refused { IfErr result (λ e.
         IfDump e (IsRefused (S.state source.old) (S.state source.new))) }
-    ensures memory { IfErr result (λ e. IfWork e (λ fault. fault ≡ WorkFault.Memory)) }
+    ensures memory { IfErr result (λ e. (fault : WorkFault) → e ≡ AppFault.Work fault → fault ≡ WorkFault.Memory) }
     ensures nobody { IfErr result (λ e. IfNoSuchProcess e ⊥) }
     ensures no_run { IfErr result (λ e. IfRun e (λ _. ⊥)) }
     ensures unwritten { IfErr result (λ e.

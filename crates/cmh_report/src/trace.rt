@@ -1,15 +1,18 @@
 //! A trace from end to end: a dump comes in, and each query and reply of one computation goes out.
 
-ghost use Rattle.std.specs.Prelude.{◌≡◌, ◌≢◌, ◌++◌, ◌<◌, ◌+◌, ◌⊎◌, [], ℕ, true, IfOk, IfErr, OnOk, MatchOption, flat_map, string_bytes};
+ghost use Rattle.std.specs.Prelude.{◌≡◌, ◌≢◌, ◌++◌, ◌<◌, ◌+◌, ◌⊎◌, [], ℕ, true, IfOk, IfErr, IsTrue, OnOk, MatchOption, flat_map, string_bytes};
 ghost use Rattle.cmh_dump.specs.Source.{GaveAtMost};
 ghost use Rattle.cmh_dump.specs.declared.TheConstants.{MAX_BYTES};
+ghost use Rattle.cmh_graph.specs.Graph.{is_idle};
+ghost use Rattle.cmh_run.specs.Choices.{HasNoHints};
 ghost use Rattle.cmh_run.specs.Legal.{IsBetween};
-ghost use Rattle.cmh_run.specs.Run.{IsFirstRunFault};
+ghost use Rattle.cmh_run.specs.Run.{IsFirstRunFault, IsRunOf};
 ghost use Rattle.cmh_run.specs.declared.fault.RunFault.{RunFault};
 ghost use Rattle.cmh_text.specs.Report.{line};
+ghost use Rattle.cmh_work.specs.declared.fault.WorkFault.{WorkFault};
 ghost use Rattle.cmh_report.specs.Ends.{GaveGraph, IsAnswer, IsCutShort, IsRefused};
-ghost use Rattle.cmh_report.specs.Fault.{IfDump, IfNoSuchProcess, IfRun, IfUnwritten, IfWork, IfWriteFault};
-ghost use Rattle.cmh_report.specs.Trace.{ending_lines, message_line, trace_text, HasLines, HasNoRun, IsEndedTrace, IsFirstNamed, IsPlainRun, IsSomeTrace, NobodyIsNamed};
+ghost use Rattle.cmh_report.specs.Fault.{IfDump, IfNoSuchProcess, IfRun, IfUnwritten, IfWriteFault};
+ghost use Rattle.cmh_report.specs.Trace.{ending_lines, message_line, trace_text, HasLines, HasNoRun, IsEndedTrace, IsFirstNamed, IsSomeTrace, NobodyIsNamed};
 
 use crate::fault::{AppFault, ReportFault};
 use crate::input::read_graph;
@@ -51,7 +54,7 @@ pub fn trace_bytes<S: Source, K: Sink>(
 
     ensures refused { IfErr result (λ e.
         IfDump e (IsRefused (S.state source.old) (S.state source.new))) }
-    ensures no_work { IfErr result (λ e. IfWork e (λ _. ⊥)) }
+    ensures no_work { IfErr result (λ e. (fault : WorkFault) → e ≢ AppFault.Work fault) }
     ensures nobody { IfErr result (λ e. IfNoSuchProcess e (GaveGraph
         (S.state source.old) (S.state source.new) (λ g. NobodyIsNamed g name.now))) }
     ensures no_run { IfErr result (λ e. IfRun e (λ fault. GaveGraph
@@ -90,7 +93,7 @@ fn trace_of(
     ensures no_run { IfErr result (λ e. IfRun e (λ fault.
         HasNoRun name.now choices.now fault graph.now)) }
     ensures no_dump_fault { IfErr result (λ e. IfDump e (λ _. ⊥)) }
-    ensures no_work_fault { IfErr result (λ e. IfWork e (λ _. ⊥)) }
+    ensures no_work_fault { IfErr result (λ e. (fault : WorkFault) → e ≢ AppFault.Work fault) }
     ensures no_write_fault { IfErr result (λ e. IfWriteFault e (λ _. ⊥)) }
 {
     let Some(initiator) = find_process(graph, name) else {
@@ -125,7 +128,9 @@ fn plain_run(
     choices: &[u64],
 ) -> Result<RunLog, AppFault>
     ensures initiator { IfOk result (λ r. r.initiator ≡ initiator) }
-    ensures plain { IfOk result (IsPlainRun choices.now graph.now) }
+    ensures idle { IfOk result (λ r. IsTrue (is_idle graph.now r.initiator)) }
+    ensures legal { IfOk result (IsRunOf graph.now choices.now []) }
+    ensures unhinted { IfOk result (λ r. HasNoHints r.log) }
     ensures lines { IfOk result (HasLines graph.now) }
     ensures fault { IfErr result (λ e. (fault : RunFault) × (e ≡ AppFault.Run fault)
         × ((fault ≡ RunFault.Memory) ⊎ IsFirstRunFault graph.now initiator choices.now [] fault)) }

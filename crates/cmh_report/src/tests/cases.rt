@@ -1,5 +1,28 @@
 //! Dumps and reports that an independent program made: another language, another graph library.
 
+/// Twenty processes, of which six are active.
+pub const TWENTY_WITH_SIX_ACTIVE: &str =
+    r#"{"version":1,"sites":["9","i","kj","f"],"processes":[{"state":"idle","name":"dgis","site":"f","dependents":["dgis","0K","JgwhGvmRiKfU80L/KwtX0k.Jnn8O4aFtgDQ/CbKvCDKdVqg8jT2bCmwXWTKOutLA","h"]},
+{"site":"i","state":"active","name":"0K"},
+{"state":"active","site":"f","name":"h"},
+{"dependents":["K","JgwhGvmRiKfU80L/KwtX0k.Jnn8O4aFtgDQ/CbKvCDKdVqg8jT2bCmwXWTKOutLA","59_vkrh8T"],"state":"idle","site":"9","name":"JgwhGvmRiKfU80L/KwtX0k.Jnn8O4aFtgDQ/CbKvCDKdVqg8jT2bCmwXWTKOutLA"},
+{"dependents":["s","K","Lf","59_vkrh8T"],"site":"9","state":"idle","name":"K"},
+{"state":"active","site":"i","name":"59_vkrh8T"},
+{"dependents":["Vm62","7Vk/dIMIxuHP/yca2Vubs1CFQevUr3kKvwlBlz3WG4FqOc1Ia5iYsMdZI6126.WY"],"site":"i","name":"s","state":"idle"},
+{"site":"9","name":"Lf","state":"idle","dependents":["BBcS","Vm62","Lf"]},
+{"site":"kj","state":"idle","dependents":["fdQT02duYXBT44uuf5NDJOpLLvR-jHDGt.Gobi4R4szFzIGK4_HFou2RR3awEDEh","BBcS","Vm62"],"name":"Vm62"},
+{"site":"f","name":"7Vk/dIMIxuHP/yca2Vubs1CFQevUr3kKvwlBlz3WG4FqOc1Ia5iYsMdZI6126.WY","state":"active"},
+{"name":"BBcS","dependents":[],"state":"idle","site":"9"},
+{"name":"fdQT02duYXBT44uuf5NDJOpLLvR-jHDGt.Gobi4R4szFzIGK4_HFou2RR3awEDEh","state":"idle","site":"f","dependents":[]},
+{"state":"active","site":"kj","name":"Pslx6jrkBSvf_gbpRqiD8CbkEej5zfZJtVMr.y0auQsu_Bc-adb/4VI5GpSaacrW"},
+{"name":"9v_c","dependents":["9v_c"],"site":"i","state":"idle"},
+{"site":"f","dependents":[],"state":"active","name":"4v"},
+{"dependents":["vkb7","BI"],"name":"q4","site":"kj","state":"idle"},
+{"site":"kj","name":"vkb7","dependents":["BI","mf","vkb7"],"state":"idle"},
+{"site":"9","name":"BI","state":"idle","dependents":[]},
+{"dependents":["wlAphrrVz1VyytW1L-Tfi0afrK8H8oxfxXcW4EROXtS/16SdifYpGEJj-bpk7.vi","0K","mf","dgis"],"state":"idle","site":"f","name":"wlAphrrVz1VyytW1L-Tfi0afrK8H8oxfxXcW4EROXtS/16SdifYpGEJj-bpk7.vi"},
+{"dependents":["0K","mf","dgis","h"],"state":"idle","site":"kj","name":"mf"}]}"#;
+
 /// A dump, its report, and how many processes are deadlocked.
 pub const CASES: [(&str, &str, u32); 10] = [
     (
@@ -127,26 +150,7 @@ group 2 | 7HSFbYAbPgaxG_j52O0JrGVHOQ1iWrp4z/m.pgTUOFlNOQhsk2JCQIqZ_A3fkI6k | - |
         2,
     ),
     (
-        r#"{"version":1,"sites":["9","i","kj","f"],"processes":[{"state":"idle","name":"dgis","site":"f","dependents":["dgis","0K","JgwhGvmRiKfU80L/KwtX0k.Jnn8O4aFtgDQ/CbKvCDKdVqg8jT2bCmwXWTKOutLA","h"]},
-{"site":"i","state":"active","name":"0K"},
-{"state":"active","site":"f","name":"h"},
-{"dependents":["K","JgwhGvmRiKfU80L/KwtX0k.Jnn8O4aFtgDQ/CbKvCDKdVqg8jT2bCmwXWTKOutLA","59_vkrh8T"],"state":"idle","site":"9","name":"JgwhGvmRiKfU80L/KwtX0k.Jnn8O4aFtgDQ/CbKvCDKdVqg8jT2bCmwXWTKOutLA"},
-{"dependents":["s","K","Lf","59_vkrh8T"],"site":"9","state":"idle","name":"K"},
-{"state":"active","site":"i","name":"59_vkrh8T"},
-{"dependents":["Vm62","7Vk/dIMIxuHP/yca2Vubs1CFQevUr3kKvwlBlz3WG4FqOc1Ia5iYsMdZI6126.WY"],"site":"i","name":"s","state":"idle"},
-{"site":"9","name":"Lf","state":"idle","dependents":["BBcS","Vm62","Lf"]},
-{"site":"kj","state":"idle","dependents":["fdQT02duYXBT44uuf5NDJOpLLvR-jHDGt.Gobi4R4szFzIGK4_HFou2RR3awEDEh","BBcS","Vm62"],"name":"Vm62"},
-{"site":"f","name":"7Vk/dIMIxuHP/yca2Vubs1CFQevUr3kKvwlBlz3WG4FqOc1Ia5iYsMdZI6126.WY","state":"active"},
-{"name":"BBcS","dependents":[],"state":"idle","site":"9"},
-{"name":"fdQT02duYXBT44uuf5NDJOpLLvR-jHDGt.Gobi4R4szFzIGK4_HFou2RR3awEDEh","state":"idle","site":"f","dependents":[]},
-{"state":"active","site":"kj","name":"Pslx6jrkBSvf_gbpRqiD8CbkEej5zfZJtVMr.y0auQsu_Bc-adb/4VI5GpSaacrW"},
-{"name":"9v_c","dependents":["9v_c"],"site":"i","state":"idle"},
-{"site":"f","dependents":[],"state":"active","name":"4v"},
-{"dependents":["vkb7","BI"],"name":"q4","site":"kj","state":"idle"},
-{"site":"kj","name":"vkb7","dependents":["BI","mf","vkb7"],"state":"idle"},
-{"site":"9","name":"BI","state":"idle","dependents":[]},
-{"dependents":["wlAphrrVz1VyytW1L-Tfi0afrK8H8oxfxXcW4EROXtS/16SdifYpGEJj-bpk7.vi","0K","mf","dgis"],"state":"idle","site":"f","name":"wlAphrrVz1VyytW1L-Tfi0afrK8H8oxfxXcW4EROXtS/16SdifYpGEJj-bpk7.vi"},
-{"dependents":["0K","mf","dgis","h"],"state":"idle","site":"kj","name":"mf"}]}"#,
+        TWENTY_WITH_SIX_ACTIVE,
         "processes 20 active 6 idle 14 deadlocked 6
 free dgis path dgis 0K
 free JgwhGvmRiKfU80L/KwtX0k.Jnn8O4aFtgDQ/CbKvCDKdVqg8jT2bCmwXWTKOutLA path JgwhGvmRiKfU80L/KwtX0k.Jnn8O4aFtgDQ/CbKvCDKdVqg8jT2bCmwXWTKOutLA 59_vkrh8T

@@ -1,9 +1,8 @@
 //! More dumps and reports of the same program.
 
-/// A dump, its report, and how many processes are deadlocked.
-pub const MORE_CASES: [(&str, &str, u32); 10] = [
-    (
-        r#"{"version":1,"sites":["OehXcv3--","oMZH"],"processes":[{"dependents":[],"site":"oMZH","state":"idle","name":"8KRrY/V3CJC-BZHhm5S6xxMYHxq2B5kRP0r6UV1cZB3urJ1mKpWx_KA7EvZtxr9P"},
+/// Twenty processes, each of which waits for nobody.
+pub const TWENTY_ALONE: &str =
+    r#"{"version":1,"sites":["OehXcv3--","oMZH"],"processes":[{"dependents":[],"site":"oMZH","state":"idle","name":"8KRrY/V3CJC-BZHhm5S6xxMYHxq2B5kRP0r6UV1cZB3urJ1mKpWx_KA7EvZtxr9P"},
 {"state":"idle","name":"f","site":"oMZH","dependents":[]},
 {"name":"QJjCKlpXF","site":"OehXcv3--","state":"idle","dependents":[]},
 {"site":"oMZH","name":"nBSv0hD9Oi22Jc8FQF6cA1EZeX/rddMgg1mhzLaPI89Aay/6Sa7XXhV6L9uf9D8D","state":"idle","dependents":[]},
@@ -22,7 +21,35 @@ pub const MORE_CASES: [(&str, &str, u32); 10] = [
 {"site":"OehXcv3--","dependents":[],"state":"idle","name":"W"},
 {"state":"idle","site":"oMZH","dependents":[],"name":"ZYL"},
 {"state":"idle","site":"oMZH","name":"MG","dependents":[]},
-{"state":"idle","dependents":[],"name":"d","site":"oMZH"}]}"#,
+{"state":"idle","dependents":[],"name":"d","site":"oMZH"}]}"#;
+
+/// Twenty processes, of which four are active.
+pub const TWENTY_WITH_FOUR_ACTIVE: &str =
+    r#"{"processes":[{"state":"idle","dependents":["c","MV","khGm","z"],"site":"XO","name":"c"},
+{"site":"XO","state":"idle","name":"z","dependents":["AGH1pC9ITq22idFapQlrca3KWkde05Z4EnCs5Bfbq7EX8y7tVxaK6V_K5rdkhZ.N","UawH","H","POA"]},
+{"state":"active","name":"5q","site":"XO"},
+{"dependents":["sI","POA"],"name":"Cqung3ckUHG.c2XwQJ:4mFA1XvDRfaT675bOYZxJwDqsPSTvNeQS4trfaCbvoyzI","state":"idle","site":"0M5ZJfDHU"},
+{"dependents":["POA"],"site":"XO","state":"idle","name":"H"},
+{"name":"qj03n2oqg","state":"active","site":"0M5ZJfDHU"},
+{"dependents":[],"site":"0M5ZJfDHU","name":"lR","state":"idle"},
+{"site":"XO","state":"idle","dependents":["WAy","xeWt-EX9Q"],"name":"co"},
+{"dependents":["8","J0H1D6clfEhrNCO/83eA_j.Cf.0w_3cJpXI7tA8MhLOml8wLQ7:XbkhCIzo/RsVj"],"state":"idle","name":"m","site":"0M5ZJfDHU"},
+{"name":"POA","site":"0M5ZJfDHU","dependents":["khGm","8","MV","J0H1D6clfEhrNCO/83eA_j.Cf.0w_3cJpXI7tA8MhLOml8wLQ7:XbkhCIzo/RsVj"],"state":"idle"},
+{"dependents":["WAy","o:","J0H1D6clfEhrNCO/83eA_j.Cf.0w_3cJpXI7tA8MhLOml8wLQ7:XbkhCIzo/RsVj"],"site":"0M5ZJfDHU","name":"8","state":"idle"},
+{"site":"0M5ZJfDHU","dependents":["J0H1D6clfEhrNCO/83eA_j.Cf.0w_3cJpXI7tA8MhLOml8wLQ7:XbkhCIzo/RsVj","MV","UawH"],"name":"o:","state":"idle"},
+{"site":"0M5ZJfDHU","name":"J0H1D6clfEhrNCO/83eA_j.Cf.0w_3cJpXI7tA8MhLOml8wLQ7:XbkhCIzo/RsVj","dependents":["xeWt-EX9Q","sI","WAy"],"state":"idle"},
+{"dependents":["xeWt-EX9Q"],"name":"AGH1pC9ITq22idFapQlrca3KWkde05Z4EnCs5Bfbq7EX8y7tVxaK6V_K5rdkhZ.N","state":"idle","site":"XO"},
+{"state":"active","name":"MV","site":"0M5ZJfDHU"},
+{"dependents":[],"site":"XO","state":"active","name":"xeWt-EX9Q"},
+{"dependents":["UawH"],"state":"idle","name":"sI","site":"0M5ZJfDHU"},
+{"site":"0M5ZJfDHU","state":"idle","dependents":["khGm","UawH"],"name":"WAy"},
+{"state":"idle","site":"0M5ZJfDHU","dependents":["khGm","UawH"],"name":"UawH"},
+{"site":"XO","name":"khGm","state":"idle","dependents":[]}],"version":1,"sites":["XO","0M5ZJfDHU"]}"#;
+
+/// A dump, its report, and how many processes are deadlocked.
+pub const MORE_CASES: [(&str, &str, u32); 10] = [
+    (
+        TWENTY_ALONE,
         "processes 20 active 0 idle 20 deadlocked 20
 deadlocked 8KRrY/V3CJC-BZHhm5S6xxMYHxq2B5kRP0r6UV1cZB3urJ1mKpWx_KA7EvZtxr9P group 1
 deadlocked f group 2
@@ -178,26 +205,7 @@ group 1 | x | - | sites 1
         1,
     ),
     (
-        r#"{"processes":[{"state":"idle","dependents":["c","MV","khGm","z"],"site":"XO","name":"c"},
-{"site":"XO","state":"idle","name":"z","dependents":["AGH1pC9ITq22idFapQlrca3KWkde05Z4EnCs5Bfbq7EX8y7tVxaK6V_K5rdkhZ.N","UawH","H","POA"]},
-{"state":"active","name":"5q","site":"XO"},
-{"dependents":["sI","POA"],"name":"Cqung3ckUHG.c2XwQJ:4mFA1XvDRfaT675bOYZxJwDqsPSTvNeQS4trfaCbvoyzI","state":"idle","site":"0M5ZJfDHU"},
-{"dependents":["POA"],"site":"XO","state":"idle","name":"H"},
-{"name":"qj03n2oqg","state":"active","site":"0M5ZJfDHU"},
-{"dependents":[],"site":"0M5ZJfDHU","name":"lR","state":"idle"},
-{"site":"XO","state":"idle","dependents":["WAy","xeWt-EX9Q"],"name":"co"},
-{"dependents":["8","J0H1D6clfEhrNCO/83eA_j.Cf.0w_3cJpXI7tA8MhLOml8wLQ7:XbkhCIzo/RsVj"],"state":"idle","name":"m","site":"0M5ZJfDHU"},
-{"name":"POA","site":"0M5ZJfDHU","dependents":["khGm","8","MV","J0H1D6clfEhrNCO/83eA_j.Cf.0w_3cJpXI7tA8MhLOml8wLQ7:XbkhCIzo/RsVj"],"state":"idle"},
-{"dependents":["WAy","o:","J0H1D6clfEhrNCO/83eA_j.Cf.0w_3cJpXI7tA8MhLOml8wLQ7:XbkhCIzo/RsVj"],"site":"0M5ZJfDHU","name":"8","state":"idle"},
-{"site":"0M5ZJfDHU","dependents":["J0H1D6clfEhrNCO/83eA_j.Cf.0w_3cJpXI7tA8MhLOml8wLQ7:XbkhCIzo/RsVj","MV","UawH"],"name":"o:","state":"idle"},
-{"site":"0M5ZJfDHU","name":"J0H1D6clfEhrNCO/83eA_j.Cf.0w_3cJpXI7tA8MhLOml8wLQ7:XbkhCIzo/RsVj","dependents":["xeWt-EX9Q","sI","WAy"],"state":"idle"},
-{"dependents":["xeWt-EX9Q"],"name":"AGH1pC9ITq22idFapQlrca3KWkde05Z4EnCs5Bfbq7EX8y7tVxaK6V_K5rdkhZ.N","state":"idle","site":"XO"},
-{"state":"active","name":"MV","site":"0M5ZJfDHU"},
-{"dependents":[],"site":"XO","state":"active","name":"xeWt-EX9Q"},
-{"dependents":["UawH"],"state":"idle","name":"sI","site":"0M5ZJfDHU"},
-{"site":"0M5ZJfDHU","state":"idle","dependents":["khGm","UawH"],"name":"WAy"},
-{"state":"idle","site":"0M5ZJfDHU","dependents":["khGm","UawH"],"name":"UawH"},
-{"site":"XO","name":"khGm","state":"idle","dependents":[]}],"version":1,"sites":["XO","0M5ZJfDHU"]}"#,
+        TWENTY_WITH_FOUR_ACTIVE,
         "processes 20 active 4 idle 16 deadlocked 5
 free c path c MV
 free z path z POA MV

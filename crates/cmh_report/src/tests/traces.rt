@@ -1,31 +1,13 @@
 //! Dumps and traces that an independent program made: another language, another graph library.
 
+use super::cases::TWENTY_WITH_SIX_ACTIVE;
+use super::more_cases::{TWENTY_ALONE, TWENTY_WITH_FOUR_ACTIVE};
 use cmh_run::Ending;
 
 /// A dump, the process that asks, the choices, the trace, and how its run ends.
 pub const TRACES: [(&str, &str, &[u64], &str, Ending); 20] = [
     (
-        r#"{"version":1,"sites":["OehXcv3--","oMZH"],"processes":[
-{"dependents":[],"site":"oMZH","state":"idle","name":"8KRrY/V3CJC-BZHhm5S6xxMYHxq2B5kRP0r6UV1cZB3urJ1mKpWx_KA7EvZtxr9P"},
-{"state":"idle","name":"f","site":"oMZH","dependents":[]},
-{"name":"QJjCKlpXF","site":"OehXcv3--","state":"idle","dependents":[]},
-{"site":"oMZH","name":"nBSv0hD9Oi22Jc8FQF6cA1EZeX/rddMgg1mhzLaPI89Aay/6Sa7XXhV6L9uf9D8D","state":"idle","dependents":[]},
-{"state":"idle","dependents":[],"name":"9a_RAnfBm","site":"oMZH"},
-{"state":"idle","name":"sO5K","dependents":[],"site":"oMZH"},
-{"site":"OehXcv3--","name":"tZP.","dependents":[],"state":"idle"},
-{"dependents":[],"site":"OehXcv3--","name":"roVpbR2CDjlt:1BC5:Gco7fcopoFShyAO9H5sLwzcZjS6d.Db1qr/:WMYJc-fwFp","state":"idle"},
-{"name":"DOJ/xA_6EgQaISMKsvrBsD37G.L4/Jay.TZwkJrj-L_21Dikr4w7T2iuSzSuY.9U","state":"idle","site":"oMZH","dependents":[]},
-{"state":"idle","site":"oMZH","dependents":[],"name":"eNICGDmbn"},
-{"state":"idle","name":"D","site":"oMZH","dependents":[]},
-{"dependents":[],"name":"anTle7Rt__dF85e4oo8VYFlMfaKQzYUit8pxbkcM5ye/DswqoiAvYxGJ9Bgi4ycO","site":"OehXcv3--","state":"idle"},
-{"site":"oMZH","state":"idle","name":"J:","dependents":[]},
-{"site":"oMZH","dependents":[],"state":"idle","name":"53"},
-{"state":"idle","name":"4I","dependents":[],"site":"OehXcv3--"},
-{"site":"oMZH","dependents":[],"state":"idle","name":"Di"},
-{"site":"OehXcv3--","dependents":[],"state":"idle","name":"W"},
-{"state":"idle","site":"oMZH","dependents":[],"name":"ZYL"},
-{"state":"idle","site":"oMZH","name":"MG","dependents":[]},
-{"state":"idle","dependents":[],"name":"d","site":"oMZH"}]}"#,
+        TWENTY_ALONE,
         "Di",
         &[
             11020055925346745958,
@@ -233,27 +215,7 @@ declared C
         Ending::Declared,
     ),
     (
-        r#"{"version":1,"sites":["9","i","kj","f"],"processes":[
-{"state":"idle","name":"dgis","site":"f","dependents":["dgis","0K","JgwhGvmRiKfU80L/KwtX0k.Jnn8O4aFtgDQ/CbKvCDKdVqg8jT2bCmwXWTKOutLA","h"]},
-{"site":"i","state":"active","name":"0K"},
-{"state":"active","site":"f","name":"h"},
-{"dependents":["K","JgwhGvmRiKfU80L/KwtX0k.Jnn8O4aFtgDQ/CbKvCDKdVqg8jT2bCmwXWTKOutLA","59_vkrh8T"],"state":"idle","site":"9","name":"JgwhGvmRiKfU80L/KwtX0k.Jnn8O4aFtgDQ/CbKvCDKdVqg8jT2bCmwXWTKOutLA"},
-{"dependents":["s","K","Lf","59_vkrh8T"],"site":"9","state":"idle","name":"K"},
-{"state":"active","site":"i","name":"59_vkrh8T"},
-{"dependents":["Vm62","7Vk/dIMIxuHP/yca2Vubs1CFQevUr3kKvwlBlz3WG4FqOc1Ia5iYsMdZI6126.WY"],"site":"i","name":"s","state":"idle"},
-{"site":"9","name":"Lf","state":"idle","dependents":["BBcS","Vm62","Lf"]},
-{"site":"kj","state":"idle","dependents":["fdQT02duYXBT44uuf5NDJOpLLvR-jHDGt.Gobi4R4szFzIGK4_HFou2RR3awEDEh","BBcS","Vm62"],"name":"Vm62"},
-{"site":"f","name":"7Vk/dIMIxuHP/yca2Vubs1CFQevUr3kKvwlBlz3WG4FqOc1Ia5iYsMdZI6126.WY","state":"active"},
-{"name":"BBcS","dependents":[],"state":"idle","site":"9"},
-{"name":"fdQT02duYXBT44uuf5NDJOpLLvR-jHDGt.Gobi4R4szFzIGK4_HFou2RR3awEDEh","state":"idle","site":"f","dependents":[]},
-{"state":"active","site":"kj","name":"Pslx6jrkBSvf_gbpRqiD8CbkEej5zfZJtVMr.y0auQsu_Bc-adb/4VI5GpSaacrW"},
-{"name":"9v_c","dependents":["9v_c"],"site":"i","state":"idle"},
-{"site":"f","dependents":[],"state":"active","name":"4v"},
-{"dependents":["vkb7","BI"],"name":"q4","site":"kj","state":"idle"},
-{"site":"kj","name":"vkb7","dependents":["BI","mf","vkb7"],"state":"idle"},
-{"site":"9","name":"BI","state":"idle","dependents":[]},
-{"dependents":["wlAphrrVz1VyytW1L-Tfi0afrK8H8oxfxXcW4EROXtS/16SdifYpGEJj-bpk7.vi","0K","mf","dgis"],"state":"idle","site":"f","name":"wlAphrrVz1VyytW1L-Tfi0afrK8H8oxfxXcW4EROXtS/16SdifYpGEJj-bpk7.vi"},
-{"dependents":["0K","mf","dgis","h"],"state":"idle","site":"kj","name":"mf"}]}"#,
+        TWENTY_WITH_SIX_ACTIVE,
         "s",
         &[1, 0, 2],
         "query s 7Vk/dIMIxuHP/yca2Vubs1CFQevUr3kKvwlBlz3WG4FqOc1Ia5iYsMdZI6126.WY
@@ -540,27 +502,7 @@ declared OSRNQVh1_L8H6C.1LR4j1mWPV0t48etNu16xNI38tLR2o9kldGVIaz6lkAs_W:.x
         Ending::Declared,
     ),
     (
-        r#"{"processes":[
-{"state":"idle","dependents":["c","MV","khGm","z"],"site":"XO","name":"c"},
-{"site":"XO","state":"idle","name":"z","dependents":["AGH1pC9ITq22idFapQlrca3KWkde05Z4EnCs5Bfbq7EX8y7tVxaK6V_K5rdkhZ.N","UawH","H","POA"]},
-{"state":"active","name":"5q","site":"XO"},
-{"dependents":["sI","POA"],"name":"Cqung3ckUHG.c2XwQJ:4mFA1XvDRfaT675bOYZxJwDqsPSTvNeQS4trfaCbvoyzI","state":"idle","site":"0M5ZJfDHU"},
-{"dependents":["POA"],"site":"XO","state":"idle","name":"H"},
-{"name":"qj03n2oqg","state":"active","site":"0M5ZJfDHU"},
-{"dependents":[],"site":"0M5ZJfDHU","name":"lR","state":"idle"},
-{"site":"XO","state":"idle","dependents":["WAy","xeWt-EX9Q"],"name":"co"},
-{"dependents":["8","J0H1D6clfEhrNCO/83eA_j.Cf.0w_3cJpXI7tA8MhLOml8wLQ7:XbkhCIzo/RsVj"],"state":"idle","name":"m","site":"0M5ZJfDHU"},
-{"name":"POA","site":"0M5ZJfDHU","dependents":["khGm","8","MV","J0H1D6clfEhrNCO/83eA_j.Cf.0w_3cJpXI7tA8MhLOml8wLQ7:XbkhCIzo/RsVj"],"state":"idle"},
-{"dependents":["WAy","o:","J0H1D6clfEhrNCO/83eA_j.Cf.0w_3cJpXI7tA8MhLOml8wLQ7:XbkhCIzo/RsVj"],"site":"0M5ZJfDHU","name":"8","state":"idle"},
-{"site":"0M5ZJfDHU","dependents":["J0H1D6clfEhrNCO/83eA_j.Cf.0w_3cJpXI7tA8MhLOml8wLQ7:XbkhCIzo/RsVj","MV","UawH"],"name":"o:","state":"idle"},
-{"site":"0M5ZJfDHU","name":"J0H1D6clfEhrNCO/83eA_j.Cf.0w_3cJpXI7tA8MhLOml8wLQ7:XbkhCIzo/RsVj","dependents":["xeWt-EX9Q","sI","WAy"],"state":"idle"},
-{"dependents":["xeWt-EX9Q"],"name":"AGH1pC9ITq22idFapQlrca3KWkde05Z4EnCs5Bfbq7EX8y7tVxaK6V_K5rdkhZ.N","state":"idle","site":"XO"},
-{"state":"active","name":"MV","site":"0M5ZJfDHU"},
-{"dependents":[],"site":"XO","state":"active","name":"xeWt-EX9Q"},
-{"dependents":["UawH"],"state":"idle","name":"sI","site":"0M5ZJfDHU"},
-{"site":"0M5ZJfDHU","state":"idle","dependents":["khGm","UawH"],"name":"WAy"},
-{"state":"idle","site":"0M5ZJfDHU","dependents":["khGm","UawH"],"name":"UawH"},
-{"site":"XO","name":"khGm","state":"idle","dependents":[]}],"version":1,"sites":["XO","0M5ZJfDHU"]}"#,
+        TWENTY_WITH_FOUR_ACTIVE,
         "Cqung3ckUHG.c2XwQJ:4mFA1XvDRfaT675bOYZxJwDqsPSTvNeQS4trfaCbvoyzI",
         &[
             18446744073709551615,
