@@ -213,8 +213,19 @@ mislisted name list s e (inr h) unread unwritten =
 -- however its run has ended, a trace fits
 any_ending : (name list choices : List ℕ) (ending : Ending) (g : Graph) (text : List ℕ) → IsListOf list choices
     → IsEndedTrace name choices ending g text → FitsTrace name list g text
-any_ending name list choices ending g text listed h =
-    (choices, listed, record { run = h.run; named = h.named; plain = h.plain; ends = tt; lines = h.lines })
+any_ending name list choices ending g text listed h = (
+  choices,
+  listed,
+  record {
+    run = h.run;
+    named = h.named;
+    idle = h.idle;
+    legal = h.legal;
+    unhinted = h.unhinted;
+    ends = tt;
+    lines = h.lines;
+  },
+)
 
 -- where the trace is out, the outcome has the status `FREE`
 pub traced : (name list : Bor (List ℕ)) (choices : List ℕ) (ending : Ending) (e : Ends) → IsListOf list.now choices
@@ -329,7 +340,7 @@ pub shown : (text : String Global) (s : ℕ) (e : Ends) → (s ≡ FREE) ⊎ (s 
     → (e.out_new.has_failed ≡ true)
     × ((written : ℕ) × (e.out_new.taken ≡ e.out_old.taken ++ take written (string_bytes text))))
     → IsOutcome (Show text) s e
-shown text s e (inl is) unread taken finished front = record {
+shown text s e (inl is) unread taken finished prefix = record {
   free = λ x. (unread, taken x, finished x);
   refused = λ x. absurd (omega arith);
   misused = λ x. absurd (omega arith);
@@ -337,12 +348,12 @@ shown text s e (inl is) unread taken finished front = record {
   failed = λ x. absurd (omega arith);
   known = omega arith;
 }
-shown text s e (inr is) unread taken finished front = record {
+shown text s e (inr is) unread taken finished prefix = record {
   free = λ x. absurd (omega arith);
   refused = λ x. absurd (omega arith);
   misused = λ x. absurd (omega arith);
   deadlocked = λ x. absurd (omega arith);
-  failed = λ x. (unread, (front x).0, (front x).1);
+  failed = λ x. (unread, (prefix x).0, (prefix x).1);
   known = omega arith;
 }
 

@@ -82,7 +82,7 @@ fn show<O: Sink, E: Sink>(text: &str, out: &mut O, err: &mut E) -> u8
     ensures shown { (result ≡ FREE) ⊎ (result ≡ FAILED) }
     ensures text { result ≡ FREE → (O.state out.new).taken ≡ (O.state out.old).taken ++ text.now }
     ensures handed_on { result ≡ FREE → (O.state out.new).is_finished ≡ true }
-    ensures front { result ≡ FAILED → ((O.state out.new).has_failed ≡ true) × ((written : ℕ)
+    ensures prefix { result ≡ FAILED → ((O.state out.new).has_failed ≡ true) × ((written : ℕ)
         × ((O.state out.new).taken ≡ (O.state out.old).taken ++ take written text.now)) }
     ensures quiet { result ≡ FREE → (E.state err.new).taken ≡ (E.state err.old).taken }
 {
