@@ -3,7 +3,7 @@ use Rattle.std.proofs.Common.{◌≡◌, ℕ, zero, suc, ◌+◌, ◌<◌, ◌�
 use Rattle.std.specs.Prelude.{All, Contains, AllPairs, filter, count_by, ◌↔◌}
 use Rattle.std.specs.List.{range_with_len}
 use Rattle.std.specs.List.Sorted.{IsStrictlyIncreasing}
-use Rattle.std.proofs.lemmas.Bool.{leb-true, le-leb, false_from_ne_true}
+use Rattle.std.proofs.lemmas.Bool.{leb-true, le-leb, false_from_ne_true, and_parts}
 use Rattle.std.proofs.lemmas.List.{get_or_default}
 use Rattle.std.proofs.lemmas.List.Elements.{filter_agree, Contains-get_or}
 use Rattle.std.proofs.lemmas.List.FromFn.{length-range_with_len, get_or-range_with_len}
@@ -18,7 +18,7 @@ use Rattle.cmh_graph.specs.Verdict.{IsDeadlocked, is_deadlocked}
 use Rattle.cmh_graph.proofs.Cores.{core_law}
 use Rattle.cmh_graph.proofs.IndexLists.{filter_agree_on}
 use Rattle.cmh_graph.proofs.PathLemmas.{cons_contains, contains_cons, contains_index, index_within, reaches_then, then_reaches}
-use Rattle.cmh_graph.proofs.Verdicts.{and_true, asleep_is_idle, contains_filter, filter_contains, idle_within, reached_within, reaches_more, deadlocked_from_test, test_from_deadlocked}
+use Rattle.cmh_graph.proofs.Verdicts.{asleep_is_idle, contains_filter, filter_contains, idle_within, reached_within, reaches_more, deadlocked_from_test, test_from_deadlocked}
 
 -- ---- rests
 
@@ -185,13 +185,12 @@ leader_law = λ g p l w i. (
 pub reached_deadlocked : (g : Graph) (p q : ℕ) → IsDeadlocked g p → Reaches g p q → IsDeadlocked g q
 reached_deadlocked g p q dead a = (asleep_is_idle g q (dead.1 q a), λ r b. dead.1 r (reaches_on g p q r a b))
 
--- a leader leads itself
-leads_itself : Graph → ℕ → Bool
+-- whether a process is deadlocked and leads itself
+abbrev pub leads_itself : Graph → ℕ → Bool
 leads_itself g p = is_deadlocked g p && eqb (leader_of g p) p
 
 -- the leader of a deadlocked process is listed
 leader_listed : (g : Graph) → IsWithinGraph g → (p : ℕ) → IsDeadlocked g p → Contains (leaders g) (leader_of g p)
-unfolding leads_itself
 leader_listed g w p dead =
     let i = idle_within g p dead.0 in
     let member = leader_in_core g p w i in
@@ -203,15 +202,13 @@ leader_listed g w p dead =
 
 -- who is listed is deadlocked, and leads itself
 listed_leads : (g : Graph) → IsWithinGraph g → (l : ℕ) → Contains (leaders g) l → IsDeadlocked g l × (leader_of g l ≡ l)
-unfolding leads_itself
 listed_leads g w l c =
     let kept = filter_contains (leads_itself g) (indices g) l c in
-    let both = and_true (is_deadlocked g l) (eqb (leader_of g l) l) kept.1 in
+    let both = and_parts (is_deadlocked g l) (eqb (leader_of g l) l) kept.1 in
     (deadlocked_from_test g l w both.0, eqb-true (leader_of g l) l both.1)
 
 -- the list of leaders rises
 pub leaders_rise : (g : Graph) → IsStrictlyIncreasing (leaders g)
-unfolding leads_itself
 leaders_rise g = IsStrictlyIncreasing-filter (leads_itself g) (indices g) (indices_rise (process_count g))
 
 -- who is in the list of leaders leads a deadlocked process, and who leads one is in the list

@@ -1,9 +1,9 @@
 -- The verdict by its test, by paths and by deadlocked sets.
-use Rattle.std.proofs.Common.{◌≡◌, ℕ, zero, suc, ◌<◌, Bool, true, false, not, cond, ◌&&◌, ◌||◌, ◌⊎◌, inl, inr, List, [], ◌∷◌, length, get_or, refl, sym, ◌∙◌, ap, subst, arith}
+use Rattle.std.proofs.Common.{◌≡◌, ℕ, zero, suc, ◌<◌, Bool, true, false, not, cond, ◌||◌, ◌⊎◌, inl, inr, List, [], ◌∷◌, length, get_or, refl, sym, ◌∙◌, ap, subst, arith}
 use Rattle.std.specs.Prelude.{Contains, filter, ◌↔◌, IsTrue}
 use Rattle.std.specs.List.{list_all}
 use Rattle.std.proofs.lemmas.List.FromFn.{get_or-map-range_with_len}
-use Rattle.std.proofs.lemmas.Bool.{not-true, not_from_false}
+use Rattle.std.proofs.lemmas.Bool.{not-true, not_from_false, and_parts}
 use Rattle.cmh_graph.specs.Graph.{IsWithinGraph, Graph, Process, process_count, is_idle, is_awake, is_woken, is_idle_state, nobody, Depends, indices}
 use Rattle.cmh_graph.specs.Path.{Leads, Reaches, reaches, reach_of}
 use Rattle.cmh_graph.specs.declared.verdict.Verdict.{Verdict}
@@ -131,23 +131,23 @@ all_pass : (t u : ℕ → Bool) (xs : List ℕ) → ((x : ℕ) → u x ≡ true 
 all_pass t u [] h = refl
 all_pass t u (x ∷ xs) h = all_pass_by t u x xs (u x) refl (h x) (all_pass t u xs h)
 
--- both hold where an "and" does
-pub and_true : (a b : Bool) → (a && b) ≡ true → (a ≡ true) × (b ≡ true)
-and_true true b e = (refl, e)
-and_true false b e = absurd cc
+-- a fact that goes by a test, with what the test said
+pub by_test : (b : Bool) (M : Bool → Type 0) → (b ≡ true → M true) → (b ≡ false → M false) → M b
+by_test true M f g = f refl
+by_test false M f g = g refl
 
 -- each member passes where all do
 list_all_contains : (t : ℕ → Bool) (xs : List ℕ) (y : ℕ) → list_all t xs ≡ true → Contains xs y → t y ≡ true
 list_all_contains t [] y e c = absurd (omega (arith, c.1))
 list_all_contains t (x ∷ xs) y e c =
-    let both = and_true (t x) (list_all t xs) e in
+    let both = and_parts (t x) (list_all t xs) e in
     elim (cons_contains x xs y c) [ inl s ↦ ap t (sym s) ∙ both.0 | inr d ↦ list_all_contains t xs y both.1 d ]
 
 -- where the test of deadlock holds the process is deadlocked
 pub deadlocked_from_test : (g : Graph) (p : ℕ) → IsWithinGraph g → is_deadlocked g p ≡ true → IsDeadlocked g p
 unfolding is_deadlocked
 deadlocked_from_test g p w e =
-    let both = and_true (is_idle g p) (list_all (λ q. not (is_awake g q)) (reach_of g p)) e in
+    let both = and_parts (is_idle g p) (list_all (λ q. not (is_awake g q)) (reach_of g p)) e in
     let i = idle_within g p both.0 in (
       both.0,
       λ q r. not-true (is_awake g q)

@@ -25,7 +25,7 @@ two_in_a_cycle =
     idle (codes "p") 0 (1 ∷ []) ∷
     idle (codes "q") 0 (0 ∷ []) ∷ []
 
-pub two_in_a_cycle_report : report_text (record { processes = two_in_a_cycle; in_transit = [] })
+two_in_a_cycle_report : report_text (record { processes = two_in_a_cycle; in_transit = [] })
     ≡ codes "processes 2 active 0 idle 2 deadlocked 2" ++ lf
     ++ codes "deadlocked p group 1" ++ lf
     ++ codes "deadlocked q group 1" ++ lf
@@ -34,7 +34,7 @@ unfolding report_text totals_line deadlocked_line free_line group_line digits re
     distance_of
 two_in_a_cycle_report = refl
 
-pub two_in_a_cycle_length : length (report_text (record { processes = two_in_a_cycle; in_transit = [] })) ≡ 111
+two_in_a_cycle_length : length (report_text (record { processes = two_in_a_cycle; in_transit = [] })) ≡ 111
 unfolding report_text totals_line deadlocked_line free_line group_line digits reaches is_deadlocked chosen_path
     distance_of
 two_in_a_cycle_length = refl
@@ -44,7 +44,7 @@ abbrev pub empty : List Process
 empty =
     []
 
-pub empty_report : report_text (record { processes = empty; in_transit = [] })
+empty_report : report_text (record { processes = empty; in_transit = [] })
     ≡ codes "processes 0 active 0 idle 0 deadlocked 0" ++ lf
 unfolding report_text totals_line deadlocked_line free_line group_line digits reaches is_deadlocked chosen_path
     distance_of
@@ -55,7 +55,7 @@ abbrev pub waits_for_nobody : List Process
 waits_for_nobody =
     idle (codes "p") 0 [] ∷ []
 
-pub waits_for_nobody_report : report_text (record { processes = waits_for_nobody; in_transit = [] })
+waits_for_nobody_report : report_text (record { processes = waits_for_nobody; in_transit = [] })
     ≡ codes "processes 1 active 0 idle 1 deadlocked 1" ++ lf
     ++ codes "deadlocked p group 1" ++ lf
     ++ codes "group 1 | p | - | sites 1" ++ lf
@@ -68,7 +68,7 @@ abbrev pub waits_for_itself : List Process
 waits_for_itself =
     idle (codes "p") 0 (0 ∷ []) ∷ []
 
-pub waits_for_itself_report : report_text (record { processes = waits_for_itself; in_transit = [] })
+waits_for_itself_report : report_text (record { processes = waits_for_itself; in_transit = [] })
     ≡ codes "processes 1 active 0 idle 1 deadlocked 1" ++ lf
     ++ codes "deadlocked p group 1" ++ lf
     ++ codes "group 1 | p | - | sites 1" ++ lf
@@ -83,7 +83,7 @@ one_free_one_stuck =
     idle (codes "q") 0 (1 ∷ []) ∷
     active (codes "r") 0 ∷ []
 
-pub one_free_one_stuck_report : report_text (record { processes = one_free_one_stuck; in_transit = [] })
+one_free_one_stuck_report : report_text (record { processes = one_free_one_stuck; in_transit = [] })
     ≡ codes "processes 3 active 1 idle 2 deadlocked 1" ++ lf
     ++ codes "free p path p r" ++ lf
     ++ codes "deadlocked q group 1" ++ lf
@@ -99,7 +99,7 @@ cycle_and_follower =
     idle (codes "q") 0 (0 ∷ []) ∷
     idle (codes "r") 1 (0 ∷ []) ∷ []
 
-pub cycle_and_follower_report : report_text (record { processes = cycle_and_follower; in_transit = [] })
+cycle_and_follower_report : report_text (record { processes = cycle_and_follower; in_transit = [] })
     ≡ codes "processes 3 active 0 idle 3 deadlocked 3" ++ lf
     ++ codes "deadlocked p group 1" ++ lf
     ++ codes "deadlocked q group 1" ++ lf
@@ -118,7 +118,7 @@ two_shortest_paths =
     idle (codes "b") 0 (3 ∷ []) ∷
     active (codes "z") 0 ∷ []
 
-pub two_shortest_paths_report : report_text (record { processes = two_shortest_paths; in_transit = [] })
+two_shortest_paths_report : report_text (record { processes = two_shortest_paths; in_transit = [] })
     ≡ codes "processes 4 active 1 idle 3 deadlocked 0" ++ lf
     ++ codes "free p path p a z" ++ lf
     ++ codes "free a path a z" ++ lf
@@ -134,7 +134,7 @@ shortest_before_least =
     idle (codes "a") 0 (2 ∷ []) ∷
     active (codes "z") 0 ∷ []
 
-pub shortest_before_least_report : report_text (record { processes = shortest_before_least; in_transit = [] })
+shortest_before_least_report : report_text (record { processes = shortest_before_least; in_transit = [] })
     ≡ codes "processes 3 active 1 idle 2 deadlocked 0" ++ lf
     ++ codes "free p path p z" ++ lf
     ++ codes "free a path a z" ++ lf
@@ -149,7 +149,7 @@ knot_of_three =
     idle (codes "q") 0 (2 ∷ []) ∷
     idle (codes "r") 0 (1 ∷ []) ∷ []
 
-pub knot_of_three_report : report_text (record { processes = knot_of_three; in_transit = [] })
+knot_of_three_report : report_text (record { processes = knot_of_three; in_transit = [] })
     ≡ codes "processes 3 active 0 idle 3 deadlocked 3" ++ lf
     ++ codes "deadlocked p group 1" ++ lf
     ++ codes "deadlocked q group 2" ++ lf
@@ -161,7 +161,7 @@ unfolding report_text totals_line deadlocked_line free_line group_line digits re
 knot_of_three_report = refl
 
 -- p and q wait for each other, and a message from q to p is in transit, so that both are free
-pub woken_in_a_cycle_report : report_text (record { processes = two_in_a_cycle; in_transit = (1, 0) ∷ [] })
+woken_in_a_cycle_report : report_text (record { processes = two_in_a_cycle; in_transit = (1, 0) ∷ [] })
     ≡ codes "processes 2 active 0 idle 2 deadlocked 0" ++ lf
     ++ codes "free p path p" ++ lf
     ++ codes "free q path q p" ++ lf
@@ -170,7 +170,7 @@ unfolding report_text totals_line deadlocked_line free_line group_line digits re
 woken_in_a_cycle_report = refl
 
 -- p waits for itself, and a message from p to itself is in transit, so that p is free
-pub woken_by_itself_report : report_text (record { processes = waits_for_itself; in_transit = (0, 0) ∷ [] })
+woken_by_itself_report : report_text (record { processes = waits_for_itself; in_transit = (0, 0) ∷ [] })
     ≡ codes "processes 1 active 0 idle 1 deadlocked 0" ++ lf
     ++ codes "free p path p" ++ lf
 unfolding report_text totals_line deadlocked_line free_line group_line digits reaches is_deadlocked chosen_path
@@ -178,7 +178,7 @@ unfolding report_text totals_line deadlocked_line free_line group_line digits re
 woken_by_itself_report = refl
 
 -- a message from q to r is in transit, for which r doesn't wait, so that all three are deadlocked
-pub told_by_no_dependent_report : report_text (record { processes = cycle_and_follower; in_transit = (1, 2) ∷ [] })
+told_by_no_dependent_report : report_text (record { processes = cycle_and_follower; in_transit = (1, 2) ∷ [] })
     ≡ codes "processes 3 active 0 idle 3 deadlocked 3" ++ lf
     ++ codes "deadlocked p group 1" ++ lf
     ++ codes "deadlocked q group 1" ++ lf
@@ -190,7 +190,7 @@ unfolding report_text totals_line deadlocked_line free_line group_line digits re
 told_by_no_dependent_report = refl
 
 -- r waits for p, and a message from p to r is in transit, so that r is free
-pub follower_woken_report : report_text (record { processes = cycle_and_follower; in_transit = (0, 2) ∷ [] })
+follower_woken_report : report_text (record { processes = cycle_and_follower; in_transit = (0, 2) ∷ [] })
     ≡ codes "processes 3 active 0 idle 3 deadlocked 2" ++ lf
     ++ codes "deadlocked p group 1" ++ lf
     ++ codes "deadlocked q group 1" ++ lf

@@ -14,9 +14,10 @@ use Rattle.cmh_graph.specs.Graph.{is_idle, Graph, indices, process_count, idle_l
 use Rattle.cmh_graph.specs.Core.{leaders, group_leader}
 use Rattle.cmh_graph.proofs.PathLemmas.{index_within}
 use Rattle.cmh_graph.proofs.Verdicts.{filter_contains}
+use Rattle.cmh_graph.proofs.Groups.{leads_itself}
 use Rattle.cmh_text.specs.Group.{is_led_by}
 use Rattle.cmh_text.specs.Report.{line, report_text, totals_line, process_line, group_line}
-use Rattle.cmh_text.proofs.Numbers.{leads_itself, led_test}
+use Rattle.cmh_text.proofs.Numbers.{led_test}
 use Rattle.cmh_text.proofs.Words.{whole_text}
 
 -- the text of each item stands at its place

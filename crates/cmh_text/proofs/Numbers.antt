@@ -3,7 +3,7 @@ use Rattle.std.proofs.Common.{◌≡◌, ℕ, zero, suc, ◌+◌, ◌-◌, ◌<�
 use Rattle.std.specs.Prelude.{Contains, Option, Some, None, filter, count_by}
 use Rattle.std.specs.List.{range_with_len}
 use Rattle.std.specs.Option.{option_eq}
-use Rattle.std.proofs.lemmas.Bool.{leb-true, le-leb}
+use Rattle.std.proofs.lemmas.Bool.{leb-true, le-leb, and_parts}
 use Rattle.std.proofs.lemmas.List.Sums.{count_by-le-length, length-filter, sum_by-append}
 use Rattle.std.proofs.lemmas.List.FromFn.{length-range_with_len}
 use Rattle.cmh_graph.specs.Graph.{Graph, process_count, indices, IsWithinGraph}
@@ -11,15 +11,11 @@ use Rattle.cmh_graph.specs.Path.{reaches, reach_of}
 use Rattle.cmh_graph.specs.Verdict.{is_deadlocked}
 use Rattle.cmh_graph.specs.Core.{core_of, rest_of, leader_of, group_number, group_leader}
 use Rattle.cmh_graph.proofs.Cores.{core_law}
-use Rattle.cmh_graph.proofs.Groups.{leader_in_core, reached_deadlocked, same_leader, same_test}
+use Rattle.cmh_graph.proofs.Groups.{leader_in_core, leads_itself, reached_deadlocked, same_leader, same_test}
 use Rattle.cmh_graph.proofs.IndexLists.{by_index, filter_agree_on, filter_indices_kept, filter_indices_passed}
 use Rattle.cmh_graph.proofs.PathLemmas.{index_within, reaches_then, then_reaches}
-use Rattle.cmh_graph.proofs.Verdicts.{and_true, filter_contains, deadlocked_from_test, test_from_deadlocked}
+use Rattle.cmh_graph.proofs.Verdicts.{filter_contains, deadlocked_from_test, test_from_deadlocked}
 use Rattle.cmh_text.specs.Group.{is_led_by, leaders_up_to}
-
--- whether a process is deadlocked and leads itself
-abbrev pub leads_itself : Graph → ℕ → Bool
-leads_itself g p = is_deadlocked g p && eqb (leader_of g p) p
 
 -- the leaders among the first n processes
 abbrev pub leaders_below : Graph → ℕ → List ℕ
@@ -123,7 +119,7 @@ led_test g list l p are i = ap (λ o. option_eq eqb o (Some l)) (by_index g (gro
 pub own_number : (g : Graph) (list : List (Option ℕ)) (l : ℕ) → list ≡ map (group_leader g) (indices g)
     → l < process_count g → is_led_by list l l ≡ true → leaders_up_to g l ≡ group_number g l
 own_number g list l are i leads =
-    let itself = and_true (is_deadlocked g l) (eqb (leader_of g l) l) (sym (led_test g list l l are i) ∙ leads) in
+    let itself = and_parts (is_deadlocked g l) (eqb (leader_of g l) l) (sym (led_test g list l l are i) ∙ leads) in
     ap (leaders_up_to g) (sym (eqb-true (leader_of g l) l itself.1)) ∙ number_is g l
 
 -- where a test gives a leader or none, and l is given, the test holds and the leader is l
@@ -170,7 +166,7 @@ leads_back : (g : Graph) (list : List (Option ℕ)) (l q : ℕ) → IsWithinGrap
     → list ≡ map (group_leader g) (indices g) → is_led_by list l l ≡ true → Contains (reach_of g l) q
     → is_led_by list l q ≡ reaches g q l
 leads_back g list l q w i are leads c =
-    let itself = and_true (is_deadlocked g l) (eqb (leader_of g l) l) (sym (led_test g list l l are i) ∙ leads) in
+    let itself = and_parts (is_deadlocked g l) (eqb (leader_of g l) l) (sym (led_test g list l l are i) ∙ leads) in
     let own = eqb-true (leader_of g l) l itself.1 in
     let kept = filter_contains (reaches g l) (indices g) q c in
     let j = index_within (process_count g) q kept.0 in

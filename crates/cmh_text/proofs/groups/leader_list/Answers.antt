@@ -2,7 +2,8 @@ use Rattle.std.proofs.Common.{◌≡◌, ◌∙◌, ◌++◌, ◌<◌, ◌∷◌
 use Rattle.cmh_graph.specs.Graph.{process_count}
 use Rattle.cmh_graph.proofs.IndexLists.{filter_indices_kept, filter_indices_passed, length-by_index}
 use Rattle.cmh_graph.specs.Core.{group_leader}
-use Rattle.cmh_text.proofs.Numbers.{led_test, leaders_below, leads_itself}
+use Rattle.cmh_graph.proofs.Groups.{leads_itself}
+use Rattle.cmh_text.proofs.Numbers.{led_test, leaders_below}
 use Rattle.cmh_text.proofs.groups.leader_list.Goals as goal
 use Rattle.cmh_text.proofs.groups.leader_list.Goals.{then-is_led_by+in_ok-push, else-is_led_by}
 
