@@ -4,13 +4,13 @@ use Rattle.std.specs.Prelude.{IsTrue}
 use Rattle.std.proofs.Common.{◌≡◌, ℕ, ◌<◌, true, false, cond, List, [], ◌∷◌, Some, None, All}
 use Rattle.std.proofs.lemmas.List.Elements.{All-nil, All-cons}
 use Rattle.cmh_graph.specs.Graph.{Graph, process_count, is_awake, is_idle, IsWithinGraph}
-use Rattle.cmh_graph.proofs.Verdicts.{idle_within}
+use Rattle.cmh_graph.proofs.Verdicts.{idle_within, by_test}
 use Rattle.cmh_process.specs.declared.message.Message.{Message}
 use Rattle.cmh_run.specs.declared.delivery.Delivery.{Delivery}
 use Rattle.cmh_run.specs.Config.{proc_at, nothing_yet, start}
 use Rattle.cmh_run.specs.Legal.{Going, Rule, going_at_start, going_from, after_due_restart, going_after, DeliveriesLead, IsBetween, IsRun}
 use Rattle.cmh_run.proofs.LiveInvariant.{IsSoundMessage}
-use Rattle.cmh_run.proofs.Configurations.{by_test, IsSoundConfig, stepped, first_start, ready_stands, status_none}
+use Rattle.cmh_run.proofs.Configurations.{IsSoundConfig, stepped, first_start, ready_stands, status_none}
 use Rattle.cmh_run.proofs.Tokens.{each_at}
 
 -- what leads on from a sound state has messages between processes of the graph alone

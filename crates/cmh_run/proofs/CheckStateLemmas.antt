@@ -13,7 +13,7 @@ use Rattle.cmh_graph.specs.declared.verdict.Verdict.{Verdict}
 use Rattle.cmh_graph.specs.declared.verdict.Verdict.TheVariants.{Deadlocked, Free}
 use Rattle.cmh_graph.specs.Graph.{Graph, process_count, dependents_of, is_idle, is_awake}
 use Rattle.cmh_graph.specs.Build.{IsWellFormed}
-use Rattle.cmh_graph.proofs.Verdicts.{idle_within}
+use Rattle.cmh_graph.proofs.Verdicts.{idle_within, by_test}
 use Rattle.cmh_run.specs.declared.delivery.Delivery.{Delivery}
 use Rattle.cmh_run.specs.declared.delivery.Ending.{Ending}
 use Rattle.cmh_run.specs.declared.delivery.Ending.TheVariants.{AtRest}
@@ -24,8 +24,8 @@ use Rattle.cmh_run.specs.CheckState.{is_waiting, of_kind, goes_like, CheckState,
 use Rattle.cmh_run.proofs.Tokens.{Each, each_append, each_remove, each_at}
 use Rattle.cmh_run.proofs.LiveInvariant.{IsSoundRun}
 use Rattle.cmh_run.proofs.Soundness.{number_kept}
-use Rattle.cmh_run.proofs.Configurations.{by_test, Status, first_start, leads_stands, status_none, fresh_at}
-use Rattle.cmh_run.proofs.FollowLemmas.{leads_on, nothing_comes}
+use Rattle.cmh_run.proofs.Configurations.{Status, first_start, leads_stands, status_none, fresh_at}
+use Rattle.cmh_run.proofs.ProgressLemmas.{leads_on, nothing_comes}
 use Rattle.cmh_run.proofs.Places.{IsIn, in_nothing, in_first, in_last, in_either, left_was, was_left, one_place}
 
 -- ---- whose messages they are

@@ -18,7 +18,7 @@ use Rattle.cmh_process.specs.Process.{new_proc, proc_started, start_action, proc
 use Rattle.cmh_graph.specs.Graph.{Graph, process_count, dependents_of, is_awake, Depends, IsWithinGraph}
 use Rattle.cmh_graph.specs.Path.{Reaches}
 use Rattle.cmh_graph.specs.Verdict.{IsDeadlocked}
-use Rattle.cmh_graph.proofs.Verdicts.{asleep_is_idle}
+use Rattle.cmh_graph.proofs.Verdicts.{asleep_is_idle, by_test}
 use Rattle.cmh_run.specs.Config.{Config, reply, proc_at, messages_of, ending_after, after_step, after_engagement, after_hint, after_message, without_message, after_delivery, start, nothing_yet}
 use Rattle.cmh_run.specs.Legal.{HintIsFit, Going, after_first_restart, after_due_restart, going_after, DeliveriesLead}
 use Rattle.cmh_run.proofs.Tally.{tally, tally-le-length, tally_from_contains, contains_from_tally}
@@ -26,11 +26,6 @@ use Rattle.cmh_run.proofs.InvariantSteps.{upd, place, AllowsStart, allows_start}
 use Rattle.cmh_run.proofs.Tokens.{Each, each_at, tokens, set_is, is_token, is_token_parts}
 use Rattle.cmh_run.proofs.LiveInvariant as live
 use Rattle.cmh_run.proofs.LiveInvariant.{IsSoundRun, IsSoundMessage, started}
-
--- a fact that goes by a test, with what the test said
-pub by_test : (b : Bool) (M : Bool → Type 0) → (b ≡ true → M true) → (b ≡ false → M false) → M b
-by_test true M f g = f refl
-by_test false M f g = g refl
 
 -- who is engaged in the newest computation, and what is true of whoever has heard of any
 pub record Party (g : Graph) (i n : ℕ) (F : ℕ → Proc) (engaged : List ℕ) : Type 0 where

@@ -20,14 +20,14 @@ use Rattle.cmh_graph.specs.Graph.{Graph, process_count, dependents_of, dependenc
 use Rattle.cmh_graph.specs.Graph.{Process, nobody}
 use Rattle.cmh_graph.specs.Build.{IsWellFormed}
 use Rattle.cmh_graph.specs.declared.TheConstants.{MAX_PROCESSES, MAX_DEPENDENCIES}
-use Rattle.cmh_graph.proofs.Verdicts.{asleep_is_idle, idle_within}
+use Rattle.cmh_graph.proofs.Verdicts.{asleep_is_idle, idle_within, by_test}
 use Rattle.cmh_run.specs.Config.{Config, query, proc_at, messages_of, after_step, after_engagement, after_hint, after_message, without_message, after_delivery, start, nothing_yet}
 use Rattle.cmh_run.specs.Legal.{going_at_start, Going, after_first_restart, after_due_restart, going_after, DeliveriesLead, Rule, IsRun}
 use Rattle.cmh_run.proofs.InvariantSteps.{upd}
 use Rattle.cmh_run.proofs.Tokens.{each_at, set_is}
 use Rattle.cmh_run.proofs.LiveInvariant.{IsSoundRun, IsSoundMessage, some_engage}
 use Rattle.cmh_run.proofs.Soundness.{number_kept}
-use Rattle.cmh_run.proofs.Configurations.{by_test, is_none_true, IsSoundConfig, first_start, status_none, fresh_at, stepped, ready_stands}
+use Rattle.cmh_run.proofs.Configurations.{is_none_true, IsSoundConfig, first_start, status_none, fresh_at, stepped, ready_stands}
 use Rattle.std.proofs.lemmas.List.Sums.{get_or-le-sum_by, sum_by-remove, sum_by-append, sum_by-cons}
 use Rattle.std.proofs.Common.{mul-le-mul_left, mul-suc, ◌*◌, add-one}
 use Rattle.std.proofs.lemmas.Option.{none-some, slice_get_within, get_or_from_slice_get}

@@ -7,7 +7,7 @@ use Rattle.std.proofs.lemmas.List.{length-replicate}
 use Rattle.cmh_process.specs.declared.message.Message.{Message}
 use Rattle.cmh_process.specs.Process.{new_proc, start_action, counts_reply}
 use Rattle.cmh_graph.specs.Graph.{Graph, process_count, dependents_of, is_awake, IsWithinGraph, is_idle}
-use Rattle.cmh_graph.proofs.Verdicts.{idle_within}
+use Rattle.cmh_graph.proofs.Verdicts.{idle_within, by_test}
 use Rattle.cmh_run.specs.declared.delivery.Delivery.{Delivery}
 use Rattle.cmh_run.specs.declared.delivery.Ending.{Ending}
 use Rattle.cmh_run.specs.declared.delivery.Ending.TheVariants.{Declared, AtRest, CutFree}
@@ -17,7 +17,7 @@ use Rattle.cmh_run.specs.Last.{renumber, computation_log, LastIsRun}
 use Rattle.cmh_run.proofs.Tokens.{each_at, each_more}
 use Rattle.cmh_run.proofs.LiveInvariant.{IsSoundRun, IsSoundMessage}
 use Rattle.cmh_run.proofs.Soundness.{number_kept}
-use Rattle.cmh_run.proofs.Configurations.{by_test, is_none_true, Status, IsSoundConfig, first_start, leads_stands, status_none, fresh_at, stepped, ready_stands}
+use Rattle.cmh_run.proofs.Configurations.{is_none_true, Status, IsSoundConfig, first_start, leads_stands, status_none, fresh_at, stepped, ready_stands}
 use Rattle.cmh_run.proofs.DeliveryBound.{phi_of, delivered_falls}
 use Rattle.cmh_run.proofs.OneComputation.{kept, place_among, kept_at}
 use Rattle.cmh_run.proofs.LastComputationSteps.{SameEnd, same_end, still_going, shadow, delivered_alike, fit_alike, unseen_delivered, start_alone}

@@ -13,13 +13,14 @@ use Rattle.cmh_process.specs.Process.{new_proc, proc_started, start_action, enga
 use Rattle.cmh_graph.specs.declared.verdict.Verdict.{Verdict}
 use Rattle.cmh_graph.specs.declared.verdict.Verdict.TheVariants.{Deadlocked, Free}
 use Rattle.cmh_graph.specs.Graph.{Graph, process_count, dependents_of, is_awake}
+use Rattle.cmh_graph.proofs.Verdicts.{by_test}
 use Rattle.cmh_run.specs.declared.delivery.Ending.{Ending}
 use Rattle.cmh_run.specs.declared.delivery.Ending.TheVariants.{Declared, AtRest, CutFree}
 use Rattle.cmh_run.specs.Config.{Config, proc_at, messages_of, ending_after, nothing_yet, start, after_step, after_engagement, after_hint, after_answer, after_message, without_message, after_delivery}
 use Rattle.cmh_run.specs.Legal.{HintIsFit}
 use Rattle.cmh_run.specs.Last.{renumber}
 use Rattle.cmh_run.proofs.Tokens.{Each}
-use Rattle.cmh_run.proofs.Configurations.{by_test, fresh_at}
+use Rattle.cmh_run.proofs.Configurations.{fresh_at}
 use Rattle.cmh_run.proofs.OneComputation.{recast, kept, place_among, kept_append, kept_taken, kept_other, kept_sent, kept_other_sent, same_engages, same_queried, same_query_action, same_replied, same_reply_action, queried_below, replied_below, recast_at, all_fresh}
 
 -- how the computation alone has ended: it hasn't where an older one was cut

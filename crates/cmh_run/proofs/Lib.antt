@@ -8,7 +8,6 @@ pub mod Determinism
 pub mod EngagedLemmas
 pub mod Examples
 pub mod FirstTaken
-pub mod FollowLemmas
 pub mod Invariant
 pub mod InvariantSteps
 pub mod LastComputation
@@ -19,6 +18,7 @@ pub mod OneComputation
 pub mod PackedLemmas
 pub mod Paths
 pub mod Places
+pub mod ProgressLemmas
 pub mod QueryLemmas
 pub mod Scripts
 pub mod Sizes

@@ -13,7 +13,7 @@ use Rattle.cmh_run.specs.Check.{LeadTo, IsUndelivered, IsLegalRun, ComesAt, IsFl
 use Rattle.cmh_run.specs.Config.{Config}
 use Rattle.cmh_run.proofs.Determinism.{over, one_ending}
 use Rattle.cmh_run.proofs.Places.{one_place}
-use Rattle.cmh_run.proofs.FollowLemmas.{leads_on}
+use Rattle.cmh_run.proofs.ProgressLemmas.{leads_on}
 use Rattle.cmh_run.proofs.CheckStateLemmas.{firm}
 
 -- what stands in a list stands in its first places, if it is among them

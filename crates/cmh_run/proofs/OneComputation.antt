@@ -9,7 +9,7 @@ use Rattle.cmh_process.specs.declared.process.Action.TheVariants.{Nothing, Engag
 use Rattle.cmh_process.specs.Process.{new_proc, engages, proc_engaged, engage_action, last_action, repeat_action, proc_queried, query_action, counts_reply, proc_replied, reply_action}
 use Rattle.cmh_run.specs.Config.{query, proc_at, messages_of}
 use Rattle.cmh_run.specs.Last.{renumber}
-use Rattle.cmh_run.proofs.Configurations.{by_test}
+use Rattle.cmh_graph.proofs.Verdicts.{by_test}
 
 -- a process as computation n has it: whoever isn't in it has heard of nothing
 abbrev pub recast : ℕ → Proc → Proc

@@ -11,20 +11,21 @@ use Rattle.cmh_run.specs.declared.delivery.Delivery.{Delivery}
 use Rattle.cmh_run.specs.declared.delivery.Ending.{Ending}
 use Rattle.cmh_run.specs.declared.delivery.Ending.TheVariants.{Declared, AtRest, CutFree}
 use Rattle.cmh_graph.specs.Graph.{Graph, process_count, is_idle, is_awake, IsWithinGraph, dependency_count}
-use Rattle.cmh_graph.proofs.Verdicts.{idle_within}
+use Rattle.cmh_graph.proofs.Verdicts.{idle_within, by_test}
 use Rattle.cmh_process.specs.Process.{new_proc}
 use Rattle.cmh_run.specs.Config.{Config, blank_config, proc_at, nothing_yet, start, without_message}
 use Rattle.cmh_run.specs.Legal.{Going, going_from, going_at_start, after_restart, after_first_restart, after_due_restart, going_after, Rule, MayCome, DeliveriesLead, EndsAs, IsRun, HintIsFit, IsRight}
 use Rattle.cmh_run.specs.Choices.{chosen_place, HasNoHints}
 use Rattle.cmh_run.specs.Engaged.{AreEngaged}
-use Rattle.cmh_run.specs.Run.{ProgressState, Follows, Run, IsAccepted, IsRunOf, IsRunAnswer, TellsTruth, verdict_of, MayStart, place_in, IsTakenBy, progress_after}
+use Rattle.cmh_run.specs.Run.{Run, IsAccepted, IsRunOf, IsRunAnswer, TellsTruth, verdict_of}
+use Rattle.cmh_run.specs.Progress.{ProgressState, Follows, MayStart, place_in, IsTakenBy, progress_after}
 use Rattle.cmh_run.specs.Packed.{CanSend, EngagersHaveRoom}
 use Rattle.cmh_run.specs.declared.TheConstants.{MAX_RESTARTS}
 use Rattle.cmh_graph.specs.Verdict.{IsVerdict}
 use Rattle.cmh_run.proofs.LiveInvariant.{IsSoundMessage}
 use Rattle.cmh_run.proofs.Tokens.{each_at}
 use Rattle.cmh_run.proofs.Soundness.{number_kept, runs_are_sound}
-use Rattle.cmh_run.proofs.Configurations.{by_test, is_none_true, Status, IsSoundConfig, first_start, leads_stands, status_none, fresh_at, stepped, ready_stands}
+use Rattle.cmh_run.proofs.Configurations.{is_none_true, Status, IsSoundConfig, first_start, leads_stands, status_none, fresh_at, stepped, ready_stands}
 use Rattle.cmh_run.proofs.LastComputation.{last_computation_is_a_run}
 use Rattle.cmh_run.proofs.Determinism.{same_run}
 use Rattle.cmh_run.proofs.EngagedLemmas.{who_engages, awake_ones_start_nothing}
@@ -139,10 +140,10 @@ nothing_comes rule g i [] s l = sym l
 nothing_comes rule g i (d ∷ log) s l = absurd (none-some _ l.1.there)
 
 -- what a step may count on
-pub record AllowsStep (g : Graph) (i : ℕ) (s : Going) : Type 0 where
-  pub rests : is_awake g i ≡ false
-  pub stands : IsSoundConfig g i s.config
-  pub numbered : s.config.number ≡ s.restarted + 1
+record AllowsStep (g : Graph) (i : ℕ) (s : Going) : Type 0 where
+  rests : is_awake g i ≡ false
+  stands : IsSoundConfig g i s.config
+  numbered : s.config.number ≡ s.restarted + 1
 
 module _ (g : Graph) (i : ℕ) (choices restarts : List ℕ) (s : ProgressState) (ok : IsWithinGraph g)
     (idle : is_idle g i ≡ true) (f : Follows g i choices restarts s) where

@@ -16,9 +16,8 @@ use Rattle.cmh_graph.specs.Verdict.{verdict, verdicts, IsVerdict}
 use Rattle.cmh_graph.specs.Judge.{IsFirst}
 use Rattle.cmh_graph.proofs.PartLemmas.{first_place}
 use Rattle.cmh_graph.proofs.IndexLists.{length-by_index, by_index}
-use Rattle.cmh_graph.proofs.Verdicts.{one_verdict, verdict_true}
+use Rattle.cmh_graph.proofs.Verdicts.{one_verdict, verdict_true, by_test}
 use Rattle.cmh_run.specs.Script.{ScriptLine, told_at, AreTrueOf, IsLineOutOfRange, is_listed}
-use Rattle.cmh_run.proofs.Configurations.{by_test}
 use Rattle.cmh_run.proofs.Verdicts.{same, same_as_itself}
 
 -- ---- what lines tell

@@ -13,7 +13,7 @@ use Rattle.cmh_run.specs.declared.delivery.Ending.TheVariants.{Declared, AtRest,
 use Rattle.cmh_process.specs.Process.{new_proc, engages, proc_queried, query_action}
 use Rattle.cmh_graph.specs.Graph.{Graph, process_count, is_awake, IsWithinGraph, is_idle}
 use Rattle.cmh_graph.specs.Verdict.{IsDeadlocked}
-use Rattle.cmh_graph.proofs.Verdicts.{idle_within}
+use Rattle.cmh_graph.proofs.Verdicts.{idle_within, by_test}
 use Rattle.cmh_run.proofs.Paths.{reaches_self}
 use Rattle.cmh_graph.proofs.Groups.{reached_deadlocked}
 use Rattle.cmh_run.specs.Config.{Config, proc_at, after_step, after_hint, after_message, without_message, after_delivery, start, nothing_yet}
@@ -22,7 +22,7 @@ use Rattle.cmh_run.proofs.Tally.{tally_from_contains, distinct}
 use Rattle.cmh_run.proofs.Invariant.{engaged_deadlocked, none_on_way, at_rest_free}
 use Rattle.cmh_run.proofs.Tokens.{each_at, tokens, token, edge_from, edge_to}
 use Rattle.cmh_run.proofs.LiveInvariant.{IsSoundRun, IsSoundMessage}
-use Rattle.cmh_run.proofs.Configurations.{by_test, Status, IsSoundConfig, first_start, leads_stands, status_none, fresh_at}
+use Rattle.cmh_run.proofs.Configurations.{Status, IsSoundConfig, first_start, leads_stands, status_none, fresh_at}
 use Rattle.std.proofs.lemmas.List.Sums.{get_or-le-sum_by}
 use Rattle.std.proofs.lemmas.Option.{none-some, slice_get-get_or}
 

@@ -10,7 +10,7 @@ use Rattle.cmh_process.specs.declared.message.Kind.{Kind}
 use Rattle.cmh_process.specs.declared.message.Kind.TheVariants.{Query, Reply}
 use Rattle.cmh_process.specs.declared.message.Message.{Message}
 use Rattle.cmh_run.specs.CheckState.{pair_cmp, of_kind, UndeliveredState, is_waiting, goes_like}
-use Rattle.cmh_run.proofs.Configurations.{by_test}
+use Rattle.cmh_graph.proofs.Verdicts.{by_test}
 
 -- two numbers compare as equal where they are tested to be
 is_eq_nat : (x y : ℕ) → is_eq (nat_cmp x y) ≡ eqb x y

@@ -100,10 +100,9 @@ abbrev pub after_engagement : ℕ → Config → Message → List ℕ → Config
 after_engagement i c m dependents =
     let p = proc_at c.procs m.to in
     let action = query_action p m.number m.from (length dependents) in
-    record {
+    record c {
       bag = c.bag ++ messages_of i m.number m.to dependents action;
       procs = slice_set c.procs m.to (proc_queried p m.number m.from (length dependents));
-      number = c.number;
       engaged = if m.number == c.number then c.engaged ++ m.to ∷ [] else c.engaged;
       ended = None;
     }

@@ -16,7 +16,7 @@ abbrev pub computation_log : ℕ → List Delivery → List Delivery
 computation_log n [] = []
 computation_log n (d ∷ log) =
     if d.message.number == n
-    then record { message = renumber d.message; hint = d.hint } ∷ computation_log n log
+    then record d { message = renumber d.message } ∷ computation_log n log
     else computation_log n log
 
 -- The deliveries of the last number begin a legal run without restarts, and are all of one where the run

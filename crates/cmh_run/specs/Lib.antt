@@ -13,3 +13,4 @@ pub mod ScriptProofs
 pub mod CheckState
 pub mod Packed
 pub mod Procs
+pub mod Progress

@@ -7,7 +7,7 @@ ghost use Rattle.cmh_run.specs.Config.{blank_config, nothing_yet};
 ghost use Rattle.cmh_graph.specs.declared.verdict.Verdict.{Verdict};
 ghost use Rattle.cmh_run.specs.Legal.{going_at_start, after_due_restart, HintIsFit};
 ghost use Rattle.cmh_run.specs.Packed.{CanSend, EngagersHaveRoom};
-ghost use Rattle.cmh_run.specs.Run.{MayStart, IsTakenBy, progress_after};
+ghost use Rattle.cmh_run.specs.Progress.{MayStart, IsTakenBy, progress_after};
 
 use crate::network::Network;
 use crate::{Delivery, Ending, Hints, Log, RunLog};
@@ -28,7 +28,7 @@ pub(crate) struct Progress<'a, L: Log> {
 
 impl<'a, L: Log> Model for Progress<'a, L> {
     ghost use Rattle.std.specs.Prelude.{length};
-    ghost use Rattle.cmh_run.specs.Run.{ProgressState};
+    ghost use Rattle.cmh_run.specs.Progress.{ProgressState};
 
     ghost Value = { ProgressState };
 

@@ -6,7 +6,8 @@ ghost use Rattle.cmh_graph.specs.Build.{IsWellFormed};
 ghost use Rattle.cmh_run.specs.Choices.{HasNoHints};
 ghost use Rattle.cmh_run.specs.Config.{nothing_yet};
 ghost use Rattle.std.specs.List.Sorted.{IsStrictlyIncreasing};
-ghost use Rattle.cmh_run.specs.Run.{Follows, IsAccepted, IsFirstRunFault, IsRunAnswer};
+ghost use Rattle.cmh_run.specs.Run.{IsAccepted, IsFirstRunFault, IsRunAnswer};
+ghost use Rattle.cmh_run.specs.Progress.{Follows};
 
 use crate::choices::Choices;
 use crate::network::Network;

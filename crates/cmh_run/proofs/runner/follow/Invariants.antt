@@ -2,7 +2,7 @@ use Rattle.std.proofs.Common.{◌≡◌, ◌+◌, ◌*◌, ◌-◌, drop, length
 use Rattle.cmh_graph.specs.Graph.{dependency_count}
 use Rattle.cmh_run.specs.Choices.{HasNoHints}
 use Rattle.cmh_run.specs.declared.TheConstants.{MAX_RESTARTS}
-use Rattle.cmh_run.specs.Run.{Follows}
+use Rattle.cmh_run.specs.Progress.{Follows}
 use Rattle.cmh_run.proofs.runner.follow.Given as goal
 
 abbrev pub invariant-loop-message : goal.invariant-loop-message

@@ -1,7 +1,7 @@
 use Rattle.std.proofs.Common.{subst, sym, List}
 use Rattle.cmh_run.specs.declared.delivery.Delivery.{Delivery}
 use Rattle.cmh_run.specs.Choices.{HasNoHints}
-use Rattle.cmh_run.proofs.FollowLemmas.{no_choice, taken_size, taken_within, taken_sender, taken_engagers, taken_room, taken_follows, taken_log, taken_falls, taken_restarts, taken_rests, taken_going, none_to_come, told_empty, no_hints_on}
+use Rattle.cmh_run.proofs.ProgressLemmas.{no_choice, taken_size, taken_within, taken_sender, taken_engagers, taken_room, taken_follows, taken_log, taken_falls, taken_restarts, taken_rests, taken_going, none_to_come, told_empty, no_hints_on}
 use Rattle.cmh_run.proofs.runner.follow_freely.Goals as goal
 
 -- at a delivery there are as many processes as the graph has
