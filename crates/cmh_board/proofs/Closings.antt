@@ -7,13 +7,13 @@ use Rattle.cmh_rw.specs.declared.view.View.{View}
 use Rattle.cmh_rw.specs.History.{rows_in}
 use Rattle.cmh_rw.specs.Seats.{ClosedHistory}
 use Rattle.cmh_board.specs.Board.{IsMadeOf}
-use Rattle.cmh_board.specs.Closing.{Show}
+use Rattle.cmh_board.specs.Closing.{ShowsRows}
 use Rattle.cmh_board.proofs.RowWords.{codes_small}
 use Rattle.cmh_board.proofs.Weights.{same_members}
 
 -- closed words show the rows of the history
 pub shows_history : (key : Graph) (v : View) (words : List ℕ) (h : ClosedHistory key v words)
-    → process_count key ≤ MAX_PROCESSES → Show words (rows_in h.postings)
+    → process_count key ≤ MAX_PROCESSES → ShowsRows words (rows_in h.postings)
 shows_history key v words h few = record {
   count = h.count;
   few = (let l = h.few in omega arith);

@@ -6,8 +6,7 @@ use Rattle.std.proofs.lemmas.Option.{same_Some}
 use Rattle.cmh_graph.specs.declared.verdict.Verdict.{Verdict}
 use Rattle.cmh_graph.specs.Graph.{Graph, IsWithinGraph}
 use Rattle.cmh_graph.specs.Verdict.{verdict, IsVerdict}
-use Rattle.cmh_graph.proofs.Verdicts.{verdict_true}
-use Rattle.cmh_run.proofs.Configurations.{by_test}
+use Rattle.cmh_graph.proofs.Verdicts.{verdict_true, by_test}
 use Rattle.cmh_rw.specs.declared.row.Row.{Row}
 use Rattle.cmh_rw.specs.History.{fold_at, IsTrueOf}
 use Rattle.cmh_board.specs.Board.{row_times}

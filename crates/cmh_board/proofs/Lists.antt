@@ -6,7 +6,7 @@ use Rattle.std.proofs.lemmas.Bool.{eqb-false}
 use Rattle.std.proofs.lemmas.List.Elements.{All-contains, All-from_recursion, recursion_from_All, All-filter}
 use Rattle.std.proofs.lemmas.List.Sums.{length-filter, count_by-le-length}
 use Rattle.std.proofs.lemmas.Map.Keys.{IsDistinct-head}
-use Rattle.cmh_run.proofs.Configurations.{by_test}
+use Rattle.cmh_graph.proofs.Verdicts.{by_test}
 
 -- q is another process than p
 abbrev Differs : ℕ → ℕ → Type 0

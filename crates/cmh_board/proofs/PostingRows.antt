@@ -8,7 +8,6 @@ use Rattle.cmh_graph.specs.declared.verdict.Verdict.{Verdict}
 use Rattle.cmh_graph.specs.Graph.{Graph, is_idle}
 use Rattle.cmh_graph.specs.Verdict.{verdict}
 use Rattle.cmh_graph.proofs.PathLemmas.{cons_contains, contains_cons, contains_first}
-use Rattle.cmh_run.proofs.Configurations.{by_test}
 use Rattle.cmh_rw.specs.declared.row.Row.{Row}
 use Rattle.cmh_rw.specs.History.{fold_at, IsOpen, EndsLast, IsPosting, IsHistory, IsTrueOf, AreTold}
 use Rattle.cmh_rw.specs.View.{row, mark}
@@ -18,7 +17,7 @@ use Rattle.cmh_rw.proofs.Folds.{fold-skip, true-snoc}
 use Rattle.cmh_rw.proofs.Postings.{rows_in-snoc, whole-snoc}
 use Rattle.cmh_board.proofs.Histories.{present-append, verdict_in, times-present}
 use Rattle.cmh_board.proofs.Lists.{first_once, distinct-filter}
-use Rattle.cmh_graph.proofs.Verdicts.{contains_filter, filter_contains}
+use Rattle.cmh_graph.proofs.Verdicts.{contains_filter, filter_contains, by_test}
 
 -- ---- rows of processes
 
@@ -113,10 +112,10 @@ length-rows_of v (p ∷ ps) = let e = length-rows_of v ps in omega arith
 -- ---- rows that come behind a history
 
 -- what a process needs for a row behind these: it is idle, has this verdict, and has no row yet
-pub record AllowsRow (g : Graph) (v : Verdict) (xs : List Row) (p : ℕ) : Type 0 where
-  pub idle : is_idle g p ≡ true
-  pub says : v ≡ verdict g p
-  pub none : fold_at xs p ≡ None
+record AllowsRow (g : Graph) (v : Verdict) (xs : List Row) (p : ℕ) : Type 0 where
+  idle : is_idle g p ≡ true
+  says : v ≡ verdict g p
+  none : fold_at xs p ≡ None
 
 -- true rows stay true with the rows of fresh, distinct processes behind them
 true-rows : (g : Graph) (v : Verdict) (ps : List ℕ) (xs : List Row) → IsTrueOf g xs

@@ -5,7 +5,7 @@ use Rattle.std.proofs.lemmas.Bool.{eqb-true, eq-eqb, and_parts}
 use Rattle.cmh_graph.specs.declared.verdict.Verdict.{Verdict}
 use Rattle.cmh_graph.specs.declared.verdict.Verdict.TheVariants.{Deadlocked, Free}
 use Rattle.cmh_graph.proofs.PathLemmas.{cons_contains, contains_cons}
-use Rattle.cmh_run.proofs.Configurations.{by_test}
+use Rattle.cmh_graph.proofs.Verdicts.{by_test}
 use Rattle.cmh_rw.specs.declared.row.Row.{Row}
 use Rattle.cmh_rw.specs.Machine.{total}
 

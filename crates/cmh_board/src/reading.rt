@@ -3,16 +3,16 @@
 ghost use Rattle.std.specs.Prelude.{◌≡◌, ◌<◌, ◌≤◌, List, [], length, slice_index, vec_capacity};
 ghost use Rattle.cmh_rw.specs.declared.row.Row.{Row};
 ghost use Rattle.cmh_rw.specs.Seats.{words_of};
-ghost use Rattle.cmh_board.specs.Closing.{Show};
+ghost use Rattle.cmh_board.specs.Closing.{ShowsRows};
 
 use cmh_rw::{Closed, FIRST_ROW, ROW_COUNT, Row};
 
 /// Adds the rows that closed words show.
 pub(crate) fn read_closed(closed: &Closed, rows: &mut Vec<Row>)
     requires empty { rows.old.items ≡ [] }
-    requires room { (list : List Row) × Show (words_of closed.now) list
+    requires room { (list : List Row) × ShowsRows (words_of closed.now) list
         × (length list ≤ vec_capacity rows.old) }
-    ensures { (list : List Row) → Show (words_of closed.now) list → rows.new.items ≡ list }
+    ensures { (list : List Row) → ShowsRows (words_of closed.now) list → rows.new.items ≡ list }
 {
     let count = word_of(closed, ROW_COUNT) as usize;
     for n in 0..count {

@@ -3,7 +3,7 @@ use Rattle.std.specs.Prelude.{◌≡◌, ◌≢◌, ◌⊎◌, ℕ, ◌+◌, ◌
 use Rattle.atomic_table.specs.Table.{State}
 use Rattle.cmh_graph.specs.declared.TheConstants.{MAX_PROCESSES}
 use Rattle.cmh_graph.specs.Graph.{Graph, process_count}
-use Rattle.cmh_rw.specs.declared.TheConstants.{MAX_SEATS, FIRST_ROW, FIRST_VERDICT, BOARD_WORDS}
+use Rattle.cmh_rw.specs.declared.TheConstants.{MAX_SEATS, ROW_COUNT, FIRST_ROW, FIRST_VERDICT, BOARD_WORDS}
 use Rattle.cmh_rw.specs.declared.machine.SeatState.{SeatState}
 use Rattle.cmh_rw.specs.declared.machine.SeatState.TheVariants.{Writing, Spent}
 use Rattle.cmh_rw.specs.declared.row.Row.{Row}
@@ -77,8 +77,8 @@ pub record WordsRule (key : Graph) (s : Moment) : Type 0 where
   pub told : List Row
   pub small : process_count key ≤ MAX_PROCESSES
   pub lock : LockRule key (lock_moment s)
-  -- word 1 counts the rows of the history
-  pub count : slice_index s.words 1 ≡ length (rows_in postings)
+  -- a word counts the rows of the history
+  pub count : slice_index s.words ROW_COUNT ≡ length (rows_in postings)
   -- the row words are the history, then the staged rows, then 0
   pub rows : (n : ℕ) → n < MAX_PROCESSES →
       slice_index s.words (FIRST_ROW + n) ≡ slice_index (map row_code (rows_in postings ++ staged)) n

@@ -3,7 +3,7 @@ use Rattle.std.specs.Prelude.{◌≡◌, ℕ, ◌+◌, ◌<◌, ◌≤◌, List,
 use Rattle.std.specs.Slots.{slots_items}
 use Rattle.cmh_graph.specs.declared.TheConstants.{MAX_PROCESSES}
 use Rattle.cmh_graph.specs.Graph.{Graph}
-use Rattle.cmh_rw.specs.declared.TheConstants.{MAX_SEATS, FIRST_ROW, FIRST_VERDICT}
+use Rattle.cmh_rw.specs.declared.TheConstants.{MAX_SEATS, ROW_COUNT, FIRST_ROW, FIRST_VERDICT}
 use Rattle.cmh_rw.specs.declared.machine.SeatState.TheVariants.{Away}
 use Rattle.cmh_rw.specs.declared.row.Row.{Row}
 use Rattle.cmh_rw.specs.declared.view.View.{View}
@@ -22,8 +22,8 @@ abbrev pub IsSeatOf : RwWords → RwSeat → Type 0
 IsSeatOf w s = s.seat.table_id ≡ w.table.shared.table_id
 
 -- the seat holds nothing
-abbrev pub IsAway : RwSeat → Type 0
-IsAway s = (rw_view s).lock.state ≡ Away
+abbrev pub IsRwSeatAway : RwSeat → Type 0
+IsRwSeatAway s = (rw_view s).lock.state ≡ Away
 
 -- the graph whose verdicts the words hold
 abbrev pub words_graph : RwWords → Graph
@@ -50,7 +50,7 @@ pub record ClosedHistory (key : Graph) (v : View) (words : List ℕ) : Type 0 wh
   pub whole : ArePostings postings
   pub true_of : IsTrueOf key (rows_in postings)
   pub seen : IsSeen v.seen postings
-  pub count : slice_index words 1 ≡ length (rows_in postings)
+  pub count : slice_index words ROW_COUNT ≡ length (rows_in postings)
   pub few : length (rows_in postings) ≤ MAX_PROCESSES
   pub row : (n : ℕ) → n < length (rows_in postings) →
       slice_index words (FIRST_ROW + n) ≡ slice_index (map row_code (rows_in postings)) n

@@ -4,7 +4,7 @@ use Rattle.cmh_graph.specs.declared.TheConstants.{MAX_PROCESSES}
 use Rattle.cmh_graph.specs.declared.verdict.Verdict.{Verdict}
 use Rattle.cmh_graph.specs.Graph.{Graph, is_idle}
 use Rattle.cmh_graph.specs.Verdict.{verdict}
-use Rattle.cmh_rw.specs.declared.TheConstants.{MAX_SEATS, FIRST_ROW, FIRST_VERDICT}
+use Rattle.cmh_rw.specs.declared.TheConstants.{MAX_SEATS, ROW_COUNT, FIRST_ROW, FIRST_VERDICT}
 use Rattle.cmh_rw.specs.declared.machine.SeatState.{SeatState}
 use Rattle.cmh_rw.specs.declared.machine.SeatState.TheVariants.{Away, Reading, Spent}
 use Rattle.cmh_rw.specs.declared.row.Row.{Row}
@@ -50,7 +50,7 @@ pub record AfterLoad (v : View) (word found : ℕ) (w : View) : Type 0 where
   pub few : length w.seen ≤ MAX_PROCESSES
   pub staged_true : IsTrueOf v.lock.graph (w.seen ++ v.staged)
   pub bare : v.lock.state ≡ Reading → (v.staged ≡ []) × (v.told ≡ [])
-  pub count : word ≡ 1 → found ≡ length w.seen
+  pub count : word ≡ ROW_COUNT → found ≡ length w.seen
   pub row : (n : ℕ) → word ≡ FIRST_ROW + n → n < length w.seen →
       found ≡ slice_index (map row_code w.seen) n
   pub verdict : (p : ℕ) → word ≡ FIRST_VERDICT + p → p < MAX_PROCESSES →

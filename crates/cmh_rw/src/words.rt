@@ -60,7 +60,7 @@ impl RwWords {
     ghost use Rattle.cmh_rw.specs.History.{StartsWith};
     ghost use Rattle.cmh_rw.specs.declared.machine.SeatState.TheVariants.{Away, Reading, Retreating, Writing};
     ghost use Rattle.cmh_rw.specs.View.{opening_view, view_after_try, view_after_end, view_less_one, newcomer_view, joined_view};
-    ghost use Rattle.cmh_rw.specs.Seats.{rw_view, IsSeatOf, IsAway, words_graph, words_of, ClosedHistory};
+    ghost use Rattle.cmh_rw.specs.Seats.{rw_view, IsSeatOf, IsRwSeatAway, words_graph, words_of, ClosedHistory};
     ghost use Rattle.cmh_rw.specs.Machine.{IsSeat};
     ghost use Rattle.cmh_rw.specs.Rule.{Moment, WordsRule};
 
@@ -83,7 +83,7 @@ impl RwWords {
     /// Gives one share to a new seat that has seen the same, where the seat keeps one.
     pub fn split(&self, seat: &mut RwSeat) -> Option<RwSeat>
         requires own { IsSeatOf self.now seat.old }
-        requires away { IsAway seat.old }
+        requires away { IsRwSeatAway seat.old }
         ensures own { IsSeatOf self.now seat.new }
         ensures some { IfSome result (λ s. IsSeatOf self.now s × (rw_view s ≡ newcomer_view (rw_view seat.old))
             × (rw_view seat.new ≡ view_less_one (rw_view seat.old)) × (1 < (rw_view seat.old).lock.share)) }
@@ -105,7 +105,7 @@ impl RwWords {
     /// seen.
     pub fn join(&self, seat: &mut RwSeat, other: RwSeat)
         requires own { IsSeatOf self.now seat.old × IsSeatOf self.now other }
-        requires away { IsAway seat.old × IsAway other }
+        requires away { IsRwSeatAway seat.old × IsRwSeatAway other }
         ensures own { IsSeatOf self.now seat.new }
         ensures joined { rw_view seat.new ≡ joined_view (rw_view seat.old) (rw_view other) }
         ensures begins { StartsWith (rw_view seat.new).seen (rw_view seat.old).seen
@@ -126,7 +126,7 @@ impl RwWords {
     /// exchange, and the answer has the word that the first one found.
     pub fn try_read(&self, seat: &mut RwSeat) -> Entry
         requires own { IsSeatOf self.now seat.old }
-        requires away { IsAway seat.old }
+        requires away { IsRwSeatAway seat.old }
         ensures own { IsSeatOf self.now seat.new }
         ensures held { result ≡ Entry.Held → ((rw_view seat.new).lock.found < WRITER)
             × (rw_view seat.new
@@ -156,7 +156,7 @@ impl RwWords {
     /// that was found.
     pub fn try_write(&self, seat: &mut RwSeat) -> Entry
         requires own { IsSeatOf self.now seat.old }
-        requires away { IsAway seat.old }
+        requires away { IsRwSeatAway seat.old }
         ensures own { IsSeatOf self.now seat.new }
         ensures held { result ≡ Entry.Held → (rw_view seat.new ≡ view_after_try (rw_view seat.old) Writing 0)
             × ((rw_view seat.old).staged ≡ []) × ((rw_view seat.old).told ≡ []) }
@@ -198,7 +198,7 @@ impl RwWords {
     /// this view. With the whole share no other seat is left, so that the lock is free.
     pub fn close_with(self, seat: RwSeat) -> Closed
         requires own { IsSeatOf self seat }
-        requires away { IsAway seat }
+        requires away { IsRwSeatAway seat }
         ensures rule { (s : Moment) × WordsRule (words_graph self) s × (s.words ≡ words_of result)
             × ((id : ℕ) × IsSeat s.views id (rw_view seat)) }
         ensures history { ClosedHistory (words_graph self) (rw_view seat) (words_of result) }

@@ -6,7 +6,7 @@ ghost use Rattle.cmh_graph.specs.Graph.{process_count, is_idle};
 ghost use Rattle.cmh_graph.specs.Verdict.{verdict, verdicts};
 ghost use Rattle.cmh_rw.specs.declared.machine.SeatState.TheVariants.{Writing};
 ghost use Rattle.cmh_rw.specs.History.{fold_at};
-ghost use Rattle.cmh_rw.specs.Seats.{rw_view, IsSeatOf, IsAway};
+ghost use Rattle.cmh_rw.specs.Seats.{rw_view, IsSeatOf, IsRwSeatAway};
 
 use crate::{Entry, FIRST_VERDICT, RwSeat, RwWords};
 use cmh_graph::{Verdict, WaitGraph};
@@ -39,10 +39,10 @@ pub(super) fn is_new(words: &RwWords, seat: &mut RwSeat, p: u32) -> bool
 /// other.
 pub(super) fn finds_one_of_two(words: &RwWords, seat: &mut RwSeat, p: u32, q: u32) -> bool
     requires own { IsSeatOf words.now seat.old }
-    requires away { IsAway seat.old }
+    requires away { IsRwSeatAway seat.old }
     requires within { (p < MAX_PROCESSES) × (q < MAX_PROCESSES) }
     ensures own { IsSeatOf words.now seat.new }
-    ensures away { IsAway seat.new }
+    ensures away { IsRwSeatAway seat.new }
     ensures graph { (rw_view seat.new).lock.graph ≡ (rw_view seat.old).lock.graph }
 {
     if words.try_read(seat) != Entry::Held {
@@ -112,11 +112,11 @@ pub(super) fn post_two(
     q: u32,
 )
     requires own { IsSeatOf words.now seat.old }
-    requires away { IsAway seat.old }
+    requires away { IsRwSeatAway seat.old }
     requires graph { (rw_view seat.old).lock.graph ≡ graph.now }
     requires all { all.now ≡ verdicts graph.now }
     ensures own { IsSeatOf words.now seat.new }
-    ensures away { IsAway seat.new }
+    ensures away { IsRwSeatAway seat.new }
     ensures graph { (rw_view seat.new).lock.graph ≡ graph.now }
 {
     let count = graph.len();

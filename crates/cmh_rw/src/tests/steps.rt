@@ -2,7 +2,7 @@
 
 ghost use Rattle.std.specs.Prelude.{◌≡◌, ◌<◌};
 ghost use Rattle.cmh_graph.specs.Verdict.{verdicts};
-ghost use Rattle.cmh_rw.specs.Seats.{rw_view, IsSeatOf, IsAway};
+ghost use Rattle.cmh_rw.specs.Seats.{rw_view, IsSeatOf, IsRwSeatAway};
 
 use super::expect;
 use super::graphs::two_in_a_cycle;
@@ -15,7 +15,7 @@ use std::test::Fail;
 /// The first so many steps of posting q and p together: the lock, the five stores, the end.
 fn take_steps(words: &RwWords, seat: RwSeat, graph: &WaitGraph, all: &[Verdict], steps: u32)
     requires own { IsSeatOf words.now seat }
-    requires away { IsAway seat }
+    requires away { IsRwSeatAway seat }
     requires graph { (rw_view seat).lock.graph ≡ graph.now }
     requires all { all.now ≡ verdicts graph.now }
 {

@@ -1,7 +1,7 @@
 //! Each public call, as a caller writes it.
 
 ghost use Rattle.std.specs.Prelude.{◌<◌};
-ghost use Rattle.cmh_rw.specs.Seats.{IsSeatOf, IsAway};
+ghost use Rattle.cmh_rw.specs.Seats.{IsSeatOf, IsRwSeatAway};
 
 use super::graphs::two_in_a_cycle;
 use super::posting::post_two;
@@ -89,9 +89,9 @@ fn calls_of_the_words(rt: HostRuntime) -> Result<(), Fail> {
 /// last one tries to write. Afterwards all are joined again.
 fn read_together<R: Abort>(rt: &R, words: &RwWords, seat: RwSeat, others: u32) -> RwSeat
     requires own { IsSeatOf words.now seat }
-    requires away { IsAway seat }
+    requires away { IsRwSeatAway seat }
     ensures own { IsSeatOf words.now result }
-    ensures away { IsAway result }
+    ensures away { IsRwSeatAway result }
 {
     let mut rest = seat;
     if others == 0 {

@@ -3,7 +3,7 @@
 ghost use Rattle.std.specs.Prelude.{◌≡◌, ◌<◌};
 ghost use denote.Param.Send.{IsSync};
 ghost use Rattle.cmh_graph.specs.Verdict.{verdicts};
-ghost use Rattle.cmh_rw.specs.Seats.{rw_view, IsSeatOf, IsAway};
+ghost use Rattle.cmh_rw.specs.Seats.{rw_view, IsSeatOf, IsRwSeatAway};
 
 use super::expect;
 use super::graphs::{ring_and_chain, two_in_a_cycle};
@@ -17,9 +17,9 @@ use std::thread::{Threads, join};
 /// Tries to read so often.
 fn read_turns(words: &RwWords, seat: RwSeat, turns: u32) -> RwSeat
     requires own { IsSeatOf words.now seat }
-    requires away { IsAway seat }
+    requires away { IsRwSeatAway seat }
     ensures own { IsSeatOf words.now result }
-    ensures away { IsAway result }
+    ensures away { IsRwSeatAway result }
 {
     let mut seat = seat;
     for _ in 0..turns {
@@ -33,9 +33,9 @@ fn read_turns(words: &RwWords, seat: RwSeat, turns: u32) -> RwSeat
 /// Tries to write so often.
 fn write_turns(words: &RwWords, seat: RwSeat, turns: u32) -> RwSeat
     requires own { IsSeatOf words.now seat }
-    requires away { IsAway seat }
+    requires away { IsRwSeatAway seat }
     ensures own { IsSeatOf words.now result }
-    ensures away { IsAway result }
+    ensures away { IsRwSeatAway result }
 {
     let mut seat = seat;
     for _ in 0..turns {
@@ -55,19 +55,19 @@ fn both<R: Threads + Sync>(
     turns: u32,
 ) -> (RwSeat, RwSeat)
     requires own { IsSeatOf words.now x × IsSeatOf words.now y }
-    requires away { IsAway x × IsAway y }
+    requires away { IsRwSeatAway x × IsRwSeatAway y }
     ensures own { IsSeatOf words.now result.0 × IsSeatOf words.now result.1 }
-    ensures away { IsAway result.0 × IsAway result.1 }
+    ensures away { IsRwSeatAway result.0 × IsRwSeatAway result.1 }
 {
     join(
         rt,
         || -> RwSeat
-            requires { IsSeatOf words.now x × IsAway x }
-            ensures { IsSeatOf words.entry.now result × IsAway result }
+            requires { IsSeatOf words.now x × IsRwSeatAway x }
+            ensures { IsSeatOf words.entry.now result × IsRwSeatAway result }
         { read_turns(words, x, turns) },
         || -> RwSeat
-            requires { IsSeatOf words.now y × IsAway y }
-            ensures { IsSeatOf words.entry.now result × IsAway result }
+            requires { IsSeatOf words.now y × IsRwSeatAway y }
+            ensures { IsSeatOf words.entry.now result × IsRwSeatAway result }
         { write_turns(words, y, turns) },
     )
 }
@@ -98,12 +98,12 @@ fn post_and_look(
     torn: &AtomicU64,
 ) -> RwSeat
     requires own { IsSeatOf words.now seat }
-    requires away { IsAway seat }
+    requires away { IsRwSeatAway seat }
     requires graph { (rw_view seat).lock.graph ≡ graph.now }
     requires all { all.now ≡ verdicts graph.now }
     requires within { start < 100 }
     ensures own { IsSeatOf words.now result }
-    ensures away { IsAway result }
+    ensures away { IsRwSeatAway result }
     ensures graph { (rw_view result).lock.graph ≡ graph.now }
 {
     let mut seat = seat;
@@ -129,27 +129,27 @@ fn two_post<R: Threads + Sync>(
     torn: &AtomicU64,
 ) -> (RwSeat, RwSeat)
     requires own { IsSeatOf words.now x × IsSeatOf words.now y }
-    requires away { IsAway x × IsAway y }
+    requires away { IsRwSeatAway x × IsRwSeatAway y }
     requires graph { ((rw_view x).lock.graph ≡ graph.now) × ((rw_view y).lock.graph ≡ graph.now) }
     requires all { all.now ≡ verdicts graph.now }
     requires within { start < 50 }
     ensures own { IsSeatOf words.now result.0 × IsSeatOf words.now result.1 }
-    ensures away { IsAway result.0 × IsAway result.1 }
+    ensures away { IsRwSeatAway result.0 × IsRwSeatAway result.1 }
     ensures graph { ((rw_view result.0).lock.graph ≡ graph.now)
         × ((rw_view result.1).lock.graph ≡ graph.now) }
 {
     join(
         rt,
         || -> RwSeat
-            requires { IsSeatOf words.now x × IsAway x × ((rw_view x).lock.graph ≡ graph.now)
+            requires { IsSeatOf words.now x × IsRwSeatAway x × ((rw_view x).lock.graph ≡ graph.now)
                 × (all.now ≡ verdicts graph.now) × (start < 50) }
-            ensures { IsSeatOf words.entry.now result × IsAway result
+            ensures { IsSeatOf words.entry.now result × IsRwSeatAway result
                 × ((rw_view result).lock.graph ≡ graph.entry.now) }
         { post_and_look(words, x, graph, all, start, torn) },
         || -> RwSeat
-            requires { IsSeatOf words.now y × IsAway y × ((rw_view y).lock.graph ≡ graph.now)
+            requires { IsSeatOf words.now y × IsRwSeatAway y × ((rw_view y).lock.graph ≡ graph.now)
                 × (all.now ≡ verdicts graph.now) × (start < 50) }
-            ensures { IsSeatOf words.entry.now result × IsAway result
+            ensures { IsSeatOf words.entry.now result × IsRwSeatAway result
                 × ((rw_view result).lock.graph ≡ graph.entry.now) }
         { post_and_look(words, y, graph, all, start + 50, torn) },
     )
@@ -167,33 +167,33 @@ fn four_post<R: Threads + Sync>(
 ) -> ((RwSeat, RwSeat), (RwSeat, RwSeat))
     requires x_own { IsSeatOf words.now x.0 × IsSeatOf words.now x.1 }
     requires y_own { IsSeatOf words.now y.0 × IsSeatOf words.now y.1 }
-    requires x_away { IsAway x.0 × IsAway x.1 }
-    requires y_away { IsAway y.0 × IsAway y.1 }
+    requires x_away { IsRwSeatAway x.0 × IsRwSeatAway x.1 }
+    requires y_away { IsRwSeatAway y.0 × IsRwSeatAway y.1 }
     requires x_graph { ((rw_view x.0).lock.graph ≡ graph.now) × ((rw_view x.1).lock.graph ≡ graph.now) }
     requires y_graph { ((rw_view y.0).lock.graph ≡ graph.now) × ((rw_view y.1).lock.graph ≡ graph.now) }
     requires all { all.now ≡ verdicts graph.now }
     ensures x_own { IsSeatOf words.now result.0.0 × IsSeatOf words.now result.0.1 }
     ensures y_own { IsSeatOf words.now result.1.0 × IsSeatOf words.now result.1.1 }
-    ensures x_away { IsAway result.0.0 × IsAway result.0.1 }
-    ensures y_away { IsAway result.1.0 × IsAway result.1.1 }
+    ensures x_away { IsRwSeatAway result.0.0 × IsRwSeatAway result.0.1 }
+    ensures y_away { IsRwSeatAway result.1.0 × IsRwSeatAway result.1.1 }
     ensures graph { (rw_view result.0.0).lock.graph ≡ graph.now }
 {
     join(
         rt,
         || -> (RwSeat, RwSeat)
-            requires { IsSeatOf words.now x.0 × IsSeatOf words.now x.1 × IsAway x.0 × IsAway x.1
+            requires { IsSeatOf words.now x.0 × IsSeatOf words.now x.1 × IsRwSeatAway x.0 × IsRwSeatAway x.1
                 × ((rw_view x.0).lock.graph ≡ graph.now) × ((rw_view x.1).lock.graph ≡ graph.now)
                 × (all.now ≡ verdicts graph.now) × IsSync R.row }
             ensures { IsSeatOf words.entry.now result.0 × IsSeatOf words.entry.now result.1
-                × IsAway result.0 × IsAway result.1
+                × IsRwSeatAway result.0 × IsRwSeatAway result.1
                 × ((rw_view result.0).lock.graph ≡ graph.entry.now) }
         { two_post(rt, words, x.0, x.1, graph, all, 0, torn) },
         || -> (RwSeat, RwSeat)
-            requires { IsSeatOf words.now y.0 × IsSeatOf words.now y.1 × IsAway y.0 × IsAway y.1
+            requires { IsSeatOf words.now y.0 × IsSeatOf words.now y.1 × IsRwSeatAway y.0 × IsRwSeatAway y.1
                 × ((rw_view y.0).lock.graph ≡ graph.now) × ((rw_view y.1).lock.graph ≡ graph.now)
                 × (all.now ≡ verdicts graph.now) × IsSync R.row }
             ensures { IsSeatOf words.entry.now result.0 × IsSeatOf words.entry.now result.1
-                × IsAway result.0 × IsAway result.1
+                × IsRwSeatAway result.0 × IsRwSeatAway result.1
                 × ((rw_view result.0).lock.graph ≡ graph.entry.now) }
         { two_post(rt, words, y.0, y.1, graph, all, 25, torn) },
     )

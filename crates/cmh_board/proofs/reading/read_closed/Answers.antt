@@ -1,13 +1,13 @@
 use Rattle.std.proofs.Common.{◌<◌, arith, sym, ap, ◌∙◌, ◌++◌, ◌∷◌, [], length, Some, List}
 use Rattle.cmh_rw.specs.declared.row.Row.{Row}
 use Rattle.cmh_rw.specs.Seats.{words_of}
-use Rattle.cmh_board.specs.Closing.{Show}
+use Rattle.cmh_board.specs.Closing.{ShowsRows}
 use Rattle.cmh_board.proofs.RowWords.{row_back, take_got}
 use Rattle.cmh_board.proofs.reading.read_closed.Goals as goal
 
 pub loop-n-preserved : goal.loop-n-preserved
 loop-n-preserved c = (
-  λ (list : List Row) (shows : Show (words_of c.args.closed.now) list).
+  λ (list : List Row) (shows : ShowsRows (words_of c.args.closed.now) list).
       let below : c.loop-n.n < length list = omega (arith, c.loop-n-test.true, c.word_of-count.ensures, shows.count) in
       let code = c.word_of-code.ensures ∙ shows.row c.loop-n.n below in
       let row = row_back list c.loop-n.n c.word_of-code.result below code

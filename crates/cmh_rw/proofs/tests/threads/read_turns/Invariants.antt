@@ -1,5 +1,5 @@
-use Rattle.cmh_rw.specs.Seats.{IsSeatOf, IsAway}
+use Rattle.cmh_rw.specs.Seats.{IsSeatOf, IsRwSeatAway}
 use Rattle.cmh_rw.proofs.tests.threads.read_turns.Given as goal
 
 abbrev pub invariant-loop : goal.invariant-loop
-invariant-loop l = IsSeatOf l.words l.seat × IsAway l.seat
+invariant-loop l = IsSeatOf l.words l.seat × IsRwSeatAway l.seat
