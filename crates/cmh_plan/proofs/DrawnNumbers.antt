@@ -1,11 +1,12 @@
 -- What the weights of drawn numbers mean: how often each number stands among them.
 use Rattle.atomic_table.specs.Table.{State}
 use Rattle.std.specs.Prelude.{◌⊎◌}
-use Rattle.std.proofs.Common.{◌≡◌, ℕ, zero, suc, ◌<◌, ◌≤◌, ⊎_elim, Bool, true, false, eqb, leb, slice_index, cond, List, [], ◌∷◌, refl, sym, ap, ◌∙◌, arith}
+use Rattle.std.proofs.Common.{◌≡◌, ℕ, zero, suc, ◌<◌, ◌≤◌, ⊎_elim, true, false, eqb, leb, slice_index, cond, List, [], ◌∷◌, refl, sym, ap, ◌∙◌, arith}
 use Rattle.std.proofs.lemmas.Bool.{ne_eqb}
 use Rattle.std.proofs.lemmas.Bool.Decides.{eqb_tells, leb_tells}
 use Rattle.std.specs.List.{sum_by}
 use Rattle.std.proofs.lemmas.List.Sums.{sum_by-cons}
+use Rattle.cmh_run.proofs.Tally.{one_if}
 use Rattle.cmh_rw.specs.Machine.{total}
 use Rattle.cmh_plan.specs.declared.ticket_rule.TicketView.{TicketView}
 use Rattle.cmh_plan.specs.Tickets.{sum_below, times, DrewAll, Dealt}
@@ -14,24 +15,20 @@ use Rattle.cmh_plan.specs.Tickets.{sum_below, times, DrewAll, Dealt}
 abbrev hit : ℕ → ℕ → ℕ
 hit n k = cond (eqb k n) 1 0
 
--- what a test counts: 1 where it holds, else 0
-abbrev counted : Bool → ℕ
-counted b = cond b 1 0
-
 -- a number isn't among those below a bound that it reaches
 none_below : (n b : ℕ) → b ≤ n → sum_below (hit n) b ≡ 0
 none_below n zero le = refl
 none_below n (suc b) le = let r = none_below n b (omega arith) in let m =
-    ap counted (ne_eqb b n (λ e. omega arith)) in omega arith
+    ap one_if (ne_eqb b n (λ e. omega arith)) in omega arith
 
 -- a number is once among those below a bound that is above it
 once_below : (n b : ℕ) → n < b → sum_below (hit n) b ≡ 1
 once_below n zero low = absurd (omega arith)
 once_below n (suc b) low = ⊎_elim
     (λ (t : (eqb b n ≡ true) × (b ≡ n)). let e = t.1 in let r = none_below n b (omega arith) in
-    let m = ap counted t.0 in omega arith)
+    let m = ap one_if t.0 in omega arith)
     (λ (t : (eqb b n ≡ false) × (b ≡ n → ⊥)). let ne = t.1 in let r = once_below n b (omega arith) in
-    let m = ap counted t.0 in omega arith)
+    let m = ap one_if t.0 in omega arith)
     (eqb_tells b n)
 
 -- two weights that agree give one total

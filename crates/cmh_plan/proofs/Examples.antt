@@ -19,7 +19,7 @@ abbrev table : ℕ → List TicketView → State (Unit {0}) TicketView
 table word views = record { words = word ∷ []; homes = []; views = views }
 
 -- the rule of the tickets holds where x drew 0 and y drew 1
-pub dealt : Dealt 2 (table 2 (x_seat ∷ y_seat ∷ []))
+dealt : Dealt 2 (table 2 (x_seat ∷ y_seat ∷ []))
 dealt = record {
   reached = 2;
   wide = refl;
@@ -43,7 +43,7 @@ dealt = record {
     each (suc (suc i)) v at = absurd (some-ne-none v (sym at))
 
 -- the rule of the tickets doesn't hold where both seats drew 0
-pub drawn_twice : Dealt 2 (table 2 (x_seat ∷ with_drawn (ticket_newcomer (ticket_opening_view 2)) 0 ∷ [])) → ⊥
+drawn_twice : Dealt 2 (table 2 (x_seat ∷ with_drawn (ticket_newcomer (ticket_opening_view 2)) 0 ∷ [])) → ⊥
 drawn_twice h =
     no 2 (omega arith)
     ((drawn_once 2 (table 2 (x_seat ∷ with_drawn (ticket_newcomer (ticket_opening_view 2)) 0 ∷ [])) h 0).0 (omega arith)

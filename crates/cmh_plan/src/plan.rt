@@ -18,9 +18,9 @@ pub struct Plan {
 }
 
 impl Model for Plan {
-    ghost use Rattle.cmh_plan.specs.Plan.{Setup, IsAcceptedPlan};
+    ghost use Rattle.cmh_plan.specs.Plan.{PlanValue, IsAcceptedPlan};
 
-    ghost Value = { Setup };
+    ghost Value = { PlanValue };
 
     ghost view = { λ p. record {
       workers = p.workers;

@@ -16,7 +16,7 @@ use Rattle.cmh_rw.specs.declared.row.Row.{Row}
 use Rattle.cmh_rw.specs.History.{StartsWith, IsTrueOf, fold_at}
 use Rattle.cmh_board.specs.Board.{board_view, IsMadeOf}
 use Rattle.cmh_plan.specs.declared.TheConstants.{MAX_WORKERS}
-use Rattle.cmh_plan.specs.Plan.{Setup}
+use Rattle.cmh_plan.specs.Plan.{PlanValue}
 use Rattle.cmh_plan.specs.TicketSeats.{ticket_view}
 use Rattle.cmh_work.specs.declared.finding.Finding.{Finding}
 use Rattle.cmh_work.specs.declared.job.Shared.{Shared}
@@ -114,7 +114,7 @@ all_stand listed g choices rows seen found sorted p begins sound =
     (λ k d low. sound_more listed g choices rows seen (get_or found k d) begins (sound k d low))
 
 -- what workers found, sorted and numbered over the history that they posted, is an analysis
-pub analysed : {L : Type 0} (listed : L → List ℕ) (g : Graph) (plan : Setup) (j : Shared) (s : Seats)
+pub analysed : {L : Type 0} (listed : L → List ℕ) (g : Graph) (plan : PlanValue) (j : Shared) (s : Seats)
     (found sorted : List (Finding Run L)) (a : Analysis Run L) → IsWellFormed g → IsMadeFor g plan j
     → IsPermutation found sorted → IsNonDecreasingBy finding_initiator sorted
     → AreSeated j s → (ticket_view s.tickets).share ≡ MAX_WORKERS → IsWorked listed g plan j s found

@@ -28,20 +28,20 @@ use Rattle.cmh_work.specs.Record.{IsRunFor, IsTrueRecord}
 use Rattle.cmh_work.specs.Analysis.{records_of, history_of, initiator_of, IsPostedBy, IsPostedByRecords, IsAnalysisOf}
 
 -- the cuts 0, 1, 0 and 9 of three initiators: none, the first, none, the other two, none
-pub chunks_of_three : chunks_of (0 ∷ 1 ∷ 0 ∷ 9 ∷ []) (0 ∷ 1 ∷ 2 ∷ [])
+chunks_of_three : chunks_of (0 ∷ 1 ∷ 0 ∷ 9 ∷ []) (0 ∷ 1 ∷ 2 ∷ [])
     ≡ [] ∷ (0 ∷ []) ∷ [] ∷ (1 ∷ 2 ∷ []) ∷ [] ∷ []
 chunks_of_three = refl
 
 -- where they begin, by cuts whose sum is no u64: none is left to the last cut and the rest
-pub bounds_of_three : bounds_of (1 ∷ 18446744073709551615 ∷ 5 ∷ []) 3 ≡ 0 ∷ 1 ∷ 3 ∷ 3 ∷ 3 ∷ []
+bounds_of_three : bounds_of (1 ∷ 18446744073709551615 ∷ 5 ∷ []) 3 ≡ 0 ∷ 1 ∷ 3 ∷ 3 ∷ 3 ∷ []
 bounds_of_three = refl
 
 -- without cuts there is one chunk
-pub one_chunk : chunks_of [] (0 ∷ 1 ∷ []) ≡ (0 ∷ 1 ∷ []) ∷ []
+one_chunk : chunks_of [] (0 ∷ 1 ∷ []) ≡ (0 ∷ 1 ∷ []) ∷ []
 one_chunk = refl
 
 -- chunks as a worker draws them, who draws the third before the first
-pub gathered_in_another_order : concat_chunks ((0 ∷ []) ∷ (1 ∷ []) ∷ (2 ∷ 3 ∷ []) ∷ []) (2 ∷ 0 ∷ [])
+gathered_in_another_order : concat_chunks ((0 ∷ []) ∷ (1 ∷ []) ∷ (2 ∷ 3 ∷ []) ∷ []) (2 ∷ 0 ∷ [])
     ≡ 2 ∷ 3 ∷ 0 ∷ []
 gathered_in_another_order = refl
 
@@ -57,11 +57,11 @@ cycle_and_follower = record {
 }
 
 -- p leads q's group, and r leads its own
-pub leader_of_q : leader_of cycle_and_follower 1 ≡ 0
+leader_of_q : leader_of cycle_and_follower 1 ≡ 0
 unfolding reaches
 leader_of_q = refl
 
-pub leader_of_r : leader_of cycle_and_follower 2 ≡ 2
+leader_of_r : leader_of cycle_and_follower 2 ≡ 2
 unfolding reaches
 leader_of_r = refl
 
@@ -95,14 +95,14 @@ run_of_r = record {
 abbrev p_and_q : List Row
 p_and_q = row 0 Deadlocked false ∷ row 1 Deadlocked true ∷ []
 
-pub first_posting : IsPostedBy [] p_and_q run_of_p
+first_posting : IsPostedBy [] p_and_q run_of_p
 first_posting = refl
 
 -- the second posting is r alone, since p stands in a row
 abbrev r_alone : List Row
 r_alone = row 2 Deadlocked true ∷ []
 
-pub next_posting : IsPostedBy p_and_q r_alone run_of_r
+next_posting : IsPostedBy p_and_q r_alone run_of_r
 next_posting = refl
 
 -- the history: the rows of p and q, and then that of r
@@ -242,7 +242,7 @@ all_three : (P : Record Run (Vec ℕ) → Type 0) (a b c : Record Run (Vec ℕ))
 all_three P a b c x y z = All-cons P a (b ∷ c ∷ []) x (All-cons P b (c ∷ []) y (All-cons P c [] z (All-nil P)))
 
 -- the records of p, q and r with this history are an analysis
-pub is_analysis : (a : Analysis Run (Vec ℕ)) → records_of a ≡ of_p ∷ of_q ∷ of_r ∷ [] → history_of a ≡ rows
+is_analysis : (a : Analysis Run (Vec ℕ)) → records_of a ≡ of_p ∷ of_q ∷ of_r ∷ [] → history_of a ≡ rows
     → IsAnalysisOf (λ path. path.items) cycle_and_follower [] a
 unfolding reaches
 is_analysis a is has = record {
@@ -263,7 +263,7 @@ is_analysis a is has = record {
 }
 
 -- without the record of r the records are no analysis
-pub lost_record : (a : Analysis Run (Vec ℕ)) → records_of a ≡ of_p ∷ of_q ∷ []
+lost_record : (a : Analysis Run (Vec ℕ)) → records_of a ≡ of_p ∷ of_q ∷ []
     → IsAnalysisOf (λ path. path.items) cycle_and_follower [] a → ⊥
 lost_record a is h = let e : ◌≡◌ {A = List ℕ} (0 ∷ 1 ∷ []) (0 ∷ 1 ∷ 2 ∷ []) =
     sym (ap (map initiator_of) is) ∙ h.order in cc
@@ -289,7 +289,7 @@ begins_open r posting rest run (suc (suc zero), low, is) source told =
 begins_open r posting rest run (suc (suc (suc k)), low, is) source told = absurd (omega arith)
 
 -- the records with a history in which a posting is cut in two are no analysis
-pub cut_posting : (a : Analysis Run (Vec ℕ)) → records_of a ≡ of_p ∷ of_q ∷ of_r ∷ [] → history_of a ≡ cut_rows
+cut_posting : (a : Analysis Run (Vec ℕ)) → records_of a ≡ of_p ∷ of_q ∷ of_r ∷ [] → history_of a ≡ cut_rows
     → IsAnalysisOf (λ path. path.items) cycle_and_follower [] a → ⊥
 cut_posting a is has h =
     refuted (subst (λ l. IsPostedByRecords l cut_rows) is (subst (IsPostedByRecords (records_of a)) has h.postings))

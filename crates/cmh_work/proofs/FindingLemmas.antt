@@ -6,7 +6,7 @@ use Rattle.std.proofs.lemmas.List.{map-append}
 use Rattle.std.specs.declared.alloc.AllocError.{AllocError}
 use Rattle.cmh_run.specs.Run.{Run}
 use Rattle.cmh_plan.specs.declared.TheConstants.{MAX_WORKERS}
-use Rattle.cmh_plan.specs.Plan.{Setup}
+use Rattle.cmh_plan.specs.Plan.{PlanValue}
 use Rattle.cmh_plan.specs.declared.tickets.TicketSeat.{TicketSeat}
 use Rattle.cmh_plan.specs.Tickets.{sum_below, joined_views, with_drawn}
 use Rattle.cmh_plan.specs.TicketSeats.{ticket_view, IsTicketSeatOf}
@@ -39,7 +39,7 @@ collected (Ok v) (Ok a) (Err e) P Q S p q c f = absurd c
 collected (Ok v) (Err e) second P Q S p q c f = absurd c
 
 -- once the seats of two workers are joined, the findings of both are what the joined seats found
-pub joined_worked : {L : Type 0} (listed : L → List ℕ) (g : Graph) (plan : Setup) (j : Shared) (s t u : Seats)
+pub joined_worked : {L : Type 0} (listed : L → List ℕ) (g : Graph) (plan : PlanValue) (j : Shared) (s t u : Seats)
     (a b : List (Finding Run L)) → ticket_view u.tickets ≡ joined_views (ticket_view s.tickets) (ticket_view t.tickets)
     → board_view u.board ≡ joined_view (board_view s.board) (board_view t.board)
     → StartsWith (board_view u.board).seen (board_view s.board).seen
@@ -69,7 +69,7 @@ pub nothing_drawn : (chunks : List (List ℕ)) (s : Seats) → AreNew s
 nothing_drawn chunks s new = rw new.drawn refl
 
 -- with one chunk more drawn and its findings added, the findings are of the chunks drawn, in order
-pub drawn_more : {L : Type 0} (plan : Setup) (j : Shared) (s u : TicketSeat) (n : ℕ) (a b : List (Finding Run L))
+pub drawn_more : {L : Type 0} (plan : PlanValue) (j : Shared) (s u : TicketSeat) (n : ℕ) (a b : List (Finding Run L))
     → ticket_view u ≡ with_drawn (ticket_view s) n
     → map finding_initiator a ≡ concat_chunks (chunks_of plan.cuts j.idle.items) (ticket_view s).drawn
     → map finding_initiator b ≡ map finding_initiator a ++ slice_index_or (chunks_of plan.cuts j.idle.items) n []
@@ -80,7 +80,7 @@ drawn_more plan j s u n a b is was more =
     ∙ ap (λ v. concat_chunks (chunks_of plan.cuts j.idle.items) v.drawn) (sym is)
 
 -- with the whole share, the findings weigh what the idle processes do
-pub all_worked : {L : Type 0} (listed : L → List ℕ) (g : Graph) (plan : Setup) (j : Shared) (s : Seats)
+pub all_worked : {L : Type 0} (listed : L → List ℕ) (g : Graph) (plan : PlanValue) (j : Shared) (s : Seats)
     (found : List (Finding Run L)) → IsMadeFor g plan j → IsTicketSeatOf j.tickets s.tickets
     → (ticket_view s.tickets).share ≡ MAX_WORKERS
     → IsWorked listed g plan j s found

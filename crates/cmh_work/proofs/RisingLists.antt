@@ -7,13 +7,9 @@ use Rattle.cmh_graph.specs.Graph.{Graph, process_count, indices, is_idle, idle_l
 use Rattle.cmh_work.proofs.Cores.{rising}
 use Rattle.std.specs.List.Sorted.{IsNonDecreasingBy, IsPermutation}
 use Rattle.std.proofs.lemmas.List.Sorted.{sum_by-IsPermutation}
+use Rattle.cmh_rw.specs.History.{bit}
 use Rattle.cmh_rw.specs.Machine.{total}
 use Rattle.cmh_plan.proofs.DrawnNumbers.{total-sum_by}
-
--- 1 where the test passes, else 0
-abbrev bit : Bool → ℕ
-bit true = 1
-bit false = 0
 
 -- no number is less than x
 abbrev pub AllFrom : ℕ → List ℕ → Type 0

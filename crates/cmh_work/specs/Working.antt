@@ -4,7 +4,7 @@ use Rattle.cmh_graph.specs.Graph.{Graph, idle_list}
 use Rattle.cmh_board.specs.declared.board.BoardSeat.{BoardSeat}
 use Rattle.cmh_board.specs.Board.{board_view, board_graph, SitsAt, IsAway}
 use Rattle.cmh_run.specs.Run.{Run}
-use Rattle.cmh_plan.specs.Plan.{Setup}
+use Rattle.cmh_plan.specs.Plan.{PlanValue}
 use Rattle.cmh_plan.specs.TicketSeats.{ticket_view, IsTicketSeatOf, chunk_count}
 use Rattle.cmh_work.specs.declared.finding.Finding.{Finding}
 use Rattle.cmh_work.specs.declared.job.Shared.{Shared}
@@ -14,7 +14,7 @@ use Rattle.cmh_work.specs.Shape.{AreShapesOf}
 use Rattle.cmh_work.specs.Finding.{finding_initiator, Accounts}
 
 -- what the workers share was made for this graph and this plan
-pub record IsMadeFor (g : Graph) (plan : Setup) (s : Shared) : Type 0 where
+pub record IsMadeFor (g : Graph) (plan : PlanValue) (s : Shared) : Type 0 where
   pub idle : s.idle.items ≡ idle_list g
   pub bounds : s.bounds.items ≡ bounds_of plan.cuts (length s.idle.items)
   pub shapes : AreShapesOf g s.shapes
@@ -44,7 +44,7 @@ pub record AreBack (s : Shared) (old new : Seats) : Type 0 where
 
 -- what was found is of the chunks that the seat drew, in order, and explains what it added, and no
 -- chunk is left
-pub record IsWorked {L : Type 0} (listed : L → List ℕ) (g : Graph) (plan : Setup) (s : Shared) (seats : Seats)
+pub record IsWorked {L : Type 0} (listed : L → List ℕ) (g : Graph) (plan : PlanValue) (s : Shared) (seats : Seats)
     (found : List (Finding Run L))
     : Type 0 where
   pub accounts : Accounts listed g plan.choices (board_view seats.board) found
