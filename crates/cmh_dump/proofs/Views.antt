@@ -155,7 +155,7 @@ object_at (json.array js) = refl
 object_at (json.object ms) = refl
 
 -- the natural number that a tree of JSON writes, if it writes one, is that of its data
-pub natural_at : (j : json.Json)
+natural_at : (j : json.Json)
     → option_and_then (λ s. option_and_then as_u64 (number_of s)) (json_find.as_number j)
     ≡ option_and_then as_u64 (as_number (data_of j))
 natural_at json.null = refl

@@ -28,7 +28,7 @@ use Rattle.cmh_dump.proofs.FirstFaults.{bytes_have, graph_told}
 use Rattle.cmh_dump.proofs.Searches.{length-names}
 
 -- no fault of the tree holds
-abbrev pub IsClean : Data → Type 0
+abbrev IsClean : Data → Type 0
 IsClean d = (fault : DumpFault) → IsOfTree d fault → holds d fault ≡ false
 
 -- ---- the processes of the graph

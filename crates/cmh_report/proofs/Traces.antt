@@ -6,7 +6,7 @@ use Rattle.std.proofs.lemmas.List.{take_all}
 use Rattle.std.proofs.lemmas.List.Concat.{flat_map-append}
 use Rattle.cmh_graph.specs.declared.verdict.Verdict.{Verdict}
 use Rattle.cmh_graph.specs.Graph.{Graph, dependents_of, is_awake, name_of, IsWithinGraph}
-use Rattle.cmh_graph.proofs.Verdicts.{idle_within}
+use Rattle.cmh_graph.proofs.Verdicts.{idle_within, by_test}
 use Rattle.cmh_process.specs.declared.message.Kind.{Kind}
 use Rattle.cmh_process.specs.declared.message.Kind.TheVariants.{Query, Reply}
 use Rattle.cmh_process.specs.declared.message.Message.{Message}
@@ -22,7 +22,6 @@ use Rattle.cmh_run.specs.Legal.{Going, Rule, going_at_start, going_from, after_d
 use Rattle.cmh_run.specs.Run.{Run, IsRunAnswer, IsRunOf}
 use Rattle.cmh_run.proofs.BetweenLemmas.{messages_are_between}
 use Rattle.cmh_run.proofs.Determinism.{runs_are_deterministic, one_ending}
-use Rattle.cmh_run.proofs.Configurations.{by_test}
 use Rattle.cmh_text.specs.Report.{line}
 use Rattle.cmh_report.specs.Trace.{ending_lines, message_line, trace_text, IsFirstNamed, HasLines, IsEndedTrace}
 
