@@ -114,19 +114,19 @@ cond-not_spent : (b : Bool) (x y : SeatState) → x ≢ Spent → y ≢ Spent �
 cond-not_spent true x y p q = p
 cond-not_spent false x y p q = q
 
+-- what a seat knows of the lock after a try that found this word and left it in this state
+abbrev pub lock_after_try : LockView → SeatState → ℕ → LockView
+lock_after_try l state found = record l { state = state; tries = l.tries + 1; found = found }
+
 -- where a seat that is away counts itself in, the lock's part of the rule is kept
 pub enter_kept : (key : Graph) (s : LockMoment) (id : ℕ) (me : LockSeat) → me.0.state ≡ Away → LockRule key s
     → get_elem? s.views id ≡ some me.0
     → LockRule key
     (stepped s 0 ((get_or s.words 0 0 + 1) % 18446744073709551616) id me.1
-    (record me.0 {
-      state = (turn (Admit 0) (get_or s.words 0 0) me.0.state).1;
-      tries = me.0.tries + 1;
-      found = get_or s.words 0 0;
-    }) keeps)
+    (lock_after_try me.0 (turn (Admit 0) (get_or s.words 0 0) me.0.state).1 (get_or s.words 0 0)) keeps)
 enter_kept key s id me away h at =
     let x = get_or s.words 0 0 in
-    let w = record me.0 { state = (turn (Admit 0) x me.0.state).1; tries = me.0.tries + 1; found = x } in
+    let w = lock_after_try me.0 (turn (Admit 0) x me.0.state).1 x in
     let small = word-small key s h in
     let t : turn (Admit 0) x me.0.state ≡ (x + 1, cond (ltb x 4294967296) Reading Retreating) =
     ap (turn (Admit 0) x) away in
@@ -200,13 +200,9 @@ pub take_kept : (key : Graph) (s : LockMoment) (id : ℕ) (me : LockSeat) → me
     → get_elem? s.views id ≡ some me.0
     → LockRule key
     (stepped s 0 (either (eqb (get_or s.words 0 0) 0) 4294967296 (get_or s.words 0 0)) id me.1
-    (record me.0 {
-      state = (turn (TryWrite 0) (get_or s.words 0 0) me.0.state).1;
-      tries = me.0.tries + 1;
-      found = get_or s.words 0 0;
-    }) keeps)
+    (lock_after_try me.0 (turn (TryWrite 0) (get_or s.words 0 0) me.0.state).1 (get_or s.words 0 0)) keeps)
 take_kept key s id me away h at = let x = get_or s.words 0 0 in
-    let w = record me.0 { state = (turn (TryWrite 0) x me.0.state).1; tries = me.0.tries + 1; found = x } in
+    let w = lock_after_try me.0 (turn (TryWrite 0) x me.0.state).1 x in
     let t : turn (TryWrite 0) x me.0.state ≡ tried (eqb x 0) x = ap (turn (TryWrite 0) x) away in
     let n : either (eqb x 0) 4294967296 x ≡ (turn (TryWrite 0) x me.0.state).0 =
     either_cond (eqb x 0) x ∙ sym (ap (λ p. p.0) t) in

@@ -20,7 +20,7 @@ use Rattle.cmh_rw.specs.View.{view_after_try, view_after_end}
 use Rattle.cmh_rw.specs.Rule.{Moment, lock_of, lock_moment, state_of, LockRule, SeatRule, WordsRule}
 use Rattle.cmh_rw.proofs.Folds.{fold-nothing}
 use Rattle.cmh_rw.proofs.Lawful.{total-set}
-use Rattle.cmh_rw.proofs.Lock.{enter_kept, leave_kept, take_kept, end_kept}
+use Rattle.cmh_rw.proofs.Lock.{lock_after_try, enter_kept, leave_kept, take_kept, end_kept}
 use Rattle.cmh_rw.proofs.Moments.{TableSeat, away_writing, away_spent, not_held, idle_still, state_at}
 
 -- the lock's part of a seat
@@ -93,7 +93,7 @@ enters key slots id me is s b homes at small =
     let v = me.0 in
     let x = get_or s.words 0 0 in
     let low = enter_kept key (lock_moment s) id (lock_me me) is b.lock (at_map lock_of s.views id v at) in
-    let l = record v.lock { state = (turn (Admit 0) x v.lock.state).1; tries = v.lock.tries + 1; found = x } in
+    let l = lock_after_try v.lock (turn (Admit 0) x v.lock.state).1 x in
     let state : l.state ≡ cond (ltb x WRITER) Reading Retreating = ap (λ a. (turn (Admit 0) x a).1) is in (
       record v { lock = l },
       keeps,
@@ -189,7 +189,7 @@ takes_lock key slots id me is s b homes at small =
     let v = me.0 in
     let x = get_or s.words 0 0 in
     let low = take_kept key (lock_moment s) id (lock_me me) is b.lock (at_map lock_of s.views id v at) in
-    let l = record v.lock { state = (turn (TryWrite 0) x v.lock.state).1; tries = v.lock.tries + 1; found = x } in
+    let l = lock_after_try v.lock (turn (TryWrite 0) x v.lock.state).1 x in
     let state : l.state ≡ (taken (eqb x 0) x).1 = ap (λ a. (turn (TryWrite 0) x a).1) is in
     let bare = (b.each id v at).bare (λ e. away_writing (sym is ∙ e)) in
     let law = b.lock.lock.word in
