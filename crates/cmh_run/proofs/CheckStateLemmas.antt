@@ -20,7 +20,7 @@ use Rattle.cmh_run.specs.declared.delivery.Ending.TheVariants.{AtRest}
 use Rattle.cmh_run.specs.Config.{Config, proc_at, messages_of, nothing_yet, start, after_hint, after_answer, after_message, without_message, after_delivery}
 use Rattle.cmh_run.specs.Legal.{Going, going_from, going_at_start, after_due_restart, going_after, MayCome, any_place, DeliveriesLead}
 use Rattle.cmh_run.specs.Check.{LeadTo, IsUndelivered}
-use Rattle.cmh_run.specs.CheckState.{is_waiting, of_kind, goes_like, CheckState, with_bag, Agrees, IsSettled}
+use Rattle.cmh_run.specs.CheckState.{is_waiting, is_same_kind, goes_like, CheckState, with_bag, Agrees, IsSettled}
 use Rattle.cmh_run.proofs.Tokens.{Each, each_append, each_remove, each_at}
 use Rattle.cmh_run.proofs.LiveInvariant.{IsSoundRun}
 use Rattle.cmh_run.proofs.Soundness.{number_kept}
@@ -200,22 +200,22 @@ delivered_is g i c x m hint =
 
 -- a message goes like itself
 goes_itself : (m : Message) → goes_like m m ≡ true
-goes_itself m = and_from _ (eqb m.from m.from && eqb m.to m.to) (kinds m.kind)
+goes_itself m = and_from (is_same_kind m.kind m.kind) (eqb m.from m.from && eqb m.to m.to) (kinds m.kind)
     (and_from (eqb m.from m.from) (eqb m.to m.to) (eq-eqb m.from m.from refl) (eq-eqb m.to m.to refl))
   where
-    kinds : (k : Kind) → of_kind k (of_kind k true false) (of_kind k false true) ≡ true
+    kinds : (k : Kind) → is_same_kind k k ≡ true
     kinds Query = refl
     kinds Reply = refl
 
 -- two messages of the first computation that go alike are equal
 goes_equal : (i : ℕ) (a b : Message) → Own i a → Own i b → goes_like a b ≡ true → a ≡ b
 goes_equal i a b oa ob h =
-    let p = and_parts _ (eqb a.from b.from && eqb a.to b.to) h in
+    let p = and_parts (is_same_kind a.kind b.kind) (eqb a.from b.from && eqb a.to b.to) h in
     let q = and_parts (eqb a.from b.from) (eqb a.to b.to) p.1 in
     same (kinds a.kind b.kind p.0) (oa.mine ∙ sym ob.mine) (oa.first ∙ sym ob.first) (eqb-true a.from b.from q.0)
     (eqb-true a.to b.to q.1)
   where
-    kinds : (k l : Kind) → of_kind k (of_kind l true false) (of_kind l false true) ≡ true → k ≡ l
+    kinds : (k l : Kind) → is_same_kind k l ≡ true → k ≡ l
     kinds Query Query e = refl
     kinds Reply Reply e = refl
     kinds Query Reply e = absurd (true≢false (sym e))

@@ -9,7 +9,7 @@ use Rattle.std.specs.BTreeMap.{is_at}
 use Rattle.cmh_process.specs.declared.message.Kind.{Kind}
 use Rattle.cmh_process.specs.declared.message.Kind.TheVariants.{Query, Reply}
 use Rattle.cmh_process.specs.declared.message.Message.{Message}
-use Rattle.cmh_run.specs.CheckState.{pair_cmp, of_kind, UndeliveredState, is_waiting, goes_like}
+use Rattle.cmh_run.specs.CheckState.{pair_cmp, of_kind, UndeliveredState, is_waiting, is_same_kind, goes_like}
 use Rattle.cmh_graph.proofs.Verdicts.{by_test}
 
 -- two numbers compare as equal where they are tested to be
@@ -52,7 +52,7 @@ pub query_added : (o n r : List (ℕ × ℕ)) (x : Message) → x.kind ≡ Query
 query_added o n r x is h m = rw is (by_kind m.kind)
   where
     by_kind : (k : Kind) → list_any (is_at (pair_cmp (m.from, m.to))) (of_kind k n r)
-        ≡ ((of_kind k true false && (eqb x.from m.from && eqb x.to m.to))
+        ≡ ((is_same_kind Query k && (eqb x.from m.from && eqb x.to m.to))
         || list_any (is_at (pair_cmp (m.from, m.to))) (of_kind k o r))
     by_kind Query = same_set o n x m true h
         ∙ chosen_or (eqb x.from m.from && eqb x.to m.to) (list_any (is_at (pair_cmp (m.from, m.to))) o)
@@ -66,7 +66,7 @@ pub reply_added : (o n q : List (ℕ × ℕ)) (x : Message) → x.kind ≡ Reply
 reply_added o n q x is h m = rw is (by_kind m.kind)
   where
     by_kind : (k : Kind) → list_any (is_at (pair_cmp (m.from, m.to))) (of_kind k q n)
-        ≡ ((of_kind k false true && (eqb x.from m.from && eqb x.to m.to))
+        ≡ ((is_same_kind Reply k && (eqb x.from m.from && eqb x.to m.to))
         || list_any (is_at (pair_cmp (m.from, m.to))) (of_kind k q o))
     by_kind Query = refl
     by_kind Reply = same_set o n x m true h
@@ -80,7 +80,7 @@ pub query_taken : (o n r : List (ℕ × ℕ)) (x : Message) → x.kind ≡ Query
 query_taken o n r x is h m = rw is (by_kind m.kind)
   where
     by_kind : (k : Kind) → list_any (is_at (pair_cmp (m.from, m.to))) (of_kind k n r)
-        ≡ (not (of_kind k true false && (eqb x.from m.from && eqb x.to m.to))
+        ≡ (not (is_same_kind Query k && (eqb x.from m.from && eqb x.to m.to))
         && list_any (is_at (pair_cmp (m.from, m.to))) (of_kind k o r))
     by_kind Query = same_set o n x m false h
         ∙ chosen_and (eqb x.from m.from && eqb x.to m.to) (list_any (is_at (pair_cmp (m.from, m.to))) o)
@@ -94,7 +94,7 @@ pub reply_taken : (o n q : List (ℕ × ℕ)) (x : Message) → x.kind ≡ Reply
 reply_taken o n q x is h m = rw is (by_kind m.kind)
   where
     by_kind : (k : Kind) → list_any (is_at (pair_cmp (m.from, m.to))) (of_kind k q n)
-        ≡ (not (of_kind k false true && (eqb x.from m.from && eqb x.to m.to))
+        ≡ (not (is_same_kind Reply k && (eqb x.from m.from && eqb x.to m.to))
         && list_any (is_at (pair_cmp (m.from, m.to))) (of_kind k q o))
     by_kind Query = refl
     by_kind Reply = same_set o n x m false h

@@ -32,10 +32,13 @@ pub record UndeliveredState : Type 0 where
 abbrev pub is_waiting : UndeliveredState → Message → Bool
 is_waiting w m = list_any (is_at (pair_cmp (m.from, m.to))) (of_kind m.kind w.queries w.replies)
 
+-- both kinds are queries, or both are replies
+abbrev pub is_same_kind : Kind → Kind → Bool
+is_same_kind a b = of_kind a (of_kind b true false) (of_kind b false true)
+
 -- both messages are queries or both are replies, from the same process to the same
 abbrev pub goes_like : Message → Message → Bool
-goes_like a b =
-    of_kind a.kind (of_kind b.kind true false) (of_kind b.kind false true) && (a.from == b.from && a.to == b.to)
+goes_like a b = is_same_kind a.kind b.kind && (a.from == b.from && a.to == b.to)
 
 -- what is kept: a network whose bag has what was just sent, and which messages are undelivered
 -- beside those
