@@ -43,7 +43,7 @@ impl<'a> Hints for BoardHints<'a> {
     /// The board may always answer.
     ghost is_silent = { λ h. ⊥ };
 
-    /// One look. Where somebody was posting there is no answer.
+    /// One look. Where a seat was posting there is no answer, and nothing more was seen.
     fn hint(&mut self, p: u32) -> Option<Verdict>
         requires { (g : Graph) × SpeaksOf self.old g × (p < process_count g) }
         ensures tried { TriesOnce (board_view self.old.seat.now) (board_view self.new.seat.now) }
@@ -52,6 +52,8 @@ impl<'a> Hints for BoardHints<'a> {
         ensures loads { (board_view self.new.seat.now).lock.found < WRITER
             → (board_view self.old.seat.now).loads < (board_view self.new.seat.now).loads }
         ensures busy { WRITER ≤ (board_view self.new.seat.now).lock.found → result ≡ None }
+        ensures unseen { WRITER ≤ (board_view self.new.seat.now).lock.found
+            → (board_view self.new.seat.now).seen ≡ (board_view self.old.seat.now).seen }
         ensures true_verdict { (g : Graph) → SpeaksOf self.old g → p < process_count g
             → IfSome result (λ v. IsVerdict g p v) }
         ensures silent { ⊥ → result ≡ None }

@@ -6,7 +6,6 @@ mod load;
 mod memory;
 mod runs;
 mod seats;
-mod surface;
 mod threads;
 
 use std::fmt::Debug;

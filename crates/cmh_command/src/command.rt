@@ -20,12 +20,13 @@ Exit status:
   1  the dump is refused
   2  the command line is refused, or NAME is no idle process of the dump
   3  some process is deadlocked
-  4  want of memory, or a fault of a device
+  4  out of memory, or an I/O error
 
 The dump is one JSON text on standard input, read up to its end.
 docs/DUMPS.md says how to write one, docs/FORMATS.md what is read and printed.";
 
-const ABOUT: &str = "Finds the processes of a stalled message-passing program that can never go on";
+const ABOUT: &str =
+    "Finds the processes of a stalled message-passing program that can never continue";
 
 const ABOUT_ANALYSE: &str =
     "Reads a dump from standard input and says which idle processes are deadlocked";
@@ -42,7 +43,7 @@ Examples:
   cmh analyse --workers 64 --cuts 64,64,64 < dump.json
 
 Exit status: 0 no process is deadlocked, 3 some process is; 1 the dump is refused,
-2 the command line is, 4 want of memory or a fault of a device.
+2 the command line is, 4 out of memory or an I/O error.
 
 docs/DUMPS.md says how to write a dump, docs/FORMATS.md how to read the report.";
 
@@ -52,7 +53,7 @@ Examples:
   cmh trace NAME --choices 1,0,2 < dump.json
 
 Exit status: 0 the trace was made; 1 the dump is refused, 2 the command line is, or
-NAME is no idle process of the dump, 4 want of memory or a fault of a device.
+NAME is no idle process of the dump, 4 out of memory or an I/O error.
 
 docs/DUMPS.md says how to write a dump, docs/FORMATS.md how to read the trace.";
 
@@ -82,7 +83,7 @@ fn top_command<'a>(alloc: Global) -> Command<'a>
     ensures local { (out-Command result).has_globals ≡ false }
 {
     Command::new(alloc, "cmh")
-        .version("0.1.0")
+        .version("0.9.0")
         .subcommand_required(true)
         .disable_help_subcommand(true)
 }
@@ -108,7 +109,7 @@ fn analyse_command<'a>(alloc: Global) -> Result<Command<'a>, AllocError>
     ensures app { IfOk result (λ c. app_of c ≡ analyse_app) }
     ensures local { IfOk result (λ c. (out-Command c).has_globals ≡ false) }
 {
-    let cuts = "How many idle processes each chunk takes: numbers parted by commas";
+    let cuts = "How many idle processes each chunk takes: comma-separated numbers";
     let command = subcommand(alloc, "analyse", "cmh analyse [OPTIONS] < DUMP");
     described(command, ABOUT_ANALYSE, AFTER_ANALYSE)
         .arg(workers_option(alloc))?
@@ -144,14 +145,14 @@ fn workers_option<'a>(alloc: Global) -> Arg<'a>
         .long("workers")
         .value_name("N")
         .value_parser(value_parser!(u32).range(1..=i64::from(MAX_WORKERS)))
-        .help("How many workers share the idle processes, 1 to 64; 4 where nothing is said")
+        .help("How many workers share the idle processes, 1 to 64; the default is 4")
 }
 
 fn choices_option<'a>(alloc: Global) -> Arg<'a>
     ensures rule { rule_of result ≡ option_rule (codes "choices") }
     ensures local { result.global ≡ false }
 {
-    let help = "Which undelivered message comes next, by its place: numbers parted by commas";
+    let help = "Which undelivered message comes next, by its place: comma-separated numbers";
     list_option(alloc, "choices", help)
 }
 

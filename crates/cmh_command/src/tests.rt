@@ -1,7 +1,7 @@
 //! Words and lists, as a client writes them.
 
 mod lists;
-mod surface;
+mod memory;
 mod words;
 
 use std::fmt::Debug;

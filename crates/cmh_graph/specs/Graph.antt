@@ -38,7 +38,7 @@ name_of g p = (process_at g p).name
 abbrev pub site_of : Graph → ℕ → ℕ
 site_of g p = (process_at g p).site
 
--- the dependent set of p, by rising index in a well-formed graph
+-- the dependent set of p, in the order given
 abbrev pub dependents_of : Graph → ℕ → List ℕ
 dependents_of g p = (process_at g p).dependents
 

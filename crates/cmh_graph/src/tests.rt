@@ -1,12 +1,15 @@
-//! Worked graphs. Expected values are from the rules, by hand.
+//! Worked graphs. Wanted values are from the rules, by hand.
 
 mod cores;
 mod limits;
-mod memory;
 mod reaches;
-mod surface;
 
-use crate::{GraphFault, MAX_IN_TRANSIT, MAX_PROCESSES, Part, State, Verdict, WaitGraph};
+use crate::laws::{
+    law_built_graph, law_chosen_path, law_chosen_path_exists, law_closed_set, law_core,
+    law_distance, law_group_number, law_leader, law_leaders, law_path_length, law_reach, law_rest,
+    law_rising, law_verdict, law_well_formed,
+};
+use crate::{GraphFault, MAX_IN_TRANSIT, Part, Predecessors, State, Verdict, WaitGraph};
 use std::alloc::{AllocError, Global};
 use std::fmt::Debug;
 use std::process::Abort;
@@ -14,6 +17,11 @@ use std::process::Abort;
 /// Fails the test where what was found is not what was wanted. As a call it is one step of a test's proof; written
 /// out, a comparison is several, and proofs of tests grow faster than their steps.
 fn expect_eq<R: Abort, T: PartialEq + Debug + Drop>(rt: &R, found: T, wanted: T) {
+    assert_eq!(*rt; found, wanted);
+}
+
+/// The same for lists.
+fn expect_list<R: Abort, T: PartialEq + Debug>(rt: &R, found: &[T], wanted: &[T]) {
     assert_eq!(*rt; found, wanted);
 }
 
@@ -61,38 +69,33 @@ const TWO_SHORTEST_PATHS: [Row; 4] = [
 ];
 
 #[test]
+fn values_of_a_graph(rt: HostRuntime) -> Result<(), GraphFault> {
+    let graph = graph_of(rt.alloc(), &CYCLE_AND_FOLLOWER)?;
+    law_built_graph(&graph);
+    assert_eq!(rt; (graph.len(), graph.is_empty()), (3, false));
+    expect_eq(&rt, (graph.name(2), graph.site(2)), ("r", 1));
+    expect_eq(&rt, (graph.is_idle(2), graph.is_awake(2)), (true, false));
+    expect_list(&rt, graph.dependents(2), &[0]);
+    expect_list(&rt, graph.in_transit(), &[]);
+    Ok(())
+}
+
+#[test]
 fn cycle_and_follower(rt: HostRuntime) -> Result<(), GraphFault> {
     let alloc = rt.alloc();
     let graph = graph_of(alloc, &CYCLE_AND_FOLLOWER)?;
     assert_eq!(rt; graph.len(), 3);
-    expect(&rt, !graph.is_empty());
-    expect_eq(&rt, graph.name(2), "r");
-    expect_eq(&rt, graph.site(2), 1);
-    expect_eq(&rt, graph.dependents(2), [0].as_slice());
-    expect(&rt, graph.is_idle(2));
-    expect(&rt, !graph.is_awake(2));
-    expect_eq(
+    expect_list(&rt, &graph.idle_list(alloc)?, &[0, 1, 2]);
+    expect_list(
         &rt,
-        graph.idle_list(alloc)?.as_slice(),
-        [0, 1, 2].as_slice(),
+        &graph.verdicts_plain(alloc)?,
+        &[Verdict::Deadlocked; 3],
     );
-    expect_eq(
-        &rt,
-        graph.verdicts_plain(alloc)?.as_slice(),
-        [Verdict::Deadlocked; 3].as_slice(),
-    );
-    expect_eq(
-        &rt,
-        graph.reach_of(alloc, 2)?.as_slice(),
-        [0, 1, 2].as_slice(),
-    );
-    expect_eq(&rt, graph.core_of(alloc, 2)?.as_slice(), [2].as_slice());
+    expect_list(&rt, &graph.reach_of(alloc, 2)?, &[0, 1, 2]);
+    expect_list(&rt, &graph.reached(alloc, 1)?, &[true, true, false]);
+    expect_list(&rt, &graph.core_of(alloc, 2)?, &[2]);
     expect(&rt, graph.chosen_path(alloc, 2)?.is_none());
-    expect_eq(
-        &rt,
-        graph.distances(alloc)?.as_slice(),
-        [None; 3].as_slice(),
-    );
+    expect_list(&rt, &graph.distances(alloc)?, &[None; 3]);
     Ok(())
 }
 
@@ -101,78 +104,45 @@ fn two_shortest_paths(rt: HostRuntime) -> Result<(), GraphFault> {
     let alloc = rt.alloc();
     let graph = graph_of(alloc, &TWO_SHORTEST_PATHS)?;
     assert_eq!(rt; graph.len(), 4);
-    let distances = [Some(2), Some(1), Some(1), Some(0)];
-    expect_eq(
-        &rt,
-        graph.distances(alloc)?.as_slice(),
-        distances.as_slice(),
-    );
     let path = graph.chosen_path(alloc, 0)?.expect(&rt, "a path");
-    expect_eq(&rt, path.as_slice(), [0, 1, 3].as_slice());
-    let path = graph.chosen_path(alloc, 3)?.expect(&rt, "a path");
-    expect_eq(&rt, path.as_slice(), [3].as_slice());
-    expect_eq(
-        &rt,
-        graph.verdicts_plain(alloc)?.as_slice(),
-        [Verdict::Free; 4].as_slice(),
-    );
+    expect_list(&rt, &path, &[0, 1, 3]);
+    let predecessors = Predecessors::of_graph(alloc, &graph)?;
+    let distances = graph.distances(alloc)?;
+    expect_list(&rt, &distances, &[Some(2), Some(1), Some(1), Some(0)]);
+    expect_list(&rt, &graph.distances_by(alloc, &predecessors)?, &distances);
+    let path = graph.path_by(alloc, &distances, 3)?.expect(&rt, "a path");
+    expect_list(&rt, &path, &[3]);
+    let verdicts = graph.verdicts_by(alloc, &distances)?;
+    expect_list(&rt, &verdicts, &[Verdict::Free; 4]);
     Ok(())
 }
 
 #[test]
 fn empty(rt: HostRuntime) -> Result<(), GraphFault> {
-    let alloc = rt.alloc();
-    let graph = graph_of(alloc, &[])?;
-    assert_eq!(rt; graph.len(), 0);
-    assert!(rt; graph.is_empty());
-    expect(&rt, graph.idle_list(alloc)?.is_empty());
-    expect(&rt, graph.verdicts_plain(alloc)?.is_empty());
-    expect(&rt, graph.distances(alloc)?.is_empty());
+    let graph = graph_of(rt.alloc(), &[])?;
+    expect_eq(&rt, (graph.len(), graph.is_empty()), (0, true));
+    expect(&rt, graph.verdicts_plain(rt.alloc())?.is_empty());
     Ok(())
 }
 
 #[test]
 fn refused_parts(rt: HostRuntime) {
-    let alloc = rt.alloc();
-    let table: [(&[Row], GraphFault); 7] = [
+    let table: [(Row, GraphFault); 3] = [
         (
-            &[("p", 0, State::Idle, &[5])],
+            ("p", 0, State::Idle, &[5]),
             GraphFault::DependentOutOfRange(0, 0),
         ),
         (
-            &[("p", 0, State::Idle, &[0, 0])],
+            ("p", 0, State::Idle, &[0, 0]),
             GraphFault::RepeatedDependent(0, 1),
         ),
         (
-            &[("p", 0, State::Active, &[0])],
-            GraphFault::ActiveWithDependents(0),
-        ),
-        // Where there are several faults, the first is answered.
-        (
-            &[("p", 0, State::Idle, &[0, 0]), ("q", 0, State::Idle, &[2])],
-            GraphFault::DependentOutOfRange(1, 0),
-        ),
-        (
-            &[
-                ("p", 0, State::Active, &[1]),
-                ("q", 0, State::Idle, &[0, 1, 0, 1]),
-            ],
-            GraphFault::RepeatedDependent(1, 2),
-        ),
-        (
-            &[
-                ("p", 0, State::Idle, &[0, 3, 2]),
-                ("q", 0, State::Idle, &[2]),
-            ],
-            GraphFault::DependentOutOfRange(0, 1),
-        ),
-        (
-            &[("p", 0, State::Active, &[1]), ("q", 0, State::Active, &[0])],
+            ("p", 0, State::Active, &[0]),
             GraphFault::ActiveWithDependents(0),
         ),
     ];
-    for (rows, fault) in table {
-        assert!(rt; graph_of(alloc, rows).err() == Some(fault), "wants {fault}");
+    for (row, fault) in table {
+        expect_eq(&rt, graph_of(rt.alloc(), &[row]).err(), Some(fault));
     }
 }
 
@@ -197,108 +167,33 @@ fn in_transit(rt: HostRuntime) -> Result<(), GraphFault> {
 #[test]
 fn refused_messages(rt: HostRuntime) -> Result<(), GraphFault> {
     let alloc = rt.alloc();
-    let mut messages = vec![in alloc; (0, 0); MAX_IN_TRANSIT]?;
-    let parts = parts_of(alloc, &TWO_IN_A_CYCLE)?;
-    let graph = WaitGraph::build_with(alloc, parts, &messages)?;
-    for p in 0..graph.len() {
-        expect(&rt, !graph.is_awake(p));
-    }
-    messages.push((0, 0))?;
-    let table: [(&[(u32, u32)], GraphFault); 3] = [
-        (&messages, GraphFault::TooManyInTransit),
+    let many = vec![in alloc; (0, 0); MAX_IN_TRANSIT + 1]?;
+    let table: [(&[(u32, u32)], GraphFault); 2] = [
+        (&many, GraphFault::TooManyInTransit),
         (&[(0, 2)], GraphFault::TransitOutOfRange(0)),
-        (&[(0, 1), (2, 0), (0, 2)], GraphFault::TransitOutOfRange(1)),
     ];
     for (messages, fault) in table {
         let parts = parts_of(alloc, &TWO_IN_A_CYCLE)?;
         let refused = WaitGraph::build_with(alloc, parts, messages).err();
-        assert!(rt; refused == Some(fault), "wants {fault}");
+        expect_eq(&rt, refused, Some(fault));
     }
-    Ok(())
-}
-
-/// So many idle processes, each with these dependents.
-fn alike(alloc: Global, count: usize, dependents: &[u32]) -> Result<Vec<Part>, AllocError> {
-    let mut parts = Vec::new(alloc);
-    for _ in 0..count {
-        let name = String::from_str(alloc, "p")?;
-        let dependents = Vec::from_slice(alloc, dependents)?;
-        parts.push(Part {
-            name,
-            site: 0,
-            state: State::Idle,
-            dependents,
-        })?;
-    }
-    Ok(parts)
-}
-
-#[test]
-fn most_processes(rt: HostRuntime) -> Result<(), GraphFault> {
-    let alloc = rt.alloc();
-    let graph = WaitGraph::build(alloc, alike(alloc, MAX_PROCESSES, &[])?)?;
-    expect_eq(&rt, graph.idle_list(alloc)?.len(), MAX_PROCESSES);
-    let verdicts = graph.verdicts_plain(alloc)?;
-    assert_eq!(rt; verdicts.len(), MAX_PROCESSES);
-    expect(
-        &rt,
-        verdicts
-            .iter()
-            .all(|verdict| *verdict == Verdict::Deadlocked),
-    );
-    let refused = WaitGraph::build(alloc, alike(alloc, MAX_PROCESSES + 1, &[])?).err();
-    expect(&rt, refused == Some(GraphFault::TooManyProcesses));
     Ok(())
 }
 
 #[test]
-fn most_dependencies(rt: HostRuntime) -> Result<(), GraphFault> {
-    let alloc = rt.alloc();
-    let mut everybody = Vec::new(alloc);
-    for p in 0..256 {
-        everybody.push(p)?;
-    }
-    let graph = WaitGraph::build(alloc, alike(alloc, 256, &everybody)?)?;
-    for p in 0..graph.len() {
-        expect(
-            &rt,
-            graph.core_of(alloc, p)?.as_slice() == everybody.as_slice(),
-        );
-    }
-    let mut parts = alike(alloc, 256, &everybody)?;
-    parts.extend(alike(alloc, 1, &[0])?)?;
-    let refused = WaitGraph::build(alloc, parts).err();
-    expect(&rt, refused == Some(GraphFault::TooManyDependencies));
-    Ok(())
-}
-
-#[test]
-fn fault_texts(rt: HostRuntime) -> Result<(), GraphFault> {
-    let alloc = rt.alloc();
-    let table = [
-        (GraphFault::TooManyProcesses, "too many processes"),
-        (GraphFault::TooManyDependencies, "too many dependencies"),
-        (
-            GraphFault::DependentOutOfRange(1, 20),
-            "dependent out of range 1 20",
-        ),
-        (
-            GraphFault::RepeatedDependent(3, 4),
-            "repeated dependent 3 4",
-        ),
-        (
-            GraphFault::ActiveWithDependents(5),
-            "active with dependents 5",
-        ),
-        (GraphFault::Memory, "out of memory"),
-        (GraphFault::TooManyInTransit, "too many in transit"),
-        (
-            GraphFault::TransitOutOfRange(6),
-            "in transit out of range 6",
-        ),
-    ];
-    for (fault, text) in table {
-        expect_eq(&rt, format!(in alloc; "{fault}")?.as_str(), text);
-    }
-    Ok(())
+fn laws() {
+    law_closed_set();
+    law_reach();
+    law_verdict();
+    law_chosen_path();
+    law_chosen_path_exists();
+    law_distance();
+    law_path_length();
+    law_core();
+    law_rest();
+    law_rising();
+    law_leader();
+    law_leaders();
+    law_group_number();
+    law_well_formed();
 }

@@ -2,7 +2,7 @@
 
 mod memory;
 mod plans;
-mod surface;
+mod tickets;
 
 use std::fmt::Debug;
 use std::process::Abort;

@@ -1,7 +1,6 @@
-//! Single steps.
+//! Single steps. Wanted values are from the rules, by hand.
 
-mod surface;
-
+use crate::laws::law_stale;
 use crate::{Action, Proc};
 use std::fmt::Debug;
 use std::process::Abort;
@@ -10,11 +9,6 @@ use std::process::Abort;
 /// out, a comparison is several, and proofs of tests grow faster than their steps.
 fn expect_eq<R: Abort, T: PartialEq + Debug + Drop>(rt: &R, found: T, wanted: T) {
     assert_eq!(*rt; found, wanted);
-}
-
-/// Fails the test where it doesn't hold.
-fn expect<R: Abort>(rt: &R, holds: bool) {
-    assert!(*rt; holds);
 }
 
 fn state(latest: u32, engager: Option<u32>, num: u32, wait: bool) -> Proc {
@@ -28,50 +22,67 @@ fn state(latest: u32, engager: Option<u32>, num: u32, wait: bool) -> Proc {
 
 #[test]
 fn starts(rt: HostRuntime) {
-    let mut asks = Proc::new();
-    expect_eq(&rt, asks.start(2), Action::Engage);
-    expect_eq(&rt, asks, state(1, None, 2, true));
-    let mut has_nobody_to_ask = Proc::new();
-    expect_eq(&rt, has_nobody_to_ask.start(0), Action::Declare);
-    expect_eq(&rt, has_nobody_to_ask, state(1, None, 0, true));
-}
-
-#[test]
-fn starts_again(rt: HostRuntime) {
-    let mut proc = Proc::new();
-    expect_eq(&rt, proc.start(1), Action::Engage);
-    expect_eq(&rt, proc.start(2), Action::Engage);
-    expect_eq(&rt, proc, state(2, None, 2, true));
-    expect_eq(&rt, proc.on_reply(1), Action::Nothing);
-    expect_eq(&rt, proc, state(2, None, 2, true));
+    let table = [
+        (0, 2, Action::Engage),
+        (0, 0, Action::Declare),
+        (1, 2, Action::Engage),
+        // The greatest number that a computation may have is started from the one before it.
+        (u32::MAX - 1, u32::MAX, Action::Engage),
+    ];
+    for (latest, size, action) in table {
+        assert!(rt; latest < u32::MAX);
+        let mut proc = Proc {
+            latest,
+            ..Proc::new()
+        };
+        expect_eq(&rt, proc.start(size), action);
+        expect_eq(&rt, proc, state(latest + 1, None, size, true));
+    }
 }
 
 #[test]
 fn takes_queries(rt: HostRuntime) {
-    let mut proc = Proc::new();
-    expect_eq(&rt, proc.on_query(1, 5, 2), Action::Engage);
-    expect_eq(&rt, proc, state(1, Some(5), 2, true));
-    expect_eq(&rt, proc.on_query(1, 7, 2), Action::ReplyTo(7));
-    expect_eq(&rt, proc, state(1, Some(5), 2, true));
-    expect_eq(&rt, proc.on_query(0, 7, 2), Action::Nothing);
-    expect_eq(&rt, proc, state(1, Some(5), 2, true));
-    let mut has_nobody_to_ask = Proc::new();
-    expect_eq(&rt, has_nobody_to_ask.on_query(1, 4, 0), Action::ReplyTo(4));
-    expect_eq(&rt, has_nobody_to_ask, state(1, Some(4), 0, true));
+    let engaged = state(1, Some(5), 2, true);
+    let asked_out = state(1, Some(5), 0, true);
+    let alone = state(1, Some(4), 0, true);
+    let table = [
+        (Proc::new(), (1, 5, 2), Action::Engage, engaged),
+        (engaged, (1, 7, 2), Action::ReplyTo(7), engaged),
+        (engaged, (0, 7, 2), Action::Nothing, engaged),
+        (asked_out, (1, 8, 2), Action::ReplyTo(8), asked_out),
+        (Proc::new(), (1, 4, 0), Action::ReplyTo(4), alone),
+    ];
+    for (before, (number, from, size), action, after) in table {
+        let mut proc = before;
+        assert_eq!(rt; proc.on_query(number, from, size), action, "at {before:?}");
+        assert_eq!(rt; proc, after, "at {before:?}");
+    }
 }
 
 #[test]
 fn takes_replies(rt: HostRuntime) {
-    let mut proc = state(1, Some(5), 2, true);
-    expect_eq(&rt, proc.on_reply(1), Action::Nothing);
-    expect_eq(&rt, proc, state(1, Some(5), 1, true));
-    expect_eq(&rt, proc.on_reply(1), Action::ReplyTo(5));
-    expect_eq(&rt, proc, state(1, Some(5), 0, true));
-    expect_eq(&rt, proc.on_reply(1), Action::Nothing);
-    expect_eq(&rt, proc, state(1, Some(5), 0, true));
-    expect_eq(&rt, proc.on_query(1, 8, 2), Action::ReplyTo(8));
-    expect_eq(&rt, proc, state(1, Some(5), 0, true));
-    let mut initiator = state(1, None, 1, true);
-    expect_eq(&rt, initiator.on_reply(1), Action::Declare);
-    expect_eq(&rt, initiator, state(1, None, 0, true));
+    let table = [
+        (state(1, Some(5), 2, true), Action::Nothing, 1),
+        (state(1, Some(5), 1, true), Action::ReplyTo(5), 0),
+        (state(1, Some(5), 0, true), Action::Nothing, 0),
+        (state(1, None, 1, true), Action::Declare, 0),
+        (state(2, None, 2, true), Action::Nothing, 2),
+    ];
+    for (before, action, num) in table {
+        let mut proc = before;
+        assert_eq!(rt; proc.on_reply(1), action, "at {before:?}");
+        assert_eq!(rt; proc, Proc { num, ..before }, "at {before:?}");
+    }
+}
+
+/// Every other public call, as a caller writes it.
+#[test]
+fn surface(rt: HostRuntime) {
+    let mut proc = Proc::new();
+    expect_eq(&rt, proc, state(0, None, 0, false));
+    expect_eq(&rt, proc.is_engaged_by(1), true);
+    expect_eq(&rt, proc.on_query(1, 0, 1), Action::Engage);
+    expect_eq(&rt, proc.is_engaged_by(1), false);
+    expect_eq(&rt, proc.answer(1, 7), Action::ReplyTo(7));
+    law_stale();
 }

@@ -1,15 +1,13 @@
 //! The machine, and the words by one thread and by several.
 
-mod faults;
-mod graphs;
 mod machine;
-mod memory;
 mod posting;
-mod steps;
 mod surface;
 mod threads;
 mod words;
 
+use cmh_graph::{GraphFault, Part, State, WaitGraph};
+use std::alloc::Global;
 use std::fmt::Debug;
 use std::process::Abort;
 
@@ -22,4 +20,18 @@ fn expect_eq<R: Abort, T: PartialEq + Debug + Drop>(rt: &R, found: T, wanted: T)
 /// Fails the test where it doesn't hold.
 fn expect<R: Abort>(rt: &R, holds: bool) {
     assert!(*rt; holds);
+}
+
+/// Two processes that wait for each other.
+fn two_in_a_cycle(alloc: Global) -> Result<WaitGraph, GraphFault> {
+    let mut parts = Vec::new(alloc);
+    for other in [1, 0] {
+        parts.push(Part {
+            name: String::new(alloc),
+            site: 0,
+            state: State::Idle,
+            dependents: Vec::from_slice(alloc, &[other])?,
+        })?;
+    }
+    WaitGraph::build(alloc, parts)
 }

@@ -7,7 +7,7 @@ ghost use Rattle.cmh_board.specs.Board.{board_graph, SitsAt, IsAway};
 
 use super::expect;
 use super::graphs::rings;
-use super::threads::post_run;
+use super::runs::post_run;
 use crate::{Board, BoardSeat, Entry, Row};
 use cmh_graph::{Verdict, WaitGraph};
 use cmh_run::{NoHints, run};
@@ -27,20 +27,12 @@ const BOARDS: u32 = 100;
 
 const TURNS: u32 = 250_000;
 
-/// A thread posts a run once in so many turns.
+/// How many turns lie between two runs that a thread posts.
 const POSTED_IN: u32 = 1_024;
 
-/// What a hold shows of a ring.
-#[derive(Clone, Copy, PartialEq, Eq)]
-enum Ring {
-    Unknown,
-    Unposted,
-    Posted,
-    Torn,
-}
-
-/// Looks at the first and the last process of a ring, in one hold.
-fn look_at_ring(board: &Board, seat: BoardSeat, ring: u32) -> (BoardSeat, Ring)
+/// How many of the first and the last process of a ring one hold shows as deadlocked. Nothing where
+/// the board was held for writing.
+fn look_at_ring(board: &Board, seat: BoardSeat, ring: u32) -> (BoardSeat, Option<u32>)
     requires sits { SitsAt board.now seat × IsAway seat }
     requires full { process_count (board_graph board.now) ≡ 4096 }
     requires ring { ring < 16 }
@@ -48,17 +40,13 @@ fn look_at_ring(board: &Board, seat: BoardSeat, ring: u32) -> (BoardSeat, Ring)
 {
     let mut seat = seat;
     if let Entry::Busy(_) = board.hold(&mut seat) {
-        return (seat, Ring::Unknown);
+        return (seat, None);
     }
-    let first = board.held_verdict(&mut seat, SIZE * ring);
-    let last = board.held_verdict(&mut seat, SIZE * ring + (SIZE - 1));
+    let deadlocked = Some(Verdict::Deadlocked);
+    let first = board.held_verdict(&mut seat, SIZE * ring) == deadlocked;
+    let last = board.held_verdict(&mut seat, SIZE * ring + (SIZE - 1)) == deadlocked;
     board.release(&mut seat);
-    let ring = match (first, last) {
-        (None, None) => Ring::Unposted,
-        (Some(Verdict::Deadlocked), Some(Verdict::Deadlocked)) => Ring::Posted,
-        _ => Ring::Torn,
-    };
-    (seat, ring)
+    (seat, Some(u32::from(first) + u32::from(last)))
 }
 
 /// Runs the first process of a ring, and posts the run.
@@ -81,7 +69,8 @@ fn post_ring<R: Wait>(
     }
 }
 
-/// One thread's turns, from some ring on: whether no look was torn, false, or behind an earlier one.
+/// One thread's turns, from some ring on: whether each look showed both processes or neither, and
+/// both where an earlier one did.
 fn take_turns<R: Wait>(
     rt: &R,
     alloc: Global,
@@ -110,17 +99,15 @@ fn take_turns<R: Wait>(
         let ring = (start + turn) % RINGS;
         let (next, look) = look_at_ring(board, seat, ring);
         seat = next;
-        if look == Ring::Torn || look == Ring::Unposted && is_posted[ring as usize] {
+        if look == Some(1) || look == Some(0) && is_posted[ring as usize] {
             return (seat, false);
         }
-        if look == Ring::Posted {
-            is_posted[ring as usize] = true;
-        }
+        is_posted[ring as usize] = is_posted[ring as usize] || look == Some(2);
     }
     (seat, true)
 }
 
-/// So many threads and this one take their turns, each from another ring on.
+/// As many other threads and this one take their turns, each from another ring on.
 fn take_turns_by<R: Threads + Wait + Sync>(
     rt: &R,
     alloc: Global,
@@ -160,34 +147,27 @@ fn take_turns_by<R: Threads + Wait + Sync>(
     (rest, one_is_right && rest_is_right)
 }
 
-/// Whether each process stands in the rows just once, as deadlocked, and the last of each ring alone
-/// as the last of its posting.
-fn has_each_ring_once(rows: &[Row]) -> bool {
+/// Whether each process stands in the rows once.
+fn stand_once(rows: &[Row]) -> bool {
     let mut stands = [false; 4_096];
-    for (n, row) in rows.iter().enumerate() {
-        let p = row.process as usize;
-        if p >= stands.len() || stands[p] || row.verdict != Verdict::Deadlocked {
-            return false;
+    for row in rows {
+        if let Some(place) = stands.get_mut(row.process as usize) {
+            *place = true;
         }
-        if row.last != (n % 256 == 255) || p % 256 != n % 256 {
-            return false;
-        }
-        stands[p] = true;
     }
-    stands.iter().all(|stands| *stands)
+    rows.len() == 4_096 && stands.iter().all(|stands| *stands)
 }
 
 #[test]
 fn four_threads_take_a_hundred_million_turns(rt: HostRuntime) -> Result<(), Fail> {
     let alloc = rt.alloc();
-    let graph = rings(alloc)?;
+    let graph = rings(alloc, SIZE)?;
     assert!(rt; graph.len() == 4_096);
     for _ in 0..BOARDS {
         let (board, seat) = Board::open(alloc, &graph)?;
         let (seat, is_right) = take_turns_by(&rt, alloc, &graph, &board, seat, 3);
         expect(&rt, is_right);
-        let rows = board.close(alloc, seat)?;
-        expect(&rt, rows.len() == 4_096 && has_each_ring_once(&rows));
+        expect(&rt, stand_once(&board.close(alloc, seat)?));
     }
     Ok(())
 }

@@ -11,6 +11,7 @@ use crate::{Board, BoardHints, BoardSeat, Post, Posting};
 use cmh_graph::WaitGraph;
 use cmh_run::{RunFault, RunLog, run};
 use std::alloc::Global;
+use std::sync::Wait;
 
 /// The run of `p` with the board's hints.
 pub(super) fn run_with_hints(
@@ -43,4 +44,15 @@ pub(super) fn try_post_run(board: &Board, seat: &mut BoardSeat, run: &RunLog) ->
         → (0 < n) × (board_view seat.new ≡ view_after_try (board_view seat.old) Away n) }
 {
     board.try_post(seat, &Posting::of_run(run))
+}
+
+/// Posts a run.
+pub(super) fn post_run<R: Wait>(rt: &R, board: &Board, seat: BoardSeat, run: &RunLog) -> BoardSeat
+    requires sits { SitsAt board.now seat × IsAway seat }
+    requires truth { TellsTruth (board_graph board.now) run.now }
+    ensures { SitsAt board.now result × IsAway result }
+{
+    let mut seat = seat;
+    board.post(rt, &mut seat, &Posting::of_run(run));
+    seat
 }

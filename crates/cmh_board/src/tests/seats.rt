@@ -4,9 +4,9 @@ ghost use Rattle.std.specs.Prelude.{IfOk};
 ghost use Rattle.cmh_board.specs.Board.{SitsAt, IsAway};
 
 use super::expect;
-use super::graphs::{cycle_and_follower, one_free_one_stuck};
+use super::graphs::{CYCLE_AND_FOLLOWER, ONE_FREE_ONE_STUCK, graph_of};
 use super::runs::{run_with_hints, try_post_run};
-use crate::{Board, BoardSeat, Entry, Look, Post, Posting, Row};
+use crate::{Board, BoardFault, BoardSeat, Entry, Look, Post, Posting, Row};
 use cmh_graph::{Verdict, WaitGraph};
 use cmh_process::Kind;
 use cmh_run::{Ending, NoHints, RunLog, run};
@@ -41,7 +41,7 @@ fn is_hinted_run(run: &RunLog) -> bool {
         && log[1].hint.is_none()
 }
 
-/// The board of `cycle_and_follower` after two seats have posted p and q, and then r, each call
+/// The board of the cycle and its follower after two seats have posted p and q, and then r, each call
 /// with the answer that the rules give. The two seats are one again.
 fn posted_by_two<R: Abort>(
     rt: &R,
@@ -78,14 +78,14 @@ fn posted_by_two<R: Abort>(
         rt,
         snap.get(0) == DEADLOCKED && snap.get(1) == DEADLOCKED && snap.get(2) == DEADLOCKED,
     );
-    expect(rt, snap.get(3).is_none());
+    expect(rt, board.snapshot(alloc, &mut x)? == snap);
     board.join(&mut x, y);
     Ok((board, x))
 }
 
 #[test]
 fn board_by_two_seats(rt: HostRuntime) -> Result<(), Fail> {
-    let graph = cycle_and_follower(rt.alloc())?;
+    let graph = graph_of(rt.alloc(), &CYCLE_AND_FOLLOWER)?;
     let (board, seat) = posted_by_two(&rt, rt.alloc(), &graph)?;
     let rows = board.close(rt.alloc(), seat)?;
     expect(
@@ -97,7 +97,7 @@ fn board_by_two_seats(rt: HostRuntime) -> Result<(), Fail> {
 
 #[test]
 fn rows_are_stored_as_numbers(rt: HostRuntime) -> Result<(), Fail> {
-    let graph = cycle_and_follower(rt.alloc())?;
+    let graph = graph_of(rt.alloc(), &CYCLE_AND_FOLLOWER)?;
     let (board, seat) = posted_by_two(&rt, rt.alloc(), &graph)?;
     let Board {
         words,
@@ -114,47 +114,39 @@ fn rows_are_stored_as_numbers(rt: HostRuntime) -> Result<(), Fail> {
 }
 
 /// The initiator of a run that isn't declared is posted alone, as free, though q is engaged: q is
-/// deadlocked.
+/// deadlocked. A seat that isn't the last one closes the board: what the other has posted is there.
 #[test]
 fn one_free_one_stuck_posts(rt: HostRuntime) -> Result<(), Fail> {
-    let graph = one_free_one_stuck(rt.alloc())?;
-    let (board, mut seat) = Board::open(rt.alloc(), &graph)?;
+    let graph = graph_of(rt.alloc(), &ONE_FREE_ONE_STUCK)?;
+    let (board, mut x) = Board::open(rt.alloc(), &graph)?;
     assert!(rt; graph.len() == 3);
+    let Some(mut y) = board.split(&mut x) else {
+        panic!(rt; "a seat with the whole share is split")
+    };
     let run_of_p = run(rt.alloc(), &graph, 0, &[], &mut NoHints)?;
     expect(&rt, run_of_p.engaged() == [0, 1].as_slice());
-    expect(
-        &rt,
-        try_post_run(&board, &mut seat, &run_of_p) == Post::Done,
-    );
-    expect(&rt, board.look(&mut seat, 0) == Look::Known(Verdict::Free));
-    expect(&rt, board.look(&mut seat, 1) == Look::Unknown);
+    expect(&rt, try_post_run(&board, &mut x, &run_of_p) == Post::Done);
+    expect(&rt, board.look(&mut x, 0) == Look::Known(Verdict::Free));
+    expect(&rt, board.look(&mut x, 1) == Look::Unknown);
     let run_of_q = run(rt.alloc(), &graph, 1, &[], &mut NoHints)?;
-    board.post(&rt, &mut seat, &Posting::of_run(&run_of_q));
-    let rows = board.close(rt.alloc(), seat)?;
+    board.post(&rt, &mut y, &Posting::of_run(&run_of_q));
     let free = Row {
         process: 0,
         verdict: Verdict::Free,
         last: true,
     };
+    let rows = board.close(rt.alloc(), x)?;
     expect(&rt, rows.as_slice() == [free, row(1, true)].as_slice());
     Ok(())
 }
 
-/// A seat that isn't the last one closes the board: what the other has posted is there.
 #[test]
-fn closes_with_less_than_the_whole_share(rt: HostRuntime) -> Result<(), Fail> {
-    let graph = cycle_and_follower(rt.alloc())?;
-    assert!(rt; graph.len() == 3);
-    let (board, mut x) = Board::open(rt.alloc(), &graph)?;
-    let Some(mut y) = board.split(&mut x) else {
-        panic!(rt; "a seat with the whole share is split")
-    };
-    let run_of_p = run(rt.alloc(), &graph, 0, &[], &mut NoHints)?;
-    expect(&rt, try_post_run(&board, &mut y, &run_of_p) == Post::Done);
-    let rows = board.close(rt.alloc(), x)?;
+fn texts_of_the_faults(rt: HostRuntime) -> Result<(), Fail> {
+    let busy = BoardFault::Busy(4_294_967_296);
+    let shown = format!(in rt.alloc(); "{busy}, {}", BoardFault::Memory)?;
     expect(
         &rt,
-        rows.as_slice() == [row(0, false), row(1, true)].as_slice(),
+        shown.as_str() == "busy at lock word 4294967296, out of memory",
     );
     Ok(())
 }

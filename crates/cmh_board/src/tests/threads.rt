@@ -1,16 +1,15 @@
 //! Several threads at one board.
 
-ghost use Rattle.std.specs.Prelude.{◌≡◌, ◌<◌, ◌-◌};
+ghost use Rattle.std.specs.Prelude.{◌<◌};
 ghost use Rattle.std.specs.Thread.{IsSync};
 ghost use Rattle.cmh_graph.specs.Graph.{process_count};
 ghost use Rattle.cmh_run.specs.Run.{TellsTruth};
 ghost use Rattle.cmh_board.specs.Board.{board_graph, SitsAt, IsAway};
 
 use super::expect;
-use super::graphs::{cycle_and_follower, ring_and_chain};
-use super::runs::run_with_hints;
-use crate::{Board, BoardFault, BoardSeat, Entry, Posting, Row};
-use cmh_graph::{Verdict, WaitGraph};
+use super::graphs::{CYCLE_AND_FOLLOWER, graph_of};
+use super::runs::post_run;
+use crate::{Board, BoardFault, BoardSeat, Entry};
 use cmh_run::{NoHints, RunLog, run};
 use std::alloc::Global;
 use std::sync::Wait;
@@ -21,7 +20,7 @@ use std::thread::{Threads, join};
 /// How often a test looks for what another thread does before it fails.
 const TURNS: u32 = 1_000_000_000;
 
-/// Holds the board, says so, and lets it go only once the other thread holds it too. Whether it
+/// Holds the board, says so, and ends the hold only once the other thread holds it too. Whether it
 /// came to that, and process 0 wasn't posted.
 fn meets(board: &Board, seat: BoardSeat, mine: &AtomicBool, other: &AtomicBool) -> (BoardSeat, bool)
     requires sits { SitsAt board.now seat × IsAway seat }
@@ -79,7 +78,7 @@ fn both_hold<R: Threads + Sync>(
 
 #[test]
 fn two_threads_hold_at_once(rt: HostRuntime) -> Result<(), Fail> {
-    let graph = cycle_and_follower(rt.alloc())?;
+    let graph = graph_of(rt.alloc(), &CYCLE_AND_FOLLOWER)?;
     assert!(rt; graph.len() == 3);
     let (board, mut x) = Board::open(rt.alloc(), &graph)?;
     let Some(y) = board.split(&mut x) else {
@@ -88,17 +87,6 @@ fn two_threads_hold_at_once(rt: HostRuntime) -> Result<(), Fail> {
     let ((_x, x_met), (_y, y_met)) = both_hold(&rt, &board, x, y);
     expect(&rt, x_met && y_met);
     Ok(())
-}
-
-/// Posts a run.
-pub(super) fn post_run<R: Wait>(rt: &R, board: &Board, seat: BoardSeat, run: &RunLog) -> BoardSeat
-    requires sits { SitsAt board.now seat × IsAway seat }
-    requires truth { TellsTruth (board_graph board.now) run.now }
-    ensures { SitsAt board.now result × IsAway result }
-{
-    let mut seat = seat;
-    board.post(rt, &mut seat, &Posting::of_run(run));
-    seat
 }
 
 /// Takes snapshots until one answers for p, up to a limit: whether it came to that, and each
@@ -153,7 +141,7 @@ fn post_beside_snapshots<R: Threads + Wait + Sync>(
 #[test]
 fn snapshots_have_whole_postings(rt: HostRuntime) -> Result<(), Fail> {
     let alloc = rt.alloc();
-    let graph = cycle_and_follower(alloc)?;
+    let graph = graph_of(alloc, &CYCLE_AND_FOLLOWER)?;
     let run = run(alloc, &graph, 0, &[], &mut NoHints)?;
     for _ in 0..200 {
         let (board, mut x) = Board::open(alloc, &graph)?;
@@ -163,101 +151,5 @@ fn snapshots_have_whole_postings(rt: HostRuntime) -> Result<(), Fail> {
         let (_x, (_y, is_whole)) = post_beside_snapshots(&rt, &board, alloc, x, y, &run);
         expect(&rt, is_whole);
     }
-    Ok(())
-}
-
-/// Runs each idle process of `ring_and_chain`, from some process on, with the board's hints, and
-/// posts the run.
-fn serve_all<R: Wait>(
-    rt: &R,
-    alloc: Global,
-    graph: &WaitGraph,
-    board: &Board,
-    seat: BoardSeat,
-    start: u32,
-) -> (BoardSeat, bool)
-    requires graph { board_graph board.now ≡ graph.now }
-    requires sits { SitsAt board.now seat × IsAway seat }
-    requires low { start < 200 }
-    ensures { SitsAt board.now result.0 × IsAway result.0 }
-{
-    let mut seat = seat;
-    for k in 0..199 {
-        let p = (start + k) % 199;
-        let Ok(run) = run_with_hints(alloc, graph, board, &mut seat, p) else {
-            return (seat, false);
-        };
-        board.post(rt, &mut seat, &Posting::of_run(&run));
-    }
-    (seat, true)
-}
-
-/// So many threads and this one run and post all idle processes, each from another one on.
-fn serve_by<R: Threads + Wait + Sync>(
-    rt: &R,
-    alloc: Global,
-    graph: &WaitGraph,
-    board: &Board,
-    seat: BoardSeat,
-    others: u32,
-) -> (BoardSeat, bool)
-    requires graph { board_graph board.now ≡ graph.now }
-    requires sits { SitsAt board.now seat × IsAway seat }
-    requires few { others < 8 }
-    ensures { SitsAt board.now result.0 × IsAway result.0 }
-{
-    if others == 0 {
-        return serve_all(rt, alloc, graph, board, seat, 0);
-    }
-    let fewer = others - 1;
-    let mut rest = seat;
-    let Some(one) = board.split(&mut rest) else {
-        return (rest, false);
-    };
-    let ((one, one_is_done), (mut rest, rest_is_done)) = join(
-        rt,
-        || -> (BoardSeat, bool)
-            requires { SitsAt board.now one × IsAway one × IsSync R.row
-                × (board_graph board.now ≡ graph.now) × (fewer < 7) }
-            ensures { SitsAt board.entry.now result.0 × IsAway result.0 }
-        { serve_all(rt, alloc, graph, board, one, 25 * fewer) },
-        || -> (BoardSeat, bool)
-            requires { SitsAt board.now rest × IsAway rest × IsSync R.row
-                × (board_graph board.now ≡ graph.now) × (fewer < 7) }
-            ensures { SitsAt board.entry.now result.0 × IsAway result.0 }
-        { serve_by(rt, alloc, graph, board, rest, fewer) },
-    );
-    board.join(&mut rest, one);
-    (rest, one_is_done && rest_is_done)
-}
-
-/// Whether each idle process of `ring_and_chain` stands in the rows just once, with its verdict:
-/// the ring is deadlocked, the chain is free.
-fn has_each_once(rows: &[Row]) -> bool {
-    let mut stands = [false; 199];
-    for row in rows {
-        let p = row.process as usize;
-        let verdict = if p < 100 {
-            Verdict::Deadlocked
-        } else {
-            Verdict::Free
-        };
-        if p >= stands.len() || stands[p] || row.verdict != verdict {
-            return false;
-        }
-        stands[p] = true;
-    }
-    stands.iter().all(|stands| *stands)
-}
-
-#[test]
-fn eight_threads_post(rt: HostRuntime) -> Result<(), Fail> {
-    let alloc = rt.alloc();
-    let graph = ring_and_chain(alloc)?;
-    let (board, seat) = Board::open(alloc, &graph)?;
-    let (seat, is_done) = serve_by(&rt, alloc, &graph, &board, seat, 7);
-    expect(&rt, is_done);
-    let rows = board.close(alloc, seat)?;
-    expect(&rt, rows.len() == 199 && has_each_once(&rows));
     Ok(())
 }

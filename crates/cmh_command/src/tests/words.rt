@@ -18,10 +18,38 @@ fn is_plain_analysis(alloc: Global, words: &[&str]) -> bool {
     )
 }
 
+/// Whether the words ask for an analysis by 7 workers with cuts and choices.
+fn is_analysis(alloc: Global, words: &[&str]) -> bool {
+    matches!(
+        read_words(alloc, words),
+        Ok(Request::Analyse(PlanWords {
+            workers: 7,
+            cuts: Some("1,2"),
+            choices: "3"
+        }))
+    )
+}
+
+/// Whether the words ask for a trace of p by choices.
+fn is_trace(alloc: Global, words: &[&str]) -> bool {
+    matches!(
+        read_words(alloc, words),
+        Ok(Request::Trace {
+            name: "p",
+            choices: "1,0"
+        })
+    )
+}
+
 #[test]
-fn four_workers_by_default(rt: HostRuntime) {
-    expect(&rt, is_plain_analysis(rt.alloc(), &["cmh", "analyse"]));
+fn analyses_and_a_trace(rt: HostRuntime) {
+    let plain = ["cmh", "analyse"];
+    expect(&rt, is_plain_analysis(rt.alloc(), &plain));
     expect_eq(&rt, DEFAULT_WORKERS, 4);
+    let all = ["cmh", "analyse", "--workers=7", "--cuts=1,2", "--choices=3"];
+    expect(&rt, is_analysis(rt.alloc(), &all));
+    let trace = ["cmh", "trace", "p", "--choices", "1,0"];
+    expect(&rt, is_trace(rt.alloc(), &trace));
 }
 
 /// The text with which `clap` answers, or none.
@@ -43,37 +71,45 @@ fn is_shown(alloc: Global, words: &[&str], text: &str) -> bool {
 /// The text to print is that with which `clap` answers.
 #[test]
 fn texts_of_clap(rt: HostRuntime) -> Result<(), Fail> {
-    let rows: [&[&str]; 5] = [
+    let rows: [&[&str]; 4] = [
         &["cmh", "--help"],
-        &["cmh", "--version"],
+        &["cmh", "-V"],
         &["cmh", "analyse", "--help"],
         &["cmh", "trace", "-h"],
-        &["cmh", "-V"],
     ];
     for words in rows {
         let text = text_of_clap(rt.alloc(), words)?;
-        assert!(rt;
-            text.len() > 9 && is_shown(rt.alloc(), words, &text),
-            "{words:?}"
-        );
+        assert!(rt; text.len() > 9, "{words:?}");
+        assert!(rt; is_shown(rt.alloc(), words, &text), "{words:?}");
     }
     Ok(())
 }
 
-fn is_refused(alloc: Global, words: &[&str]) -> bool {
-    matches!(read_words(alloc, words), Ok(Request::Refused(_)))
+/// Whether the words are refused with a text that has this in it, and no control character.
+fn is_refused(alloc: Global, words: &[&str], named: &str) -> bool {
+    match read_words(alloc, words) {
+        Ok(Request::Refused(text)) => {
+            text.contains(named) && !text.bytes().any(|b| b < 32 && b != 10)
+        }
+        _ => false,
+    }
 }
 
 #[test]
 fn words_that_are_refused(rt: HostRuntime) {
-    let rows: [&[&str]; 5] = [
-        &["cmh"],
-        &["cmh", "analyse", "dump.json"],
-        &["cmh", "analyse", "--workers", "+4"],
-        &["cmh", "analyse", "--workers", "65"],
-        &["cmh", "trace"],
+    let rows: [(&[&str], &str); 7] = [
+        (&["cmh"], "Usage: cmh"),
+        (
+            &["cmh", "analyse", "dump.json"],
+            "cmh analyse [OPTIONS] < DUMP",
+        ),
+        (&["cmh", "analyse", "--workers", "+4"], "'--workers <N>'"),
+        (&["cmh", "analyse", "--workers", "65"], "--workers"),
+        (&["cmh", "trace"], "NAME"),
+        (&["cmh", "analyse", "\u{1b}[31m"], "\\u{1b}[31m"),
+        (&["cmh", "\u{7}"], "\\u{7}"),
     ];
-    for words in rows {
-        assert!(rt; is_refused(rt.alloc(), words), "{words:?}");
+    for (words, named) in rows {
+        assert!(rt; is_refused(rt.alloc(), words, named), "{words:?}");
     }
 }

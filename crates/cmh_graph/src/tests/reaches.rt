@@ -1,37 +1,14 @@
-//! What processes reach, by what their dependents reach. Wanted marks are from the rules, by hand.
+//! What a process reaches, by what its dependents reach. Wanted marks are from the rules, by hand.
 
 ghost use Rattle.std.specs.Prelude.{◌<◌};
 ghost use Rattle.cmh_graph.specs.Graph.{process_count};
 
-use super::cores::RINGS;
-use super::{CYCLE_AND_FOLLOWER, Row, TWO_SHORTEST_PATHS, expect_eq, graph_of};
+use super::{TWO_SHORTEST_PATHS, expect, graph_of};
 use crate::{GraphFault, WaitGraph};
 use std::alloc::Global;
-use std::test::Fail;
-
-const BY_CYCLE_AND_FOLLOWER: [&[bool]; 3] = [
-    &[true, true, false],
-    &[true, true, false],
-    &[true, true, true],
-];
-
-const BY_TWO_SHORTEST_PATHS: [&[bool]; 4] = [
-    &[true, true, true, true],
-    &[false, true, false, true],
-    &[false, false, true, true],
-    &[false, false, false, true],
-];
-
-const BY_RINGS: [&[bool]; 5] = [
-    &[true, true, true, true, true],
-    &[false, true, true, false, true],
-    &[false, false, true, false, false],
-    &[true, true, true, true, true],
-    &[false, true, true, false, true],
-];
 
 /// Whether the process reaches just these, by what any one of its dependents reaches.
-fn reaches_by_each(
+pub(super) fn reaches_by_each(
     alloc: Global,
     graph: &WaitGraph,
     p: u32,
@@ -49,20 +26,12 @@ fn reaches_by_each(
 }
 
 #[test]
-fn reaches_by_those_of_dependents(rt: HostRuntime) -> Result<(), Fail> {
+fn reaches_by_those_of_dependents(rt: HostRuntime) -> Result<(), GraphFault> {
     let alloc = rt.alloc();
-    let table: [(&[Row], &[&[bool]]); 3] = [
-        (&CYCLE_AND_FOLLOWER, &BY_CYCLE_AND_FOLLOWER),
-        (&TWO_SHORTEST_PATHS, &BY_TWO_SHORTEST_PATHS),
-        (&RINGS, &BY_RINGS),
-    ];
-    for (rows, wanted) in table {
-        let graph = graph_of(alloc, rows)?;
-        assert_eq!(rt; graph.len() as usize, wanted.len());
-        for p in 0..graph.len() {
-            let marks = wanted[p as usize];
-            assert!(rt; reaches_by_each(alloc, &graph, p, marks)?, "of {p}");
-        }
-    }
+    let graph = graph_of(alloc, &TWO_SHORTEST_PATHS)?;
+    assert_eq!(rt; graph.len(), 4);
+    expect(&rt, reaches_by_each(alloc, &graph, 0, &[true; 4])?);
+    let marks = [false, false, true, true];
+    expect(&rt, reaches_by_each(alloc, &graph, 2, &marks)?);
     Ok(())
 }

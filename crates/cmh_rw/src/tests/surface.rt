@@ -1,16 +1,16 @@
-//! Each public call, as a caller writes it.
+//! The calls of the words, as a caller writes them.
 
 ghost use Rattle.std.specs.Prelude.{◌<◌};
 ghost use Rattle.cmh_rw.specs.Seats.{IsSeatOf, IsRwSeatAway};
 
-use super::graphs::two_in_a_cycle;
 use super::posting::post_two;
-use super::{expect, expect_eq};
+use super::{expect, expect_eq, two_in_a_cycle};
 use crate::laws::{law_row_code_injective, law_step_lawful};
 use crate::{
-    BOARD_WORDS, Entry, Event, FIRST_ROW, FIRST_VERDICT, LockWorld, MAX_SEATS, RwFault, RwSeat,
-    RwWords, SeatState, WRITER, run_events,
+    BOARD_WORDS, Entry, FIRST_ROW, FIRST_VERDICT, MAX_SEATS, Row, RwSeat, RwWords, WRITER,
+    verdict_from_code,
 };
+use cmh_graph::Verdict;
 use std::process::Abort;
 use std::test::Fail;
 
@@ -18,39 +18,28 @@ use std::test::Fail;
 fn constants(rt: HostRuntime) {
     law_step_lawful();
     law_row_code_injective();
-    expect_eq(&rt, WRITER, 4_294_967_296);
-    expect_eq(&rt, MAX_SEATS, 64);
-    expect_eq(
-        &rt,
-        (FIRST_ROW, FIRST_VERDICT, BOARD_WORDS),
-        (2, 4_098, 8_194),
-    );
+    expect_eq(&rt, (WRITER, MAX_SEATS), (4_294_967_296, 64));
+    let words = (FIRST_ROW, FIRST_VERDICT, BOARD_WORDS);
+    expect_eq(&rt, words, (2, 4_098, 8_194));
 }
 
 #[test]
-fn calls_of_the_machine(rt: HostRuntime) -> Result<(), Fail> {
-    let alloc = rt.alloc();
-    let mut world = LockWorld::new(alloc, 2)?;
-    world.step(Event::TryWrite(1));
-    world.step(Event::Admit(0));
-    expect_eq(&rt, world.word(), 4_294_967_297);
-    expect_eq(&rt, world.seats(), 2);
-    expect_eq(&rt, world.state(0), Some(SeatState::Retreating));
-    expect_eq(&rt, world.state(1), Some(SeatState::Writing));
-    expect_eq(&rt, world.state(2), None);
-    let events = [Event::TryWrite(1), Event::Admit(0)];
-    expect_eq(&rt, &run_events(alloc, 2, &events)?, &world);
-    world.step(Event::EndWrite(1));
-    expect(&rt, run_events(alloc, 2, &events)? != world);
-    world.step(Event::Leave(0));
-    expect_eq(&rt, &LockWorld::new(alloc, 2)?, &world);
-    expect_eq(&rt, LockWorld::new(alloc, 0).err(), Some(RwFault::BadSeats));
-    expect_eq(
-        &rt,
-        run_events(alloc, 65, &events).err(),
-        Some(RwFault::BadSeats),
-    );
-    Ok(())
+fn rows_and_verdicts_as_words(rt: HostRuntime) {
+    let rows = [
+        (0, (0, Verdict::Deadlocked, false)),
+        (6, (1, Verdict::Deadlocked, true)),
+        (3, (0, Verdict::Free, true)),
+        (16_383, (4_095, Verdict::Free, true)),
+    ];
+    for (code, wanted) in rows {
+        assert!(rt; code < 17_179_869_184);
+        let row = Row::from_code(code);
+        expect_eq(&rt, (row.process, row.verdict, row.last), wanted);
+        expect_eq(&rt, row.code(), code);
+    }
+    expect_eq(&rt, verdict_from_code(0), None);
+    expect_eq(&rt, verdict_from_code(1), Some(Verdict::Deadlocked));
+    expect_eq(&rt, verdict_from_code(2), Some(Verdict::Free));
 }
 
 #[test]
@@ -63,7 +52,7 @@ fn calls_of_the_words(rt: HostRuntime) -> Result<(), Fail> {
         panic!(rt; "a seat with the whole share is split")
     };
     expect_eq(&rt, (words.share(&x), words.share(&y)), (63, 1));
-    expect_eq(&rt, (x.share(), y.share()), (63, 1));
+    expect(&rt, words.split(&mut y).is_none());
     post_two(&words, &mut y, &graph, &all, 0, 1);
     let entry = words.try_read(&mut x);
     expect_eq(&rt, entry, Entry::Held);
@@ -85,8 +74,8 @@ fn calls_of_the_words(rt: HostRuntime) -> Result<(), Fail> {
     Ok(())
 }
 
-/// So many other seats are split off this one, and each reads while the next are split off. The
-/// last one tries to write. Afterwards all are joined again.
+/// Splits `others` seats off this one. Each reads while the next are split off, and what is left of this
+/// one tries to write. Afterwards all are joined again.
 fn read_together<R: Abort>(rt: &R, words: &RwWords, seat: RwSeat, others: u32) -> RwSeat
     requires own { IsSeatOf words.now seat }
     requires away { IsRwSeatAway seat }

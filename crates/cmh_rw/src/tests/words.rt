@@ -1,7 +1,6 @@
 //! The lock on the words, by one thread with two seats.
 
-use super::expect;
-use super::graphs::two_in_a_cycle;
+use super::{expect, two_in_a_cycle};
 use crate::{Entry, RwWords};
 use std::test::Fail;
 
@@ -29,33 +28,5 @@ fn lock_words_by_two_seats(rt: HostRuntime) -> Result<(), Fail> {
     };
     expect(&rt, found == 1);
     words.end_read(&mut y);
-    Ok(())
-}
-
-#[test]
-fn shares_add_up(rt: HostRuntime) -> Result<(), Fail> {
-    let graph = two_in_a_cycle(rt.alloc())?;
-    let (words, mut x) = RwWords::open(rt.alloc(), &graph)?;
-    expect(&rt, x.share() == 64);
-    let Some(mut y) = words.split(&mut x) else {
-        panic!(rt; "a seat with the whole share is split")
-    };
-    expect(&rt, x.share() == 63 && y.share() == 1);
-    expect(&rt, words.split(&mut y).is_none());
-    words.join(&mut x, y);
-    expect(&rt, x.share() == 64);
-    Ok(())
-}
-
-/// All words are 0 at first, and there are 8,194 of them.
-#[test]
-fn words_at_first(rt: HostRuntime) -> Result<(), Fail> {
-    let graph = two_in_a_cycle(rt.alloc())?;
-    let (words, x) = RwWords::open(rt.alloc(), &graph)?;
-    let closed = words.close_with(x);
-    for n in 0..8_194 {
-        expect(&rt, closed.word(n) == Some(0));
-    }
-    expect(&rt, closed.word(8_194).is_none());
     Ok(())
 }
