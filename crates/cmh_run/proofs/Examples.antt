@@ -10,11 +10,11 @@ use Rattle.cmh_run.specs.Last.{computation_log}
 use Rattle.cmh_run.specs.Legal.{Going, any_place, IsRun}
 
 -- a delivery without a hint
-abbrev plain : Message → Delivery
+abbrev pub plain : Message → Delivery
 plain m = record { message = m; hint = None }
 
 -- two processes that wait for each other
-abbrev two_in_a_cycle : Graph
+abbrev pub two_in_a_cycle : Graph
 two_in_a_cycle = record {
   processes = record { name = []; site = 0; state = Idle; dependents = 1 ∷ [] }
       ∷ record { name = []; site = 0; state = Idle; dependents = 0 ∷ [] }
@@ -23,7 +23,7 @@ two_in_a_cycle = record {
 }
 
 -- the deliveries of a run of two processes that wait for each other, without restarts
-abbrev deliveries : List Delivery
+abbrev pub deliveries : List Delivery
 deliveries =
     plain (query 0 1 0 1) ∷ plain (query 0 1 1 0) ∷ plain (reply 0 1 0 1) ∷ plain (reply 0 1 1 0) ∷ []
 

@@ -23,6 +23,9 @@ pub mod QueryLemmas
 pub mod Scripts
 pub mod Sizes
 pub mod Soundness
+pub mod StaleMessages
+pub mod StepExamples
+pub mod StepLemmas
 pub mod Tally
 pub mod Tokens
 pub mod TouchedProcesses

@@ -9,6 +9,7 @@ pub mod Legal
 pub mod Run
 pub mod Script
 pub mod ScriptProofs
+pub mod Step
 -- the words of private functions
 pub mod CheckState
 pub mod Packed

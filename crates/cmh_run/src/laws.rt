@@ -1,18 +1,55 @@
 //! Laws of all legal runs, over the definitions alone. Each function here has an empty body; its
 //! contract is the law.
 
-ghost use Rattle.std.specs.Prelude.{ℕ, List, ◌≡◌, IsTrue, ◌+◌, ◌*◌, ◌≤◌, length, All};
+ghost use Rattle.std.specs.Prelude.{ℕ, List, ◌≡◌, ◌↔◌, IsTrue, IsFalse, ◌+◌, ◌*◌, ◌<◌, ◌≤◌, length, All, Option, None};
 ghost use Rattle.cmh_graph.specs.Build.{IsWellFormed};
 ghost use Rattle.cmh_graph.specs.Graph.{Graph, is_idle, IsWithinGraph, is_awake, dependency_count};
 ghost use Rattle.cmh_run.specs.Check.{IsLegalRun, IsFirstCheckFault};
 ghost use Rattle.cmh_run.specs.Choices.{HasNoHints, chosen_place};
 ghost use Rattle.cmh_run.specs.Engaged.{AreEngaged, IsEmptyRun};
 ghost use Rattle.cmh_run.specs.Last.{LastIsRun};
-ghost use Rattle.cmh_run.specs.Legal.{Going, IsRun, Rule, IsRight, IsBetween};
+ghost use Rattle.cmh_run.specs.Config.{Config, start, after_delivery, without_message, asks_hint, proc_at};
+ghost use Rattle.cmh_run.specs.Legal.{Going, IsRun, Rule, IsRight, IsBetween, MayCome};
+ghost use Rattle.cmh_run.specs.Step.{IsStart, IsStep, IsRunOfSteps};
+ghost use Rattle.cmh_graph.specs.declared.verdict.Verdict.{Verdict};
+ghost use Rattle.cmh_process.specs.declared.message.Message.{Message};
 ghost use Rattle.cmh_run.specs.Run.{IsRunOf, Run};
 ghost use Rattle.cmh_run.specs.declared.delivery.Ending.{Ending};
 ghost use Rattle.cmh_run.specs.declared.fault.CheckFault.{CheckFault};
 ghost use Rattle.cmh_run.specs.declared.delivery.Delivery.{Delivery};
+
+/// The rule of a start allows the computed start and nothing else, where the initiator isn't awake
+/// and the run goes on.
+pub fn law_start()
+    ensures { (g : Graph) (i : ℕ) (c after : Config) → IsStart g i c after
+        ↔ (IsFalse (is_awake g i) × (c.ended ≡ None) × (after ≡ start g i c)) }
+{}
+
+/// The rules allow the computed delivery and nothing else, where the message is undelivered, the run
+/// goes on, and a hint stands only where one is asked and is true.
+pub fn law_step()
+    ensures { (g : Graph) (i : ℕ) (c : Config) (x : ℕ) (d : Delivery) (after : Config)
+        → IsStep g i c x d after
+        ↔ (MayCome g c x d × (after ≡ after_delivery g i c x d.message d.hint)) }
+{}
+
+/// The legal runs are the sequences of starts and steps by the rules, and no others, whatever says
+/// which places may be taken next.
+pub fn law_runs_are_steps()
+    ensures { (rule : Rule) (g : Graph) (i : ℕ) (restarts : List ℕ)
+        (log : List Delivery) (ending : Ending) (end : Going)
+        → IsRun rule g i restarts log ending end ↔ IsRunOfSteps rule g i restarts log ending end }
+{}
+
+/// A message numbered below its receiver's `latest` is taken, and nothing else changes: no process
+/// does, nothing is sent, nobody engages, and the run goes on. No hint is asked about it.
+pub fn law_stale()
+    ensures untouched { (g : Graph) (i : ℕ) (c : Config) (x : ℕ) (m : Message) (hint : Option Verdict)
+        → c.ended ≡ None → m.number < (proc_at c.procs m.to).latest
+        → after_delivery g i c x m hint ≡ without_message c x }
+    ensures unasked { (g : Graph) (c : Config) (m : Message)
+        → m.number < (proc_at c.procs m.to).latest → IsFalse (asks_hint g c m) }
+{}
 
 /// A run that has ended tells whether its initiator is deadlocked. Where it is declared, everyone
 /// who is engaged is deadlocked too, and no message of the last start is undelivered.

@@ -3,7 +3,6 @@
 
 mod asked;
 mod bag;
-mod cases;
 mod forged;
 mod hinted;
 mod limits;
@@ -13,7 +12,6 @@ mod runner;
 mod runs;
 mod scripted;
 mod surface;
-mod verdicts;
 
 use crate::{Delivery, Ending, RunFault, RunLog};
 use cmh_graph::{Part, State, Verdict, WaitGraph};

@@ -133,8 +133,13 @@ const CHECKED: [Checked; 10] = [
         waits: &TWO_IN_A_CYCLE,
         in_transit: &[],
         initiator: 2,
-        maker: 2,
-        steps: &[],
+        maker: 0,
+        steps: &[
+            (Query(1, 0, 1), None),
+            (Query(1, 1, 0), None),
+            (Reply(1, 0, 1), None),
+            (Reply(1, 1, 0), None),
+        ],
         said: Err(NotIdle),
     },
     Checked {

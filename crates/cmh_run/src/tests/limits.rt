@@ -1,8 +1,8 @@
 //! Calls at their limits: as many processes, dependencies, restarts, lines of a script and messages
 //! as there may be.
 
-use super::{Step, delivery, expect, expect_eq, part_of};
-use crate::{Bag, Ending, NoHints, RunFault, Scripted, check_run, run, run_again};
+use super::{Step, TWO_IN_A_CYCLE, delivery, expect, expect_eq, graph_of, part_of};
+use crate::{Bag, Ending, Hints, NoHints, RunFault, Scripted, check_run, run, run_again};
 use cmh_graph::{MAX_PROCESSES, Verdict, WaitGraph};
 use std::alloc::{AllocError, Global};
 
@@ -37,14 +37,15 @@ fn knot(alloc: Global) -> Result<WaitGraph, RunFault> {
     WaitGraph::build(alloc, parts).map_err(|_| RunFault::Memory)
 }
 
-/// The first process waits for all others, and each of them for the first.
-fn wheel(alloc: Global) -> Result<WaitGraph, RunFault> {
+/// The first process waits for all others. Each of them waits for the first, but the last as `last` says.
+fn wheel(alloc: Global, last: Option<&[u32]>) -> Result<WaitGraph, RunFault> {
     let spokes = numbers(alloc, 1, COUNT)?;
     let mut parts = Vec::new(alloc);
     parts.push(part_of(alloc, Some(&spokes))?)?;
-    for _ in 1..COUNT {
+    for _ in 2..COUNT {
         parts.push(part_of(alloc, Some(&[0]))?)?;
     }
+    parts.push(part_of(alloc, last)?)?;
     WaitGraph::build(alloc, parts).map_err(|_| RunFault::Memory)
 }
 
@@ -91,7 +92,7 @@ fn a_knot_of_all_dependencies(rt: HostRuntime) -> Result<(), RunFault> {
 #[test]
 fn sixteen_restarts_of_a_wheel(rt: HostRuntime) -> Result<(), RunFault> {
     let alloc = rt.alloc();
-    let graph = wheel(alloc)?;
+    let graph = wheel(alloc, Some(&[0]))?;
     let plain = run(alloc, &graph, 0, &[], &mut NoHints)?;
     expect_eq(&rt, plain.log().len(), 16_380);
     let restarts = [
@@ -102,6 +103,33 @@ fn sixteen_restarts_of_a_wheel(rt: HostRuntime) -> Result<(), RunFault> {
     expect_eq(&rt, again.restarted(), 16);
     expect_eq(&rt, again.ending(), Ending::Declared);
     expect(&rt, again.engaged() == plain.engaged());
+    Ok(())
+}
+
+/// Process 1 asks the hub, which waits for 4,095 others and is known: deadlocked it replies at once, and free it ends
+/// the run.
+#[test]
+fn a_hint_about_the_hub_of_a_wheel(rt: HostRuntime) -> Result<(), RunFault> {
+    let alloc = rt.alloc();
+    let rows: [(Option<&[u32]>, Verdict, Ending, usize, &[u32]); 2] = [
+        (
+            Some(&[0]),
+            Verdict::Deadlocked,
+            Ending::Declared,
+            2,
+            &[1, 0],
+        ),
+        (None, Verdict::Free, Ending::CutFree(0), 1, &[1]),
+    ];
+    for (last, verdict, ending, deliveries, engaged) in rows {
+        let graph = wheel(alloc, last)?;
+        let script = [(0, 0, verdict)];
+        let mut hints = Scripted::new(alloc, &graph, &script).map_err(|_| RunFault::Memory)?;
+        let run = run(alloc, &graph, 1, &[], &mut hints)?;
+        expect_eq(&rt, run.ending(), ending);
+        expect_eq(&rt, run.log().len(), deliveries);
+        expect_eq(&rt, run.engaged(), engaged);
+    }
     Ok(())
 }
 
@@ -126,6 +154,18 @@ fn a_script_of_many_lines(rt: HostRuntime) -> Result<(), RunFault> {
         run.log().get(4_000),
         Some(&delivery(0, Step::Query(1, 4_000, 4_001), Some(Verdict::Deadlocked))),
     );
+    Ok(())
+}
+
+/// A script may have more lines than a run has asks: the last of a million answers ask 0.
+#[test]
+fn a_script_longer_than_any_run(rt: HostRuntime) -> Result<(), RunFault> {
+    let alloc = rt.alloc();
+    let graph = graph_of(alloc, &TWO_IN_A_CYCLE, &[])?;
+    let mut lines = vec![in alloc; (1u32, 1u32, Verdict::Deadlocked); 999_999]?;
+    lines.push((0, 1, Verdict::Deadlocked))?;
+    let mut hints = Scripted::new(alloc, &graph, &lines).map_err(|_| RunFault::Memory)?;
+    expect_eq(&rt, hints.hint(1), Some(Verdict::Deadlocked));
     Ok(())
 }
 

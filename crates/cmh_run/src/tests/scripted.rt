@@ -1,6 +1,6 @@
 //! Scripts over two processes that wait for each other, and an active one.
 
-use super::{expect_eq, graph_of};
+use super::{FREE_BY_TWO, expect_eq, graph_of};
 use crate::{Hints, NoHints, RunFault, ScriptFault, Scripted};
 use cmh_graph::Verdict::{self, Deadlocked, Free};
 
@@ -38,6 +38,21 @@ fn refused_scripts(rt: HostRuntime) -> Result<(), RunFault> {
             judged.1,
             "at {row}"
         );
+    }
+    Ok(())
+}
+
+#[test]
+fn a_script_of_five_processes(rt: HostRuntime) -> Result<(), RunFault> {
+    let alloc = rt.alloc();
+    let graph = graph_of(alloc, &FREE_BY_TWO, &[])?;
+    let rows: [Judged; 3] = [
+        (&[(0, 3, Free)], None),
+        (&[(0, 3, Deadlocked)], Some(ScriptFault::FalseVerdict(0))),
+        (&[(0, 9, Free)], Some(ScriptFault::ProcessOutOfRange(0))),
+    ];
+    for (script, fault) in rows {
+        expect_eq(&rt, Scripted::new(alloc, &graph, script).err(), fault);
     }
     Ok(())
 }
