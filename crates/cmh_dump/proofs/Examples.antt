@@ -12,7 +12,7 @@ use Rattle.cmh_dump.specs.declared.fault.DumpFault.TheVariants.{NotJson, BadTop,
 use Rattle.cmh_dump.specs.declared.TheConstants.{MAX_BYTES}
 use Rattle.cmh_dump.specs.Dump.{dump, dump_of_tree}
 use Rattle.cmh_dump.proofs.Trees.{no_tree}
-use Rattle.cmh_dump.proofs.Whole.{no_json}
+use Rattle.cmh_dump.proofs.FirstFault.Bytes.{no_json}
 
 abbrev quoted : List ℕ → List ℕ
 quoted text = map (λ c. if c == 39 then 34 else c) text

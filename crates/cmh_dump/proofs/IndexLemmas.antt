@@ -6,7 +6,7 @@ use Rattle.std.proofs.lemmas.List.{get_or-map, take_all}
 use Rattle.cmh_dump.specs.Name.{is_among, place_of, repeats}
 use Rattle.cmh_dump.specs.Texts.{texts}
 use Rattle.cmh_dump.specs.Index.{first_repeat}
-use Rattle.cmh_dump.proofs.Faults.{none_found}
+use Rattle.cmh_dump.proofs.FirstFault.Searches.{none_found}
 use Rattle.cmh_dump.proofs.Keys.{any_of_texts}
 use Rattle.cmh_dump.proofs.Taken.{take-next, texts-append}
 

@@ -1,22 +1,26 @@
--- The keys of an object, from those of the members that lie in memory.
-use Rattle.std.proofs.Common.{◌≡◌, ℕ, List, [], ◌∷◌, Bool, true, false, ◌&&◌, ◌||◌, Option, Some, refl, sym, ap, ◌∙◌, Bor}
-use Rattle.std.specs.Prelude.{is_some, bytes_eq, option_map}
+-- The keys of an object, from those of the map that holds it.
+use Rattle.std.proofs.Common.{◌≡◌, ℕ, List, [], ◌∷◌, Bool, true, false, ◌&&◌, ◌||◌, Option, Some, None, map, refl, sym, ap, ◌∙◌, Bor}
+use Rattle.std.specs.Prelude.{string_bytes, is_some, bytes_eq, String}
 use Rattle.std.specs.List.{list_all, list_any}
 use Rattle.std.specs.Option.{option_map_or}
 use Rattle.std.specs.Global.{Global}
-use Rattle.json.specs.Find as json_find
-use Rattle.json.specs.Json as json
-use Rattle.json.specs.Value.{members_view}
-use Rattle.json.specs.declared.value.Value.{Value}
-use Rattle.serde_json.specs.Data.{Members, no_members}
+use Rattle.serde_json.specs.Data.{Data, Members}
 use Rattle.serde_json.specs.Find.{get, as_object}
+use Rattle.serde_json.specs.View.{members_of}
 use Rattle.cmh_dump.specs.Tree.{has_keys, keys_of}
+use Rattle.cmh_dump.specs.Name.{is_among}
 use Rattle.cmh_dump.specs.Texts.{texts}
-use Rattle.cmh_dump.specs.View.{data_of, members_data}
-use Rattle.cmh_dump.proofs.Views.{written_keys, all_keys_are, object_at}
+
+-- what is no object has no keys
+pub not_object : (needed allowed : List (List ℕ)) (d : Data) → as_object d ≡ None → has_keys needed allowed d ≡ false
+not_object needed allowed d e =
+    ap
+    (λ (o : Option Members). is_some o && list_all (λ k. is_some (get k d)) needed
+    && list_all (λ k. list_any (bytes_eq k) needed || list_any (bytes_eq k) allowed) (option_map_or keys_of o []))
+    e
 
 -- a test of all borrows is one of all texts
-all_of_texts : (test : List ℕ → Bool) (ws : List (Bor (List ℕ)))
+pub all_of_texts : (test : List ℕ → Bool) (ws : List (Bor (List ℕ)))
     → list_all (λ w. test w.now) ws ≡ list_all test (texts ws)
 all_of_texts test [] = refl
 all_of_texts test (w ∷ ws) = ap (λ b. test w.now && b) (all_of_texts test ws)
@@ -28,54 +32,50 @@ any_of_texts test [] = refl
 any_of_texts test (w ∷ ws) = ap (λ b. test w.now || b) (any_of_texts test ws)
 
 -- the key is one of the needed or of the allowed ones
-abbrev pub is_allowed : List (Bor (List ℕ)) → List (Bor (List ℕ)) → List ℕ → Bool
-is_allowed needed allowed key =
-    list_any (λ k. bytes_eq key k.now) needed || list_any (λ k. bytes_eq key k.now) allowed
+abbrev pub is_allowed : List (List ℕ) → List (List ℕ) → List ℕ → Bool
+is_allowed needed allowed key = is_among needed key || is_among allowed key
 
--- the keys that stand in memory are tested as those that are written
-only : (needed allowed : List (Bor (List ℕ))) (es : List (Bor (List ℕ) × Value Global))
-    → list_all (λ m. is_allowed needed allowed m.0.now) es
-    ≡ list_all (λ k. list_any (bytes_eq k) (texts needed) || list_any (bytes_eq k) (texts allowed))
-    (written_keys (members_view es))
-only needed allowed [] = refl
-only needed allowed (e ∷ es) =
-    λ i. (any_of_texts (bytes_eq e.0.now) needed i || any_of_texts (bytes_eq e.0.now) allowed i)
-    && only needed allowed es i
+-- the keys of a map that holds an object
+abbrev map_keys : {V : Type 0} → List (String Global × V) → List (String Global)
+map_keys es = map (λ e. e.0) es
 
--- the data of the members that the reader finds in an object are those of the object's data
-members_are : (es : List (Bor (List ℕ) × Value Global)) (j : json.Json) → Some (members_view es) ≡ json_find.as_object j
-    → Some (members_data (members_view es) no_members) ≡ as_object (data_of j)
-members_are es j h = ap (option_map (λ ms. members_data ms no_members)) h ∙ object_at j
+-- the members of the object that a map holds
+abbrev pub members_in : {V : Type 0} → (V → Data) → List (String Global × V) → Members
+members_in view es = members_of (map (λ m. (m.0, view m.1)) es)
 
--- the test of the needed keys and that of all written keys are together the test of an object's keys
-object_keys : (needed allowed : List (Bor (List ℕ))) (es : List (Bor (List ℕ) × Value Global)) (j : json.Json)
-    → Some (members_view es) ≡ json_find.as_object j
-    → (list_all (λ k. is_some (get k.now (data_of j))) needed && list_all (λ m. is_allowed needed allowed m.0.now) es)
-    ≡ has_keys (texts needed) (texts allowed) (data_of j)
-object_keys needed allowed es j e =
-    let test = λ (k : List ℕ). list_any (bytes_eq k) (texts needed) || list_any (bytes_eq k) (texts allowed) in
-    (λ i. all_of_texts (λ k. is_some (get k (data_of j))) needed i && only needed allowed es i)
-    ∙ ap (λ b. list_all (λ k. is_some (get k (data_of j))) (texts needed) && b)
-    (sym (all_keys_are test (members_view es)))
-    ∙ ap
-    (λ (o : Option Members). is_some o && list_all (λ k. is_some (get k (data_of j))) (texts needed)
-    && list_all test (option_map_or keys_of o []))
-    (members_are es j e)
+-- a test of all keys of a map is one of all keys of the object that it holds
+only : {V : Type 0} (test : List ℕ → Bool) (es : List (String Global × V)) (view : V → Data)
+    → list_all (λ key. test (string_bytes key)) (map_keys es) ≡ list_all test (keys_of (members_in view es))
+only test [] view = refl
+only test (e ∷ es) view = ap (λ b. test (string_bytes e.0) && b) (only test es view)
 
--- where all needed keys are there, the test of all written keys is the test of an object's keys
-pub keys_then : (needed allowed : List (Bor (List ℕ))) (es : List (Bor (List ℕ) × Value Global)) (j : json.Json)
-    (each others : Bool) → each ≡ list_all (λ k. is_some (get k.now (data_of j))) needed → each ≡ true
-    → others ≡ list_all (λ m. is_allowed needed allowed m.0.now) es
-    → Some (members_view es) ≡ json_find.as_object j
-    → others ≡ has_keys (texts needed) (texts allowed) (data_of j)
-keys_then needed allowed es j each others e t o h =
-    o ∙ ap (λ b. b && list_all (λ m. is_allowed needed allowed m.0.now) es) (sym t ∙ e)
-    ∙ object_keys needed allowed es j h
+module _ {V : Type 0} (needed allowed : List (List ℕ)) (es : List (String Global × V)) (view : V → Data) (d : Data)
+    (found : Bool)
+    (is : found ≡ list_all (λ key. is_allowed needed allowed (string_bytes key)) (map_keys es))
+    (held : Some (members_in view es) ≡ as_object d) where
+  -- the test of all keys of the map is that of all keys of the object that it holds
+  pub allowed_is : found ≡ list_all (is_allowed needed allowed) (option_map_or keys_of (as_object d) [])
+  allowed_is =
+      is ∙ only (is_allowed needed allowed) es view
+      ∙ ap (λ (o : Option Members). list_all (is_allowed needed allowed) (option_map_or keys_of o [])) held
+
+  -- the test of the needed keys and that of all keys of the map are together the test of an object's keys
+  pub keys_are : (each : Bool) → each ≡ list_all (λ k. is_some (get k d)) needed
+      → (each && found) ≡ has_keys needed allowed d
+  keys_are each e =
+      (λ i. e i && allowed_is i)
+      ∙ ap
+      (λ b. b && list_all (λ k. is_some (get k d)) needed
+      && list_all (is_allowed needed allowed) (option_map_or keys_of (as_object d) []))
+      (ap is_some held)
 
 -- where a needed key is missing, the test of an object's keys fails too
-pub keys_else : (needed allowed : List (Bor (List ℕ))) (es : List (Bor (List ℕ) × Value Global)) (j : json.Json)
-    (each : Bool) → each ≡ list_all (λ k. is_some (get k.now (data_of j))) needed → each ≡ false
-    → Some (members_view es) ≡ json_find.as_object j → each ≡ has_keys (texts needed) (texts allowed) (data_of j)
-keys_else needed allowed es j each e f h =
-    f ∙ ap (λ b. b && list_all (λ m. is_allowed needed allowed m.0.now) es) (sym f ∙ e)
-    ∙ object_keys needed allowed es j h
+pub keys_missing : (needed allowed : List (List ℕ)) (d : Data) (each : Bool)
+    → each ≡ list_all (λ k. is_some (get k d)) needed → each ≡ false → each ≡ has_keys needed allowed d
+keys_missing needed allowed d each e f = f ∙ sym (by (is_some (as_object d)))
+  where
+    by : (o : Bool) → (o && list_all (λ k. is_some (get k d)) needed
+        && list_all (is_allowed needed allowed) (option_map_or keys_of (as_object d) [])) ≡ false
+    by true =
+        ap (λ b. b && list_all (is_allowed needed allowed) (option_map_or keys_of (as_object d) [])) (sym e ∙ f)
+    by false = refl

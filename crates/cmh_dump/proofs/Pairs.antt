@@ -53,14 +53,14 @@ module _ {Y : Type 0} (bad : Y → Bool) (ys : List Y) where
   all_left = position_from-zero bad ys
 
   -- where the first bad element is the first of those left from i on and that at i is bad, it stands at i
-  first_found : (i : ℕ) (y : Y) → i < length ys → y ≡ get_or ys i y → bad y ≡ true → FirstIsLeft i
+  pub first_found : (i : ℕ) (y : Y) → i < length ys → y ≡ get_or ys i y → bad y ≡ true → FirstIsLeft i
       → position bad ys ≡ Some i
   first_found i y lt is here left =
       left ∙ ap (position_from bad i) (drop_next ys i y lt is)
       ∙ ap (λ b. cond b (Some i) (position_from bad (i + 1) (drop (i + 1) ys))) here
 
   -- past an element that isn't bad, the first bad one of all is still the first of those that are left
-  first_passed : (i : ℕ) (y : Y) → i < length ys → y ≡ get_or ys i y → bad y ≡ false → FirstIsLeft i
+  pub first_passed : (i : ℕ) (y : Y) → i < length ys → y ≡ get_or ys i y → bad y ≡ false → FirstIsLeft i
       → FirstIsLeft (i + 1)
   first_passed i y lt is here left =
       left ∙ ap (position_from bad i) (drop_next ys i y lt is)

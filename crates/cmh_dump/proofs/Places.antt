@@ -1,12 +1,15 @@
 -- Places of names.
 use Rattle.std.proofs.Common.{◌≡◌, ℕ, suc, ◌+◌, ◌<◌, List, [], ◌∷◌, Bool, true, false, not, ◌||◌, cond, Option, Some, None, length, get_or, refl, sym, ap, ◌∙◌, arith}
 use Rattle.std.specs.Prelude.{bytes_eq, unwrap_or}
-use Rattle.std.specs.List.{list_any, position_or_len}
+use Rattle.std.specs.List.{list_all, list_any, position_or_len}
 use Rattle.std.proofs.lemmas.List.Sums.{passes_at_first, prefix_len-le-length}
 use Rattle.std.proofs.lemmas.Slice.Eq.{bytes_eq-Decides}
 use Rattle.std.proofs.lemmas.List.Folds.{list_any_at}
 use Rattle.std.proofs.lemmas.Bool.{false≢true, ltb-false}
+use Rattle.serde_json.specs.Data.{Data}
+use Rattle.cmh_dump.specs.Dump.{places_in_pair}
 use Rattle.cmh_dump.specs.Name.{is_among, place_of}
+use Rattle.cmh_dump.specs.Tree.{texts_of}
 use Rattle.cmh_dump.proofs.IndexLemmas.{among}
 
 -- the first place of a list that passes a test is within it where one passes
@@ -76,3 +79,24 @@ place_is_none names name h =
     (among name names ∙ none_by names name (is_among names name) refl h) in
     let up_to = prefix_len-le-length (λ x. not (bytes_eq name x)) names in
     omega (arith, past, up_to)
+
+-- where no places are read of a pair, one of its names isn't among the names
+pub none_lost : (names : List (List ℕ)) (d : Data)
+    → None ≡ cond (list_all (is_among names) (texts_of d)) (Some (places_in_pair names d)) None
+    → list_all (is_among names) (texts_of d) ≡ false
+none_lost names d h = by (list_all (is_among names) (texts_of d)) h
+  where
+    by : (b : Bool) → None ≡ cond b (Some (places_in_pair names d)) None → b ≡ false
+    by true h = absurd cc
+    by false h = refl
+
+-- where places are read of a pair, its names are among the names, and these are their places
+pub some_found : (names : List (List ℕ)) (d : Data) (p : ℕ × ℕ)
+    → Some p ≡ cond (list_all (is_among names) (texts_of d)) (Some (places_in_pair names d)) None
+    → (list_all (is_among names) (texts_of d) ≡ true) × (p ≡ places_in_pair names d)
+some_found names d p h = by (list_all (is_among names) (texts_of d)) h
+  where
+    by : (b : Bool) → Some p ≡ cond b (Some (places_in_pair names d)) None
+        → (b ≡ true) × (p ≡ places_in_pair names d)
+    by true h = (refl, ap (λ (o : Option (ℕ × ℕ)). unwrap_or o p) h)
+    by false h = absurd cc

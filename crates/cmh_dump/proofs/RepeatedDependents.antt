@@ -3,13 +3,12 @@ use Rattle.std.proofs.Common.{◌≡◌, ℕ, zero, suc, ◌+◌, ◌<◌, List,
 use Rattle.std.specs.Prelude.{bytes_eq, find, option_map}
 use Rattle.std.specs.List.{list_all, list_any, position_or_len}
 use Rattle.std.specs.Option.{option_or}
-use Rattle.std.specs.Global.{Global}
 use Rattle.std.proofs.lemmas.Bool.{false_from_ne_true, false≢true, and_parts, ltb-true}
 use Rattle.std.proofs.lemmas.List.{length-map, get_or-take, length-take-le, take-map}
 use Rattle.std.proofs.lemmas.List.Folds.{list_any_at}
 use Rattle.std.proofs.lemmas.List.Sums.{passes_at_first}
 use Rattle.std.proofs.lemmas.Slice.Eq.{bytes_eq-Decides}
-use Rattle.json.specs.declared.value.Value.{Value}
+use Rattle.serde_json.specs.declared.value.Value.{Value}
 use Rattle.cmh_graph.specs.Build as graph
 use Rattle.cmh_graph.specs.Graph.{Process}
 use Rattle.cmh_graph.specs.Judge.{IsFirst, IsRepeat}
@@ -21,8 +20,8 @@ use Rattle.cmh_dump.specs.Name.{is_among, place_of, repeats}
 use Rattle.cmh_dump.specs.Places.{first_unknown, unknown_dependent, place_repeats, first_repeated_place}
 use Rattle.cmh_dump.specs.Read.{entry_view, first_pair}
 use Rattle.cmh_dump.specs.Tree.{text_of}
-use Rattle.cmh_dump.specs.View.{view}
-use Rattle.cmh_dump.proofs.Faults.{below, least_found, none_found, find_alike}
+use Rattle.serde_json.specs.View.{view}
+use Rattle.cmh_dump.proofs.FirstFault.Searches.{below, least_found, none_found, find_alike}
 use Rattle.cmh_dump.proofs.IndexLemmas.{among}
 use Rattle.cmh_dump.proofs.Places.{first_within, same_from_places}
 use Rattle.cmh_dump.proofs.Pairs.{all_pass, neither_row}
@@ -134,7 +133,7 @@ module _ (names : List (List ℕ)) where
       ∙ find_alike (place_repeats (map (place_of names) xs)) (repeats xs) (length xs) (repeats_alike xs h)
 
   -- where no value is unknown, the texts of all are among the names
-  none_unknown : (values : List (Value Global)) → first_unknown names values ≡ None
+  none_unknown : (values : List Value) → first_unknown names values ≡ None
       → AreAmong (map (λ v. text_of (view v)) values)
   none_unknown values h =
       sym (all-map (is_among names) (λ v. text_of (view v)) values)

@@ -1,5 +1,5 @@
 -- Reading the names of an array one after the other.
-use Rattle.std.proofs.Common.{◌≡◌, ℕ, zero, suc, ◌+◌, ◌<◌, ◌≤◌, List, [], ◌∷◌, ◌++◌, Some, None, map, take, refl, sym, ap, ◌∙◌, arith, Bor, length, get_or}
+use Rattle.std.proofs.Common.{◌≡◌, ℕ, zero, suc, ◌+◌, ◌<◌, List, [], ◌∷◌, ◌++◌, Some, map, take, refl, sym, ap, ◌∙◌, arith, Bor, length, get_or}
 use Rattle.std.specs.Prelude.{slice_get, unwrap_or}
 use Rattle.cmh_dump.specs.Texts.{texts}
 
@@ -14,19 +14,6 @@ take-next (y ∷ ys) (suc i) x e = ap (λ zs. y ∷ zs) (take-next ys i x e)
 pub texts-append : (xs ys : List (Bor (List ℕ))) → texts (xs ++ ys) ≡ texts xs ++ texts ys
 texts-append [] ys = refl
 texts-append (x ∷ xs) ys = ap (λ zs. x.now ∷ zs) (texts-append xs ys)
-
--- what a function makes of the element at a place is read at that place of the mapped list
-pub at_place : {X Y : Type 0} (f : X → Y) (xs : List X) (i : ℕ) (x : X) → i < length xs → x ≡ get_or xs i x
-    → slice_get (map f xs) i ≡ Some (f x)
-at_place f [] i x lt e = absurd (omega arith)
-at_place f (y ∷ ys) zero x lt e = ap (λ z. Some (f z)) (sym e)
-at_place f (y ∷ ys) (suc i) x lt e = at_place f ys i x (omega arith) e
-
--- no element stands past the end
-pub get-past : {X : Type 0} (xs : List X) (i : ℕ) → length xs ≤ i → slice_get xs i ≡ None
-get-past [] i le = refl
-get-past (x ∷ xs) zero le = absurd (omega (arith, le))
-get-past (x ∷ xs) (suc i) le = get-past xs i (omega (arith, le))
 
 -- a list with one element more at its end is mapped to one with what the function makes of it at the end
 map-last : {X Y : Type 0} (f : X → Y) (xs : List X) (x : X) → map f (xs ++ x ∷ []) ≡ map f xs ++ f x ∷ []

@@ -1,21 +1,18 @@
 -- The tree of bytes, and the elements and texts of its arrays, from what the reader says of them.
-use Rattle.std.proofs.Common.{◌≡◌, ℕ, List, [], ◌∷◌, ◌&&◌, map, length, get_or, nat_lt, eqb, Bool, true, false, cond, Option, Some, None, refl, sym, ap, ◌∙◌, Bor}
+use Rattle.std.proofs.Common.{◌≡◌, ℕ, List, [], ◌∷◌, ◌&&◌, map, length, eqb, Bool, true, false, cond, Option, Some, None, refl, sym, ap, ◌∙◌}
 use Rattle.std.specs.Str.{IsUtf8, is_utf8}
 use Rattle.std.proofs.lemmas.Str.{IsUtf8-from_is_utf8, is_utf8-from_IsUtf8}
-use Rattle.std.specs.Prelude.{option_map, unwrap_or, slice_get, is_some}
+use Rattle.std.specs.Prelude.{is_some}
 use Rattle.std.specs.Option.{option_map_or}
 use Rattle.std.specs.List.{list_all}
-use Rattle.std.proofs.lemmas.Bool.{ltb-true, ltb-false}
 use Rattle.std.proofs.lemmas.List.{length-map}
-use Rattle.std.proofs.lemmas.Option.{unwrap_or-slice_get}
 use Rattle.serde_json.specs.Data.{Data, Items}
 use Rattle.serde_json.specs.Find.{as_array, as_str}
 use Rattle.serde_json.specs.View.{items_of}
 use Rattle.serde_json.specs.Read.{read}
 use Rattle.cmh_dump.specs.Dump.{tree_of}
-use Rattle.cmh_dump.specs.Tree.{list_of, elements_of, text_of, texts_of}
+use Rattle.cmh_dump.specs.Tree.{list_of, elements_of, text_of}
 use Rattle.cmh_dump.specs.Entry.{is_pair}
-use Rattle.cmh_dump.proofs.Taken.{at_place, get-past}
 
 -- UTF-8 that reads as a tree has that tree
 pub tree_is : (bytes : List ℕ) (d : Data) → IsUtf8 bytes → read bytes ≡ Some d → tree_of bytes ≡ Some d
@@ -30,22 +27,14 @@ no_tree bytes refused = by (is_utf8 bytes) refl
     by false e = ap (λ b. cond b (read bytes) None) e
 
 -- a list that is made into items and back is the list itself
-list_of-items_of : (ds : List Data) → list_of (items_of ds) ≡ ds
+pub list_of-items_of : (ds : List Data) → list_of (items_of ds) ≡ ds
 list_of-items_of [] = refl
 list_of-items_of (d ∷ ds) = ap (λ es. d ∷ es) (list_of-items_of ds)
 
 -- the elements of an array are the items that the reader gives
-elements_of_items : (d : Data) (ds : List Data) → Some (items_of ds) ≡ as_array d → ds ≡ elements_of d
+pub elements_of_items : (d : Data) (ds : List Data) → Some (items_of ds) ≡ as_array d → ds ≡ elements_of d
 elements_of_items d ds e =
     sym (list_of-items_of ds) ∙ ap (λ (o : Option Items). option_map_or list_of o []) e
-
--- the elements of what may be an array, as the reader gives it, or none
-pub elements_or_none : {V : Type 0} (view : V → Data) (d : Data) (r : Option (Bor (List V))) (b : Bor (List V))
-    → option_map (λ v. items_of (map view v.now)) r ≡ as_array d → b.now ≡ []
-    → map view (unwrap_or r b).now ≡ elements_of d
-elements_or_none view d None b h none =
-    ap (map view) none ∙ ap (λ (o : Option Items). option_map_or list_of o []) h
-elements_or_none view d (Some v) b h none = elements_of_items d (map view v.now) h
 
 -- a list mapped by one function after another is mapped by both at once
 pub map-map : {X Y Z : Type 0} (g : Y → Z) (f : X → Y) (xs : List X) → map (λ x. g (f x)) xs ≡ map g (map f xs)
@@ -69,23 +58,6 @@ pub all_of_views : {V : Type 0} (test : List ℕ → Bool) (view : V → Data) (
     → list_all (λ v. test (text_of (view v))) vs ≡ list_all test (map text_of (elements_of d))
 all_of_views test view vs d e =
     all-map test (λ v. text_of (view v)) vs ∙ ap (list_all test) (texts_of_views view vs d e)
-
--- the text of the value at a place of an array is the text at that place of its data
-pub text_at_place : {V : Type 0} (view : V → Data) (vs : List V) (d : Data) (i : ℕ) (v : V)
-    → map view vs ≡ elements_of d → true ≡ nat_lt i (length vs) → v ≡ get_or vs i v
-    → text_of (view v) ≡ get_or (texts_of d) i []
-text_at_place view vs d i v e within is =
-    sym (sym (unwrap_or-slice_get (texts_of d) i []) ∙ ap (λ (o : Option (List ℕ)). unwrap_or o [])
-    (ap (λ ts. slice_get ts i) (sym (texts_of_views view vs d e))
-    ∙ at_place (λ w. text_of (view w)) vs i v (ltb-true i (length vs) (sym within)) is))
-
--- past the end of an array there is no text
-pub text_past : {V : Type 0} (view : V → Data) (vs : List V) (d : Data) (i : ℕ) → map view vs ≡ elements_of d
-    → false ≡ nat_lt i (length vs) → [] ≡ get_or (texts_of d) i []
-text_past view vs d i e past =
-    sym (sym (unwrap_or-slice_get (texts_of d) i []) ∙ ap (λ (o : Option (List ℕ)). unwrap_or o [])
-    (ap (λ ts. slice_get ts i) (sym (texts_of_views view vs d e))
-    ∙ get-past (map (λ w. text_of (view w)) vs) i (rw length-map (ltb-false i (length vs) (sym past)))))
 
 -- an array of two elements is a pair just where all its values are texts
 pub is_pair_of : {V : Type 0} (view : V → Data) (vs : List V) (d : Data) → map view vs ≡ elements_of d → length vs ≡ 2

@@ -1,5 +1,5 @@
 -- What the bytes of a dump mean: a wait graph, or the first condition that refuses them.
-use Rattle.std.specs.Prelude.{ℕ, ◌&&◌, ◌||◌, not, List, [], ◌∷◌, length, map, slice_index_or, sum_by, find, flat_map, Bool, false, codes, nat_lt, if◌then◌else◌, Option, None, Result, Ok, Err}
+use Rattle.std.specs.Prelude.{ℕ, ◌&&◌, ◌||◌, not, List, [], ◌∷◌, ◌++◌, length, map, slice_index_or, sum_by, find, flat_map, Bool, false, codes, nat_lt, if◌then◌else◌, Option, None, Result, Ok, Err}
 use Rattle.std.specs.List.{list_all, range_with_len}
 use Rattle.std.specs.Option.{option_or, option_map_or}
 use Rattle.std.specs.Str.{is_utf8}
@@ -62,26 +62,41 @@ abbrev pub each_dependent : Data → (ℕ → ℕ → DumpFault) → List DumpFa
 each_dependent d fault =
     flat_map (λ i. each (entry d i).dependents (fault i)) (range_with_len 0 (length (processes d)))
 
--- the faults that a tree can have: a list for each kind, in the order in which they are answered
-abbrev pub in_order : Data → List (List DumpFault)
-in_order d =
-    (BadTop ∷ [])
-    ∷ (BadVersion ∷ [])
-    ∷ each (sites d) BadSites
-    ∷ each (sites d) RepeatedSite
-    ∷ (TooManySites ∷ [])
-    ∷ (TooManyProcesses ∷ [])
-    ∷ each (processes d) BadProcess
-    ∷ each (processes d) RepeatedProcess
-    ∷ each (processes d) UnknownSite
+-- what can be wrong at the top
+abbrev pub top_faults : List (List DumpFault)
+top_faults = (BadTop ∷ []) ∷ (BadVersion ∷ []) ∷ []
+
+-- what can be wrong with the sites
+abbrev pub site_faults : Data → List (List DumpFault)
+site_faults d = each (sites d) BadSites ∷ each (sites d) RepeatedSite ∷ (TooManySites ∷ []) ∷ []
+
+-- what can be wrong with the processes, each without the others
+abbrev pub process_faults : Data → List (List DumpFault)
+process_faults d = (TooManyProcesses ∷ []) ∷ each (processes d) BadProcess ∷ []
+
+-- what can be wrong with the names of the processes
+abbrev pub name_faults : Data → List (List DumpFault)
+name_faults d = each (processes d) RepeatedProcess ∷ []
+
+-- what can be wrong with the processes beside the sites and one another
+abbrev pub entry_faults : Data → List (List DumpFault)
+entry_faults d =
+    each (processes d) UnknownSite
     ∷ each_dependent d UnknownDependent
     ∷ each_dependent d RepeatedDependent
     ∷ each (processes d) ActiveWithDependents
     ∷ (TooManyDependencies ∷ [])
-    ∷ (TooManyInTransit ∷ [])
-    ∷ each (transits d) BadInTransit
-    ∷ each (transits d) UnknownInTransit
     ∷ []
+
+-- what can be wrong with the messages in transit
+abbrev pub transit_faults : Data → List (List DumpFault)
+transit_faults d =
+    (TooManyInTransit ∷ []) ∷ each (transits d) BadInTransit ∷ each (transits d) UnknownInTransit ∷ []
+
+-- the table of the faults that a tree can have: a list for each kind, in the order in which they are answered
+abbrev pub in_order : Data → List (List DumpFault)
+in_order d =
+    top_faults ++ site_faults d ++ process_faults d ++ name_faults d ++ entry_faults d ++ transit_faults d
 
 -- the first fault of the lists, one list after the other, that passes the test
 abbrev pub first_of : (DumpFault → Bool) → List (List DumpFault) → Option DumpFault

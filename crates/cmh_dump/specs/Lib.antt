@@ -1,7 +1,6 @@
 -- the words of public contracts
 pub mod Dump
 pub mod Entry
-pub mod Fault
 pub mod FirstFault
 pub mod Name
 pub mod Source
@@ -11,4 +10,3 @@ pub mod Index
 pub mod Places
 pub mod Read
 pub mod Texts
-pub mod View

@@ -1,16 +1,15 @@
 -- The first value that is none of the names, and the first place that repeats.
 use Rattle.std.specs.Prelude.{◌==◌, ℕ, Bool, List, not, slice_index_or, take, find, position, length, Option}
-use Rattle.std.specs.Global.{Global}
 use Rattle.std.specs.List.{list_any, range_with_len}
-use Rattle.json.specs.declared.value.Value.{Value}
+use Rattle.serde_json.specs.declared.value.Value.{Value}
 use Rattle.cmh_dump.specs.declared.entry.Entry as declared
 use Rattle.cmh_dump.specs.Name.{is_among}
 use Rattle.cmh_dump.specs.Read.{first_pair}
 use Rattle.cmh_dump.specs.Tree.{text_of}
-use Rattle.cmh_dump.specs.View.{view}
+use Rattle.serde_json.specs.View.{view}
 
 -- the place of the first value that is none of the names
-abbrev pub first_unknown : List (List ℕ) → List (Value Global) → Option ℕ
+abbrev pub first_unknown : List (List ℕ) → List Value → Option ℕ
 first_unknown names values = position (λ v. not (is_among names (text_of (view v)))) values
 
 -- the first process with a dependent that is none of the names, and the place of that dependent

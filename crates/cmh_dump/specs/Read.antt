@@ -7,11 +7,11 @@ use Rattle.cmh_graph.specs.Build as graph
 use Rattle.cmh_graph.specs.declared.part.Part.{Part}
 use Rattle.cmh_dump.specs.declared.entry.Entry as declared
 use Rattle.cmh_dump.specs.declared.fault.DumpFault.{DumpFault}
-use Rattle.cmh_dump.specs.declared.fault.DumpFault.TheVariants.{Memory, UnknownSite, UnknownDependent, RepeatedDependent, ActiveWithDependents, TooManyDependencies, TooManyInTransit, BadInTransit, UnknownInTransit}
-use Rattle.cmh_dump.specs.Dump.{holds, first_of, tree_graph, each, each_dependent}
-use Rattle.cmh_dump.specs.Entry.{Entry, processes, transits}
+use Rattle.cmh_dump.specs.declared.fault.DumpFault.TheVariants.{Memory}
+use Rattle.cmh_dump.specs.Dump.{holds, first_of, tree_graph}
+use Rattle.cmh_dump.specs.Entry.{Entry}
 use Rattle.cmh_dump.specs.Tree.{text_of}
-use Rattle.cmh_dump.specs.View.{view}
+use Rattle.serde_json.specs.View.{view}
 
 -- a process as it is written, without where it lies in memory
 abbrev pub entry_view : declared.Entry → Entry
@@ -31,30 +31,15 @@ first_pair search i (y ∷ ys) =
 -- ---- stages
 
 -- A stage judges some kinds of faults: at Ok none of them holds, and the fault answered is the
--- first that does, want of memory apart.
+-- first that does, out of memory apart.
 abbrev pub Judges : {T : Type 0} → Data → List (List DumpFault) → Result T DumpFault → Type 0
 Judges d kinds (Ok x) = first_of (holds d) kinds ≡ None
 Judges d kinds (Err e) = e ≢ Memory → first_of (holds d) kinds ≡ Some e
 
--- what is wrong with the processes beside the sites and one another
-abbrev pub entry_faults : Data → List (List DumpFault)
-entry_faults d =
-    each (processes d) UnknownSite
-    ∷ each_dependent d UnknownDependent
-    ∷ each_dependent d RepeatedDependent
-    ∷ each (processes d) ActiveWithDependents
-    ∷ (TooManyDependencies ∷ [])
-    ∷ []
-
--- what is wrong with the messages in transit
-abbrev pub transit_faults : Data → List (List DumpFault)
-transit_faults d =
-    (TooManyInTransit ∷ []) ∷ each (transits d) BadInTransit ∷ each (transits d) UnknownInTransit ∷ []
-
 -- ---- what the graph is built of
 
 -- None of the kinds holds, and the parts and messages in transit make the graph of the tree; or the
--- fault answered is the first that holds, want of memory apart.
+-- fault answered is the first that holds, out of memory apart.
 abbrev pub Builds : Data → List (List DumpFault) → Result (Vec Part × Vec (ℕ × ℕ)) DumpFault → Type 0
 Builds d kinds (Ok parts) =
     (first_of (holds d) kinds ≡ None) × (graph.parts_graph parts.0.items parts.1.items ≡ tree_graph d)

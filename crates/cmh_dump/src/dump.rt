@@ -1,11 +1,11 @@
 //! From the bytes of a dump to its graph, or to the first fault that refuses it.
 
-ghost use Rattle.std.specs.Prelude.{◌≡◌, ◌≢◌, ◌<◌, ◌^◌, ◌∷◌, ◌++◌, length, map, Ok, Err, IfOk, IfErr};
-ghost use Rattle.cmh_dump.specs.Dump.{each, in_order, dump, dump_of_tree};
-ghost use Rattle.cmh_dump.specs.Entry.{sites as sites_lem, processes, entries as entries_lem, names as names_lem};
-ghost use Rattle.cmh_dump.specs.Read.{Builds, entry_faults, entry_view, transit_faults};
+ghost use Rattle.std.specs.Prelude.{◌≡◌, ◌≢◌, ◌<◌, ◌^◌, ◌++◌, length, map, Ok, Err, IfOk, IfErr};
+ghost use Rattle.cmh_dump.specs.Dump.{in_order, name_faults, entry_faults, transit_faults, dump, dump_of_tree};
+ghost use Rattle.cmh_dump.specs.Entry.{sites as sites_lem, entries as entries_lem, names as names_lem};
+ghost use Rattle.cmh_dump.specs.Read.{Builds, entry_view};
 ghost use Rattle.cmh_dump.specs.Texts.{texts};
-ghost use Rattle.cmh_dump.specs.View.{view};
+ghost use Rattle.serde_json.specs.View.{view};
 
 use crate::entry::Entry;
 use crate::judge::{judge_top, link_entries, read_names, read_processes, read_sites};
@@ -14,7 +14,7 @@ use crate::tree::tree_of;
 use crate::{DumpFault, MAX_BYTES};
 use cmh_graph::{GraphFault, Part, WaitGraph};
 use indexmap::IndexSet;
-use json::{Scratch, Value};
+use serde_json::Value;
 use std::alloc::Global;
 
 /// What a wait graph is built of.
@@ -23,8 +23,8 @@ type GraphParts = (Vec<Part>, Vec<(u32, u32)>);
 /// What the graph of a tree is built of, once sites, processes and their names are read.
 fn read_linked(
     alloc: Global,
-    tree: &Value<'_>,
-    entries: &[Entry<'_, '_>],
+    tree: &Value,
+    entries: &[Entry<'_>],
     sites: &IndexSet<&str>,
     names: &IndexSet<&str>,
 ) -> Result<GraphParts, DumpFault>
@@ -44,23 +44,23 @@ fn read_linked(
 /// What the graph of a tree is built of, once sites and processes are read.
 fn read_named(
     alloc: Global,
-    tree: &Value<'_>,
-    entries: &[Entry<'_, '_>],
+    tree: &Value,
+    entries: &[Entry<'_>],
     sites: &IndexSet<&str>,
 ) -> Result<GraphParts, DumpFault>
     requires few_sites { length (texts sites.now.keys) < 2 ^ 32 }
     requires few_processes { length entries.now < 2 ^ 32 }
     ensures { map entry_view entries.now ≡ entries_lem (view tree.now)
         → texts sites.now.keys ≡ sites_lem (view tree.now)
-        → Builds (view tree.now) (each (processes (view tree.now)) DumpFault.RepeatedProcess
-        ∷ (entry_faults (view tree.now) ++ transit_faults (view tree.now))) result }
+        → Builds (view tree.now) (name_faults (view tree.now)
+        ++ (entry_faults (view tree.now) ++ transit_faults (view tree.now))) result }
 {
     let names = read_names(alloc, entries)?;
     read_linked(alloc, tree, entries, sites, &names)
 }
 
 /// What the graph of a tree is built of, or the first condition that refuses the tree.
-fn read_parts(alloc: Global, tree: &Value<'_>) -> Result<GraphParts, DumpFault>
+fn read_parts(alloc: Global, tree: &Value) -> Result<GraphParts, DumpFault>
     ensures { Builds (view tree.now) (in_order (view tree.now)) result }
 {
     judge_top(tree)?;
@@ -70,7 +70,7 @@ fn read_parts(alloc: Global, tree: &Value<'_>) -> Result<GraphParts, DumpFault>
 }
 
 /// The wait graph that a tree means, or the first condition that refuses it.
-fn read_tree(alloc: Global, tree: &Value<'_>) -> Result<WaitGraph, DumpFault>
+fn read_tree(alloc: Global, tree: &Value) -> Result<WaitGraph, DumpFault>
     ensures ok { IfOk result (λ g. dump_of_tree (view tree.now) ≡ Ok g) }
     ensures err { IfErr result (λ e. e ≢ DumpFault.Memory → dump_of_tree (view tree.now) ≡ Err e) }
 {
@@ -86,9 +86,9 @@ fn read_tree(alloc: Global, tree: &Value<'_>) -> Result<WaitGraph, DumpFault>
 }
 
 /// The wait graph that the bytes mean, or the first condition that refuses them, in the order of
-/// the variants of `DumpFault`. Want of memory may be answered before the others. It takes time
+/// the variants of `DumpFault`. `Memory` may be answered before the others. It takes time
 /// close to linear in the bytes.
-#[tactic(auto, using(crate::proofs::Whole::too_long, crate::proofs::Whole::no_json, crate::proofs::Whole::of_the_tree))]
+#[tactic(auto, using(crate::proofs::FirstFault::Bytes::too_long, crate::proofs::FirstFault::Bytes::no_json, crate::proofs::FirstFault::Bytes::of_the_tree))]
 pub fn read_dump(alloc: Global, bytes: &[u8]) -> Result<WaitGraph, DumpFault>
     ensures ok { IfOk result (λ g. dump bytes.now ≡ Ok g) }
     ensures err { IfErr result (λ e. e ≢ DumpFault.Memory → dump bytes.now ≡ Err e) }
@@ -96,7 +96,6 @@ pub fn read_dump(alloc: Global, bytes: &[u8]) -> Result<WaitGraph, DumpFault>
     if bytes.len() > MAX_BYTES {
         return Err(DumpFault::TooLong);
     }
-    let mut scratch = Scratch::new(alloc);
-    let tree = tree_of(alloc, bytes, &mut scratch)?;
+    let tree = tree_of(alloc, bytes)?;
     read_tree(alloc, &tree)
 }

@@ -6,13 +6,13 @@ ghost use Rattle.cmh_dump.specs.Name.{is_among, place_of as place_of_lem};
 ghost use Rattle.cmh_dump.specs.Places.{first_unknown};
 ghost use Rattle.cmh_dump.specs.Texts.{texts};
 ghost use Rattle.cmh_dump.specs.Tree.{text_of};
-ghost use Rattle.cmh_dump.specs.View.{view};
+ghost use Rattle.serde_json.specs.View.{view};
 ghost use Rattle.cmh_dump.specs.declared.index.IndexFault.TheVariants.{Memory};
 ghost use Rattle.cmh_dump.specs.declared.index.PlaceFault.TheVariants.{Memory as NoMemory};
 
 use crate::tree::text_in;
 use indexmap::IndexSet;
-use json::Value;
+use serde_json::Value;
 use std::alloc::{AllocError, AllocFailed, Global};
 
 /// Why names have no index.
@@ -106,7 +106,7 @@ pub(crate) fn place_of(index: &IndexSet<&str>, name: &str) -> u32
 pub(crate) fn places_of(
     alloc: Global,
     index: &IndexSet<&str>,
-    values: &[Value<'_>],
+    values: &[Value],
 ) -> Result<Vec<u32>, PlaceFault>
     requires { length (texts index.now.keys) < 2 ^ 32 }
     ensures known { OnOk result (first_unknown (texts index.now.keys) values.now ≡ None) }

@@ -1,18 +1,18 @@
 //! The stages in which a tree is judged, each over some kinds of faults.
 
-ghost use Rattle.std.specs.Prelude.{◌≡◌, ◌<◌, ◌≤◌, ◌^◌, ◌&&◌, not, [], ◌∷◌, map, sum_by, length, position, nat_lt, vec_len, IfOk};
+ghost use Rattle.std.specs.Prelude.{◌≡◌, ◌<◌, ◌≤◌, ◌^◌, ◌&&◌, not, [], map, sum_by, length, position, nat_lt, vec_len, IfOk};
 ghost use Rattle.serde_json.specs.Data.{Data};
-ghost use Rattle.cmh_dump.specs.View.{view};
+ghost use Rattle.serde_json.specs.View.{view};
 ghost use Rattle.cmh_graph.specs.Build.{process_of};
 ghost use Rattle.cmh_graph.specs.Graph.{is_idle_state};
-ghost use Rattle.cmh_dump.specs.Dump.{each, is_top as is_top_lem, process_by, top_keys};
-ghost use Rattle.cmh_dump.specs.Entry.{is_version as is_version_lem, sites as sites_lem, processes, entries as entries_lem, names as names_lem};
+ghost use Rattle.cmh_dump.specs.Dump.{is_top as is_top_lem, process_by, top_keys, top_faults, site_faults, process_faults, name_faults, entry_faults};
+ghost use Rattle.cmh_dump.specs.Entry.{is_version as is_version_lem, sites as sites_lem, entries as entries_lem, names as names_lem};
 ghost use Rattle.cmh_dump.specs.Name.{is_among};
-ghost use Rattle.cmh_dump.specs.Read.{Judges, entry_view, entry_faults};
+ghost use Rattle.cmh_dump.specs.Read.{Judges, entry_view};
 ghost use Rattle.cmh_dump.specs.Texts.{texts};
 ghost use Rattle.cmh_dump.specs.Tree.{has_keys as has_keys_lem};
 
-use crate::entry::{Entry, entries_of, first_bad_process, names_of};
+use crate::entry::{Entry, entry_of, names_of};
 use crate::index::{IndexFault, index_of, is_known};
 use crate::names::first_bad_name;
 use crate::parts::parts_of;
@@ -21,17 +21,17 @@ use crate::tree::{elements_at, has_array, has_keys, is_number_at, texts_at};
 use crate::{DumpFault, MAX_SITES};
 use cmh_graph::{MAX_DEPENDENCIES, MAX_PROCESSES, Part, State};
 use indexmap::IndexSet;
-use json::Value;
+use serde_json::Value;
 use std::alloc::Global;
 
-fn is_version(tree: &Value<'_>, number: u64) -> bool
+fn is_version(tree: &Value, number: u64) -> bool
     ensures { result ≡ is_version_lem number (view tree.now) }
 {
     is_number_at(tree, "version", number)
 }
 
 /// Version 2 has one key more.
-fn has_top_keys(tree: &Value<'_>) -> bool
+fn has_top_keys(tree: &Value) -> bool
     ensures { result ≡ has_keys_lem (top_keys (view tree.now)) [] (view tree.now) }
 {
     if is_version(tree, 2) {
@@ -41,7 +41,7 @@ fn has_top_keys(tree: &Value<'_>) -> bool
     }
 }
 
-fn is_top(tree: &Value<'_>) -> bool
+fn is_top(tree: &Value) -> bool
     ensures { result ≡ is_top_lem (view tree.now) }
 {
     has_top_keys(tree)
@@ -51,9 +51,8 @@ fn is_top(tree: &Value<'_>) -> bool
 }
 
 /// Judges the keys at the top and the version.
-pub(crate) fn judge_top(tree: &Value<'_>) -> Result<(), DumpFault>
-    ensures { Judges (view tree.now) ((DumpFault.BadTop ∷ [])
-        ∷ (DumpFault.BadVersion ∷ []) ∷ []) result }
+pub(crate) fn judge_top(tree: &Value) -> Result<(), DumpFault>
+    ensures { Judges (view tree.now) top_faults result }
 {
     if !is_top(tree) {
         return Err(DumpFault::BadTop);
@@ -65,13 +64,8 @@ pub(crate) fn judge_top(tree: &Value<'_>) -> Result<(), DumpFault>
 }
 
 /// The sites by their places. All are judged before they are counted.
-pub(crate) fn read_sites<'a>(
-    alloc: Global,
-    tree: &Value<'a>,
-) -> Result<IndexSet<&'a str>, DumpFault>
-    ensures judges { Judges (view tree.now) (each (sites_lem (view tree.now)) DumpFault.BadSites
-        ∷ each (sites_lem (view tree.now)) DumpFault.RepeatedSite
-        ∷ (DumpFault.TooManySites ∷ []) ∷ []) result }
+pub(crate) fn read_sites<'v>(alloc: Global, tree: &'v Value) -> Result<IndexSet<&'v str>, DumpFault>
+    ensures judges { Judges (view tree.now) (site_faults (view tree.now)) result }
     ensures read { IfOk result (λ index. texts index.keys ≡ sites_lem (view tree.now)) }
     ensures few { IfOk result (λ index. length (texts index.keys) ≤ MAX_SITES) }
 {
@@ -91,12 +85,11 @@ pub(crate) fn read_sites<'a>(
 }
 
 /// The processes as they are written, each judged without the others.
-pub(crate) fn read_processes<'v, 'a>(
+pub(crate) fn read_processes<'v>(
     alloc: Global,
-    tree: &'v Value<'a>,
-) -> Result<Vec<Entry<'v, 'a>>, DumpFault>
-    ensures judges { Judges (view tree.now) ((DumpFault.TooManyProcesses ∷ [])
-        ∷ each (processes (view tree.now)) DumpFault.BadProcess ∷ []) result }
+    tree: &'v Value,
+) -> Result<Vec<Entry<'v>>, DumpFault>
+    ensures judges { Judges (view tree.now) (process_faults (view tree.now)) result }
     ensures read { IfOk result (λ v. map entry_view v.items ≡ entries_lem (view tree.now)) }
     ensures few { IfOk result (λ v. vec_len v ≤ MAX_PROCESSES) }
 {
@@ -104,19 +97,23 @@ pub(crate) fn read_processes<'v, 'a>(
     if processes.len() > MAX_PROCESSES {
         return Err(DumpFault::TooManyProcesses);
     }
-    if let Some(i) = first_bad_process(processes) {
-        return Err(DumpFault::BadProcess(i));
+    let mut entries = Vec::with_capacity(alloc, processes.len())?;
+    for (i, process) in processes.iter().enumerate() {
+        let Some(entry) = entry_of(process) else {
+            return Err(DumpFault::BadProcess(i));
+        };
+        entries.push(entry)?;
     }
-    Ok(entries_of(alloc, processes)?)
+    Ok(entries)
 }
 
 /// The names of the processes by their places, of which none repeats.
-pub(crate) fn read_names<'a>(
+pub(crate) fn read_names<'v>(
     alloc: Global,
-    entries: &[Entry<'_, 'a>],
-) -> Result<IndexSet<&'a str>, DumpFault>
+    entries: &[Entry<'v>],
+) -> Result<IndexSet<&'v str>, DumpFault>
     ensures judges { (d : Data) → map entry_view entries.now ≡ entries_lem d
-        → Judges d (each (processes d) DumpFault.RepeatedProcess ∷ []) result }
+        → Judges d (name_faults d) result }
     ensures read { IfOk result (λ index.
         texts index.keys ≡ map (λ e. (entry_view e).name) entries.now) }
 {
@@ -129,7 +126,7 @@ pub(crate) fn read_names<'a>(
 }
 
 /// The place of the first process whose site is not among the sites.
-fn first_unknown_site(entries: &[Entry<'_, '_>], sites: &IndexSet<&str>) -> Option<usize>
+fn first_unknown_site(entries: &[Entry<'_>], sites: &IndexSet<&str>) -> Option<usize>
     ensures { result ≡ position
         (λ e. not (is_among (texts sites.now.keys) e.site.now)) entries.now }
 {
@@ -139,7 +136,7 @@ fn first_unknown_site(entries: &[Entry<'_, '_>], sites: &IndexSet<&str>) -> Opti
 }
 
 /// The place of the first active process with dependents.
-fn first_active_with_dependents(entries: &[Entry<'_, '_>]) -> Option<usize>
+fn first_active_with_dependents(entries: &[Entry<'_>]) -> Option<usize>
     ensures { result ≡ position
         (λ e. not (is_idle_state e.state) && nat_lt 0 (length e.dependents.now)) entries.now }
 {
@@ -147,7 +144,7 @@ fn first_active_with_dependents(entries: &[Entry<'_, '_>]) -> Option<usize>
         && !entry.dependents.is_empty())
 }
 
-fn has_too_many_dependents(entries: &[Entry<'_, '_>]) -> bool
+fn has_too_many_dependents(entries: &[Entry<'_>]) -> bool
     ensures { result ≡ nat_lt MAX_DEPENDENCIES
         (sum_by (λ e. length e.dependents.now) entries.now) }
 {
@@ -164,7 +161,7 @@ fn has_too_many_dependents(entries: &[Entry<'_, '_>]) -> bool
 /// The processes by indices, judged beside the sites and one another.
 pub(crate) fn link_entries(
     alloc: Global,
-    entries: &[Entry<'_, '_>],
+    entries: &[Entry<'_>],
     sites: &IndexSet<&str>,
     names: &IndexSet<&str>,
 ) -> Result<Vec<Part>, DumpFault>

@@ -9,9 +9,7 @@ mod index;
 mod judge;
 pub mod laws;
 mod names;
-mod number;
 mod parts;
-mod range;
 mod repeats;
 mod source;
 #[cfg(test)]

@@ -3,12 +3,12 @@
 ghost use Rattle.std.specs.Prelude.{◌≡◌, not, position};
 ghost use Rattle.std.specs.List.{list_all};
 ghost use Rattle.cmh_dump.specs.Name.{is_name as is_name_lem, is_name_byte as is_name_byte_lem};
-ghost use Rattle.cmh_dump.specs.Tree.{text_of, texts_of, at_key};
-ghost use Rattle.cmh_dump.specs.View.{view};
+ghost use Rattle.cmh_dump.specs.Tree.{text_of};
+ghost use Rattle.serde_json.specs.View.{view};
 
 use crate::MAX_NAME;
-use crate::tree::{elements_at, text_in};
-use json::Value;
+use crate::tree::text_in;
+use serde_json::Value;
 
 fn is_name_byte(byte: u8) -> bool
     ensures { result ≡ is_name_byte_lem byte }
@@ -35,17 +35,10 @@ pub(crate) fn is_name(text: &str) -> bool
 }
 
 /// All values are names.
-fn are_names_in(values: &[Value<'_>]) -> bool
+pub(crate) fn are_names_in(values: &[Value]) -> bool
     ensures { result ≡ list_all (λ value. is_name_lem (text_of (view value))) values.now }
 {
     values.iter().all(|value| is_name(text_in(value)))
-}
-
-/// All elements of the array at a key are names.
-pub(crate) fn are_names_at(value: &Value<'_>, key: &str) -> bool
-    ensures { result ≡ list_all is_name_lem (texts_of (at_key key.now (view value.now))) }
-{
-    are_names_in(elements_at(value, key))
 }
 
 /// The place of the first text that is no name.

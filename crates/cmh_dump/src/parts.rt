@@ -17,7 +17,7 @@ use std::alloc::Global;
 /// A process by indices, or the place of its first dependent that names no process.
 fn part_of(
     alloc: Global,
-    entry: &Entry<'_, '_>,
+    entry: &Entry<'_>,
     sites: &IndexSet<&str>,
     names: &IndexSet<&str>,
 ) -> Result<Part, PlaceFault>
@@ -43,7 +43,7 @@ fn part_of(
 /// All processes by indices, or the first dependent that names no process.
 pub(crate) fn parts_of(
     alloc: Global,
-    entries: &[Entry<'_, '_>],
+    entries: &[Entry<'_>],
     sites: &IndexSet<&str>,
     names: &IndexSet<&str>,
 ) -> Result<Vec<Part>, DumpFault>

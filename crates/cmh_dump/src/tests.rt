@@ -5,10 +5,8 @@ mod accepted;
 mod in_transit;
 mod limits;
 mod memory;
-mod outside;
 mod refused;
 mod sources;
-mod surface;
 
 use crate::read_dump;
 use std::alloc::{AllocError, Global};

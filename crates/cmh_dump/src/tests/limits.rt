@@ -107,3 +107,19 @@ fn limit_of_bytes(rt: HostRuntime) -> Result<(), Fail> {
     expect(&rt, is_answered(alloc, &dump, "too long")?);
     Ok(())
 }
+
+/// A dump of one site, whose name has this many bytes.
+fn site_of(alloc: Global, length: usize) -> Result<String, Fail> {
+    let name = String::from_utf8(vec![in alloc; b'x'; length]?)?;
+    Ok(format!(in alloc; r#"{{"version":1,"sites":["{name}"],"processes":[]}}"#)?)
+}
+
+#[test]
+fn limit_of_names(rt: HostRuntime) -> Result<(), Fail> {
+    let alloc = rt.alloc();
+    for (length, wanted) in [(64, "accepted"), (65, "bad site 0")] {
+        let dump = site_of(alloc, length)?;
+        assert!(rt; is_answered(alloc, dump.as_bytes(), wanted)?, "{length}");
+    }
+    Ok(())
+}

@@ -84,7 +84,7 @@ struct Answers {
     refused: bool,
 }
 
-/// Some answers were want of memory, and all others were right.
+/// Some answers were out of memory, and all others were right.
 const AS_THEY_SHOULD_BE: Answers = Answers {
     right: true,
     wrong: false,

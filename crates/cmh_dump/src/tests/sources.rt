@@ -1,7 +1,7 @@
 //! Reading of sources to their ends.
 
-use super::{TWO_IN_A_CYCLE, expect, expect_eq};
-use crate::{MAX_BYTES, ReadOf, read_all};
+use super::{TWO_IN_A_CYCLE, expect};
+use crate::{MAX_BYTES, ReadOf, Source, read_all};
 use std::alloc::{AllocError, Global};
 use std::io;
 use std::io::{ErrorKind, Read};
@@ -39,14 +39,22 @@ fn is_read<R: Read + Drop>(alloc: Global, reader: R, wanted: &str) -> Result<boo
 fn failing_sources(rt: HostRuntime) -> Result<(), Fail> {
     let alloc = rt.alloc();
     let dump = TWO_IN_A_CYCLE.as_bytes();
-    expect_eq(&rt, dump.len(), 157);
-    for len in 0..=157 {
-        let broken = Broken {
-            bytes: &dump[..len],
-        };
-        assert!(rt; is_read(alloc, broken, "read fault")?, "at {len}");
-    }
+    let broken = Broken { bytes: &dump[..20] };
+    expect(&rt, is_read(alloc, broken, "read fault")?);
+    expect(&rt, is_read(alloc, Broken { bytes: dump }, "read fault")?);
     expect(&rt, is_read(alloc, dump, "157")?);
+    Ok(())
+}
+
+#[test]
+fn whole_sources(rt: HostRuntime) -> Result<(), Fail> {
+    let mut source = ReadOf::new(TWO_IN_A_CYCLE.as_bytes());
+    let bytes = read_all(rt.alloc(), &mut source)?;
+    let is_whole = bytes.as_slice() == TWO_IN_A_CYCLE.as_bytes();
+    drop(bytes);
+    expect(&rt, is_whole);
+    expect(&rt, source.fill(&mut [0u8; 4]) == Ok(0));
+    expect(&rt, !source.failed());
     Ok(())
 }
 

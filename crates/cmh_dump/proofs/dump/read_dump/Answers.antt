@@ -1,6 +1,6 @@
 use Rattle.std.proofs.Common.{arith}
-use Rattle.cmh_dump.specs.View.{view}
-use Rattle.cmh_dump.proofs.Whole.{err_of_the_tree}
+use Rattle.serde_json.specs.View.{view}
+use Rattle.cmh_dump.proofs.FirstFault.Bytes.{err_of_the_tree}
 use Rattle.cmh_dump.proofs.dump.read_dump.Goals as goal
 
 pub returns-clause-err : goal.returns-clause-err

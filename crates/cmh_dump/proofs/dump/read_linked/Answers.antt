@@ -1,11 +1,10 @@
 use Rattle.std.proofs.Common.{◌∙◌}
 use Rattle.std.proofs.lemmas.Result.{err_from_is_err_and}
-use Rattle.cmh_dump.specs.View.{view}
-use Rattle.cmh_dump.specs.Dump.{holds}
-use Rattle.cmh_dump.specs.Read.{entry_faults, transit_faults}
+use Rattle.serde_json.specs.View.{view}
+use Rattle.cmh_dump.specs.Dump.{holds, entry_faults, transit_faults}
 use Rattle.cmh_dump.specs.Texts.{texts}
-use Rattle.cmh_dump.proofs.TreeStages.{refused_here, refused_later, graph_is}
-use Rattle.cmh_dump.proofs.Searches.{first_after}
+use Rattle.cmh_dump.proofs.FirstFault.Stages.{refused_here, refused_later, graph_is}
+use Rattle.cmh_dump.proofs.FirstFault.Kinds.{first_after}
 use Rattle.cmh_dump.proofs.dump.read_linked.Goals as goal
 
 pub returns-in_err-parts : goal.returns-in_err-parts

@@ -1,11 +1,9 @@
-use Rattle.std.proofs.Common.{[], ◌∷◌, ◌∙◌}
+use Rattle.std.proofs.Common.{◌∙◌}
 use Rattle.std.proofs.lemmas.Result.{err_from_is_err_and}
-use Rattle.cmh_dump.specs.View.{view}
-use Rattle.cmh_dump.specs.Dump.{each}
-use Rattle.cmh_dump.specs.Entry.{processes}
-use Rattle.cmh_dump.specs.declared.fault.DumpFault.TheVariants.{RepeatedProcess}
-use Rattle.cmh_dump.proofs.TreeStages.{faults_from_entries, refused_here, built_later}
-use Rattle.cmh_dump.proofs.StageAnswers.{names_seen}
+use Rattle.serde_json.specs.View.{view}
+use Rattle.cmh_dump.specs.Dump.{name_faults}
+use Rattle.cmh_dump.proofs.FirstFault.Stages.{faults_from_entries, refused_here, built_later}
+use Rattle.cmh_dump.proofs.FirstFault.Entries.{names_seen}
 use Rattle.cmh_dump.proofs.dump.read_named.Goals as goal
 
 pub returns-in_err-names : goal.returns-in_err-names
@@ -13,13 +11,13 @@ returns-in_err-names c =
     let d = view c.args.tree.now in
     let p = err_from_is_err_and c.from_residual.result c.from_residual.ensures.1 in
     λ written are_sites. rw (p.1, p.2)
-    (refused_here d (each (processes d) RepeatedProcess ∷ []) (faults_from_entries d) _
+    (refused_here d (name_faults d) (faults_from_entries d) _
     (c.in_err-names.ensures.judges d written))
 
 pub returns : goal.returns
 returns c =
     let d = view c.args.tree.now in
     λ written are_sites.
-    built_later d (each (processes d) RepeatedProcess ∷ []) (faults_from_entries d) c.read_linked.result
+    built_later d (name_faults d) (faults_from_entries d) c.read_linked.result
     (c.in_ok-names.ensures.judges d written)
     (c.read_linked.ensures written are_sites (c.in_ok-names.ensures.read ∙ names_seen d c.args.entries.now written))

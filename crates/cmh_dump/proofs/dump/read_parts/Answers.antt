@@ -1,48 +1,43 @@
-use Rattle.std.proofs.Common.{[], ◌∷◌, ◌++◌, map, ap, ◌∙◌}
+use Rattle.std.proofs.Common.{◌++◌, map, ap, ◌∙◌}
 use Rattle.std.proofs.lemmas.Result.{err_from_is_err_and}
-use Rattle.cmh_dump.specs.View.{view}
-use Rattle.cmh_dump.specs.Dump.{each}
-use Rattle.cmh_dump.specs.Entry.{processes, sites}
-use Rattle.cmh_dump.specs.declared.fault.DumpFault.TheVariants.{BadTop, BadVersion, BadSites, RepeatedSite, TooManySites, TooManyProcesses, BadProcess}
+use Rattle.serde_json.specs.View.{view}
+use Rattle.cmh_dump.specs.Dump.{top_faults, site_faults, process_faults}
 use Rattle.cmh_dump.specs.Read.{entry_view}
-use Rattle.cmh_dump.proofs.TreeStages.{faults_from_names, faults_from_processes, refused_here, refused_later, refused_past_sites, built_later}
+use Rattle.cmh_dump.proofs.FirstFault.Stages.{faults_from_names, faults_from_processes, refused_here, refused_later, refused_past_sites, built_later}
 use Rattle.cmh_dump.proofs.dump.read_parts.Goals as goal
 
 pub returns-in_err-judge_top : goal.returns-in_err-judge_top
 returns-in_err-judge_top c =
     let d = view c.args.tree.now in
-    let kinds = each (sites d) BadSites ∷ each (sites d) RepeatedSite ∷ (TooManySites ∷ []) ∷ [] in
-    let later = kinds ++ faults_from_processes d in
+    let later = site_faults d ++ faults_from_processes d in
     let p = err_from_is_err_and c.from_residual.result c.from_residual.ensures.1 in
-    rw (p.1, p.2) (refused_here d ((BadTop ∷ []) ∷ (BadVersion ∷ []) ∷ []) later _ c.in_err-judge_top.ensures)
+    rw (p.1, p.2) (refused_here d top_faults later _ c.in_err-judge_top.ensures)
 
 pub returns-in_err-sites : goal.returns-in_err-sites
 returns-in_err-sites c =
     let d = view c.args.tree.now in
-    let kinds = each (sites d) BadSites ∷ each (sites d) RepeatedSite ∷ (TooManySites ∷ []) ∷ [] in
     let later = faults_from_processes d in
     let p = err_from_is_err_and c.from_residual-in_err-sites.result c.from_residual-in_err-sites.ensures.1 in
     rw (p.1, p.2)
-    (refused_later d ((BadTop ∷ []) ∷ (BadVersion ∷ []) ∷ []) (kinds ++ later) _ c.in_ok-judge_top.ensures
-    (refused_here d kinds later _ c.in_err-sites.ensures.judges))
+    (refused_later d top_faults (site_faults d ++ later) _ c.in_ok-judge_top.ensures
+    (refused_here d (site_faults d) later _ c.in_err-sites.ensures.judges))
 
 pub returns-in_err-entries : goal.returns-in_err-entries
 returns-in_err-entries c =
     let d = view c.args.tree.now in
     let p = err_from_is_err_and c.from_residual-in_err-entries.result c.from_residual-in_err-entries.ensures.1 in
     rw (p.1, p.2) (refused_past_sites d _ c.in_ok-judge_top.ensures c.in_ok-sites.ensures.judges
-    (refused_here d ((TooManyProcesses ∷ []) ∷ each (processes d) BadProcess ∷ []) (faults_from_names d) _
+    (refused_here d (process_faults d) (faults_from_names d) _
     c.in_err-entries.ensures.judges))
 
 pub returns : goal.returns
 returns c =
     let d = view c.args.tree.now in
     let result = c.read_named.result in
-    let kinds = each (sites d) BadSites ∷ each (sites d) RepeatedSite ∷ (TooManySites ∷ []) ∷ [] in
     let later = faults_from_processes d in
-    built_later d ((BadTop ∷ []) ∷ (BadVersion ∷ []) ∷ []) (kinds ++ later) result c.in_ok-judge_top.ensures
-    (built_later d kinds later result c.in_ok-sites.ensures.judges
-    (built_later d ((TooManyProcesses ∷ []) ∷ each (processes d) BadProcess ∷ []) (faults_from_names d) result
+    built_later d top_faults (site_faults d ++ later) result c.in_ok-judge_top.ensures
+    (built_later d (site_faults d) later result c.in_ok-sites.ensures.judges
+    (built_later d (process_faults d) (faults_from_names d) result
     c.in_ok-entries.ensures.judges
     (c.read_named.ensures (ap (map entry_view) c.deref.ensures.value ∙ c.in_ok-entries.ensures.read)
     c.in_ok-sites.ensures.read)))

@@ -1,8 +1,8 @@
 use Rattle.std.proofs.Common.{ap, ◌∙◌}
 use Rattle.std.proofs.lemmas.Result.{err_from_is_err_and}
-use Rattle.cmh_dump.specs.View.{view}
+use Rattle.serde_json.specs.View.{view}
 use Rattle.cmh_graph.specs.Build.{parts_graph}
-use Rattle.cmh_dump.proofs.TreeStages.{refused, accepted, refused_for_memory_alone}
+use Rattle.cmh_dump.proofs.FirstFault.Stages.{refused, accepted, refused_for_memory_alone}
 use Rattle.cmh_dump.proofs.dump.read_tree.Goals as goal
 use Rattle.cmh_dump.proofs.dump.read_tree.Goals.{in-Memory, in_default}
 

@@ -1,7 +1,7 @@
 use Rattle.std.proofs.Common.{◌≡◌, ◌∙◌, [], length, ap, Some}
 use Rattle.cmh_dump.specs.Name.{repeats}
 use Rattle.cmh_dump.specs.Texts.{texts}
-use Rattle.cmh_dump.proofs.Faults.{least_found}
+use Rattle.cmh_dump.proofs.FirstFault.Searches.{least_found}
 use Rattle.cmh_dump.proofs.IndexLemmas.{repeated, not_repeated, all_apart}
 use Rattle.cmh_dump.proofs.index.index_of.Goals as goal
 

@@ -2,7 +2,7 @@ use Rattle.std.proofs.Common.{not, arith}
 use Rattle.cmh_dump.specs.Name.{is_among}
 use Rattle.cmh_dump.specs.Texts.{texts}
 use Rattle.cmh_dump.specs.Tree.{text_of}
-use Rattle.cmh_dump.specs.View.{view}
+use Rattle.serde_json.specs.View.{view}
 use Rattle.cmh_dump.proofs.Pairs.{all_left}
 use Rattle.cmh_dump.proofs.Places.{place_is_some, place_within}
 use Rattle.cmh_dump.proofs.index.places_of.Goals as goal

@@ -2,7 +2,7 @@ use Rattle.std.proofs.Common.{◌≡◌, not, map, take}
 use Rattle.cmh_dump.specs.Name.{is_among, place_of}
 use Rattle.cmh_dump.specs.Texts.{texts}
 use Rattle.cmh_dump.specs.Tree.{text_of}
-use Rattle.cmh_dump.specs.View.{view}
+use Rattle.serde_json.specs.View.{view}
 use Rattle.cmh_dump.proofs.Pairs.{FirstIsLeft}
 use Rattle.cmh_dump.proofs.index.places_of.Given as goal
 

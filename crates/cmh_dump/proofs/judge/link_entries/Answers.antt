@@ -5,7 +5,7 @@ use Rattle.cmh_dump.specs.Places.{first_repeated_place}
 use Rattle.cmh_dump.specs.Read.{first_pair}
 use Rattle.cmh_dump.specs.Texts.{texts}
 use Rattle.cmh_dump.proofs.IndexLemmas.{length-texts}
-use Rattle.cmh_dump.proofs.StageAnswers.{site_unknown, dependent_told, dependent_repeated, active_waits, dependencies_many, entries_judged}
+use Rattle.cmh_dump.proofs.FirstFault.Entries.{site_unknown, dependent_found, dependent_repeated, active_waits, dependencies_many, entries_judged}
 use Rattle.cmh_dump.proofs.RepeatedDependents.{parts_within, pairs_alike}
 use Rattle.cmh_dump.proofs.judge.link_entries.Goals as goal
 
@@ -27,7 +27,7 @@ pub returns-in_err-parts-clause-judges : goal.returns-in_err-parts-clause-judges
 returns-in_err-parts-clause-judges c =
     let p = err_from_is_err_and c.from_residual.result c.from_residual.ensures.1 in
     λ d seen are_sites are_names. rw (p.1, p.2)
-    (dependent_told d c.args.entries.now seen (texts c.args.sites.now.keys) (texts c.args.names.now.keys) are_sites
+    (dependent_found d c.args.entries.now seen (texts c.args.sites.now.keys) (texts c.args.names.now.keys) are_sites
     are_names _ (sym c.first_unknown_site.ensures ∙ c.in_default.is) c.in_err-parts.ensures.unknown)
 
 pub returns-in-Some-2-clause-judges : goal.returns-in-Some-2-clause-judges

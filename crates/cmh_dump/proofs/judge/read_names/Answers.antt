@@ -1,6 +1,6 @@
 use Rattle.std.proofs.Common.{ap, ◌∙◌}
 use Rattle.cmh_dump.specs.Texts.{texts}
-use Rattle.cmh_dump.proofs.StageAnswers.{names_seen, name_repeated, names_judged}
+use Rattle.cmh_dump.proofs.FirstFault.Entries.{names_seen, name_repeated, names_judged}
 use Rattle.cmh_dump.proofs.judge.read_names.Goals as goal
 
 pub returns-in-Ok-clause-judges : goal.returns-in-Ok-clause-judges

@@ -1,12 +1,12 @@
 use Rattle.std.proofs.Common.{◌≤◌, ◌<◌, not, length, ap, sym, ◌∙◌, arith}
 use Rattle.std.specs.Prelude.{position}
-use Rattle.cmh_dump.specs.View.{view}
+use Rattle.serde_json.specs.View.{view}
 use Rattle.cmh_dump.specs.declared.TheConstants.{MAX_SITES}
 use Rattle.cmh_dump.specs.Index.{first_repeat}
 use Rattle.cmh_dump.specs.Name.{is_name}
 use Rattle.cmh_dump.specs.Texts.{texts}
 use Rattle.cmh_dump.proofs.IndexLemmas.{length-texts}
-use Rattle.cmh_dump.proofs.StageAnswers.{site_bad, site_repeated, sites_many, sites_judged}
+use Rattle.cmh_dump.proofs.FirstFault.Sites.{site_bad, site_repeated, sites_many, sites_judged}
 use Rattle.cmh_dump.proofs.judge.read_sites.Goals as goal
 
 pub returns-in-Some-clause-judges : goal.returns-in-Some-clause-judges

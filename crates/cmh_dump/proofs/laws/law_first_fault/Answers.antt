@@ -1,4 +1,4 @@
-use Rattle.cmh_dump.proofs.FirstFaults.{first_fault_law}
+use Rattle.cmh_dump.proofs.FirstFault.Laws.{first_fault_law}
 use Rattle.cmh_dump.proofs.laws.law_first_fault.Goals as goal
 
 pub returns : goal.returns

@@ -1,4 +1,4 @@
-use Rattle.cmh_dump.proofs.FirstFaults.{tree_fault_law}
+use Rattle.cmh_dump.proofs.FirstFault.Laws.{tree_fault_law}
 use Rattle.cmh_dump.proofs.laws.law_tree_fault.Goals as goal
 
 pub returns : goal.returns

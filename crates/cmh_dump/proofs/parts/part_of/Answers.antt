@@ -2,7 +2,7 @@ use Rattle.std.proofs.Common.{◌∙◌}
 use Rattle.cmh_dump.specs.Name.{place_of}
 use Rattle.cmh_dump.specs.Texts.{texts}
 use Rattle.cmh_dump.specs.Tree.{text_of}
-use Rattle.cmh_dump.specs.View.{view}
+use Rattle.serde_json.specs.View.{view}
 use Rattle.cmh_dump.proofs.Trees.{map-map}
 use Rattle.cmh_dump.proofs.parts.part_of.Goals as goal
 

@@ -1,5 +1,5 @@
 use Rattle.std.proofs.Common.{◌∙◌}
-use Rattle.cmh_dump.specs.View.{view}
+use Rattle.serde_json.specs.View.{view}
 use Rattle.cmh_dump.proofs.Trees.{is_pair_of}
 use Rattle.cmh_dump.proofs.transit.is_pair.Goals as goal
 

@@ -1,18 +1,18 @@
-use Rattle.std.proofs.Common.{ap, ◌∙◌}
-use Rattle.cmh_dump.specs.View.{view}
-use Rattle.cmh_dump.specs.Name.{place_of}
-use Rattle.cmh_dump.specs.Dump.{places_in_pair}
+use Rattle.std.proofs.Common.{arith}
 use Rattle.cmh_dump.specs.Texts.{texts}
-use Rattle.cmh_dump.proofs.Taken.{made-next}
+use Rattle.cmh_dump.proofs.Places.{place_is_some, place_within}
 use Rattle.cmh_dump.proofs.transit.places_of.Goals as goal
 
-pub loop-message-preserved : goal.loop-message-preserved
-loop-message-preserved c =
+pub overflow_cast-result : goal.overflow_cast-result
+overflow_cast-result c =
     let names = texts c.args.names.now.keys in
-    let from = c.place_of-from.ensures ∙ ap (place_of names) c.name_in_pair.ensures in
-    let to = c.place_of-to.ensures ∙ ap (place_of names) c.name_in_pair-in-loop-message.ensures in
-    made-next (λ m. places_in_pair names (view m)) c.loop-message.places.items c.push.new.self.items
-    (c.place_of-from.result, c.place_of-to.result)
-    c.args.messages.now c.loop-message.message-index c.message-item.result
-    c.in_ok-push.ensures.items c.loop-message.invariant (λ t. (from t, to t))
-    c.loop-message-test.true c.message-item.is
+    let found = place_is_some names c.text_in.result.now c.in_ok-from.from c.in_ok-from.ensures in
+    let within = place_within names c.text_in.result.now found.1 in
+    omega (arith, found.0, within, c.requires.few)
+
+pub overflow_cast-result-2 : goal.overflow_cast-result-2
+overflow_cast-result-2 c =
+    let names = texts c.args.names.now.keys in
+    let found = place_is_some names c.text_in-2.result.now c.in_ok-to.to c.in_ok-to.ensures in
+    let within = place_within names c.text_in-2.result.now found.1 in
+    omega (arith, found.0, within, c.requires.few)

@@ -1,4 +1,4 @@
-use Rattle.cmh_dump.specs.View.{view}
+use Rattle.serde_json.specs.View.{view}
 use Rattle.cmh_dump.specs.Tree.{text_of}
 use Rattle.cmh_dump.proofs.Taken.{seen-next}
 use Rattle.cmh_dump.proofs.tree.texts_in.Goals as goal

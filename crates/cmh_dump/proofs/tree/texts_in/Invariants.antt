@@ -1,5 +1,5 @@
 use Rattle.std.proofs.Common.{◌≡◌, map, take}
-use Rattle.cmh_dump.specs.View.{view}
+use Rattle.serde_json.specs.View.{view}
 use Rattle.cmh_dump.specs.Texts.{texts}
 use Rattle.cmh_dump.specs.Tree.{text_of}
 use Rattle.cmh_dump.proofs.tree.texts_in.Given as goal

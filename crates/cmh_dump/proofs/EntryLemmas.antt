@@ -1,0 +1,187 @@
+-- When a process is written as it has to be, from what its members are read as.
+use Rattle.std.proofs.Common.{◌≡◌, ℕ, List, [], ◌∷◌, Bool, true, false, ◌&&◌, ◌||◌, cond, codes, map, Option, Some, None, refl, sym, ap, ◌∙◌, Bor}
+use Rattle.std.specs.Prelude.{bytes_eq, is_some, option_map, unwrap_or}
+use Rattle.std.specs.List.{list_all}
+use Rattle.std.specs.Option.{option_map_or}
+use Rattle.std.proofs.lemmas.Bool.{false≢true, false_from_ne_true}
+use Rattle.serde_json.specs.Data.{Data, null, Items}
+use Rattle.serde_json.specs.Find.{get, as_array, as_object}
+use Rattle.serde_json.specs.View.{items_of}
+use Rattle.cmh_graph.specs.declared.part.State.{State}
+use Rattle.cmh_graph.specs.declared.part.State.TheVariants.{Idle, Active}
+use Rattle.cmh_dump.specs.Name.{is_name, is_among}
+use Rattle.cmh_dump.specs.Tree.{text_of, list_of, elements_of, at_key, keys_of, has_keys}
+use Rattle.cmh_dump.specs.Entry.{Entry, entry_of, has_state, has_dependents, is_process}
+use Rattle.cmh_dump.proofs.Trees.{list_of-items_of}
+
+-- where three tests hold together, each does
+three : (a b c : Bool) → (a && b && c) ≡ true → (a ≡ true) × (b ≡ true) × (c ≡ true)
+three true true true h = (refl, refl, refl)
+three a b c h = absurd (false≢true h)
+
+-- where six tests hold together, each does
+six : (a b c d e f : Bool) → (a && b && c && d && e && f) ≡ true
+    → (a ≡ true) × (b ≡ true) × (c ≡ true) × (d ≡ true) × (e ≡ true) × (f ≡ true)
+six true true true true true true h = (refl, refl, refl, refl, refl, refl)
+six a b c d e f h = absurd (false≢true h)
+
+-- a name stands at a key that is there
+named : (key : List ℕ) (d : Data) → is_name (text_of (at_key key d)) ≡ true → is_some (get key d) ≡ true
+named key d h = by (get key d) h
+  where
+    by : (o : Option Data) → is_name (text_of (unwrap_or o null)) ≡ true → is_some o ≡ true
+    by None h = absurd (false≢true h)
+    by (Some m) h = refl
+
+-- the keys that a process must have, and those that it may have
+abbrev pub needed : List (List ℕ)
+needed = codes "name" ∷ codes "site" ∷ codes "state" ∷ []
+
+abbrev pub allowed : List (List ℕ)
+allowed = codes "dependents" ∷ []
+
+module _ (d : Data) where
+  -- the text at a key
+  abbrev at : List ℕ → List ℕ
+  at key = text_of (at_key key d)
+
+  -- the state is one of the two
+  abbrev has_some_state : Bool
+  has_some_state = has_state (codes "active") d || has_state (codes "idle") d
+
+  -- each key is one that a process may have
+  abbrev pub has_no_other : Bool
+  has_no_other = list_all (λ k. is_among needed k || is_among allowed k) (option_map_or keys_of (as_object d) [])
+
+  -- a state stands at a key that is there
+  stated : has_some_state ≡ true → is_some (get (codes "state") d) ≡ true
+  stated h = by (get (codes "state") d) h
+    where
+      by : (o : Option Data) → (bytes_eq (text_of (unwrap_or o null)) (codes "active")
+          || bytes_eq (text_of (unwrap_or o null)) (codes "idle")) ≡ true → is_some o ≡ true
+      by None h = absurd (false≢true h)
+      by (Some m) h = refl
+
+  -- the dependents are read where an array of them stands, or where none are there and none need be
+  abbrev read_dependents : Option Data → Option (List Data)
+  read_dependents o =
+      cond (cond (is_some o) (is_some (as_array (unwrap_or o null))) (has_state (codes "active") d))
+      (Some (elements_of (unwrap_or o null))) None
+
+  -- the elements of an array as a list, where there is one
+  abbrev listed : Option Items → Option (List Data)
+  listed a = cond (is_some a) (Some (option_map_or list_of a [])) None
+
+  -- what is read of the member at the key of the dependents
+  pub array_read : {V : Type 0} (view : V → Data) (r : Option (Bor (List V))) (m : Data)
+      → option_map (λ v. items_of (map view v.now)) r ≡ as_array m → Some m ≡ get (codes "dependents") d
+      → option_map (λ v. map view v.now) r
+      ≡ cond (has_dependents d) (Some (elements_of (at_key (codes "dependents") d))) None
+  array_read {V = V} view r m h e = by r h ∙ ap read_dependents e
+    where
+      by : (o : Option (Bor (List V))) → option_map (λ v. items_of (map view v.now)) o ≡ as_array m
+          → option_map (λ v. map view v.now) o ≡ listed (as_array m)
+      by None h = ap listed h
+      by (Some v) h = ap Some (sym (list_of-items_of (map view v.now))) ∙ ap listed h
+
+  -- what is read of a process: none where it isn't written as it has to be
+  abbrev answer : Option Entry
+  answer = cond (is_process d) (Some (entry_of d)) None
+
+  -- where it can't be written as it has to be, none is read
+  refused : ¬ (is_process d ≡ true) → None ≡ answer
+  refused n = sym (ap (λ b. cond b (Some (entry_of d)) None) (false_from_ne_true (is_process d) n))
+
+  -- the parts of the test of a process
+  parts : is_process d ≡ true → (has_keys needed allowed d ≡ true) × (is_name (at (codes "name")) ≡ true)
+      × (is_name (at (codes "site")) ≡ true) × (has_some_state ≡ true) × (has_dependents d ≡ true)
+      × (list_all is_name (entry_of d).dependents ≡ true)
+  parts h =
+      six (has_keys needed allowed d) (is_name (at (codes "name"))) (is_name (at (codes "site"))) has_some_state
+      (has_dependents d) (list_all is_name (entry_of d).dependents) h
+
+  -- the parts of the test of its keys
+  key_parts : has_keys needed allowed d ≡ true → (is_some (as_object d) ≡ true)
+      × (list_all (λ k. is_some (get k d)) needed ≡ true) × (has_no_other ≡ true)
+  key_parts h = three (is_some (as_object d)) (list_all (λ k. is_some (get k d)) needed) has_no_other h
+
+  -- without dependents, where it must have them, it is no process
+  pub no_dependents : None ≡ cond (has_dependents d) (Some (elements_of (at_key (codes "dependents") d))) None
+      → None ≡ answer
+  no_dependents e = refused (λ h. by (has_dependents d) e (parts h).4)
+    where
+      by : (b : Bool) → None ≡ cond b (Some (elements_of (at_key (codes "dependents") d))) None → b ≡ true → ⊥
+      by true e h = absurd cc
+      by false e h = false≢true h
+
+  -- where something that is written by name is no name, it is no process
+  pub no_name : (names : Bool) → names ≡ (is_name (at (codes "name")) && is_name (at (codes "site"))
+      && list_all is_name (entry_of d).dependents) → names ≡ false → None ≡ answer
+  no_name names e f =
+      refused (λ h. let p = parts h in
+      false≢true (sym f ∙ e ∙ (λ i. p.1 i && p.2 i && p.5 i)))
+
+  -- where it has another key, it is no process
+  pub another_key : has_no_other ≡ false → None ≡ answer
+  another_key f = refused (λ h. false≢true (sym f ∙ (key_parts (parts h).0).2))
+
+  -- the state that is read is the one that is written
+  state_is : (s : State) → Some s ≡ cond (has_state (codes "active") d) (Some Active)
+      (cond (has_state (codes "idle") d) (Some Idle) None)
+      → (has_some_state ≡ true) × (s ≡ (entry_of d).state)
+  state_is s e = by (has_state (codes "active") d) (has_state (codes "idle") d) e
+    where
+      by : (a i : Bool) → Some s ≡ cond a (Some Active) (cond i (Some Idle) None)
+          → ((a || i) ≡ true) × (s ≡ cond a Active Idle)
+      by true i e = let same : s ≡ Active = cc in (refl, same)
+      by false true e = let same : s ≡ Idle = cc in (refl, same)
+      by false false e = absurd cc
+
+  -- the dependents that are read are those that are written
+  pub dependents_are : (ds : List Data)
+      → Some ds ≡ cond (has_dependents d) (Some (elements_of (at_key (codes "dependents") d))) None
+      → (has_dependents d ≡ true) × (ds ≡ elements_of (at_key (codes "dependents") d))
+  dependents_are ds e = by (has_dependents d) e
+    where
+      by : (b : Bool) → Some ds ≡ cond b (Some (elements_of (at_key (codes "dependents") d))) None
+          → (b ≡ true) × (ds ≡ elements_of (at_key (codes "dependents") d))
+      by true e = let same : ds ≡ elements_of (at_key (codes "dependents") d) = cc in (refl, same)
+      by false e = absurd cc
+
+  -- what passes all tests is read as the process that is written
+  pub accepted : (name site : List ℕ) (s : State) (ds : List Data) (names : Bool)
+      → is_some (as_object d) ≡ true → name ≡ at (codes "name") → site ≡ at (codes "site")
+      → Some s ≡ cond (has_state (codes "active") d) (Some Active) (cond (has_state (codes "idle") d) (Some Idle) None)
+      → Some ds ≡ cond (has_dependents d) (Some (elements_of (at_key (codes "dependents") d))) None
+      → names ≡ (is_name (at (codes "name")) && is_name (at (codes "site"))
+      && list_all is_name (entry_of d).dependents) → names ≡ true → has_no_other ≡ true
+      → Some (record { name = name; site = site; state = s; dependents = map text_of ds }) ≡ answer
+  accepted name site s ds names object n m state deps named_all t only =
+      let st = state_is s state in
+      let dep = dependents_are ds deps in
+      let n3 = three (is_name (at (codes "name"))) (is_name (at (codes "site")))
+      (list_all is_name (entry_of d).dependents) (sym named_all ∙ t) in
+      let first = named (codes "name") d n3.0 in
+      let second = named (codes "site") d n3.1 in
+      let third = stated st.0 in
+      let keys : has_keys needed allowed d ≡ true =
+      λ i. object i && (first i && (second i && (third i && true))) && only i in
+      let good : is_process d ≡ true = λ i. keys i && n3.0 i && n3.1 i && st.0 i && dep.0 i && n3.2 i in
+      (λ i. Some (record { name = n i; site = m i; state = st.1 i; dependents = map text_of (dep.1 i) }))
+      ∙ sym (ap (λ b. cond b (Some (entry_of d)) None) good)
+
+  -- where nothing is read, it is no process
+  pub none_read : None ≡ answer → is_process d ≡ false
+  none_read e = by (is_process d) e
+    where
+      by : (b : Bool) → None ≡ cond b (Some (entry_of d)) None → b ≡ false
+      by true e = absurd cc
+      by false e = refl
+
+  -- where something is read, it is a process, and what is read is what is written
+  pub some_read : (e : Entry) → Some e ≡ answer → (is_process d ≡ true) × (e ≡ entry_of d)
+  some_read e h = by (is_process d) h
+    where
+      by : (b : Bool) → Some e ≡ cond b (Some (entry_of d)) None → (b ≡ true) × (e ≡ entry_of d)
+      by true h = let same : e ≡ entry_of d = cc in (refl, same)
+      by false h = absurd cc

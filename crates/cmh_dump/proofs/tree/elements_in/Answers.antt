@@ -1,8 +1,0 @@
-use Rattle.std.proofs.Common.{◌∙◌, map, ap}
-use Rattle.cmh_dump.specs.View.{view}
-use Rattle.cmh_dump.proofs.Trees.{elements_or_none}
-use Rattle.cmh_dump.proofs.tree.elements_in.Goals as goal
-
-pub returns : goal.returns
-returns c = ap (λ b. map view b.now) c.unwrap_or.ensures
-    ∙ elements_or_none view (view c.args.value.now) c.array_in.result _ c.array_in.ensures c.none_beside.ensures
