@@ -9,7 +9,7 @@ use crate::records::outline_of;
 use cmh_graph::WaitGraph;
 use cmh_run::{Log, ProcessList, RunLog};
 use cmh_text::text_of;
-use cmh_work::{Analysis, Record};
+use cmh_work::{Analysis, PathList, Record};
 use std::alloc::{AllocError, Global};
 use std::thread::Threads;
 
@@ -20,26 +20,26 @@ use std::thread::Threads;
 /// # Errors
 ///
 /// `Memory` where memory is refused.
-pub fn report<L: Log, E: ProcessList, R: Threads + Sync>(
+pub fn report<L: Log, E: ProcessList, P: PathList, R: Threads + Sync>(
     rt: &R,
     alloc: Global,
     graph: &WaitGraph,
-    analysis: &Analysis<RunLog<L, E>, E>,
+    analysis: &Analysis<RunLog<L, E>, P>,
 ) -> Result<String, ReportFault>
-    requires { IsSomeAnalysisOf graph.now analysis.now }
+    requires { IsSomeAnalysisOf P.processes graph.now analysis.now }
     ensures { IfOk result (λ text. string_bytes text ≡ report_text graph.now) }
 {
     told(rt, alloc, graph, analysis.records()).map_err(|_| ReportFault::Memory)
 }
 
 /// The report, by the records.
-fn told<L: Log, E: ProcessList, R: Threads + Sync>(
+fn told<L: Log, E: ProcessList, P: PathList, R: Threads + Sync>(
     rt: &R,
     alloc: Global,
     graph: &WaitGraph,
-    records: &[Record<RunLog<L, E>, E>],
+    records: &[Record<RunLog<L, E>, P>],
 ) -> Result<String, AllocError>
-    requires { AreRecordsOf graph.now records.now }
+    requires { AreRecordsOf P.processes graph.now records.now }
     ensures { IfOk result (λ text. string_bytes text ≡ report_text graph.now) }
 {
     let outline = outline_of(alloc, graph, records)?;

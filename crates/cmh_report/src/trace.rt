@@ -1,12 +1,13 @@
 //! A trace from end to end: a dump comes in, and each query and reply of one computation goes out.
 
-ghost use Rattle.std.specs.Prelude.{◌≡◌, ◌≢◌, ◌++◌, ◌<◌, ◌+◌, ◌⊎◌, [], ℕ, true, IfOk, IfErr, IsTrue, OnOk, MatchOption, flat_map, string_bytes};
+ghost use Rattle.std.specs.Prelude.{◌≡◌, ◌≢◌, ◌++◌, ◌<◌, ◌≤◌, ◌+◌, ◌⊎◌, [], ℕ, length, true, IfOk, IfErr, IsTrue, OnOk, MatchOption, flat_map, string_bytes};
 ghost use Rattle.cmh_dump.specs.Source.{GaveAtMost};
 ghost use Rattle.cmh_dump.specs.declared.TheConstants.{MAX_BYTES};
 ghost use Rattle.cmh_graph.specs.Graph.{is_idle};
 ghost use Rattle.cmh_run.specs.Choices.{HasNoHints};
 ghost use Rattle.cmh_run.specs.Legal.{IsBetween};
 ghost use Rattle.cmh_run.specs.Run.{IsFirstRunFault, IsRunOf};
+ghost use Rattle.cmh_run.specs.declared.TheConstants.{MAX_CHOICES};
 ghost use Rattle.cmh_run.specs.declared.fault.RunFault.{RunFault};
 ghost use Rattle.cmh_text.specs.Report.{line};
 ghost use Rattle.cmh_work.specs.declared.fault.WorkFault.{WorkFault};
@@ -51,6 +52,7 @@ pub fn trace_bytes<S: Source, K: Sink>(
     ensures answer { IfOk result (λ ending. IsAnswer (IsEndedTrace name.now choices.now ending)
         (S.state source.old) (S.state source.new) (K.state sink.old) (K.state sink.new)) }
     ensures never_cut { IfOk result (λ ending. (k : ℕ) → ending ≢ Ending.CutFree k) }
+    ensures few { IfOk result (λ _. length choices.now ≤ MAX_CHOICES) }
 
     ensures refused { IfErr result (λ e.
         IfDump e (IsRefused (S.state source.old) (S.state source.new))) }
@@ -89,6 +91,7 @@ fn trace_of(
     ensures trace { IfOk result (λ t.
         IsEndedTrace name.now choices.now t.ending graph.now (string_bytes t.text)) }
     ensures never_cut { IfOk result (λ t. (k : ℕ) → t.ending ≢ Ending.CutFree k) }
+    ensures few { IfOk result (λ _. length choices.now ≤ MAX_CHOICES) }
     ensures nobody { IfErr result (λ e. IfNoSuchProcess e (NobodyIsNamed graph.now name.now)) }
     ensures no_run { IfErr result (λ e. IfRun e (λ fault.
         HasNoRun name.now choices.now fault graph.now)) }
@@ -130,6 +133,7 @@ fn plain_run(
     ensures initiator { IfOk result (λ r. r.initiator ≡ initiator) }
     ensures idle { IfOk result (λ r. IsTrue (is_idle graph.now r.initiator)) }
     ensures legal { IfOk result (IsRunOf graph.now choices.now []) }
+    ensures few { IfOk result (λ _. length choices.now ≤ MAX_CHOICES) }
     ensures unhinted { IfOk result (λ r. HasNoHints r.log) }
     ensures lines { IfOk result (HasLines graph.now) }
     ensures fault { IfErr result (λ e. (fault : RunFault) × (e ≡ AppFault.Run fault)

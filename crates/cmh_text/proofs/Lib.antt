@@ -8,4 +8,5 @@ pub mod Members
 pub mod Numbers
 pub mod SiteCounts
 pub mod SpacedNames
+pub mod Summaries
 pub mod Words

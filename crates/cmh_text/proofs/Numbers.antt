@@ -122,27 +122,6 @@ own_number g list l are i leads =
     let itself = and_parts (is_deadlocked g l) (eqb (leader_of g l) l) (sym (led_test g list l l are i) ∙ leads) in
     ap (leaders_up_to g) (sym (eqb-true (leader_of g l) l itself.1)) ∙ number_is g l
 
--- where a test gives a leader or none, and l is given, the test holds and the leader is l
-leader_known_by : (dead : Bool) (leader l : ℕ) → cond {A = Option ℕ} dead (Some leader) None ≡ Some l
-    → (dead ≡ true) × (leader ≡ l)
-leader_known_by true leader l e = (refl, cc)
-leader_known_by false leader l e = cc
-
--- where a test gives a leader or none, and none is given, the test fails
-no_leader_by : (dead : Bool) (leader : ℕ) → cond {A = Option ℕ} dead (Some leader) None ≡ None → dead ≡ false
-no_leader_by true leader e = cc
-no_leader_by false leader e = refl
-
--- a process with a leader is deadlocked, and it is its leader
-pub leader_known : (g : Graph) (p l : ℕ) → group_leader g p ≡ Some l → (is_deadlocked g p ≡ true) × (leader_of g p ≡ l)
-unfolding group_leader
-leader_known g p l e = leader_known_by (is_deadlocked g p) (leader_of g p) l e
-
--- a process without a leader isn't deadlocked
-pub no_leader : (g : Graph) (p : ℕ) → group_leader g p ≡ None → is_deadlocked g p ≡ false
-unfolding group_leader
-no_leader g p e = no_leader_by (is_deadlocked g p) (leader_of g p) e
-
 -- where p leads itself, there is one leader more below p + 1 than below p
 pub leaders_one_more : (g : Graph) (list : List (Option ℕ)) (p count : ℕ) → list ≡ map (group_leader g) (indices g)
     → p < process_count g → count ≡ length (leaders_below g p) → is_led_by list p p ≡ true

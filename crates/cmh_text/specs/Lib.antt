@@ -1,10 +1,10 @@
 -- the words of public contracts
 pub mod Outline
 pub mod Report
+pub mod Summary
 -- the words of private functions
 pub mod Group
 pub mod Knot
 pub mod Known
 pub mod Names
-pub mod Paths
 pub mod Sites

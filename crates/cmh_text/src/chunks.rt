@@ -2,7 +2,7 @@
 
 ghost use Rattle.std.specs.Prelude.{◌<◌};
 
-use crate::paths::Paths;
+use crate::summary::Summary;
 use cmh_graph::WaitGraph;
 
 /// About how many steps, each a few instructions, take as long as a thread takes to start.
@@ -13,16 +13,16 @@ const CHUNKS: usize = 64;
 
 /// How many lines of processes make a chunk that is worth a thread: the fewer, the longer their paths
 /// are.
-pub(crate) fn process_chunk(paths: &Paths) -> usize
+pub(crate) fn process_chunk(lines: usize, summaries: &[Summary]) -> usize
     ensures { 0 < result }
 {
     let mut names = 0usize;
-    for distance in &paths.distances {
-        if let Some(distance) = distance {
-            names = names.saturating_add(*distance as usize);
+    for summary in summaries {
+        if let Summary::Free(_, count) = summary {
+            names = names.saturating_add(*count);
         }
     }
-    chunk(paths.idle.len(), names)
+    chunk(lines, names)
 }
 
 /// The same of so many lines of groups, where each takes a search of the whole graph.

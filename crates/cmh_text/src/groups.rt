@@ -8,10 +8,12 @@ ghost use Rattle.cmh_text.specs.Group.{is_led_by, leaders_up_to, AreGroupsOf};
 ghost use Rattle.cmh_text.specs.Knot.{IsKnotOf};
 ghost use Rattle.cmh_text.specs.Known.{ArePartsOf, IsKnownOf};
 ghost use Rattle.cmh_text.specs.Report.{site_count};
+ghost use Rattle.cmh_text.specs.Summary.{AreSummariesOf, leaders_in};
 
 use crate::knot::{Knot, base};
 use crate::known::{Known, Parts, parts_from, parts_of};
 use crate::sites::count_sites;
+use crate::summary::Summary;
 use cmh_graph::laws::law_built_graph;
 use cmh_graph::{GraphFault, WaitGraph};
 use std::alloc::{AllocError, Global};
@@ -19,8 +21,8 @@ use std::alloc::{AllocError, Global};
 /// Who leads whom, and the numbers of the groups.
 #[derive(Drop)]
 pub(crate) struct Groups {
-    /// For each process the leader of its group, if it is deadlocked.
-    pub(crate) leaders: Vec<Option<u32>>,
+    /// For each process what its line is made of.
+    pub(crate) summaries: Vec<Summary>,
     /// For each process how many leaders there are up to it: for a leader the number of its group.
     pub(crate) numbers: Vec<u32>,
     /// The leaders, by rising index.
@@ -28,20 +30,20 @@ pub(crate) struct Groups {
 }
 
 impl Groups {
-    /// The groups of these leaders. The graph isn't searched.
-    pub(crate) fn of_leaders(
+    /// The groups by these summaries. The graph isn't searched.
+    pub(crate) fn of_summaries(
         alloc: Global,
         graph: &WaitGraph,
-        leaders: Vec<Option<u32>>,
+        summaries: Vec<Summary>,
     ) -> Result<Groups, AllocError>
-        requires { leaders.items ≡ map (group_leader graph.now) (indices graph.now) }
+        requires { AreSummariesOf graph.now summaries.items }
         ensures { IfOk result (AreGroupsOf graph.now) }
     {
         law_built_graph(graph);
-        let numbers = group_numbers(alloc, graph, &leaders)?;
-        let list = leader_list(alloc, graph, &leaders)?;
+        let numbers = group_numbers(alloc, graph, &summaries)?;
+        let list = leader_list(alloc, graph, &summaries)?;
         Ok(Groups {
-            leaders,
+            summaries,
             numbers,
             list,
         })
@@ -52,15 +54,15 @@ impl Groups {
 fn group_numbers(
     alloc: Global,
     graph: &WaitGraph,
-    leaders: &[Option<u32>],
+    summaries: &[Summary],
 ) -> Result<Vec<u32>, AllocError>
-    requires { leaders.now ≡ map (group_leader graph.now) (indices graph.now) }
+    requires { leaders_in summaries.now ≡ map (group_leader graph.now) (indices graph.now) }
     ensures { IfOk result (λ list. list.items ≡ map (leaders_up_to graph.now) (indices graph.now)) }
 {
     let mut numbers = Vec::new(alloc);
     let mut count = 0;
     for p in 0..graph.len() {
-        if is_led_by(leaders, p, p) {
+        if is_led_by(summaries, p, p) {
             count += 1;
         }
         numbers.push(count)?;
@@ -72,14 +74,14 @@ fn group_numbers(
 fn leader_list(
     alloc: Global,
     graph: &WaitGraph,
-    leaders: &[Option<u32>],
+    summaries: &[Summary],
 ) -> Result<Vec<u32>, AllocError>
-    requires { leaders.now ≡ map (group_leader graph.now) (indices graph.now) }
+    requires { leaders_in summaries.now ≡ map (group_leader graph.now) (indices graph.now) }
     ensures { IfOk result (λ list. list.items ≡ all_leaders graph.now) }
 {
     let mut list = Vec::new(alloc);
     for p in 0..graph.len() {
-        if is_led_by(leaders, p, p) {
+        if is_led_by(summaries, p, p) {
             list.push(p)?;
         }
     }
@@ -87,11 +89,11 @@ fn leader_list(
 }
 
 /// Whether that leader leads the process.
-pub(crate) fn is_led_by(leaders: &[Option<u32>], leader: u32, p: u32) -> bool
-    requires { p < length leaders.now }
-    ensures { result ≡ is_led_by leaders.now leader p }
+pub(crate) fn is_led_by(summaries: &[Summary], leader: u32, p: u32) -> bool
+    requires { p < length summaries.now }
+    ensures { result ≡ is_led_by (leaders_in summaries.now) leader p }
 {
-    leaders[p as usize] == Some(leader)
+    summaries[p as usize].leader() == Some(leader)
 }
 
 /// What the line of a group says.
@@ -116,7 +118,7 @@ pub(crate) fn group_of(
     requires groups { AreGroupsOf graph.now groups.now }
     requires knot { IsKnotOf graph.now knot.now }
     requires last { IfSome last.now (IsKnownOf graph.now) }
-    requires leads { IsTrue (is_led_by groups.now.leaders.items leader leader) }
+    requires leads { IsTrue (is_led_by (leaders_in groups.now.summaries.items) leader leader) }
     ensures number { IfOk result (λ made. made.0.number ≡ group_number graph.now leader) }
     ensures core { IfOk result (λ made. made.0.core.items ≡ core_of graph.now leader) }
     ensures rest { IfOk result (λ made. made.0.rest.items ≡ rest_of graph.now leader) }
@@ -152,7 +154,7 @@ fn parts_by(
 ) -> Result<Parts, AllocError>
     requires within { leader < process_count graph.now }
     requires groups { AreGroupsOf graph.now groups.now }
-    requires leads { IsTrue (is_led_by groups.now.leaders.items leader leader) }
+    requires leads { IsTrue (is_led_by (leaders_in groups.now.summaries.items) leader leader) }
     requires base { IfSome base (λ known.
         IsKnownOf graph.now known.now × Reaches graph.now leader known.now.leader) }
     ensures { IfOk result (ArePartsOf graph.now leader) }
@@ -176,20 +178,20 @@ pub(crate) fn out_of_memory(_fault: GraphFault) -> AllocError
 /// The core and the rest of a group, by the processes that its leader reaches.
 pub(crate) fn core_and_rest(
     alloc: Global,
-    leaders: &[Option<u32>],
+    summaries: &[Summary],
     leader: u32,
     reach: &[u32],
 ) -> Result<(Vec<u32>, Vec<u32>), AllocError>
-    requires { All (λ p. p < length leaders.now) reach.now }
+    requires { All (λ p. p < length summaries.now) reach.now }
     ensures core { IfOk result (λ parts.
-        parts.0.items ≡ filter (is_led_by leaders.now leader) reach.now) }
+        parts.0.items ≡ filter (is_led_by (leaders_in summaries.now) leader) reach.now) }
     ensures rest { IfOk result (λ parts.
-        parts.1.items ≡ filter (λ p. not (is_led_by leaders.now leader p)) reach.now) }
+        parts.1.items ≡ filter (λ p. not (is_led_by (leaders_in summaries.now) leader p)) reach.now) }
 {
     let mut core = Vec::new(alloc);
     let mut rest = Vec::new(alloc);
     for p in reach {
-        if is_led_by(leaders, leader, *p) {
+        if is_led_by(summaries, leader, *p) {
             core.push(*p)?;
         } else {
             rest.push(*p)?;

@@ -6,10 +6,12 @@ ghost use Rattle.cmh_graph.specs.Path.{Reaches};
 ghost use Rattle.cmh_text.specs.Group.{AreGroupsOf, is_led_by};
 ghost use Rattle.cmh_text.specs.Knot.{IsKnotOf};
 ghost use Rattle.cmh_text.specs.Known.{IsKnownOf};
+ghost use Rattle.cmh_text.specs.Summary.{leaders_in};
 
 use crate::groups::{Groups, is_led_by};
 use crate::known::{Known, known_of};
 use crate::sites::site_bound;
+use crate::summary::Summary;
 use cmh_graph::WaitGraph;
 use std::alloc::{AllocError, Global};
 
@@ -90,7 +92,7 @@ fn known_if_any(
 fn leader_of_most(alloc: Global, groups: &Groups) -> Result<Option<u32>, AllocError>
     ensures { IfOk result (λ leader. IfSome leader (λ l. Contains groups.now.list.items l)) }
 {
-    let counts = led_counts(alloc, &groups.leaders)?;
+    let counts = led_counts(alloc, &groups.summaries)?;
     let mut best = None;
     let mut most = 0;
     for leader in &groups.list {
@@ -104,11 +106,11 @@ fn leader_of_most(alloc: Global, groups: &Groups) -> Result<Option<u32>, AllocEr
 }
 
 /// For each process how many it leads.
-fn led_counts(alloc: Global, leaders: &[Option<u32>]) -> Result<Vec<u32>, AllocError> {
-    let mut counts = vec![in alloc; 0u32; leaders.len()]?;
-    for leader in leaders {
-        if let Some(leader) = leader {
-            if let Some(count) = counts.get_mut(*leader as usize) {
+fn led_counts(alloc: Global, summaries: &[Summary]) -> Result<Vec<u32>, AllocError> {
+    let mut counts = vec![in alloc; 0u32; summaries.len()]?;
+    for summary in summaries {
+        if let Some(leader) = summary.leader() {
+            if let Some(count) = counts.get_mut(leader as usize) {
                 *count = count.saturating_add(1);
             }
         }
@@ -122,17 +124,17 @@ fn waits_for(graph: &WaitGraph, groups: &Groups, p: u32, leader: u32) -> bool
     requires within { p < process_count graph.now }
     ensures { IsTrue result → Reaches graph.now p leader }
 {
-    has_led(&groups.leaders, leader, graph.dependents(p))
+    has_led(&groups.summaries, leader, graph.dependents(p))
 }
 
 /// Whether the list has somebody whom that leader leads.
-fn has_led(leaders: &[Option<u32>], leader: u32, list: &[u32]) -> bool
-    requires { All (λ q. q < length leaders.now) list.now }
+fn has_led(summaries: &[Summary], leader: u32, list: &[u32]) -> bool
+    requires { All (λ q. q < length summaries.now) list.now }
     ensures { IsTrue result
-        → (q : ℕ) × Contains list.now q × IsTrue (is_led_by leaders.now leader q) }
+        → (q : ℕ) × Contains list.now q × IsTrue (is_led_by (leaders_in summaries.now) leader q) }
 {
     for q in list {
-        if is_led_by(leaders, leader, *q) {
+        if is_led_by(summaries, leader, *q) {
             return true;
         }
     }

@@ -8,6 +8,7 @@ ghost use Rattle.cmh_graph.specs.Path.{reach_of, reaches, Reaches};
 ghost use Rattle.cmh_graph.specs.Search.{is_marked};
 ghost use Rattle.cmh_text.specs.Group.{is_led_by, AreGroupsOf};
 ghost use Rattle.cmh_text.specs.Known.{ArePartsOf, HasOneMore, IsKnownOf};
+ghost use Rattle.cmh_text.specs.Summary.{leaders_in};
 
 use crate::groups::{Groups, core_and_rest, out_of_memory};
 use cmh_graph::WaitGraph;
@@ -56,7 +57,7 @@ pub(crate) fn parts_from(
 ) -> Result<Parts, AllocError>
     requires within { leader < process_count graph.now }
     requires groups { AreGroupsOf graph.now groups.now }
-    requires leads { IsTrue (is_led_by groups.now.leaders.items leader leader) }
+    requires leads { IsTrue (is_led_by (leaders_in groups.now.summaries.items) leader leader) }
     requires base { IsKnownOf graph.now base.now }
     requires beyond { Reaches graph.now leader base.now.leader }
     ensures { IfOk result (ArePartsOf graph.now leader) }
@@ -80,12 +81,12 @@ pub(crate) fn parts_of(
 ) -> Result<Parts, AllocError>
     requires within { leader < process_count graph.now }
     requires groups { AreGroupsOf graph.now groups.now }
-    requires leads { IsTrue (is_led_by groups.now.leaders.items leader leader) }
+    requires leads { IsTrue (is_led_by (leaders_in groups.now.summaries.items) leader leader) }
     requires marks { marks.items ≡ map (reaches graph.now leader) (indices graph.now) }
     ensures { IfOk result (ArePartsOf graph.now leader) }
 {
     let reach = reach_of(alloc, graph, leader, &marks)?;
-    let (core, rest) = core_and_rest(alloc, &groups.leaders, leader, &reach)?;
+    let (core, rest) = core_and_rest(alloc, &groups.summaries, leader, &reach)?;
     Ok(Parts {
         known: Known {
             leader,

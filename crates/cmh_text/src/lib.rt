@@ -1,4 +1,4 @@
-//! The text of a report: its lines, by the wait graph and by who leads each deadlocked process.
+//! The text of a report: its lines, by the wait graph and by a summary of each process.
 #![tactic(auto)]
 
 mod chunks;
@@ -11,8 +11,10 @@ mod outline;
 mod parallel;
 mod paths;
 mod sites;
+mod summary;
 mod text;
 mod turned;
 
 pub use outline::Outline;
+pub use summary::Summary;
 pub use text::text_of;

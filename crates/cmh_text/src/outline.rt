@@ -1,11 +1,12 @@
 //! What the text of a report takes from an analysis.
 
-ghost use Rattle.std.specs.Prelude.{◌≡◌, length, map, IfOk, string_bytes};
-ghost use Rattle.cmh_graph.specs.Core.{group_leader};
-ghost use Rattle.cmh_graph.specs.Graph.{idle_list, indices};
+ghost use Rattle.std.specs.Prelude.{◌≡◌, length, IfOk, string_bytes};
+ghost use Rattle.cmh_graph.specs.Graph.{idle_list};
 ghost use Rattle.cmh_text.specs.Report.{line, counts_line, totals_line, deadlocked_count};
+ghost use Rattle.cmh_text.specs.Summary.{AreSummariesOf};
 
 use crate::groups::Groups;
+use crate::summary::Summary;
 use cmh_graph::WaitGraph;
 use std::alloc::{AllocError, Global};
 
@@ -22,8 +23,7 @@ pub struct Outline {
 impl Outline {
     ghost use Rattle.cmh_text.specs.Outline.{IsOutlineOf};
 
-    /// Takes for each process the leader of its group, if it is deadlocked, and how many processes
-    /// are idle and deadlocked. The graph isn't searched: it takes time and memory linear in the
+    /// Takes a summary of each process, and how many processes are idle and deadlocked. The graph isn't searched: it takes time and memory linear in the
     /// processes.
     ///
     /// # Errors
@@ -32,17 +32,17 @@ impl Outline {
     pub fn new(
         alloc: Global,
         graph: &WaitGraph,
-        leaders: Vec<Option<u32>>,
+        summaries: Vec<Summary>,
         idle: u32,
         deadlocked: u32,
     ) -> Result<Outline, AllocError>
-        requires leaders { leaders.items ≡ map (group_leader graph.now) (indices graph.now) }
+        requires summaries { AreSummariesOf graph.now summaries.items }
         requires idle { idle ≡ length (idle_list graph.now) }
         requires deadlocked { deadlocked ≡ deadlocked_count graph.now }
         ensures { IfOk result (IsOutlineOf graph.now) }
     {
         let totals = totals(alloc, graph, idle, deadlocked)?;
-        let groups = Groups::of_leaders(alloc, graph, leaders)?;
+        let groups = Groups::of_summaries(alloc, graph, summaries)?;
         Ok(Outline {
             totals,
             deadlocked,

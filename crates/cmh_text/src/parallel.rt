@@ -1,16 +1,16 @@
 //! The lines of the report, made by several threads in chunks. Whichever thread makes a chunk, its text
-//! stands in its place. Lines are made from the last to the first, since a line often goes on from the
-//! one after it.
+//! stands in its place. In a chunk, lines are made from the last to the first, since a line often goes on
+//! from the one after it.
 
-ghost use Rattle.std.specs.Prelude.{◌≡◌, ◌<◌, All, IfOk, IfSome, IsTrue, flat_map, map, reverse, string_bytes};
+ghost use Rattle.std.specs.Prelude.{◌≡◌, ◌<◌, All, IfOk, IfSome, IsTrue, flat_map, map, string_bytes};
 ghost use Rattle.cmh_graph.specs.Core.{leaders};
-ghost use Rattle.cmh_graph.specs.Graph.{idle_list, process_count};
+ghost use Rattle.cmh_graph.specs.Graph.{idle_list, is_idle, process_count};
 ghost use Rattle.cmh_text.specs.Group.{AreGroupsOf, is_led_by};
 ghost use Rattle.cmh_text.specs.Knot.{IsKnotOf};
 ghost use Rattle.cmh_text.specs.Known.{IsKnownOf};
 ghost use Rattle.cmh_text.specs.Names.{AreNamesOf};
-ghost use Rattle.cmh_text.specs.Paths.{ArePathsOf};
 ghost use Rattle.cmh_text.specs.Report.{line, process_line, group_line};
+ghost use Rattle.cmh_text.specs.Summary.{leaders_in};
 
 use crate::chunks::{group_chunk, process_chunk};
 use crate::groups::{Groups, group_of};
@@ -18,7 +18,8 @@ use crate::knot::Knot;
 use crate::known::Known;
 use crate::lines::{push_deadlocked, push_free, push_group};
 use crate::names::LastNames;
-use crate::paths::Paths;
+use crate::paths::path_of;
+use crate::summary::Summary;
 use crate::turned::Turned;
 use cmh_graph::WaitGraph;
 use cmh_stream::Pieces;
@@ -26,35 +27,32 @@ use rayon::prelude::*;
 use std::alloc::{AllocError, Global};
 use std::thread::Threads;
 
-/// The lines of the idle processes, in chunks from the last to the first.
+/// The lines of the idle processes, in chunks.
 pub(crate) fn process_lines<R: Threads + Sync>(
     rt: &R,
     alloc: Global,
     graph: &WaitGraph,
     groups: &Groups,
-    paths: &Paths,
+    idle: &[u32],
 ) -> Result<Vec<Pieces>, AllocError>
     requires groups { AreGroupsOf graph.now groups.now }
-    requires paths { ArePathsOf graph.now paths.now }
-    ensures { IfOk result (λ texts. flat_map (λ t. t) (reverse texts.items)
+    requires idle { idle.now ≡ idle_list graph.now }
+    ensures { IfOk result (λ texts. flat_map (λ t. t) texts.items
         ≡ flat_map line (map (process_line graph.now) (idle_list graph.now))) }
 {
-    let idle = from_last(alloc, &paths.idle)?;
-    idle.as_slice()
-        .par_chunks(process_chunk(paths))
+    idle.par_chunks(process_chunk(idle.len(), &groups.summaries))
         .with_min_len(1)
         .map(
             |chunk: &[u32]| -> Result<Pieces, AllocError>
-                requires { AreGroupsOf graph.now groups.now × ArePathsOf graph.now paths.now
-                    × All (λ p. p < process_count graph.now) chunk.now }
+                requires { AreGroupsOf graph.now groups.now × All (λ p. IsTrue (is_idle graph.now p)) chunk.now }
                 ensures { IfOk result (λ text. text
-                    ≡ flat_map (λ p. line (process_line graph.entry.now p)) (reverse chunk.now)) }
-            { process_text(alloc, graph, groups, paths, chunk) },
+                    ≡ flat_map (λ p. line (process_line graph.entry.now p)) chunk.now) }
+            { process_text(alloc, graph, groups, chunk) },
         )
         .collect::<Result<Vec<Pieces>, AllocError>>(rt, alloc)?
 }
 
-/// The lines of the groups, in chunks from the last to the first.
+/// The lines of the groups, in chunks.
 pub(crate) fn group_lines<R: Threads + Sync>(
     rt: &R,
     alloc: Global,
@@ -64,58 +62,46 @@ pub(crate) fn group_lines<R: Threads + Sync>(
 ) -> Result<Vec<Pieces>, AllocError>
     requires groups { AreGroupsOf graph.now groups.now }
     requires knot { IsKnotOf graph.now knot.now }
-    ensures { IfOk result (λ texts. flat_map (λ t. t) (reverse texts.items)
+    ensures { IfOk result (λ texts. flat_map (λ t. t) texts.items
         ≡ flat_map line (map (group_line graph.now) (leaders graph.now))) }
 {
-    let leaders = from_last(alloc, &groups.list)?;
-    leaders
+    groups
+        .list
         .as_slice()
-        .par_chunks(group_chunk(graph, leaders.len()))
+        .par_chunks(group_chunk(graph, groups.list.len()))
         .with_min_len(1)
         .map(
             |chunk: &[u32]| -> Result<Pieces, AllocError>
                 requires { AreGroupsOf graph.now groups.now × IsKnotOf graph.now knot.now
-                    × All (λ p. (p < process_count graph.now) × IsTrue (is_led_by groups.now.leaders.items p p)) chunk.now }
+                    × All (λ p. (p < process_count graph.now) × IsTrue (is_led_by (leaders_in groups.now.summaries.items) p p)) chunk.now }
                 ensures { IfOk result (λ text. text
-                    ≡ flat_map (λ p. line (group_line graph.entry.now p)) (reverse chunk.now)) }
+                    ≡ flat_map (λ p. line (group_line graph.entry.now p)) chunk.now) }
             { group_text(alloc, graph, groups, knot, chunk) },
         )
         .collect::<Result<Vec<Pieces>, AllocError>>(rt, alloc)?
 }
 
-/// The list from its end on.
-fn from_last(alloc: Global, list: &[u32]) -> Result<Vec<u32>, AllocError>
-    ensures { IfOk result (λ turned. turned.items ≡ reverse list.now) }
-{
-    let mut turned = Vec::from_slice(alloc, list)?;
-    turned.reverse();
-    Ok(turned)
-}
-
-/// The lines of these processes, which come from the last to the first.
+/// The lines of these idle processes.
 fn process_text(
     alloc: Global,
     graph: &WaitGraph,
     groups: &Groups,
-    paths: &Paths,
     chunk: &[u32],
 ) -> Result<Pieces, AllocError>
     requires groups { AreGroupsOf graph.now groups.now }
-    requires paths { ArePathsOf graph.now paths.now }
-    requires within { All (λ p. p < process_count graph.now) chunk.now }
-    ensures { IfOk result (λ text. text
-        ≡ flat_map (λ p. line (process_line graph.now p)) (reverse chunk.now)) }
+    requires idle { All (λ p. IsTrue (is_idle graph.now p)) chunk.now }
+    ensures { IfOk result (λ text. text ≡ flat_map (λ p. line (process_line graph.now p)) chunk.now) }
 {
     let mut text = Turned::new(alloc);
     let mut last = LastNames::new(alloc);
-    for p in chunk {
-        let line = line_of_process(alloc, graph, groups, paths, *p, &mut last)?;
+    for n in (0..chunk.len()).rev() {
+        let line = line_of_process(alloc, graph, groups, chunk[n], &mut last)?;
         text.push(alloc, line)?;
     }
     text.into_pieces(alloc)
 }
 
-/// The lines of the groups of these leaders, who come from the last to the first.
+/// The lines of the groups of these leaders.
 fn group_text(
     alloc: Global,
     graph: &WaitGraph,
@@ -126,45 +112,43 @@ fn group_text(
     requires groups { AreGroupsOf graph.now groups.now }
     requires knot { IsKnotOf graph.now knot.now }
     requires lead { All (λ p. (p < process_count graph.now)
-        × IsTrue (is_led_by groups.now.leaders.items p p)) chunk.now }
-    ensures { IfOk result (λ text. text
-        ≡ flat_map (λ p. line (group_line graph.now p)) (reverse chunk.now)) }
+        × IsTrue (is_led_by (leaders_in groups.now.summaries.items) p p)) chunk.now }
+    ensures { IfOk result (λ text. text ≡ flat_map (λ p. line (group_line graph.now p)) chunk.now) }
 {
     let mut text = Turned::new(alloc);
     let mut last = LastNames::new(alloc);
     let mut known = None;
-    for leader in chunk {
-        let line = line_of_group(alloc, graph, groups, knot, *leader, &mut known, &mut last)?;
+    for n in (0..chunk.len()).rev() {
+        let line = line_of_group(alloc, graph, groups, knot, chunk[n], &mut known, &mut last)?;
         text.push(alloc, line)?;
     }
     text.into_pieces(alloc)
 }
 
-/// The line of an idle process, which is free where nobody leads it.
+/// The line of an idle process.
 fn line_of_process(
     alloc: Global,
     graph: &WaitGraph,
     groups: &Groups,
-    paths: &Paths,
     p: u32,
     last: &mut LastNames,
 ) -> Result<String, AllocError>
     requires groups { AreGroupsOf graph.now groups.now }
-    requires paths { ArePathsOf graph.now paths.now }
-    requires within { p < process_count graph.now }
+    requires idle { IsTrue (is_idle graph.now p) }
     requires last { AreNamesOf graph.now last.old }
     ensures text { IfOk result (λ text. string_bytes text ≡ line (process_line graph.now p)) }
     ensures last { IfOk result (λ _. AreNamesOf graph.now last.new) }
 {
     let mut text = String::new(alloc);
-    match groups.leaders[p as usize] {
-        Some(leader) => {
+    match groups.summaries[p as usize] {
+        Summary::Deadlocked(leader) => {
             push_deadlocked(&mut text, graph.name(p), groups.numbers[leader as usize])?;
         }
-        None => {
-            let path = paths.path_of(alloc, graph, p)?;
+        Summary::Free(next, count) => {
+            let path = path_of(alloc, graph, &groups.summaries, p, next, count)?;
             push_free(alloc, &mut text, graph, graph.name(p), &path, last)?;
         }
+        Summary::Active => unreachable!(),
     }
     Ok(text)
 }
@@ -182,7 +166,7 @@ fn line_of_group(
     requires within { leader < process_count graph.now }
     requires groups { AreGroupsOf graph.now groups.now }
     requires knot { IsKnotOf graph.now knot.now }
-    requires leads { IsTrue (is_led_by groups.now.leaders.items leader leader) }
+    requires leads { IsTrue (is_led_by (leaders_in groups.now.summaries.items) leader leader) }
     requires known { IfSome known.old (IsKnownOf graph.now) }
     requires last { AreNamesOf graph.now last.old }
     ensures text { IfOk result (λ text. string_bytes text ≡ line (group_line graph.now leader)) }

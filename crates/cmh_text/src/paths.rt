@@ -1,52 +1,36 @@
 //! The paths of free processes. Each is walked when its line is written, so that none is kept.
 
-ghost use Rattle.std.specs.Prelude.{◌≡◌, ◌<◌, Some, IfOk, IsFalse};
+ghost use Rattle.std.specs.Prelude.{◌≡◌, Some, IfOk};
 ghost use Rattle.cmh_graph.specs.ChosenPath.{chosen_path};
-ghost use Rattle.cmh_graph.specs.Graph.{process_count};
-ghost use Rattle.cmh_graph.specs.Verdict.{is_deadlocked};
+ghost use Rattle.cmh_text.specs.Summary.{AreSummariesOf, summary_of};
 
-use crate::groups::out_of_memory;
+use crate::summary::Summary;
 use cmh_graph::WaitGraph;
 use cmh_graph::laws::law_built_graph;
 use std::alloc::{AllocError, Global};
 
-/// The idle processes, and how far each process is from an awake one.
-#[derive(Drop)]
-pub(crate) struct Paths {
-    /// The idle processes, by rising index.
-    pub(crate) idle: Vec<u32>,
-    /// For each process its distance to an awake one, if it reaches any.
-    pub(crate) distances: Vec<Option<u32>>,
-}
-
-impl Paths {
-    ghost use Rattle.cmh_text.specs.Paths.{ArePathsOf};
-
-    /// Searches the graph once for all distances.
-    pub(crate) fn of_graph(alloc: Global, graph: &WaitGraph) -> Result<Paths, AllocError>
-        ensures { IfOk result (ArePathsOf graph.now) }
-    {
-        law_built_graph(graph);
-        let idle = graph.idle_list(alloc).map_err(out_of_memory)?;
-        let distances = graph.distances(alloc).map_err(out_of_memory)?;
-        Ok(Paths { idle, distances })
+/// The chosen path of a free process, by the process after it and by how many are on the path: the
+/// process, and then the path of that one. It takes time linear in the path.
+pub(crate) fn path_of(
+    alloc: Global,
+    graph: &WaitGraph,
+    summaries: &[Summary],
+    p: u32,
+    next: Option<u32>,
+    count: usize,
+) -> Result<Vec<u32>, AllocError>
+    requires summaries { AreSummariesOf graph.now summaries.now }
+    requires free { summary_of graph.now p ≡ Summary.Free next count }
+    ensures { IfOk result (λ path. chosen_path graph.now p ≡ Some path.items) }
+{
+    law_built_graph(graph);
+    let mut path = Vec::with_capacity(alloc, count)?;
+    path.push(p)?;
+    let mut next = next;
+    while path.len() < count {
+        let q = next.unwrap();
+        path.push(q)?;
+        next = summaries[q as usize].next();
     }
-
-    /// The chosen path of a free process, in time linear in the dependencies of those on it.
-    pub(crate) fn path_of(
-        &self,
-        alloc: Global,
-        graph: &WaitGraph,
-        p: u32,
-    ) -> Result<Vec<u32>, AllocError>
-        requires paths { ArePathsOf graph.now self.now }
-        requires within { p < process_count graph.now }
-        requires free { IsFalse (is_deadlocked graph.now p) }
-        ensures { IfOk result (λ path. chosen_path graph.now p ≡ Some path.items) }
-    {
-        let path = graph
-            .path_by(alloc, &self.distances, p)
-            .map_err(out_of_memory)?;
-        Ok(path.unwrap())
-    }
+    Ok(path)
 }

@@ -1,14 +1,13 @@
 //! The whole report, put together: the line of counts, those of processes and those of groups.
 
-ghost use Rattle.std.specs.Prelude.{◌≡◌, ◌++◌, IfOk, flat_map, reverse};
+ghost use Rattle.std.specs.Prelude.{◌≡◌, ◌++◌, IfOk, OnOk, flat_map};
 ghost use Rattle.cmh_text.specs.Outline.{IsOutlineOf};
 ghost use Rattle.cmh_text.specs.Report.{report_text};
 
+use crate::groups::out_of_memory;
 use crate::knot::Knot;
 use crate::outline::Outline;
 use crate::parallel::{group_lines, process_lines};
-use crate::paths::Paths;
-use crate::turned::append;
 use cmh_graph::WaitGraph;
 use cmh_stream::Pieces;
 use std::alloc::{AllocError, Global};
@@ -19,9 +18,9 @@ const SHORT: usize = 1_048_576;
 
 /// The report on a graph in pieces, by what was taken from an analysis: a line of counts, a line for
 /// each idle process, and a line for each group of deadlocked processes. The graph is searched once
-/// for each group and once for all distances, by which each path is walked; a group that waits for the
-/// greatest one, or for the group after it, goes on from the reach of that. The rest takes time close
-/// to linear in the processes and in the text. Where there is much to do, the lines are made by as
+/// for each group, for whom its leader reaches; a group that waits for the greatest one, or for the
+/// group after it, goes on from the reach of that. The rest takes time close to linear in the
+/// processes and in the text. Where there is much to do, the lines are made by as
 /// many threads as there are processors. Memory is taken for the lines and for the whole text; lines
 /// are given back once they stand in the text.
 ///
@@ -37,15 +36,14 @@ pub fn text_of<R: Threads + Sync>(
     requires { IsOutlineOf graph.now outline.now }
     ensures { IfOk result (λ text. text ≡ report_text graph.now) }
 {
-    let paths = Paths::of_graph(alloc, graph)?;
-    let of_processes = process_lines(rt, alloc, graph, &outline.groups, &paths)?;
+    let idle = graph.idle_list(alloc).map_err(out_of_memory)?;
+    let of_processes = process_lines(rt, alloc, graph, &outline.groups, &idle)?;
     let knot = Knot::of_groups(alloc, graph, &outline.groups)?;
     let of_groups = group_lines(rt, alloc, graph, &outline.groups, &knot)?;
     joined(alloc, &outline.totals, of_processes, of_groups)
 }
 
-/// The lines one after the other, where those of processes and those of groups come in texts from the
-/// last to the first.
+/// The lines one after the other.
 fn joined(
     alloc: Global,
     first: &str,
@@ -53,14 +51,24 @@ fn joined(
     of_groups: Vec<Pieces>,
 ) -> Result<Pieces, AllocError>
     ensures { IfOk result (λ text. text ≡ first.now
-        ++ flat_map (λ t. t) (reverse of_processes.items)
-        ++ flat_map (λ t. t) (reverse of_groups.items)) }
+        ++ flat_map (λ t. t) of_processes.items
+        ++ flat_map (λ t. t) of_groups.items) }
 {
     let mut text = Pieces::new(alloc);
     text.push(String::from_str(alloc, first)?)?;
-    append(&mut text, of_processes)?;
-    append(&mut text, of_groups)?;
+    append_each(&mut text, of_processes)?;
+    append_each(&mut text, of_groups)?;
     as_one_piece_if_short(alloc, text)
+}
+
+/// Puts the texts behind the pieces, in their order.
+fn append_each(pieces: &mut Pieces, texts: Vec<Pieces>) -> Result<(), AllocError>
+    ensures { OnOk result (pieces.new ≡ pieces.old ++ flat_map (λ t. t) texts.items) }
+{
+    for text in texts {
+        pieces.append(text)?;
+    }
+    Ok(())
 }
 
 /// A short text in one piece, so that one write puts all of it or nothing.

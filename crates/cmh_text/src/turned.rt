@@ -1,4 +1,4 @@
-//! A text that is made from its end, and pieces of it that were.
+//! A text that is made from its end.
 
 ghost use Rattle.std.specs.Prelude.{◌≡◌, ◌++◌, [], IfOk, OnOk, flat_map, reverse, string_bytes};
 
@@ -87,14 +87,4 @@ fn pieces_from_last(alloc: Global, mut texts: Vec<String>) -> Result<Pieces, All
         pieces.push(next)?;
     }
     Ok(pieces)
-}
-
-/// Puts the texts behind the pieces, the last first.
-pub(crate) fn append(pieces: &mut Pieces, mut texts: Vec<Pieces>) -> Result<(), AllocError>
-    ensures { OnOk result (pieces.new ≡ pieces.old ++ flat_map (λ t. t) (reverse texts.items)) }
-{
-    while let Some(next) = texts.pop() {
-        pieces.append(next)?;
-    }
-    Ok(())
 }

@@ -1,7 +1,6 @@
 pub mod AccountsLemmas
 pub mod AnalysisLemmas
 pub mod ClosedHistory
-pub mod Cores
 pub mod CuttingLemmas
 pub mod Examples
 pub mod FindingLemmas
@@ -9,5 +8,5 @@ pub mod LeadersLemmas
 pub mod LentSeats
 pub mod RecordLemmas
 pub mod RisingLists
+pub mod NextSteps
 pub mod Rows
-pub mod ShapeLemmas

@@ -2,9 +2,9 @@
 use Rattle.std.proofs.Common.{◌≡◌, ℕ, zero, suc, ◌<◌, ◌≤◌, Bool, true, false, ltb, List, [], ◌∷◌, length, map, get_or, sym, refl, ap, ◌∙◌, arith}
 use Rattle.std.proofs.lemmas.Bool.{le-ltb, ltb-false}
 use Rattle.std.specs.Prelude.{AllPairs}
-use Rattle.std.proofs.lemmas.List.Kept.{AllPairs-filter}
+use Rattle.std.proofs.lemmas.List.Kept.{AllPairs-filter, AllPairs-from_increasing}
 use Rattle.cmh_graph.specs.Graph.{Graph, process_count, indices, is_idle, idle_list}
-use Rattle.cmh_work.proofs.Cores.{rising}
+use Rattle.cmh_graph.proofs.Groups.{indices_rise}
 use Rattle.std.specs.List.Sorted.{IsNonDecreasingBy, IsPermutation}
 use Rattle.std.proofs.lemmas.List.Sorted.{sum_by-IsPermutation}
 use Rattle.cmh_rw.specs.History.{bit}
@@ -96,4 +96,5 @@ module _ {X : Type 0} where
 -- the list of the idle processes rises
 pub rises_from : (g : Graph) → Rises (idle_list g)
 rises_from g =
-    rises_pairs (idle_list g) (AllPairs-filter (λ x y. x < y) (is_idle g) (indices g) (rising (process_count g)))
+    rises_pairs (idle_list g) (AllPairs-filter (λ x y. x < y) (is_idle g) (indices g)
+    (AllPairs-from_increasing (indices g) (indices_rise (process_count g))))

@@ -1,12 +1,20 @@
--- Who leads the group of a process, while leaders are found by rising index.
-use Rattle.std.specs.Prelude.{◌≡◌, ℕ, List, length, slice_index_or, Contains, Option, Some, None}
+-- What a worker knows of who leads whom.
+use Rattle.std.specs.Prelude.{◌≡◌, ◌⊎◌, ℕ, List, length, slice_index_or, Contains, Option, Some, None}
+use Rattle.cmh_graph.specs.Core.{leader_of}
+use Rattle.cmh_graph.specs.Graph.{Graph, process_count}
 
 -- the leader that stands at that place, where there is one
 abbrev pub leader_at : List (Option ℕ) → ℕ → Option ℕ
 leader_at list p = slice_index_or list p None
 
--- each member has the leader now, and nothing else has changed
+-- the table has a place for each process, and whoever stands there leads it
+pub record KnowsLeaders (g : Graph) (list : List (Option ℕ)) : Type 0 where
+  pub size : length list ≡ process_count g
+  pub leads : (p leader : ℕ) → leader_at list p ≡ Some leader → leader ≡ leader_of g p
+
+-- each member has the leader now, and nobody else has got one
 pub record LeadsEach (leader : ℕ) (members : List ℕ) (old new : List (Option ℕ)) : Type 0 where
   pub size : length new ≡ length old
   pub led : (p : ℕ) → Contains members p → leader_at new p ≡ Some leader
-  pub kept : (p : ℕ) → (Contains members p → ⊥) → leader_at new p ≡ leader_at old p
+  pub only : (p l : ℕ) → leader_at new p ≡ Some l
+      → (leader_at old p ≡ Some l) ⊎ ((l ≡ leader) × Contains members p)

@@ -4,7 +4,9 @@ use Rattle.cmh_graph.specs.declared.verdict.Verdict.{Verdict}
 use Rattle.cmh_graph.specs.declared.verdict.Verdict.TheVariants.{Deadlocked, Free}
 use Rattle.cmh_graph.specs.Graph.{Graph, indices}
 use Rattle.cmh_graph.specs.ChosenPath.{distance_of, chosen_path}
-use Rattle.cmh_graph.specs.Core.{leader_of, group_leader}
+use Rattle.cmh_graph.specs.Alone.{AreAlone}
+use Rattle.cmh_graph.specs.Core.{leader_of}
+use Rattle.cmh_graph.specs.Search.{ArePredecessors}
 use Rattle.cmh_work.specs.declared.record.Shape.{Shape}
 use Rattle.cmh_work.specs.declared.record.Shape.TheVariants.{Path, Leader}
 use Rattle.cmh_work.specs.declared.shapes.Shapes.{Shapes}
@@ -16,7 +18,8 @@ IsShape listed g p Deadlocked (Leader leader) = leader ≡ leader_of g p
 IsShape listed g p Free (Leader leader) = ⊥
 IsShape listed g p Deadlocked (Path path) = ⊥
 
--- distances and leaders of all processes of this graph
+-- predecessors and distances of all processes of this graph, and who is a core alone
 pub record AreShapesOf (g : Graph) (shapes : Shapes) : Type 0 where
+  pub predecessors : ArePredecessors g shapes.predecessors
   pub distances : shapes.distances.items ≡ map (distance_of g) (indices g)
-  pub leaders : shapes.leaders.items ≡ map (group_leader g) (indices g)
+  pub alone : AreAlone g shapes.alone.items

@@ -33,8 +33,8 @@ use std::thread::Threads;
 /// this thread. All are joined before the answer.
 ///
 /// One run may serve all members of a deadlocked knot. A run takes time linear in dependencies at
-/// choice 0; besides there are one search of the graph, two for each group of deadlocked processes,
-/// and for each free process the length of its path.
+/// choice 0; besides there are two searches of the graph, in each worker one of each core that isn't
+/// seen to be one process, and for each free process the length of its path.
 ///
 /// # Errors
 ///
@@ -53,19 +53,26 @@ pub fn analyse<R: Threads + Wait + Sync, G: Gate>(
 }
 
 /// `analyse`, with a log of any kind for each run, and lists of any kind of who engaged and of paths:
-/// `analyse_keeping::<NoLog, NoList, _, _>` keeps none of them.
+/// `analyse_keeping::<NoLog, NoList, NextStep, _, _>` keeps no delivery, nobody who engaged, and of
+/// each path how it begins.
 ///
 /// # Errors
 ///
 /// As `analyse`.
-pub fn analyse_keeping<L: Log + Send, E: ProcessList + Send, R: Threads + Wait + Sync, G: Gate>(
+pub fn analyse_keeping<
+    L: Log + Send,
+    E: ProcessList + Send,
+    P: ProcessList + Send,
+    R: Threads + Wait + Sync,
+    G: Gate,
+>(
     rt: &R,
     alloc: Global,
     graph: &WaitGraph,
     plan: &Plan,
     gate: &G,
-) -> Result<Analysis<RunLog<L, E>, E>, WorkFault>
-    ensures ok { IfOk result (IsAnalysisOf E.processes graph.now plan.now.choices) }
+) -> Result<Analysis<RunLog<L, E>, P>, WorkFault>
+    ensures ok { IfOk result (IsAnalysisOf P.processes graph.now plan.now.choices) }
     ensures memory { IfErr result (λ e. e ≡ WorkFault.Memory) }
 {
     let idle = graph.idle_list(alloc).map_err(want_in_graph)?;
@@ -97,7 +104,13 @@ fn open_tickets(alloc: Global, plan: &Plan) -> Result<(Tickets, TicketSeat), All
 }
 
 /// The analysis, by workers that share this.
-fn finish<L: Log + Send, E: ProcessList + Send, R: Threads + Wait + Sync, G: Gate>(
+fn finish<
+    L: Log + Send,
+    E: ProcessList + Send,
+    P: ProcessList + Send,
+    R: Threads + Wait + Sync,
+    G: Gate,
+>(
     rt: &R,
     alloc: Global,
     graph: &WaitGraph,
@@ -105,13 +118,13 @@ fn finish<L: Log + Send, E: ProcessList + Send, R: Threads + Wait + Sync, G: Gat
     shared: Shared,
     gate: &G,
     seats: Seats,
-) -> Result<Analysis<RunLog<L, E>, E>, AllocError>
+) -> Result<Analysis<RunLog<L, E>, P>, AllocError>
     requires made { IsMadeFor graph.now plan.now shared }
     requires sit { AreSeated shared seats }
     requires new { AreNew seats }
     requires tickets { (ticket_view seats.tickets).share ≡ MAX_WORKERS }
     requires board { (board_view seats.board).lock.share ≡ MAX_SEATS }
-    ensures { IfOk result (IsAnalysisOf E.processes graph.now plan.now.choices) }
+    ensures { IfOk result (IsAnalysisOf P.processes graph.now plan.now.choices) }
 {
     law_built_graph(graph);
     let others = plan.workers() - 1;

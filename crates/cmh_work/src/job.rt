@@ -1,11 +1,9 @@
 //! What all workers of an analysis share, and what one of them holds.
 
-ghost use Rattle.std.specs.Prelude.{◌≡◌, ◌+◌, length, map};
-ghost use Rattle.cmh_graph.specs.Graph.{indices, idle_list};
-ghost use Rattle.cmh_graph.specs.ChosenPath.{distance_of};
+ghost use Rattle.std.specs.Prelude.{◌≡◌, ◌+◌, length};
+ghost use Rattle.cmh_graph.specs.Graph.{idle_list};
 ghost use Rattle.cmh_board.specs.Board.{board_graph};
 ghost use Rattle.cmh_work.specs.Cutting.{bounds_of};
-ghost use Rattle.cmh_graph.specs.Core.{group_leader};
 ghost use Rattle.cmh_plan.specs.TicketSeats.{chunk_count};
 
 use crate::shapes::Shapes;
@@ -32,8 +30,6 @@ pub(crate) struct Job<'a> {
     pub(crate) shared: &'a Shared,
     ghost initiators: { shared.now.idle.items ≡ idle_list graph.now },
     ghost bounds: { shared.now.bounds.items ≡ bounds_of plan.now.cuts (length shared.now.idle.items) },
-    ghost distances: { shared.now.shapes.distances.items ≡ map (distance_of graph.now) (indices graph.now) },
-    ghost leaders: { shared.now.shapes.leaders.items ≡ map (group_leader graph.now) (indices graph.now) },
     ghost named: { board_graph shared.now.board ≡ graph.now },
     ghost counted: { chunk_count shared.now.tickets ≡ length plan.now.cuts + 1 },
 }

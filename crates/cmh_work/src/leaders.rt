@@ -1,72 +1,54 @@
-//! Who leads the group of each deadlocked process: the least of those that it reaches and that reach
-//! it.
+//! Who leads the group of a deadlocked process: the least of those that it reaches and that reach it.
+//! Each worker keeps a table of the leaders that it has found.
 
-ghost use Rattle.std.specs.Prelude.{◌≡◌, ◌<◌, ◌&&◌, is_none, slice_index_or, map, length, All, IfOk};
-ghost use Rattle.cmh_graph.specs.Build.{IsWellFormed};
-ghost use Rattle.cmh_graph.specs.Alone.{AreAlone};
-ghost use Rattle.cmh_graph.specs.Core.{core_of, group_leader};
-ghost use Rattle.cmh_graph.specs.Graph.{indices, process_count};
-ghost use Rattle.cmh_graph.specs.Search.{ArePredecessors};
-ghost use Rattle.cmh_graph.specs.Verdict.{says_deadlocked, verdicts};
-ghost use Rattle.cmh_work.specs.Leaders.{leader_at, LeadsEach};
+ghost use Rattle.std.specs.Prelude.{◌≡◌, ◌<◌, length, All, IfOk};
+ghost use Rattle.cmh_graph.specs.Core.{leader_of};
+ghost use Rattle.cmh_graph.specs.Graph.{process_count};
+ghost use Rattle.cmh_work.specs.Leaders.{KnowsLeaders, LeadsEach};
+ghost use Rattle.cmh_work.specs.Shape.{AreShapesOf};
 
 use crate::fault::want_in_graph;
-use cmh_graph::{Predecessors, Verdict, WaitGraph};
+use crate::shapes::Shapes;
+use cmh_graph::WaitGraph;
+use cmh_graph::laws::law_built_graph;
 use std::alloc::{AllocError, Global};
 
-/// For each process the leader of its group, if it is deadlocked. One core is computed for each
-/// group that isn't seen to be one process alone: it takes the time of a reach for each of these, and
-/// of one search of the graph for all groups together.
-pub(crate) fn group_leaders(
-    alloc: Global,
-    graph: &WaitGraph,
-    predecessors: &Predecessors,
-    known: &[Verdict],
-) -> Result<Vec<Option<u32>>, AllocError>
-    requires predecessors { ArePredecessors graph.now predecessors.now }
-    requires verdicts { known.now ≡ verdicts graph.now }
-    ensures leaders { IfOk result (λ list.
-        list.items ≡ map (group_leader graph.now) (indices graph.now)) }
-    ensures well_formed { IfOk result (λ _. IsWellFormed graph.now) }
+/// A table in which no process has a leader yet.
+pub(crate) fn no_leaders(alloc: Global, graph: &WaitGraph) -> Result<Vec<Option<u32>>, AllocError>
+    ensures { IfOk result (λ leaders. KnowsLeaders graph.now leaders.items) }
 {
-    let alone = graph.alone(alloc, predecessors).map_err(want_in_graph)?;
-    let mut leaders = vec![in alloc; None; known.len()]?;
-    for p in 0..graph.len() {
-        if is_new_leader(known, &leaders, p) {
-            let core = core_by(alloc, graph, predecessors, &alone, p)?;
-            assign_leader(p, &core, &mut leaders);
-        }
-    }
-    Ok(leaders)
+    Ok(vec![in alloc; None; graph.len() as usize]?)
 }
 
-/// The core of a process, which is searched where it isn't known to be that process alone.
-fn core_by(
+/// The leader of a process: what stands in the table, or the process itself where it is seen to be a
+/// core alone. Else its core is searched, in the time of a reach, and its least member goes to each
+/// member's place. So each core is searched at most once.
+pub(crate) fn find_leader(
     alloc: Global,
     graph: &WaitGraph,
-    predecessors: &Predecessors,
-    alone: &[bool],
+    shapes: &Shapes,
+    leaders: &mut Vec<Option<u32>>,
     p: u32,
-) -> Result<Vec<u32>, AllocError>
+) -> Result<u32, AllocError>
     requires within { p < process_count graph.now }
-    requires known { ArePredecessors graph.now predecessors.now }
-    requires alone { AreAlone graph.now alone.now }
-    ensures { IfOk result (λ core. core.items ≡ core_of graph.now p) }
+    requires shapes { AreShapesOf graph.now shapes.now }
+    requires leaders { KnowsLeaders graph.now leaders.old.items }
+    ensures leaders { KnowsLeaders graph.now leaders.new.items }
+    ensures leader { IfOk result (λ leader. leader ≡ leader_of graph.now p) }
 {
-    if alone[p as usize] {
-        return Ok(Vec::from_slice(alloc, &[p])?);
+    law_built_graph(graph);
+    if let Some(leader) = leaders[p as usize] {
+        return Ok(leader);
     }
-    graph.core_by(alloc, predecessors, p).map_err(want_in_graph)
-}
-
-/// Whether the process is deadlocked and has no leader yet.
-fn is_new_leader(known: &[Verdict], leaders: &[Option<u32>], p: u32) -> bool
-    requires known { p < length known.now }
-    requires leaders { p < length leaders.now }
-    ensures { result ≡ (says_deadlocked (slice_index_or known.now p Verdict.Free)
-        && is_none (leader_at leaders.now p)) }
-{
-    matches!(known[p as usize], Verdict::Deadlocked) && leaders[p as usize].is_none()
+    if shapes.alone[p as usize] {
+        return Ok(p);
+    }
+    let core = graph
+        .core_by(alloc, &shapes.predecessors, p)
+        .map_err(want_in_graph)?;
+    let leader = core[0];
+    assign_leader(leader, &core, leaders);
+    Ok(leader)
 }
 
 /// Makes the process the leader of each member.

@@ -41,11 +41,11 @@ pub struct Analysis<R = RunLog, P = Vec<u32>> {
     pub(crate) history: Vec<Row>,
 }
 
-impl<L: Log, P: ProcessList> Analysis<RunLog<L, P>, P> {
+impl<L: Log, E: ProcessList, P: ProcessList> Analysis<RunLog<L, E>, P> {
     ghost use Rattle.cmh_work.specs.Analysis.{records_of, history_of};
 
     /// A record of each idle process, by rising index.
-    pub fn records(&self) -> &[Record<RunLog<L, P>, P>]
+    pub fn records(&self) -> &[Record<RunLog<L, E>, P>]
         ensures { result.now ≡ records_of self.now }
     {
         &self.records

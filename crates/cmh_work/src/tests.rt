@@ -1,19 +1,11 @@
 //! Analyses, and who makes the runs.
 
 mod analyses;
-mod chunks;
-mod counted;
-mod determined;
-mod faults;
 mod full;
 mod gates;
-mod generated;
 mod graphs;
 mod memory;
-mod refused;
-mod rules;
-mod shaped;
-mod surface;
+mod workers;
 
 use std::fmt::Debug;
 use std::process::Abort;

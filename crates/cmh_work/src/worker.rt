@@ -7,6 +7,8 @@ ghost use Rattle.cmh_rw.specs.History.{StartsWith};
 ghost use Rattle.cmh_board.specs.Board.{board_view, SeesMore};
 ghost use Rattle.cmh_work.specs.Record.{IsRunFor};
 ghost use Rattle.cmh_work.specs.Finding.{finding_initiator, AddsOneOf, IsAnswered, IsSound, Accounts};
+ghost use Rattle.cmh_work.specs.Leaders.{KnowsLeaders};
+ghost use Rattle.cmh_work.specs.Shape.{AreShapesOf};
 ghost use Rattle.cmh_work.specs.Working.{IsMadeFor, SitsIn, AreSeated, AreNew, AreBack, IsWorked};
 
 use crate::Gate;
@@ -14,6 +16,7 @@ use crate::chunks::chunk_at;
 use crate::fault::want_in_run;
 use crate::finding::{Answer, Finding};
 use crate::job::{Job, Seats, Shared};
+use crate::leaders::no_leaders;
 use cmh_board::{BoardHints, BoardSeat, Look, Posting};
 use cmh_graph::WaitGraph;
 use cmh_plan::Plan;
@@ -76,25 +79,29 @@ fn ask<L: Log, E: ProcessList, R: Wait>(
 }
 
 /// What is found of one initiator.
-fn find_one<L: Log, E: ProcessList, R: Wait, G: Gate>(
+fn find_one<L: Log, E: ProcessList, P: ProcessList, R: Wait, G: Gate>(
     rt: &R,
     alloc: Global,
     job: &Job,
     gate: &G,
     runner: &mut Runner,
+    leaders: &mut Vec<Option<u32>>,
     seat: &mut BoardSeat,
     initiator: u32,
-) -> Result<Finding<RunLog<L, E>, E>, AllocError>
+) -> Result<Finding<RunLog<L, E>, P>, AllocError>
+    requires shapes { AreShapesOf job.now.graph.now job.now.shared.now.shapes }
     requires runner { runner.old ≡ job.now.graph.now }
+    requires leaders { KnowsLeaders job.now.graph.now leaders.old.items }
     requires sits { SitsIn job.now.shared.now seat.old }
     requires idle { IsTrue (is_idle job.now.graph.now initiator) }
     ensures runner { runner.new ≡ runner.old }
+    ensures leaders { KnowsLeaders job.now.graph.now leaders.new.items }
     ensures sits { SitsIn job.now.shared.now seat.new }
     ensures share { (board_view seat.new).lock.share ≡ (board_view seat.old).lock.share }
     ensures is { IfOk result (λ f. f.initiator ≡ initiator) }
     ensures sees { IfOk result (λ _. StartsWith
         (board_view seat.new).seen (board_view seat.old).seen) }
-    ensures sound { IfOk result (IsSound E.processes
+    ensures sound { IfOk result (IsSound P.processes
         job.now.graph.now job.now.plan.now.choices (board_view seat.new).seen) }
     ensures mine { IfOk result (λ f. AddsOneOf
         (board_view seat.old) (board_view seat.new) f.run) }
@@ -104,7 +111,7 @@ fn find_one<L: Log, E: ProcessList, R: Wait, G: Gate>(
     let shape = job
         .shared
         .shapes
-        .shape_of(alloc, job.graph, initiator, verdict)?;
+        .shape_of(alloc, job.graph, leaders, initiator, verdict)?;
     Ok(Finding {
         initiator,
         verdict,
@@ -115,31 +122,35 @@ fn find_one<L: Log, E: ProcessList, R: Wait, G: Gate>(
 
 /// Adds what is found of each initiator of the chunk, in order. After the first of all it gives way
 /// once, so that workers who are far off can post what cuts its later runs short.
-fn find_each<L: Log, E: ProcessList, R: Wait, G: Gate>(
+fn find_each<L: Log, E: ProcessList, P: ProcessList, R: Wait, G: Gate>(
     rt: &R,
     alloc: Global,
     job: &Job,
     gate: &G,
     runner: &mut Runner,
+    leaders: &mut Vec<Option<u32>>,
     seat: &mut BoardSeat,
-    found: &mut Vec<Finding<RunLog<L, E>, E>>,
+    found: &mut Vec<Finding<RunLog<L, E>, P>>,
     chunk: &[u32],
 ) -> Result<(), AllocError>
+    requires shapes { AreShapesOf job.now.graph.now job.now.shared.now.shapes }
     requires runner { runner.old ≡ job.now.graph.now }
+    requires leaders { KnowsLeaders job.now.graph.now leaders.old.items }
     requires sits { SitsIn job.now.shared.now seat.old }
     requires idle { All (λ p. IsTrue (is_idle job.now.graph.now p)) chunk.now }
-    requires accounts { Accounts E.processes
+    requires accounts { Accounts P.processes
         job.now.graph.now job.now.plan.now.choices (board_view seat.old) found.old.items }
     ensures runner { runner.new ≡ runner.old }
+    ensures leaders { KnowsLeaders job.now.graph.now leaders.new.items }
     ensures sits { SitsIn job.now.shared.now seat.new }
     ensures share { (board_view seat.new).lock.share ≡ (board_view seat.old).lock.share }
-    ensures accounts { OnOk result (Accounts E.processes
+    ensures accounts { OnOk result (Accounts P.processes
         job.now.graph.now job.now.plan.now.choices (board_view seat.new) found.new.items) }
     ensures order { OnOk result (map finding_initiator found.new.items
         ≡ map finding_initiator found.old.items ++ chunk.now) }
 {
     for initiator in chunk {
-        let finding = find_one(rt, alloc, job, gate, runner, seat, *initiator)?;
+        let finding = find_one(rt, alloc, job, gate, runner, leaders, seat, *initiator)?;
         found.push(finding)?;
         if found.len() == 1 {
             yield_now();
@@ -149,20 +160,22 @@ fn find_each<L: Log, E: ProcessList, R: Wait, G: Gate>(
 }
 
 /// Works on chunks until there are no more, or memory is refused.
-fn draw_all<L: Log, E: ProcessList, R: Wait, G: Gate>(
+fn draw_all<L: Log, E: ProcessList, P: ProcessList, R: Wait, G: Gate>(
     rt: &R,
     alloc: Global,
     job: &Job,
     gate: &G,
     seats: &mut Seats,
-) -> Result<Vec<Finding<RunLog<L, E>, E>>, AllocError>
+) -> Result<Vec<Finding<RunLog<L, E>, P>>, AllocError>
+    requires shapes { AreShapesOf job.now.graph.now job.now.shared.now.shapes }
     requires sit { AreSeated job.now.shared.now seats.old }
     requires new { AreNew seats.old }
     ensures back { AreBack job.now.shared.now seats.old seats.new }
-    ensures worked { IfOk result (λ found. IsWorked E.processes
+    ensures worked { IfOk result (λ found. IsWorked P.processes
         job.now.graph.now job.now.plan.now job.now.shared.now seats.new found.items) }
 {
     let mut runner = Runner::new(job.graph);
+    let mut leaders = no_leaders(alloc, job.graph)?;
     let mut found = Vec::new(alloc);
     while let Some(number) = job.shared.tickets.draw(&mut seats.tickets) {
         let chunk = chunk_at(job, number as usize);
@@ -172,6 +185,7 @@ fn draw_all<L: Log, E: ProcessList, R: Wait, G: Gate>(
             job,
             gate,
             &mut runner,
+            &mut leaders,
             &mut seats.board,
             &mut found,
             chunk,
@@ -181,7 +195,7 @@ fn draw_all<L: Log, E: ProcessList, R: Wait, G: Gate>(
 }
 
 /// One worker. Its seats come back on every path.
-pub(crate) fn work<L: Log, E: ProcessList, R: Wait, G: Gate>(
+pub(crate) fn work<L: Log, E: ProcessList, P: ProcessList, R: Wait, G: Gate>(
     rt: &R,
     alloc: Global,
     graph: &WaitGraph,
@@ -189,13 +203,13 @@ pub(crate) fn work<L: Log, E: ProcessList, R: Wait, G: Gate>(
     shared: &Shared,
     gate: &G,
     seats: Seats,
-) -> (Seats, Result<Vec<Finding<RunLog<L, E>, E>>, AllocError>)
+) -> (Seats, Result<Vec<Finding<RunLog<L, E>, P>>, AllocError>)
     requires made { IsMadeFor graph.now plan.now shared.now }
     requires sit { AreSeated shared.now seats }
     requires new { AreNew seats }
     ensures back { AreBack shared.now seats result.0 }
     ensures worked { IfOk result.1 (λ found.
-        IsWorked E.processes graph.now plan.now shared.now result.0 found.items) }
+        IsWorked P.processes graph.now plan.now shared.now result.0 found.items) }
 {
     let job = Job {
         graph,

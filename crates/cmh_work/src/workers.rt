@@ -21,10 +21,10 @@ use std::sync::Wait;
 use std::thread::{Threads, join};
 
 /// What both found, or the fault of one.
-fn concat_findings<L: Log, E: ProcessList>(
-    first: Result<Vec<Finding<RunLog<L, E>, E>>, AllocError>,
-    second: Result<Vec<Finding<RunLog<L, E>, E>>, AllocError>,
-) -> Result<Vec<Finding<RunLog<L, E>, E>>, AllocError>
+fn concat_findings<L: Log, E: ProcessList, P: ProcessList>(
+    first: Result<Vec<Finding<RunLog<L, E>, P>>, AllocError>,
+    second: Result<Vec<Finding<RunLog<L, E>, P>>, AllocError>,
+) -> Result<Vec<Finding<RunLog<L, E>, P>>, AllocError>
     ensures { IfOk result (λ v.
         IsOkAnd first (λ a. IsOkAnd second (λ b. v.items ≡ a.items ++ b.items))) }
 {
@@ -74,7 +74,13 @@ fn take_back(shared: &Shared, seats: &mut Seats, other: Seats)
 
 /// So many workers in threads of their own, and one in this thread. All are joined on every path,
 /// and their seats come back.
-pub(crate) fn workers<L: Log + Send, E: ProcessList + Send, R: Threads + Wait + Sync, G: Gate>(
+pub(crate) fn workers<
+    L: Log + Send,
+    E: ProcessList + Send,
+    P: ProcessList + Send,
+    R: Threads + Wait + Sync,
+    G: Gate,
+>(
     rt: &R,
     alloc: Global,
     graph: &WaitGraph,
@@ -83,7 +89,7 @@ pub(crate) fn workers<L: Log + Send, E: ProcessList + Send, R: Threads + Wait + 
     gate: &G,
     seats: Seats,
     others: u32,
-) -> (Seats, Result<Vec<Finding<RunLog<L, E>, E>>, AllocError>)
+) -> (Seats, Result<Vec<Finding<RunLog<L, E>, P>>, AllocError>)
     requires made { IsMadeFor graph.now plan.now shared.now }
     requires sit { AreSeated shared.now seats }
     requires same { (board_view seats.board).lock.share ≡ (ticket_view seats.tickets).share }
@@ -91,7 +97,7 @@ pub(crate) fn workers<L: Log + Send, E: ProcessList + Send, R: Threads + Wait + 
     requires share { others < (ticket_view seats.tickets).share }
     ensures back { AreBack shared.now seats result.0 }
     ensures worked { IfOk result.1 (λ found.
-        IsWorked E.processes graph.now plan.now shared.now result.0 found.items) }
+        IsWorked P.processes graph.now plan.now shared.now result.0 found.items) }
 {
     if others == 0 {
         return work(rt, alloc, graph, plan, shared, gate, seats);
@@ -103,18 +109,18 @@ pub(crate) fn workers<L: Log + Send, E: ProcessList + Send, R: Threads + Wait + 
     };
     let ((next, next_found), (mut left, left_found)) = join(
         rt,
-        || -> (Seats, Result<Vec<Finding<RunLog<L, E>, E>>, AllocError>)
+        || -> (Seats, Result<Vec<Finding<RunLog<L, E>, P>>, AllocError>)
             requires { IsSync R.row × IsMadeFor graph.now plan.now shared.now
                 × AreSeated shared.now next × AreNew next }
-            ensures { AreBack shared.entry.now next result.0 × IfOk result.1 (λ found. IsWorked E.processes
+            ensures { AreBack shared.entry.now next result.0 × IfOk result.1 (λ found. IsWorked P.processes
                 graph.entry.now plan.entry.now shared.entry.now result.0 found.items) }
         { work(rt, alloc, graph, plan, shared, gate, next) },
-        || -> (Seats, Result<Vec<Finding<RunLog<L, E>, E>>, AllocError>)
+        || -> (Seats, Result<Vec<Finding<RunLog<L, E>, P>>, AllocError>)
             requires { IsSync R.row × IsMadeFor graph.now plan.now shared.now
                 × AreSeated shared.now left
                 × ((board_view left.board).lock.share ≡ (ticket_view left.tickets).share)
                 × AreNew left × (fewer < (ticket_view left.tickets).share) }
-            ensures { AreBack shared.entry.now left result.0 × IfOk result.1 (λ found. IsWorked E.processes
+            ensures { AreBack shared.entry.now left result.0 × IfOk result.1 (λ found. IsWorked P.processes
                 graph.entry.now plan.entry.now shared.entry.now result.0 found.items) }
         { workers(rt, alloc, graph, plan, shared, gate, left, fewer) },
     );

@@ -2,9 +2,7 @@
 //! workers run at once, and make the runs themselves.
 
 use super::expect;
-use super::graphs::{
-    CYCLE_AND_FOLLOWER, CYCLE_AND_TWO_FOLLOWERS, TWO_IN_A_CYCLE, Waits, graph_of, is_from_row,
-};
+use super::graphs::{CYCLE_AND_FOLLOWER, TWO_IN_A_CYCLE, Waits, graph_of, is_from_row};
 use crate::{Analysis, Gate, Plan, analyse};
 use std::sync::Wait;
 use std::sync::atomic::{AtomicU64, Ordering};
@@ -112,9 +110,11 @@ impl Gate for Crossing {
     }
 }
 
-/// The chunk of p and q and that of r and s are worked on at once, each in its order. Once s has
-/// come, r's run is posted, so that p stands in its row 1.
-fn crossed<R: Threads + Wait + Sync + AllocGlobal>(rt: &R) -> Result<(bool, bool), Fail> {
+/// p@a: q; q@a: p; r@b: p; s@b: p. The chunk of p and q and that of r and s are worked on at once, each in its
+/// order. Once s has come, r's run is posted, so that p stands in its row 1.
+#[test]
+fn two_workers_make_the_runs(rt: HostRuntime) -> Result<(), Fail> {
+    let waits: [Option<&[u32]>; 4] = [Some(&[1]), Some(&[0]), Some(&[0]), Some(&[0])];
     let gate = Crossing {
         first_left: AtomicU64::new(0),
         second_came: AtomicU64::new(0),
@@ -122,25 +122,11 @@ fn crossed<R: Threads + Wait + Sync + AllocGlobal>(rt: &R) -> Result<(bool, bool
         last_came: AtomicU64::new(0),
         late: AtomicU64::new(0),
     };
-    let analysis = analysis(rt, &CYCLE_AND_TWO_FOLLOWERS, &[2], &gate)?;
-    let in_time = !is_noted(&gate.late) && !is_noted(&gate.second_came_early);
-    let Some(first) = analysis.records().first() else {
-        return Ok((in_time, false));
-    };
-    Ok((in_time, is_from_row(first, 1)))
-}
-
-#[test]
-fn two_workers_make_the_runs(rt: HostRuntime) -> Result<(), Fail> {
-    let (_, by_the_other) = crossed(&rt)?;
-    expect(&rt, by_the_other);
-    Ok(())
-}
-
-#[test]
-fn cuts_are_kept(rt: HostRuntime) -> Result<(), Fail> {
-    let (in_time, _) = crossed(&rt)?;
-    expect(&rt, in_time);
+    let analysis = analysis(&rt, &waits, &[2], &gate)?;
+    expect(&rt, !is_noted(&gate.late));
+    expect(&rt, !is_noted(&gate.second_came_early));
+    let is_by_the_other = |record| is_from_row(record, 1);
+    expect(&rt, analysis.records().first().is_some_and(is_by_the_other));
     Ok(())
 }
 

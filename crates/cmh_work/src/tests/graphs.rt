@@ -1,39 +1,39 @@
-//! Wait graphs for tests, and what is asked of their records.
+//! Wait graphs for tests, and what their logs have.
 
-use crate::{Origin, Record, Shape};
+use crate::{Origin, Record};
 use cmh_graph::{GraphFault, Part, State, Verdict, WaitGraph};
+use cmh_process::{Kind, Message};
+use cmh_run::Delivery;
 use std::alloc::Global;
 
 /// The dependents of each process, if it is idle.
 pub(super) type Waits<'a> = &'a [Option<&'a [u32]>];
 
+/// The shape that is wanted of an idle process.
+#[derive(Clone, Copy)]
+pub(super) enum Wanted<'a> {
+    Path(&'a [u32]),
+    Leader(u32),
+}
+
 /// p@a: q; q@a: p
 pub(super) const TWO_IN_A_CYCLE: [Option<&[u32]>; 2] = [Some(&[1]), Some(&[0])];
-
-/// p@a: q r; q@a: q; r@a!
-pub(super) const ONE_FREE_ONE_STUCK: [Option<&[u32]>; 3] = [Some(&[1, 2]), Some(&[1]), None];
 
 /// p@a: q; q@a: p; r@b: p
 pub(super) const CYCLE_AND_FOLLOWER: [Option<&[u32]>; 3] = [Some(&[1]), Some(&[0]), Some(&[0])];
 
-/// p@a: q; q@a: p; r@b: p; s@b: p
-pub(super) const CYCLE_AND_TWO_FOLLOWERS: [Option<&[u32]>; 4] = [
-    Some(&[1]),
-    Some(&[0]),
-    Some(&[0]),
-    Some(&[0]),
-];
-
-/// p@a: b a; a@a: z; b@a: z; z@a!
-pub(super) const TWO_SHORTEST_PATHS: [Option<&[u32]>; 4] = [
-    Some(&[2, 1]),
-    Some(&[3]),
-    Some(&[3]),
-    None,
-];
-
-/// p@a: a z; a@a: z; z@a!
-pub(super) const SHORTEST_BEFORE_LEAST: [Option<&[u32]>; 3] = [Some(&[1, 2]), Some(&[2]), None];
+pub(super) fn part(alloc: Global, dependents: Option<&[u32]>) -> Result<Part, GraphFault> {
+    let (state, dependents) = match dependents {
+        Some(dependents) => (State::Idle, dependents),
+        None => (State::Active, [].as_slice()),
+    };
+    Ok(Part {
+        name: String::new(alloc),
+        site: 0,
+        state,
+        dependents: Vec::from_slice(alloc, dependents)?,
+    })
+}
 
 pub(super) fn graph_of(
     alloc: Global,
@@ -42,42 +42,34 @@ pub(super) fn graph_of(
 ) -> Result<WaitGraph, GraphFault> {
     let mut parts = Vec::new(alloc);
     for dependents in waits {
-        let (state, dependents) = match dependents {
-            Some(dependents) => (State::Idle, Vec::from_slice(alloc, dependents)?),
-            None => (State::Active, Vec::new(alloc)),
-        };
-        parts.push(Part {
-            name: String::new(alloc),
-            site: 0,
-            state,
-            dependents,
-        })?;
+        parts.push(part(alloc, *dependents)?)?;
     }
     WaitGraph::build_with(alloc, parts, in_transit)
 }
 
-/// Whether the record is of a deadlocked process with this leader.
-pub(super) fn is_led(record: &Record, initiator: u32, leader: u32) -> bool {
-    record.initiator == initiator
-        && record.verdict == Verdict::Deadlocked
-        && matches!(record.shape, Shape::Leader(l) if l == leader)
+/// A delivery in the first computation of an initiator.
+pub(super) fn delivery(
+    kind: Kind,
+    initiator: u32,
+    (from, to): (u32, u32),
+    hint: Option<Verdict>,
+) -> Delivery {
+    let message = Message {
+        kind,
+        initiator,
+        number: 1,
+        from,
+        to,
+    };
+    Delivery { message, hint }
 }
 
-/// Whether the record is of a free process with this path.
-pub(super) fn is_free(record: &Record, initiator: u32, nodes: &[u32]) -> bool {
-    match &record.shape {
-        Shape::Path(path) => {
-            record.initiator == initiator
-                && record.verdict == Verdict::Free
-                && path.as_slice() == nodes
-        }
-        Shape::Leader(_) => false,
+/// Whether the verdict comes from a run with this log.
+pub(super) fn is_from_run(record: &Record, log: &[Delivery]) -> bool {
+    match &record.source {
+        Origin::FromRun(run) => run.log() == log,
+        Origin::FromBoard(_) => false,
     }
-}
-
-/// Whether the verdict comes from a run.
-pub(super) fn is_from_run(record: &Record) -> bool {
-    matches!(record.source, Origin::FromRun(_))
 }
 
 /// Whether the verdict comes from the row of this number.

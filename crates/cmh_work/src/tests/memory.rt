@@ -1,11 +1,11 @@
 //! Analyses while memory is short.
 
-use super::expect_eq;
-use super::graphs::{CYCLE_AND_FOLLOWER, graph_of, is_led};
-use crate::{Analysis, NoGate, Plan, WorkFault, analyse};
-use cmh_graph::WaitGraph;
+use super::expect;
+use super::graphs::{CYCLE_AND_FOLLOWER, graph_of};
+use crate::{Gate, NoGate, Plan, analyse};
 use std::alloc::Global;
 use std::sync::Wait;
+use std::sync::atomic::{AtomicU64, Ordering};
 use std::test::Fail;
 use std::thread::{Threads, join};
 
@@ -13,7 +13,7 @@ use std::thread::{Threads, join};
 const ROOM: usize = 98_304;
 
 /// Takes all the memory that there is, in blocks of falling sizes.
-pub(super) fn take_all(alloc: Global, blocks: &mut Vec<Vec<u8>>) {
+fn take_all(alloc: Global, blocks: &mut Vec<Vec<u8>>) {
     let mut size = 1usize << 46;
     for _ in 0..100_000 {
         if size < 16 {
@@ -30,91 +30,74 @@ pub(super) fn take_all(alloc: Global, blocks: &mut Vec<Vec<u8>>) {
     }
 }
 
-/// What the answers were.
-#[derive(Clone, Copy, Debug, PartialEq, Eq)]
-struct Answers {
-    right: bool,
-    wrong: bool,
-    refused: bool,
+/// Counts how often it is passed.
+#[derive(Drop)]
+struct Counted {
+    times: AtomicU64,
 }
 
-/// Some calls were refused for want of memory, and all others were right.
-const AS_THEY_SHOULD_BE: Answers = Answers {
-    right: true,
-    wrong: false,
-    refused: true,
-};
-
-/// Whether each record is as it should be.
-fn is_right(analysis: &Analysis) -> bool {
-    let records = analysis.records();
-    records.len() == 3
-        && is_led(&records[0], 0, 0)
-        && is_led(&records[1], 1, 0)
-        && is_led(&records[2], 2, 2)
-}
-
-/// Whether the answer is what it is with memory enough; nothing where memory is refused.
-fn answer<R: Threads + Wait + Sync>(
-    rt: &R,
-    alloc: Global,
-    graph: &WaitGraph,
-    plan: &Plan,
-) -> Option<bool> {
-    match analyse(rt, alloc, graph, plan, &NoGate) {
-        Ok(analysis) => Some(is_right(&analysis)),
-        Err(fault) => refused(fault == WorkFault::Memory || fault == WorkFault::WorkerLost),
+impl Gate for Counted {
+    fn pass(&self, _initiator: u32) {
+        self.times.fetch_add(1, Ordering::SeqCst);
     }
 }
 
-fn refused(is_memory: bool) -> Option<bool> {
-    if is_memory { None } else { Some(false) }
+/// What came of the analyses: whether one succeeded, whether memory was refused to one, and whether that was after
+/// some of the processes had passed the gate, but not all.
+#[derive(Clone, Copy, Debug)]
+struct Seen {
+    succeeded: bool,
+    refused: bool,
+    in_midst: bool,
 }
 
-/// Analyses the cycle and its follower, by so many workers, with more and more memory, up to `ROOM`
-/// bytes. In the end it is done once more with all the memory that there is.
-fn sweep<R: Threads + Wait + Sync>(rt: &R, alloc: Global, workers: u32) -> Result<Answers, Fail> {
+/// Analyses the cycle and its follower with ample memory, so that the stack has grown as far as it needs, and then with
+/// more and more of it, up to `ROOM` bytes. The contract says what each answer is.
+fn sweep<R: Threads + Wait + Sync>(rt: &R, alloc: Global, workers: u32) -> Result<Seen, Fail> {
     let graph = graph_of(alloc, &CYCLE_AND_FOLLOWER, &[])?;
     let plan = Plan::new(alloc, workers, &[1, 1], &[])?;
+    let gate = Counted {
+        times: AtomicU64::new(0),
+    };
     // Threads take memory of their own the first time.
     let _ = join(rt, || 0u8, || 0u8);
+    analyse(rt, alloc, &graph, &plan, &NoGate)?;
     let mut blocks = Vec::with_capacity(alloc, 100_000)?;
     let free: Vec<u8> = Vec::with_capacity(alloc, ROOM)?;
     let _pin: Vec<u8> = Vec::with_capacity(alloc, 64)?;
     take_all(alloc, &mut blocks);
     drop(free);
 
-    let mut answers = Answers {
-        right: false,
-        wrong: false,
+    let mut seen = Seen {
+        succeeded: false,
         refused: false,
+        in_midst: false,
     };
     for k in 0..ROOM / 16 {
         let taken: Result<Vec<u8>, _> = Vec::with_capacity(alloc, ROOM - 16 * k);
-        match answer(rt, alloc, &graph, &plan) {
-            Some(true) => answers.right = true,
-            Some(false) => answers.wrong = true,
-            None => answers.refused = true,
-        }
+        gate.times.store(0, Ordering::SeqCst);
+        let succeeded = analyse(rt, alloc, &graph, &plan, &gate).is_ok();
+        let times = gate.times.load(Ordering::SeqCst);
+        seen.succeeded = seen.succeeded || succeeded;
+        seen.refused = seen.refused || !succeeded;
+        seen.in_midst = seen.in_midst || !succeeded && (times == 1 || times == 2);
         drop(taken);
     }
     drop(blocks);
-    if answer(rt, alloc, &graph, &plan) != Some(true) {
-        answers.wrong = true;
-    }
-    Ok(answers)
+    Ok(seen)
 }
 
+/// A worker to whom memory was refused draws no chunk more.
 #[test]
-fn want_of_memory_with_one_worker(rt: HostRuntime) -> Result<(), Fail> {
-    let answers = sweep(&rt, rt.alloc(), 1)?;
-    expect_eq(&rt, answers, AS_THEY_SHOULD_BE);
+fn out_of_memory_with_one_worker(rt: HostRuntime) -> Result<(), Fail> {
+    let seen = sweep(&rt, rt.alloc(), 1)?;
+    expect(&rt, seen.succeeded && seen.refused && seen.in_midst);
     Ok(())
 }
 
 #[test]
-fn want_of_memory_with_two_workers(rt: HostRuntime) -> Result<(), Fail> {
-    let answers = sweep(&rt, rt.alloc(), 2)?;
-    expect_eq(&rt, answers, AS_THEY_SHOULD_BE);
+fn out_of_memory_with_two_workers(rt: HostRuntime) -> Result<(), Fail> {
+    let seen = sweep(&rt, rt.alloc(), 2)?;
+    expect(&rt, seen.succeeded && seen.refused);
     Ok(())
 }

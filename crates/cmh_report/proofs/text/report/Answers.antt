@@ -6,5 +6,5 @@ use Rattle.cmh_report.proofs.text.report.Goals as goal
 -- the records of an analysis are those of the graph
 pub told-requires-after_bounds : goal.told-requires-after_bounds
 told-requires-after_bounds g c κs within =
-    subst (AreRecordsOf c.args.graph.now) (sym c.records.ensures)
-    (analysed c.args.graph.now c.args.analysis.now c.requires)
+    subst (AreRecordsOf g.P.ProcessList.processes c.args.graph.now) (sym c.records.ensures)
+    (analysed g.P.ProcessList.processes c.args.graph.now c.args.analysis.now c.requires)

@@ -1,9 +1,11 @@
 use Rattle.std.proofs.Common.{◌≡◌, ◌∙◌, ◌++◌, ◌+◌, ◌<◌, ◌∷◌, [], ap, arith, length, sym}
 use Rattle.std.proofs.lemmas.List.FromFn.{map-range_with_len_more}
 use Rattle.cmh_graph.specs.Graph.{process_count}
+use Rattle.std.proofs.lemmas.List.{length-map}
 use Rattle.cmh_graph.proofs.IndexLists.{length-by_index}
 use Rattle.cmh_text.specs.Group.{leaders_up_to}
 use Rattle.cmh_graph.specs.Core.{group_leader}
+use Rattle.cmh_text.specs.Summary.{leader_in}
 use Rattle.cmh_text.proofs.Numbers.{leaders_below, leaders_few, leaders_no_more, leaders_one_more, up_to_is}
 use Rattle.cmh_text.proofs.groups.group_numbers.Goals as goal
 use Rattle.cmh_text.proofs.groups.group_numbers.Goals.{then-is_led_by, else-is_led_by}
@@ -12,7 +14,7 @@ pub is_led_by-requires : goal.is_led_by-requires
 is_led_by-requires c =
     omega (
       arith,
-      ap length c.requires,
+      sym (length-map c.args.summaries.now leader_in) ∙ ap length c.requires,
       length-by_index c.args.graph.now (group_leader c.args.graph.now),
       c.loop-p-test.true,
       c.len-p-end.ensures.count,

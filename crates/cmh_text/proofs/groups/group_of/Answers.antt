@@ -3,6 +3,7 @@ use Rattle.cmh_graph.specs.Path.{reach_of}
 use Rattle.cmh_graph.proofs.IndexLists.{by_index}
 use Rattle.cmh_text.specs.Group.{leaders_up_to}
 use Rattle.cmh_text.specs.Report.{site_count}
+use Rattle.cmh_text.specs.Summary.{leaders_in}
 use Rattle.cmh_text.proofs.Members.{reach_within}
 use Rattle.cmh_text.proofs.Numbers.{own_number}
 use Rattle.cmh_text.proofs.groups.group_of.Goals as goal
@@ -20,7 +21,8 @@ returns-clause-number c =
     let leader = c.args.leader in
     let groups = c.requires.groups in
     c.index.ensures ∙ by_index g (leaders_up_to g) _ leader _ groups.numbers c.requires.within
-    ∙ own_number g c.args.groups.now.leaders.items leader groups.leaders c.requires.within c.requires.leads
+    ∙ own_number g (leaders_in c.args.groups.now.summaries.items) leader groups.leaders c.requires.within
+    c.requires.leads
 
 pub returns-clause-sites : goal.returns-clause-sites
 returns-clause-sites c =

@@ -1,4 +1,4 @@
-use Rattle.std.proofs.Common.{ℕ, List, ◌<◌, ◌∙◌, ap, arith, max, reverse, subst, sym}
+use Rattle.std.proofs.Common.{ℕ, ◌<◌, ◌∙◌, ap, arith, max, subst, sym}
 use Rattle.std.specs.Prelude.{All, IsTrue, flat_map}
 use Rattle.std.specs.declared.alloc.AllocError.{AllocError}
 use Rattle.std.proofs.lemmas.List.Folds.{flat_map-map}
@@ -7,21 +7,20 @@ use Rattle.rayon.proofs.ListFacts.{IfOk-then}
 use Rattle.cmh_graph.specs.Core.{leaders}
 use Rattle.cmh_graph.specs.Graph.{process_count}
 use Rattle.cmh_text.specs.Group.{is_led_by}
+use Rattle.cmh_text.specs.Summary.{leaders_in}
 use Rattle.cmh_text.specs.Report.{line, group_line}
-use Rattle.cmh_text.proofs.JoinedTexts.{all_pieces, all_turned, collected, leaders_lead, pieces_joined}
+use Rattle.cmh_text.proofs.JoinedTexts.{all_pieces, collected, leaders_lead, pieces_joined}
 use Rattle.cmh_text.proofs.parallel.group_lines.Goals as goal
 
 -- each piece has leaders alone
 pub collect-requires-clause-ready : goal.collect-requires-clause-ready
 collect-requires-clause-ready g c κs within =
     let graph = c.args.graph.now in
-    let table = c.args.groups.now.leaders.items in
-    let list = c.args.groups.now.list.items in
+    let table = leaders_in c.args.groups.now.summaries.items in
+    let list = c.as_slice.result.now in
     let at : ℕ → Type 0 = λ p. (p < process_count graph) × IsTrue (is_led_by table p p) in
-    let turned = c.as_slice.ensures.value ∙ c.in_ok-leaders.ensures ∙ ap reverse c.deref.ensures.value in
-    let pieces = all_pieces at (max c.group_chunk.result 1) c.as_slice.result.now
-    (all_turned at list c.as_slice.result.now turned
-    (leaders_lead graph table list c.requires.groups.leaders c.requires.groups.list)) in
+    let pieces = all_pieces at (max c.group_chunk.result 1) list
+    (leaders_lead graph table list c.requires.groups.leaders (c.as_slice.ensures.value ∙ c.requires.groups.list)) in
     rw (
       c.map.ensures.base,
       c.map.ensures.f,
@@ -36,9 +35,7 @@ returns g c =
     let graph = c.args.graph.now in
     let text = λ (p : ℕ). line (group_line graph p) in
     let size = max c.group_chunk.result 1 in
-    let falling = c.as_slice.result.now in
-    let turned = c.as_slice.ensures.value ∙ c.in_ok-leaders.ensures
-    ∙ ap reverse (c.deref.ensures.value ∙ c.requires.groups.list) in
+    let list = c.as_slice.result.now in
     let h = c.in_ok-collect.ensures in
     let chain =
     rw (
@@ -49,8 +46,9 @@ returns g c =
       c.par_chunks.ensures.size,
     ) at h.1 in
     IfOk-then c.in_ok-collect.field-0 _ _
-    (collected AllocError (λ (piece : List ℕ). flat_map text (reverse piece)) (chunks_of size falling)
+    (collected AllocError (flat_map text) (chunks_of size list)
     chain.0 h.0 c.in_ok-collect.field-0 chain.1 chain.2 h.2)
     (λ texts same.
-    pieces_joined text (leaders graph) falling size texts.items (omega arith) turned same
+    pieces_joined text list size texts.items (omega arith) same
+    ∙ ap (flat_map text) (c.as_slice.ensures.value ∙ c.requires.groups.list)
     ∙ sym (flat_map-map line (group_line graph) (leaders graph)))

@@ -1,23 +1,21 @@
-use Rattle.std.proofs.Common.{ℕ, List, ◌<◌, ◌∙◌, ap, arith, max, reverse, subst, sym}
-use Rattle.std.specs.Prelude.{All, flat_map}
+use Rattle.std.proofs.Common.{ℕ, ◌∙◌, ap, arith, max, subst, sym}
+use Rattle.std.specs.Prelude.{All, IsTrue, flat_map}
 use Rattle.std.specs.declared.alloc.AllocError.{AllocError}
 use Rattle.std.proofs.lemmas.List.Folds.{flat_map-map}
 use Rattle.rayon.specs.Lists.{chunks_of}
 use Rattle.rayon.proofs.ListFacts.{IfOk-then}
-use Rattle.cmh_graph.specs.Graph.{idle_list, process_count}
+use Rattle.cmh_graph.specs.Graph.{idle_list, is_idle}
 use Rattle.cmh_text.specs.Report.{line, process_line}
-use Rattle.cmh_text.proofs.JoinedTexts.{all_pieces, all_turned, collected, idle_within_list, pieces_joined}
+use Rattle.cmh_text.proofs.JoinedTexts.{all_pieces, collected, idle_each, pieces_joined}
 use Rattle.cmh_text.proofs.parallel.process_lines.Goals as goal
 
 -- each piece has idle processes alone
 pub collect-requires-clause-ready : goal.collect-requires-clause-ready
 collect-requires-clause-ready g c κs within =
     let graph = c.args.graph.now in
-    let at : ℕ → Type 0 = λ p. p < process_count graph in
-    let idle = c.args.paths.now.idle.items in
-    let turned = c.as_slice.ensures.value ∙ c.in_ok-idle.ensures ∙ ap reverse c.deref.ensures.value in
-    let pieces = all_pieces at (max c.process_chunk.result 1) c.as_slice.result.now
-    (all_turned at idle c.as_slice.result.now turned (idle_within_list graph idle c.requires.paths.idle)) in
+    let at : ℕ → Type 0 = λ p. IsTrue (is_idle graph p) in
+    let pieces = all_pieces at (max c.process_chunk.result 1) c.args.idle.now
+    (idle_each graph c.args.idle.now c.requires.idle) in
     rw (
       c.map.ensures.base,
       c.map.ensures.f,
@@ -25,16 +23,14 @@ collect-requires-clause-ready g c κs within =
       c.par_chunks.ensures.slice,
       c.par_chunks.ensures.size,
     ) (λ k d lt x same.
-    ((c.requires.groups, c.requires.paths, subst (All at) (sym same) (pieces k d lt)), λ y p. tt))
+    ((c.requires.groups, subst (All at) (sym same) (pieces k d lt)), λ y p. tt))
 
 pub returns : goal.returns
 returns g c =
     let graph = c.args.graph.now in
     let text = λ (p : ℕ). line (process_line graph p) in
     let size = max c.process_chunk.result 1 in
-    let falling = c.as_slice.result.now in
-    let turned = c.as_slice.ensures.value ∙ c.in_ok-idle.ensures
-    ∙ ap reverse (c.deref.ensures.value ∙ c.requires.paths.idle) in
+    let list = c.args.idle.now in
     let h = c.in_ok-collect.ensures in
     let chain =
     rw (
@@ -45,8 +41,9 @@ returns g c =
       c.par_chunks.ensures.size,
     ) at h.1 in
     IfOk-then c.in_ok-collect.field-0 _ _
-    (collected AllocError (λ (piece : List ℕ). flat_map text (reverse piece)) (chunks_of size falling)
+    (collected AllocError (flat_map text) (chunks_of size list)
     chain.0 h.0 c.in_ok-collect.field-0 chain.1 chain.2 h.2)
     (λ texts same.
-    pieces_joined text (idle_list graph) falling size texts.items (omega arith) turned same
+    pieces_joined text list size texts.items (omega arith) same
+    ∙ ap (flat_map text) c.requires.idle
     ∙ sym (flat_map-map line (process_line graph) (idle_list graph)))

@@ -1,19 +1,37 @@
-use Rattle.std.proofs.Common.{ℕ, ◌∙◌, ap, reverse, take_all}
+use Rattle.std.proofs.Common.{◌≡◌, ℕ, ◌∙◌, ◌+◌, ◌++◌, ◌-◌, ◌<◌, ap, arith, drop, length, sym}
 use Rattle.std.specs.Prelude.{flat_map}
 use Rattle.rayon.proofs.ListFacts.{IfOk-then}
 use Rattle.cmh_text.specs.Report.{line, process_line}
+use Rattle.cmh_text.proofs.JoinedTexts.{no_text_from, text_from}
 use Rattle.cmh_text.proofs.parallel.process_text.Goals as goal
 
-pub loop-p-init : goal.loop-p-init
-loop-p-init c = record {
-  text = c.new-text.ensures;
+pub loop-n-init : goal.loop-n-init
+loop-n-init c = record {
+  text =
+      c.new-text.ensures
+      ∙ sym (no_text_from (λ p. line (process_line c.args.graph.now p)) c.args.chunk.now _ (omega arith));
   last = c.new-last.ensures c.args.graph.now;
 }
+
+pub loop-n-preserved : goal.loop-n-preserved
+loop-n-preserved c =
+    let text = λ (p : ℕ). line (process_line c.args.graph.now p) in
+    let chunk = c.args.chunk.now in
+    let more : c.loop-n.n ≡ (c.loop-n.n - 1) + 1 = omega arith in
+    let within : c.loop-n.n - 1 < length chunk = omega arith in
+    record {
+      text =
+          c.in_ok-push.ensures
+          ∙ (λ i. c.in_ok-line.ensures.text i ++ c.loop-n.invariant.text i)
+          ∙ text_from text chunk c.loop-n.n (c.loop-n.n - 1) 0 more within;
+      last = c.in_ok-line.ensures.last;
+    }
 
 pub returns : goal.returns
 returns c =
     let text = λ (p : ℕ). line (process_line c.args.graph.now p) in
+    let none : c.loop-n.n ≡ 0 = omega arith in
     IfOk-then c.into_pieces.result _ _ c.into_pieces.ensures (λ made is.
     is
-    ∙ c.loop-p.invariant.text
-    ∙ ap (λ ps. flat_map text (reverse ps)) (take_all c.loop-p.p-index c.args.chunk.now c.loop-p-test.false))
+    ∙ c.loop-n.invariant.text
+    ∙ ap (λ n. flat_map text (drop n c.args.chunk.now)) none)

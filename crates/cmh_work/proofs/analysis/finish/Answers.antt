@@ -21,11 +21,11 @@ number_all-requires-clause-stand g c =
     let seats = c.workers-seats.result.0 in
     let rows = c.in_ok-history.history.items in
     let sorted = c.sort_unstable_by_key.new.self.items in
-    let w : IsWorked g.E.ProcessList.processes gr plan c.args.shared seats c.in_ok-found.found.items =
-    subst (λ r. IfOk r (λ f. IsWorked g.E.ProcessList.processes gr plan c.args.shared seats f.items)) c.in_ok-found.was
+    let w : IsWorked g.P.ProcessList.processes gr plan c.args.shared seats c.in_ok-found.found.items =
+    subst (λ r. IfOk r (λ f. IsWorked g.P.ProcessList.processes gr plan c.args.shared seats f.items)) c.in_ok-found.was
     c.workers-seats.ensures.worked in
     let sound =
-    all_stand g.E.ProcessList.processes gr plan.choices rows
+    all_stand g.P.ProcessList.processes gr plan.choices rows
     (board_view seats.board).seen c.in_ok-found.found.items sorted c.sort_unstable_by_key.ensures.permutation
     (given c.close.result c.map_err.result c.in_ok-history.history _ _ c.map_err.ensures.cases
     c.in_ok-history.was c.close.ensures.begins) w.accounts.sound in
@@ -63,8 +63,8 @@ returns g c =
     let rows = c.in_ok-history.history.items in
     let sorted = c.sort_unstable_by_key.new.self.items in
     let back = c.workers-seats.ensures.back in
-    let w : IsWorked g.E.ProcessList.processes gr plan c.args.shared seats c.in_ok-found.found.items =
-    subst (λ r. IfOk r (λ f. IsWorked g.E.ProcessList.processes gr plan c.args.shared seats f.items)) c.in_ok-found.was
+    let w : IsWorked g.P.ProcessList.processes gr plan c.args.shared seats c.in_ok-found.found.items =
+    subst (λ r. IfOk r (λ f. IsWorked g.P.ProcessList.processes gr plan c.args.shared seats f.items)) c.in_ok-found.was
     c.workers-seats.ensures.worked in
     let up : IsNonDecreasingBy finding_initiator sorted =
     IsNonDecreasingBy-from_sort finding_initiator _
@@ -78,7 +78,7 @@ returns g c =
     c.close.ensures.own (back.board ∙ c.requires.board) in
     let numbered : AreNumbered rows sorted c.in_ok-records.records.items =
     subst (λ l. AreNumbered l sorted c.in_ok-records.records.items) c.deref.ensures.value c.in_ok-records.ensures in
-    analysed g.E.ProcessList.processes gr plan c.args.shared seats c.in_ok-found.found.items sorted record
+    analysed g.P.ProcessList.processes gr plan c.args.shared seats c.in_ok-found.found.items sorted record
     { records = c.in_ok-records.records; history = c.in_ok-history.history }
     c.law_built_graph.ensures c.requires.made c.sort_unstable_by_key.ensures.permutation up back.sit
     (back.tickets ∙ c.requires.tickets) w

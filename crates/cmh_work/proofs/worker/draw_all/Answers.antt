@@ -20,11 +20,12 @@ find_each-requires-clause-idle g c =
 pub loop-number-init : goal.loop-number-init
 loop-number-init g c = record {
   runner = search rules;
+  leaders = c.in_ok-leaders.ensures;
   back = search rules;
   accounts = subst
-      (Accounts g.E.ProcessList.processes c.args.job.now.graph.now c.args.job.now.plan.now.choices
+      (Accounts g.P.ProcessList.processes c.args.job.now.graph.now c.args.job.now.plan.now.choices
       (board_view c.args.seats.now.board)) (sym c.new-found.ensures.items)
-      (nothing_found g.E.ProcessList.processes c.args.job.now.graph.now c.args.job.now.plan.now.choices
+      (nothing_found g.P.ProcessList.processes c.args.job.now.graph.now c.args.job.now.plan.now.choices
       c.args.seats.now c.requires.new);
   order = ap (map finding_initiator) c.new-found.ensures.items
       ∙ nothing_drawn (chunks_of c.args.job.now.plan.now.cuts c.args.job.now.shared.now.idle.items) c.args.seats.now
@@ -34,6 +35,7 @@ loop-number-init g c = record {
 pub loop-number-preserved : goal.loop-number-preserved
 loop-number-preserved g c = record {
   runner = search rules;
+  leaders = c.find_each.ensures.leaders;
   back = search rules;
   accounts = search rules;
   order = drawn_more c.args.job.now.plan.now c.args.job.now.shared.now c.loop-number.seats.tickets c.draw.new.seat

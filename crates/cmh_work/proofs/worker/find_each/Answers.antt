@@ -14,10 +14,11 @@ loop-initiator-preserved g c =
     let pushed : c.push.new.self.items ≡ c.loop-initiator.found.items ++ c.in_ok-finding.finding ∷ [] =
     search rules in record {
       runner = search rules;
+      leaders = c.find_one.ensures.leaders;
       sits = search rules;
       share = search rules;
-      accounts = subst (Accounts g.E.ProcessList.processes gr choices w) (sym pushed)
-          (accounts_more g.E.ProcessList.processes gr choices v w c.loop-initiator.found.items c.in_ok-finding.finding
+      accounts = subst (Accounts g.P.ProcessList.processes gr choices w) (sym pushed)
+          (accounts_more g.P.ProcessList.processes gr choices v w c.loop-initiator.found.items c.in_ok-finding.finding
           c.loop-initiator.invariant.accounts c.in_ok-finding.ensures.sees c.in_ok-finding.ensures.sound
           c.in_ok-finding.ensures.mine);
       order = grind (arith, common_steps);

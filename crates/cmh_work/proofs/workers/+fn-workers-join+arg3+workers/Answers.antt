@@ -40,11 +40,11 @@ pub returns-clause-worked : goal.returns-clause-worked
 returns-clause-worked g t c =
     let r = c.join-next.result in
     collected c.concat_findings.result r.1.1 r.0.1
-    (λ v. IsWorked g.E.ProcessList.processes c.args.graph.now c.args.plan.now c.args.shared.now r.1.0 v.items)
-    (λ v. IsWorked g.E.ProcessList.processes c.args.graph.now c.args.plan.now c.args.shared.now r.0.0 v.items)
-    (λ l. IsWorked g.E.ProcessList.processes c.args.graph.now c.args.plan.now c.args.shared.now
+    (λ v. IsWorked g.P.ProcessList.processes c.args.graph.now c.args.plan.now c.args.shared.now r.1.0 v.items)
+    (λ v. IsWorked g.P.ProcessList.processes c.args.graph.now c.args.plan.now c.args.shared.now r.0.0 v.items)
+    (λ l. IsWorked g.P.ProcessList.processes c.args.graph.now c.args.plan.now c.args.shared.now
     c.take_back.new.seats l)
     (c.join-next.ensures.second).1 (c.join-next.ensures.first).1 c.concat_findings.ensures
-    (λ a b p q. joined_worked g.E.ProcessList.processes c.args.graph.now c.args.plan.now c.args.shared.now r.1.0 r.0.0
+    (λ a b p q. joined_worked g.P.ProcessList.processes c.args.graph.now c.args.plan.now c.args.shared.now r.1.0 r.0.0
     c.take_back.new.seats a.items b.items c.take_back.ensures.tickets c.take_back.ensures.board
     c.take_back.ensures.begins.0 c.take_back.ensures.begins.1 p q)

@@ -1,7 +1,0 @@
-use Rattle.std.proofs.Common.{take}
-use Rattle.cmh_graph.specs.Graph.{idle_list}
-use Rattle.cmh_report.proofs.RecordsLemmas.{AreLeadersOf}
-use Rattle.cmh_report.proofs.records.group_leaders.Given as goal
-
-abbrev pub invariant-loop-record : goal.invariant-loop-record
-invariant-loop-record _ l = AreLeadersOf l.graph (take l.record-index (idle_list l.graph)) l.leaders.items
