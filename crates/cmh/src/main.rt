@@ -28,7 +28,7 @@ fn main(rt: HostRuntime) -> ExitCode {
     let mut out = WriteOf::new(rt.stdout());
     let mut err = WriteOf::new(rt.stderr());
     let status = match words(&rt) {
-        Ok(words) => serve(&rt, &words, &mut source, &mut out, &mut err),
+        Ok(words) => serve(&rt, rt.alloc(), &words, &mut source, &mut out, &mut err),
         Err(error) => tell::refuse_words(&error, &mut err),
     };
     ExitCode::from(status)

@@ -99,8 +99,9 @@ fn show<O: Sink, E: Sink>(text: &str, out: &mut O, err: &mut E) -> u8
 /// device fails. Lists and plan are read before the dump. A fault is told on `err` in one line;
 /// where `err` fails, the status stays. An analysis waits for its workers.
 #[tactic(auto, using(crate::proofs::Outcomes::requested, crate::proofs::Outcomes::refused_words, crate::proofs::Outcomes::shown))]
-pub fn serve<R: AllocGlobal + Threads + Wait + Sync, T: AsStr, S: Source, O: Sink, E: Sink>(
+pub fn serve<R: Threads + Wait + Sync, T: AsStr, S: Source, O: Sink, E: Sink>(
     rt: &R,
+    alloc: Global,
     words: &[T],
     source: &mut S,
     out: &mut O,
@@ -118,7 +119,6 @@ pub fn serve<R: AllocGlobal + Threads + Wait + Sync, T: AsStr, S: Source, O: Sin
     ensures quiet { (result ≡ FREE) ⊎ (result ≡ DEADLOCKED)
         → (E.state err.new).taken ≡ (E.state err.old).taken }
 {
-    let alloc = rt.alloc();
     match read_words(alloc, words) {
         Ok(Request::Analyse(words)) => analyse(rt, alloc, &words, source, out, err),
         Ok(Request::Trace { name, choices }) => trace(alloc, name, choices, source, out, err),

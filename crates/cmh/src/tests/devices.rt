@@ -1,43 +1,40 @@
-//! Readers and writers that fail.
+//! A reader that fails, and a writer that keeps what it takes.
 
+use std::alloc::Global;
 use std::io;
 use std::io::{ErrorKind, Read, Write};
 
-/// Gives its bytes, and then fails.
+/// Fails at its first read.
 #[derive(Drop)]
-pub struct Cut<'a> {
-    pub bytes: &'a [u8],
-}
+pub struct Broken {}
 
-impl Read for Cut<'_> {
-    fn read(&mut self, buf: &mut [u8]) -> io::Result<usize> {
-        if self.bytes.is_empty() {
-            return Err(io::Error::from(ErrorKind::Other));
-        }
-        self.bytes.read(buf)
+impl Read for Broken {
+    fn read(&mut self, _buf: &mut [u8]) -> io::Result<usize> {
+        Err(io::Error::from(ErrorKind::Other))
     }
 }
 
-/// Takes as many bytes as it has room for, and may fail to hand them on.
+/// Takes all bytes.
 #[derive(Drop)]
 pub struct Page {
     pub bytes: Vec<u8>,
-    pub room: usize,
-    pub fails_flush: bool,
+}
+
+impl Page {
+    pub fn new(alloc: Global) -> Page {
+        Page {
+            bytes: Vec::new(alloc),
+        }
+    }
 }
 
 impl Write for Page {
     fn write(&mut self, buf: &[u8]) -> io::Result<usize> {
-        let room = self.room.saturating_sub(self.bytes.len());
-        let count = buf.len().min(room);
-        self.bytes.extend_from_slice(&buf[..count])?;
-        Ok(count)
+        self.bytes.extend_from_slice(buf)?;
+        Ok(buf.len())
     }
 
     fn flush(&mut self) -> io::Result<()> {
-        if self.fails_flush {
-            return Err(io::Error::from(ErrorKind::Other));
-        }
         Ok(())
     }
 }

@@ -1,152 +1,78 @@
-//! The line of each fault, and its status. Want of memory is told by hand here.
+//! The line of each fault, and its status: those that need refused memory are made by hand here.
 
 use super::devices::Page;
-use super::{is, page};
+use super::is;
 use crate::ListFault;
 use crate::tell::{fail, refuse_list, refuse_plan};
 use cmh_dump::DumpFault;
 use cmh_plan::PlanFault;
-use cmh_report::{AppFault, ReportFault};
+use cmh_report::AppFault::{Dump, NoSuchProcess, Report, Run, Work, WriteFault};
+use cmh_report::ReportFault;
 use cmh_run::RunFault;
 use cmh_stream::WriteOf;
 use cmh_work::WorkFault;
+use std::alloc::{AllocError, Global};
 
-/// Whether the fault is told by this line, with this status.
-fn tells(rt: HostRuntime, fault: &AppFault, line: &str, status: u8) -> bool {
-    let mut err: Page = page(rt.alloc(), 100);
-    let answer = fail(fault, &mut WriteOf::new(&mut err));
-    answer == status && is(&err, line)
+/// Whether the page holds this text as a line of the program.
+fn is_line(alloc: Global, page: &Page, text: &str) -> Result<bool, AllocError> {
+    let line = format!(in alloc; "cmh: {text}\n")?;
+    Ok(is(page, &line))
 }
 
 #[test]
-fn faults(rt: HostRuntime) {
+fn faults(rt: HostRuntime) -> Result<(), AllocError> {
     let rows = [
-        (
-            AppFault::Dump(DumpFault::Memory),
-            "cmh: dump: out of memory\n",
-            4,
-        ),
-        (
-            AppFault::Dump(DumpFault::ReadFault),
-            "cmh: dump: read fault\n",
-            4,
-        ),
-        (
-            AppFault::Dump(DumpFault::TooLong),
-            "cmh: dump: too long\n",
-            1,
-        ),
-        (
-            AppFault::Dump(DumpFault::BadProcess(3)),
-            "cmh: dump: bad process 3\n",
-            1,
-        ),
-        (
-            AppFault::Work(WorkFault::Memory),
-            "cmh: work: out of memory\n",
-            4,
-        ),
-        (
-            AppFault::Work(WorkFault::WorkerLost),
-            "cmh: work: worker lost\n",
-            4,
-        ),
-        (AppFault::NoSuchProcess, "cmh: no such process\n", 2),
-        (
-            AppFault::Run(RunFault::NotIdle),
-            "cmh: trace: not idle\n",
-            2,
-        ),
-        (
-            AppFault::Run(RunFault::TooManyChoices),
-            "cmh: trace: too many choices\n",
-            2,
-        ),
-        (
-            AppFault::Run(RunFault::BadRestarts),
-            "cmh: trace: bad restarts\n",
-            2,
-        ),
-        (
-            AppFault::Run(RunFault::Memory),
-            "cmh: trace: out of memory\n",
-            4,
-        ),
-        (
-            AppFault::Report(ReportFault::Memory),
-            "cmh: report: out of memory\n",
-            4,
-        ),
-        (
-            AppFault::WriteFault(7),
-            "cmh: write fault after 7 bytes\n",
-            4,
-        ),
+        ("dump: out of memory", Dump(DumpFault::Memory), 4),
+        ("dump: read fault", Dump(DumpFault::ReadFault), 4),
+        ("dump: bad process 3", Dump(DumpFault::BadProcess(3)), 1),
+        ("work: out of memory", Work(WorkFault::Memory), 4),
+        ("work: worker lost", Work(WorkFault::WorkerLost), 4),
+        ("no such process", NoSuchProcess, 2),
+        ("trace: not idle", Run(RunFault::NotIdle), 2),
+        ("trace: too many choices", Run(RunFault::TooManyChoices), 2),
+        ("trace: bad restarts", Run(RunFault::BadRestarts), 2),
+        ("trace: out of memory", Run(RunFault::Memory), 4),
+        ("report: out of memory", Report(ReportFault::Memory), 4),
+        ("write fault after 7654321 bytes", WriteFault(7654321), 4),
     ];
-    for (fault, line, status) in rows {
-        assert!(rt; tells(rt, &fault, line, status), "{line}");
+    for (text, fault, status) in rows {
+        let mut err = Page::new(rt.alloc());
+        let answer = fail(&fault, &mut WriteOf::new(&mut err));
+        assert!(rt; is_line(rt.alloc(), &err, text)?, "{text}");
+        assert_eq!(rt; answer, status, "{text}");
     }
+    Ok(())
 }
 
 #[test]
-fn faults_of_lists(rt: HostRuntime) {
+fn faults_of_lists(rt: HostRuntime) -> Result<(), AllocError> {
     let rows = [
-        (
-            "choices",
-            ListFault::BadNumber(3),
-            "cmh: choices: bad number 3\n",
-            2,
-        ),
-        (
-            "choices",
-            ListFault::TooManyNumbers,
-            "cmh: choices: too many numbers\n",
-            2,
-        ),
-        (
-            "choices",
-            ListFault::Memory,
-            "cmh: choices: out of memory\n",
-            4,
-        ),
-        (
-            "cuts",
-            ListFault::BadNumber(0),
-            "cmh: cuts: bad number 0\n",
-            2,
-        ),
-        (
-            "cuts",
-            ListFault::TooManyNumbers,
-            "cmh: cuts: too many numbers\n",
-            2,
-        ),
-        ("cuts", ListFault::Memory, "cmh: cuts: out of memory\n", 4),
+        ("cuts: bad number 3", ListFault::BadNumber(3), 2),
+        ("cuts: too many numbers", ListFault::TooManyNumbers, 2),
+        ("cuts: out of memory", ListFault::Memory, 4),
     ];
-    for (option, fault, line, status) in rows {
-        let mut err = page(rt.alloc(), 100);
-        let answer = refuse_list(option, &fault, &mut WriteOf::new(&mut err));
-        assert!(rt; is(&err, line), "{line}");
-        assert_eq!(rt; answer, status, "{line}");
+    for (text, fault, status) in rows {
+        let mut err = Page::new(rt.alloc());
+        let answer = refuse_list("cuts", &fault, &mut WriteOf::new(&mut err));
+        assert!(rt; is_line(rt.alloc(), &err, text)?, "{text}");
+        assert_eq!(rt; answer, status, "{text}");
     }
+    Ok(())
 }
 
 #[test]
-fn faults_of_plans(rt: HostRuntime) {
+fn faults_of_plans(rt: HostRuntime) -> Result<(), AllocError> {
     let rows = [
-        (PlanFault::BadWorkers, "cmh: plan: bad workers\n", 2),
-        (PlanFault::TooManyCuts, "cmh: plan: too many cuts\n", 2),
-        (
-            PlanFault::TooManyChoices,
-            "cmh: plan: too many choices\n",
-            2,
-        ),
-        (PlanFault::Memory, "cmh: plan: out of memory\n", 4),
+        ("plan: bad workers", PlanFault::BadWorkers, 2),
+        ("plan: too many cuts", PlanFault::TooManyCuts, 2),
+        ("plan: too many choices", PlanFault::TooManyChoices, 2),
+        ("plan: out of memory", PlanFault::Memory, 4),
     ];
-    for (fault, line, status) in rows {
-        let mut err = page(rt.alloc(), 100);
+    for (text, fault, status) in rows {
+        let mut err = Page::new(rt.alloc());
         let answer = refuse_plan(&fault, &mut WriteOf::new(&mut err));
-        assert!(rt; is(&err, line), "{line}");
-        assert_eq!(rt; answer, status, "{line}");
+        assert!(rt; is_line(rt.alloc(), &err, text)?, "{text}");
+        assert_eq!(rt; answer, status, "{text}");
     }
+    Ok(())
 }

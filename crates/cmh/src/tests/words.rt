@@ -1,83 +1,73 @@
-//! The words of the command line, and the texts that answer them.
+//! Words that ask for a text, or are refused. Nothing is read for them: the source fails at its first byte, and that
+//! fault would be the answer.
 
-use super::{EMPTY, expect, expect_eq, expect_has, is, run};
-use cmh_command::{Request, read_words};
-use std::test::Fail;
-
-/// The output is just the text that is asked for.
-#[test]
-fn texts_that_are_asked_for(rt: HostRuntime) -> Result<(), Fail> {
-    let rows: [&[&str]; 5] = [
-        &["cmh", "--help"],
-        &["cmh", "--version"],
-        &["cmh", "analyse", "--help"],
-        &["cmh", "trace", "-h"],
-        &["cmh", "-V"],
-    ];
-    for words in rows {
-        let text = match read_words(rt.alloc(), words)? {
-            Request::Show(text) => text,
-            _ => String::new(rt.alloc()),
-        };
-        let ran = run(&rt, words, EMPTY);
-        assert!(rt; is(&ran.out, &text), "{text}");
-        assert!(rt; text.len() > 9, "{text}");
-        assert_eq!(rt; ran.status, 0, "{text}");
-    }
-    Ok(())
-}
+use super::devices::Broken;
+use super::{expect_eq, has, run_on};
+use crate::{ListFault, MAX_NUMBERS, read_list};
 
 #[test]
-fn what_help_says(rt: HostRuntime) {
-    let rows: [(&[&str], &str); 6] = [
+fn help_and_version(rt: HostRuntime) {
+    let rows: [(&[&str], &str); 5] = [
         (&["cmh", "--help"], "cmh analyse < dump.json"),
         (&["cmh", "--help"], "  3  some process is deadlocked"),
-        (&["cmh", "--help"], "docs/DUMPS.md"),
-        (
-            &["cmh", "analyse", "--help"],
-            "None of these options changes a byte of the report.",
-        ),
         (
             &["cmh", "analyse", "--help"],
             "Usage: cmh analyse [OPTIONS] < DUMP",
         ),
         (
-            &["cmh", "trace", "--help"],
+            &["cmh", "trace", "-h"],
             "Usage: cmh trace [OPTIONS] NAME < DUMP",
         ),
+        (&["cmh", "--version"], "cmh "),
     ];
     for (words, text) in rows {
-        let ran = run(&rt, words, EMPTY);
-        expect_has(&rt, &ran.out, text);
-        expect_eq(&rt, ran.status, 0);
+        let ran = run_on(&rt, words, Broken {});
+        assert!(rt; has(&ran.out, text), "{text}");
+        assert!(rt; ran.err.bytes.is_empty(), "{text}");
+        assert_eq!(rt; ran.status, 0, "{text}");
     }
 }
 
 #[test]
-fn refused_words_lead_on(rt: HostRuntime) {
-    let rows: [(&[&str], &str); 6] = [
+fn refused_words(rt: HostRuntime) {
+    let rows: [(&[&str], &str); 10] = [
+        (&["cmh"], "Usage: cmh"),
+        (&["cmh", "analyze"], "Usage: cmh"),
+        (&["cmh", "analyse", "--workers", "0"], "--workers"),
+        (&["cmh", "analyse", "--workers", "65"], "--workers"),
+        (&["cmh", "trace"], "NAME"),
         (
-            &["cmh", "analyse", "dump.json"],
-            "cmh analyse [OPTIONS] < DUMP",
+            &["cmh", "analyse", "--cuts", "1,,2"],
+            "cmh: cuts: bad number 1\n",
         ),
         (
-            &["cmh", "trace", "p", "dump.json"],
-            "cmh trace [OPTIONS] NAME < DUMP",
+            &["cmh", "analyse", "--choices", "1,,2"],
+            "cmh: choices: bad number 1\n",
         ),
-        (&["cmh", "analyse", "--workers", "+4"], "'--workers <N>'"),
         (
-            &["cmh", "analyse", "--workers", "0", "--cuts", "1,1"],
-            "--workers",
+            &["cmh", "analyse", "--choices", "x", "--cuts", "1,y"],
+            "cmh: cuts: bad number 1\n",
         ),
-        (&["cmh", "analyse", "\u{1b}[31m"], "\\u{1b}[31m"),
-        (&["cmh", "\u{7}"], "\\u{7}"),
+        (
+            &["cmh", "trace", "p", "--choices", "x"],
+            "cmh: choices: bad number 0\n",
+        ),
+        (
+            &["cmh", "trace", "x", "--choices", "18446744073709551616"],
+            "cmh: choices: bad number 0\n",
+        ),
     ];
     for (words, text) in rows {
-        let ran = run(&rt, words, EMPTY);
-        expect_has(&rt, &ran.err, text);
-        let raw = ran.err.bytes.iter().any(|b| *b < 32 && *b != 10);
-        assert!(rt; !raw, "{text}");
-        expect(&rt, is(&ran.out, ""));
-        expect_eq(&rt, ran.status, 2);
+        let ran = run_on(&rt, words, Broken {});
+        assert!(rt; ran.out.bytes.is_empty(), "{words:?}");
+        assert!(rt; has(&ran.err, text), "{words:?}");
+        assert_eq!(rt; ran.status, 2, "{words:?}");
     }
+}
+
+#[test]
+fn lists_are_passed_on(rt: HostRuntime) {
+    let fault = read_list(rt.alloc(), "1,,2").err();
+    expect_eq(&rt, fault, Some(ListFault::BadNumber(1)));
+    expect_eq(&rt, MAX_NUMBERS, 65_536);
 }
