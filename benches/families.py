@@ -1,12 +1,13 @@
 #!/usr/bin/env python3
 """Measures reports of all families of dumps beside a plain search, with one processor and with several.
 
-    benches/families.py [--times N] [--sizes LIST] [--families LIST] PROGRAM [BEFORE]
+    benches/families.py [--times N] [--sizes LIST] [--families LIST] [--instructions] PROGRAM [BEFORE]
 
 Makes the dumps, runs the programs on each in turn, and prints a table for docs/PERFORMANCE.md: the least time of N
 rounds, from the start of a process to its end, and the peak memory of one more run. The plain search
 (benches/plain_search) is built by cargo from Debian's packages; it always has one processor. All programs have to
-print the same bytes. Run it while nothing else runs.
+print the same bytes. Run it while nothing else runs. With --instructions it counts these by valgrind, with one worker,
+and no time.
 """
 
 import argparse
@@ -19,7 +20,7 @@ import subprocess
 import sys
 import tempfile
 
-from measure import MIB, dump, heading, peak, run, write
+from measure import MIB, dump, heading, instructions, peak, run, write
 
 HERE = os.path.dirname(os.path.realpath(__file__))
 REGISTRY = "/usr/share/cargo/registry"
@@ -181,21 +182,46 @@ def cells(plain, one, several, beyond, beyond_of_peer):
     return times + [f"{beyond:.1f} MiB", f"{beyond_of_peer:.1f} MiB"]
 
 
+def counts(family, size, peer, programs, room):
+    """A row for each program: its name, and the millions of instructions of the peer and its own, with one worker."""
+    source = f"{room}/{family} {size}"
+    write(source, dump(FAMILIES[family](size), SITES))
+    plan = ["--workers", "1", *options(family, size)[2:]]
+    plain, *ours = [instructions(words, source) for words in ([peer], *([it, "analyse", *plan] for it in programs))]
+    os.remove(source)
+    if None in (plain, *ours):
+        sys.exit("valgrind isn't there")
+    for program, own in zip(programs, ours):
+        yield program, plain, own
+
+
 def line(words):
     print("| " + " | ".join(words) + " |", flush=True)
 
 
 def table(given, peer, room):
     count = len(processors(SEVERAL))
-    head = ["Family", "Size", "Plain search", "1 processor", "Ratio", f"{count} processors", "Ratio"]
+    head = ["Plain search", "1 processor", "Ratio", f"{count} processors", "Ratio"]
     head += ["Memory beyond dump and text", "that of the plain search"]
+    if given.instructions:
+        head = ["Millions of instructions of the plain search", "of the program, with one worker", "Ratio"]
     named = {given.before: ["before"], given.program: ["now"]} if given.before else {given.program: []}
-    line(head[:2] + (["Program"] if given.before else []) + head[2:])
-    print("|" + "---|" * (len(head) + bool(given.before)))
+    line(["Family", "Size"] + (["Program"] if given.before else []) + head)
+    print("|" + "---|" * (2 + len(head) + bool(given.before)))
     for family in given.families:
         for size in given.sizes:
-            for program, *figures in rows(family, size, peer, list(named), room, given.times):
-                line([family, f"{size:,}", *named[program], *cells(*figures)])
+            for program, *shown in found(given, family, size, peer, list(named), room):
+                line([family, f"{size:,}", *named[program], *shown])
+
+
+def found(given, family, size, peer, programs, room):
+    """For each program its name and what is shown of it."""
+    if given.instructions:
+        for program, plain, own in counts(family, size, peer, programs, room):
+            yield program, f"{plain / 1e6:.1f}", f"{own / 1e6:.1f}", f"{own / plain:.2f}"
+    else:
+        for program, *figures in rows(family, size, peer, programs, room, given.times):
+            yield program, *cells(*figures)
 
 
 # The command line
@@ -220,12 +246,13 @@ def main():
     words.add_argument("program")
     words.add_argument("before", nargs="?")
     words.add_argument("--times", type=int, default=5, help="rounds, of which the least time counts")
-    words.add_argument("--sizes", type=sizes, default=SIZES, help="numbers from 64 to 4096, parted by commas")
+    words.add_argument("--sizes", type=sizes, default=SIZES, help="numbers from 64 to 4096, comma-separated")
     words.add_argument("--families", type=families, default=list(FAMILIES), help=", ".join(FAMILIES))
+    words.add_argument("--instructions", action="store_true", help="count instructions by valgrind, and no time")
     given = words.parse_args()
     with tempfile.TemporaryDirectory() as room:
         peer = build(room)
-        print(f"{heading(given.times)}.\n", flush=True)
+        print(f"{heading(0 if given.instructions else given.times)}.\n", flush=True)
         table(given, peer, room)
 
 

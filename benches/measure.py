@@ -1,10 +1,11 @@
-"""What the scripts of this folder share: dumps, how long a program takes and how much memory, and the machine."""
+"""What the scripts of this folder share: dumps, what a program takes in time, memory and instructions, the machine."""
 
 import ctypes
 import datetime
 import json
 import os
 import platform
+import re
 import subprocess
 import sys
 import time
@@ -65,6 +66,18 @@ def peak(words, source):
     return used.ru_maxrss * 1024
 
 
+def instructions(words, source):
+    """How many instructions a program takes, where valgrind is there."""
+    counter = ["valgrind", "--tool=callgrind", "--callgrind-out-file=/dev/null"]
+    try:
+        with open(source, "rb") as file:
+            ran = subprocess.run([*counter, *words], stdin=file, capture_output=True, check=False)
+    except FileNotFoundError:
+        return None
+    found = re.search(r"Collected : (\d+)", ran.stderr.decode())
+    return int(found[1]) if found else None
+
+
 def machine():
     with open("/proc/cpuinfo", encoding="utf-8") as info:
         models = [line.split(":")[1].strip() for line in info if line.startswith("model name")]
@@ -73,5 +86,6 @@ def machine():
 
 
 def heading(times):
-    """The line before a table."""
-    return f"{datetime.date.today().isoformat()}, {machine()}; least of {times} rounds"
+    """The line before a table of times, or of counts where there are no rounds."""
+    rounds = f"; least of {times} rounds" if times else ""
+    return f"{datetime.date.today().isoformat()}, {machine()}{rounds}"

@@ -11,12 +11,11 @@ least time counts. Instructions are counted by valgrind. Run it while nothing el
 
 import argparse
 import os
-import re
 import subprocess
 import tempfile
 
 from families import path, up
-from measure import MIB, dump, heading, peak, run, write
+from measure import MIB, dump, heading, instructions, peak, run, write
 
 HERE = os.path.dirname(os.path.realpath(__file__))
 
@@ -24,18 +23,6 @@ HERE = os.path.dirname(os.path.realpath(__file__))
 def lines(waiting):
     """A dump for the plain loop."""
     return "".join("active\n" if row is None else " ".join(map(str, row)) + "\n" for row in waiting).encode()
-
-
-def instructions(words, source):
-    """How many instructions a program takes, where valgrind is there."""
-    counter = ["valgrind", "--tool=callgrind", "--callgrind-out-file=/dev/null"]
-    try:
-        with open(source, "rb") as file:
-            ran = subprocess.run([*counter, *words], stdin=file, capture_output=True, check=False)
-    except FileNotFoundError:
-        return None
-    found = re.search(r"Collected : (\d+)", ran.stderr.decode())
-    return int(found[1]) if found else None
 
 
 def analysis(program):
