@@ -1,0 +1,227 @@
+"""The states of Python programs as text: what cmh_state.py prints, or what faulthandler does, read into looks.
+
+A look is what one state has of one OS process: its threads, its tasks, its event loops. Lines that stand between those
+of a state, such as a log's, are left out.
+"""
+from __future__ import annotations
+
+import json
+import os
+import re
+from dataclasses import dataclass, field
+from typing import Dict, List, Optional
+
+from ..files import Refusal, shown
+
+MARK = "cmh-state "
+VERSION = 1
+STANDARD = re.compile(r"/lib(?:64)?/python3(?:\.\d+)?/(?!(?:site|dist)-packages/)(.*)$|^<frozen (.*)>$")
+PACKAGE = re.compile(r"/(?:site|dist)-packages/(.*)$")
+# Frames of the library that begin the work of a thread, a task or a worker.
+BEGINS = re.compile(r"threading\.(Thread\.)?(_bootstrap|_bootstrap_inner|run)$|asyncio\.events\.Handle\._run$"
+                    r"|concurrent\.futures\.(thread\.(_WorkItem\.run|_worker)|process\._process_\w+)$"
+                    r"|multiprocessing\.queues\.(Queue\.)?_feed$"
+                    r"|multiprocessing\.(pool\.(worker|mapstar)|process\.BaseProcess\.(run|_bootstrap))$")
+FORKED = "multiprocessing.process.BaseProcess._bootstrap"  # what stands outside of it is what the parent did
+FAULT_HEAD = re.compile(r"(?:Current thread|Thread) (0x[0-9a-f]+)(?: \[(.*)\])? \(most recent call first\):$")
+FAULT_FRAME = re.compile(r'  File "(.*)", line (\d+|\?\?\?)(?: in (.*))?$')
+
+
+@dataclass
+class Frame:
+    """A frame: `at` is MODULE.FUNCTION, `has` what the state knows of its variables, `kind` whose code it is."""
+
+    at: str
+    file: str
+    line: int
+    has: Dict[str, object]
+    kind: str  # "own", "package" or "standard"
+    call: Optional[dict] = None
+
+
+@dataclass
+class Row:
+    """A thread or a task. `key` tells it from the others of its process, `more` is the row of the state."""
+
+    key: object
+    name: str
+    frames: List[Frame]
+    more: dict
+
+
+@dataclass
+class Look:
+    """A state of one OS process. `seconds` is the time between the two looks that cmh_state.py takes."""
+
+    where: str
+    process: str
+    pid: int
+    seconds: float = 0
+    threads: Dict[object, Row] = field(default_factory=dict)
+    tasks: Dict[object, Row] = field(default_factory=dict)
+    loops: Dict[object, dict] = field(default_factory=dict)
+    asked: Dict[object, dict] = field(default_factory=dict)
+    is_whole: bool = True
+    by_faulthandler: bool = False
+    warnings: List[str] = field(default_factory=list)
+
+
+def looks_of(state):
+    """Returns the looks of a text in their order. Raises Refusal if it has none."""
+    lines = state.text.split("\n")
+    found = looks_of_module(state.path, lines) if MARK in state.text else looks_of_faulthandler(state.path, lines)
+    if not found:
+        raise Refusal(f"{shown(state.path)}: it has no line of cmh_state.py and none of faulthandler, such as "
+                      "'Thread 0x.. (most recent call first):'")
+    return found
+
+
+# What cmh_state.py prints
+
+
+def looks_of_module(path, lines):
+    """Each row says of which process it is, so that the lines of several may stand between each other."""
+    looks, open_looks, rows = [], {}, {}
+    for at, line in enumerate(lines, 1):
+        text = line.partition(MARK)[2]
+        if not text:
+            continue
+        row = row_of(text)
+        pid = None if row is None else row.get("pid" if "version" in row else "end" if "end" in row else "of")
+        if row is not None and "version" in row:
+            look = head_of(row, path, at)
+            close(open_looks.get(pid), path)
+            open_looks[pid], rows[pid] = look, 0
+            looks.append(look)
+        elif row is None or not isinstance(pid, int) or pid not in open_looks:
+            note_missing(open_looks, path, at)
+        elif "end" in row:
+            look = open_looks.pop(pid)
+            look.is_whole = look.is_whole and row.get("rows") == rows[pid]
+            close(look, path, ended=True)
+        else:
+            rows[pid] += 1
+            add_row(open_looks[pid], row, path, at)
+    for look in open_looks.values():
+        close(look, path)
+    return looks
+
+
+def note_missing(open_looks, path, at):
+    """A line that can't be read may be of any state that is open. Raises Refusal if none is."""
+    where = f"{shown(path)}:{at}: this line of a state isn't understood"
+    if not open_looks:
+        raise Refusal(f"{where}, or the first line of its state is missing")
+    for look in open_looks.values():
+        look.is_whole = False
+        look.warnings.append(f"{where}, so that who stands there is missing")
+
+
+def row_of(text):
+    """The object of a line, or None."""
+    try:
+        row = json.loads(text)
+    except (ValueError, RecursionError):
+        return None
+    return row if isinstance(row, dict) else None
+
+
+def head_of(row, path, at):
+    if row["version"] != VERSION:
+        raise Refusal(f"{shown(path)}:{at}: a state of version {shown(str(row['version']))}, and {VERSION} is read")
+    name, pid, seconds = row.get("process"), row.get("pid"), row.get("seconds")
+    if not isinstance(name, str) or type(pid) is not int or not isinstance(seconds, (int, float)):
+        raise Refusal(f"{shown(path)}:{at}: the first line of a state without 'process', 'pid' or 'seconds'")
+    look = Look(f"{path}:{at}", name, pid, seconds)
+    for word in row.get("unseen") or ():
+        look.warnings.append(f"process {pid} has loaded {shown(str(word))}: who waits in it is not seen")
+    return look
+
+
+def close(look, path, ended=False):
+    """Says what a state lacks that has no last line, or other rows than that counts."""
+    if look is None:
+        return
+    look.is_whole = look.is_whole and ended
+    if not look.is_whole:
+        look.warnings.append(f"{shown(path)}: the state of process {look.pid} is not whole: who is missing is unknown")
+
+
+def add_row(look, row, path, at):
+    """Adds a row to its look. One that is of no known form, as with a list for a key, counts as missing."""
+    try:
+        hash((row.get("loop"), row.get("thread"), row.get("current"), tuple(row.get("sets") or ())))
+        if "thread" in row and "frames" in row:
+            add_one(look.threads, int(row["thread"]), row)
+        elif "task" in row:
+            add_one(look.tasks, str(row["task"]), row)
+        elif "runs" in row:
+            look.loops[row["runs"]] = row
+        elif "asked" in row:
+            look.asked[str(row["asked"])] = row
+        elif "child" not in row:
+            raise TypeError
+    except (TypeError, KeyError, ValueError, AttributeError):
+        look.is_whole = False
+        look.warnings.append(f"{shown(path)}:{at}: this line of a state isn't understood, so that who stands there is "
+                             "missing")
+
+
+def add_one(rows, key, row):
+    frames = [frame_of(each) for each in row["frames"] if "in" in each]
+    ends = [at for at, each in enumerate(frames) if at and each.at == FORKED]
+    frames = frames[:ends[0]] if ends else frames
+    if frames and isinstance(row.get("call"), dict):
+        frames[0].call = row["call"]
+    rows[key] = Row(key, str(row["name"]), frames, row)
+
+
+def frame_of(row):
+    has = row.get("has")
+    return Frame(str(row["in"]), str(row["file"]), int(row["line"]), has if isinstance(has, dict) else {},
+                 kind_of(str(row["file"])))
+
+
+def kind_of(path):
+    if STANDARD.search(path):
+        return "standard"
+    return "package" if PACKAGE.search(path) else "own"
+
+
+# What faulthandler prints
+
+
+def looks_of_faulthandler(path, lines):
+    """A thread that stands again begins another dump."""
+    looks, row = [], None
+    for line in lines:
+        line = line.rstrip("\r")
+        head, step = FAULT_HEAD.search(line), FAULT_FRAME.search(line)
+        if head:
+            if not looks or head[1] in looks[-1].threads:
+                number = len(looks) + 1
+                looks.append(Look(path, f"dump-{number}", number, by_faulthandler=True))
+            row = Row(head[1], head[2] or "", [], {})
+            looks[-1].threads[head[1]] = row
+        elif step and row is not None:
+            row.frames.append(fault_frame(*step.groups()))
+        elif row is not None and line.strip() and not line.startswith("  "):
+            row = None
+    for look in looks:
+        for row in look.threads.values():
+            row.name = row.name or thread_name(row)
+    return looks
+
+
+def fault_frame(file, line, function):
+    found = STANDARD.search(file) or PACKAGE.search(file)
+    inner = (found[1] or "") if found else os.path.basename(file)
+    module = re.sub(r"\.py$|/__init__\.py$", "", inner).replace("/", ".")
+    return Frame(f"{module}.{function or '?'}", file, int(line) if line.isdigit() else 0, {}, kind_of(file))
+
+
+def thread_name(row):
+    """faulthandler shows no names: the function that a thread began in, and its number."""
+    inner = [frame for frame in row.frames if not re.match(r"threading\.(_bootstrap|_bootstrap_inner|run)$", frame.at)]
+    last = inner[-1].at.split(".")[-1] if inner else "thread"
+    return f"{'main' if last == '<module>' else last}/{row.key}"
