@@ -1,4 +1,5 @@
-//! Adding the rows of a posting, in a hold for writing.
+//! Adding the rows of a posting, in a hold for writing. The new rows are counted by a pass of loads before any is
+//! stored, so that the last one is known when it is stored.
 
 ghost use Rattle.std.specs.Prelude.{◌≡◌, ℕ, ◌+◌, ◌<◌, ◌++◌, length, is_none, true, Contains, IsTrue};
 ghost use Rattle.cmh_graph.specs.declared.TheConstants.{MAX_PROCESSES};

@@ -1,4 +1,5 @@
-//! The words of the lock and of the history, their seats, and what a seat does with them.
+//! The words of the lock and of the history, their seats, and what a seat does with them. No call requires room for a
+//! row: rows name different idle processes of the graph, so they are no more than its processes.
 
 ghost use Rattle.std.specs.Prelude.{◌≡◌, ◌<◌, ◌≤◌, ◌++◌, [], ◌+◌};
 ghost use Rattle.std.specs.Slots.{slots_len, IsFull};
