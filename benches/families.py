@@ -3,15 +3,14 @@
 
     benches/families.py [--times N] [--sizes LIST] [--families LIST] [--instructions] PROGRAM [BEFORE]
 
-Makes the dumps, runs the programs on each in turn, and prints a table for docs/PERFORMANCE.md: the least time of N
-rounds, from the start of a process to its end, and the peak memory of one more run. The plain search
-(benches/plain_search) is built by cargo from Debian's packages; it always has one processor. All programs have to
-print the same bytes. Run it while nothing else runs. With --instructions it counts these by valgrind, with one worker,
-and no time.
+Makes the dumps, runs the programs on each in turn, and prints a table: the least time of N rounds, from the start of a
+process to its end, and the peak memory of one more run. BEFORE is the program of an earlier commit. The plain search
+(benches/plain_search) is built by cargo from Debian's packages; it always has one processor. All programs have to print
+the same bytes. Run it while nothing else runs. With --instructions it counts these by valgrind, with one worker, and no
+time.
 """
 
 import argparse
-import filecmp
 import glob
 import os
 import random
@@ -20,7 +19,7 @@ import subprocess
 import sys
 import tempfile
 
-from measure import MIB, dump, heading, instructions, peak, run, write
+from measure import MIB, SEVERAL, dump, heading, instructions, least, milliseconds, peak, processors, table, write
 
 HERE = os.path.dirname(os.path.realpath(__file__))
 REGISTRY = "/usr/share/cargo/registry"
@@ -29,8 +28,6 @@ SIZES = [512, 1024, 2048, 4096]
 SITES = 64
 EACH = 16  # how many each waits for, where the family doesn't say it
 KNOT = 31  # how many each of a knot waits for in it: with one more for each of half of 4,096, 65,536 in all
-SEVERAL = 4  # processors
-ALLOWED = os.sched_getaffinity(0)
 
 
 # Families: for each process its dependents, or None where it is active
@@ -130,38 +127,8 @@ def build(room):
 # Measuring
 
 
-def processors(count):
-    """The first few of the processors that this script was given, or all where there are fewer."""
-    return set(sorted(ALLOWED)[:count])
-
-
-def seconds(words, count, source, out):
-    """How long a program takes on so many processors; what it starts is given those of this script."""
-    os.sched_setaffinity(0, processors(count))
-    try:
-        return run(words, source, out)[0]
-    finally:
-        os.sched_setaffinity(0, ALLOWED)
-
-
-def least(columns, source, room, times):
-    """The least seconds of each column's program, and the length of the text.
-
-    The programs take turns, and all have to print what the first does.
-    """
-    best = [float("inf")] * len(columns)
-    wanted, got = f"{room}/wanted.txt", f"{room}/got.txt"
-    for _ in range(times):
-        for place, (words, count) in enumerate(columns):
-            out = got if place else wanted
-            best[place] = min(best[place], seconds(words, count, source, out))
-            if place and not filecmp.cmp(wanted, got, shallow=False):
-                sys.exit(f"{words[0]} and the plain search print different bytes for {os.path.basename(source)}")
-    return best, os.path.getsize(wanted)
-
-
-def rows(family, size, peer, programs, room, times):
-    """A row for each program: its name, the peer's time, its own with one processor and with several, memory."""
+def measured(family, size, peer, programs, room, times):
+    """For each program the cells of its row: the peer's time, its own with one processor and with several, memory."""
     source = f"{room}/{family} {size}"
     write(source, dump(FAMILIES[family](size), SITES))
     commands = [[program, "analyse", *options(family, size)] for program in programs]
@@ -170,20 +137,15 @@ def rows(family, size, peer, programs, room, times):
     held = os.path.getsize(source) + text
     beyond = [(peak(words, source) - held) / MIB for words in ([peer], *commands)]
     os.remove(source)
-    for place, program in enumerate(programs):
-        one, several = ours[2 * place : 2 * place + 2]
-        yield program, plain, one, several, beyond[place + 1], beyond[0]
+    for place in range(len(programs)):
+        shown = [milliseconds(plain)]
+        for took in ours[2 * place : 2 * place + 2]:
+            shown += [milliseconds(took), f"{took / plain:.1f}"]
+        yield [*shown, f"{beyond[place + 1]:.1f}", f"{beyond[0]:.1f}"]
 
 
-def cells(plain, one, several, beyond, beyond_of_peer):
-    times = [f"{plain * 1000:.1f} ms"]
-    for took in (one, several):
-        times += [f"{took * 1000:.1f} ms", f"{took / plain:.1f}"]
-    return times + [f"{beyond:.1f} MiB", f"{beyond_of_peer:.1f} MiB"]
-
-
-def counts(family, size, peer, programs, room):
-    """A row for each program: its name, and the millions of instructions of the peer and its own, with one worker."""
+def counted(family, size, peer, programs, room, _times):
+    """For each program the cells of its row: the millions of instructions of the peer and its own, with one worker."""
     source = f"{room}/{family} {size}"
     write(source, dump(FAMILIES[family](size), SITES))
     plan = ["--workers", "1", *options(family, size)[2:]]
@@ -191,47 +153,35 @@ def counts(family, size, peer, programs, room):
     os.remove(source)
     if None in (plain, *ours):
         sys.exit("valgrind isn't there")
-    for program, own in zip(programs, ours):
-        yield program, plain, own
+    for own in ours:
+        yield [f"{plain / 1e6:.1f}", f"{own / 1e6:.1f}", f"{own / plain:.2f}"]
 
 
-def line(words):
-    print("| " + " | ".join(words) + " |", flush=True)
+TIMES = ["Plain search, ms", "1 processor, ms", "Ratio", f"{len(processors(SEVERAL))} processors, ms", "Ratio"]
+TIMES += ["Memory beyond dump and text, MiB", "that of the plain search"]
+COUNTS = ["Millions of instructions of the plain search", "of the program, one worker", "Ratio"]
 
 
-def table(given, peer, room):
-    count = len(processors(SEVERAL))
-    head = ["Plain search", "1 processor", "Ratio", f"{count} processors", "Ratio"]
-    head += ["Memory beyond dump and text", "that of the plain search"]
-    if given.instructions:
-        head = ["Millions of instructions of the plain search", "of the program, with one worker", "Ratio"]
-    named = {given.before: ["before"], given.program: ["now"]} if given.before else {given.program: []}
-    line(["Family", "Size"] + (["Program"] if given.before else []) + head)
-    print("|" + "---|" * (2 + len(head) + bool(given.before)))
-    for family in given.families:
-        for size in given.sizes:
-            for program, *shown in found(given, family, size, peer, list(named), room):
-                line([family, f"{size:,}", *named[program], *shown])
-
-
-def found(given, family, size, peer, programs, room):
-    """For each program its name and what is shown of it."""
-    if given.instructions:
-        for program, plain, own in counts(family, size, peer, programs, room):
-            yield program, f"{plain / 1e6:.1f}", f"{own / 1e6:.1f}", f"{own / plain:.2f}"
-    else:
-        for program, *figures in rows(family, size, peer, programs, room, given.times):
-            yield program, *cells(*figures)
+def rows(named, shown, at, figures, peer, room, times):
+    """A row for each family that is shown, each size and each of the programs, which `named` has by their names."""
+    for family in shown:
+        for size in at:
+            found = figures(family, size, peer, list(named.values()), room, times)
+            yield from ([family, f"{size:,}", name, *cells] for name, cells in zip(named, found))
 
 
 # The command line
 
 
-def sizes(text):
-    found = [int(item) for item in text.split(",")]
-    if not all(64 <= size <= 4096 for size in found):
+def size_in_range(text):
+    size = int(text)
+    if not 64 <= size <= 4096:
         raise ValueError
-    return found
+    return size
+
+
+def sizes(text):
+    return [size_in_range(item) for item in text.split(",")]
 
 
 def families(text):
@@ -250,10 +200,14 @@ def main():
     words.add_argument("--families", type=families, default=list(FAMILIES), help=", ".join(FAMILIES))
     words.add_argument("--instructions", action="store_true", help="count instructions by valgrind, and no time")
     given = words.parse_args()
+    named = {"before": given.before, "now": given.program} if given.before else {"now": given.program}
+    figures, head = (counted, COUNTS) if given.instructions else (measured, TIMES)
     with tempfile.TemporaryDirectory() as room:
         peer = build(room)
-        print(f"{heading(0 if given.instructions else given.times)}.\n", flush=True)
-        table(given, peer, room)
+        print(f"{heading(0 if given.instructions else given.times)}\n", flush=True)
+        found = rows(named, given.families, given.sizes, figures, peer, room, given.times)
+        for line in table(["Family", "Size", "Program", *head], found):
+            print(line, flush=True)
 
 
 if __name__ == "__main__":

@@ -2,6 +2,7 @@
 
 import ctypes
 import datetime
+import filecmp
 import json
 import os
 import platform
@@ -10,7 +11,10 @@ import subprocess
 import sys
 import time
 
+TOP = os.path.dirname(os.path.dirname(os.path.realpath(__file__)))
 MIB = 1024 * 1024
+SEVERAL = 4  # processors
+ALLOWED = os.sched_getaffinity(0)
 SUBREAPER = 36  # PR_SET_CHILD_SUBREAPER of Linux
 
 
@@ -32,15 +36,44 @@ def write(path, what):
 
 
 def run(words, source, out):
-    """Runs a program from the file `source` to the file `out`: its seconds, and its seconds of processor time."""
+    """Runs a program from the file `source` to the file `out`, and returns its seconds from start to end."""
     with open(source, "rb") as file, open(out, "wb") as sink:
         start = time.perf_counter()
         child = subprocess.Popen(words, stdin=file, stdout=sink)
-        _, status, used = os.wait4(child.pid, 0)
-        seconds = time.perf_counter() - start
-    child.returncode = os.waitstatus_to_exitcode(status)
+        child.wait()
+        took = time.perf_counter() - start
     judge(words, child.returncode)
-    return seconds, used.ru_utime + used.ru_stime
+    return took
+
+
+def processors(count):
+    """The first few of the processors that this script was given, or all where there are fewer."""
+    return set(sorted(ALLOWED)[:count])
+
+
+def seconds(words, count, source, out):
+    """How long a program takes on this many processors; what it starts is given those of this script."""
+    os.sched_setaffinity(0, processors(count))
+    try:
+        return run(words, source, out)
+    finally:
+        os.sched_setaffinity(0, ALLOWED)
+
+
+def least(columns, source, room, times):
+    """The least seconds of each column's program on its processors, and the length of the text.
+
+    The programs take turns, and all have to print what the first does.
+    """
+    best = [float("inf")] * len(columns)
+    wanted, got = f"{room}/wanted.txt", f"{room}/got.txt"
+    for _ in range(times):
+        for place, (words, count) in enumerate(columns):
+            out = got if place else wanted
+            best[place] = min(best[place], seconds(words, count, source, out))
+            if place and not filecmp.cmp(wanted, got, shallow=False):
+                sys.exit(f"{' '.join(words)} prints other bytes than {' '.join(columns[0][0])}")
+    return best, os.path.getsize(wanted)
 
 
 def judge(words, status):
@@ -85,7 +118,33 @@ def machine():
     return f"{model}, {os.cpu_count()} processors, {platform.system()} {platform.release()}"
 
 
+def commit():
+    """The commit of the checkout, or nothing where it has no history."""
+    command = ["git", "-C", TOP, "rev-parse", "--short", "HEAD"]
+    try:
+        ran = subprocess.run(command, capture_output=True, check=False)
+    except FileNotFoundError:
+        return ""
+    return ran.stdout.decode().strip()
+
+
 def heading(times):
     """The line before a table of times, or of counts where there are no rounds."""
     rounds = f"; least of {times} rounds" if times else ""
-    return f"{datetime.date.today().isoformat()}, {machine()}{rounds}"
+    at = f"; commit `{commit()}`" if commit() else ""
+    return f"{datetime.date.today().isoformat()}, {machine()}{rounds}{at}."
+
+
+def line(cells):
+    return "| " + " | ".join(cells) + " |"
+
+
+def table(head, rows):
+    """The lines of a table, each as it is there."""
+    yield line(head)
+    yield "|" + "---|" * len(head)
+    yield from map(line, rows)
+
+
+def milliseconds(took):
+    return f"{took * 1000:.1f}" if took < 0.1 else f"{took * 1000:,.0f}"
