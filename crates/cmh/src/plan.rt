@@ -1,4 +1,5 @@
-//! The plan that the words ask for: its lists, read in order.
+//! The plan that the words ask for: its lists, read in order. Cuts that nobody gives are a list too, so running out of
+//! memory for them is a fault of `cuts`.
 
 ghost use Rattle.std.specs.Prelude.{◌≡◌, ◌⊎◌, ◌≤◌, length, IfOk, IfErr, MatchOption, OnOk};
 ghost use Rattle.cmh_command.specs.List.{IsListOf};
