@@ -76,24 +76,7 @@ has_failed r e h = record {
 dump_status : (f : DumpFault) → (status_of (Dump f) ≡ REFUSED) ⊎ (status_of (Dump f) ≡ FAILED)
 dump_status dump.Memory = inr refl
 dump_status dump.ReadFault = inr refl
-dump_status dump.TooLong = inl refl
-dump_status dump.NotJson = inl refl
-dump_status dump.BadTop = inl refl
-dump_status dump.BadVersion = inl refl
-dump_status (dump.BadSites i) = inl refl
-dump_status (dump.RepeatedSite i) = inl refl
-dump_status dump.TooManySites = inl refl
-dump_status dump.TooManyProcesses = inl refl
-dump_status (dump.BadProcess i) = inl refl
-dump_status (dump.RepeatedProcess i) = inl refl
-dump_status (dump.UnknownSite i) = inl refl
-dump_status (dump.UnknownDependent i j) = inl refl
-dump_status (dump.RepeatedDependent i j) = inl refl
-dump_status (dump.ActiveWithDependents i) = inl refl
-dump_status dump.TooManyDependencies = inl refl
-dump_status dump.TooManyInTransit = inl refl
-dump_status (dump.BadInTransit i) = inl refl
-dump_status (dump.UnknownInTransit i) = inl refl
+dump_status fault = inl refl
 
 -- where the dump is refused, the status says whether by a fault of its own
 refused_dump : (r : Request) (e : Ends) (f : DumpFault) → (status_of (Dump f) ≡ REFUSED → HasRefusedDump r e)
