@@ -14,7 +14,7 @@ use Rattle.cmh_dump.specs.Name.{is_name, is_among, place_of, repeats}
 use Rattle.cmh_dump.specs.Tree.{texts_of, has_array, has_keys}
 use Rattle.cmh_dump.specs.Entry.{is_version, sites, processes, transits, Entry, entries, entry, names, is_process, is_pair}
 
--- ---- the conditions, each read where no earlier one holds
+-- ---- the conditions, of which each is looked at only where none before it holds
 
 -- the keys at the top: version 2 has one more
 abbrev pub top_keys : Data → List (List ℕ)
@@ -27,7 +27,8 @@ is_top d =
     has_keys (top_keys d) [] d && has_array (codes "sites") d && has_array (codes "processes") d
     && (not (is_version 2 d) || has_array (codes "in_transit") d)
 
--- the condition of a fault holds of the tree; the faults of a source or of bytes never do
+-- the condition of a fault holds of the tree; those of no tree never do: out of memory, a failed
+-- source, and bytes that are too many or no JSON
 abbrev pub holds : Data → DumpFault → Bool
 holds d BadTop = not (is_top d)
 holds d BadVersion = not (is_version 1 d || is_version 2 d)
@@ -70,7 +71,7 @@ top_faults = (BadTop ∷ []) ∷ (BadVersion ∷ []) ∷ []
 abbrev pub site_faults : Data → List (List DumpFault)
 site_faults d = each (sites d) BadSites ∷ each (sites d) RepeatedSite ∷ (TooManySites ∷ []) ∷ []
 
--- what can be wrong with the processes, each without the others
+-- what can be wrong with the number of processes, and with each without the others
 abbrev pub process_faults : Data → List (List DumpFault)
 process_faults d = (TooManyProcesses ∷ []) ∷ each (processes d) BadProcess ∷ []
 
@@ -78,7 +79,7 @@ process_faults d = (TooManyProcesses ∷ []) ∷ each (processes d) BadProcess �
 abbrev pub name_faults : Data → List (List DumpFault)
 name_faults d = each (processes d) RepeatedProcess ∷ []
 
--- what can be wrong with the processes beside the sites and one another
+-- what can be wrong with the sites and the dependents that processes name
 abbrev pub entry_faults : Data → List (List DumpFault)
 entry_faults d =
     each (processes d) UnknownSite
@@ -121,7 +122,7 @@ abbrev pub places_in_pair : List (List ℕ) → Data → ℕ × ℕ
 places_in_pair names t =
     (place_of names (slice_index_or (texts_of t) 0 []), place_of names (slice_index_or (texts_of t) 1 []))
 
--- the graph that the names of the tree tell
+-- the graph of the tree: each name in it becomes the place of what has that name
 abbrev pub tree_graph : Data → Graph
 tree_graph d = record {
   processes = map (process_by (sites d) (names d)) (entries d);
@@ -134,7 +135,7 @@ tree_graph d = record {
 unfoldable pub dump_of_tree : Data → Result Graph DumpFault
 dump_of_tree d = option_map_or Err (first_of (holds d) (in_order d)) (Ok (tree_graph d))
 
--- the tree of the bytes
+-- the tree of the bytes, where they are JSON
 abbrev pub tree_of : List ℕ → Option Data
 tree_of bytes = if is_utf8 bytes then read bytes else None
 

@@ -8,7 +8,7 @@ use Rattle.cmh_dump.specs.declared.TheConstants.{MAX_NAME}
 abbrev pub is_name_byte : ℕ → Bool
 is_name_byte b = is_ascii_alphanumeric b || list_any (λ c. c == b) (codes "_-.:/")
 
--- 1 to `MAX_NAME` bytes, of which the first is a letter or a digit
+-- 1 to `MAX_NAME` of these bytes, of which the first is a letter or a digit
 abbrev pub is_name : List ℕ → Bool
 is_name text =
     nat_le 1 (length text) && nat_le (length text) MAX_NAME

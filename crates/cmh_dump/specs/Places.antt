@@ -1,4 +1,4 @@
--- The first value that is none of the names, and the first place that repeats.
+-- The first value that is none of the names, and the first place of a name that repeats.
 use Rattle.std.specs.Prelude.{◌==◌, ℕ, Bool, List, not, slice_index_or, take, find, position, length, Option}
 use Rattle.std.specs.List.{list_any, range_with_len}
 use Rattle.serde_json.specs.declared.value.Value.{Value}
@@ -22,6 +22,6 @@ unknown_dependent names es = first_pair (λ e. first_unknown names e.dependents.
 abbrev pub place_repeats : List ℕ → ℕ → Bool
 place_repeats places i = list_any (λ p. p == slice_index_or places i 0) (take i places)
 
--- which place is the first that equals an earlier one
+-- the index of the first place that equals an earlier one
 abbrev pub first_repeated_place : List ℕ → Option ℕ
 first_repeated_place places = find (place_repeats places) (range_with_len 0 (length places))

@@ -22,7 +22,7 @@ entry_view e = record {
   dependents = map (λ v. text_of (view v)) e.dependents.now;
 }
 
--- the first row at which the search answers, and its answer, where the rows are counted from i
+-- the first row in which the search finds something, and what it finds; the rows are counted from i
 abbrev pub first_pair : {Y : Type 0} → (Y → Option ℕ) → ℕ → List Y → Option (ℕ × ℕ)
 first_pair search i [] = None
 first_pair search i (y ∷ ys) =
