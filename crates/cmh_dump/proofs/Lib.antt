@@ -3,6 +3,7 @@ pub mod Examples
 pub mod FirstFault
 pub mod IndexLemmas
 pub mod Keys
+pub mod MovedNames
 pub mod Pairs
 pub mod Places
 pub mod RepeatedDependents

@@ -18,7 +18,7 @@ use Rattle.cmh_dump.specs.Dump.{process_by}
 use Rattle.cmh_dump.specs.Index.{first_repeat}
 use Rattle.cmh_dump.specs.Name.{is_among, place_of, repeats}
 use Rattle.cmh_dump.specs.Places.{first_unknown, unknown_dependent, place_repeats, first_repeated_place}
-use Rattle.cmh_dump.specs.Read.{entry_view, first_pair}
+use Rattle.cmh_dump.specs.Read.{entry_view, first_pair, without_name}
 use Rattle.cmh_dump.specs.Tree.{text_of}
 use Rattle.serde_json.specs.View.{view}
 use Rattle.cmh_dump.proofs.FirstFault.Searches.{below, least_found, none_found, find_alike}
@@ -173,7 +173,7 @@ module _ (names : List (List ℕ)) where
 
   module _ (sites : List (List ℕ)) (es : List declared.Entry) (parts : List Part)
       (known : unknown_dependent names es ≡ None)
-      (made : map graph.process_of parts ≡ map (λ e. process_by sites names (entry_view e)) es) where
+      (made : map graph.process_of parts ≡ map (λ e. without_name (process_by sites names (entry_view e))) es) where
     -- a search by rows of a mapped list is one of the list for what the function makes of each row
     pairs-map : {Y Z : Type 0} (search : Z → Option ℕ) (f : Y → Z) (i : ℕ) (ys : List Y)
         → first_pair (λ y. search (f y)) i ys ≡ first_pair search i (map f ys)
@@ -186,7 +186,7 @@ module _ (names : List (List ℕ)) where
     parts_within =
         let test = λ (p : Process). list_all (λ p. nat_lt p (length names)) p.dependents in
         all-map test graph.process_of parts ∙ ap (list_all test) made
-        ∙ sym (all-map test (λ e. process_by sites names (entry_view e)) es) ∙ rows_within 0 es known
+        ∙ sym (all-map test (λ e. without_name (process_by sites names (entry_view e))) es) ∙ rows_within 0 es known
 
     -- the first place that repeats in parts made of the entries is the first repeated dependent
     pub pairs_alike : first_pair (λ part. first_repeated_place part.dependents.items) 0 parts
@@ -194,7 +194,8 @@ module _ (names : List (List ℕ)) where
     pairs_alike =
         let search = λ (p : Process). first_repeated_place p.dependents in
         pairs-map search graph.process_of 0 parts ∙ ap (first_pair search 0) made
-        ∙ sym (pairs-map search (λ e. process_by sites names (entry_view e)) 0 es) ∙ rows_alike 0 es known
+        ∙ sym (pairs-map search (λ e. without_name (process_by sites names (entry_view e))) 0 es)
+        ∙ rows_alike 0 es known
 
 -- ---- rows that are stamped
 

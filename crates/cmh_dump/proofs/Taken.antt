@@ -16,7 +16,7 @@ texts-append [] ys = refl
 texts-append (x ∷ xs) ys = ap (λ zs. x.now ∷ zs) (texts-append xs ys)
 
 -- a list with one element more at its end is mapped to one with what the function makes of it at the end
-map-last : {X Y : Type 0} (f : X → Y) (xs : List X) (x : X) → map f (xs ++ x ∷ []) ≡ map f xs ++ f x ∷ []
+pub map-last : {X Y : Type 0} (f : X → Y) (xs : List X) (x : X) → map f (xs ++ x ∷ []) ≡ map f xs ++ f x ∷ []
 map-last f [] x = refl
 map-last f (y ∷ ys) x = ap (λ zs. f y ∷ zs) (map-last f ys x)
 

@@ -4,6 +4,7 @@ use Rattle.std.specs.Global.{Vec}
 use Rattle.std.specs.Option.{option_or}
 use Rattle.serde_json.specs.Data.{Data}
 use Rattle.cmh_graph.specs.Build as graph
+use Rattle.cmh_graph.specs.Graph.{Graph, Process}
 use Rattle.cmh_graph.specs.declared.part.Part.{Part}
 use Rattle.cmh_dump.specs.declared.entry.Entry as declared
 use Rattle.cmh_dump.specs.declared.fault.DumpFault.{DumpFault}
@@ -38,9 +39,27 @@ Judges d kinds (Err e) = e ≢ Memory → first_of (holds d) kinds ≡ Some e
 
 -- ---- what the graph is built of
 
--- None of the kinds holds, and the parts and messages in transit make the graph of the tree; or the
--- fault answered is the first that holds, out of memory apart.
+-- a process with another name
+abbrev pub with_name : List ℕ → Process → Process
+with_name name p = record { name = name; site = p.site; state = p.state; dependents = p.dependents }
+
+-- a process whose name is still in the tree
+abbrev pub without_name : Process → Process
+without_name p = with_name [] p
+
+-- a graph whose names are still in the tree
+abbrev pub without_names : Graph → Graph
+without_names g = record { processes = map without_name g.processes; in_transit = g.in_transit }
+
+-- the processes, of which the first ones get these names
+abbrev pub with_names : List (List ℕ) → List Process → List Process
+with_names [] ps = ps
+with_names (name ∷ names) [] = []
+with_names (name ∷ names) (p ∷ ps) = with_name name p ∷ with_names names ps
+
+-- None of the kinds holds, and the parts and messages in transit make the graph of the tree, names
+-- apart; or the fault answered is the first that holds, out of memory apart.
 abbrev pub Builds : Data → List (List DumpFault) → Result (Vec Part × Vec (ℕ × ℕ)) DumpFault → Type 0
 Builds d kinds (Ok parts) =
-    (first_of (holds d) kinds ≡ None) × (graph.parts_graph parts.0.items parts.1.items ≡ tree_graph d)
+    (first_of (holds d) kinds ≡ None) × (graph.parts_graph parts.0.items parts.1.items ≡ without_names (tree_graph d))
 Builds d kinds (Err e) = e ≢ Memory → first_of (holds d) kinds ≡ Some e

@@ -9,15 +9,16 @@ ghost use Rattle.serde_json.specs.View.{view};
 
 use crate::entry::Entry;
 use crate::judge::{judge_top, link_entries, read_names, read_processes, read_sites};
+use crate::parts::move_names;
 use crate::transit::read_in_transit;
-use crate::tree::tree_of;
+use crate::tree::{take_elements, take_member, tree_of};
 use crate::{DumpFault, MAX_BYTES};
 use cmh_graph::{GraphFault, Part, WaitGraph};
 use indexmap::IndexSet;
 use serde_json::Value;
 use std::alloc::Global;
 
-/// What a wait graph is built of.
+/// What a wait graph is built of, without the names.
 type GraphParts = (Vec<Part>, Vec<(u32, u32)>);
 
 /// What the graph of a tree is built of, once sites, processes and their names are read.
@@ -70,11 +71,13 @@ fn read_parts(alloc: Global, tree: &Value) -> Result<GraphParts, DumpFault>
 }
 
 /// The wait graph that a tree means, or the first condition that refuses it.
-fn read_tree(alloc: Global, tree: &Value) -> Result<WaitGraph, DumpFault>
-    ensures ok { IfOk result (λ g. dump_of_tree (view tree.now) ≡ Ok g) }
-    ensures err { IfErr result (λ e. e ≢ DumpFault.Memory → dump_of_tree (view tree.now) ≡ Err e) }
+fn read_tree(alloc: Global, tree: Value) -> Result<WaitGraph, DumpFault>
+    ensures ok { IfOk result (λ g. dump_of_tree (view tree) ≡ Ok g) }
+    ensures err { IfErr result (λ e. e ≢ DumpFault.Memory → dump_of_tree (view tree) ≡ Err e) }
 {
-    let (parts, in_transit) = read_parts(alloc, tree)?;
+    let (parts, in_transit) = read_parts(alloc, &tree)?;
+    let processes = take_elements(alloc, take_member(tree, "processes"));
+    let parts = move_names(alloc, processes, parts);
     match WaitGraph::build_with(alloc, parts, &in_transit) {
         Ok(graph) => Ok(graph),
         Err(fault) => {
@@ -97,5 +100,5 @@ pub fn read_dump(alloc: Global, bytes: &[u8]) -> Result<WaitGraph, DumpFault>
         return Err(DumpFault::TooLong);
     }
     let tree = tree_of(alloc, bytes)?;
-    read_tree(alloc, &tree)
+    read_tree(alloc, tree)
 }

@@ -8,7 +8,7 @@ ghost use Rattle.cmh_graph.specs.Graph.{is_idle_state};
 ghost use Rattle.cmh_dump.specs.Dump.{is_top as is_top_lem, process_by, top_keys, top_faults, site_faults, process_faults, name_faults, entry_faults};
 ghost use Rattle.cmh_dump.specs.Entry.{is_version as is_version_lem, sites as sites_lem, entries as entries_lem, names as names_lem};
 ghost use Rattle.cmh_dump.specs.Name.{is_among};
-ghost use Rattle.cmh_dump.specs.Read.{Judges, entry_view};
+ghost use Rattle.cmh_dump.specs.Read.{Judges, entry_view, without_name};
 ghost use Rattle.cmh_dump.specs.Texts.{texts};
 ghost use Rattle.cmh_dump.specs.Tree.{has_keys as has_keys_lem};
 
@@ -158,7 +158,7 @@ fn has_too_many_dependents(entries: &[Entry<'_>]) -> bool
     false
 }
 
-/// The processes by indices, judged beside the sites and one another.
+/// The processes by indices and without their names, judged beside the sites and one another.
 pub(crate) fn link_entries(
     alloc: Global,
     entries: &[Entry<'_>],
@@ -171,8 +171,8 @@ pub(crate) fn link_entries(
         → texts sites.now.keys ≡ sites_lem d → texts names.now.keys ≡ names_lem d
         → Judges d (entry_faults d) result }
     ensures made { IfOk result (λ parts. map process_of parts.items
-        ≡ map (λ e. process_by (texts sites.now.keys) (texts names.now.keys) (entry_view e))
-        entries.now) }
+        ≡ map (λ e. without_name (process_by (texts sites.now.keys) (texts names.now.keys)
+        (entry_view e))) entries.now) }
 {
     if let Some(i) = first_unknown_site(entries, sites) {
         return Err(DumpFault::UnknownSite(i));

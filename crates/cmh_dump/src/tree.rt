@@ -166,3 +166,33 @@ pub(crate) fn has_keys(value: &Value, needed: &[&str], allowed: &[&str]) -> bool
     };
     has_each(value, needed) && has_allowed(members, needed, allowed)
 }
+
+/// The member of the object at the key, or null where none is there. The rest of the value is freed.
+pub(crate) fn take_member(mut value: Value, key: &str) -> Value
+    ensures { view result ≡ at_key key.now (view value) }
+{
+    match value.get_mut(key) {
+        Some(member) => member.take(),
+        None => Value::Null,
+    }
+}
+
+/// The elements of the array, or none where the value is none.
+pub(crate) fn take_elements(alloc: Global, value: Value) -> Vec<Value>
+    ensures { map view result.items ≡ elements_of (view value) }
+{
+    match value {
+        Value::Array(elements) => elements,
+        _ => Vec::new(alloc),
+    }
+}
+
+/// The text, or the empty one where the value is none.
+pub(crate) fn take_text(alloc: Global, value: Value) -> String
+    ensures { string_bytes result ≡ text_of (view value) }
+{
+    match value {
+        Value::String(text) => text,
+        _ => String::new(alloc),
+    }
+}

@@ -13,7 +13,7 @@ use Rattle.cmh_dump.specs.declared.fault.DumpFault.{DumpFault}
 use Rattle.cmh_dump.specs.declared.fault.DumpFault.TheVariants.{Memory}
 use Rattle.cmh_dump.specs.Dump.{holds, in_order, top_faults, site_faults, process_faults, name_faults, entry_faults, transit_faults, first_of, tree_graph, places_in_pair, process_by, dump_of_tree}
 use Rattle.cmh_dump.specs.Entry.{entries, names, sites, transits}
-use Rattle.cmh_dump.specs.Read.{entry_view, Builds}
+use Rattle.cmh_dump.specs.Read.{entry_view, Builds, without_name, without_names}
 use Rattle.cmh_dump.proofs.FirstFault.Kinds.{first_after, first_among}
 use Rattle.cmh_dump.proofs.Trees.{map-map}
 use Rattle.cmh_dump.proofs.FirstFault.WellFormed.{well_formed, refused_for_memory}
@@ -67,18 +67,20 @@ module _ (d : Data) where
   unfolding dump_of_tree
   accepted g none is = ap (λ o. option_map_or Err o (Ok (tree_graph d))) none ∙ ap Ok (sym is)
 
-  -- the parts and messages that are read make the graph of the tree
+  -- the parts and messages that are read make the graph of the tree, names apart
   pub graph_is : (parts : List Part) (messages : List (ℕ × ℕ)) (es : List declared.Entry)
       (site_names process_names : List (List ℕ)) → map entry_view es ≡ entries d → site_names ≡ sites d
       → process_names ≡ names d
-      → map graph.process_of parts ≡ map (λ e. process_by site_names process_names (entry_view e)) es
-      → messages ≡ map (places_in_pair (names d)) (transits d) → graph.parts_graph parts messages ≡ tree_graph d
+      → map graph.process_of parts ≡ map (λ e. without_name (process_by site_names process_names (entry_view e))) es
+      → messages ≡ map (places_in_pair (names d)) (transits d)
+      → graph.parts_graph parts messages ≡ without_names (tree_graph d)
   graph_is parts messages es site_names process_names written are_sites are_names made sent =
-      let processes : map graph.process_of parts ≡ map (process_by (sites d) (names d)) (entries d) =
+      let processes : map graph.process_of parts ≡ map without_name (tree_graph d).processes =
       made
-      ∙ (λ i. map (λ e. process_by (are_sites i) (are_names i) (entry_view e)) es)
-      ∙ map-map (process_by (sites d) (names d)) entry_view es
-      ∙ ap (map (process_by (sites d) (names d))) written in
+      ∙ (λ i. map (λ e. without_name (process_by (are_sites i) (are_names i) (entry_view e))) es)
+      ∙ map-map without_name (λ e. process_by (sites d) (names d) (entry_view e)) es
+      ∙ ap (map without_name) (map-map (process_by (sites d) (names d)) entry_view es
+      ∙ ap (map (process_by (sites d) (names d))) written) in
       λ i. record { processes = processes i; in_transit = sent i }
 
   -- the graph of a tree without a fault is refused as out of memory alone

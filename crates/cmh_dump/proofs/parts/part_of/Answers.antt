@@ -16,7 +16,7 @@ returns c =
       known = found.known;
       made =
           λ i. record {
-            name = c.in_ok-name.ensures.ok i;
+            name = c.new.ensures.bytes i;
             site = c.place_of.ensures i;
             state = c.args.entry.now.state;
             dependents = places i;
