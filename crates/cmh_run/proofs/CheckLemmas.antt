@@ -21,7 +21,6 @@ use Rattle.cmh_run.specs.Config.{Config, proc_at, asks_hint, after_message}
 use Rattle.cmh_run.specs.Legal.{Going, going_after, HintIsFit, any_place, EndsAs}
 use Rattle.cmh_run.specs.declared.fault.CheckFault.{CheckFault}
 use Rattle.cmh_run.specs.declared.fault.CheckFault.TheVariants.{NotIdle, NotUndelivered, FalseHint, AfterEnd, NotEnded, Memory}
-use Rattle.cmh_run.specs.Packed.{CanSend, EngagersHaveRoom}
 use Rattle.cmh_run.specs.Check.{LeadTo, HasEnded, IsUndelivered, IsLegalRun, IsFlaw, IsFirstCheckFault}
 use Rattle.cmh_run.proofs.Soundness.{runs_are_sound}
 use Rattle.cmh_run.specs.CheckState.{is_waiting, goes_like, UndeliveredState, CheckState, with_bag, Agrees, IsSettled, IsChecked}
@@ -149,32 +148,6 @@ module _ (g : Graph) (i : ℕ) (log : List Delivery) (s : Going) (a : CheckState
   -- an awaited message of a run that hasn't ended goes to a process of the graph
   pub delivery_within : d.message.to < process_count g
   delivery_within = receiver_within g i log s a h d.message is_there (is_going g i log s a h going)
-
-  -- what the receiver of an awaited message sends has room in a word
-  pub delivery_sender : CanSend i d.message.number d.message.to
-  delivery_sender = record {
-    initiator = omega (arith, h.graph.processes, idle_within g i h.idle);
-    number = omega (arith, aw.1);
-    from = omega (arith, h.graph.processes, delivery_within);
-  }
-
-  -- the sender of an awaited message is below 4096, so its number has room in a word
-  pub delivery_from : d.message.from < 4096
-  delivery_from =
-      let live = (here g i log s a h).live d.message is_there (is_going g i log s a h going) in
-      omega (
-        arith,
-        h.graph.processes,
-        (each_at
-            (IsSoundMessage g i s.config.number (proc_at s.config.procs)) s.config.bag is_there.0 d.message live.fine
-            is_there.1).from_in,
-      )
-
-  -- while a message is awaited, whoever engaged a process has room in a word
-  pub delivery_engagers : EngagersHaveRoom a.network.procs
-  delivery_engagers = rw h.network (λ k e is.
-      let live = (here g i log s a h).live d.message is_there (is_going g i log s a h going) in
-      omega (arith, h.graph.processes, live.in_range k e is))
 
   -- where the run hasn't ended, the network that is kept hasn't
   pub network_going : a.network.ended ≡ None

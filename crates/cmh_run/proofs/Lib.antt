@@ -15,7 +15,6 @@ pub mod LastComputationSteps
 pub mod LiveInvariant
 pub mod LogAnswers
 pub mod OneComputation
-pub mod PackedLemmas
 pub mod Paths
 pub mod Places
 pub mod ProgressLemmas

@@ -19,7 +19,6 @@ use Rattle.cmh_run.specs.Choices.{chosen_place, HasNoHints}
 use Rattle.cmh_run.specs.Engaged.{AreEngaged}
 use Rattle.cmh_run.specs.Run.{Run, IsAccepted, IsRunOf, IsRunAnswer, TellsTruth, verdict_of}
 use Rattle.cmh_run.specs.Progress.{ProgressState, Follows, MayStart, place_in, IsTakenBy, progress_after}
-use Rattle.cmh_run.specs.Packed.{CanSend, EngagersHaveRoom}
 use Rattle.cmh_run.specs.declared.TheConstants.{MAX_RESTARTS}
 use Rattle.cmh_graph.specs.Verdict.{IsVerdict}
 use Rattle.cmh_run.proofs.LiveInvariant.{IsSoundMessage}
@@ -332,21 +331,6 @@ module _ (g : Graph) (i : ℕ) (choices restarts : List ℕ) (s t : ProgressStat
   -- the receiver of the message that was taken is a process of the graph
   pub taken_within : m.to < process_count g
   taken_within = receiver_within g i choices restarts s ok idle f (place_in choices s) m taken.0 taken.1
-
-  -- what the receiver of the message that was taken sends has room in a word
-  pub taken_sender : IsWellFormed g → m.number < 2 ^ 27 → CanSend i m.number m.to
-  taken_sender w low = record {
-    initiator = omega (arith, w.processes, idle_within g i idle);
-    number = low;
-    from = omega (arith, w.processes, taken_within);
-  }
-
-  -- once a message is taken, whoever engaged a process has room in a word
-  pub taken_engagers : IsWellFormed g → EngagersHaveRoom t.going.config.procs
-  taken_engagers w = rw taken.2 (λ k e is.
-      let firm = steady g i choices restarts s ok idle f (place_in choices s) m taken.1 in
-      let live = status_none g i s.going.config firm.stands taken.0 in
-      omega (arith, w.processes, live.0.in_range k e is))
 
   -- the delivery of the message that was taken can be counted, since there were few before it
   pub taken_room : IsWellFormed g → length restarts ≤ MAX_RESTARTS → t.going.done + 1 < 2 ^ 64

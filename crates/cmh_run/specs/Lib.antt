@@ -12,6 +12,5 @@ pub mod ScriptProofs
 pub mod Step
 -- the words of private functions
 pub mod CheckState
-pub mod Packed
 pub mod Procs
 pub mod Progress

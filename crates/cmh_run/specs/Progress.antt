@@ -17,11 +17,11 @@ pub record Follows (g : Graph) (i : ℕ) (choices restarts : List ℕ) (s : Prog
   pub leads : DeliveriesLead (chosen_place choices) g i (going_at_start g i restarts) s.log s.going
   pub count : s.going.done ≡ length s.log
 
--- the initiator may start again: its number grows, and has room in a word
+-- the initiator may start again: its number grows, and is less than 2 ^ 32
 pub record MayStart (g : Graph) (i : ℕ) (s : Going) : Type 0 where
   pub size : length s.config.procs ≡ process_count g
   pub within : i < process_count g
-  pub next : (proc_at s.config.procs i).latest + 1 < 2 ^ 27
+  pub next : (proc_at s.config.procs i).latest + 1 < 2 ^ 32
   pub count : s.restarted + 1 < 2 ^ 32
 
 -- the place that the choices name

@@ -14,10 +14,8 @@ pub mod laws;
 mod list;
 mod log;
 mod network;
-mod packed;
 mod procs;
 mod progress;
-mod queue;
 mod run_log;
 mod runner;
 mod runs;
@@ -28,7 +26,6 @@ mod tape;
 mod tests;
 mod truth;
 mod undelivered;
-mod words;
 
 pub use bag::Bag;
 pub use check::check_run;

@@ -6,13 +6,11 @@ ghost use Rattle.cmh_graph.specs.Build.{IsWellFormed};
 ghost use Rattle.cmh_process.specs.Process.{engages};
 ghost use Rattle.cmh_graph.specs.Verdict.{IsVerdict};
 ghost use Rattle.cmh_run.specs.Legal.{going_at_start, HintIsFit};
-ghost use Rattle.cmh_run.specs.Packed.{CanSend, EngagersHaveRoom, HaveRoom};
 ghost use Rattle.cmh_run.specs.Config.{blank_config, proc_at, nothing_yet, start, after_action, after_engagement, after_hint, query, after_answer, after_reply, after_message, asks_hint, without_message};
 
 use crate::procs::Procs;
-use crate::queue::Queue;
 use crate::send::Sender;
-use crate::{Ending, Hints};
+use crate::{Bag, Ending, Hints};
 use cmh_graph::{Verdict, WaitGraph};
 use cmh_process::{Action, Kind, Message};
 use std::alloc::{AllocError, Global};
@@ -21,7 +19,7 @@ use std::marker::Model;
 /// The undelivered messages and the processes of one initiator's computations.
 #[derive(Drop)]
 pub(crate) struct Network {
-    bag: Queue,
+    bag: Bag,
     procs: Procs,
     number: u32,
     engaged: Vec<u32>,
@@ -48,7 +46,7 @@ impl Network {
         ensures ok { IfOk result (λ n. n ≡ nothing_yet graph.now) }
     {
         Ok(Network {
-            bag: Queue::new(alloc),
+            bag: Bag::new(alloc),
             procs: Procs::new(alloc, graph.len() as usize)?,
             number: 0,
             engaged: Vec::new(alloc),
@@ -78,7 +76,7 @@ impl Network {
         requires graph { IsWellFormed graph.now }
         requires size { length self.old.procs ≡ process_count graph.now }
         requires within { initiator < process_count graph.now }
-        requires next { (proc_at self.old.procs initiator).latest + 1 < 2 ^ 27 }
+        requires next { (proc_at self.old.procs initiator).latest + 1 < 2 ^ 32 }
         requires going { self.old.ended ≡ None }
         ensures ok { OnOk result (self.new ≡ start graph.now initiator self.old) }
     {
@@ -129,8 +127,6 @@ impl Network {
         ensures unchanged { IfNone result (self.new ≡ self.old) }
         ensures taken { IfSome result (λ m. let x = choice % length self.old.bag in
             (slice_get self.old.bag x ≡ Some m) × (self.new ≡ without_message self.old x)) }
-        ensures number { IfSome result (λ m. m.number < 2 ^ 27) }
-        ensures from { IfSome result (λ m. m.from < 4096) }
     {
         self.bag.take(choice)
     }
@@ -148,9 +144,6 @@ impl Network {
         requires size { length self.old.procs ≡ process_count graph.now }
         requires within { message.to < process_count graph.now }
         requires going { self.old.ended ≡ None }
-        requires sender { CanSend initiator message.number message.to }
-        requires from { message.from < 4096 }
-        requires engagers { EngagersHaveRoom self.old.procs }
         ensures ok { OnOk result (self.new ≡ (if is_awake graph.now message.to
             then self.old
             else after_message graph.now initiator self.old message message.kind hint)) }
@@ -178,9 +171,6 @@ impl Network {
         requires size { length self.old.procs ≡ process_count graph.now }
         requires within { message.to < process_count graph.now }
         requires going { self.old.ended ≡ None }
-        requires sender { CanSend initiator message.number message.to }
-        requires from { message.from < 4096 }
-        requires engagers { EngagersHaveRoom self.old.procs }
         requires speaks { H.speaks_of hints.old graph.now }
         ensures fit { IfOk result (HintIsFit graph.now self.old message) }
         ensures ok { IfOk result (λ hint. self.new ≡ (if is_awake graph.now message.to
@@ -238,8 +228,6 @@ impl Network {
         requires size { length self.old.procs ≡ process_count graph.now }
         requires within { message.to < process_count graph.now }
         requires going { self.old.ended ≡ None }
-        requires sender { CanSend initiator message.number message.to }
-        requires from { message.from < 4096 }
         ensures ok { OnOk result (self.new ≡
             after_message graph.now initiator self.old message Kind.Query hint) }
     {
@@ -270,8 +258,6 @@ impl Network {
         requires size { length self.old.procs ≡ process_count graph.now }
         requires within { to < process_count graph.now }
         requires going { self.old.ended ≡ None }
-        requires sender { CanSend initiator number to }
-        requires from { from < 4096 }
         requires engaging { IsTrue (engages (proc_at self.old.procs to) number) }
         requires speaks { H.speaks_of hints.old graph.now }
         ensures verdict { IfOk result (λ hint. IfSome hint (IsVerdict graph.now to)) }
@@ -302,8 +288,6 @@ impl Network {
         requires size { length self.old.procs ≡ process_count graph.now }
         requires within { to < process_count graph.now }
         requires going { self.old.ended ≡ None }
-        requires sender { CanSend initiator number to }
-        requires from { from < 4096 }
         requires engaging { IsTrue (engages (proc_at self.old.procs to) number) }
         ensures ok { OnOk result (self.new ≡
             after_hint graph.now initiator self.old (query initiator number from to) hint) }
@@ -333,8 +317,6 @@ impl Network {
         requires size { length self.old.procs ≡ process_count graph.now }
         requires within { to < process_count graph.now }
         requires going { self.old.ended ≡ None }
-        requires sender { CanSend initiator number to }
-        requires from { from < 4096 }
         requires engaging { IsTrue (engages (proc_at self.old.procs to) number) }
         ensures ok { OnOk result (self.new ≡
             after_engagement initiator self.old (query initiator number from to) (dependents_of graph.now to)) }
@@ -361,8 +343,6 @@ impl Network {
         to: u32,
         dependents: &[u32],
     ) -> Result<(), AllocError>
-        requires sender { CanSend initiator number to }
-        requires dependents { HaveRoom dependents.now }
         ensures ok { OnOk result (self.new ≡ record self.old {
           bag = self.old.bag ++ map (λ (r : ℕ). query initiator number to r) dependents.now;
           engaged = self.old.engaged ++ to ∷ [];
@@ -385,9 +365,6 @@ impl Network {
         requires within { to < length self.old.procs }
         requires few { length dependents.now < 2 ^ 32 }
         requires going { self.old.ended ≡ None }
-        requires sender { CanSend initiator number to }
-        requires from { from < 4096 }
-        requires dependents { HaveRoom dependents.now }
         ensures ok { OnOk result (self.new ≡
             after_engagement initiator self.old (query initiator number from to) dependents.now) }
     {
@@ -412,8 +389,6 @@ impl Network {
         requires within { message.to < length self.old.procs }
         requires stale { IsFalse (engages (proc_at self.old.procs message.to) message.number) }
         requires going { self.old.ended ≡ None }
-        requires sender { CanSend initiator message.number message.to }
-        requires from { message.from < 4096 }
         ensures ok { OnOk result (self.new ≡ after_answer initiator self.old message) }
     {
         let action = self.procs.answer(message.to, message.number, message.from);
@@ -424,8 +399,6 @@ impl Network {
     fn reply(&mut self, initiator: u32, message: Message) -> Result<(), AllocError>
         requires within { message.to < length self.old.procs }
         requires going { self.old.ended ≡ None }
-        requires sender { CanSend initiator message.number message.to }
-        requires engagers { EngagersHaveRoom self.old.procs }
         ensures ok { OnOk result (self.new ≡ after_reply initiator self.old message) }
     {
         let action = self.procs.reply(message.to, message.number);
@@ -436,9 +409,6 @@ impl Network {
     #[inline(always)]
     fn act(&mut self, sender: Sender, dependents: &[u32], action: Action) -> Result<(), AllocError>
         requires going { self.old.ended ≡ None }
-        requires sender { CanSend sender.initiator sender.number sender.from }
-        requires dependents { HaveRoom dependents.now }
-        requires reply { (to : ℕ) → action ≡ Action.ReplyTo to → to < 4096 }
         ensures ok { OnOk result (self.new ≡
             after_action sender.initiator self.old sender.number sender.from dependents.now action) }
     {

@@ -6,7 +6,6 @@ ghost use Rattle.cmh_graph.specs.Build.{IsWellFormed};
 ghost use Rattle.cmh_run.specs.Config.{blank_config, nothing_yet};
 ghost use Rattle.cmh_graph.specs.declared.verdict.Verdict.{Verdict};
 ghost use Rattle.cmh_run.specs.Legal.{going_at_start, after_due_restart, HintIsFit};
-ghost use Rattle.cmh_run.specs.Packed.{CanSend, EngagersHaveRoom};
 ghost use Rattle.cmh_run.specs.Progress.{MayStart, IsTakenBy, progress_after};
 
 use crate::network::Network;
@@ -116,8 +115,6 @@ impl<'a, L: Log> Progress<'a, L> {
     pub(crate) fn take(&mut self, choice: u64) -> Option<Message>
         ensures taken { (choices : List ℕ) → choice ≡ slice_index choices self.old.going.done
             → IsTakenBy choices self.old self.new result }
-        ensures number { IfSome result (λ m. m.number < 2 ^ 27) }
-        ensures from { IfSome result (λ m. m.from < 4096) }
     {
         if self.network.has_ended() {
             return None;
@@ -139,9 +136,6 @@ impl<'a, L: Log> Progress<'a, L> {
         requires size { length self.old.going.config.procs ≡ process_count graph.now }
         requires within { message.to < process_count graph.now }
         requires going { self.old.going.config.ended ≡ None }
-        requires sender { CanSend initiator message.number message.to }
-        requires from { message.from < 4096 }
-        requires engagers { EngagersHaveRoom self.old.going.config.procs }
         requires few { self.old.going.done + 1 < 2 ^ 64 }
         requires speaks { H.speaks_of hints.old graph.now }
         ensures ok { OnOk result ((hint : Option Verdict)

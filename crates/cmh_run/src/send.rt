@@ -2,9 +2,8 @@
 
 ghost use Rattle.std.specs.Prelude.{◌≡◌, ◌++◌, ◌<◌, ℕ, OnOk};
 ghost use Rattle.cmh_run.specs.Config.{messages_of};
-ghost use Rattle.cmh_run.specs.Packed.{CanSend, HaveRoom};
 
-use crate::queue::Queue;
+use crate::Bag;
 use cmh_process::{Action, Kind, Message};
 use std::alloc::AllocError;
 
@@ -36,15 +35,12 @@ impl Sender {
     #[inline(always)]
     pub(crate) fn send(
         self,
-        queue: &mut Queue,
+        bag: &mut Bag,
         dependents: &[u32],
         action: Action,
     ) -> Result<(), AllocError>
-        requires sender { CanSend self.initiator self.number self.from }
-        requires dependents { HaveRoom dependents.now }
-        requires reply { (to : ℕ) → action ≡ Action.ReplyTo to → to < 4096 }
-        ensures ok { OnOk result (queue.new ≡
-            queue.old ++ messages_of self.initiator self.number self.from dependents.now action) }
+        ensures ok { OnOk result (bag.new ≡
+            bag.old ++ messages_of self.initiator self.number self.from dependents.now action) }
     {
         let Sender {
             initiator,
@@ -53,8 +49,8 @@ impl Sender {
         } = self;
         match action {
             Action::Nothing => Ok(()),
-            Action::Engage => queue.add_queries(initiator, number, from, dependents),
-            Action::ReplyTo(to) => queue.add(self.message(Kind::Reply, to)),
+            Action::Engage => bag.add_queries(initiator, number, from, dependents),
+            Action::ReplyTo(to) => bag.add(self.message(Kind::Reply, to)),
             Action::Declare => Ok(()),
         }
     }

@@ -3,7 +3,7 @@ use Rattle.cmh_run.specs.declared.delivery.Delivery.{Delivery}
 use Rattle.cmh_run.specs.Run.{Run}
 use Rattle.cmh_run.specs.Progress.{ProgressState, MayStart}
 use Rattle.cmh_run.specs.Choices.{HasNoHints}
-use Rattle.cmh_run.proofs.ProgressLemmas.{may_start_first, next_is, next_left, taken_going, taken_size, taken_within, taken_sender, taken_engagers, taken_room, taken_may_start, taken_follows, taken_done, taken_log, taken_falls, no_hints_on, over_log, cleared, finished, answered}
+use Rattle.cmh_run.proofs.ProgressLemmas.{may_start_first, next_is, next_left, taken_going, taken_size, taken_within, taken_room, taken_may_start, taken_follows, taken_done, taken_log, taken_falls, no_hints_on, over_log, cleared, finished, answered}
 use Rattle.cmh_run.proofs.runner.follow.Goals as goal
 
 -- at first the initiator may start again, if the run isn't over
@@ -33,25 +33,6 @@ deliver-requires-clause-within g c =
     (c.in-Some.ensures.taken c.args.choices.now
     (next_is c.args.choices.now c.loop-message.left c.loop-message.progress.going.done c.next.result
     c.loop-message.invariant.left c.next.ensures.first))
-
--- when a message is delivered, what its receiver sends has room in a word
-pub deliver-requires-clause-sender : goal.deliver-requires-clause-sender
-deliver-requires-clause-sender g c =
-    taken_sender c.args.graph.now c.args.initiator c.args.choices.now c.args.restarts.now c.loop-message.progress
-    c.take.new.self c.in-Some.message
-    c.requires.graph.within c.requires.accepted.idle c.loop-message.invariant.follows
-    (c.in-Some.ensures.taken c.args.choices.now
-    (next_is c.args.choices.now c.loop-message.left c.loop-message.progress.going.done c.next.result
-    c.loop-message.invariant.left c.next.ensures.first)) c.requires.graph c.in-Some.ensures.number
-
-pub deliver-requires-clause-engagers : goal.deliver-requires-clause-engagers
-deliver-requires-clause-engagers g c =
-    taken_engagers c.args.graph.now c.args.initiator c.args.choices.now c.args.restarts.now c.loop-message.progress
-    c.take.new.self c.in-Some.message
-    c.requires.graph.within c.requires.accepted.idle c.loop-message.invariant.follows
-    (c.in-Some.ensures.taken c.args.choices.now
-    (next_is c.args.choices.now c.loop-message.left c.loop-message.progress.going.done c.next.result
-    c.loop-message.invariant.left c.next.ensures.first)) c.requires.graph
 
 -- the deliveries can be counted
 pub deliver-requires-clause-few : goal.deliver-requires-clause-few

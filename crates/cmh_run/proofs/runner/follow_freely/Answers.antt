@@ -1,7 +1,7 @@
 use Rattle.std.proofs.Common.{subst, sym, List}
 use Rattle.cmh_run.specs.declared.delivery.Delivery.{Delivery}
 use Rattle.cmh_run.specs.Choices.{HasNoHints}
-use Rattle.cmh_run.proofs.ProgressLemmas.{no_choice, taken_size, taken_within, taken_sender, taken_engagers, taken_room, taken_follows, taken_log, taken_falls, taken_restarts, taken_rests, taken_going, none_to_come, told_empty, no_hints_on}
+use Rattle.cmh_run.proofs.ProgressLemmas.{no_choice, taken_size, taken_within, taken_room, taken_follows, taken_log, taken_falls, taken_restarts, taken_rests, taken_going, none_to_come, told_empty, no_hints_on}
 use Rattle.cmh_run.proofs.runner.follow_freely.Goals as goal
 
 -- at a delivery there are as many processes as the graph has
@@ -21,24 +21,6 @@ deliver-requires-clause-within g c =
     c.requires.graph.within c.requires.idle c.loop-message.invariant.follows (c.in-Some.ensures.taken
     c.args.choices.now
     (no_choice c.args.choices.now c.loop-message.progress.going.done c.loop-message.invariant.none))
-
--- when a message is delivered, what its receiver sends has room in a word
-pub deliver-requires-clause-sender : goal.deliver-requires-clause-sender
-deliver-requires-clause-sender g c =
-    taken_sender c.args.graph.now c.args.initiator c.args.choices.now c.args.restarts.now c.loop-message.progress
-    c.take.new.self c.in-Some.message
-    c.requires.graph.within c.requires.idle c.loop-message.invariant.follows (c.in-Some.ensures.taken
-    c.args.choices.now
-    (no_choice c.args.choices.now c.loop-message.progress.going.done c.loop-message.invariant.none))
-    c.requires.graph c.in-Some.ensures.number
-
-pub deliver-requires-clause-engagers : goal.deliver-requires-clause-engagers
-deliver-requires-clause-engagers g c =
-    taken_engagers c.args.graph.now c.args.initiator c.args.choices.now c.args.restarts.now c.loop-message.progress
-    c.take.new.self c.in-Some.message
-    c.requires.graph.within c.requires.idle c.loop-message.invariant.follows (c.in-Some.ensures.taken
-    c.args.choices.now
-    (no_choice c.args.choices.now c.loop-message.progress.going.done c.loop-message.invariant.none)) c.requires.graph
 
 -- the deliveries can be counted
 pub deliver-requires-clause-few : goal.deliver-requires-clause-few

@@ -3,9 +3,8 @@ use Rattle.std.proofs.lemmas.Bool.{true≢false}
 use Rattle.cmh_graph.specs.Graph.{is_awake}
 use Rattle.cmh_run.specs.Config.{Config, after_message}
 use Rattle.cmh_run.specs.Legal.{going_after}
-use Rattle.cmh_run.specs.Packed.{EngagersHaveRoom}
 use Rattle.cmh_run.specs.CheckState.{CheckState}
-use Rattle.cmh_run.proofs.CheckLemmas.{network_size, awaited, where_none, is_there, delivery_within, delivery_sender, delivery_from, delivery_engagers, network_going, after_delivery}
+use Rattle.cmh_run.proofs.CheckLemmas.{network_size, awaited, where_none, is_there, delivery_within, network_going, after_delivery}
 use Rattle.cmh_run.proofs.checker.Checker.deliver.Goals as goal
 
 -- the message isn't awaited, so it isn't undelivered
@@ -50,33 +49,6 @@ deliver-requires-clause-within c =
     (where_none c.ending.result _ c.if-is_some.ensures c.ending.ensures.none c.args.graph.now c.args.initiator
     c.requires.checked.0 c.requires.checked.1.0 c.requires.checked.1.1 c.requires.checked.1.2)
     (c.if-not-take.ensures.found.0 refl)
-
--- when a message is delivered, what its receiver sends has room in a word
-pub deliver-requires-clause-sender : goal.deliver-requires-clause-sender
-deliver-requires-clause-sender c =
-    delivery_sender c.args.graph.now c.args.initiator c.requires.checked.0 c.requires.checked.1.0 c.args.self.now
-    c.args.delivery c.requires.checked.1.1 c.requires.checked.1.2
-    (where_none c.ending.result _ c.if-is_some.ensures c.ending.ensures.none c.args.graph.now c.args.initiator
-    c.requires.checked.0 c.requires.checked.1.0 c.requires.checked.1.1 c.requires.checked.1.2)
-    (c.if-not-take.ensures.found.0 refl)
-
-pub deliver-requires-clause-from : goal.deliver-requires-clause-from
-deliver-requires-clause-from c =
-    delivery_from c.args.graph.now c.args.initiator c.requires.checked.0 c.requires.checked.1.0 c.args.self.now
-    c.args.delivery c.requires.checked.1.1 c.requires.checked.1.2
-    (where_none c.ending.result _ c.if-is_some.ensures c.ending.ensures.none c.args.graph.now c.args.initiator
-    c.requires.checked.0 c.requires.checked.1.0 c.requires.checked.1.1 c.requires.checked.1.2)
-    (c.if-not-take.ensures.found.0 refl)
-
-pub deliver-requires-clause-engagers : goal.deliver-requires-clause-engagers
-deliver-requires-clause-engagers c =
-    subst (λ (n : Config). EngagersHaveRoom n.procs)
-    (sym (ap (λ (a : CheckState). a.network) c.self.view_is ∙ c.if-not-take.ensures.network))
-    (delivery_engagers c.args.graph.now c.args.initiator c.requires.checked.0 c.requires.checked.1.0 c.args.self.now
-    c.args.delivery c.requires.checked.1.1 c.requires.checked.1.2
-    (where_none c.ending.result _ c.if-is_some.ensures c.ending.ensures.none c.args.graph.now c.args.initiator
-    c.requires.checked.0 c.requires.checked.1.0 c.requires.checked.1.1 c.requires.checked.1.2)
-    (c.if-not-take.ensures.found.0 refl))
 
 -- when a message is delivered, the network hasn't ended
 pub deliver-requires-clause-going : goal.deliver-requires-clause-going
