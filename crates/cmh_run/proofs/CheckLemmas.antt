@@ -1,5 +1,5 @@
 -- What a checker answers, against the run that the deliveries make.
-use Rattle.std.proofs.Common.{◌≡◌, ℕ, ◌<◌, arith, Bool, true, false, not, ◌&&◌, cond, List, [], ◌∷◌, ◌++◌, length, get_or, slice_get, Option, Some, None, is_some, refl, sym, ◌∙◌, ap, subst, ◌⊎◌, inr, ⊎_elim, IsTrue}
+use Rattle.std.proofs.Common.{◌≡◌, ℕ, ◌<◌, Bool, true, false, not, ◌&&◌, cond, List, [], ◌∷◌, ◌++◌, length, get_or, slice_get, Option, Some, None, is_some, refl, sym, ◌∙◌, ap, subst, ◌⊎◌, inr, ⊎_elim, IsTrue}
 use Rattle.std.specs.Prelude.{IfSome, IfNone, IfOk, IfErr, ok_or, ◌↔◌, take}
 use Rattle.std.proofs.lemmas.Bool.{true≢false, cases_Bool}
 use Rattle.cmh_process.specs.declared.message.Message.{Message}
@@ -9,7 +9,6 @@ use denote.Enum.Bare.{sameb}
 use Rattle.cmh_graph.specs.contracts.verdict.Verdict.{the_type}
 use Rattle.cmh_graph.specs.Graph.{Graph, process_count, is_idle, is_awake}
 use Rattle.cmh_graph.specs.Build.{IsWellFormed}
-use Rattle.cmh_graph.proofs.Verdicts.{idle_within}
 use Rattle.cmh_graph.specs.Verdict.{verdict, verdicts, IsDeadlocked}
 use Rattle.cmh_graph.proofs.Verdicts.{one_verdict, verdict_listed, verdict_true}
 use Rattle.cmh_run.proofs.Scripts.{verdict_count}

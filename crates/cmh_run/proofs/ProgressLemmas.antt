@@ -1,10 +1,10 @@
 -- A run that goes on by one delivery, and what its steps may count on.
-use Rattle.std.proofs.Common.{◌≡◌, ℕ, ◌+◌, ◌-◌, ◌*◌, ◌^◌, ◌<◌, ◌≤◌, ◌≢◌, Bool, true, false, ◌&&◌, cond, eqb, List, [], ◌∷◌, ◌++◌, length, drop, slice_get, Contains, Option, Some, None, is_none, refl, sym, ◌∙◌, ap, subst, arith, ◌⊎◌, ⊎_elim, length-append, mul-le-mul_left}
-use Rattle.std.proofs.lemmas.Bool.{eqb-true, eq-eqb, and_parts}
+use Rattle.std.proofs.Common.{◌≡◌, ℕ, ◌+◌, ◌-◌, ◌*◌, ◌^◌, ◌<◌, ◌≤◌, ◌≢◌, Bool, true, false, ◌&&◌, cond, eqb, List, [], ◌∷◌, ◌++◌, length, slice_get, Contains, Option, Some, None, is_none, refl, sym, ◌∙◌, ap, subst, arith, ◌⊎◌, ⊎_elim, length-append, mul-le-mul_left}
+use Rattle.std.proofs.lemmas.Bool.{eq-eqb, and_parts}
 use Rattle.std.proofs.lemmas.Option.{none-some}
-use Rattle.std.specs.Prelude.{slice_index, unwrap_or}
+use Rattle.std.specs.Prelude.{unwrap_or}
 use Rattle.std.specs.List.{IsDistinct}
-use Rattle.std.proofs.lemmas.List.{length-replicate, get_or-drop, drop-drop}
+use Rattle.std.proofs.lemmas.List.{length-replicate}
 use Rattle.cmh_process.specs.declared.message.Message.{Message}
 use Rattle.cmh_graph.specs.declared.verdict.Verdict.{Verdict}
 use Rattle.cmh_run.specs.declared.delivery.Delivery.{Delivery}
@@ -13,12 +13,12 @@ use Rattle.cmh_run.specs.declared.delivery.Ending.TheVariants.{Declared, AtRest,
 use Rattle.cmh_graph.specs.Graph.{Graph, process_count, is_idle, is_awake, IsWithinGraph, dependency_count}
 use Rattle.cmh_graph.proofs.Verdicts.{idle_within, by_test}
 use Rattle.cmh_process.specs.Process.{new_proc}
-use Rattle.cmh_run.specs.Config.{Config, blank_config, proc_at, nothing_yet, start, without_message}
+use Rattle.cmh_run.specs.Config.{Config, blank_config, proc_at, nothing_yet, start, after_message, without_message}
 use Rattle.cmh_run.specs.Legal.{Going, going_from, going_at_start, after_restart, after_first_restart, after_due_restart, going_after, Rule, MayCome, DeliveriesLead, EndsAs, IsRun, HintIsFit, IsRight}
 use Rattle.cmh_run.specs.Choices.{chosen_place, HasNoHints}
 use Rattle.cmh_run.specs.Engaged.{AreEngaged}
 use Rattle.cmh_run.specs.Run.{Run, IsAccepted, IsRunOf, IsRunAnswer, TellsTruth, verdict_of}
-use Rattle.cmh_run.specs.Progress.{ProgressState, Follows, MayStart, place_in, IsTakenBy, progress_after}
+use Rattle.cmh_run.specs.Progress.{ProgressState, RunState, IsUnderWay, IsOver, Follows, MayStart, place_in, IsTakenBy, progress_after}
 use Rattle.cmh_run.specs.declared.TheConstants.{MAX_RESTARTS}
 use Rattle.cmh_graph.specs.Verdict.{IsVerdict}
 use Rattle.cmh_run.proofs.LiveInvariant.{IsSoundMessage}
@@ -224,30 +224,6 @@ module _ (g : Graph) (i : ℕ) (choices restarts : List ℕ) (s : ProgressState)
       (stepped g i s.going.config ok firm.stands.size may.going live.0 live.1 x d.message may.there d.hint may.hint)
       (number_kept g i s.going.config x d.message d.hint ∙ firm.numbered) (few_restarts few) going
 
-  -- where no restarts were given, none are to come
-  pub none_to_come : restarts ≡ [] → s.going.restarts ≡ []
-  none_to_come none = by_awake (is_awake g i) refl
-    where
-      nobody : (xs : List ℕ) → length xs ≤ 0 → xs ≡ []
-      nobody [] l = refl
-      nobody (x ∷ xs) l = absurd (omega (arith, l))
-
-      by_awake : (b : Bool) → is_awake g i ≡ b → s.going.restarts ≡ []
-      by_awake true e =
-          nobody s.going.restarts
-          (omega (
-            arith,
-            leads_restarts (chosen_place choices) g i s.log (going_from (nothing_yet g) []) s.going (awake_leads e),
-          ))
-      by_awake false e =
-          nobody s.going.restarts
-          (omega (
-            arith,
-            ap length none,
-            leads_restarts (chosen_place choices) g i s.log (going_from (start g i (nothing_yet g)) restarts) s.going
-                (asleep_leads e),
-          ))
-
   -- the deliveries are at most two for each dependency and each start that a run may have
   log_bound : length restarts ≤ MAX_RESTARTS → length s.log ≤ 2 * dependency_count g * (MAX_RESTARTS + 1)
   log_bound few =
@@ -288,33 +264,23 @@ may_start_first g i restarts ok idle =
     (first_stands g i ok (idle_within g i idle) e) (first_number g i ok (idle_within g i idle) e)
     (omega arith) going)
 
+-- in the configuration at first the initiator may start again, whatever restarts are to come
+pub may_start_at : (g : Graph) (i : ℕ) (restarts rest : List ℕ) (c : Config) → IsWithinGraph g → is_idle g i ≡ true
+    → c ≡ (going_at_start g i restarts).config → c.ended ≡ None
+    → MayStart g i (record { config = c; done = 0; restarts = rest; restarted = 0 })
+may_start_at g i restarts rest c ok idle e going =
+    let first = may_start_first g i restarts ok idle (sym (ap (λ (x : Config). x.ended) e) ∙ going) in
+    record {
+      size = ap (λ (x : Config). length x.procs) e ∙ first.size;
+      within = first.within;
+      next = subst (λ (x : Config). (proc_at x.procs i).latest + 1 < 2 ^ 32) (sym e) first.next;
+      count = omega arith;
+    }
+
 -- a log without hints, with one delivery more that has none, is a log without hints
 pub no_hints_on : (log : List Delivery) (d : Delivery) → HasNoHints log → d.hint ≡ None → HasNoHints (log ++ d ∷ [])
 no_hints_on [] d h e = (e, tt)
 no_hints_on (x ∷ log) d h e = (h.0, no_hints_on log d h.1 e)
-
--- ---- the choices
-
--- the first of the choices that are left is the next of them all
-pub next_is : (choices left : List ℕ) (n choice : ℕ) → left ≡ drop n choices → choice ≡ slice_index left 0
-    → choice ≡ slice_index choices n
-next_is choices left n choice are is =
-    is ∙ ap (λ xs. slice_index xs 0) are ∙ get_or-drop n choices 0 0 ∙ ap (slice_index choices) (omega arith)
-
--- without the next choice, what is left are the choices behind it
-pub next_left : (choices left rest : List ℕ) (n m : ℕ) → left ≡ drop n choices → rest ≡ drop 1 left → m ≡ n + 1
-    → rest ≡ drop m choices
-next_left choices left rest n m are is more =
-    is ∙ ap (drop 1) are ∙ drop-drop 1 n choices ∙ ap (λ k. drop k choices) (sym more)
-
--- where no choices are given, each choice that comes is 0
-pub no_choice : (choices : List ℕ) (n : ℕ) → choices ≡ [] → 0 ≡ slice_index choices n
-no_choice choices n none = rw none refl
-
--- a list is empty where it is told to be
-pub told_empty : (b : Bool) (xs : List ℕ) → b ≡ eqb (length xs) 0 → b ≡ true → xs ≡ []
-told_empty b [] is empty = refl
-told_empty b (x ∷ xs) is empty = absurd (omega (arith, eqb-true (length (x ∷ xs)) 0 (sym is ∙ empty)))
 
 -- ---- a message was taken
 
@@ -323,10 +289,6 @@ module _ (g : Graph) (i : ℕ) (choices restarts : List ℕ) (s t : ProgressStat
   -- once a message is taken, there are as many processes as the graph has
   pub taken_size : length t.going.config.procs ≡ process_count g
   taken_size = rw taken.2 (steady g i choices restarts s ok idle f (place_in choices s) m taken.1).stands.size
-
-  -- once a message is taken, the run isn't over
-  pub taken_going : t.going.config.ended ≡ None
-  taken_going = rw taken.2 taken.0
 
   -- the receiver of the message that was taken is a process of the graph
   pub taken_within : m.to < process_count g
@@ -385,36 +347,124 @@ module _ (g : Graph) (i : ℕ) (choices restarts : List ℕ) (s t : ProgressStat
         is_after))
         (follows_on g i choices restarts s ok idle f (record { message = m; hint = hint }) (taken_may hint fit))
 
-    -- once m is delivered, there was one delivery more, whether or not a restart is due
-    pub taken_done : (v : ProgressState) → v ≡ record { going = after_due_restart g i u.going; log = u.log }
-        → v.going.done ≡ s.going.done + 1
-    taken_done v e =
-        ap (λ (w : ProgressState). w.going.done) e ∙ restart_keeps_count g i u.going u.going.restarts
-        ∙ ap (λ (w : ProgressState). w.going.done) is_after
+-- ---- a run with its premises
 
-    -- once m is delivered, the log is longer by this delivery, whether or not a restart is due
-    pub taken_log : (v : ProgressState) → v ≡ record { going = after_due_restart g i u.going; log = u.log }
-        → v.log ≡ s.log ++ (record { message = m; hint = hint }) ∷ []
-    taken_log v e = ap (λ (w : ProgressState). w.log) e ∙ ap (λ (w : ProgressState). w.log) is_after
+-- the configuration and the log after a delivery are those of the run after it
+delivered_is : (g : Graph) (i : ℕ) (s : ProgressState) (d : Delivery) (config : Config) (log : List Delivery)
+    → config ≡ cond (is_awake g d.message.to) s.going.config
+    (after_message g i s.going.config d.message d.message.kind d.hint)
+    → log ≡ s.log ++ d ∷ []
+    → (record { going = record s.going { config = config; done = s.going.done + 1 }; log = log })
+    ≡ progress_after g i s d
+delivered_is g i s d config log moved longer = rw (moved, longer) refl
 
-    -- where no restarts are to come, none are once m is delivered
-    pub taken_restarts : s.going.restarts ≡ [] → u.going.restarts ≡ []
-    taken_restarts none = ap (λ (w : ProgressState). w.going.restarts) is_after ∙ none
+module _ (restarts : List ℕ) (r t w : RunState) (m : Message) (way : IsUnderWay restarts r)
+    (same : t ≡ record r { progress = t.progress }) (was : IsTakenBy r.choices r.progress t.progress (Some m))
+    (is : w ≡ t) where
+  -- taking a message changes nothing of the premises
+  same_as : w ≡ record r { progress = w.progress }
+  same_as = subst (λ (x : RunState). x ≡ record r { progress = x.progress }) (sym is) same
 
-    -- where no restarts are to come, the initiator doesn't start again once m is delivered
-    pub taken_rests : s.going.restarts ≡ [] → u ≡ record { going = after_due_restart g i u.going; log = u.log }
-    taken_rests none = rw (taken_restarts none) refl
+  -- the message was taken by the choices
+  was_taken : IsTakenBy r.choices r.progress w.progress (Some m)
+  was_taken = subst (λ (x : RunState). IsTakenBy r.choices r.progress x.progress (Some m)) (sym is) was
 
-    -- once m is delivered, fewer deliveries may still come
-    pub taken_falls : (v : ProgressState) → v ≡ record { going = after_due_restart g i u.going; log = u.log }
-        → length restarts ≤ MAX_RESTARTS
-        → 2 * dependency_count g * (MAX_RESTARTS + 1) + 1 - length v.log
-        < 2 * dependency_count g * (MAX_RESTARTS + 1) + 1 - length s.log
-    taken_falls v e few =
-        let bound = log_bound g i choices restarts v ok idle (taken_follows v e) few in
-        let longer : length v.log ≡ length s.log + 1 =
-        ap length (taken_log v e) ∙ length-append s.log (record { message = m; hint = hint } ∷ []) in
-        omega arith
+  -- once a message is taken, there are as many processes as the graph has
+  pub next_size : length w.progress.going.config.procs ≡ process_count w.graph
+  next_size =
+      taken_size r.graph r.initiator r.choices restarts r.progress w.progress m way.well_formed.within
+      way.accepted.idle way.follows was_taken
+      ∙ sym (ap (λ (x : RunState). process_count x.graph) same_as)
+
+  -- the message that was taken goes to a process of the graph
+  pub next_within : m.to < process_count w.graph
+  next_within =
+      subst (λ (x : RunState). m.to < process_count x.graph) (sym same_as)
+      (taken_within r.graph r.initiator r.choices restarts r.progress w.progress m way.well_formed.within
+      way.accepted.idle way.follows was_taken)
+
+  -- its delivery can be counted
+  pub next_room : w.progress.going.done + 1 < 2 ^ 64
+  next_room =
+      taken_room r.graph r.initiator r.choices restarts r.progress w.progress m way.well_formed.within
+      way.accepted.idle way.follows was_taken way.well_formed way.accepted.restarts_good.few
+
+  module _ (hint : Option Verdict) (fit : HintIsFit w.graph w.progress.going.config m hint) (config : Config)
+      (log : List Delivery)
+      (moved : config ≡ cond (is_awake w.graph m.to) w.progress.going.config
+      (after_message w.graph w.initiator w.progress.going.config m m.kind hint))
+      (longer : log ≡ w.progress.log ++ (record { message = m; hint = hint }) ∷ []) where
+    -- the hint fits the graph at the start
+    next_fit : HintIsFit r.graph w.progress.going.config m hint
+    next_fit = subst (λ (x : RunState). HintIsFit x.graph w.progress.going.config m hint) same_as fit
+
+    -- the run once the message is delivered
+    abbrev next : ProgressState
+    next = record {
+      going = record w.progress.going { config = config; done = w.progress.going.done + 1 };
+      log = log;
+    }
+
+    -- it is the run after this delivery
+    next_step : next ≡ progress_after r.graph r.initiator w.progress (record { message = m; hint = hint })
+    next_step =
+        delivered_is w.graph w.initiator w.progress (record { message = m; hint = hint }) config log moved longer
+        ∙ ap (λ (x : RunState). progress_after x.graph x.initiator w.progress (record { message = m; hint = hint }))
+        same_as
+
+    -- once it is delivered the initiator may start again, if the run isn't over
+    pub next_may_start : config.ended ≡ None
+        → MayStart w.graph w.initiator (record w.progress.going { config = config; done = w.progress.going.done + 1 })
+    next_may_start =
+        subst (λ (x : RunState). config.ended ≡ None → MayStart x.graph x.initiator next.going) (sym same_as)
+        (taken_may_start r.graph r.initiator r.choices restarts r.progress w.progress m way.well_formed.within
+        way.accepted.idle way.follows was_taken hint next_fit next next_step way.accepted.restarts_good.few)
+
+    module _ (v : RunState) (then : v ≡ record w {
+      progress = record {
+        going = after_due_restart w.graph w.initiator
+            (record w.progress.going { config = config; done = w.progress.going.done + 1 });
+        log = log;
+      };
+    }) where
+      -- the premises are those at the start
+      then_is : v ≡ record r {
+        progress = record { going = after_due_restart r.graph r.initiator next.going; log = log };
+      }
+      then_is = then ∙ ap (λ (x : RunState). let z : RunState = record x {
+        progress = record { going = after_due_restart x.graph x.initiator next.going; log = log };
+      } in z) same_as
+
+      -- once it is delivered, and a restart has come if one is due, the run is under way
+      pub next_under_way : IsUnderWay restarts v
+      next_under_way =
+          subst (λ (x : RunState). IsUnderWay restarts x) (sym then_is)
+          (record {
+            accepted = way.accepted;
+            well_formed = way.well_formed;
+            follows = taken_follows r.graph r.initiator r.choices restarts r.progress w.progress m
+                way.well_formed.within way.accepted.idle way.follows was_taken hint next_fit next next_step
+                (record { going = after_due_restart r.graph r.initiator next.going; log = log }) refl;
+          })
+
+      -- and its log is longer by this delivery
+      pub next_log : v.progress.log ≡ r.progress.log ++ (record { message = m; hint = hint }) ∷ []
+      next_log =
+          ap (λ (x : RunState). x.progress.log) then_is ∙ longer
+          ∙ ap (λ (x : ProgressState). x.log ++ (record { message = m; hint = hint }) ∷ []) was_taken.2
+
+-- a run under way has made fewer deliveries than it may make, and one more leaves fewer to come
+pub log_falls : (restarts : List ℕ) (r v : RunState) → IsUnderWay restarts v
+    → v ≡ record r { progress = v.progress } → length v.progress.log ≡ length r.progress.log + 1
+    → 2 * dependency_count r.graph * (MAX_RESTARTS + 1) + 1 - length v.progress.log
+    < 2 * dependency_count r.graph * (MAX_RESTARTS + 1) + 1 - length r.progress.log
+log_falls restarts r v way same longer =
+    let bound : length v.progress.log ≤ 2 * dependency_count v.graph * (MAX_RESTARTS + 1) =
+    log_bound v.graph v.initiator v.choices restarts v.progress way.well_formed.within way.accepted.idle way.follows
+    way.accepted.restarts_good.few in
+    let here : length v.progress.log ≤ 2 * dependency_count r.graph * (MAX_RESTARTS + 1) =
+    subst (λ (x : RunState). length v.progress.log ≤ 2 * dependency_count x.graph * (MAX_RESTARTS + 1)) same bound in
+    omega (arith, here, longer)
 
 -- ---- the end
 
@@ -445,46 +495,29 @@ ends_as g i choices restarts s ok idle f over = by_ended s.going.config.ended re
     by_ended (Some (CutFree k)) e = e
     by_ended (Some AtRest) e = absurd (not_at_rest (is_awake g i) refl e)
 
--- where there is no message to take, the log is as it was
-pub over_log : (choices : List ℕ) (s t : ProgressState) → IsTakenBy choices s t None → t.log ≡ s.log
-over_log choices s t over = ap (λ (w : ProgressState). w.log) over.0
+-- a network that is cleared at the end is as at first
+pub cleared : (restarts : List ℕ) (r : RunState) (c : Config) → IsUnderWay restarts r
+    → c ≡ blank_config (length r.progress.going.config.procs) → c ≡ nothing_yet r.graph
+cleared restarts r c way e =
+    e ∙ ap blank_config
+    (all_there r.graph r.initiator r.choices restarts r.progress way.well_formed.within way.accepted.idle way.follows)
 
--- a network that is cleared when there is no message to take is as at first
-pub cleared : (g : Graph) (i : ℕ) (choices restarts : List ℕ) (s t : ProgressState) (c : Config) → IsWithinGraph g
-    → is_idle g i ≡ true → Follows g i choices restarts s
-    → IsTakenBy choices s t None → c ≡ blank_config (length t.going.config.procs) → c ≡ nothing_yet g
-cleared g i choices restarts s t c ok idle f over e =
-    e ∙ ap (λ (w : ProgressState). blank_config (length w.going.config.procs)) over.0
-    ∙ ap blank_config (all_there g i choices restarts s ok idle f)
-
--- what is kept of a run when there is no message to take is a legal run that followed the choices
-pub finished : (g : Graph) (i : ℕ) (choices restarts : List ℕ) (s t : ProgressState) (r : Run) → IsWithinGraph g
-    → is_idle g i ≡ true → Follows g i choices restarts s
-    → IsTakenBy choices s t None
-    → r ≡ record {
+-- what is kept of a run that is over is a legal run that followed the choices
+finished : (g : Graph) (i : ℕ) (choices restarts : List ℕ) (s : ProgressState) → IsWithinGraph g
+    → is_idle g i ≡ true → Follows g i choices restarts s → IsOver s.going.config
+    → IsRunOf g choices restarts (record {
       initiator = i;
-      log = t.log;
-      ending = unwrap_or t.going.config.ended AtRest;
-      engaged = t.going.config.engaged;
-      restarted = t.going.restarted;
-    }
-    → IsRunOf g choices restarts r
-finished g i choices restarts s t r ok idle f over e =
-    subst (λ (x : Run). IsRunOf g choices restarts x)
-    (sym (e ∙ ap
-    (λ (w : ProgressState). let z : Run = record {
-      initiator = i;
-      log = w.log;
-      ending = unwrap_or w.going.config.ended AtRest;
-      engaged = w.going.config.engaged;
-      restarted = w.going.restarted;
-    } in z) over.0))
-    (record {
-      end = s.going;
-      legal = record { leads = f.leads; ends = ends_as g i choices restarts s ok idle f over.1 };
-      engaged = refl;
-      restarted = refl;
+      log = s.log;
+      ending = unwrap_or s.going.config.ended AtRest;
+      engaged = s.going.config.engaged;
+      restarted = s.going.restarted;
     })
+finished g i choices restarts s ok idle f over = record {
+  end = s.going;
+  legal = record { leads = f.leads; ends = ends_as g i choices restarts s ok idle f over };
+  engaged = refl;
+  restarted = refl;
+}
 
 -- what a legal run says of its initiator is true
 verdict_right : (g : Graph) (i : ℕ) (restarts : List ℕ) (ending : Ending) (end : Going)
@@ -556,7 +589,7 @@ awake_runs_nothing g i choices restarts r same k up =
     none.at_rest (k.engaged ∙ none.nobody) (k.restarted ∙ none.once)
 
 -- a legal run of an initiator that is accepted is what is answered of it
-pub answered : (g : Graph) (i : ℕ) (choices restarts : List ℕ) (r : Run) → IsWithinGraph g
+answered : (g : Graph) (i : ℕ) (choices restarts : List ℕ) (r : Run) → IsWithinGraph g
     → IsAccepted g i choices restarts → r.initiator ≡ i
     → IsRunOf g choices restarts r → IsRunAnswer g i choices restarts r
 answered g i choices restarts r ok accepted same k = record {
@@ -568,3 +601,19 @@ answered g i choices restarts r ok accepted same k = record {
   engaged = run_engages g i choices restarts r ok accepted.idle same k;
   awake = awake_runs_nothing g i choices restarts r same k;
 }
+
+-- what is kept of a run under way that is over is what is answered
+pub answer_of : (restarts : List ℕ) (r : RunState) (kept : Run) → IsUnderWay restarts r → IsOver r.progress.going.config
+    → kept ≡ record {
+      initiator = r.initiator;
+      log = r.progress.log;
+      ending = unwrap_or r.progress.going.config.ended AtRest;
+      engaged = r.progress.going.config.engaged;
+      restarted = r.progress.going.restarted;
+    }
+    → IsRunAnswer r.graph r.initiator r.choices restarts kept
+answer_of restarts r kept way over e =
+    subst (λ (x : Run). IsRunAnswer r.graph r.initiator r.choices restarts x) (sym e)
+    (answered r.graph r.initiator r.choices restarts _ way.well_formed.within way.accepted refl
+    (finished r.graph r.initiator r.choices restarts r.progress way.well_formed.within way.accepted.idle way.follows
+    over))

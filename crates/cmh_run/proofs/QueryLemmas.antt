@@ -1,14 +1,13 @@
 -- What a query does: hints are asked about a receiver that is about to engage, and nobody else is changed.
-use Rattle.std.proofs.Common.{◌≡◌, ℕ, [], true, false, Option, Some, None, refl, ◌∙◌}
+use Rattle.std.proofs.Common.{◌≡◌, ℕ, [], true, false, Option, Some, None, refl}
 use Rattle.std.specs.Prelude.{IfSome, IsTrue}
 use Rattle.std.proofs.lemmas.List.{set-get_or}
 use Rattle.cmh_graph.specs.declared.verdict.Verdict.{Verdict}
-use Rattle.cmh_graph.specs.declared.verdict.Verdict.TheVariants.{Deadlocked, Free}
 use Rattle.cmh_process.specs.declared.message.Kind.TheVariants.{Query}
 use Rattle.cmh_process.specs.declared.message.Message.{Message}
 use Rattle.cmh_graph.specs.Graph.{Graph, is_awake}
 use Rattle.cmh_process.specs.Process.{engages, new_proc, repeat_action}
-use Rattle.cmh_run.specs.Config.{Config, after_answer, asks_hint, after_action, after_hint, proc_at, query, after_message}
+use Rattle.cmh_run.specs.Config.{Config, after_answer, asks_hint, after_action, proc_at}
 use Rattle.cmh_graph.specs.Verdict.{IsVerdict}
 use Rattle.cmh_run.specs.Legal.{HintIsFit}
 
@@ -18,23 +17,10 @@ pub fit_where_asked : (g : Graph) (c : Config) (m : Message) (hint : Option Verd
 fit_where_asked g c m None asked is = tt
 fit_where_asked g c m (Some v) asked is = (asked, is)
 
--- what a query does that engages is told by its parts
-hinted_parts : (g : Graph) (i : ℕ) (c : Config) (m : Message) (hint : Option Verdict)
-    → after_hint g i c (query i m.number m.from m.to) hint ≡ after_hint g i c m hint
-hinted_parts g i c m None = refl
-hinted_parts g i c m (Some Deadlocked) = refl
-hinted_parts g i c m (Some Free) = refl
-
 -- hints are asked of a query that engages a process that isn't awake
 pub asked_of_query : (g : Graph) (c : Config) (m : Message) → m.kind ≡ Query → is_awake g m.to ≡ false
     → engages (proc_at c.procs m.to) m.number ≡ true → IsTrue (asks_hint g c m)
 asked_of_query g c m kind asleep engaging = rw (kind, asleep, engaging) refl
-
--- a query that engages does what its parts and the hint say
-pub engaged_receives : (g : Graph) (i : ℕ) (c : Config) (m : Message) (hint : Option Verdict)
-    → engages (proc_at c.procs m.to) m.number ≡ true
-    → after_hint g i c (query i m.number m.from m.to) hint ≡ after_message g i c m Query hint
-engaged_receives g i c m hint engaging = hinted_parts g i c m hint ∙ rw engaging refl
 
 -- a query that doesn't engage leaves its receiver as it is
 pub answers : (i : ℕ) (c : Config) (m : Message) → engages (proc_at c.procs m.to) m.number ≡ false

@@ -1,11 +1,13 @@
 -- A run on its way, and the deliveries that led there.
 use Rattle.std.specs.Prelude.{◌≡◌, ◌≢◌, ◌⊎◌, ℕ, ◌+◌, ◌%◌, ◌<◌, ◌^◌, if◌then◌else◌, List, [], ◌∷◌, ◌++◌, length, slice_get, slice_index, Option, Some, None}
 use Rattle.cmh_graph.specs.Graph.{Graph, process_count, is_awake}
+use Rattle.cmh_graph.specs.Build.{IsWellFormed}
 use Rattle.cmh_process.specs.declared.message.Message.{Message}
 use Rattle.cmh_run.specs.declared.delivery.Delivery.{Delivery}
-use Rattle.cmh_run.specs.Config.{proc_at, without_message, after_message}
+use Rattle.cmh_run.specs.Config.{Config, proc_at, without_message, after_message}
 use Rattle.cmh_run.specs.Legal.{Going, going_at_start, DeliveriesLead}
 use Rattle.cmh_run.specs.Choices.{chosen_place}
+use Rattle.cmh_run.specs.Run.{IsAccepted}
 
 -- a run on its way, and the deliveries that led there
 pub record ProgressState : Type 0 where
@@ -24,6 +26,23 @@ pub record MayStart (g : Graph) (i : ℕ) (s : Going) : Type 0 where
   pub next : (proc_at s.config.procs i).latest + 1 < 2 ^ 32
   pub count : s.restarted + 1 < 2 ^ 32
 
+-- a run on its way, with what was fixed at its start
+pub record RunState : Type 0 where
+  pub graph : Graph
+  pub initiator : ℕ
+  pub choices : List ℕ
+  pub progress : ProgressState
+
+-- the run of an accepted initiator is on its way, and all its premises stand
+pub record IsUnderWay (restarts : List ℕ) (r : RunState) : Type 0 where
+  pub accepted : IsAccepted r.graph r.initiator r.choices restarts
+  pub well_formed : IsWellFormed r.graph
+  pub follows : Follows r.graph r.initiator r.choices restarts r.progress
+
+-- the run is over, or has nothing left to deliver
+abbrev pub IsOver : Config → Type 0
+IsOver c = c.ended ≢ None ⊎ (c.bag ≡ [])
+
 -- the place that the choices name
 abbrev pub place_in : List ℕ → ProgressState → ℕ
 place_in choices s = slice_index choices s.going.done % length s.going.config.bag
@@ -31,7 +50,7 @@ place_in choices s = slice_index choices s.going.done % length s.going.config.ba
 -- the message that the choices name was taken, or there is none to take
 abbrev pub IsTakenBy : List ℕ → ProgressState → ProgressState → Option Message → Type 0
 IsTakenBy choices old new None =
-    (new ≡ old) × (old.going.config.ended ≢ None ⊎ (old.going.config.bag ≡ []))
+    (new ≡ old) × IsOver old.going.config
 IsTakenBy choices old new (Some m) =
     let x = place_in choices old in
     (old.going.config.ended ≡ None) × (slice_get old.going.config.bag x ≡ Some m)

@@ -2,7 +2,6 @@
 
 ghost use Rattle.std.specs.Prelude.{◌≡◌, ◌⊎◌, ◌<◌, ◌↔◌, ℕ, List, [], ◌∷◌, ◌++◌, None, length, IfOk, IfErr, IfSome, IfNone, IsTrue, not, ◌&&◌, OnOk};
 ghost use Rattle.cmh_graph.specs.Graph.{Graph, process_count, is_idle};
-ghost use Rattle.cmh_graph.specs.Build.{IsWellFormed};
 ghost use Rattle.cmh_graph.specs.Verdict.{verdicts};
 ghost use Rattle.cmh_process.specs.declared.message.Message.{Message};
 ghost use Rattle.cmh_run.specs.declared.delivery.Delivery.{Delivery};
@@ -13,6 +12,7 @@ ghost use Rattle.cmh_run.specs.CheckState.{is_waiting, goes_like, Agrees, IsChec
 use crate::network::Network;
 use crate::undelivered::Undelivered;
 use crate::{CheckFault, Delivery, Ending};
+use cmh_graph::laws::law_built_graph;
 use cmh_graph::{Verdict, WaitGraph};
 use cmh_process::Message;
 use std::alloc::{AllocError, Global};
@@ -41,13 +41,15 @@ impl Checker {
         graph: &WaitGraph,
         initiator: u32,
     ) -> Result<Checker, AllocError>
-        requires graph { IsWellFormed graph.now }
         requires within { initiator < process_count graph.now }
         requires idle { IsTrue (is_idle graph.now initiator) }
         ensures ok { IfOk result (IsChecked graph.now initiator []) }
     {
+        law_built_graph(graph);
+        let mut network = Network::nothing_yet(alloc, graph)?;
+        network.begin(graph, initiator)?;
         let mut checker = Checker {
-            network: Network::begun(alloc, graph, initiator)?,
+            network,
             undelivered: Undelivered::new(alloc),
         };
         checker.settle()?;
@@ -117,13 +119,13 @@ impl Checker {
 
     /// Whether the delivery has no hint, or one that is asked for and true.
     fn is_fit(&self, graph: &WaitGraph, truth: &[Verdict], delivery: Delivery) -> bool
-        requires graph { IsWellFormed graph.now }
         requires size { length self.now.network.procs ≡ process_count graph.now }
         requires within { delivery.message.to < process_count graph.now }
         requires truth { truth.now ≡ verdicts graph.now }
         ensures { IsTrue result
             ↔ HintIsFit graph.now self.now.network delivery.message delivery.hint }
     {
+        law_built_graph(graph);
         let Some(verdict) = delivery.hint else {
             return true;
         };

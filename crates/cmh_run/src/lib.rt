@@ -6,7 +6,6 @@
 mod bag;
 mod check;
 mod checker;
-mod choices;
 mod delivery;
 mod fault;
 mod hints;

@@ -1,6 +1,6 @@
 //! The processes of a network, which are made once and used for one run after another.
 
-ghost use Rattle.std.specs.Prelude.{◌≡◌, ◌+◌, ◌<◌, ◌^◌, length, replicate, slice_set, IfOk, IsFalse, IsTrue, OnOk};
+ghost use Rattle.std.specs.Prelude.{◌≡◌, ◌+◌, ◌<◌, ◌^◌, length, replicate, slice_set, IfOk, OnOk};
 ghost use Rattle.cmh_process.specs.Process.{new_proc, proc_started, start_action, engages, proc_queried, query_action, repeat_action, proc_replied, reply_action};
 ghost use Rattle.cmh_run.specs.Config.{proc_at};
 
@@ -85,23 +85,6 @@ impl Procs {
     {
         self.touched.push(k)?;
         Ok(self.all[k as usize].on_query(number, from, size))
-    }
-
-    /// `engage` where it takes no memory to note that the process takes part, and else nothing.
-    #[inline(always)]
-    #[tactic(auto, using(crate::proofs::TouchedProcesses::one_touched))]
-    pub(crate) fn engage_in_room(&mut self, k: u32, number: u32, from: u32, size: u32) -> bool
-        requires { k < length self.old }
-        ensures procs { IsTrue result → (self.new
-            ≡ slice_set self.old k (proc_queried (proc_at self.old k) number from size)) }
-        ensures full { IsFalse result → self.new ≡ self.old }
-    {
-        if self.touched.len() == self.touched.capacity() {
-            return false;
-        }
-        self.touched.push_reserved(k);
-        self.all[k as usize].on_query(number, from, size);
-        true
     }
 
     /// What the process sends at a query with this number that doesn't engage it.

@@ -1,23 +1,27 @@
 //! A run on its way.
 
-ghost use Rattle.std.specs.Prelude.{◌≡◌, ℕ, List, ◌+◌, ◌<◌, ◌^◌, [], None, Option, Some, length, slice_index, IfOk, IfSome, OnOk, unwrap_or};
-ghost use Rattle.cmh_graph.specs.Graph.{process_count};
-ghost use Rattle.cmh_graph.specs.Build.{IsWellFormed};
+ghost use Rattle.std.specs.Prelude.{◌≡◌, ℕ, List, ◌+◌, ◌<◌, [], None, length, IfOk, OnOk, IsTrue, IsFalse, unwrap_or};
+ghost use Rattle.cmh_run.specs.Choices.{HasNoHints};
 ghost use Rattle.cmh_run.specs.Config.{blank_config, nothing_yet};
-ghost use Rattle.cmh_graph.specs.declared.verdict.Verdict.{Verdict};
-ghost use Rattle.cmh_run.specs.Legal.{going_at_start, after_due_restart, HintIsFit};
-ghost use Rattle.cmh_run.specs.Progress.{MayStart, IsTakenBy, progress_after};
+ghost use Rattle.cmh_run.specs.Legal.{after_due_restart};
+ghost use Rattle.cmh_run.specs.Run.{IsAccepted};
+ghost use Rattle.cmh_run.specs.Progress.{RunState, IsUnderWay, IsOver, MayStart, IsTakenBy};
 
 use crate::network::Network;
 use crate::{Delivery, Ending, Hints, Log, RunLog};
 use cmh_graph::WaitGraph;
+use cmh_graph::laws::law_built_graph;
 use cmh_process::Message;
 use std::alloc::{AllocError, Global};
 use std::marker::Model;
 
-/// A run on its way, with the deliveries that were made and the restarts that are still to come.
+/// A run on its way, over a graph and in a network that it was lent, with the deliveries that were made and the restarts
+/// that are still to come.
 #[derive(Drop)]
 pub(crate) struct Progress<'a, L: Log> {
+    graph: &'a WaitGraph,
+    initiator: u32,
+    choices: &'a [u64],
     network: Network,
     log: L,
     made: usize,
@@ -27,76 +31,75 @@ pub(crate) struct Progress<'a, L: Log> {
 
 impl<'a, L: Log> Model for Progress<'a, L> {
     ghost use Rattle.std.specs.Prelude.{length};
-    ghost use Rattle.cmh_run.specs.Progress.{ProgressState};
+    ghost use Rattle.cmh_run.specs.Progress.{RunState};
 
-    ghost Value = { ProgressState };
+    ghost Value = { RunState };
 
     ghost view = { λ p. record {
-      going = record {
-        config = p.network;
-        done = p.made;
-        restarts = p.restarts.now;
-        restarted = p.restarted;
+      graph = p.graph.now;
+      initiator = p.initiator;
+      choices = p.choices.now;
+      progress = record {
+        going = record {
+          config = p.network;
+          done = p.made;
+          restarts = p.restarts.now;
+          restarted = p.restarted;
+        };
+        log = L.deliveries p.log;
       };
-      log = L.deliveries p.log;
     } };
 }
 
 impl<'a, L: Log> Progress<'a, L> {
-    /// The start of an idle process. An awake one asks nobody.
+    /// The start of an accepted initiator, and its first restart, if that is due at once. An awake one asks nobody, and
+    /// never starts again.
     pub(crate) fn begin(
         alloc: Global,
-        graph: &WaitGraph,
+        graph: &'a WaitGraph,
         mut network: Network,
         initiator: u32,
+        choices: &'a [u64],
         restarts: &'a [u32],
     ) -> Result<Progress<'a, L>, AllocError>
         requires blank { network ≡ nothing_yet graph.now }
-        requires graph { IsWellFormed graph.now }
-        requires within { initiator < process_count graph.now }
-        ensures ok { IfOk result (λ p.
-            p ≡ record { going = going_at_start graph.now initiator restarts.now; log = [] }) }
+        requires accepted { IsAccepted graph.now initiator choices.now restarts.now }
+        ensures same { IfOk result (λ p. p ≡ record {
+          graph = graph.now;
+          initiator = initiator;
+          choices = choices.now;
+          progress = p.progress;
+        }) }
+        ensures under_way { IfOk result (IsUnderWay restarts.now) }
+        ensures log { IfOk result (λ p. p.progress.log ≡ []) }
     {
+        law_built_graph(graph);
+        network.begin(graph, initiator)?;
         let is_awake = graph.is_awake(initiator);
-        if !is_awake {
-            network.start(graph, initiator)?;
-        }
-        Ok(Progress {
+        let mut progress = Progress {
+            graph,
+            initiator,
+            choices,
             network,
             log: L::empty(alloc),
             made: 0,
             restarts: if is_awake { &[] } else { restarts },
             restarted: 0,
-        })
+        };
+        progress.restart_if_due()?;
+        Ok(progress)
     }
 
     /// The initiator starts again, if that is due now.
     #[inline(always)]
-    pub(crate) fn restart_if_due(
-        &mut self,
-        graph: &WaitGraph,
-        initiator: u32,
-    ) -> Result<(), AllocError>
-        requires graph { IsWellFormed graph.now }
-        requires may { self.old.going.config.ended ≡ None
-            → MayStart graph.now initiator self.old.going }
-        ensures ok { OnOk result (self.new
-            ≡ record self.old { going = after_due_restart graph.now initiator self.old.going }) }
-    {
-        match self.restarts.first() {
-            None => Ok(()),
-            Some(_) => self.restart_where_due(graph, initiator),
-        }
-    }
-
-    /// `restart_if_due` where a restart is to come. It stands apart, since few runs start again.
-    #[inline(never)]
-    fn restart_where_due(&mut self, graph: &WaitGraph, initiator: u32) -> Result<(), AllocError>
-        requires graph { IsWellFormed graph.now }
-        requires may { self.old.going.config.ended ≡ None
-            → MayStart graph.now initiator self.old.going }
-        ensures ok { OnOk result (self.new
-            ≡ record self.old { going = after_due_restart graph.now initiator self.old.going }) }
+    fn restart_if_due(&mut self) -> Result<(), AllocError>
+        requires may { self.old.progress.going.config.ended ≡ None
+            → MayStart self.old.graph self.old.initiator self.old.progress.going }
+        ensures ok { OnOk result (self.new ≡ record self.old {
+          progress = record self.old.progress {
+            going = after_due_restart self.old.graph self.old.initiator self.old.progress.going;
+          };
+        }) }
     {
         let Some(next) = self.restarts.first() else {
             return Ok(());
@@ -104,7 +107,7 @@ impl<'a, L: Log> Progress<'a, L> {
         if self.network.has_ended() || *next as usize != self.made {
             return Ok(());
         }
-        self.network.start(graph, initiator)?;
+        self.network.start(self.graph, self.initiator)?;
         self.restarts = &self.restarts[1..];
         self.restarted += 1;
         Ok(())
@@ -112,65 +115,67 @@ impl<'a, L: Log> Progress<'a, L> {
 
     /// Takes the message that comes next by the next of the choices, unless the run is over.
     #[inline(always)]
-    pub(crate) fn take(&mut self, choice: u64) -> Option<Message>
-        ensures taken { (choices : List ℕ) → choice ≡ slice_index choices self.old.going.done
-            → IsTakenBy choices self.old self.new result }
+    fn take(&mut self) -> Option<Message>
+        ensures same { self.new ≡ record self.old { progress = self.new.progress } }
+        ensures taken { IsTakenBy self.old.choices self.old.progress self.new.progress result }
     {
         if self.network.has_ended() {
             return None;
         }
+        let choice = match self.choices.get(self.made) {
+            Some(choice) => *choice,
+            None => 0,
+        };
         self.network.take(choice)
     }
 
-    /// The delivery of a message that was taken. Hints are asked about the receiver, if it is about
-    /// to engage.
+    /// Delivers the message that comes next by the choices, with what hints say of its receiver, if it is about to engage.
+    /// Then the initiator starts again, if that is due. Where the run is over, or nothing is left to deliver, it answers
+    /// no.
     #[inline(always)]
-    pub(crate) fn deliver<H: Hints>(
-        &mut self,
-        graph: &WaitGraph,
-        initiator: u32,
-        message: Message,
-        hints: &mut H,
-    ) -> Result<(), AllocError>
-        requires graph { IsWellFormed graph.now }
-        requires size { length self.old.going.config.procs ≡ process_count graph.now }
-        requires within { message.to < process_count graph.now }
-        requires going { self.old.going.config.ended ≡ None }
-        requires few { self.old.going.done + 1 < 2 ^ 64 }
-        requires speaks { H.speaks_of hints.old graph.now }
-        ensures ok { OnOk result ((hint : Option Verdict)
-            × HintIsFit graph.now self.old.going.config message hint
-            × (self.new ≡ progress_after graph.now initiator self.old
-            (record { message = message; hint = hint }))
-            × (H.is_silent hints.old → hint ≡ None)) }
+    pub(crate) fn deliver_next<H: Hints>(&mut self, hints: &mut H) -> Result<bool, AllocError>
+        requires under_way { (restarts : List ℕ) × IsUnderWay restarts self.old }
+        requires speaks { H.speaks_of hints.old self.old.graph }
+        ensures same { OnOk result (self.new ≡ record self.old { progress = self.new.progress }) }
+        ensures under_way { IfOk result (λ more. (restarts : List ℕ)
+            → IsUnderWay restarts self.old → IsUnderWay restarts self.new) }
+        ensures more { IfOk result (λ more. IsTrue more
+            → length self.new.progress.log ≡ length self.old.progress.log + 1) }
+        ensures over { IfOk result (λ more. IsFalse more → IsOver self.new.progress.going.config) }
+        ensures silent { IfOk result (λ more. H.is_silent hints.old
+            → HasNoHints self.old.progress.log → HasNoHints self.new.progress.log) }
         ensures kept { H.keeps hints.old hints.new }
     {
-        let hint = self
-            .network
-            .deliver_asking(graph, initiator, message, hints)?;
+        let Some(message) = self.take() else {
+            return Ok(false);
+        };
+        let hint = self.network.ask(self.graph, message, hints);
+        self.network
+            .deliver(self.graph, self.initiator, message, hint)?;
         self.log.add(Delivery { message, hint })?;
         self.made += 1;
-        Ok(())
+        self.restart_if_due()?;
+        Ok(true)
     }
 
     /// What is kept of the run, which is over or has nothing left to deliver, and the network for
     /// the next run.
-    pub(crate) fn finish(self, alloc: Global, initiator: u32) -> (RunLog<L>, Network)
+    pub(crate) fn finish(self, alloc: Global) -> (RunLog<L>, Network)
         ensures log { result.0 ≡ record {
-          initiator = initiator;
-          log = self.entry.log;
-          ending = unwrap_or self.entry.going.config.ended Ending.AtRest;
-          engaged = self.entry.going.config.engaged;
-          restarted = self.entry.going.restarted;
+          initiator = self.entry.initiator;
+          log = self.entry.progress.log;
+          ending = unwrap_or self.entry.progress.going.config.ended Ending.AtRest;
+          engaged = self.entry.progress.going.config.engaged;
+          restarted = self.entry.progress.going.restarted;
         } }
-        ensures network { result.1 ≡ blank_config (length self.entry.going.config.procs) }
+        ensures network { result.1 ≡ blank_config (length self.entry.progress.going.config.procs) }
     {
         let mut network = self.network;
         let ending = network.ended().unwrap_or(Ending::AtRest);
         let engaged = network.take_engaged(alloc);
         network.clear();
         let log = RunLog {
-            initiator,
+            initiator: self.initiator,
             log: self.log,
             ending,
             engaged,

@@ -1,15 +1,12 @@
 //! Runs one after another, in memory that is taken once.
 
-ghost use Rattle.std.specs.Prelude.{◌≡◌, ◌⊎◌, [], Some, ◌*◌, ◌<◌, ◌≤◌, ◌↔◌, drop, length, IfOk, IfErr, IsTrue, OnOk};
-ghost use Rattle.cmh_graph.specs.Graph.{is_idle, dependency_count};
-ghost use Rattle.cmh_graph.specs.Build.{IsWellFormed};
+ghost use Rattle.std.specs.Prelude.{◌≡◌, ◌⊎◌, [], Some, ◌*◌, ◌≤◌, ◌↔◌, length, IfOk, IfErr, IsTrue};
+ghost use Rattle.cmh_graph.specs.Graph.{dependency_count};
 ghost use Rattle.cmh_run.specs.Choices.{HasNoHints};
 ghost use Rattle.cmh_run.specs.Config.{nothing_yet};
 ghost use Rattle.std.specs.List.Sorted.{IsStrictlyIncreasing};
 ghost use Rattle.cmh_run.specs.Run.{IsAccepted, IsFirstRunFault, IsRunAnswer};
-ghost use Rattle.cmh_run.specs.Progress.{Follows};
 
-use crate::choices::Choices;
 use crate::network::Network;
 use crate::progress::Progress;
 use crate::{Hints, Log, MAX_CHOICES, MAX_RESTARTS, RunFault, RunLog};
@@ -114,7 +111,6 @@ fn judge(
     choices: &[u64],
     restarts: &[u32],
 ) -> Result<(), RunFault>
-    ensures graph { IfOk result (λ u. IsWellFormed graph.now) }
     ensures ok { IfOk result (λ u. IsAccepted graph.now initiator choices.now restarts.now) }
     ensures fault { IfErr result (λ e.
         IsFirstRunFault graph.now initiator choices.now restarts.now e) }
@@ -154,7 +150,6 @@ fn follow<L: Log, H: Hints>(
     restarts: &[u32],
 ) -> Result<(RunLog<L>, Network), AllocError>
     requires blank { network ≡ nothing_yet graph.now }
-    requires graph { IsWellFormed graph.now }
     requires speaks { H.speaks_of hints.old graph.now }
     requires accepted { IsAccepted graph.now initiator choices.now restarts.now }
     ensures run { IfOk result (λ r.
@@ -163,45 +158,7 @@ fn follow<L: Log, H: Hints>(
     ensures kept { H.keeps hints.old hints.new }
     ensures blank { IfOk result (λ r. r.1 ≡ nothing_yet graph.now) }
 {
-    let mut progress = Progress::begin(alloc, graph, network, initiator, restarts)?;
-    progress.restart_if_due(graph, initiator)?;
-    follow_freely(graph, &mut progress, initiator, choices, hints, restarts)?;
-    let mut left = Choices::new(choices);
-    while let Some(message) = progress.take(left.next()) {
-        progress.deliver(graph, initiator, message, hints)?;
-        progress.restart_if_due(graph, initiator)?;
-    }
-    Ok(progress.finish(alloc, initiator))
-}
-
-/// The run up to its end, where there are no choices and no restarts. Nearly every run is such a one,
-/// and so none of its deliveries asks for either.
-#[inline(always)]
-fn follow_freely<L: Log, H: Hints>(
-    graph: &WaitGraph,
-    progress: &mut Progress<L>,
-    initiator: u32,
-    choices: &[u64],
-    hints: &mut H,
-    restarts: &[u32],
-) -> Result<(), AllocError>
-    requires follows { Follows graph.now initiator choices.now restarts.now progress.old }
-    requires left { choices.now ≡ drop progress.old.going.done choices.now }
-    requires graph { IsWellFormed graph.now }
-    requires speaks { H.speaks_of hints.old graph.now }
-    requires idle { IsTrue (is_idle graph.now initiator) }
-    requires few { length restarts.now ≤ MAX_RESTARTS }
-    requires silent { H.is_silent hints.old → HasNoHints progress.old.log }
-    ensures follows { OnOk result (Follows graph.now initiator choices.now restarts.now progress.new) }
-    ensures left { OnOk result (choices.now ≡ drop progress.new.going.done choices.now) }
-    ensures silent { OnOk result (H.is_silent hints.old → HasNoHints progress.new.log) }
-    ensures kept { H.keeps hints.old hints.new }
-{
-    if !choices.is_empty() || !restarts.is_empty() {
-        return Ok(());
-    }
-    while let Some(message) = progress.take(0) {
-        progress.deliver(graph, initiator, message, hints)?;
-    }
-    Ok(())
+    let mut progress = Progress::begin(alloc, graph, network, initiator, choices, restarts)?;
+    while progress.deliver_next(hints)? {}
+    Ok(progress.finish(alloc))
 }

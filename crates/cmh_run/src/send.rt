@@ -1,6 +1,6 @@
 //! What a process puts into the queue by an action.
 
-ghost use Rattle.std.specs.Prelude.{◌≡◌, ◌++◌, ◌<◌, ℕ, OnOk};
+ghost use Rattle.std.specs.Prelude.{◌≡◌, ◌++◌, OnOk};
 ghost use Rattle.cmh_run.specs.Config.{messages_of};
 
 use crate::Bag;

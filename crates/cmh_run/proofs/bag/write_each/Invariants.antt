@@ -1,5 +1,4 @@
 use Rattle.std.proofs.Common.{◌≡◌, ℕ, length, map, take}
-use Rattle.cmh_process.specs.declared.message.Message.{Message}
 use Rattle.cmh_run.proofs.bag.write_each.Given as goal
 
 abbrev pub invariant-loop-k : goal.invariant-loop-k

@@ -1,17 +1,23 @@
-use Rattle.std.proofs.Common.{◌≡◌, ◌+◌, ◌*◌, ◌-◌, drop, length}
+use Rattle.std.proofs.Common.{◌≡◌, ◌+◌, ◌*◌, ◌-◌, length}
 use Rattle.cmh_graph.specs.Graph.{dependency_count}
 use Rattle.cmh_run.specs.Choices.{HasNoHints}
 use Rattle.cmh_run.specs.declared.TheConstants.{MAX_RESTARTS}
-use Rattle.cmh_run.specs.Progress.{Follows}
+use Rattle.cmh_run.specs.Progress.{IsUnderWay}
 use Rattle.cmh_run.proofs.runner.follow.Given as goal
 
-abbrev pub invariant-loop-message : goal.invariant-loop-message
-invariant-loop-message g l = record {
-  follows : Follows l.graph l.initiator l.choices l.restarts l.progress;
-  left : l.left ≡ drop l.progress.going.done l.choices;
+abbrev pub invariant-loop-progress : goal.invariant-loop-progress
+invariant-loop-progress g l = record {
+  same : l.progress ≡ record {
+    graph = l.graph;
+    initiator = l.initiator;
+    choices = l.choices;
+    progress = l.progress.progress;
+  };
+  under_way : IsUnderWay l.restarts l.progress;
   kept : g.H.Hints.keeps l.fn.hints l.hints;
-  silent : g.H.Hints.is_silent l.fn.hints → HasNoHints l.progress.log;
+  silent : g.H.Hints.is_silent l.fn.hints → HasNoHints l.progress.progress.log;
 }
 
-abbrev pub decreases-loop-message : goal.decreases-loop-message
-decreases-loop-message g l = 2 * dependency_count l.graph * (MAX_RESTARTS + 1) + 1 - length l.progress.log
+abbrev pub decreases-loop-progress : goal.decreases-loop-progress
+decreases-loop-progress g l =
+    2 * dependency_count l.graph * (MAX_RESTARTS + 1) + 1 - length l.progress.progress.log

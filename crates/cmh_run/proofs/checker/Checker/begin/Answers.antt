@@ -10,8 +10,8 @@ returns c = record {
     going_at_start c.args.graph.now c.args.initiator [],
     c.in_ok-settle.ensures.ok c.args.graph.now c.args.initiator [] (going_at_start c.args.graph.now c.args.initiator [])
         (agrees_first c.args.graph.now c.args.initiator
-        (record { network = c.in_ok-begun.field-0; undelivered = c.new.result })
-        c.requires.graph c.requires.idle c.in_ok-begun.ensures.ok c.new.ensures),
+        (record { network = c.begin.new.self; undelivered = c.new.result })
+        c.law_built_graph.ensures c.requires.idle (c.in_ok-begin.ensures.ok []) c.new.ensures),
     c.in_ok-settle.ensures.settled,
   );
 }

@@ -4,7 +4,7 @@ use Rattle.cmh_graph.specs.Graph.{is_awake}
 use Rattle.cmh_run.specs.Config.{Config, after_message}
 use Rattle.cmh_run.specs.Legal.{going_after}
 use Rattle.cmh_run.specs.CheckState.{CheckState}
-use Rattle.cmh_run.proofs.CheckLemmas.{network_size, awaited, where_none, is_there, delivery_within, network_going, after_delivery}
+use Rattle.cmh_run.proofs.CheckLemmas.{network_size, awaited, where_none, is_there, delivery_within, after_delivery}
 use Rattle.cmh_run.proofs.checker.Checker.deliver.Goals as goal
 
 -- the message isn't awaited, so it isn't undelivered
@@ -45,17 +45,6 @@ deliver-requires-clause-size c =
 pub deliver-requires-clause-within : goal.deliver-requires-clause-within
 deliver-requires-clause-within c =
     delivery_within c.args.graph.now c.args.initiator c.requires.checked.0 c.requires.checked.1.0 c.args.self.now
-    c.args.delivery c.requires.checked.1.1 c.requires.checked.1.2
-    (where_none c.ending.result _ c.if-is_some.ensures c.ending.ensures.none c.args.graph.now c.args.initiator
-    c.requires.checked.0 c.requires.checked.1.0 c.requires.checked.1.1 c.requires.checked.1.2)
-    (c.if-not-take.ensures.found.0 refl)
-
--- when a message is delivered, the network hasn't ended
-pub deliver-requires-clause-going : goal.deliver-requires-clause-going
-deliver-requires-clause-going c =
-    ap (λ (a : CheckState). a.network.ended) c.self.view_is
-    ∙ ap (λ (n : Config). n.ended) c.if-not-take.ensures.network
-    ∙ network_going c.args.graph.now c.args.initiator c.requires.checked.0 c.requires.checked.1.0 c.args.self.now
     c.args.delivery c.requires.checked.1.1 c.requires.checked.1.2
     (where_none c.ending.result _ c.if-is_some.ensures c.ending.ensures.none c.args.graph.now c.args.initiator
     c.requires.checked.0 c.requires.checked.1.0 c.requires.checked.1.1 c.requires.checked.1.2)

@@ -18,4 +18,5 @@ returns-then-asks c =
     c.self.view_is
     (fit_where_true c.args.graph.now c.self.inside.network c.args.delivery.message c.args.delivery.hint
     c.in-Some.verdict _ c.args.truth.now c.eq.result
-    c.requires.graph c.in-Some.is (sym c.asks.ensures ∙ c.if-asks.true) c.requires.truth c.requires.within c.eq.ensures)
+    c.law_built_graph.ensures c.in-Some.is (sym c.asks.ensures ∙ c.if-asks.true) c.requires.truth c.requires.within
+    c.eq.ensures)
