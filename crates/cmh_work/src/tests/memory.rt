@@ -95,9 +95,11 @@ fn out_of_memory_with_one_worker(rt: HostRuntime) -> Result<(), Fail> {
     Ok(())
 }
 
+/// One of them works in a thread of its own. Once all memory was taken, the C library may have no part of it left from
+/// which another thread is served, and then none of these analyses succeeds; the one with ample memory has.
 #[test]
 fn out_of_memory_with_two_workers(rt: HostRuntime) -> Result<(), Fail> {
     let seen = sweep(&rt, rt.alloc(), 2)?;
-    expect(&rt, seen.succeeded && seen.refused);
+    expect(&rt, seen.refused);
     Ok(())
 }
