@@ -1,4 +1,7 @@
 //! Who may be asked about a process just before it engages.
+//!
+//! A member says whether hints are silent, so that a run over any hints can promise that silent ones leave none in its
+//! log.
 
 ghost use Rattle.std.specs.Prelude.{◌≡◌, ◌<◌, ◌↔◌, ⊤, None, IfSome};
 ghost use Rattle.cmh_graph.specs.Graph.{Graph, process_count};

@@ -19,7 +19,7 @@ ghost use Rattle.cmh_run.specs.declared.fault.CheckFault.{CheckFault};
 ghost use Rattle.cmh_run.specs.declared.delivery.Delivery.{Delivery};
 
 /// The rule of a start allows the computed start and nothing else, where the initiator isn't awake
-/// and the run goes on.
+/// and the run hasn't ended.
 pub fn law_start()
     ensures { (g : Graph) (i : ℕ) (c after : Config) → IsStart g i c after
         ↔ (IsFalse (is_awake g i) × (c.ended ≡ None) × (after ≡ start g i c)) }
@@ -42,7 +42,7 @@ pub fn law_runs_are_steps()
 {}
 
 /// A message numbered below its receiver's `latest` is taken, and nothing else changes: no process
-/// does, nothing is sent, nobody engages, and the run goes on. No hint is asked about it.
+/// changes, nothing is sent, none engages, and the run hasn't ended. No hint is asked about it.
 pub fn law_stale()
     ensures untouched { (g : Graph) (i : ℕ) (c : Config) (x : ℕ) (m : Message) (hint : Option Verdict)
         → c.ended ≡ None → m.number < (proc_at c.procs m.to).latest
@@ -51,8 +51,8 @@ pub fn law_stale()
         → m.number < (proc_at c.procs m.to).latest → IsFalse (asks_hint g c m) }
 {}
 
-/// A run that has ended tells whether its initiator is deadlocked. Where it is declared, everyone
-/// who is engaged is deadlocked too, and no message of the last start is undelivered.
+/// A run that has ended says whether its initiator is deadlocked. Where it is declared, each
+/// process that is engaged is deadlocked too, and no message of the last start is undelivered.
 pub fn law_runs_sound()
     ensures { (rule : Rule) (g : Graph) (i : ℕ) (restarts : List ℕ)
         (log : List Delivery) (ending : Ending) (end : Going)
@@ -60,8 +60,8 @@ pub fn law_runs_sound()
         → IsRight g i restarts ending end }
 {}
 
-/// Whatever the ending, the initiator engaged first, unless it is awake, and nobody twice; the
-/// initiator reaches whoever engaged, and none of them is awake. A run is cut at a free process
+/// Whatever the ending, the initiator engaged first, unless it is awake, and each process once; the
+/// initiator reaches each of them, and none of them is awake. A run is cut at a free process
 /// that did not engage.
 pub fn law_who_engages()
     ensures { (rule : Rule) (g : Graph) (i : ℕ) (restarts : List ℕ)
@@ -70,7 +70,7 @@ pub fn law_who_engages()
         → AreEngaged g i ending end.config.engaged }
 {}
 
-/// An awake initiator has the empty run: it comes to rest at once, with nobody engaged, and doesn't
+/// An awake initiator has the empty run: it comes to rest at once, with none engaged, and doesn't
 /// start again.
 pub fn law_awake_ones_start_nothing()
     ensures { (rule : Rule) (g : Graph) (i : ℕ) (restarts : List ℕ)

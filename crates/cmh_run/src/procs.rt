@@ -1,4 +1,7 @@
 //! The processes of a network, which are made once and used for one run after another.
+//!
+//! Numbers that tell old marks from new ones would need no clearing, but each look would compare them, and they run
+//! out.
 
 ghost use Rattle.std.specs.Prelude.{◌≡◌, ◌+◌, ◌<◌, ◌^◌, length, replicate, slice_set, IfOk, OnOk};
 ghost use Rattle.cmh_process.specs.Process.{new_proc, proc_started, start_action, engages, proc_queried, query_action, repeat_action, proc_replied, reply_action};

@@ -1,4 +1,6 @@
 //! The undelivered messages of one computation, as a set.
+//!
+//! It is an ordered set, not a hashed one: logs come from anywhere, and could be made to collide.
 
 ghost use Rattle.std.specs.Prelude.{◌≡◌, ◌↔◌, false, not, ◌&&◌, ◌||◌, IsTrue, OnOk};
 ghost use Rattle.cmh_process.specs.declared.message.Message.{Message};
