@@ -6,11 +6,12 @@ use Rattle.cmh_process.specs.declared.message.Kind.TheVariants.{Query, Reply}
 use Rattle.cmh_process.specs.declared.message.Message.{Message}
 use Rattle.cmh_run.specs.declared.delivery.Ending.{Ending}
 use Rattle.cmh_run.specs.declared.delivery.Ending.TheVariants.{Declared, AtRest, CutFree}
-use Rattle.cmh_run.specs.Choices.{HasNoHints}
-use Rattle.cmh_run.specs.Legal.{IsBetween}
+use Rattle.cmh_run.specs.Choices.{HasNoHints, chosen_place}
+use Rattle.cmh_run.specs.Legal.{Going, IsBetween}
 use Rattle.cmh_run.specs.declared.fault.RunFault.{RunFault}
 use Rattle.cmh_run.specs.declared.fault.RunFault.TheVariants.{Memory}
 use Rattle.cmh_run.specs.Run.{Run, IsRunOf, IsFirstRunFault}
+use Rattle.cmh_run.specs.Step.{IsRunOfSteps}
 use Rattle.cmh_text.specs.Report.{line}
 
 -- the word for the kind of a message
@@ -54,6 +55,20 @@ pub record IsTrace (name choices : List ℕ) (EndsSo : Ending → Type 0) (g : G
   pub legal : IsRunOf g choices [] run
   pub unhinted : HasNoHints run.log
   pub ends : EndsSo run.ending
+  pub lines : text ≡ trace_text g run
+
+-- The same in the rules of the computation: the text is the trace of a run whose starts and deliveries are by these
+-- rules, each delivery the one that the choices name, and which kept its deliveries, its ending and who engaged.
+pub record IsTraceOfSteps (name choices : List ℕ) (ending : Ending) (g : Graph) (text : List ℕ) : Type 0 where
+  pub run : Run
+  pub end : Going
+  pub named : IsFirstNamed g name run.initiator
+  pub idle : IsTrue (is_idle g run.initiator)
+  pub steps : IsRunOfSteps (chosen_place choices) g run.initiator [] run.log run.ending end
+  pub engaged : run.engaged ≡ end.config.engaged
+  pub restarted : run.restarted ≡ end.restarted
+  pub unhinted : HasNoHints run.log
+  pub ends : ending ≡ run.ending
   pub lines : text ≡ trace_text g run
 
 -- the trace, and how its run has ended

@@ -1,7 +1,7 @@
 //! Traces of worked dumps.
 
 use super::{expect, page};
-use crate::laws::law_one_trace;
+use crate::laws::{law_one_trace, law_trace_of_steps};
 use crate::{AppFault, trace_bytes};
 use cmh_run::{Ending, MAX_CHOICES, RunFault};
 use cmh_stream::{ReadOf, WriteOf};
@@ -39,6 +39,7 @@ fn traces(
         choices,
     );
     law_one_trace();
+    law_trace_of_steps();
     answer.is_ok_and(|last| last == ending) && out.bytes.as_slice() == text.as_bytes()
 }
 
