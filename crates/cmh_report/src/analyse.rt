@@ -69,7 +69,7 @@ fn text_and_count<R: Threads + Sync>(
     let text = text_of(rt, alloc, graph, &outline)?;
     Ok(CountedText {
         text,
-        deadlocked: outline.deadlocked(),
+        deadlocked: outline.deadlocked_count(),
     })
 }
 

@@ -14,8 +14,8 @@ use Rattle.cmh_graph.proofs.Groups.{head_below, in_own_core, reaches_on, rest_la
 use Rattle.cmh_graph.proofs.IndexLists.{by_index}
 use Rattle.cmh_graph.proofs.PathLemmas.{cons_contains, contains_cons, contains_index, reaches_then, then_reaches, contains_first}
 use Rattle.cmh_graph.proofs.Verdicts.{contains_filter, filter_contains, reached_within}
-use Rattle.cmh_text.specs.Known.{HasOneMore, IsKnownOf}
-use Rattle.cmh_text.specs.declared.known.Known.{Known}
+use Rattle.cmh_text.specs.LeaderReach.{HasOneMore, IsLeaderReachOf}
+use Rattle.cmh_text.specs.declared.leader_reach.LeaderReach.{LeaderReach}
 
 -- ---- rising lists
 
@@ -90,8 +90,8 @@ record ReachesBeside (g : Graph) (p l : ℕ) : Type 0 where
   beyond : Reaches g p l
 
 -- where p reaches a leader and has one mark more than it, p itself, that leader reaches all else that p does
-beside : (g : Graph) (p : ℕ) (known : Known) (marks : List Bool) → IsWithinGraph g → p < process_count g
-    → IsKnownOf g known → Reaches g p known.leader → marks ≡ map (reaches g p) (indices g)
+beside : (g : Graph) (p : ℕ) (known : LeaderReach) (marks : List Bool) → IsWithinGraph g → p < process_count g
+    → IsLeaderReachOf g known → Reaches g p known.leader → marks ≡ map (reaches g p) (indices g)
     → HasOneMore p known.marks.items marks → ReachesBeside g p known.leader
 beside g p known marks w i is there of_p more = record {
   others = λ q r other.
@@ -173,13 +173,13 @@ reach_beyond g p l w i j is low =
 -- ---- the parts of such a leader
 
 -- p's core is p, its rest is what is known, and it reaches both, p first, where p is below the others
-pub record IsBeyond (g : Graph) (p : ℕ) (known : Known) : Type 0 where
+pub record IsBeyond (g : Graph) (p : ℕ) (known : LeaderReach) : Type 0 where
   pub core : core_of g p ≡ p ∷ []
   pub rest : rest_of g p ≡ known.reach.items
   pub reach : p < get_or known.reach.items 0 0 → p ∷ known.reach.items ≡ reach_of g p
 
-pub parts_beyond : (g : Graph) (p : ℕ) (known : Known) (marks : List Bool) → IsWithinGraph g → p < process_count g
-    → IsKnownOf g known → Reaches g p known.leader → marks ≡ map (reaches g p) (indices g)
+pub parts_beyond : (g : Graph) (p : ℕ) (known : LeaderReach) (marks : List Bool) → IsWithinGraph g → p < process_count g
+    → IsLeaderReachOf g known → Reaches g p known.leader → marks ≡ map (reaches g p) (indices g)
     → HasOneMore p known.marks.items marks → IsBeyond g p known
 parts_beyond g p known marks w i is there of_p more =
     let by = beside g p known marks w i is there of_p more in record {

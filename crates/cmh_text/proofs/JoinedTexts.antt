@@ -19,7 +19,7 @@ use Rattle.cmh_graph.proofs.Groups.{leads_itself}
 use Rattle.cmh_text.specs.Group.{is_led_by}
 use Rattle.cmh_text.specs.Report.{line, report_text, totals_line, process_line, group_line}
 use Rattle.cmh_text.proofs.Numbers.{led_test}
-use Rattle.cmh_text.proofs.Words.{whole_text}
+use Rattle.cmh_text.proofs.LineLemmas.{whole_text}
 
 -- the text of each item stands at its place
 each_text : {X : Type 0} (E : Type 0) (f : X → List ℕ) (items : List (Bor X)) (texts : List (List ℕ))

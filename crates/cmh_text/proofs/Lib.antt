@@ -3,10 +3,10 @@ pub mod ChosenPaths
 pub mod Counts
 pub mod Examples
 pub mod JoinedTexts
-pub mod Knots
+pub mod LineLemmas
 pub mod Members
 pub mod Numbers
+pub mod SharedReachLemmas
 pub mod SiteCounts
 pub mod SpacedNames
 pub mod Summaries
-pub mod Words

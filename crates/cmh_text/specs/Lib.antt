@@ -4,7 +4,7 @@ pub mod Report
 pub mod Summary
 -- the words of private functions
 pub mod Group
-pub mod Knot
-pub mod Known
+pub mod LeaderReach
 pub mod Names
+pub mod SharedReach
 pub mod Sites

@@ -5,13 +5,13 @@ ghost use Rattle.cmh_graph.specs.Core.{core_of, rest_of, leaders as all_leaders,
 ghost use Rattle.cmh_graph.specs.Graph.{indices, process_count};
 ghost use Rattle.cmh_graph.specs.Path.{Reaches, reach_of};
 ghost use Rattle.cmh_text.specs.Group.{is_led_by, leaders_up_to, AreGroupsOf};
-ghost use Rattle.cmh_text.specs.Knot.{IsKnotOf};
-ghost use Rattle.cmh_text.specs.Known.{ArePartsOf, IsKnownOf};
+ghost use Rattle.cmh_text.specs.SharedReach.{IsSharedReachOf};
+ghost use Rattle.cmh_text.specs.LeaderReach.{AreGroupPartsOf, IsLeaderReachOf};
 ghost use Rattle.cmh_text.specs.Report.{site_count};
 ghost use Rattle.cmh_text.specs.Summary.{AreSummariesOf, leaders_in};
 
-use crate::knot::{Knot, base};
-use crate::known::{Known, Parts, parts_from, parts_of};
+use crate::leader_reach::{GroupParts, LeaderReach, parts_from, parts_of};
+use crate::shared_reach::{SharedReach, find_base};
 use crate::sites::count_sites;
 use crate::summary::Summary;
 use cmh_graph::laws::law_built_graph;
@@ -105,43 +105,47 @@ pub(crate) struct Group {
     pub(crate) site_count: usize,
 }
 
-/// The group of a leader, and whom the leader reaches. Of the line before it is told what is known.
+/// The group of a leader, and what the leader reaches. `last` is the reach of the line before.
 pub(crate) fn group_of(
     alloc: Global,
     graph: &WaitGraph,
     groups: &Groups,
-    knot: &Knot,
-    last: &Option<Known>,
+    shared: &SharedReach,
+    last: &Option<LeaderReach>,
     leader: u32,
-) -> Result<(Group, Known), AllocError>
+) -> Result<(Group, LeaderReach), AllocError>
     requires within { leader < process_count graph.now }
     requires groups { AreGroupsOf graph.now groups.now }
-    requires knot { IsKnotOf graph.now knot.now }
-    requires last { IfSome last.now (IsKnownOf graph.now) }
+    requires shared { IsSharedReachOf graph.now shared.now }
+    requires last { IfSome last.now (IsLeaderReachOf graph.now) }
     requires leads { IsTrue (is_led_by (leaders_in groups.now.summaries.items) leader leader) }
     ensures number { IfOk result (λ made. made.0.number ≡ group_number graph.now leader) }
     ensures core { IfOk result (λ made. made.0.core.items ≡ core_of graph.now leader) }
     ensures rest { IfOk result (λ made. made.0.rest.items ≡ rest_of graph.now leader) }
     ensures sites { IfOk result (λ made.
         made.0.site_count ≡ site_count graph.now (reach_of graph.now leader)) }
-    ensures known { IfOk result (λ made. IsKnownOf graph.now made.1) }
+    ensures known { IfOk result (λ made. IsLeaderReachOf graph.now made.1) }
 {
     let parts = parts_by(
         alloc,
         graph,
         groups,
         leader,
-        base(graph, groups, knot, last, leader),
+        find_base(graph, groups, shared, last, leader),
     )?;
-    let site_count = count_sites(alloc, graph, knot.site_bound, &parts.known.reach)?;
-    let Parts { known, core, rest } = parts;
+    let site_count = count_sites(alloc, graph, shared.site_bound, &parts.leader_reach.reach)?;
+    let GroupParts {
+        leader_reach,
+        core,
+        rest,
+    } = parts;
     let group = Group {
         number: groups.numbers[leader as usize],
         core,
         rest,
         site_count,
     };
-    Ok((group, known))
+    Ok((group, leader_reach))
 }
 
 /// The parts of a leader. The graph is searched once, but for what the base reaches.
@@ -150,14 +154,14 @@ fn parts_by(
     graph: &WaitGraph,
     groups: &Groups,
     leader: u32,
-    base: Option<&Known>,
-) -> Result<Parts, AllocError>
+    base: Option<&LeaderReach>,
+) -> Result<GroupParts, AllocError>
     requires within { leader < process_count graph.now }
     requires groups { AreGroupsOf graph.now groups.now }
     requires leads { IsTrue (is_led_by (leaders_in groups.now.summaries.items) leader leader) }
     requires base { IfSome base (λ known.
-        IsKnownOf graph.now known.now × Reaches graph.now leader known.now.leader) }
-    ensures { IfOk result (ArePartsOf graph.now leader) }
+        IsLeaderReachOf graph.now known.now × Reaches graph.now leader known.now.leader) }
+    ensures { IfOk result (AreGroupPartsOf graph.now leader) }
 {
     match base {
         Some(known) => parts_from(alloc, graph, groups, leader, known),

@@ -3,13 +3,13 @@
 
 mod chunks;
 mod groups;
-mod knot;
-mod known;
+mod leader_reach;
 mod lines;
 mod names;
 mod outline;
 mod parallel;
 mod paths;
+mod shared_reach;
 mod sites;
 mod summary;
 mod text;

@@ -46,7 +46,7 @@ pub(crate) fn push_deadlocked(text: &mut String, name: &str, number: u32) -> Res
 }
 
 /// Appends the line of a free process with this path.
-#[tactic(auto, using(crate::proofs::Words::free_pieces))]
+#[tactic(auto, using(crate::proofs::LineLemmas::free_pieces))]
 pub(crate) fn push_free(
     alloc: Global,
     text: &mut String,

@@ -51,7 +51,7 @@ impl Outline {
     }
 
     /// How many processes are deadlocked.
-    pub fn deadlocked(&self) -> u32
+    pub fn deadlocked_count(&self) -> u32
         ensures { result ≡ self.now.deadlocked }
     {
         self.deadlocked

@@ -6,19 +6,19 @@ ghost use Rattle.std.specs.Prelude.{◌≡◌, ◌<◌, All, IfOk, IfSome, IsTru
 ghost use Rattle.cmh_graph.specs.Core.{leaders};
 ghost use Rattle.cmh_graph.specs.Graph.{idle_list, is_idle, process_count};
 ghost use Rattle.cmh_text.specs.Group.{AreGroupsOf, is_led_by};
-ghost use Rattle.cmh_text.specs.Knot.{IsKnotOf};
-ghost use Rattle.cmh_text.specs.Known.{IsKnownOf};
+ghost use Rattle.cmh_text.specs.SharedReach.{IsSharedReachOf};
+ghost use Rattle.cmh_text.specs.LeaderReach.{IsLeaderReachOf};
 ghost use Rattle.cmh_text.specs.Names.{AreNamesOf};
 ghost use Rattle.cmh_text.specs.Report.{line, process_line, group_line};
 ghost use Rattle.cmh_text.specs.Summary.{leaders_in};
 
 use crate::chunks::{group_chunk, process_chunk};
 use crate::groups::{Groups, group_of};
-use crate::knot::Knot;
-use crate::known::Known;
+use crate::leader_reach::LeaderReach;
 use crate::lines::{push_deadlocked, push_free, push_group};
 use crate::names::LastNames;
 use crate::paths::path_of;
+use crate::shared_reach::SharedReach;
 use crate::summary::Summary;
 use crate::turned::Turned;
 use cmh_graph::WaitGraph;
@@ -58,10 +58,10 @@ pub(crate) fn group_lines<R: Threads + Sync>(
     alloc: Global,
     graph: &WaitGraph,
     groups: &Groups,
-    knot: &Knot,
+    shared: &SharedReach,
 ) -> Result<Vec<Pieces>, AllocError>
     requires groups { AreGroupsOf graph.now groups.now }
-    requires knot { IsKnotOf graph.now knot.now }
+    requires shared { IsSharedReachOf graph.now shared.now }
     ensures { IfOk result (λ texts. flat_map (λ t. t) texts.items
         ≡ flat_map line (map (group_line graph.now) (leaders graph.now))) }
 {
@@ -72,11 +72,11 @@ pub(crate) fn group_lines<R: Threads + Sync>(
         .with_min_len(1)
         .map(
             |chunk: &[u32]| -> Result<Pieces, AllocError>
-                requires { AreGroupsOf graph.now groups.now × IsKnotOf graph.now knot.now
+                requires { AreGroupsOf graph.now groups.now × IsSharedReachOf graph.now shared.now
                     × All (λ p. (p < process_count graph.now) × IsTrue (is_led_by (leaders_in groups.now.summaries.items) p p)) chunk.now }
                 ensures { IfOk result (λ text. text
                     ≡ flat_map (λ p. line (group_line graph.entry.now p)) chunk.now) }
-            { group_text(alloc, graph, groups, knot, chunk) },
+            { group_text(alloc, graph, groups, shared, chunk) },
         )
         .collect::<Result<Vec<Pieces>, AllocError>>(rt, alloc)?
 }
@@ -106,11 +106,11 @@ fn group_text(
     alloc: Global,
     graph: &WaitGraph,
     groups: &Groups,
-    knot: &Knot,
+    shared: &SharedReach,
     chunk: &[u32],
 ) -> Result<Pieces, AllocError>
     requires groups { AreGroupsOf graph.now groups.now }
-    requires knot { IsKnotOf graph.now knot.now }
+    requires shared { IsSharedReachOf graph.now shared.now }
     requires lead { All (λ p. (p < process_count graph.now)
         × IsTrue (is_led_by (leaders_in groups.now.summaries.items) p p)) chunk.now }
     ensures { IfOk result (λ text. text ≡ flat_map (λ p. line (group_line graph.now p)) chunk.now) }
@@ -119,7 +119,9 @@ fn group_text(
     let mut last = LastNames::new(alloc);
     let mut known = None;
     for n in (0..chunk.len()).rev() {
-        let line = line_of_group(alloc, graph, groups, knot, chunk[n], &mut known, &mut last)?;
+        let line = line_of_group(
+            alloc, graph, groups, shared, chunk[n], &mut known, &mut last,
+        )?;
         text.push(alloc, line)?;
     }
     text.into_pieces(alloc)
@@ -158,22 +160,22 @@ fn line_of_group(
     alloc: Global,
     graph: &WaitGraph,
     groups: &Groups,
-    knot: &Knot,
+    shared: &SharedReach,
     leader: u32,
-    known: &mut Option<Known>,
+    known: &mut Option<LeaderReach>,
     last: &mut LastNames,
 ) -> Result<String, AllocError>
     requires within { leader < process_count graph.now }
     requires groups { AreGroupsOf graph.now groups.now }
-    requires knot { IsKnotOf graph.now knot.now }
+    requires shared { IsSharedReachOf graph.now shared.now }
     requires leads { IsTrue (is_led_by (leaders_in groups.now.summaries.items) leader leader) }
-    requires known { IfSome known.old (IsKnownOf graph.now) }
+    requires known { IfSome known.old (IsLeaderReachOf graph.now) }
     requires last { AreNamesOf graph.now last.old }
     ensures text { IfOk result (λ text. string_bytes text ≡ line (group_line graph.now leader)) }
-    ensures known { IfOk result (λ _. IfSome known.new (IsKnownOf graph.now)) }
+    ensures known { IfOk result (λ _. IfSome known.new (IsLeaderReachOf graph.now)) }
     ensures last { IfOk result (λ _. AreNamesOf graph.now last.new) }
 {
-    let (group, reached) = group_of(alloc, graph, groups, knot, known, leader)?;
+    let (group, reached) = group_of(alloc, graph, groups, shared, known, leader)?;
     *known = Some(reached);
     let mut text = String::new(alloc);
     push_group(alloc, &mut text, graph, &group, last)?;

@@ -5,9 +5,9 @@ ghost use Rattle.cmh_text.specs.Outline.{IsOutlineOf};
 ghost use Rattle.cmh_text.specs.Report.{report_text};
 
 use crate::groups::out_of_memory;
-use crate::knot::Knot;
 use crate::outline::Outline;
 use crate::parallel::{group_lines, process_lines};
+use crate::shared_reach::SharedReach;
 use cmh_graph::WaitGraph;
 use cmh_stream::Pieces;
 use std::alloc::{AllocError, Global};
@@ -38,13 +38,13 @@ pub fn text_of<R: Threads + Sync>(
 {
     let idle = graph.idle_list(alloc).map_err(out_of_memory)?;
     let of_processes = process_lines(rt, alloc, graph, &outline.groups, &idle)?;
-    let knot = Knot::of_groups(alloc, graph, &outline.groups)?;
-    let of_groups = group_lines(rt, alloc, graph, &outline.groups, &knot)?;
-    joined(alloc, &outline.totals, of_processes, of_groups)
+    let shared = SharedReach::of_groups(alloc, graph, &outline.groups)?;
+    let of_groups = group_lines(rt, alloc, graph, &outline.groups, &shared)?;
+    concat_lines(alloc, &outline.totals, of_processes, of_groups)
 }
 
 /// The lines one after the other.
-fn joined(
+fn concat_lines(
     alloc: Global,
     first: &str,
     of_processes: Vec<Pieces>,

@@ -12,8 +12,8 @@ pub count_sites-requires : goal.count_sites-requires
 count_sites-requires c =
     let g = c.args.graph.now in
     let parts = c.in_ok-parts.ensures in
-    let all = c.deref.ensures.value ∙ parts.known.reach ∙ ap (reach_of g) parts.named in
-    record { within = reach_within g c.args.leader _ _ all refl; below = c.requires.knot.sites }
+    let all = c.deref.ensures.value ∙ parts.leader_reach.reach ∙ ap (reach_of g) parts.named in
+    record { within = reach_within g c.args.leader _ _ all refl; below = c.requires.shared.sites }
 
 pub returns-clause-number : goal.returns-clause-number
 returns-clause-number c =
@@ -28,5 +28,5 @@ pub returns-clause-sites : goal.returns-clause-sites
 returns-clause-sites c =
     let g = c.args.graph.now in
     let parts = c.in_ok-parts.ensures in
-    let all = c.deref.ensures.value ∙ parts.known.reach ∙ ap (reach_of g) parts.named in
+    let all = c.deref.ensures.value ∙ parts.leader_reach.reach ∙ ap (reach_of g) parts.named in
     c.in_ok-site_count.ensures ∙ ap (site_count g) all

@@ -1,7 +1,7 @@
 use Rattle.std.proofs.Common.{◌≡◌, ◌∙◌, ◌++◌, ◌∷◌, [], ap}
 use Rattle.std.specs.Prelude.{codes, decimal, string_bytes}
 use Rattle.cmh_text.specs.Report.{names_of, names_or_dash, spaced_words}
-use Rattle.cmh_text.proofs.Words.{group_pieces}
+use Rattle.cmh_text.proofs.LineLemmas.{group_pieces}
 use Rattle.cmh_text.proofs.lines.push_group.Goals as goal
 
 pub returns-clause-text : goal.returns-clause-text

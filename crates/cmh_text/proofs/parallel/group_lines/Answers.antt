@@ -28,7 +28,7 @@ collect-requires-clause-ready g c κs within =
       c.par_chunks.ensures.slice,
       c.par_chunks.ensures.size,
     ) (λ k d lt x same.
-    ((c.requires.groups, c.requires.knot, subst (All at) (sym same) (pieces k d lt)), λ y p. tt))
+    ((c.requires.groups, c.requires.shared, subst (All at) (sym same) (pieces k d lt)), λ y p. tt))
 
 pub returns : goal.returns
 returns g c =

@@ -4,7 +4,7 @@ use Rattle.cmh_graph.specs.Graph.{process_count}
 use Rattle.cmh_graph.proofs.Groups.{members_within}
 use Rattle.cmh_text.specs.Report.{group_line, line}
 use Rattle.cmh_text.proofs.Members.{rest_within}
-use Rattle.cmh_text.proofs.Words.{group_words}
+use Rattle.cmh_text.proofs.LineLemmas.{group_words}
 use Rattle.cmh_text.proofs.parallel.line_of_group.Goals as goal
 
 pub push_group-requires-clause-core : goal.push_group-requires-clause-core

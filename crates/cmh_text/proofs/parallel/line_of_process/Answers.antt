@@ -10,7 +10,7 @@ use Rattle.cmh_text.specs.Summary.{summary_of}
 use Rattle.cmh_text.proofs.ChosenPaths.{path_within}
 use Rattle.cmh_text.proofs.Numbers.{number_is}
 use Rattle.cmh_text.proofs.Summaries.{deadlocked_then, free_then, idle_then, summaries_size}
-use Rattle.cmh_text.proofs.Words.{deadlocked_words, free_words}
+use Rattle.cmh_text.proofs.LineLemmas.{deadlocked_words, free_words}
 use Rattle.cmh_text.proofs.parallel.line_of_process.Goals as goal
 use Rattle.cmh_text.proofs.parallel.line_of_process.Goals.{in-Deadlocked+in_ok-push_deadlocked-in-Deadlocked, in-Free+in_ok-path-in-Free+in_ok-push_free-in-Free}
 

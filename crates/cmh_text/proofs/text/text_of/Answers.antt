@@ -8,6 +8,6 @@ returns g c =
     let first = c.deref-2.ensures ∙ c.requires.totals in
     let processes = c.in_ok-of_processes in
     let groups = c.in_ok-of_groups in
-    IfOk-then c.joined.result _ _ c.joined.ensures (λ text is.
+    IfOk-then c.concat_lines.result _ _ c.concat_lines.ensures (λ text is.
     whole_report c.args.graph.now _ _ processes.of_processes.items groups.of_groups.items
     first processes.ensures groups.ensures is)

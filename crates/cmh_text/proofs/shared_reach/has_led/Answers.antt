@@ -1,6 +1,6 @@
 use Rattle.std.proofs.Common.{◌∙◌, get_or, sym}
 use Rattle.std.proofs.lemmas.List.Elements.{Contains-get_or}
-use Rattle.cmh_text.proofs.knot.has_led.Goals as goal
+use Rattle.cmh_text.proofs.shared_reach.has_led.Goals as goal
 
 pub is_led_by-requires : goal.is_led_by-requires
 is_led_by-requires c = c.requires c.loop-q.q-index 0 c.loop-q-test.true

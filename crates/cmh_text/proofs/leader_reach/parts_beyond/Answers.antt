@@ -1,6 +1,6 @@
 use Rattle.std.proofs.Common.{◌∙◌, ◌++◌, ◌∷◌, [], ap, refl, sym}
 use Rattle.cmh_text.proofs.Beyond.{parts_beyond}
-use Rattle.cmh_text.proofs.known.parts_beyond.Goals as goal
+use Rattle.cmh_text.proofs.leader_reach.parts_beyond.Goals as goal
 
 pub returns : goal.returns
 returns c =
@@ -9,7 +9,7 @@ returns c =
     c.requires.within c.requires.base c.requires.beyond c.requires.marks c.requires.more in
     record {
       named = refl;
-      known = record {
+      leader_reach = record {
         within = c.requires.within;
         marks = c.requires.marks;
         reach = c.in_ok-reach.ensures;

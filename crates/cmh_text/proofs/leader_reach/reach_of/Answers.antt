@@ -3,7 +3,7 @@ use Rattle.cmh_graph.specs.Path.{reaches}
 use Rattle.cmh_graph.proofs.IndexLists.{length-by_index}
 use Rattle.cmh_graph.proofs.ForwardSearch.{reach_listed}
 use Rattle.rayon.proofs.ListFacts.{IfOk-then}
-use Rattle.cmh_text.proofs.known.reach_of.Goals as goal
+use Rattle.cmh_text.proofs.leader_reach.reach_of.Goals as goal
 
 pub marked-requires : goal.marked-requires
 marked-requires c =

@@ -5,7 +5,7 @@ use Rattle.cmh_text.specs.Summary.{leaders_in}
 use Rattle.cmh_text.proofs.Members.{reach_within}
 use Rattle.cmh_text.proofs.Numbers.{led_core, led_rest}
 use Rattle.cmh_text.proofs.Summaries.{summaries_size}
-use Rattle.cmh_text.proofs.known.parts_of.Goals as goal
+use Rattle.cmh_text.proofs.leader_reach.parts_of.Goals as goal
 
 pub core_and_rest-requires : goal.core_and_rest-requires
 core_and_rest-requires c =
@@ -22,7 +22,7 @@ returns c =
     let all = c.deref-3.ensures.value ∙ c.in_ok-reach.ensures in
     record {
       named = refl;
-      known = record {
+      leader_reach = record {
         within = c.requires.within;
         marks = c.requires.marks;
         reach = c.in_ok-reach.ensures;

@@ -7,7 +7,7 @@ ghost use Rattle.cmh_graph.specs.Graph.{indices, process_count};
 ghost use Rattle.cmh_graph.specs.Path.{reach_of, reaches, Reaches};
 ghost use Rattle.cmh_graph.specs.Search.{is_marked};
 ghost use Rattle.cmh_text.specs.Group.{is_led_by, AreGroupsOf};
-ghost use Rattle.cmh_text.specs.Known.{ArePartsOf, HasOneMore, IsKnownOf};
+ghost use Rattle.cmh_text.specs.LeaderReach.{AreGroupPartsOf, HasOneMore, IsLeaderReachOf};
 ghost use Rattle.cmh_text.specs.Summary.{leaders_in};
 
 use crate::groups::{Groups, core_and_rest, out_of_memory};
@@ -17,7 +17,7 @@ use std::alloc::{AllocError, Global};
 
 /// Whom a leader reaches.
 #[derive(Drop)]
-pub(crate) struct Known {
+pub(crate) struct LeaderReach {
     pub(crate) leader: u32,
     /// For each process whether the leader reaches it.
     pub(crate) marks: Vec<bool>,
@@ -27,20 +27,24 @@ pub(crate) struct Known {
 
 /// Whom a leader reaches, and who of them is of its group.
 #[derive(Drop)]
-pub(crate) struct Parts {
-    pub(crate) known: Known,
+pub(crate) struct GroupParts {
+    pub(crate) leader_reach: LeaderReach,
     pub(crate) core: Vec<u32>,
     pub(crate) rest: Vec<u32>,
 }
 
 /// Searches the graph for whom a leader reaches.
-pub(crate) fn known_of(alloc: Global, graph: &WaitGraph, leader: u32) -> Result<Known, AllocError>
+pub(crate) fn leader_reach_of(
+    alloc: Global,
+    graph: &WaitGraph,
+    leader: u32,
+) -> Result<LeaderReach, AllocError>
     requires { leader < process_count graph.now }
-    ensures { IfOk result (IsKnownOf graph.now) }
+    ensures { IfOk result (IsLeaderReachOf graph.now) }
 {
     let marks = graph.reached(alloc, leader).map_err(out_of_memory)?;
     let reach = reach_of(alloc, graph, leader, &marks)?;
-    Ok(Known {
+    Ok(LeaderReach {
         leader,
         marks,
         reach,
@@ -53,14 +57,14 @@ pub(crate) fn parts_from(
     graph: &WaitGraph,
     groups: &Groups,
     leader: u32,
-    base: &Known,
-) -> Result<Parts, AllocError>
+    base: &LeaderReach,
+) -> Result<GroupParts, AllocError>
     requires within { leader < process_count graph.now }
     requires groups { AreGroupsOf graph.now groups.now }
     requires leads { IsTrue (is_led_by (leaders_in groups.now.summaries.items) leader leader) }
-    requires base { IsKnownOf graph.now base.now }
+    requires base { IsLeaderReachOf graph.now base.now }
     requires beyond { Reaches graph.now leader base.now.leader }
-    ensures { IfOk result (ArePartsOf graph.now leader) }
+    ensures { IfOk result (AreGroupPartsOf graph.now leader) }
 {
     let marks = graph
         .reached_by(alloc, leader, base.leader, &base.marks)
@@ -78,17 +82,17 @@ pub(crate) fn parts_of(
     groups: &Groups,
     leader: u32,
     marks: Vec<bool>,
-) -> Result<Parts, AllocError>
+) -> Result<GroupParts, AllocError>
     requires within { leader < process_count graph.now }
     requires groups { AreGroupsOf graph.now groups.now }
     requires leads { IsTrue (is_led_by (leaders_in groups.now.summaries.items) leader leader) }
     requires marks { marks.items ≡ map (reaches graph.now leader) (indices graph.now) }
-    ensures { IfOk result (ArePartsOf graph.now leader) }
+    ensures { IfOk result (AreGroupPartsOf graph.now leader) }
 {
     let reach = reach_of(alloc, graph, leader, &marks)?;
     let (core, rest) = core_and_rest(alloc, &groups.summaries, leader, &reach)?;
-    Ok(Parts {
-        known: Known {
+    Ok(GroupParts {
+        leader_reach: LeaderReach {
             leader,
             marks,
             reach,
@@ -104,23 +108,23 @@ fn parts_beyond(
     alloc: Global,
     graph: &WaitGraph,
     leader: u32,
-    base: &Known,
+    base: &LeaderReach,
     marks: Vec<bool>,
-) -> Result<Parts, AllocError>
+) -> Result<GroupParts, AllocError>
     requires within { leader < process_count graph.now }
-    requires base { IsKnownOf graph.now base.now }
+    requires base { IsLeaderReachOf graph.now base.now }
     requires beyond { Reaches graph.now leader base.now.leader }
     requires marks { marks.items ≡ map (reaches graph.now leader) (indices graph.now) }
     requires more { HasOneMore leader base.now.marks.items marks.items }
-    ensures { IfOk result (ArePartsOf graph.now leader) }
+    ensures { IfOk result (AreGroupPartsOf graph.now leader) }
 {
     law_built_graph(graph);
     let reach = reach_beyond(alloc, graph, leader, base, &marks)?;
     let rest = Vec::from_slice(alloc, &base.reach)?;
     let mut core = Vec::new(alloc);
     core.push(leader)?;
-    Ok(Parts {
-        known: Known {
+    Ok(GroupParts {
+        leader_reach: LeaderReach {
             leader,
             marks,
             reach,
@@ -135,11 +139,11 @@ fn reach_beyond(
     alloc: Global,
     graph: &WaitGraph,
     leader: u32,
-    base: &Known,
+    base: &LeaderReach,
     marks: &[bool],
 ) -> Result<Vec<u32>, AllocError>
     requires within { leader < process_count graph.now }
-    requires base { IsKnownOf graph.now base.now }
+    requires base { IsLeaderReachOf graph.now base.now }
     requires beyond { Reaches graph.now leader base.now.leader }
     requires marks { marks.now ≡ map (reaches graph.now leader) (indices graph.now) }
     requires more { HasOneMore leader base.now.marks.items marks.now }

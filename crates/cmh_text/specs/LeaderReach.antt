@@ -4,19 +4,19 @@ use Rattle.cmh_graph.specs.Core.{core_of, rest_of}
 use Rattle.cmh_graph.specs.Graph.{Graph, indices, process_count}
 use Rattle.cmh_graph.specs.Path.{reach_of, reaches}
 use Rattle.cmh_graph.specs.Search.{is_marked}
-use Rattle.cmh_text.specs.declared.known.Known.{Known}
-use Rattle.cmh_text.specs.declared.known.Parts.{Parts}
+use Rattle.cmh_text.specs.declared.leader_reach.LeaderReach.{LeaderReach}
+use Rattle.cmh_text.specs.declared.leader_reach.GroupParts.{GroupParts}
 
 -- the marks and the list are of those that the leader reaches
-pub record IsKnownOf (g : Graph) (known : Known) : Type 0 where
+pub record IsLeaderReachOf (g : Graph) (known : LeaderReach) : Type 0 where
   pub within : known.leader < process_count g
   pub marks : known.marks.items ≡ map (reaches g known.leader) (indices g)
   pub reach : known.reach.items ≡ reach_of g known.leader
 
 -- the parts are what this leader reaches, its core and its rest
-pub record ArePartsOf (g : Graph) (leader : ℕ) (parts : Parts) : Type 0 where
-  pub named : parts.known.leader ≡ leader
-  pub known : IsKnownOf g parts.known
+pub record AreGroupPartsOf (g : Graph) (leader : ℕ) (parts : GroupParts) : Type 0 where
+  pub named : parts.leader_reach.leader ≡ leader
+  pub leader_reach : IsLeaderReachOf g parts.leader_reach
   pub core : parts.core.items ≡ core_of g leader
   pub rest : parts.rest.items ≡ rest_of g leader
 

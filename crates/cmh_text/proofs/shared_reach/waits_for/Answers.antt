@@ -3,9 +3,9 @@ use Rattle.std.specs.Prelude.{Contains, IsTrue}
 use Rattle.cmh_graph.proofs.ForwardSearch.{dependents_within}
 use Rattle.cmh_text.specs.Group.{is_led_by}
 use Rattle.cmh_text.specs.Summary.{leaders_in}
-use Rattle.cmh_text.proofs.Knots.{leads_to}
+use Rattle.cmh_text.proofs.SharedReachLemmas.{leads_to}
 use Rattle.cmh_text.proofs.Summaries.{summaries_size}
-use Rattle.cmh_text.proofs.knot.waits_for.Goals as goal
+use Rattle.cmh_text.proofs.shared_reach.waits_for.Goals as goal
 
 pub has_led-requires : goal.has_led-requires
 has_led-requires c =

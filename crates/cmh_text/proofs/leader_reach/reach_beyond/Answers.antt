@@ -1,6 +1,6 @@
 use Rattle.std.proofs.Common.{◌∙◌, ◌++◌, ◌∷◌, ◌<◌, [], ap, get_or, subst}
 use Rattle.cmh_text.proofs.Beyond.{parts_beyond}
-use Rattle.cmh_text.proofs.known.reach_beyond.Goals as goal
+use Rattle.cmh_text.proofs.leader_reach.reach_beyond.Goals as goal
 
 pub returns-then-is_before : goal.returns-then-is_before
 returns-then-is_before c =

@@ -4,12 +4,12 @@ ghost use Rattle.std.specs.Prelude.{ℕ, ◌<◌, length, All, Contains, IfOk, I
 ghost use Rattle.cmh_graph.specs.Graph.{process_count};
 ghost use Rattle.cmh_graph.specs.Path.{Reaches};
 ghost use Rattle.cmh_text.specs.Group.{AreGroupsOf, is_led_by};
-ghost use Rattle.cmh_text.specs.Knot.{IsKnotOf};
-ghost use Rattle.cmh_text.specs.Known.{IsKnownOf};
+ghost use Rattle.cmh_text.specs.SharedReach.{IsSharedReachOf};
+ghost use Rattle.cmh_text.specs.LeaderReach.{IsLeaderReachOf};
 ghost use Rattle.cmh_text.specs.Summary.{leaders_in};
 
 use crate::groups::{Groups, is_led_by};
-use crate::known::{Known, known_of};
+use crate::leader_reach::{LeaderReach, leader_reach_of};
 use crate::sites::site_bound;
 use crate::summary::Summary;
 use cmh_graph::WaitGraph;
@@ -17,55 +17,55 @@ use std::alloc::{AllocError, Global};
 
 /// What the lines of groups share.
 #[derive(Drop)]
-pub(crate) struct Knot {
+pub(crate) struct SharedReach {
     /// Whom the leader of the greatest group reaches, if there is one.
-    pub(crate) most: Option<Known>,
+    pub(crate) most: Option<LeaderReach>,
     /// One more than the greatest site.
     pub(crate) site_bound: usize,
 }
 
-impl Knot {
-    ghost use Rattle.cmh_text.specs.Knot.{IsKnotOf};
+impl SharedReach {
+    ghost use Rattle.cmh_text.specs.SharedReach.{IsSharedReachOf};
 
     /// Searches the graph once.
     pub(crate) fn of_groups(
         alloc: Global,
         graph: &WaitGraph,
         groups: &Groups,
-    ) -> Result<Knot, AllocError>
+    ) -> Result<SharedReach, AllocError>
         requires { AreGroupsOf graph.now groups.now }
-        ensures { IfOk result (IsKnotOf graph.now) }
+        ensures { IfOk result (IsSharedReachOf graph.now) }
     {
         let leader = leader_of_most(alloc, groups)?;
-        let most = known_if_any(alloc, graph, leader)?;
-        Ok(Knot {
+        let most = leader_reach_if_any(alloc, graph, leader)?;
+        Ok(SharedReach {
             most,
             site_bound: site_bound(graph),
         })
     }
 }
 
-/// What is known from which the search for whom a leader reaches can go on, if there is any: of the
+/// The reach from which the search for that of a leader can continue, if there is one: that of the
 /// line before, or of the greatest group.
-pub(crate) fn base<'a>(
+pub(crate) fn find_base<'a>(
     graph: &WaitGraph,
     groups: &Groups,
-    knot: &'a Knot,
-    last: &'a Option<Known>,
+    shared: &'a SharedReach,
+    last: &'a Option<LeaderReach>,
     leader: u32,
-) -> Option<&'a Known>
+) -> Option<&'a LeaderReach>
     requires groups { AreGroupsOf graph.now groups.now }
-    requires knot { IsKnotOf graph.now knot.now }
-    requires last { IfSome last.now (IsKnownOf graph.now) }
+    requires shared { IsSharedReachOf graph.now shared.now }
+    requires last { IfSome last.now (IsLeaderReachOf graph.now) }
     requires within { leader < process_count graph.now }
-    ensures { IfSome result (λ base. IsKnownOf graph.now base.now × Reaches graph.now leader base.now.leader) }
+    ensures { IfSome result (λ base. IsLeaderReachOf graph.now base.now × Reaches graph.now leader base.now.leader) }
 {
     if let Some(known) = last {
         if waits_for(graph, groups, leader, known.leader) {
             return Some(known);
         }
     }
-    if let Some(known) = &knot.most {
+    if let Some(known) = &shared.most {
         if waits_for(graph, groups, leader, known.leader) {
             return Some(known);
         }
@@ -74,16 +74,16 @@ pub(crate) fn base<'a>(
 }
 
 /// Whom that leader reaches, if there is one.
-fn known_if_any(
+fn leader_reach_if_any(
     alloc: Global,
     graph: &WaitGraph,
     leader: Option<u32>,
-) -> Result<Option<Known>, AllocError>
+) -> Result<Option<LeaderReach>, AllocError>
     requires { IfSome leader (λ l. l < process_count graph.now) }
-    ensures { IfOk result (λ known. IfSome known (IsKnownOf graph.now)) }
+    ensures { IfOk result (λ known. IfSome known (IsLeaderReachOf graph.now)) }
 {
     match leader {
-        Some(leader) => Ok(Some(known_of(alloc, graph, leader)?)),
+        Some(leader) => Ok(Some(leader_reach_of(alloc, graph, leader)?)),
         None => Ok(None),
     }
 }
