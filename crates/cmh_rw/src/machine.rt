@@ -119,7 +119,7 @@ impl LockWorld {
     {
         let seat = seat_number(event) as usize;
         if seat < self.seats.len() {
-            (self.word, self.seats[seat]) = turned(event, self.word, self.seats[seat]);
+            (self.word, self.seats[seat]) = turn(event, self.word, self.seats[seat]);
         }
     }
 }
@@ -138,7 +138,7 @@ pub fn run_events(alloc: Global, seats: u32, events: &[Event]) -> Result<LockWor
 }
 
 /// The word and the seat's state after an event of this seat.
-fn turned(event: Event, word: u64, state: SeatState) -> (u64, SeatState)
+fn turn(event: Event, word: u64, state: SeatState) -> (u64, SeatState)
     requires { word < WRITER + WRITER }
     ensures { result ≡ turn event word state }
 {
