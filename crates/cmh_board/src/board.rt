@@ -5,7 +5,7 @@ ghost use Rattle.cmh_graph.specs.declared.TheConstants.{MAX_PROCESSES};
 ghost use Rattle.cmh_graph.specs.Graph.{process_count, IsWithinGraph};
 ghost use Rattle.cmh_rw.specs.Seats.{words_graph};
 
-use crate::fault::unopened;
+use crate::fault::opening_fault;
 use crate::post::add_posting;
 use crate::reading::read_closed;
 use crate::{BoardFault, Posting, Snap};
@@ -73,7 +73,7 @@ impl Board {
         ensures memory { IfErr result (λ e. e ≡ BoardFault.Memory) }
     {
         let processes = graph.len();
-        let (words, seat) = RwWords::open(alloc, graph).map_err(unopened)?;
+        let (words, seat) = RwWords::open(alloc, graph).map_err(opening_fault)?;
         Ok((Board { words, processes }, BoardSeat { seat }))
     }
 

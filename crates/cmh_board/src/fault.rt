@@ -42,8 +42,8 @@ impl From<AllocError> for BoardFault {
     }
 }
 
-/// The want of memory for which words weren't opened.
-pub(crate) fn unopened(fault: RwFault) -> BoardFault
+/// Why words weren't opened: memory was refused.
+pub(crate) fn opening_fault(fault: RwFault) -> BoardFault
     requires { fault ≡ words.Memory }
     ensures { result ≡ Memory }
 {
