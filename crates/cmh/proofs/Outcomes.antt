@@ -21,11 +21,11 @@ use Rattle.cmh_report.specs.Ends.{GaveGraph, IsCutShort, IsRefused}
 use Rattle.cmh_report.specs.Fault.{IfDump, IfNoSuchProcess, IfRun, IfUnwritten, IfWriteFault}
 use Rattle.cmh_report.specs.Trace.{HasNoRun, IsEndedTrace, IsFirstNamed, IsSomeTrace, NobodyIsNamed}
 use Rattle.cmh_command.specs.List.{IsFirstListFault, IsListOf}
-use Rattle.cmh.specs.Status.{status_of, status_of_list, status_of_plan, AreBadPlanWords, Ends, FitsTrace, HasAnswered, HasCuts, HasDeadlock, HasFailed, HasRefusedDump, IsBadList, IsDone, IsMisused, IsOutcome, IsUnread, IsUnwritten}
-use Rattle.cmh_command.specs.Words.{IsRequest}
+use Rattle.cmh.specs.Status.{status_of, status_of_list, status_of_plan, AreBadPlanArgs, Ends, FitsTrace, HasAnswered, HasCuts, HasDeadlock, HasFailed, HasRefusedDump, IsBadList, IsDone, IsMisused, IsOutcome, IsUnread, IsUnwritten}
+use Rattle.cmh_command.specs.CommandLine.{IsRequest}
 use Rattle.cmh_command.specs.declared.list.ListFault.{ListFault}
 use Rattle.cmh_command.specs.declared.list.ListFault.TheVariants as list
-use Rattle.cmh_command.specs.declared.request.PlanWords.{PlanWords}
+use Rattle.cmh_command.specs.declared.request.PlanArgs.{PlanArgs}
 use Rattle.cmh_command.specs.declared.request.Request.{Request}
 use Rattle.cmh_command.specs.declared.request.Request.TheVariants.{Analyse, Trace, Show, Refused}
 use Rattle.cmh.specs.declared.status.TheConstants.{FREE, REFUSED, MISUSED, DEADLOCKED, FAILED}
@@ -113,32 +113,32 @@ list_status text list.TooManyNumbers (inl h) = cc
 list_status text list.TooManyNumbers (inr h) = inr (refl, (list.TooManyNumbers, h))
 
 -- the status of refused cuts is one of the plan
-pub cuts_first : (w : PlanWords) (s : ℕ)
+pub cuts_first : (w : PlanArgs) (s : ℕ)
     → (s ≡ FAILED) ⊎ ((s ≡ MISUSED) × MatchOption w.cuts ⊥ (λ text. IsBadList text.now))
-    → (s ≡ FAILED) ⊎ ((s ≡ MISUSED) × AreBadPlanWords w)
+    → (s ≡ FAILED) ⊎ ((s ≡ MISUSED) × AreBadPlanArgs w)
 cuts_first w s (inl h) = inl h
 cuts_first w s (inr h) = inr (h.0, inl h.1)
 
 -- the status of refused choices is one of the plan
-pub choices_next : (w : PlanWords) (s : ℕ) → (s ≡ FAILED) ⊎ ((s ≡ MISUSED) × IsBadList w.choices.now)
-    → (s ≡ FAILED) ⊎ ((s ≡ MISUSED) × AreBadPlanWords w)
+pub choices_next : (w : PlanArgs) (s : ℕ) → (s ≡ FAILED) ⊎ ((s ≡ MISUSED) × IsBadList w.choices.now)
+    → (s ≡ FAILED) ⊎ ((s ≡ MISUSED) × AreBadPlanArgs w)
 choices_next w s (inl h) = inl h
 choices_next w s (inr h) = inr (h.0, inr (inl h.1))
 
 -- a plan is refused for want of memory, or for its own fault
-pub plan_status : (w : PlanWords) (cuts choices : List ℕ) (f : PlanFault) → HasCuts w.cuts cuts
+pub plan_status : (w : PlanArgs) (cuts choices : List ℕ) (f : PlanFault) → HasCuts w.cuts cuts
     → IsListOf w.choices.now choices
     → (f ≡ plan.Memory) ⊎ IsFirstPlanFault record { workers = w.workers; cuts = cuts; choices = choices } f
-    → (status_of_plan f ≡ FAILED) ⊎ ((status_of_plan f ≡ MISUSED) × AreBadPlanWords w)
+    → (status_of_plan f ≡ FAILED) ⊎ ((status_of_plan f ≡ MISUSED) × AreBadPlanArgs w)
 plan_status w cuts choices f listed next h = by_fault f h
   where
     bad : (f : PlanFault) → IsFirstPlanFault record { workers = w.workers; cuts = cuts; choices = choices } f
-        → AreBadPlanWords w
+        → AreBadPlanArgs w
     bad f first = inr (inr (cuts, choices, listed, next, (f, first)))
 
     by_fault : (f : PlanFault)
         → (f ≡ plan.Memory) ⊎ IsFirstPlanFault record { workers = w.workers; cuts = cuts; choices = choices } f
-        → (status_of_plan f ≡ FAILED) ⊎ ((status_of_plan f ≡ MISUSED) × AreBadPlanWords w)
+        → (status_of_plan f ≡ FAILED) ⊎ ((status_of_plan f ≡ MISUSED) × AreBadPlanArgs w)
     by_fault plan.Memory h = inl refl
     by_fault plan.BadWorkers (inl h) = cc
     by_fault plan.BadWorkers (inr h) = inr (refl, bad plan.BadWorkers h)
@@ -150,7 +150,7 @@ plan_status w cuts choices f listed next h = by_fault f h
 -- ---- an analysis
 
 -- where the plan is refused before anything is read, the outcome has the status of that refusal
-pub misplanned : (w : PlanWords) (s : ℕ) (e : Ends) → (s ≡ FAILED) ⊎ ((s ≡ MISUSED) × AreBadPlanWords w)
+pub misplanned : (w : PlanArgs) (s : ℕ) (e : Ends) → (s ≡ FAILED) ⊎ ((s ≡ MISUSED) × AreBadPlanArgs w)
     → IsUnread e → IsUnwritten e → IsOutcome (Analyse w) s e
 misplanned w s e (inl h) unread unwritten =
     subst (λ (n : ℕ). IsOutcome (Analyse w) n e) (sym h) (has_failed (Analyse w) e (inl unwritten))
@@ -158,16 +158,16 @@ misplanned w s e (inr h) unread unwritten =
     subst (λ (n : ℕ). IsOutcome (Analyse w) n e) (sym h.0) (is_misused (Analyse w) e (unwritten, unread, h.1))
 
 -- where the report says that nothing is deadlocked, the outcome has the status `FREE`
-pub nothing_deadlocked : (w : PlanWords) (e : Ends) → HasAnswered (IsCountedReport 0) e → IsOutcome (Analyse w) FREE e
+pub nothing_deadlocked : (w : PlanArgs) (e : Ends) → HasAnswered (IsCountedReport 0) e → IsOutcome (Analyse w) FREE e
 nothing_deadlocked w e h = is_done (Analyse w) e h
 
 -- where the report says that something is deadlocked, the outcome has the status `DEADLOCKED`
-pub something_deadlocked : (w : PlanWords) (e : Ends) (d : ℕ) → d ≢ 0 → HasAnswered (IsCountedReport d) e
+pub something_deadlocked : (w : PlanArgs) (e : Ends) (d : ℕ) → d ≢ 0 → HasAnswered (IsCountedReport d) e
     → IsOutcome (Analyse w) DEADLOCKED e
 something_deadlocked w e d some h = has_deadlock (Analyse w) e (d, omega (arith, some), h)
 
 -- where the analysis has a fault, the outcome has the status of that fault
-pub analysis_failed : (w : PlanWords) (e : Ends) (f : AppFault)
+pub analysis_failed : (w : PlanArgs) (e : Ends) (f : AppFault)
     → IfDump f (IsRefused e.source_old e.source_new)
     → IfNoSuchProcess f ⊥ → IfRun f (λ _. ⊥) → IfUnwritten f (IsUnwritten e)
     → IfWriteFault f (IsCutShort IsReport e.source_old e.source_new e.out_old e.out_new)

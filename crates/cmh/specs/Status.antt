@@ -18,7 +18,7 @@ use Rattle.cmh_report.specs.Trace.{IsFirstNamed, IsSomeTrace}
 use Rattle.cmh_command.specs.List.{IsFirstListFault, IsListOf}
 use Rattle.cmh_command.specs.declared.list.ListFault.{ListFault}
 use Rattle.cmh_command.specs.declared.list.ListFault.TheVariants as list
-use Rattle.cmh_command.specs.declared.request.PlanWords.{PlanWords}
+use Rattle.cmh_command.specs.declared.request.PlanArgs.{PlanArgs}
 use Rattle.cmh_command.specs.declared.request.Request.{Request}
 use Rattle.cmh_command.specs.declared.request.Request.TheVariants.{Analyse, Trace, Show, Refused}
 use Rattle.cmh.specs.declared.status.TheConstants.{FREE, REFUSED, MISUSED, DEADLOCKED, FAILED}
@@ -90,14 +90,14 @@ abbrev pub HasCuts : Option (Bor (List ℕ)) → List ℕ → Type 0
 HasCuts words cuts =
     MatchOption words (cuts ≡ replicate MAX_CUTS 1) (λ text. IsListOf text.now cuts)
 
--- the words for a plan have a fault: cuts or choices are no list, or they are lists of which there is
+-- the arguments for a plan have a fault: cuts or choices are no list, or they are lists of which there is
 -- no plan
-abbrev pub AreBadPlanWords : PlanWords → Type 0
-AreBadPlanWords words = MatchOption words.cuts ⊥ (λ text. IsBadList text.now)
-    ⊎ IsBadList words.choices.now
-    ⊎ ((cuts choices : List ℕ) × HasCuts words.cuts cuts × IsListOf words.choices.now choices
+abbrev pub AreBadPlanArgs : PlanArgs → Type 0
+AreBadPlanArgs args = MatchOption args.cuts ⊥ (λ text. IsBadList text.now)
+    ⊎ IsBadList args.choices.now
+    ⊎ ((cuts choices : List ℕ) × HasCuts args.cuts cuts × IsListOf args.choices.now choices
     × ((fault : PlanFault)
-    × IsFirstPlanFault record { workers = words.workers; cuts = cuts; choices = choices } fault))
+    × IsFirstPlanFault record { workers = args.workers; cuts = cuts; choices = choices } fault))
 
 -- ---- the rows of the table, by what was asked for
 
@@ -120,7 +120,7 @@ HasRefusedDump request e = IsUnwritten e × ((fault : DumpFault)
 -- the words, a list or the plan are refused before anything is read, or the name is of no idle
 -- process of the dump; nothing was written
 abbrev pub IsMisused : Request → Ends → Type 0
-IsMisused (Analyse plan) e = IsUnwritten e × IsUnread e × AreBadPlanWords plan
+IsMisused (Analyse plan) e = IsUnwritten e × IsUnread e × AreBadPlanArgs plan
 IsMisused (Trace name choices) e = IsUnwritten e × ((IsUnread e × IsBadList choices.now)
     ⊎ GaveGraph e.source_old e.source_new
     (λ g. (p : ℕ) → IsFirstNamed g name.now p → IsFalse (is_idle g p)))

@@ -17,19 +17,19 @@ use std::env::Env;
 use std::process::ExitCode;
 use std::{env, io};
 
-/// The words of the command line, of which the first is the program's name.
-fn words<R: Env + AllocGlobal>(rt: &R) -> io::Result<Vec<String>> {
-    let words = env::args(rt)?.collect(rt.alloc())?;
-    Ok(words)
+/// The arguments of the command line, of which the first is the program's name.
+fn args<R: Env + AllocGlobal>(rt: &R) -> io::Result<Vec<String>> {
+    let args = env::args(rt)?.collect(rt.alloc())?;
+    Ok(args)
 }
 
 fn main(rt: HostRuntime) -> ExitCode {
     let mut source = ReadOf::new(Input::new(rt.stdin(), rt.stderr()));
     let mut out = WriteOf::new(rt.stdout());
     let mut err = WriteOf::new(rt.stderr());
-    let status = match words(&rt) {
-        Ok(words) => serve(&rt, rt.alloc(), &words, &mut source, &mut out, &mut err),
-        Err(error) => tell::refuse_words(&error, &mut err),
+    let status = match args(&rt) {
+        Ok(args) => serve(&rt, rt.alloc(), &args, &mut source, &mut out, &mut err),
+        Err(error) => tell::refuse_args(&error, &mut err),
     };
     ExitCode::from(status)
 }

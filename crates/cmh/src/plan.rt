@@ -1,14 +1,14 @@
-//! The plan that the words ask for: its lists, read in order. Cuts that nobody gives are a list too, so running out of
-//! memory for them is a fault of `cuts`.
+//! The plan that the arguments ask for: its lists, read in order. Cuts that nobody gives are a list too, so running out
+//! of memory for them is a fault of `cuts`.
 
 ghost use Rattle.std.specs.Prelude.{◌≡◌, ◌⊎◌, ◌≤◌, length, IfOk, IfErr, MatchOption, OnOk};
 ghost use Rattle.cmh_command.specs.List.{IsListOf};
-ghost use Rattle.cmh.specs.Status.{AreBadPlanWords, HasCuts, IsBadList};
+ghost use Rattle.cmh.specs.Status.{AreBadPlanArgs, HasCuts, IsBadList};
 ghost use Rattle.cmh.specs.declared.status.TheConstants.{FAILED, MISUSED};
 ghost use Rattle.cmh_command.specs.declared.TheConstants.{MAX_NUMBERS};
 
 use crate::tell::{refuse_list, refuse_plan};
-use cmh_command::{ListFault, PlanWords, read_list};
+use cmh_command::{ListFault, PlanArgs, read_list};
 use cmh_plan::{MAX_CUTS, Plan};
 use cmh_stream::Sink;
 use std::alloc::Global;
@@ -50,20 +50,20 @@ fn read_cuts<E: Sink>(alloc: Global, list: Option<&str>, err: &mut E) -> Result<
     }
 }
 
-/// The plan that the words ask for, or the status after the first fault, which is told. Cuts are
+/// The plan that the arguments ask for, or the status after the first fault, which is reported. Cuts are
 /// read before choices.
 #[tactic(auto, using(crate::proofs::Outcomes::cuts_first, crate::proofs::Outcomes::choices_next, crate::proofs::Outcomes::plan_status))]
-pub(crate) fn read_plan<E: Sink>(alloc: Global, words: &PlanWords, err: &mut E) -> Result<Plan, u8>
-    ensures workers { IfOk result (λ plan. plan.workers ≡ words.now.workers) }
-    ensures cuts { IfOk result (λ plan. HasCuts words.now.cuts plan.cuts) }
-    ensures choices { IfOk result (λ plan. IsListOf words.now.choices.now plan.choices) }
+pub(crate) fn read_plan<E: Sink>(alloc: Global, args: &PlanArgs, err: &mut E) -> Result<Plan, u8>
+    ensures workers { IfOk result (λ plan. plan.workers ≡ args.now.workers) }
+    ensures cuts { IfOk result (λ plan. HasCuts args.now.cuts plan.cuts) }
+    ensures choices { IfOk result (λ plan. IsListOf args.now.choices.now plan.choices) }
     ensures quiet { OnOk result ((E.state err.new).taken ≡ (E.state err.old).taken) }
     ensures refused { IfErr result (λ status. (status ≡ FAILED)
-        ⊎ ((status ≡ MISUSED) × AreBadPlanWords words.now)) }
+        ⊎ ((status ≡ MISUSED) × AreBadPlanArgs args.now)) }
 {
-    let cuts = read_cuts(alloc, words.cuts, err)?;
-    let choices = read_numbers(alloc, "choices", words.choices, err)?;
-    match Plan::new(alloc, words.workers, &cuts, &choices) {
+    let cuts = read_cuts(alloc, args.cuts, err)?;
+    let choices = read_numbers(alloc, "choices", args.choices, err)?;
+    match Plan::new(alloc, args.workers, &cuts, &choices) {
         Ok(plan) => Ok(plan),
         Err(fault) => Err(refuse_plan(&fault, err)),
     }

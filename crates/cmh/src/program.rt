@@ -2,7 +2,7 @@
 
 ghost use Rattle.std.specs.Prelude.{◌≡◌, ◌⊎◌, ◌++◌, ℕ, map, take, true};
 ghost use Rattle.cmh.specs.Status.{IsOutcome};
-ghost use Rattle.cmh_command.specs.Words.{IsRequest};
+ghost use Rattle.cmh_command.specs.CommandLine.{IsRequest};
 ghost use Rattle.cmh_command.specs.declared.request.Request.{Request};
 ghost use Rattle.cmh_command.specs.declared.request.Request.TheVariants.{Analyse, Trace};
 ghost use Rattle.cmh.specs.declared.status.TheConstants.{FREE, DEADLOCKED, FAILED};
@@ -10,7 +10,7 @@ ghost use Rattle.cmh.specs.declared.status.TheConstants.{FREE, DEADLOCKED, FAILE
 use crate::plan::{read_numbers, read_plan};
 use crate::status::{DEADLOCKED, FREE, MISUSED};
 use crate::tell::{fail, refuse_memory, tell};
-use cmh_command::{PlanWords, Request, read_words};
+use cmh_command::{PlanArgs, Request, read_args};
 use cmh_report::{AppFault, analyse_bytes, trace_bytes};
 use cmh_stream::{Sink, Source, put_all};
 use cmh_work::NoGate;
@@ -24,12 +24,12 @@ use std::thread::Threads;
 fn analyse<R: Threads + Wait + Sync, S: Source, O: Sink, E: Sink>(
     rt: &R,
     alloc: Global,
-    words: &PlanWords,
+    args: &PlanArgs,
     source: &mut S,
     out: &mut O,
     err: &mut E,
 ) -> u8
-    ensures outcome { IsOutcome (Analyse words.now) result record {
+    ensures outcome { IsOutcome (Analyse args.now) result record {
       source_old = S.state source.old;
       source_new = S.state source.new;
       out_old = O.state out.old;
@@ -38,7 +38,7 @@ fn analyse<R: Threads + Wait + Sync, S: Source, O: Sink, E: Sink>(
     ensures quiet { (result ≡ FREE) ⊎ (result ≡ DEADLOCKED)
         → (E.state err.new).taken ≡ (E.state err.old).taken }
 {
-    let plan = match read_plan(alloc, words, err) {
+    let plan = match read_plan(alloc, args, err) {
         Ok(plan) => plan,
         Err(status) => return status,
     };
@@ -119,8 +119,8 @@ pub fn serve<R: Threads + Wait + Sync, T: AsStr, S: Source, O: Sink, E: Sink>(
     ensures quiet { (result ≡ FREE) ⊎ (result ≡ DEADLOCKED)
         → (E.state err.new).taken ≡ (E.state err.old).taken }
 {
-    match read_words(alloc, words) {
-        Ok(Request::Analyse(words)) => analyse(rt, alloc, &words, source, out, err),
+    match read_args(alloc, words) {
+        Ok(Request::Analyse(args)) => analyse(rt, alloc, &args, source, out, err),
         Ok(Request::Trace { name, choices }) => trace(alloc, name, choices, source, out, err),
         Ok(Request::Show(text)) => show(&text, out, err),
         Ok(Request::Refused(text)) => {

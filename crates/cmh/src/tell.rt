@@ -48,7 +48,7 @@ pub(crate) fn refuse_memory<E: Sink>(err: &mut E) -> u8
 }
 
 /// Says why the words of the command line can't be had, and answers the status.
-pub(crate) fn refuse_words<E: Sink>(error: &io::Error, err: &mut E) -> u8 {
+pub(crate) fn refuse_args<E: Sink>(error: &io::Error, err: &mut E) -> u8 {
     if error.kind() == io::ErrorKind::OutOfMemory {
         return refuse_memory(err);
     }

@@ -15,7 +15,7 @@ use Rattle.clap.specs.declared.parser.matches.ArgMatches.TheViews.{out-ArgMatche
 use Rattle.clap.specs.declared.parser.matches.Found.{Found}
 use Rattle.clap.proofs.WalkLemmas.{first_value-rows}
 use Rattle.cmh_command.specs.List.{number_of}
-use Rattle.cmh_command.specs.Words.{HasBadWorkers, HasWorkers, IsCommand, IsKnown, IsOfKind, IsRequest, program}
+use Rattle.cmh_command.specs.CommandLine.{HasBadWorkers, HasWorkers, IsCommand, HasCommand, IsOfKind, IsRequest, program}
 use Rattle.cmh_command.specs.declared.request.Request.{Request}
 use Rattle.cmh_command.specs.declared.request.TheConstants.{DEFAULT_WORKERS}
 
@@ -98,25 +98,26 @@ AreNamed (x ∷ xs) = ((x.name ≡ codes "analyse") ⊎ (x.name ≡ codes "trace
 
 -- where the shapes have the names of the two commands, one of them that is found is a known command
 find_known : (f : Shape → Bool) (xs : List Shape) (words : List Text) → AreNamed xs
-    → (option_map (λ s. rows_at s words) (find f xs) ≡ None) ⊎ IsKnown (option_map (λ s. rows_at s words) (find f xs))
+    → (option_map (λ s. rows_at s words) (find f xs) ≡ None)
+    ⊎ HasCommand (option_map (λ s. rows_at s words) (find f xs))
 find_known f [] words h = inl refl
 find_known f (x ∷ xs) words h = by_test (f x) (find_known f xs words h.1)
   where
-    by_name : (x.name ≡ codes "analyse") ⊎ (x.name ≡ codes "trace") → IsKnown (Some (rows_at x words))
+    by_name : (x.name ≡ codes "analyse") ⊎ (x.name ≡ codes "trace") → HasCommand (Some (rows_at x words))
     by_name (inl e) = inl ((rows_at x words).1, ap (λ (n : Text). Some (n, (rows_at x words).1)) e, tt)
     by_name (inr e) = inr ((rows_at x words).1, ap (λ (n : Text). Some (n, (rows_at x words).1)) e, tt)
 
     by_test : (b : Bool)
         → (option_map (λ s. rows_at s words) (find f xs) ≡ None)
-        ⊎ IsKnown (option_map (λ s. rows_at s words) (find f xs))
+        ⊎ HasCommand (option_map (λ s. rows_at s words) (find f xs))
         → (option_map (λ s. rows_at s words) (cond b (Some x) (find f xs)) ≡ None)
-        ⊎ IsKnown (option_map (λ s. rows_at s words) (cond b (Some x) (find f xs)))
+        ⊎ HasCommand (option_map (λ s. rows_at s words) (cond b (Some x) (find f xs)))
     by_test true rest = inr (by_name h.0)
     by_test false rest = rest
 
 -- where the walk stops at a command, it is known
 known_entered : (stop : Option (Text × List Text))
-    → (entered (built program) stop ≡ None) ⊎ IsKnown (entered (built program) stop)
+    → (entered (built program) stop ≡ None) ⊎ HasCommand (entered (built program) stop)
 known_entered None = inl refl
 known_entered (Some p) =
     find_known (λ s. answers_to p.0 (label_of s)) (built program).subs p.1 (inl refl, (inr refl, tt))
@@ -128,9 +129,9 @@ rows_are c words m app h = (h (ap is_simple app ∙ is_plain)).1 ∙ ap (λ (a :
 
 -- a command that was entered by words that `clap` takes is one of the two commands
 pub is_known : (c : Command) (words : List Text) (m : ArgMatches) → app_of c ≡ program → HasMatchesOf (app_of c) words m
-    → has_subcommand m ≡ true → IsKnown (subcommand_rows_of m)
+    → has_subcommand m ≡ true → HasCommand (subcommand_rows_of m)
 is_known c words m app h has =
-    subst IsKnown (sym rows)
+    subst HasCommand (sym rows)
     (by_case
     (known_entered
     (stop_after (built program).top.rules (names_of (built program)) (argument_words program words))))
@@ -142,8 +143,8 @@ is_known c words m app h has =
     some_rows None = refl
     some_rows (Some b) = refl
 
-    by_case : (subcommand_of program words ≡ None) ⊎ IsKnown (subcommand_of program words)
-        → IsKnown (subcommand_of program words)
+    by_case : (subcommand_of program words ≡ None) ⊎ HasCommand (subcommand_of program words)
+        → HasCommand (subcommand_of program words)
     by_case (inl none) =
         let bad : ◌≡◌ {A = Bool} false true =
         ap is_some (sym (rows ∙ none)) ∙ some_rows (out-ArgMatches m).subcommand ∙ has in

@@ -4,7 +4,7 @@ ghost use Rattle.std.specs.Prelude.{◌≡◌, Some, true, false, codes, pos, If
 ghost use Rattle.clap.specs.Words.{app_of, new_app, new_rule, rule_of, with_subcommand};
 ghost use Rattle.clap.specs.declared.builder.command.Command.TheViews.{out-Command};
 ghost use Rattle.clap.specs.declared.builder.value_parser.ValueParser.TheVariants.{Signed};
-ghost use Rattle.cmh_command.specs.Words.{analyse_app, option_rule, program, top_app, trace_app};
+ghost use Rattle.cmh_command.specs.CommandLine.{analyse_app, option_rule, program, top_app, trace_app};
 
 use clap::{Arg, Command, value_parser};
 use cmh_plan::MAX_WORKERS;
@@ -74,7 +74,7 @@ fn with_analyse<'a>(alloc: Global) -> Result<Command<'a>, AllocError>
     ensures local { IfOk result (λ c. (out-Command c).has_globals ≡ false) }
 {
     let analyse = analyse_command(alloc)?;
-    described(top_command(alloc), ABOUT, AFTER_HELP).subcommand(analyse)
+    describe(top_command(alloc), ABOUT, AFTER_HELP).subcommand(analyse)
 }
 
 fn top_command<'a>(alloc: Global) -> Command<'a>
@@ -89,7 +89,7 @@ fn top_command<'a>(alloc: Global) -> Command<'a>
 }
 
 /// The command with what it says of itself.
-fn described<'a>(command: Command<'a>, about: &'a str, after: &'a str) -> Command<'a>
+fn describe<'a>(command: Command<'a>, about: &'a str, after: &'a str) -> Command<'a>
     ensures app { app_of result ≡ app_of command.entry }
     ensures required { (out-Command result).subcommand_required ≡ (out-Command command.entry).subcommand_required }
     ensures local { (out-Command result).has_globals ≡ (out-Command command.entry).has_globals }
@@ -111,7 +111,7 @@ fn analyse_command<'a>(alloc: Global) -> Result<Command<'a>, AllocError>
 {
     let cuts = "How many idle processes each chunk takes: comma-separated numbers";
     let command = subcommand(alloc, "analyse", "cmh analyse [OPTIONS] < DUMP");
-    described(command, ABOUT_ANALYSE, AFTER_ANALYSE)
+    describe(command, ABOUT_ANALYSE, AFTER_ANALYSE)
         .arg(workers_option(alloc))?
         .arg(list_option(alloc, "cuts", cuts))?
         .arg(choices_option(alloc))
@@ -122,7 +122,7 @@ fn trace_command<'a>(alloc: Global) -> Result<Command<'a>, AllocError>
     ensures local { IfOk result (λ c. (out-Command c).has_globals ≡ false) }
 {
     let command = subcommand(alloc, "trace", "cmh trace [OPTIONS] NAME < DUMP");
-    described(command, ABOUT_TRACE, AFTER_TRACE)
+    describe(command, ABOUT_TRACE, AFTER_TRACE)
         .arg(name_argument(alloc))?
         .arg(choices_option(alloc))
 }

@@ -1,5 +1,5 @@
-//! The command line: what `clap` is told of it, what its words then ask for, and the lists of
-//! numbers that stand in them.
+//! The command line: its rules, as `clap` takes them, what it then asks for, and the lists of numbers
+//! that stand in it.
 #![tactic(auto)]
 
 mod command;
@@ -10,7 +10,7 @@ mod tests;
 
 use cmh_run::MAX_CHOICES;
 pub use list::{ListFault, read_list};
-pub use request::{DEFAULT_WORKERS, PlanWords, Request, read_words};
+pub use request::{DEFAULT_WORKERS, PlanArgs, Request, read_args};
 
-/// The most numbers that a list may have. So too many choices are told as a fault of their list.
+/// The most numbers that a list may have. So too many choices are reported as a fault of their list.
 pub const MAX_NUMBERS: usize = MAX_CHOICES;

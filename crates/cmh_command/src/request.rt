@@ -1,8 +1,8 @@
-//! What the words of the command line ask for.
+//! What a command line asks for.
 
 ghost use Rattle.std.specs.Prelude.{◌≢◌, map, IfOk, MatchOption};
 ghost use Rattle.clap.specs.Words.{found_of, kind_of, rows_of, subcommand_rows_of};
-ghost use Rattle.cmh_command.specs.Words.{HasBadWorkers, HasWorkers, IsAnalysis, IsCommand, IsKnown, IsOfKind, IsRequest, IsTracing};
+ghost use Rattle.cmh_command.specs.CommandLine.{HasBadWorkers, HasWorkers, IsAnalysis, IsCommand, HasCommand, IsOfKind, IsRequest, IsTracing};
 
 use crate::command::command;
 use crate::list::read_number;
@@ -22,30 +22,30 @@ For more information, try '--help'.
 
 /// How an analysis is to be shared out. Lists of numbers are still as they were written.
 #[derive(Drop)]
-pub struct PlanWords<'a> {
+pub struct PlanArgs<'a> {
     pub workers: u32,
     pub cuts: Option<&'a str>,
     pub choices: &'a str,
 }
 
-/// What the words ask for.
+/// What a command line asks for.
 #[derive(Drop)]
 pub enum Request<'a> {
     /// To analyse a dump.
-    Analyse(PlanWords<'a>),
+    Analyse(PlanArgs<'a>),
     /// To trace the process of this name by these choices.
     Trace { name: &'a str, choices: &'a str },
     /// To print this text.
     Show(String),
-    /// Nothing: the words are refused with this text.
+    /// Nothing: the command line is refused with this text.
     Refused(String),
 }
 
-/// What the words ask for, of which the first is the program's name.
-pub fn read_words<'a, T: AsStr>(alloc: Global, words: &'a [T]) -> Result<Request<'a>, AllocError>
-    ensures { IfOk result (IsRequest (map T.text words.entry.now)) }
+/// What the arguments ask for, of which the first is the program's name.
+pub fn read_args<'a, T: AsStr>(alloc: Global, args: &'a [T]) -> Result<Request<'a>, AllocError>
+    ensures { IfOk result (IsRequest (map T.text args.entry.now)) }
 {
-    match command(alloc)?.try_get_matches_from(words) {
+    match command(alloc)?.try_get_matches_from(args) {
         Ok(matches) => request_in(alloc, &matches),
         Err(error) => request_of(alloc, &error),
     }
@@ -53,7 +53,7 @@ pub fn read_words<'a, T: AsStr>(alloc: Global, words: &'a [T]) -> Result<Request
 
 /// What the matches of the whole command line ask for.
 fn request_in<'a>(alloc: Global, matches: &ArgMatches<'a>) -> Result<Request<'a>, AllocError>
-    requires known { IsKnown (subcommand_rows_of matches.now) }
+    requires command { HasCommand (subcommand_rows_of matches.now) }
     ensures { IfOk result (IsCommand (subcommand_rows_of matches.now)) }
 {
     let Some((name, options)) = matches.subcommand() else {
@@ -72,7 +72,7 @@ fn analysis_in<'a>(alloc: Global, options: &ArgMatches<'a>) -> Result<Request<'a
     let Some(workers) = read_workers(options) else {
         return Ok(Request::Refused(String::from_str(alloc, BAD_WORKERS)?));
     };
-    Ok(Request::Analyse(PlanWords {
+    Ok(Request::Analyse(PlanArgs {
         workers,
         cuts: options.get_str("cuts"),
         choices: options.get_str("choices").unwrap_or(""),
@@ -114,22 +114,22 @@ fn request_of<'a>(alloc: Global, error: &Error) -> Result<Request<'a>, AllocErro
     }
     let text = error.to_string(alloc)?;
     if error.use_stderr() {
-        Ok(Request::Refused(shown(alloc, &text)?))
+        Ok(Request::Refused(escape_controls(alloc, &text)?))
     } else {
         Ok(Request::Show(text))
     }
 }
 
-/// The text with its control characters written out, but for line feeds: a word of the command line
-/// may stand in it, and a terminal would obey it.
-fn shown(alloc: Global, text: &str) -> Result<String, AllocError> {
-    let mut shown = String::new(alloc);
+/// The text with its control characters written out, but for line feeds: an argument may stand in it,
+/// and a terminal would obey it.
+fn escape_controls(alloc: Global, text: &str) -> Result<String, AllocError> {
+    let mut escaped = String::new(alloc);
     for c in text.chars() {
         if c.is_control() && c != '\n' {
-            write!(shown, "{}", c.escape_unicode())?;
+            write!(escaped, "{}", c.escape_unicode())?;
         } else {
-            shown.push(c)?;
+            escaped.push(c)?;
         }
     }
-    Ok(shown)
+    Ok(escaped)
 }

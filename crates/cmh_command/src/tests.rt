@@ -1,8 +1,8 @@
-//! Words and lists, as a client writes them.
+//! Command lines and lists, as a client writes them.
 
+mod args;
 mod lists;
 mod memory;
-mod words;
 
 use std::fmt::Debug;
 use std::process::Abort;

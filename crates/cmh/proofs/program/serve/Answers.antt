@@ -1,5 +1,5 @@
 use Rattle.std.proofs.Common.{rules, map}
-use Rattle.cmh_command.specs.Words.{IsRequest}
+use Rattle.cmh_command.specs.CommandLine.{IsRequest}
 use Rattle.cmh_command.specs.declared.request.Request.TheVariants.{Trace}
 use Rattle.cmh.proofs.Outcomes.{requested}
 use Rattle.cmh.proofs.program.serve.Goals as goal

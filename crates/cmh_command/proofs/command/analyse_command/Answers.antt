@@ -8,10 +8,10 @@ returns c =
     let workers = c.workers_option.ensures in
     let cuts = c.list_option.ensures in
     let choices = c.choices_option.ensures in
-    let bare = c.described.ensures.app ∙ c.subcommand-command.ensures.app in
+    let bare = c.describe.ensures.app ∙ c.subcommand-command.ensures.app in
     let first = with_argument _ _ _ _ _ c.in_ok-arg.ensures bare workers.rule workers.local in
     let second = with_argument _ _ _ _ _ c.in_ok-arg-2.ensures first cuts.rule cuts.local in
-    let none = c.described.ensures.local ∙ c.subcommand-command.ensures.local in
+    let none = c.describe.ensures.local ∙ c.subcommand-command.ensures.local in
     let one = argument_local _ _ _ c.in_ok-arg.ensures none workers.local in
     let two = argument_local _ _ _ c.in_ok-arg-2.ensures one cuts.local in
     record {

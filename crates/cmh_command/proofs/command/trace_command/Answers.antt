@@ -7,9 +7,9 @@ pub returns : goal.returns
 returns c =
     let name = c.name_argument.ensures in
     let choices = c.choices_option.ensures in
-    let bare = c.described.ensures.app ∙ c.subcommand-command.ensures.app in
+    let bare = c.describe.ensures.app ∙ c.subcommand-command.ensures.app in
     let first = with_argument _ _ _ _ _ c.in_ok-arg.ensures bare name.rule name.local in
-    let none = c.described.ensures.local ∙ c.subcommand-command.ensures.local in
+    let none = c.describe.ensures.local ∙ c.subcommand-command.ensures.local in
     let one = argument_local _ _ _ c.in_ok-arg.ensures none name.local in
     record {
       app =

@@ -6,8 +6,8 @@ use Rattle.cmh_command.proofs.command.with_analyse.Goals as goal
 pub returns : goal.returns
 returns c =
     let analyse = c.in_ok-analyse.ensures in
-    let shape = c.described.ensures.app ∙ c.top_command.ensures.app in
-    let local = c.described.ensures.local ∙ c.top_command.ensures.local in
+    let shape = c.describe.ensures.app ∙ c.top_command.ensures.app in
+    let local = c.describe.ensures.local ∙ c.top_command.ensures.local in
     record {
       app =
           IfOk-weaker c.subcommand.result _ _ (λ r h. with_command _ _ _ _ _ h shape analyse.app analyse.local)

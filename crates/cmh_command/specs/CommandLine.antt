@@ -1,4 +1,4 @@
--- The command line: what `clap` is told of it, and what the words then ask for.
+-- The command line: its rules, as `clap` takes them, and what it then asks for.
 use Rattle.std.specs.Prelude.{◌≡◌, ◌⊎◌, ◌≤◌, ◌^◌, ℕ, List, [], Option, Some, MatchOption, option_map, unwrap_or, codes, pos, true, ⊤}
 use Rattle.clap.specs.Words.{App, IsAmong, Row, Rule, Text, fault_of, first_of, new_app, new_rule, subcommand_of, with_rule, with_subcommand}
 use Rattle.clap.specs.declared.error.kind.ErrorKind.{ErrorKind}
@@ -10,7 +10,7 @@ use Rattle.cmh_command.specs.declared.request.Request.{Request}
 use Rattle.cmh_command.specs.declared.request.Request.TheVariants.{Analyse, Trace, Show, Refused}
 use Rattle.cmh_command.specs.declared.request.TheConstants.{DEFAULT_WORKERS}
 
--- ---- what clap is told
+-- ---- the rules
 
 -- an option of this name that takes one value
 abbrev pub option_rule : Text → Rule
@@ -41,7 +41,7 @@ top_app = record (new_app (codes "cmh")) {
 abbrev pub program : App
 program = with_subcommand (with_subcommand top_app analyse_app.top) trace_app.top
 
--- ---- what the words ask for
+-- ---- what a command line asks for
 
 -- the number of workers is written as in a list, and fits; without the option it is the default
 abbrev pub HasWorkers : ℕ → List Row → Type 0
@@ -80,8 +80,8 @@ IsCommand entered request = Enters (codes "analyse") (λ options. IsAnalysis opt
     ⊎ Enters (codes "trace") (λ options. IsTracing options request) entered
 
 -- one of the commands was entered
-abbrev pub IsKnown : Option (Text × List Row) → Type 0
-IsKnown entered = Enters (codes "analyse") (λ options. ⊤) entered ⊎ Enters (codes "trace") (λ options. ⊤) entered
+abbrev pub HasCommand : Option (Text × List Row) → Type 0
+HasCommand entered = Enters (codes "analyse") (λ options. ⊤) entered ⊎ Enters (codes "trace") (λ options. ⊤) entered
 
 -- what is asked for where `clap` answers with an error of this kind: its text, where that is the help or
 -- the version, and else nothing
@@ -90,9 +90,9 @@ IsOfKind kind (Show text) = (kind ≡ DisplayHelp) ⊎ (kind ≡ DisplayVersion)
 IsOfKind kind (Refused text) = ¬ ((kind ≡ DisplayHelp) ⊎ (kind ≡ DisplayVersion))
 IsOfKind kind request = ⊥
 
--- This is what the words ask for: a command where `clap` finds no fault in them, and else a text or
+-- This is what the arguments ask for: a command where `clap` finds no fault in them, and else a text or
 -- nothing, by the kind of some fault that it finds.
 abbrev pub IsRequest : List Text → Request → Type 0
-IsRequest words request =
-    ((fault_of program words ≡ []) × IsCommand (subcommand_of program words) request)
-    ⊎ ((kind : ErrorKind) × IsAmong kind (fault_of program words) × IsOfKind kind request)
+IsRequest args request =
+    ((fault_of program args ≡ []) × IsCommand (subcommand_of program args) request)
+    ⊎ ((kind : ErrorKind) × IsAmong kind (fault_of program args) × IsOfKind kind request)

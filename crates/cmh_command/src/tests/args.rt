@@ -1,16 +1,16 @@
-//! What the words of the command line ask for.
+//! What a command line asks for.
 
 use super::{expect, expect_eq};
 use crate::command::command;
-use crate::{DEFAULT_WORKERS, PlanWords, Request, read_words};
+use crate::{DEFAULT_WORKERS, PlanArgs, Request, read_args};
 use std::alloc::{AllocError, Global};
 use std::test::Fail;
 
-/// Whether the words ask for an analysis by as many workers as by default, and nothing else.
-fn is_plain_analysis(alloc: Global, words: &[&str]) -> bool {
+/// Whether the arguments ask for an analysis by as many workers as by default, and nothing else.
+fn is_plain_analysis(alloc: Global, args: &[&str]) -> bool {
     matches!(
-        read_words(alloc, words),
-        Ok(Request::Analyse(PlanWords {
+        read_args(alloc, args),
+        Ok(Request::Analyse(PlanArgs {
             workers: DEFAULT_WORKERS,
             cuts: None,
             choices: "",
@@ -18,11 +18,11 @@ fn is_plain_analysis(alloc: Global, words: &[&str]) -> bool {
     )
 }
 
-/// Whether the words ask for an analysis by 7 workers with cuts and choices.
-fn is_analysis(alloc: Global, words: &[&str]) -> bool {
+/// Whether the arguments ask for an analysis by 7 workers with cuts and choices.
+fn is_analysis(alloc: Global, args: &[&str]) -> bool {
     matches!(
-        read_words(alloc, words),
-        Ok(Request::Analyse(PlanWords {
+        read_args(alloc, args),
+        Ok(Request::Analyse(PlanArgs {
             workers: 7,
             cuts: Some("1,2"),
             choices: "3"
@@ -30,10 +30,10 @@ fn is_analysis(alloc: Global, words: &[&str]) -> bool {
     )
 }
 
-/// Whether the words ask for a trace of p by choices.
-fn is_trace(alloc: Global, words: &[&str]) -> bool {
+/// Whether the arguments ask for a trace of p by choices.
+fn is_trace(alloc: Global, args: &[&str]) -> bool {
     matches!(
-        read_words(alloc, words),
+        read_args(alloc, args),
         Ok(Request::Trace {
             name: "p",
             choices: "1,0"
@@ -53,16 +53,16 @@ fn analyses_and_a_trace(rt: HostRuntime) {
 }
 
 /// The text with which `clap` answers, or none.
-fn text_of_clap(alloc: Global, words: &[&str]) -> Result<String, AllocError> {
-    match command(alloc)?.try_get_matches_from(words) {
+fn text_of_clap(alloc: Global, args: &[&str]) -> Result<String, AllocError> {
+    match command(alloc)?.try_get_matches_from(args) {
         Ok(_) => Ok(String::new(alloc)),
         Err(error) => error.to_string(alloc),
     }
 }
 
-/// Whether the words ask for this text.
-fn is_shown(alloc: Global, words: &[&str], text: &str) -> bool {
-    match read_words(alloc, words) {
+/// Whether the arguments ask for this text.
+fn is_shown(alloc: Global, args: &[&str], text: &str) -> bool {
+    match read_args(alloc, args) {
         Ok(Request::Show(shown)) => shown.as_str() == text,
         _ => false,
     }
@@ -77,17 +77,17 @@ fn texts_of_clap(rt: HostRuntime) -> Result<(), Fail> {
         &["cmh", "analyse", "--help"],
         &["cmh", "trace", "-h"],
     ];
-    for words in rows {
-        let text = text_of_clap(rt.alloc(), words)?;
-        assert!(rt; text.len() > 9, "{words:?}");
-        assert!(rt; is_shown(rt.alloc(), words, &text), "{words:?}");
+    for args in rows {
+        let text = text_of_clap(rt.alloc(), args)?;
+        assert!(rt; text.len() > 9, "{args:?}");
+        assert!(rt; is_shown(rt.alloc(), args, &text), "{args:?}");
     }
     Ok(())
 }
 
-/// Whether the words are refused with a text that has this in it, and no control character.
-fn is_refused(alloc: Global, words: &[&str], named: &str) -> bool {
-    match read_words(alloc, words) {
+/// Whether the arguments are refused with a text that has this in it, and no control character.
+fn is_refused(alloc: Global, args: &[&str], named: &str) -> bool {
+    match read_args(alloc, args) {
         Ok(Request::Refused(text)) => {
             text.contains(named) && !text.bytes().any(|b| b < 32 && b != 10)
         }
@@ -96,7 +96,7 @@ fn is_refused(alloc: Global, words: &[&str], named: &str) -> bool {
 }
 
 #[test]
-fn words_that_are_refused(rt: HostRuntime) {
+fn arguments_that_are_refused(rt: HostRuntime) {
     let rows: [(&[&str], &str); 7] = [
         (&["cmh"], "Usage: cmh"),
         (
@@ -109,7 +109,7 @@ fn words_that_are_refused(rt: HostRuntime) {
         (&["cmh", "analyse", "\u{1b}[31m"], "\\u{1b}[31m"),
         (&["cmh", "\u{7}"], "\\u{7}"),
     ];
-    for (words, named) in rows {
-        assert!(rt; is_refused(rt.alloc(), words, named), "{words:?}");
+    for (args, named) in rows {
+        assert!(rt; is_refused(rt.alloc(), args, named), "{args:?}");
     }
 }

@@ -2,25 +2,25 @@ use Rattle.std.proofs.Common.{map}
 use Rattle.std.proofs.lemmas.Result.{IfOk-weaker}
 use Rattle.clap.proofs.CallerLemmas.{subcommand_required}
 use Rattle.cmh_command.proofs.Requests.{answered, commanded, is_known}
-use Rattle.cmh_command.proofs.request.read_words.Goals as goal
+use Rattle.cmh_command.proofs.request.read_args.Goals as goal
 
 pub request_in-requires : goal.request_in-requires
 request_in-requires g c =
     let app = c.in_ok-command.ensures in
     let m = c.in-Ok.matches in
     record {
-      known = is_known c.in_ok-command.field-0 (map g.T.AsStr.text c.args.words.now) m app.app c.in-Ok.ensures.matches
+      command = is_known c.in_ok-command.field-0 (map g.T.AsStr.text c.args.args.now) m app.app c.in-Ok.ensures.matches
           (subcommand_required c.in_ok-command.field-0 m c.in-Ok.ensures.parsed app.local app.required);
     }
 
 pub returns-in-Ok : goal.returns-in-Ok
 returns-in-Ok g c = IfOk-weaker c.request_in.result _ _
-    (λ r h. commanded c.in_ok-command.field-0 (map g.T.AsStr.text c.args.words.now) c.in-Ok.matches r
+    (λ r h. commanded c.in_ok-command.field-0 (map g.T.AsStr.text c.args.args.now) c.in-Ok.matches r
     c.in_ok-command.ensures.app c.in-Ok.ensures.matches c.in-Ok.ensures.kinds h)
     c.request_in.ensures
 
 pub returns-in-Err : goal.returns-in-Err
 returns-in-Err g c = IfOk-weaker c.request_of.result _ _
-    (λ r h. answered c.in_ok-command.field-0 (map g.T.AsStr.text c.args.words.now) c.in-Err.error r
+    (λ r h. answered c.in_ok-command.field-0 (map g.T.AsStr.text c.args.args.now) c.in-Err.error r
     c.in_ok-command.ensures.app c.in-Err.ensures.kinds h.0 h.1)
     c.request_of.ensures
