@@ -45,11 +45,11 @@ pub(crate) fn chunk_at<'a>(job: &'a Job, number: usize) -> &'a [u32]
     ensures { result.now ≡ slice_index_or
         (chunks_of job.now.plan.now.cuts job.now.shared.now.idle.items) number [] }
 {
-    between(&job.shared.bounds, &job.shared.idle, number)
+    slice_between(&job.shared.bounds, &job.shared.idle, number)
 }
 
 /// What lies between the bound of this number and the next.
-fn between<'a>(bounds: &[usize], list: &'a [u32], number: usize) -> &'a [u32]
+fn slice_between<'a>(bounds: &[usize], list: &'a [u32], number: usize) -> &'a [u32]
     requires within { number + 1 < length bounds.now }
     requires rising { slice_index bounds.now number ≤ slice_index bounds.now (number + 1) }
     requires ends { slice_index bounds.now (number + 1) ≤ length list.now }
