@@ -28,8 +28,8 @@ struct CountedText {
     deadlocked: u32,
 }
 
-/// The workers' analysis of a graph. Want of memory is told as theirs.
-fn analysed<R: Threads + Wait + Sync, G: Gate>(
+/// The analysis of a graph by workers. Memory that is refused is reported as their fault.
+fn run_analysis<R: Threads + Wait + Sync, G: Gate>(
     rt: &R,
     alloc: Global,
     graph: &WaitGraph,
@@ -43,7 +43,7 @@ fn analysed<R: Threads + Wait + Sync, G: Gate>(
 }
 
 /// What the text takes from the analysis, which is given back.
-fn outlined(
+fn make_outline(
     alloc: Global,
     graph: &WaitGraph,
     analysis: Analysis<RunLog<NoLog, NoList>, NextStep>,
@@ -65,7 +65,7 @@ fn text_and_count<R: Threads + Sync>(
     ensures text { IfOk result (λ r. r.text ≡ report_text graph.now) }
     ensures deadlocked { IfOk result (λ r. r.deadlocked ≡ deadlocked_count graph.now) }
 {
-    let outline = outlined(alloc, graph, analysis)?;
+    let outline = make_outline(alloc, graph, analysis)?;
     let text = text_of(rt, alloc, graph, &outline)?;
     Ok(CountedText {
         text,
@@ -73,8 +73,8 @@ fn text_and_count<R: Threads + Sync>(
     })
 }
 
-/// The report on a graph that was analysed. Want of memory is told as the text's.
-fn reported<R: Threads + Sync>(
+/// The report on a graph that was analysed. Memory that is refused is reported as the fault of the text.
+fn render_report<R: Threads + Sync>(
     rt: &R,
     alloc: Global,
     graph: &WaitGraph,
@@ -127,8 +127,8 @@ pub fn analyse_bytes<R: Threads + Wait + Sync, S: Source, K: Sink, G: Gate>(
     ensures at_most { GaveAtMost (MAX_BYTES + 1) (S.state source.old) (S.state source.new) }
 {
     let graph = read_graph(alloc, source)?;
-    let analysis = analysed(rt, alloc, &graph, plan, gate)?;
-    let report = reported(rt, alloc, &graph, analysis)?;
+    let analysis = run_analysis(rt, alloc, &graph, plan, gate)?;
+    let report = render_report(rt, alloc, &graph, analysis)?;
     put_pieces(sink, &report.text)?;
     Ok(report.deadlocked)
 }

@@ -29,11 +29,11 @@ pub fn report<L: Log, E: ProcessList, P: PathList, R: Threads + Sync>(
     requires { IsSomeAnalysisOf P.processes graph.now analysis.now }
     ensures { IfOk result (λ text. string_bytes text ≡ report_text graph.now) }
 {
-    told(rt, alloc, graph, analysis.records()).map_err(|_| ReportFault::Memory)
+    text_of_records(rt, alloc, graph, analysis.records()).map_err(|_| ReportFault::Memory)
 }
 
 /// The report, by the records.
-fn told<L: Log, E: ProcessList, P: PathList, R: Threads + Sync>(
+fn text_of_records<L: Log, E: ProcessList, P: PathList, R: Threads + Sync>(
     rt: &R,
     alloc: Global,
     graph: &WaitGraph,

@@ -103,7 +103,7 @@ fn trace_of(
         return Err(AppFault::NoSuchProcess);
     };
     let run = plain_run(alloc, graph, initiator, choices)?;
-    let text = traced(alloc, graph, &run)?;
+    let text = render_trace(alloc, graph, &run)?;
     Ok(EndedTrace {
         text,
         ending: run.ending(),
@@ -123,7 +123,8 @@ fn find_process(graph: &WaitGraph, name: &str) -> Option<u32>
     None
 }
 
-/// The run of a process that follows the choices without hints. Want of memory is told as the run's.
+/// The run of a process that follows the choices without hints. Memory that is refused is reported
+/// as the fault of the run.
 fn plain_run(
     alloc: Global,
     graph: &WaitGraph,
@@ -143,8 +144,8 @@ fn plain_run(
     Ok(run(alloc, graph, initiator, choices, &mut NoHints)?)
 }
 
-/// The trace of a run. Want of memory is told as the text's.
-fn traced(alloc: Global, graph: &WaitGraph, run: &RunLog) -> Result<String, AppFault>
+/// The trace of a run. Memory that is refused is reported as the fault of the text.
+fn render_trace(alloc: Global, graph: &WaitGraph, run: &RunLog) -> Result<String, AppFault>
     requires { HasLines graph.now run.now }
     ensures text { IfOk result (λ text. string_bytes text ≡ trace_text graph.now run.now) }
     ensures memory { IfErr result (λ e. e ≡ AppFault.Report ReportFault.Memory) }
