@@ -1,6 +1,7 @@
 //! The text of a report: its lines, by the wait graph and by a summary of each process.
 #![tactic(auto)]
 
+mod backward_text;
 mod chunks;
 mod groups;
 mod leader_reach;
@@ -13,7 +14,6 @@ mod shared_reach;
 mod sites;
 mod summary;
 mod text;
-mod turned;
 
 pub use outline::Outline;
 pub use summary::Summary;

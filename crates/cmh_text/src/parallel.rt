@@ -12,6 +12,7 @@ ghost use Rattle.cmh_text.specs.Names.{AreNamesOf};
 ghost use Rattle.cmh_text.specs.Report.{line, process_line, group_line};
 ghost use Rattle.cmh_text.specs.Summary.{leaders_in};
 
+use crate::backward_text::BackwardText;
 use crate::chunks::{group_chunk, process_chunk};
 use crate::groups::{Groups, group_of};
 use crate::leader_reach::LeaderReach;
@@ -20,7 +21,6 @@ use crate::names::LastNames;
 use crate::paths::path_of;
 use crate::shared_reach::SharedReach;
 use crate::summary::Summary;
-use crate::turned::Turned;
 use cmh_graph::WaitGraph;
 use cmh_stream::Pieces;
 use rayon::prelude::*;
@@ -92,7 +92,7 @@ fn process_text(
     requires idle { All (λ p. IsTrue (is_idle graph.now p)) chunk.now }
     ensures { IfOk result (λ text. text ≡ flat_map (λ p. line (process_line graph.now p)) chunk.now) }
 {
-    let mut text = Turned::new(alloc);
+    let mut text = BackwardText::new(alloc);
     let mut last = LastNames::new(alloc);
     for n in (0..chunk.len()).rev() {
         let line = line_of_process(alloc, graph, groups, chunk[n], &mut last)?;
@@ -115,7 +115,7 @@ fn group_text(
         × IsTrue (is_led_by (leaders_in groups.now.summaries.items) p p)) chunk.now }
     ensures { IfOk result (λ text. text ≡ flat_map (λ p. line (group_line graph.now p)) chunk.now) }
 {
-    let mut text = Turned::new(alloc);
+    let mut text = BackwardText::new(alloc);
     let mut last = LastNames::new(alloc);
     let mut known = None;
     for n in (0..chunk.len()).rev() {

@@ -14,7 +14,7 @@ const JOINED: usize = 65_536;
 /// A text whose lines come from the last to the first. They are joined to pieces as they come, so that
 /// no more lines are held than make a piece.
 #[derive(Drop)]
-pub(crate) struct Turned {
+pub(crate) struct BackwardText {
     /// The end of the text, from its last piece to its first.
     joined: Vec<String>,
     /// The lines before it, from the last to the first.
@@ -23,7 +23,7 @@ pub(crate) struct Turned {
     room: usize,
 }
 
-impl Model for Turned {
+impl Model for BackwardText {
     ghost use Rattle.std.specs.Prelude.{ℕ, List, ◌++◌, flat_map, reverse, string_bytes};
 
     ghost Value = { List ℕ };
@@ -32,12 +32,12 @@ impl Model for Turned {
         ++ flat_map (λ s. string_bytes s) (reverse t.joined.items) };
 }
 
-impl Turned {
+impl BackwardText {
     /// No line, which takes no memory.
-    pub(crate) fn new(alloc: Global) -> Turned
+    pub(crate) fn new(alloc: Global) -> BackwardText
         ensures { result ≡ [] }
     {
-        Turned {
+        BackwardText {
             joined: Vec::new(alloc),
             lines: Vec::new(alloc),
             room: 0,

@@ -1,6 +1,6 @@
 use Rattle.std.proofs.Common.{◌≡◌, ◌++◌, reverse, vec_len}
 use Rattle.std.specs.Prelude.{flat_map, string_bytes}
-use Rattle.cmh_text.proofs.turned.pieces_from_last.Given as goal
+use Rattle.cmh_text.proofs.backward_text.pieces_from_last.Given as goal
 
 abbrev pub invariant-loop-next : goal.invariant-loop-next
 invariant-loop-next l =

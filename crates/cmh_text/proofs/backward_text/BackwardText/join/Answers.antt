@@ -1,7 +1,7 @@
 use Rattle.std.proofs.Common.{◌∙◌, ◌++◌, [], ◌∷◌, ap, flat_map, reverse}
 use Rattle.std.specs.Prelude.{string_bytes}
 use Rattle.std.proofs.lemmas.List.{reverse-append}
-use Rattle.cmh_text.proofs.turned.Turned.join.Goals as goal
+use Rattle.cmh_text.proofs.backward_text.BackwardText.join.Goals as goal
 
 pub returns : goal.returns
 returns c =

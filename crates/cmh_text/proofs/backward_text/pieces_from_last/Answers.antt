@@ -1,7 +1,7 @@
 use Rattle.std.proofs.Common.{◌≡◌, ◌∙◌, ◌++◌, ◌∷◌, [], ap, reverse}
 use Rattle.std.specs.Prelude.{flat_map, option_to_list, string_bytes}
 use Rattle.cmh_text.proofs.JoinedTexts.{last_appended}
-use Rattle.cmh_text.proofs.turned.pieces_from_last.Goals as goal
+use Rattle.cmh_text.proofs.backward_text.pieces_from_last.Goals as goal
 
 pub loop-next-preserved : goal.loop-next-preserved
 loop-next-preserved c =
