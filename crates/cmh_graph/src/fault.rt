@@ -65,3 +65,10 @@ impl<T: Drop> From<AllocFailed<T>> for GraphFault {
         GraphFault::Memory
     }
 }
+
+/// The refused memory that the fault of a call is which fails for memory alone.
+pub fn out_of_memory(_fault: GraphFault) -> AllocError
+    requires { _fault ≡ Memory }
+{
+    AllocError
+}

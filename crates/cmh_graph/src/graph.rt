@@ -13,8 +13,8 @@ ghost use Rattle.cmh_graph.specs.Alone.{AreAlone, IsTrimming};
 
 use crate::judge::judge;
 use crate::search::{
-    first_distances, least_at, mark_alone, mark_each, mark_each_within, marked, marked_from,
-    next_level,
+    first_distances, first_unmarked, least_at, mark_alone, mark_each, mark_each_within,
+    marked_indices, next_level,
 };
 use crate::{GraphFault, MAX_PROCESSES, Part, Predecessors, State, Verdict};
 use std::alloc::{AllocError, Global};
@@ -65,7 +65,7 @@ impl WaitGraph {
             (e ≡ GraphFault.Memory) ⊎ IsFirstGraphFault (parts_graph parts.items in_transit.now) e) }
     {
         judge(alloc, &parts, in_transit)?;
-        let awake = awake_marks(alloc, &parts, in_transit)?;
+        let awake = mark_awake(alloc, &parts, in_transit)?;
         let in_transit = Vec::from_slice(alloc, in_transit)?;
         Ok(WaitGraph {
             parts,
@@ -114,7 +114,7 @@ impl WaitGraph {
     }
 
     /// For each process whether it is awake.
-    pub(crate) fn awake(&self) -> &[bool]
+    pub(crate) fn awake_marks(&self) -> &[bool]
         ensures marks { result.now ≡ map (is_awake self.now) (indices self.now) }
         ensures well_formed { IsWellFormed self.now }
     {
@@ -183,36 +183,35 @@ impl WaitGraph {
     }
 
     /// For each process whether `p` reaches it. It takes the time and memory of `reach_of`.
-    pub fn reached(&self, alloc: Global, p: u32) -> Result<Vec<bool>, GraphFault>
+    pub fn reach_marks(&self, alloc: Global, p: u32) -> Result<Vec<bool>, AllocError>
         requires { p < process_count self.now }
-        ensures ok { IfOk result (λ marks.
+        ensures { IfOk result (λ marks.
             marks.items ≡ map (reaches self.now p) (indices self.now)) }
-        ensures memory { IfErr result (λ e. e ≡ GraphFault.Memory) }
     {
-        Ok(self.reached_from(alloc, p)?)
+        let marks = mark_alone(alloc, self.len(), p)?;
+        self.spread(alloc, p, marks)
     }
 
-    /// For each process whether `p` reaches it, as `reached` gives it, by those that `q` reaches,
+    /// For each process whether `p` reaches it, as `reach_marks` gives it, by those that `q` reaches,
     /// where `p` reaches `q`. It takes time linear in the processes and in the dependencies of those
     /// that `p` reaches and `q` doesn't.
-    pub fn reached_by(
+    pub fn reach_marks_by(
         &self,
         alloc: Global,
         p: u32,
         q: u32,
         known: &[bool],
-    ) -> Result<Vec<bool>, GraphFault>
+    ) -> Result<Vec<bool>, AllocError>
         requires within { p < process_count self.now }
         requires beyond { Reaches self.now p q }
         requires known { known.now ≡ map (reaches self.now q) (indices self.now) }
-        ensures ok { IfOk result (λ marks.
+        ensures { IfOk result (λ marks.
             marks.items ≡ map (reaches self.now p) (indices self.now)) }
-        ensures memory { IfErr result (λ e. e ≡ GraphFault.Memory) }
     {
         self.has_no_fault();
         let mut marks = Vec::from_slice(alloc, known)?;
         marks[p as usize] = true;
-        Ok(self.spread(alloc, p, marks)?)
+        self.spread(alloc, p, marks)
     }
 
     /// The processes that `p` reaches and that reach `p`, by rising index. It takes time linear in
@@ -223,7 +222,7 @@ impl WaitGraph {
         ensures memory { IfErr result (λ e. e ≡ GraphFault.Memory) }
     {
         let predecessors = Predecessors::of_graph(alloc, self)?;
-        self.core_by(alloc, &predecessors, p)
+        Ok(self.core_by(alloc, &predecessors, p)?)
     }
 
     /// The core of `p`, as `core_of` gives it, by the predecessors of all processes. It takes time
@@ -234,24 +233,49 @@ impl WaitGraph {
         alloc: Global,
         predecessors: &Predecessors,
         p: u32,
-    ) -> Result<Vec<u32>, GraphFault>
+    ) -> Result<Vec<u32>, AllocError>
         requires within { p < process_count self.now }
         requires known { ArePredecessors self.now predecessors.now }
-        ensures ok { IfOk result (λ list. list.items ≡ core_of self.now p) }
-        ensures memory { IfErr result (λ e. e ≡ GraphFault.Memory) }
+        ensures { IfOk result (λ core. core.items ≡ core_of self.now p) }
     {
-        Ok(self.core_from(alloc, predecessors, p)?)
+        let reached = self.reach_marks(alloc, p)?;
+        let mut marks = mark_alone(alloc, self.len(), p)?;
+        let mut pending = Vec::new(alloc);
+        pending.push(p)?;
+        let mut core = Vec::new(alloc);
+        // The search stays among those that `p` reaches: each on a way from `p` back to `p` is one of
+        // them, so it visits the core alone.
+        while let Some(q) = pending.pop() {
+            core.push(q)?;
+            mark_each_within(predecessors.at(q), &reached, &mut marks, &mut pending)?;
+        }
+        core.sort_unstable();
+        Ok(core)
     }
 
     /// Marks processes that are a core by themselves: those that nobody depends on, and those whose
     /// dependents are all marked. There may be others. It takes time linear in processes and
     /// dependencies, and memory linear in the processes.
-    pub fn alone(&self, alloc: Global, predecessors: &Predecessors) -> Result<Vec<bool>, GraphFault>
+    pub fn singleton_marks(
+        &self,
+        alloc: Global,
+        predecessors: &Predecessors,
+    ) -> Result<Vec<bool>, AllocError>
         requires known { ArePredecessors self.now predecessors.now }
-        ensures ok { IfOk result (λ marks. AreAlone self.now marks.items) }
-        ensures memory { IfErr result (λ e. e ≡ GraphFault.Memory) }
+        ensures { IfOk result (λ marks. AreAlone self.now marks.items) }
     {
-        Ok(self.trimmed(alloc, predecessors)?)
+        self.has_no_fault();
+        let mut marks = self.marks_without_predecessors(alloc, predecessors)?;
+        let mut passed = vec![in alloc; 0; self.len() as usize]?;
+        let mut pending = self.trim_all(alloc, &mut marks, &mut passed)?;
+        // Each process is pending once at most.
+        for _ in 0..self.len() {
+            let Some(q) = pending.pop() else {
+                break;
+            };
+            self.trim_each(predecessors.at(q), &mut marks, &mut passed, &mut pending)?;
+        }
+        Ok(marks)
     }
 
     /// For each process the least number of dependencies to an awake process, where there is one.
@@ -262,7 +286,7 @@ impl WaitGraph {
         ensures memory { IfErr result (λ e. e ≡ GraphFault.Memory) }
     {
         let predecessors = Predecessors::of_graph(alloc, self)?;
-        self.distances_by(alloc, &predecessors)
+        Ok(self.distances_by(alloc, &predecessors)?)
     }
 
     /// The distances, as `distances` gives them, by the predecessors of all processes. It takes time
@@ -271,13 +295,12 @@ impl WaitGraph {
         &self,
         alloc: Global,
         predecessors: &Predecessors,
-    ) -> Result<Vec<Option<u32>>, GraphFault>
+    ) -> Result<Vec<Option<u32>>, AllocError>
         requires { ArePredecessors self.now predecessors.now }
-        ensures ok { IfOk result (λ list.
+        ensures { IfOk result (λ list.
             list.items ≡ map (distance_of self.now) (indices self.now)) }
-        ensures memory { IfErr result (λ e. e ≡ GraphFault.Memory) }
     {
-        Ok(self.steps_to(alloc, predecessors, self.awake())?)
+        self.steps_to(alloc, predecessors, self.awake_marks())
     }
 
     /// Of the shortest paths from `p` to an awake process the one whose indices are least, from
@@ -290,7 +313,7 @@ impl WaitGraph {
         ensures memory { IfErr result (λ e. e ≡ GraphFault.Memory) }
     {
         let distances = self.distances(alloc)?;
-        self.path_by(alloc, &distances, p)
+        Ok(self.path_by(alloc, &distances, p)?)
     }
 
     /// The chosen path of `p`, as `chosen_path` gives it, by the distances of all processes. It
@@ -300,12 +323,11 @@ impl WaitGraph {
         alloc: Global,
         distances: &[Option<u32>],
         p: u32,
-    ) -> Result<Option<Vec<u32>>, GraphFault>
+    ) -> Result<Option<Vec<u32>>, AllocError>
         requires within { p < process_count self.now }
         requires known { distances.now ≡ map (distance_of self.now) (indices self.now) }
-        ensures ok { IfOk result (λ path.
+        ensures { IfOk result (λ path.
             option_map (λ v. v.items) path ≡ chosen_path self.now p) }
-        ensures memory { IfErr result (λ e. e ≡ GraphFault.Memory) }
     {
         self.has_no_fault();
         let Some(distance) = distances[p as usize] else {
@@ -321,6 +343,23 @@ impl WaitGraph {
         Ok(Some(path))
     }
 
+    /// The process after `p` on its chosen path, where `p` is one further away than this distance: of
+    /// its dependents at the distance the least. It takes time linear in the dependents of `p`.
+    fn next_at(&self, distance: u32, p: u32, distances: &[Option<u32>]) -> u32
+        requires within { p < process_count self.now }
+        requires known { distances.now ≡ map (distance_of self.now) (indices self.now) }
+        requires further { distance_of self.now p ≡ Some (distance + 1) }
+        ensures { IsLeastAt distance (dependents_of self.now p) distances.now (Some result) }
+    {
+        self.has_no_fault();
+        let dependents = self.dependents(p);
+        // Some dependent is at the distance, so of one it isn't looked up.
+        if dependents.len() == 1 {
+            return dependents[0];
+        }
+        least_at(distance, dependents, distances).unwrap()
+    }
+
     /// The verdict of each process, by one search of the graph. It takes time and memory linear in
     /// processes and dependencies.
     pub fn verdicts_plain(&self, alloc: Global) -> Result<Vec<Verdict>, GraphFault>
@@ -328,7 +367,7 @@ impl WaitGraph {
         ensures memory { IfErr result (λ e. e ≡ GraphFault.Memory) }
     {
         let distances = self.distances(alloc)?;
-        self.verdicts_by(alloc, &distances)
+        Ok(self.verdicts_by(alloc, &distances)?)
     }
 
     /// The verdict of each process, as `verdicts_plain` gives it, by the distances of all processes.
@@ -337,10 +376,9 @@ impl WaitGraph {
         &self,
         alloc: Global,
         distances: &[Option<u32>],
-    ) -> Result<Vec<Verdict>, GraphFault>
+    ) -> Result<Vec<Verdict>, AllocError>
         requires { distances.now ≡ map (distance_of self.now) (indices self.now) }
-        ensures ok { IfOk result (λ list. list.items ≡ verdicts self.now) }
-        ensures memory { IfErr result (λ e. e ≡ GraphFault.Memory) }
+        ensures { IfOk result (λ list. list.items ≡ verdicts self.now) }
     {
         let mut verdicts = Vec::new(alloc);
         for p in 0..self.len() {
@@ -353,17 +391,6 @@ impl WaitGraph {
 // The searches that answer them.
 
 impl WaitGraph {
-    /// For each process whether `p` reaches it. The search goes along the dependencies.
-    pub(crate) fn reached_from(&self, alloc: Global, p: u32) -> Result<Vec<bool>, AllocError>
-        requires { p < process_count self.now }
-        ensures marks { IfOk result (λ marks.
-            marks.items ≡ map (reaches self.now p) (indices self.now)) }
-        ensures few { process_count self.now ≤ MAX_PROCESSES }
-    {
-        let marks = mark_alone(alloc, self.len(), p)?;
-        self.spread(alloc, p, marks)
-    }
-
     /// The processes that `p` reaches, by rising index. Few are sorted: read off the marks of all
     /// processes, a reach of one would take most of its time for that.
     pub(crate) fn reach_from(&self, alloc: Global, p: u32) -> Result<Vec<u32>, AllocError>
@@ -380,7 +407,7 @@ impl WaitGraph {
             mark_each(self.dependents(q), &mut marks, &mut pending)?;
         }
         if list.len() > marks.len() / 32 {
-            return marked(alloc, &marks);
+            return marked_indices(alloc, &marks);
         }
         list.sort_unstable();
         Ok(list)
@@ -408,52 +435,12 @@ impl WaitGraph {
         Ok(marks)
     }
 
-    /// The core of `p`, by rising index. The search goes against the dependencies, and stays among
-    /// those that `p` reaches: each on a way from `p` back to `p` is one of them, so it visits the
-    /// core alone.
-    pub(crate) fn core_from(
+    /// For each process whether nobody depends on it.
+    fn marks_without_predecessors(
         &self,
         alloc: Global,
         predecessors: &Predecessors,
-        p: u32,
-    ) -> Result<Vec<u32>, AllocError>
-        requires within { p < process_count self.now }
-        requires known { ArePredecessors self.now predecessors.now }
-        ensures { IfOk result (λ core. core.items ≡ core_of self.now p) }
-    {
-        let reached = self.reached_from(alloc, p)?;
-        let mut marks = mark_alone(alloc, self.len(), p)?;
-        let mut pending = Vec::new(alloc);
-        pending.push(p)?;
-        let mut core = Vec::new(alloc);
-        while let Some(q) = pending.pop() {
-            core.push(q)?;
-            mark_each_within(predecessors.at(q), &reached, &mut marks, &mut pending)?;
-        }
-        core.sort_unstable();
-        Ok(core)
-    }
-
-    /// Marks as `alone` does. Each process is pending once at most.
-    fn trimmed(&self, alloc: Global, predecessors: &Predecessors) -> Result<Vec<bool>, AllocError>
-        requires known { ArePredecessors self.now predecessors.now }
-        ensures { IfOk result (λ marks. AreAlone self.now marks.items) }
-    {
-        self.has_no_fault();
-        let mut marks = self.unnamed(alloc, predecessors)?;
-        let mut passed = vec![in alloc; 0; self.len() as usize]?;
-        let mut pending = self.waiting_for_nobody(alloc, &mut marks, &mut passed)?;
-        for _ in 0..self.len() {
-            let Some(q) = pending.pop() else {
-                break;
-            };
-            self.trim_each(predecessors.at(q), &mut marks, &mut passed, &mut pending)?;
-        }
-        Ok(marks)
-    }
-
-    /// For each process whether nobody depends on it.
-    fn unnamed(&self, alloc: Global, predecessors: &Predecessors) -> Result<Vec<bool>, AllocError>
+    ) -> Result<Vec<bool>, AllocError>
         requires known { ArePredecessors self.now predecessors.now }
         ensures { IfOk result (λ marks. marks.items
             ≡ map (λ p. length (predecessors_at predecessors.now p) == 0) (indices self.now)) }
@@ -466,7 +453,7 @@ impl WaitGraph {
     }
 
     /// Tries each process once, and lists those that it has marked.
-    fn waiting_for_nobody(
+    fn trim_all(
         &self,
         alloc: Global,
         marks: &mut [bool],
@@ -516,7 +503,7 @@ impl WaitGraph {
     {
         self.has_no_fault();
         let row = self.dependents(p);
-        let count = marked_from(row, marks, passed[p as usize]);
+        let count = first_unmarked(row, marks, passed[p as usize]);
         passed[p as usize] = count;
         if count < row.len() || marks[p as usize] {
             return false;
@@ -540,29 +527,13 @@ impl WaitGraph {
     {
         self.has_no_fault();
         let mut distances = first_distances(alloc, marks)?;
-        let mut level = marked(alloc, marks)?;
+        let mut level = marked_indices(alloc, marks)?;
         let mut distance = 0;
         while !level.is_empty() {
             distance += 1;
             level = next_level(alloc, predecessors, &level, distance, &mut distances)?;
         }
         Ok(distances)
-    }
-
-    /// The dependent of `p` by which its chosen path goes on: the least at this distance. Where there
-    /// is only one, its distance isn't looked up: `p` is one further away, so some dependent has it.
-    fn next_at(&self, distance: u32, p: u32, distances: &[Option<u32>]) -> u32
-        requires within { p < process_count self.now }
-        requires known { distances.now ≡ map (distance_of self.now) (indices self.now) }
-        requires further { distance_of self.now p ≡ Some (distance + 1) }
-        ensures { IsLeastAt distance (dependents_of self.now p) distances.now (Some result) }
-    {
-        self.has_no_fault();
-        let dependents = self.dependents(p);
-        if dependents.len() == 1 {
-            return dependents[0];
-        }
-        least_at(distance, dependents, distances).unwrap()
     }
 
     /// The verdict of `p`, by the distances of all processes.
@@ -580,8 +551,8 @@ impl WaitGraph {
     }
 }
 
-/// For each part whether its process is awake.
-fn awake_marks(
+/// Marks each part whose process is awake.
+fn mark_awake(
     alloc: Global,
     parts: &[Part],
     in_transit: &[(u32, u32)],
@@ -590,7 +561,7 @@ fn awake_marks(
     ensures { IfOk result (λ marks. let g = parts_graph parts.now in_transit.now in
         marks.items ≡ map (is_awake g) (indices g)) }
 {
-    let mut marks = active_marks(alloc, parts)?;
+    let mut marks = mark_active(alloc, parts)?;
     for (sender, receiver) in in_transit {
         if parts[*receiver as usize].dependents.contains(sender) {
             marks[*receiver as usize] = true;
@@ -599,8 +570,8 @@ fn awake_marks(
     Ok(marks)
 }
 
-/// For each part whether it is active.
-fn active_marks(alloc: Global, parts: &[Part]) -> Result<Vec<bool>, AllocError>
+/// Marks each part that is active.
+fn mark_active(alloc: Global, parts: &[Part]) -> Result<Vec<bool>, AllocError>
     ensures { IfOk result (λ marks.
         marks.items ≡ map (λ part. not (is_idle_state part.state)) parts.now) }
 {

@@ -25,19 +25,19 @@ pub(crate) fn judge(
     if has_too_many_dependents(parts) {
         return Err(GraphFault::TooManyDependencies);
     }
-    if let Some((i, j)) = out_of_range(parts) {
+    if let Some((i, j)) = first_out_of_range(parts) {
         return Err(GraphFault::DependentOutOfRange(i, j));
     }
     if let Some((i, j)) = first_repeated_dependent(alloc, parts)? {
         return Err(GraphFault::RepeatedDependent(i, j));
     }
-    if let Some(i) = active_with_dependents(parts) {
+    if let Some(i) = first_active_with_dependents(parts) {
         return Err(GraphFault::ActiveWithDependents(i));
     }
     if in_transit.len() > MAX_IN_TRANSIT {
         return Err(GraphFault::TooManyInTransit);
     }
-    match transit_out_of_range(in_transit, parts.len()) {
+    match first_transit_out_of_range(in_transit, parts.len()) {
         Some(i) => Err(GraphFault::TransitOutOfRange(i)),
         None => Ok(()),
     }
@@ -58,7 +58,7 @@ fn has_too_many_dependents(parts: &[Part]) -> bool
 }
 
 /// The first dependent that names no part, by the places of the part and of the dependent.
-fn out_of_range(parts: &[Part]) -> Option<(usize, usize)>
+fn first_out_of_range(parts: &[Part]) -> Option<(usize, usize)>
     ensures some { IfSome result (λ at. IsFirstDependent
         (λ i j. HasGraphFault (parts_graph parts.now []) (DependentOutOfRange i j)) at.0 at.1) }
     ensures none { IfNone result (IsWithinGraph (parts_graph parts.now [])) }
@@ -125,7 +125,7 @@ fn first_repeat(stamp: usize, list: &[u32], stamps: &mut [usize]) -> Option<usiz
 }
 
 /// The first part that is active and has dependents.
-fn active_with_dependents(parts: &[Part]) -> Option<usize>
+fn first_active_with_dependents(parts: &[Part]) -> Option<usize>
     ensures some { IfSome result (IsFirst
         (λ i. HasGraphFault (parts_graph parts.now []) (ActiveWithDependents i))) }
     ensures none { IfNone result
@@ -140,7 +140,7 @@ fn active_with_dependents(parts: &[Part]) -> Option<usize>
 }
 
 /// The first message whose sender or receiver is `count` or more.
-fn transit_out_of_range(in_transit: &[(u32, u32)], count: usize) -> Option<usize>
+fn first_transit_out_of_range(in_transit: &[(u32, u32)], count: usize) -> Option<usize>
     ensures some { IfSome result (IsFirst (λ i. (i < length in_transit.now)
         × ((count ≤ (slice_index_or in_transit.now i (0, 0)).0)
         ⊎ (count ≤ (slice_index_or in_transit.now i (0, 0)).1)))) }

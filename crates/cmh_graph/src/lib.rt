@@ -16,7 +16,7 @@ mod search;
 mod tests;
 mod verdict;
 
-pub use fault::GraphFault;
+pub use fault::{GraphFault, out_of_memory};
 pub use graph::WaitGraph;
 pub use part::{Part, State};
 pub use predecessors::Predecessors;

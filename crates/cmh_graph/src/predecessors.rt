@@ -1,10 +1,10 @@
 //! Who depends on each process.
 
-ghost use Rattle.std.specs.Prelude.{◌≡◌, ◌<◌, ℕ, [], length, All, IfOk, IfErr, OnOk};
+ghost use Rattle.std.specs.Prelude.{◌≡◌, ◌<◌, ℕ, [], length, All, IfOk, OnOk};
 ghost use Rattle.cmh_graph.specs.Graph.{process_count};
 ghost use Rattle.cmh_graph.specs.Search.{list_at, predecessors_at, ArePredecessors, JoinsEach};
 
-use crate::{GraphFault, WaitGraph};
+use crate::WaitGraph;
 use std::alloc::{AllocError, Global};
 use std::marker::Model;
 
@@ -27,9 +27,8 @@ impl Model for Predecessors {
 impl Predecessors {
     /// The predecessors of each process of the graph. It takes time and memory linear in processes
     /// and dependencies.
-    pub fn of_graph(alloc: Global, graph: &WaitGraph) -> Result<Predecessors, GraphFault>
-        ensures ok { IfOk result (λ predecessors. ArePredecessors graph.now predecessors) }
-        ensures memory { IfErr result (λ e. e ≡ GraphFault.Memory) }
+    pub fn of_graph(alloc: Global, graph: &WaitGraph) -> Result<Predecessors, AllocError>
+        ensures { IfOk result (λ predecessors. ArePredecessors graph.now predecessors) }
     {
         let counts = predecessor_counts(alloc, graph)?;
         let mut lists = empty_lists(alloc, &counts)?;

@@ -9,7 +9,7 @@ use std::alloc::{AllocError, Global};
 
 /// The marked processes, by rising index.
 #[tactic(auto, using(crate::proofs::IndexLists::filter_indices_kept, crate::proofs::IndexLists::filter_indices_passed))]
-pub(crate) fn marked(alloc: Global, marks: &[bool]) -> Result<Vec<u32>, AllocError>
+pub(crate) fn marked_indices(alloc: Global, marks: &[bool]) -> Result<Vec<u32>, AllocError>
     requires { length marks.now < 2 ^ 32 }
     ensures { IfOk result (λ list.
         list.items ≡ filter (is_marked marks.now) (range_with_len 0 (length marks.now))) }
@@ -123,8 +123,8 @@ pub(crate) fn next_level(
     Ok(next)
 }
 
-/// How far the marked ones of the list go on from this place.
-pub(crate) fn marked_from(list: &[u32], marks: &[bool], from: usize) -> usize
+/// The first place of the list, from this one on, whose process isn't marked, or the end of the list.
+pub(crate) fn first_unmarked(list: &[u32], marks: &[bool], from: usize) -> usize
     requires { All (λ p. p < length marks.now) list.now }
     ensures { (k : ℕ) → from ≤ k → k < result
         → IsTrue (is_marked marks.now (slice_index list.now k)) }

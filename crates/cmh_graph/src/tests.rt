@@ -92,7 +92,7 @@ fn cycle_and_follower(rt: HostRuntime) -> Result<(), GraphFault> {
         &[Verdict::Deadlocked; 3],
     );
     expect_list(&rt, &graph.reach_of(alloc, 2)?, &[0, 1, 2]);
-    expect_list(&rt, &graph.reached(alloc, 1)?, &[true, true, false]);
+    expect_list(&rt, &graph.reach_marks(alloc, 1)?, &[true, true, false]);
     expect_list(&rt, &graph.core_of(alloc, 2)?, &[2]);
     expect(&rt, graph.chosen_path(alloc, 2)?.is_none());
     expect_list(&rt, &graph.distances(alloc)?, &[None; 3]);

@@ -38,7 +38,7 @@ fn summaries_of<L: Log, E: ProcessList, P: PathList>(
     requires { AreRecordsOf P.processes graph.now records.now }
     ensures { IfOk result (λ list. AreSummariesOf graph.now list.items) }
 {
-    let mut summaries = all_active(alloc, graph.len())?;
+    let mut summaries = active_summaries(alloc, graph.len())?;
     for record in records {
         summaries[record.initiator as usize] = summary_in(&record.shape);
     }
@@ -46,7 +46,7 @@ fn summaries_of<L: Log, E: ProcessList, P: PathList>(
 }
 
 /// A table in which each process has no line.
-fn all_active(alloc: Global, count: u32) -> Result<Vec<Summary>, AllocError>
+fn active_summaries(alloc: Global, count: u32) -> Result<Vec<Summary>, AllocError>
     ensures { IfOk result (λ list. list.items ≡ replicate count Summary.Active) }
 {
     Ok(vec![in alloc; Summary::Active; count as usize]?)

@@ -1,12 +1,12 @@
 //! Lists of processes that are kept, or not.
 
-ghost use Rattle.std.specs.Prelude.{◌≡◌, ◌<◌, ℕ, List, Some, map, IsSome, IfOk, IfErr};
+ghost use Rattle.std.specs.Prelude.{◌≡◌, ◌<◌, ℕ, List, Some, map, IsSome, IfOk};
 ghost use Rattle.cmh_graph.specs.ChosenPath.{chosen_path, distance_of};
 ghost use Rattle.cmh_graph.specs.Graph.{indices, process_count};
 
 use crate::tape::ListTape;
-use cmh_graph::{GraphFault, WaitGraph};
-use std::alloc::Global;
+use cmh_graph::WaitGraph;
+use std::alloc::{AllocError, Global};
 
 /// A list of processes: whole in a `Vec`, or not kept at all in a `NoList`.
 pub trait ProcessList: Drop + Sized {
@@ -24,12 +24,11 @@ pub trait ProcessList: Drop + Sized {
         graph: &WaitGraph,
         distances: &[Option<u32>],
         p: u32,
-    ) -> Result<Self, GraphFault>
+    ) -> Result<Self, AllocError>
         requires within { p < process_count graph.now }
         requires known { distances.now ≡ map (distance_of graph.now) (indices graph.now) }
         requires some { IsSome (chosen_path graph.now p) }
-        ensures ok { IfOk result (λ path. chosen_path graph.now p ≡ Some (processes path)) }
-        ensures memory { IfErr result (λ e. e ≡ GraphFault.Memory) };
+        ensures { IfOk result (λ path. chosen_path graph.now p ≡ Some (processes path)) };
 }
 
 impl ProcessList for Vec<u32> {
@@ -44,7 +43,7 @@ impl ProcessList for Vec<u32> {
         graph: &WaitGraph,
         distances: &[Option<u32>],
         p: u32,
-    ) -> Result<Vec<u32>, GraphFault> {
+    ) -> Result<Vec<u32>, AllocError> {
         Ok(graph.path_by(alloc, distances, p)?.unwrap())
     }
 }
@@ -69,7 +68,7 @@ impl ProcessList for NoList {
         graph: &WaitGraph,
         _distances: &[Option<u32>],
         p: u32,
-    ) -> Result<NoList, GraphFault> {
+    ) -> Result<NoList, AllocError> {
         Ok(NoList {
             tape: ListTape::chosen_path(graph, &p),
         })

@@ -14,8 +14,8 @@ use crate::leader_reach::{GroupParts, LeaderReach, parts_from, parts_of};
 use crate::shared_reach::{SharedReach, find_base};
 use crate::sites::count_sites;
 use crate::summary::Summary;
+use cmh_graph::WaitGraph;
 use cmh_graph::laws::law_built_graph;
-use cmh_graph::{GraphFault, WaitGraph};
 use std::alloc::{AllocError, Global};
 
 /// Who leads whom, and the numbers of the groups.
@@ -166,17 +166,10 @@ fn parts_by(
     match base {
         Some(known) => parts_from(alloc, graph, groups, leader, known),
         None => {
-            let marks = graph.reached(alloc, leader).map_err(out_of_memory)?;
+            let marks = graph.reach_marks(alloc, leader)?;
             parts_of(alloc, graph, groups, leader, marks)
         }
     }
-}
-
-/// A question to a graph fails for want of memory alone.
-pub(crate) fn out_of_memory(_fault: GraphFault) -> AllocError
-    requires { _fault ≡ GraphFault.Memory }
-{
-    AllocError
 }
 
 /// The core and the rest of a group, by the processes that its leader reaches.

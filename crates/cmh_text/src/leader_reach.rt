@@ -10,9 +10,9 @@ ghost use Rattle.cmh_text.specs.Group.{is_led_by, AreGroupsOf};
 ghost use Rattle.cmh_text.specs.LeaderReach.{AreGroupPartsOf, HasOneMore, IsLeaderReachOf};
 ghost use Rattle.cmh_text.specs.Summary.{leaders_in};
 
-use crate::groups::{Groups, core_and_rest, out_of_memory};
-use cmh_graph::WaitGraph;
+use crate::groups::{Groups, core_and_rest};
 use cmh_graph::laws::law_built_graph;
+use cmh_graph::{WaitGraph, out_of_memory};
 use std::alloc::{AllocError, Global};
 
 /// Whom a leader reaches.
@@ -42,7 +42,7 @@ pub(crate) fn leader_reach_of(
     requires { leader < process_count graph.now }
     ensures { IfOk result (IsLeaderReachOf graph.now) }
 {
-    let marks = graph.reached(alloc, leader).map_err(out_of_memory)?;
+    let marks = graph.reach_marks(alloc, leader)?;
     let reach = reach_of(alloc, graph, leader, &marks)?;
     Ok(LeaderReach {
         leader,
@@ -66,9 +66,7 @@ pub(crate) fn parts_from(
     requires beyond { Reaches graph.now leader base.now.leader }
     ensures { IfOk result (AreGroupPartsOf graph.now leader) }
 {
-    let marks = graph
-        .reached_by(alloc, leader, base.leader, &base.marks)
-        .map_err(out_of_memory)?;
+    let marks = graph.reach_marks_by(alloc, leader, base.leader, &base.marks)?;
     if has_one_more(leader, &base.marks, &marks) {
         return parts_beyond(alloc, graph, leader, base, marks);
     }
@@ -201,7 +199,9 @@ fn reach_of(
     ensures { IfOk result (λ reach. reach.items ≡ reach_of graph.now leader) }
 {
     if graph.dependents(leader).is_empty() {
-        return graph.reach_of(alloc, leader).map_err(out_of_memory);
+        return graph
+            .reach_of(alloc, leader)
+            .map_err(|fault| out_of_memory(fault));
     }
     law_built_graph(graph);
     marked(alloc, marks)

@@ -10,7 +10,7 @@ ghost use Rattle.cmh_rw.specs.declared.TheConstants.{MAX_SEATS};
 ghost use Rattle.cmh_board.specs.Board.{board_view};
 
 use crate::chunks::chunk_bounds;
-use crate::fault::{want_at_board, want_in_graph, want_of_tickets};
+use crate::fault::{board_out_of_memory, tickets_out_of_memory};
 use crate::job::{Seats, Shared};
 use crate::number::number_all;
 use crate::record::Analysis;
@@ -18,8 +18,8 @@ use crate::shapes::Shapes;
 use crate::workers::workers;
 use crate::{Gate, WorkFault};
 use cmh_board::Board;
-use cmh_graph::WaitGraph;
 use cmh_graph::laws::law_built_graph;
+use cmh_graph::{WaitGraph, out_of_memory};
 use cmh_plan::{Plan, TicketSeat, Tickets};
 use cmh_run::{Log, ProcessList, RunLog};
 use std::alloc::{AllocError, Global};
@@ -75,10 +75,12 @@ pub fn analyse_keeping<
     ensures ok { IfOk result (IsAnalysisOf P.processes graph.now plan.now.choices) }
     ensures memory { IfErr result (λ e. e ≡ WorkFault.Memory) }
 {
-    let idle = graph.idle_list(alloc).map_err(want_in_graph)?;
+    let idle = graph
+        .idle_list(alloc)
+        .map_err(|fault| out_of_memory(fault))?;
     let bounds = chunk_bounds(alloc, plan.cuts(), idle.len())?;
     let shapes = Shapes::of_graph(alloc, graph)?;
-    let (board, board_seat) = Board::open(alloc, graph).map_err(want_at_board)?;
+    let (board, board_seat) = Board::open(alloc, graph).map_err(board_out_of_memory)?;
     let (tickets, ticket_seat) = open_tickets(alloc, plan)?;
     let shared = Shared {
         idle,
@@ -100,7 +102,7 @@ fn open_tickets(alloc: Global, plan: &Plan) -> Result<(Tickets, TicketSeat), All
         × (ticket_view r.1 ≡ ticket_opening_view (length plan.now.cuts + 1))) }
 {
     let chunks = plan.cuts().len() as u32 + 1;
-    Tickets::open(alloc, chunks).map_err(want_of_tickets)
+    Tickets::open(alloc, chunks).map_err(tickets_out_of_memory)
 }
 
 /// The analysis, by workers that share this.
@@ -134,7 +136,7 @@ fn finish<
     let history = shared
         .board
         .close(alloc, seats.board)
-        .map_err(want_at_board)?;
+        .map_err(board_out_of_memory)?;
     let records = number_all(alloc, &history, graph.len(), found)?;
     Ok(Analysis { records, history })
 }

@@ -2,13 +2,11 @@
 
 ghost use Rattle.std.specs.Prelude.{◌≡◌};
 ghost use Rattle.cmh_work.specs.declared.fault.WorkFault.TheVariants as work;
-ghost use Rattle.cmh_graph.specs.declared.fault.GraphFault.TheVariants as graph;
 ghost use Rattle.cmh_run.specs.declared.fault.RunFault.TheVariants as run;
 ghost use Rattle.cmh_board.specs.declared.fault.BoardFault.TheVariants as board;
 ghost use Rattle.cmh_plan.specs.declared.fault.PlanFault.TheVariants as plan;
 
 use cmh_board::BoardFault;
-use cmh_graph::GraphFault;
 use cmh_plan::PlanFault;
 use cmh_run::RunFault;
 use std::alloc::{AllocError, AllocFailed};
@@ -57,42 +55,23 @@ impl<T: Drop> From<AllocFailed<T>> for WorkFault {
     }
 }
 
-/// The want of memory that a question to a graph met.
-pub(crate) fn want_in_graph(fault: GraphFault) -> AllocError
-    requires { fault ≡ graph.Memory }
+/// The refused memory that the fault of a run is.
+pub(crate) fn run_out_of_memory(_fault: RunFault) -> AllocError
+    requires { _fault ≡ run.Memory }
 {
-    match fault {
-        GraphFault::Memory => AllocError,
-        _ => unreachable!(),
-    }
+    AllocError
 }
 
-/// The want of memory that a run met.
-pub(crate) fn want_in_run(fault: RunFault) -> AllocError
-    requires { fault ≡ run.Memory }
+/// The refused memory that the fault of a board is, at its opening or its close.
+pub(crate) fn board_out_of_memory(_fault: BoardFault) -> AllocError
+    requires { _fault ≡ board.Memory }
 {
-    match fault {
-        RunFault::Memory => AllocError,
-        _ => unreachable!(),
-    }
+    AllocError
 }
 
-/// The want of memory that a board met at its opening or its close.
-pub(crate) fn want_at_board(fault: BoardFault) -> AllocError
-    requires { fault ≡ board.Memory }
+/// The refused memory that the fault of tickets is, at their opening.
+pub(crate) fn tickets_out_of_memory(_fault: PlanFault) -> AllocError
+    requires { _fault ≡ plan.Memory }
 {
-    match fault {
-        BoardFault::Memory => AllocError,
-        BoardFault::Busy(_) => unreachable!(),
-    }
-}
-
-/// The want of memory that tickets met at their opening.
-pub(crate) fn want_of_tickets(fault: PlanFault) -> AllocError
-    requires { fault ≡ plan.Memory }
-{
-    match fault {
-        PlanFault::Memory => AllocError,
-        _ => unreachable!(),
-    }
+    AllocError
 }

@@ -7,7 +7,6 @@ ghost use Rattle.cmh_graph.specs.Graph.{process_count};
 ghost use Rattle.cmh_work.specs.Leaders.{KnowsLeaders, LeadsEach};
 ghost use Rattle.cmh_work.specs.Shape.{AreShapesOf};
 
-use crate::fault::want_in_graph;
 use crate::shapes::Shapes;
 use cmh_graph::WaitGraph;
 use cmh_graph::laws::law_built_graph;
@@ -43,9 +42,7 @@ pub(crate) fn find_leader(
     if shapes.alone[p as usize] {
         return Ok(p);
     }
-    let core = graph
-        .core_by(alloc, &shapes.predecessors, p)
-        .map_err(want_in_graph)?;
+    let core = graph.core_by(alloc, &shapes.predecessors, p)?;
     let leader = core[0];
     assign_leader(leader, &core, leaders);
     Ok(leader)

@@ -5,12 +5,12 @@ ghost use Rattle.cmh_graph.specs.ChosenPath.{chosen_path, distance_of};
 ghost use Rattle.cmh_graph.specs.Graph.{indices, process_count};
 ghost use Rattle.cmh_graph.specs.Search.{IsLeastAt};
 
+use cmh_graph::WaitGraph;
 use cmh_graph::laws::law_built_graph;
-use cmh_graph::{GraphFault, WaitGraph};
 use cmh_run::{NoList, ProcessList};
-use std::alloc::Global;
+use std::alloc::{AllocError, Global};
 
-/// A list of processes that tells the second of them and how many they are. The chosen path of a
+/// A list of processes that says which is the second and how many there are. The chosen path of a
 /// process is the process, and then the chosen path of its second one: so whole paths can be walked
 /// from record to record.
 pub trait PathList: ProcessList {
@@ -65,7 +65,7 @@ impl ProcessList for NextStep {
         graph: &WaitGraph,
         distances: &[Option<u32>],
         p: u32,
-    ) -> Result<NextStep, GraphFault> {
+    ) -> Result<NextStep, AllocError> {
         let list = NoList::path_by(alloc, graph, distances, p)?;
         let distance = distances[p as usize].unwrap();
         let next = next_by(graph, distances, p, distance);
@@ -87,8 +87,7 @@ impl PathList for NextStep {
     }
 }
 
-/// The process after `p` on its chosen path, if `p` isn't its end: of its dependents that are one
-/// nearer the least.
+/// The process after `p` on its chosen path, if `p` isn't its end.
 fn next_by(graph: &WaitGraph, distances: &[Option<u32>], p: u32, distance: u32) -> Option<u32>
     requires within { p < process_count graph.now }
     requires known { distances.now ≡ map (distance_of graph.now) (indices graph.now) }

@@ -3,7 +3,6 @@
 ghost use Rattle.std.specs.Prelude.{◌<◌, IfOk};
 ghost use Rattle.cmh_graph.specs.Graph.{process_count};
 
-use crate::fault::want_in_graph;
 use crate::leaders::find_leader;
 use crate::record::Shape;
 use cmh_graph::laws::law_built_graph;
@@ -31,11 +30,9 @@ impl Shapes {
     pub(crate) fn of_graph(alloc: Global, graph: &WaitGraph) -> Result<Shapes, AllocError>
         ensures { IfOk result (AreShapesOf graph.now) }
     {
-        let predecessors = Predecessors::of_graph(alloc, graph).map_err(want_in_graph)?;
-        let distances = graph
-            .distances_by(alloc, &predecessors)
-            .map_err(want_in_graph)?;
-        let alone = graph.alone(alloc, &predecessors).map_err(want_in_graph)?;
+        let predecessors = Predecessors::of_graph(alloc, graph)?;
+        let distances = graph.distances_by(alloc, &predecessors)?;
+        let alone = graph.singleton_marks(alloc, &predecessors)?;
         Ok(Shapes {
             predecessors,
             distances,
@@ -64,10 +61,7 @@ impl Shapes {
         law_built_graph(graph);
         match known {
             Verdict::Deadlocked => Ok(Shape::Leader(find_leader(alloc, graph, self, leaders, p)?)),
-            Verdict::Free => {
-                let path = P::path_by(alloc, graph, &self.distances, p).map_err(want_in_graph)?;
-                Ok(Shape::Path(path))
-            }
+            Verdict::Free => { Ok(Shape::Path(P::path_by(alloc, graph, &self.distances, p)?)) }
         }
     }
 }

@@ -13,7 +13,7 @@ ghost use Rattle.cmh_work.specs.Working.{IsMadeFor, SitsIn, AreSeated, AreNew, A
 
 use crate::Gate;
 use crate::chunks::chunk_at;
-use crate::fault::want_in_run;
+use crate::fault::run_out_of_memory;
 use crate::finding::{Answer, Finding};
 use crate::job::{Job, Seats, Shared};
 use crate::leaders::no_leaders;
@@ -46,7 +46,7 @@ fn run_of<L: Log>(
     let mut hints = BoardHints::new(&job.shared.board, seat);
     runner
         .run(alloc, initiator, job.plan.choices(), &mut hints)
-        .map_err(want_in_run)
+        .map_err(run_out_of_memory)
 }
 
 /// The verdict of an initiator: the board's, or else that of a run, which is posted.

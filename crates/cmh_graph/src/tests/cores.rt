@@ -61,7 +61,7 @@ fn marks_of_lone_processes(rt: HostRuntime) -> Result<(), GraphFault> {
     for (rows, wanted) in table {
         let graph = graph_of(alloc, rows)?;
         let predecessors = Predecessors::of_graph(alloc, &graph)?;
-        expect_list(&rt, &graph.alone(alloc, &predecessors)?, wanted);
+        expect_list(&rt, &graph.singleton_marks(alloc, &predecessors)?, wanted);
     }
     Ok(())
 }

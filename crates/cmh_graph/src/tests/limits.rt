@@ -137,7 +137,7 @@ fn marks_where_one_waits_for_all(rt: HostRuntime) -> Result<(), GraphFault> {
     let mut alone = vec![in alloc; false; 4_096]?;
     alone[4_095] = true;
     let predecessors = Predecessors::of_graph(alloc, &graph)?;
-    expect_list(&rt, &graph.alone(alloc, &predecessors)?, &alone);
+    expect_list(&rt, &graph.singleton_marks(alloc, &predecessors)?, &alone);
     Ok(())
 }
 

@@ -19,8 +19,8 @@ pub(super) fn reaches_by_each(
     graph.has_no_fault();
     let mut right = true;
     for q in graph.dependents(p) {
-        let known = graph.reached(alloc, *q)?;
-        right &= graph.reached_by(alloc, p, *q, &known)?.as_slice() == wanted;
+        let known = graph.reach_marks(alloc, *q)?;
+        right &= graph.reach_marks_by(alloc, p, *q, &known)?.as_slice() == wanted;
     }
     Ok(right)
 }

@@ -21,9 +21,9 @@ returns-in-Some-2-clause-fault c =
     (few_dependents (dependent_count g) MAX_DEPENDENCIES c.if-has_too_many_dependents.ensures) c.in_default.ensures.none
     found)
 
-pub returns-in-Some-active_with_dependents-clause-fault :
-    goal.returns-in-Some-active_with_dependents-clause-fault
-returns-in-Some-active_with_dependents-clause-fault c =
+pub returns-in-Some-first_active_with_dependents-clause-fault :
+    goal.returns-in-Some-first_active_with_dependents-clause-fault
+returns-in-Some-first_active_with_dependents-clause-fault c =
     let parts = c.args.parts.now in
     let g = parts_graph parts c.args.in_transit.now in
     let few : length parts ≤ MAX_PROCESSES = c.if-parts-gt-MAX_PROCESSES.false in
@@ -33,7 +33,7 @@ returns-in-Some-active_with_dependents-clause-fault c =
     c.in_ok-i.ensures.none in
     inr (first_active g _ (omega (arith, few, as_many parts))
     (few_dependents (dependent_count g) MAX_DEPENDENCIES c.if-has_too_many_dependents.ensures) c.in_default.ensures.none
-    distinct c.in-Some-active_with_dependents.ensures.some)
+    distinct c.in-Some-first_active_with_dependents.ensures.some)
 
 pub returns-then-in_transit-gt-MAX_IN_TRANSIT-clause-fault :
     goal.returns-then-in_transit-gt-MAX_IN_TRANSIT-clause-fault
@@ -47,11 +47,11 @@ returns-then-in_transit-gt-MAX_IN_TRANSIT-clause-fault c =
     c.in_ok-i.ensures.none in
     inr (first_in_transit g (omega (arith, few, as_many parts))
     (few_dependents (dependent_count g) MAX_DEPENDENCIES c.if-has_too_many_dependents.ensures) c.in_default.ensures.none
-    distinct c.in_default-active_with_dependents.ensures.none c.if-in_transit-gt-MAX_IN_TRANSIT.true)
+    distinct c.in_default-first_active_with_dependents.ensures.none c.if-in_transit-gt-MAX_IN_TRANSIT.true)
 
-pub returns-in-Some-transit_out_of_range-clause-fault :
-    goal.returns-in-Some-transit_out_of_range-clause-fault
-returns-in-Some-transit_out_of_range-clause-fault c =
+pub returns-in-Some-first_transit_out_of_range-clause-fault :
+    goal.returns-in-Some-first_transit_out_of_range-clause-fault
+returns-in-Some-first_transit_out_of_range-clause-fault c =
     let parts = c.args.parts.now in
     let g = parts_graph parts c.args.in_transit.now in
     let few : length parts ≤ MAX_PROCESSES = c.if-parts-gt-MAX_PROCESSES.false in
@@ -61,8 +61,8 @@ returns-in-Some-transit_out_of_range-clause-fault c =
     c.in_ok-i.ensures.none in
     inr (first_transit g _ (omega (arith, few, as_many parts))
     (few_dependents (dependent_count g) MAX_DEPENDENCIES c.if-has_too_many_dependents.ensures) c.in_default.ensures.none
-    distinct c.in_default-active_with_dependents.ensures.none c.if-in_transit-gt-MAX_IN_TRANSIT.false
-    (transit_first parts _ _ c.in-Some-transit_out_of_range.ensures.some))
+    distinct c.in_default-first_active_with_dependents.ensures.none c.if-in_transit-gt-MAX_IN_TRANSIT.false
+    (transit_first parts _ _ c.in-Some-first_transit_out_of_range.ensures.some))
 
 pub returns-in-None-clause-ok : goal.returns-in-None-clause-ok
 returns-in-None-clause-ok c =
@@ -75,5 +75,5 @@ returns-in-None-clause-ok c =
     c.in_ok-i.ensures.none in
     well_formed_then g (omega (arith, few, as_many parts))
     (few_dependents (dependent_count g) MAX_DEPENDENCIES c.if-has_too_many_dependents.ensures) c.in_default.ensures.none
-    distinct c.in_default-active_with_dependents.ensures.none c.if-in_transit-gt-MAX_IN_TRANSIT.false
+    distinct c.in_default-first_active_with_dependents.ensures.none c.if-in_transit-gt-MAX_IN_TRANSIT.false
     (transit_within parts _ c.in-None.ensures.none)

@@ -1,6 +1,5 @@
 use Rattle.std.proofs.Common.{◌∙◌, None, ap, arith, length, subst, sym}
 use Rattle.std.proofs.lemmas.List.{get_or_default, with_items_is}
-use Rattle.cmh_graph.proofs.Faults.{given}
 use Rattle.cmh_graph.proofs.Groups.{members_within}
 use Rattle.cmh_work.specs.Leaders.{KnowsLeaders}
 use Rattle.cmh_work.proofs.LeadersLemmas.{core_some, knows_more, leader_first}
@@ -16,41 +15,35 @@ returns-in-Some-clause-leader c =
 
 pub index-leader-requires : goal.index-leader-requires
 index-leader-requires c =
-    let core = given c.core_by.result c.map_err.result c.in_ok-core.core _ _ c.map_err.ensures.cases c.in_ok-core.was
-    c.core_by.ensures.ok in
     omega (
       arith,
       core_some c.args.graph.now c.args.p c.in_ok-core.core.items c.law_built_graph.ensures.within c.requires.within
-          core,
+          c.in_ok-core.ensures,
       c.in_ok-core.core.ok.0,
     )
 
 pub assign_leader-requires : goal.assign_leader-requires
 assign_leader-requires c =
-    let core = given c.core_by.result c.map_err.result c.in_ok-core.core _ _ c.map_err.ensures.cases c.in_ok-core.was
-    c.core_by.ensures.ok in
-    members_within c.args.graph.now c.args.p _ _ (c.deref.ensures.value ∙ core)
+    members_within c.args.graph.now c.args.p _ _ (c.deref.ensures.value ∙ c.in_ok-core.ensures)
     (ap length c.deref_mut.ensures.value ∙ c.requires.leaders.size)
 
 pub returns-clause-leaders : goal.returns-clause-leaders
 returns-clause-leaders c =
     let g = c.args.graph.now in
     let w = c.law_built_graph.ensures.within in
-    let core = given c.core_by.result c.map_err.result c.in_ok-core.core _ _ c.map_err.ensures.cases c.in_ok-core.was
-    c.core_by.ensures.ok in
-    let some = core_some g c.args.p c.in_ok-core.core.items w c.requires.within core in
-    let least = c.index-leader.ensures ∙ leader_first g c.args.p _ c.in_ok-core.core.items core some in
+    let some = core_some g c.args.p c.in_ok-core.core.items w c.requires.within c.in_ok-core.ensures in
+    let least = c.index-leader.ensures ∙ leader_first g c.args.p _ c.in_ok-core.core.items c.in_ok-core.ensures some in
     let old = subst (KnowsLeaders g) (sym c.deref_mut.ensures.value) c.requires.leaders in
     subst (KnowsLeaders g)
     (sym (with_items_is c.args.leaders.now c.assign_leader.new.leaders
     (c.assign_leader.ensures.size ∙ c.deref_mut.ensures.len)))
     (knows_more g c.args.p c.index-leader.result.now c.deref.result.now c.deref_mut.result.now
-    c.assign_leader.new.leaders w c.requires.within (c.deref.ensures.value ∙ core) least c.assign_leader.ensures old)
+    c.assign_leader.new.leaders w c.requires.within (c.deref.ensures.value ∙ c.in_ok-core.ensures) least
+    c.assign_leader.ensures old)
 
 pub returns-clause-leader : goal.returns-clause-leader
 returns-clause-leader c =
     let g = c.args.graph.now in
-    let core = given c.core_by.result c.map_err.result c.in_ok-core.core _ _ c.map_err.ensures.cases c.in_ok-core.was
-    c.core_by.ensures.ok in
-    let some = core_some g c.args.p c.in_ok-core.core.items c.law_built_graph.ensures.within c.requires.within core in
-    c.index-leader.ensures ∙ leader_first g c.args.p _ c.in_ok-core.core.items core some
+    let some = core_some g c.args.p c.in_ok-core.core.items c.law_built_graph.ensures.within c.requires.within
+    c.in_ok-core.ensures in
+    c.index-leader.ensures ∙ leader_first g c.args.p _ c.in_ok-core.core.items c.in_ok-core.ensures some

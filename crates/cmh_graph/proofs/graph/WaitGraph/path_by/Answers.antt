@@ -10,8 +10,8 @@ bounds c =
     let g = c.args.self.now in
     omega (arith, ap length c.requires.known, length-by_index g (distance_of g), c.requires.within)
 
-pub returns-in_default-clause-ok : goal.returns-in_default-clause-ok
-returns-in_default-clause-ok c =
+pub returns-in_default : goal.returns-in_default
+returns-in_default c =
     let g = c.args.self.now in
     let within : c.args.p < length c.args.distances.now =
     omega (arith, ap length c.requires.known, length-by_index g (distance_of g), c.requires.within) in
@@ -43,7 +43,7 @@ loop-nearer-preserved c = record {
   room = search rules;
 }
 
-pub returns-clause-ok : goal.returns-clause-ok
-returns-clause-ok c =
+pub returns : goal.returns
+returns c =
     leads_end c.args.self.now c.args.p _ _ _ c.has_no_fault.ensures.within c.requires.within
     c.loop-nearer.invariant.leads (omega arith)

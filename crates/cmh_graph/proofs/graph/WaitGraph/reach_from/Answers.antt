@@ -42,8 +42,8 @@ returns-then-len c =
     ∙ spreads_end g c.args.p _ _ c.has_no_fault.ensures.within c.requires
     (nil_from_length _ (omega (arith, c.loop-q.pending.ok.0, c.in_default.ensures.cases.0)))
     c.loop-q.invariant.spreads in
-    subst (λ reach. IfOk c.marked.result (λ list. list.items ≡ reach)) (reach_listed g c.args.p _ marks)
-    c.marked.ensures
+    subst (λ reach. IfOk c.marked_indices.result (λ list. list.items ≡ reach)) (reach_listed g c.args.p _ marks)
+    c.marked_indices.ensures
 
 pub returns : goal.returns
 returns c =

@@ -4,8 +4,8 @@ use Rattle.cmh_graph.specs.Search.{is_marked, Numbers, IsNamedBy}
 use Rattle.cmh_graph.proofs.LevelSearch.{StepsUpTo, steps_start, steps_more, steps_end, level_below, level_listed, listed_within}
 use Rattle.cmh_graph.proofs.graph.WaitGraph.steps_to.Goals as goal
 
-pub marked-requires : goal.marked-requires
-marked-requires c = omega (arith, c.requires.size, c.has_no_fault.ensures.processes)
+pub marked_indices-requires : goal.marked_indices-requires
+marked_indices-requires c = omega (arith, c.requires.size, c.has_no_fault.ensures.processes)
 
 pub loop-alloc-init : goal.loop-alloc-init
 loop-alloc-init c =

@@ -11,10 +11,10 @@ returns c =
     let p = c.args.p in
     let marks = c.args.marks.now in
     let passed = c.args.passed.now in
-    let count = c.marked_from-count.result in
+    let count = c.first_unmarked-count.result in
     let now = passed_more g marks passed p count c.requires.trimming.1 c.requires.within
     (λ k a b. subst (λ row. is_marked marks (get_or row k 0) ≡ true) c.dependents-row.ensures
-    (c.marked_from-count.ensures k a b)) in
+    (c.first_unmarked-count.ensures k a b)) in
     let all : length (dependents_of g p) ≤ get_or (set passed p count) p 0 =
     omega (
       arith,

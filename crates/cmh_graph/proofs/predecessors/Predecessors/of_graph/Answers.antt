@@ -16,5 +16,5 @@ loop-p-preserved c =
     subst (λ lists. PredecessorsBelow c.args.graph.now (c.loop-p.p + 1) lists) (sym written)
     (predecessors_more _ _ _ _ c.len-p-end.ensures.well_formed c.loop-p.invariant joins)
 
-pub returns-clause-ok : goal.returns-clause-ok
-returns-clause-ok c = predecessors_all _ _ _ (omega (arith, c.loop-p-test.false)) c.loop-p.invariant
+pub returns : goal.returns
+returns c = predecessors_all _ _ _ (omega (arith, c.loop-p-test.false)) c.loop-p.invariant

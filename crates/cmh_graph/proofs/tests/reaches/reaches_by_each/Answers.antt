@@ -14,15 +14,15 @@ waits_at g p k row w is low =
     let q = get_or row k 0 in
     waits g p q w (subst (λ xs. Contains xs q) is (Contains-get_or row k 0 low))
 
-pub reached-requires : goal.reached-requires
-reached-requires c =
+pub reach_marks-requires : goal.reach_marks-requires
+reach_marks-requires c =
     let g = c.args.graph.now in
     let q = get_or c.dependents-q-items.result.now c.loop-q.q-index 0 in
     depends_within g c.has_no_fault.ensures.within c.args.p q c.requires
     (waits_at g c.args.p c.loop-q.q-index _ c.has_no_fault.ensures c.dependents-q-items.ensures c.loop-q-test.true)
 
-pub reached_by-requires-clause-beyond : goal.reached_by-requires-clause-beyond
-reached_by-requires-clause-beyond c =
+pub reach_marks_by-requires-clause-beyond : goal.reach_marks_by-requires-clause-beyond
+reach_marks_by-requires-clause-beyond c =
     let g = c.args.graph.now in
     let q = get_or c.dependents-q-items.result.now c.loop-q.q-index 0 in
     let depends =

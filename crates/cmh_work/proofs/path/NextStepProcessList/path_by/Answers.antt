@@ -15,7 +15,7 @@ bounds-distances-p c =
 
 pub unwrap-distance-requires : goal.unwrap-distance-requires
 unwrap-distance-requires c =
-    (path_far c.args.graph.now c.args.p _ _ _ c.requires.known c.requires.within c.in_ok-list.ensures.ok).0
+    (path_far c.args.graph.now c.args.p _ _ _ c.requires.known c.requires.within c.in_ok-list.ensures).0
 
 pub next_by-next-requires-clause-distance : goal.next_by-next-requires-clause-distance
 next_by-next-requires-clause-distance c =
@@ -23,8 +23,8 @@ next_by-next-requires-clause-distance c =
 
 pub invariant_of-result : goal.invariant_of-result
 invariant_of-result c = record {
-  second = c.next_by-next.ensures _ c.in_ok-list.ensures.ok;
+  second = c.next_by-next.ensures _ c.in_ok-list.ensures;
   size =
-      (path_far c.args.graph.now c.args.p _ _ _ c.requires.known c.requires.within c.in_ok-list.ensures.ok).1
+      (path_far c.args.graph.now c.args.p _ _ _ c.requires.known c.requires.within c.in_ok-list.ensures).1
       c.unwrap-distance.result c.unwrap-distance.ensures;
 }

@@ -1,6 +1,6 @@
 use Rattle.std.proofs.Common.{◌∙◌, []}
 use Rattle.cmh_graph.proofs.PartLemmas.{out_more, row_at}
-use Rattle.cmh_graph.proofs.judge.out_of_range.Goals as goal
+use Rattle.cmh_graph.proofs.judge.first_out_of_range.Goals as goal
 
 pub loop-i-preserved : goal.loop-i-preserved
 loop-i-preserved c =

@@ -2,7 +2,7 @@ use Rattle.std.proofs.Common.{◌<◌}
 use Rattle.std.specs.Prelude.{All}
 use Rattle.cmh_graph.specs.Alone.{IsTrimming}
 use Rattle.cmh_graph.specs.Graph.{process_count}
-use Rattle.cmh_graph.proofs.graph.WaitGraph.waiting_for_nobody.Given as goal
+use Rattle.cmh_graph.proofs.graph.WaitGraph.trim_all.Given as goal
 
 abbrev pub invariant-loop-p : goal.invariant-loop-p
 invariant-loop-p l = record {

@@ -3,7 +3,7 @@ use Rattle.cmh_graph.specs.Path.{reaches}
 use Rattle.cmh_graph.specs.Search.{SpreadsFrom}
 use Rattle.cmh_graph.proofs.IndexLists.{length-by_index}
 use Rattle.cmh_graph.proofs.ForwardSearch.{spreads_known}
-use Rattle.cmh_graph.proofs.graph.WaitGraph.reached_by.Goals as goal
+use Rattle.cmh_graph.proofs.graph.WaitGraph.reach_marks_by.Goals as goal
 
 pub index_mut-requires : goal.index_mut-requires
 index_mut-requires c =

@@ -2,7 +2,7 @@ use Rattle.std.proofs.Common.{◌<◌}
 use Rattle.std.specs.Prelude.{All}
 use Rattle.cmh_graph.specs.Alone.{IsTrimming}
 use Rattle.cmh_graph.specs.Graph.{process_count}
-use Rattle.cmh_graph.proofs.graph.WaitGraph.trimmed.Given as goal
+use Rattle.cmh_graph.proofs.graph.WaitGraph.singleton_marks.Given as goal
 
 abbrev pub invariant-loop : goal.invariant-loop
 invariant-loop l = record {

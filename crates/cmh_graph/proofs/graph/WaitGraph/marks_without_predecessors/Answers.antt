@@ -1,7 +1,7 @@
 use Rattle.std.proofs.Common.{◌∙◌, ◌++◌, ◌∷◌, [], ap, arith, eqb, length, sym}
 use Rattle.std.proofs.lemmas.List.FromFn.{map-range_with_len_more}
 use Rattle.cmh_graph.specs.Search.{predecessors_at}
-use Rattle.cmh_graph.proofs.graph.WaitGraph.unnamed.Goals as goal
+use Rattle.cmh_graph.proofs.graph.WaitGraph.marks_without_predecessors.Goals as goal
 
 pub loop-p-preserved : goal.loop-p-preserved
 loop-p-preserved c =

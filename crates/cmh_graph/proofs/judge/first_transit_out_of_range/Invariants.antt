@@ -1,5 +1,5 @@
 use Rattle.std.proofs.Common.{ℕ, ◌<◌, get_or}
-use Rattle.cmh_graph.proofs.judge.transit_out_of_range.Given as goal
+use Rattle.cmh_graph.proofs.judge.first_transit_out_of_range.Given as goal
 
 abbrev pub invariant-loop-i : goal.invariant-loop-i
 invariant-loop-i l =

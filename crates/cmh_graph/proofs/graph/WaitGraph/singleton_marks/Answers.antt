@@ -5,10 +5,10 @@ use Rattle.cmh_graph.specs.Alone.{AreAlone}
 use Rattle.cmh_graph.specs.Graph.{process_count}
 use Rattle.cmh_graph.proofs.LevelSearch.{listed_within}
 use Rattle.cmh_graph.proofs.AloneLemmas.{alone_start, passed_start, zeros_at}
-use Rattle.cmh_graph.proofs.graph.WaitGraph.trimmed.Goals as goal
+use Rattle.cmh_graph.proofs.graph.WaitGraph.singleton_marks.Goals as goal
 
-pub waiting_for_nobody-requires : goal.waiting_for_nobody-requires
-waiting_for_nobody-requires c =
+pub trim_all-requires : goal.trim_all-requires
+trim_all-requires c =
     let g = c.args.self.now in
     let zeros : c.deref_mut-2.result.now ≡ replicate c.len.result 0 =
     c.deref_mut-2.ensures.value ∙ c.in_ok-passed.ensures.items_if_clones_equal (λ y h. search rules) in

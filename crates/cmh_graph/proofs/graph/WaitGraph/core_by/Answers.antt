@@ -6,7 +6,7 @@ use Rattle.cmh_graph.specs.Search.{is_marked, MarksEach}
 use Rattle.cmh_graph.proofs.IndexLists.{length-by_index}
 use Rattle.cmh_graph.proofs.BackwardSearch.{ReturnsTo, returning_within, returns_end, returns_more, returns_start}
 use Rattle.cmh_graph.proofs.LevelSearch.{listed_within}
-use Rattle.cmh_graph.proofs.graph.WaitGraph.core_from.Goals as goal
+use Rattle.cmh_graph.proofs.graph.WaitGraph.core_by.Goals as goal
 
 pub at-requires : goal.at-requires
 at-requires c =
@@ -20,7 +20,7 @@ mark_each_within-requires-clause-listed c =
 pub mark_each_within-requires-clause-alike : goal.mark_each_within-requires-clause-alike
 mark_each_within-requires-clause-alike c =
     let g = c.args.self.now in
-    ap length (c.deref.ensures.value ∙ c.in_ok-reached.ensures.marks) ∙ length-by_index g (reaches g c.args.p)
+    ap length (c.deref.ensures.value ∙ c.in_ok-reached.ensures) ∙ length-by_index g (reaches g c.args.p)
     ∙ sym (c.deref_mut.ensures.len ∙ c.loop-q.marks.ok.0 ∙ c.loop-q.invariant.size)
 
 pub loop-q-preserved : goal.loop-q-preserved
@@ -38,7 +38,7 @@ loop-q-preserved c =
     c.deref_mut.ensures.value c.in_ok-mark_each_within.ensures) in
     subst (λ marks. ReturnsTo c.args.self.now c.args.p marks after c.push-in-Some.new.self.items) (sym written)
     (returns_more _ _ _ _ _ _ _ _ _ _ _ _ c.len.ensures.well_formed.within c.requires.within c.requires.known
-    (c.deref.ensures.value ∙ c.in_ok-reached.ensures.marks) c.loop-q.invariant c.in-Some.ensures.items
+    (c.deref.ensures.value ∙ c.in_ok-reached.ensures) c.loop-q.invariant c.in-Some.ensures.items
     c.in_ok-push-2.ensures.items marked)
 
 pub loop-q-init : goal.loop-q-init

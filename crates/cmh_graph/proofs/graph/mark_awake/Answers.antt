@@ -1,5 +1,5 @@
 use Rattle.cmh_graph.proofs.AwakeLemmas.{awake_end, awake_start}
-use Rattle.cmh_graph.proofs.graph.awake_marks.Goals as goal
+use Rattle.cmh_graph.proofs.graph.mark_awake.Goals as goal
 
 pub loop-sender-init : goal.loop-sender-init
 loop-sender-init c = awake_start _ _ _ c.in_ok-marks.ensures

@@ -1,6 +1,6 @@
 use Rattle.std.proofs.Common.{◌∙◌}
 use Rattle.cmh_graph.proofs.ForwardSearch.{spreads_alone}
-use Rattle.cmh_graph.proofs.graph.WaitGraph.reached_from.Goals as goal
+use Rattle.cmh_graph.proofs.graph.WaitGraph.reach_marks.Goals as goal
 
 pub spread-requires-clause-spreads : goal.spread-requires-clause-spreads
 spread-requires-clause-spreads c =

@@ -1,8 +1,8 @@
 use Rattle.std.proofs.Common.{◌≡◌, ◌∙◌, [], true, false, ap, arith, eqb-true, length, sym}
 use Rattle.cmh_graph.specs.Graph.{is_idle_state}
 use Rattle.cmh_graph.proofs.PartLemmas.{places_more, row_at, idle_at}
-use Rattle.cmh_graph.proofs.judge.active_with_dependents.Goals as goal
-use Rattle.cmh_graph.proofs.judge.active_with_dependents.Goals.{in-Active, in_default, else-matches-via-then-matches+else-not-is_empty, else-matches-via-else-matches}
+use Rattle.cmh_graph.proofs.judge.first_active_with_dependents.Goals as goal
+use Rattle.cmh_graph.proofs.judge.first_active_with_dependents.Goals.{in-Active, in_default, else-matches-via-then-matches+else-not-is_empty, else-matches-via-else-matches}
 
 pub loop-i-preserved : goal.loop-i-preserved
 loop-i-preserved c =
