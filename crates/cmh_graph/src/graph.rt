@@ -345,7 +345,7 @@ impl WaitGraph {
 
     /// The process after `p` on its chosen path, where `p` is one further away than this distance: of
     /// its dependents at the distance the least. It takes time linear in the dependents of `p`.
-    fn next_at(&self, distance: u32, p: u32, distances: &[Option<u32>]) -> u32
+    pub fn next_at(&self, distance: u32, p: u32, distances: &[Option<u32>]) -> u32
         requires within { p < process_count self.now }
         requires known { distances.now ≡ map (distance_of self.now) (indices self.now) }
         requires further { distance_of self.now p ≡ Some (distance + 1) }

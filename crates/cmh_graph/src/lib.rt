@@ -20,6 +20,7 @@ pub use fault::{GraphFault, out_of_memory};
 pub use graph::WaitGraph;
 pub use part::{Part, State};
 pub use predecessors::Predecessors;
+pub use search::marked_indices;
 pub use verdict::Verdict;
 
 /// The most processes that a graph may have.

@@ -9,7 +9,7 @@ use std::alloc::{AllocError, Global};
 
 /// The marked processes, by rising index.
 #[tactic(auto, using(crate::proofs::IndexLists::filter_indices_kept, crate::proofs::IndexLists::filter_indices_passed))]
-pub(crate) fn marked_indices(alloc: Global, marks: &[bool]) -> Result<Vec<u32>, AllocError>
+pub fn marked_indices(alloc: Global, marks: &[bool]) -> Result<Vec<u32>, AllocError>
     requires { length marks.now < 2 ^ 32 }
     ensures { IfOk result (λ list.
         list.items ≡ filter (is_marked marks.now) (range_with_len 0 (length marks.now))) }

@@ -1,18 +1,16 @@
 //! Whom a leader reaches. Another group that waits for this one reaches them too, so its search goes on
 //! from here, and often its line does.
 
-ghost use Rattle.std.specs.Prelude.{◌≡◌, ◌<◌, ◌^◌, length, filter, map, slice_index, IfOk, IsTrue};
-ghost use Rattle.std.specs.List.{range_with_len};
+ghost use Rattle.std.specs.Prelude.{◌≡◌, ◌<◌, length, map, slice_index, IfOk, IsTrue};
 ghost use Rattle.cmh_graph.specs.Graph.{indices, process_count};
 ghost use Rattle.cmh_graph.specs.Path.{reach_of, reaches, Reaches};
-ghost use Rattle.cmh_graph.specs.Search.{is_marked};
 ghost use Rattle.cmh_text.specs.Group.{is_led_by, AreGroupsOf};
 ghost use Rattle.cmh_text.specs.LeaderReach.{AreGroupPartsOf, HasOneMore, IsLeaderReachOf};
 ghost use Rattle.cmh_text.specs.Summary.{leaders_in};
 
 use crate::groups::{Groups, core_and_rest};
 use cmh_graph::laws::law_built_graph;
-use cmh_graph::{WaitGraph, out_of_memory};
+use cmh_graph::{WaitGraph, marked_indices, out_of_memory};
 use std::alloc::{AllocError, Global};
 
 /// Whom a leader reaches.
@@ -204,21 +202,5 @@ fn reach_of(
             .map_err(|fault| out_of_memory(fault));
     }
     law_built_graph(graph);
-    marked(alloc, marks)
-}
-
-/// The marked processes, by rising index.
-#[tactic(auto, using(cmh_graph::proofs::IndexLists::filter_indices_kept, cmh_graph::proofs::IndexLists::filter_indices_passed))]
-fn marked(alloc: Global, marks: &[bool]) -> Result<Vec<u32>, AllocError>
-    requires { length marks.now < 2 ^ 32 }
-    ensures { IfOk result (λ list.
-        list.items ≡ filter (is_marked marks.now) (range_with_len 0 (length marks.now))) }
-{
-    let mut list = Vec::new(alloc);
-    for p in 0..marks.len() {
-        if marks[p] {
-            list.push(p as u32)?;
-        }
-    }
-    Ok(list)
+    marked_indices(alloc, marks)
 }

@@ -1,9 +1,8 @@
 //! How the path of a free process is kept in its record.
 
-ghost use Rattle.std.specs.Prelude.{◌≡◌, ◌<◌, ◌↔◌, ℕ, List, length, map, slice_get, All, IsTrue, MatchOption, Some};
+ghost use Rattle.std.specs.Prelude.{◌≡◌, ◌<◌, ℕ, List, length, map, slice_get, Some};
 ghost use Rattle.cmh_graph.specs.ChosenPath.{chosen_path, distance_of};
 ghost use Rattle.cmh_graph.specs.Graph.{indices, process_count};
-ghost use Rattle.cmh_graph.specs.Search.{IsLeastAt};
 
 use cmh_graph::WaitGraph;
 use cmh_graph::laws::law_built_graph;
@@ -98,26 +97,5 @@ fn next_by(graph: &WaitGraph, distances: &[Option<u32>], p: u32, distance: u32) 
     if distance == 0 {
         return None;
     }
-    least_at(distance - 1, graph.dependents(p), distances)
-}
-
-/// The least process of the list that is at this distance.
-fn least_at(distance: u32, list: &[u32], distances: &[Option<u32>]) -> Option<u32>
-    requires { All (λ q. q < length distances.now) list.now }
-    ensures { IsLeastAt distance list.now distances.now result }
-{
-    let mut least: Option<u32> = None;
-    for q in list {
-        if is_below(*q, least) && distances[*q as usize] == Some(distance) {
-            least = Some(*q);
-        }
-    }
-    least
-}
-
-/// Whether `q` is below the other number, if there is one.
-fn is_below(q: u32, other: Option<u32>) -> bool
-    ensures { MatchOption other (IsTrue result) (λ r. IsTrue result ↔ (q < r)) }
-{
-    other.is_none_or(|r| q < r)
+    Some(graph.next_at(distance - 1, p, distances))
 }

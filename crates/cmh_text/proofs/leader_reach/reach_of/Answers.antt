@@ -5,8 +5,8 @@ use Rattle.cmh_graph.proofs.ForwardSearch.{reach_listed}
 use Rattle.rayon.proofs.ListFacts.{IfOk-then}
 use Rattle.cmh_text.proofs.leader_reach.reach_of.Goals as goal
 
-pub marked-requires : goal.marked-requires
-marked-requires c =
+pub marked_indices-requires : goal.marked_indices-requires
+marked_indices-requires c =
     let g = c.args.graph.now in
     omega (
       arith,
@@ -17,5 +17,5 @@ marked-requires c =
 
 pub returns : goal.returns
 returns c =
-    IfOk-then c.marked.result _ _ c.marked.ensures
+    IfOk-then c.marked_indices.result _ _ c.marked_indices.ensures
     (λ list is. is ∙ reach_listed c.args.graph.now c.args.leader _ c.requires.marks)

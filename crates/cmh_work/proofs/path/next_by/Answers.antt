@@ -1,7 +1,4 @@
-use Rattle.std.proofs.Common.{◌≡◌, ◌∙◌, ◌+◌, ◌-◌, ap, arith, length}
-use Rattle.cmh_graph.specs.ChosenPath.{distance_of}
-use Rattle.cmh_graph.proofs.ForwardSearch.{dependents_within}
-use Rattle.cmh_graph.proofs.IndexLists.{length-by_index}
+use Rattle.std.proofs.Common.{◌≡◌, ◌∙◌, ◌+◌, ◌-◌, Some, ap, arith, refl}
 use Rattle.cmh_work.proofs.NextSteps.{next_none, next_some}
 use Rattle.cmh_work.proofs.path.next_by.Goals as goal
 
@@ -9,15 +6,12 @@ pub returns-then-distance-eq0 : goal.returns-then-distance-eq0
 returns-then-distance-eq0 c = λ path is.
     next_none c.args.graph.now c.args.p c.args.distance path c.requires.distance c.if-distance-eq0.true is
 
-pub least_at-requires : goal.least_at-requires
-least_at-requires c =
-    let g = c.args.graph.now in
-    dependents_within g c.args.p _ _ c.law_built_graph.ensures c.dependents.ensures
-    (ap length c.requires.known ∙ length-by_index g (distance_of g))
+pub next_at-requires-clause-further : goal.next_at-requires-clause-further
+next_at-requires-clause-further c =
+    c.requires.distance ∙ ap (λ n. Some n) (omega (arith, c.if-distance-eq0.false))
 
 pub returns : goal.returns
 returns c = λ path is.
     let further : c.args.distance ≡ (c.args.distance - 1) + 1 = omega (arith, c.if-distance-eq0.false) in
-    next_some c.args.graph.now c.args.p (c.args.distance - 1) c.args.distance _ path _ c.least_at.result
-    c.law_built_graph.ensures c.requires.within c.requires.distance further c.dependents.ensures c.requires.known
-    c.least_at.ensures is
+    next_some c.args.graph.now c.args.p (c.args.distance - 1) c.args.distance _ path _ (Some c.next_at.result)
+    c.law_built_graph.ensures c.requires.within c.requires.distance further refl c.requires.known c.next_at.ensures is
