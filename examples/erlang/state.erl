@@ -1,6 +1,6 @@
 %% Prints what process_info tells of the processes of some modules, on several nodes. A node is
-%% held while it is read, so that what is told of it is of one moment. The status is that of just
-%% before, since who is held is suspended.
+%% held while it is read, so that what is printed of it is of one moment. The status is that of just
+%% before, since a process that is held is suspended.
 -module(state).
 -export([print/2, hold/2]).
 
@@ -8,7 +8,7 @@
 -define(LIMIT, 60000).
 
 %% Holds the nodes one after the other, with time for what is under way between them to arrive,
-%% prints each, and lets them all go on.
+%% prints each, and then releases them all.
 print(Modules, Nodes) ->
     Holders = [begin Holder = held(Modules, Node), timer:sleep(1500), Holder end || Node <- Nodes],
     [io:put_chars(told(Holder)) || Holder <- Holders],

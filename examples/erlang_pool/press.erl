@@ -1,6 +1,6 @@
 %% A print shop. Its printers are given out by a pool; to print, a printer asks for the price, and to measure
 %% for that, the pricing wants a printer of the same pool. A session is started while the registry asks the
-%% supervisor of the sessions who is there.
+%% supervisor of the sessions for its children.
 -module(press).
 -behaviour(gen_server).
 -export([open/1, init/1, handle_call/3, handle_cast/2, handle_info/2]).
@@ -29,7 +29,7 @@ init(Name) -> {ok, Name}.
 
 start_session(Day) -> gen_server:start_link(press, {session, Day}, [{timeout, infinity}]).
 
-%% The pool keeps who comes when no printer is free, and answers later.
+%% The pool keeps a caller that comes when no printer is free, and answers later.
 handle_call(take, {Client, _}, {pool, [Printer | Free], Given, Kept}) ->
     {reply, Printer, {pool, Free, Given#{erlang:monitor(process, Client) => Printer}, Kept}};
 handle_call(take, From, {pool, [], Given, Kept}) -> {noreply, {pool, [], Given, queue:in(From, Kept)}};
@@ -41,7 +41,7 @@ handle_call({entered, _}, _, registry) ->
 
 handle_cast(_, State) -> {noreply, State}.
 
-%% A printer whose client has ended goes to the next one who was kept.
+%% A printer whose client has ended goes to the next caller that was kept.
 handle_info({'DOWN', Reference, process, _, _}, {pool, Free, Given, Kept}) ->
     {Printer, Others} = maps:take(Reference, Given),
     case queue:out(Kept) of
@@ -66,7 +66,7 @@ client(Job, Day) ->
 
 login(_Name) -> supervisor:start_child(sessions, []).
 
-%% Waits for the first customer, or for the one who logs in, whoever calls first.
+%% Waits for the first customer, or for the login process, whichever sends first.
 courier(Client, Login) ->
     receive
         {Client, Parcel} -> {Client, Parcel};
