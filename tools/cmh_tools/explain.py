@@ -176,7 +176,7 @@ class Explanation:
         if self.status() == 0:
             lines.append("Nobody is stuck.")
         if self.status() == 5:
-            lines.append("It isn't known whether somebody is stuck: that hangs on those that are unknown.")
+            lines.append("It isn't known whether a process is stuck: that depends on the unknown ones.")
         if self.dump.sketch.as_of:
             lines.append(f"This is {shown(self.dump.sketch.as_of)}.")
         return lines
@@ -217,7 +217,7 @@ class Explanation:
         roots = self.roots.roots
         every = f"All {len(roots):,} roots have to be broken." if roots[1:] else "The root has to be broken."
         hidden = " There may be more roots among the undecided ones." if self.undecided else ""
-        lines = [f"What can be done. {every}{hidden} Restarting somebody who is behind a root doesn't break it."]
+        lines = [f"What can be done. {every}{hidden} Restarting a process behind a root doesn't break it."]
         lines += self.first([f"  Root {number + 1}: {self.sites(members)}" for number, members in enumerate(roots)],
                             ("root", "roots"))
         lines += [
@@ -227,8 +227,8 @@ class Explanation:
             "continues may take what another one waits for. So take the state again after each restart.",
         ]
         if not self.dump.sketch.as_of:
-            lines.append("This is one state. If its processes were read one after the other while some went on, it may "
-                         "show what never was: take another, and compare them with 'cmh-dump both'.")
+            lines.append("This is one state. If its processes were read one after the other while some continued, it "
+                         "may show a deadlock that never was: take another, and compare them with 'cmh-dump both'.")
         return lines
 
     def sites(self, members):
@@ -240,33 +240,33 @@ class Explanation:
         return f"it runs on {self.some(named)}" + (", and at a place that isn't said" if None in found else "")
 
     def undecided_lines(self):
-        """The undecided ones, by the unknown ones that they hang on."""
+        """The undecided ones, by the unknown ones that they depend on."""
         starts = [at for at in self.undecided if self.waits.kind(at) == UNKNOWN]
         others = len(self.undecided) - len(starts)
         counts = count_waiters(self.waits, self.open, starts, len(self.open) if self.everything else NAMES)
         starts.sort(key=lambda at: -counts[at][0])
-        hang = f", and {number_of(others, 'other that hangs', 'others that hang')} on them" if others else ""
-        lines = [f"Undecided: {number_of(len(starts))} of which the state doesn't say enough{hang}"]
+        more = f", and {number_of(others, 'other that depends', 'others that depend')} on them" if others else ""
+        lines = [f"Undecided: {number_of(len(starts))} of which the state doesn't say enough{more}"]
         lines += self.group(starts, lambda row: self.waiters_words(row, *counts[row[0]]))
         facts = proposals(self.dump.sketch)
         if facts:
-            lines += ["Facts that would decide them, to be filled in:"]
+            lines += ["Facts that would decide them, for you to complete:"]
             lines += self.first([f"  {shown(line)}" for line in facts], ("line", "lines"))
         return lines
 
     def waiters_words(self, row, number, whole, first):
-        """Returns how many hang on an unknown one, or on the first of several that are alike, which has most."""
+        """Returns how many depend on an unknown one, or on the first of several that are alike, which has most."""
         if not number:
             return ""
         names = ", ".join(map(self.name, first)) + (f" and {number - len(first):,} more" if number > len(first) else "")
-        words = f"{'' if whole else 'at least '}{number_of(number, 'other hangs', 'others hang')}"
+        words = f"{'' if whole else 'at least '}{number_of(number, 'other depends', 'others depend')}"
         return f" ({words} on {self.name(row[0]) if row[1:] else 'it'}: {names})"
 
     def other_lines(self):
         """Those that aren't stuck, by who runs."""
         running = [at for at in self.well if self.waits.kind(at) == RUNS]
         total = number_of(len(self.well))
-        lines = [f"Not stuck: {total}, as far as the state shows. That doesn't say that they get on."]
+        lines = [f"Not stuck: {total}, as far as the state shows. That doesn't mean that they make progress."]
         why = Counter(shown(self.waits.processes[at].reason) or UNSAID for at in running)
         words = "; ".join(f"{number:,}: {reason}" for reason, number in why.most_common())
         if running:
@@ -288,7 +288,7 @@ class Explanation:
         kind = self.waits.kind(at)
         if kind == ANY:
             return "has a message in transit to it"
-        return "waits for nobody any more" if kind == ALL else "runs"
+        return "no longer waits for any process" if kind == ALL else "runs"
 
     def cut_lines(self):
         parts = []

@@ -15,7 +15,7 @@ from .sketch import near_name, quote, read_json, sketch_of
 ABOUT = """Says in words what is known of a dump, from the notes that cmh-dump wrote beside it; of a dump without notes,
 from the dump alone. The program cmh has to confirm it on two dumps: with all unknown ones active, and with all unknown
 ones idle."""
-MORE = """status: 0 nobody is stuck, 3 somebody is stuck, 5 nobody is stuck for certain and somebody is undecided,
+MORE = """status: 0 no process is stuck, 3 some process is stuck, 5 none is stuck for certain and some are undecided,
 1 the dump is refused, 2 the command line is, 4 out of memory, an I/O error, or the program doesn't confirm it"""
 
 
@@ -57,7 +57,7 @@ def load_bare(text, path):
     except Refusal as refusal:
         raise Refusal(f"{shown(path)}: it is refused: {refusal} (docs/FORMATS.md says how to find the place)") from None
     dump = Dump(sketch_of_dump(tree, path))
-    dump.sketch.warnings.append("the dump has no notes, so whoever is active in it is taken to run")
+    dump.sketch.warnings.append("the dump has no notes, so each active process in it is taken to run")
     return dump
 
 

@@ -115,7 +115,7 @@ class Facts:
         for fact in self.facts:
             if not fact.used:
                 known = any(is_at(fact, process, fact.kind == HOLDS) for process in sketch.processes)
-                what = "nobody who is unknown" if known else "nothing"
+                what = "no unknown process" if known else "nothing"
                 lines.append(f"{self.path}:{fact.at}: it matches {what}: {fact.text}")
         return lines
 
@@ -172,7 +172,7 @@ class Application:
         if whom:
             process.kind, process.whom, process.reason = ALL, whom, ""
         else:
-            names = f"all whom line {fact.at} of the facts names"
+            names = f"all that line {fact.at} of the facts names"
             process.reason = f"{names} stand at that line themselves or wait for work"
 
     def wait_for_holders(self, process):
@@ -336,7 +336,7 @@ def check_words(kind, words):
     if kind not in known:
         raise Refusal(f"{quote(kind)} is no fact{near_name(kind, known)}; facts are {', '.join(known)}")
     if "?" in words:
-        raise Refusal("'?' stands for what is to be filled in")
+        raise Refusal("'?' stands for what you have to complete")
     if kind in ("runs", "nobody") and words or kind == "ended" and words not in ([], ["needed"]):
         raise Refusal(f"{quote(kind)} is followed by {quote(words[0])}")
     if kind == HOLDS and len(words) != 1:

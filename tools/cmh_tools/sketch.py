@@ -137,8 +137,8 @@ def near_name(name, names):
 
 def check_whom(process, names):
     if process.kind == ALL and not process.whom:
-        raise Refusal(f"process {quote(process.name)}: '{ALL}' is empty: who waits for nobody 'runs', and one whose "
-                      f"wait nobody can end has an empty '{ANY}'")
+        raise Refusal(f"process {quote(process.name)}: '{ALL}' is empty: a process that waits for nothing 'runs', "
+                      f"and one with a wait that nothing can end has an empty '{ANY}'")
     for name in process.whom:
         if name not in names:
             raise Refusal(f"process {quote(process.name)}: '{process.kind}' names {quote(name)}, and nobody is "

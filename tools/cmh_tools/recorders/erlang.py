@@ -277,7 +277,7 @@ def with_proposal(block, by_key, more):
     at = block.stack[0] if block.stack else "no function"
     found = [by_key.get((block.node, pid)) for pid in dict.fromkeys(PID.findall(block.counter))]
     names = [it.name() for it in found if it is not None and it is not block]
-    reason = f"it is in {at}, and the state doesn't say whether it goes on by itself"
+    reason = f"it is in {at}, and the state doesn't say whether it continues by itself"
     if names:
         reason += f"; on its stack are {', '.join(names)}"
         more["objects"] = names
@@ -310,7 +310,7 @@ def call(sketch, block, by_key, more):
         return runs(block.name(), "a 'DOWN' lies in its mailbox", **more)
     answered = block.is_answered(waiting, "{{{0},") or block.is_answered(waiting, "{{[alias|{0}],")
     if not called or None in called:
-        return unknown(block.name(), "it has called somebody who isn't in the state", **more)
+        return unknown(block.name(), "it has called a process that isn't in the state", **more)
     if answered and len(called) > 1:
         return runs(block.name(), "an answer lies in its mailbox", **more)
     whom = [it.name() for it in called]
@@ -320,6 +320,6 @@ def call(sketch, block, by_key, more):
     tails = set(REFERENCE.findall(waiting))
     gone = [it.name() for it in called if not it.has_request(tails)]
     if gone:
-        return unknown(block.name(), f"its request is no more at {gone[0]}, which may have handed it on, so it isn't "
-                       "known who answers", **more)
+        return unknown(block.name(), f"{gone[0]} no longer has its request, and may have passed it on, so it isn't "
+                       "known which process answers", **more)
     return waits_for_any(block.name(), whom, **more)

@@ -259,7 +259,7 @@ class Moment:
             return waits_for_any(name, [], reason=self.idle.get(name, ""))
         if state in ("IO wait", "syscall"):
             return unknown(name, f"{state}: the other end may be in the dump, and the state doesn't show it")
-        return unknown(name, f"{state}: the state doesn't show who ends this wait" if state else "it has no state")
+        return unknown(name, f"{state}: the state doesn't show what ends this wait" if state else "it has no state")
 
     def proposals(self, sketch):
         """Returns lines of facts for waits whose object stands in the frames of others that don't wait at it alike."""

@@ -130,7 +130,7 @@ class Moment:
         if not holders:
             self.free.add(name)
         if len(holders) != 1:
-            shows = "shows several who hold it" if holders else "shows nobody who holds it"
+            shows = "shows several holders of it" if holders else "shows no holder of it"
             return unknown(name, f"it waits for the monitor {wanted}, and the state {shows}")
         return waits_for_any(name, [self.names[holders[0]]])
 
@@ -143,7 +143,7 @@ class Moment:
         if fact is not None and fact.operation:
             return unknown(name, "it waits with a limit, again and again", operation=operation)
         if place.has(AGAIN):
-            reason = f"{place.call} waits with a limit, again and again, and the state doesn't show for whom"
+            reason = f"{place.call} waits with a limit, again and again, and the state doesn't show what for"
             return unknown(name, reason, operation=place.call)
         return process
 
@@ -156,8 +156,8 @@ class Moment:
         if "parking to wait for" in kinds and place.call.lower().endswith("lock"):
             is_plain = not self.dump.has_owners and not self.dump.is_file
             more = ": `jstack -l` shows owners, plain `jstack` doesn't" if is_plain else ""
-            return unknown(name, f"{what}: the state shows nobody who owns {kinds['parking to wait for']}{more}")
-        return unknown(name, f"{what}: the state doesn't show who ends this wait")
+            return unknown(name, f"{what}: the state shows no owner of {kinds['parking to wait for']}{more}")
+        return unknown(name, f"{what}: the state doesn't show what ends this wait")
 
     def owner(self, thread):
         """Returns the key of the one who owns what a thread is parked at, where the state shows it."""
@@ -177,7 +177,7 @@ class Moment:
         top = thread.frames[0]
         if top.native and not COMPUTES.fullmatch(top.method):
             return unknown(name, f"it is in {short(top.method)}, and the state doesn't show whether that waits, and "
-                           "for whom: the other end may be in the dump")
+                           "what for: the other end may be in the dump")
         if thread.status not in ("", "runnable"):
             return unknown(name, f"it is RUNNABLE and yet '{thread.status}'")
         return runs(name, "computes")
@@ -187,7 +187,7 @@ class Moment:
         by = [key for it in initialised[:1] for key in self.locks.initialisers.get(it, [])[:3]]
         keys = [key for key in dict.fromkeys(by) if key != thread.key]
         if len(keys) != 1:
-            return unknown(name, "it waits until a class is initialised, and the state doesn't show by whom")
+            return unknown(name, "it waits until a class is initialised, and the state doesn't show by which thread")
         return waits_for_any(name, [self.names[keys[0]]])
 
 

@@ -101,7 +101,7 @@ class Rank:
         key = PARTNERS.get(operation[4:])
         shown_partner = key and re.search(rf"\b{key}=(-?\d+)", self.arguments)
         if not shown_partner:
-            return unknown(name, f"the state doesn't show for whom its {operation} waits", **more)
+            return unknown(name, f"the state doesn't show which rank its {operation} waits for", **more)
         if not WORLD.search(self.arguments):
             return unknown(name, "the state doesn't show that its communicator is the world's", **more)
         partner = int(shown_partner[1])
@@ -113,13 +113,13 @@ class Rank:
         top = self.frames[0]["function"]
         inside = next((it["function"] for it in self.frames if OF_LIBRARY.match(it["function"])), None)
         if inside:
-            return unknown(name, f"it is in {inside}, and the state doesn't show for whom it waits", **more)
+            return unknown(name, f"it is in {inside}, and the state doesn't show what it waits for", **more)
         if SLEEPS.match(top):
             return runs(name, "it sleeps", **more)
         if self.own and self.frames[0] is self.own[0]:
             return runs(name, "it computes", **more)
         more["operation"] = top
-        return unknown(name, f"it is in {top}, and the state doesn't say whether it goes on by itself", **more)
+        return unknown(name, f"it is in {top}, and the state doesn't say whether it continues by itself", **more)
 
 
 def is_own(it):

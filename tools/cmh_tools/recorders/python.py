@@ -101,7 +101,7 @@ def sketch_of(looks, names):
     known = {process.name for process in made.processes}
     for process in made.processes:
         if not known.issuperset(process.whom):
-            process.kind, process.whom, process.reason = UNKNOWN, [], "whom it waits for isn't in the state"
+            process.kind, process.whom, process.reason = UNKNOWN, [], "what it waits for isn't in the state"
     return made
 
 
@@ -177,7 +177,7 @@ class Job:
 
     def wait_of_thread(self, row, standing):
         if self.look.by_faulthandler:
-            return Wait(UNKNOWN, reason="faulthandler shows neither limits nor whom it waits for")
+            return Wait(UNKNOWN, reason="faulthandler shows neither limits nor what it waits for")
         loop = self.look.loops.get(row.more.get("loop")) if row.more.get("loop") else None
         if loop is None or row.more.get("moved") is True:
             return idle_wait(standing) or thread_wait(standing)
@@ -249,7 +249,7 @@ def task_wait(row, standing):
     if row.more.get("moved") is True:
         return Wait(RUNS, reason="it moved between two looks")
     if awaited is None or isinstance(awaited, dict) and awaited.get("done") is True:
-        return Wait(RUNS, reason="it is ready to go on")
+        return Wait(RUNS, reason="it is ready to continue")
     if row.more.get("limit") is True:
         return Wait(RUNS, reason="it sleeps, or waits with a limit")
     found = resolve_all(standing, [awaited])
@@ -262,7 +262,7 @@ def task_wait(row, standing):
             found = resolve_wait(standing, each)
         if each.at == "asyncio.taskgroups.TaskGroup.__aexit__":
             found = resolve_all(standing, each.has["self"]["all"])
-    return found or Wait(UNKNOWN, reason=f"no state shows who ends its {operation_of(standing)[0] or 'await'}")
+    return found or Wait(UNKNOWN, reason=f"no state shows what ends its {operation_of(standing)[0] or 'await'}")
 
 
 # Idle ones

@@ -114,7 +114,7 @@ def note_missing(open_looks, path, at):
         raise Refusal(f"{where}, or the first line of its state is missing")
     for look in open_looks.values():
         look.is_whole = False
-        look.warnings.append(f"{where}, so that who stands there is missing")
+        look.warnings.append(f"{where}, so what it shows is missing")
 
 
 def row_of(text):
@@ -134,7 +134,7 @@ def head_of(row, path, at):
         raise Refusal(f"{shown(path)}:{at}: the first line of a state without 'process', 'pid' or 'seconds'")
     look = Look(f"{path}:{at}", name, pid, seconds)
     for word in row.get("unseen") or ():
-        look.warnings.append(f"process {pid} has loaded {shown(str(word))}: who waits in it is not seen")
+        look.warnings.append(f"process {pid} has loaded {shown(str(word))}: what waits in it is not seen")
     return look
 
 
@@ -144,7 +144,7 @@ def close(look, path, ended=False):
         return
     look.is_whole = look.is_whole and ended
     if not look.is_whole:
-        look.warnings.append(f"{shown(path)}: the state of process {look.pid} is not whole: who is missing is unknown")
+        look.warnings.append(f"{shown(path)}: the state of process {look.pid} is not whole: what is missing is unknown")
 
 
 def add_row(look, row, path, at):
@@ -163,7 +163,7 @@ def add_row(look, row, path, at):
             raise TypeError
     except (TypeError, KeyError, ValueError, AttributeError):
         look.is_whole = False
-        look.warnings.append(f"{shown(path)}:{at}: this line of a state isn't understood, so that who stands there is "
+        look.warnings.append(f"{shown(path)}:{at}: this line of a state isn't understood, so what it shows is "
                              "missing")
 
 

@@ -34,7 +34,7 @@ def thread_wait(standing):
         if found is not None:
             return found
     operation = operation_of(standing)[0]
-    return Wait(UNKNOWN, reason=f"no state shows who ends its {operation}" if operation else
+    return Wait(UNKNOWN, reason=f"no state shows what ends its {operation}" if operation else
                 "its call isn't known: it may wait or compute")
 
 

@@ -88,7 +88,7 @@ class Broker:
             return unknown(name, "it needn't acknowledge, so the broker can't tell whether it is at work", **more)
         if any(ready for _, _, ready in self.consumers[pid]):
             return runs(name, "a message is ready for it", **more)
-        return unknown(name, "nobody is known to publish to a queue that it consumes", **more)
+        return unknown(name, "no service is known to publish to a queue that it consumes", **more)
 
     def wait(self, process, holders):
         """Decides a consumer where facts say of each of its queues who publishes to it."""
