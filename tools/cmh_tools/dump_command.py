@@ -23,14 +23,14 @@ def parser():
     lines = [f"  {system:<10} {recorder(system).SUMMARY}" for system in MODULES]
     lines += ["  sketch     a sketch, written by hand as JSON",
               "  both       two sketches, notes or dumps, one after the other: what has moved runs"]
-    more = "SYSTEM is one of\n" + "\n".join(lines) + "\n\nstatus: 0 the dump is written, 1 the input is refused, " \
-        "2 the command line is, 4 out of memory or an I/O error"
+    more = "SYSTEM is one of\n" + "\n".join(lines) + "\n\ndocs/DUMPS.md has the commands that print a state.\n\n" \
+        "status: 0 the dump is written, 1 the input is refused, 2 the command line is, 4 out of memory or an I/O error"
     how = {"formatter_class": argparse.RawDescriptionHelpFormatter, "allow_abbrev": False}
     it = argparse.ArgumentParser("cmh-dump", description=ABOUT, epilog=more, **how)
     it.add_argument("system", metavar="SYSTEM", choices=[*MODULES, "sketch", "both"], help="see below")
     it.add_argument("states", metavar="STATE", nargs="+", help="a file with the state; - is standard input")
-    it.add_argument("--facts", metavar="FILE", help="what stands in the source alone: see the man page")
-    it.add_argument("-o", "--output", metavar="DUMP", required=True, help="the dump, DUMP.json as a rule")
+    it.add_argument("--facts", metavar="FILE", help="a file of facts, which no state shows: see the man page")
+    it.add_argument("-o", "--output", metavar="DUMP", required=True, help="the dump to write, usually DUMP.json")
     return it
 
 
@@ -81,7 +81,7 @@ def main(words):
     it = parser()
     asked = it.parse_args(words)
     if asked.output == "-":
-        it.error("the dump goes to a file, since its notes lie beside it")
+        it.error("the dump goes to a file, since its notes are put beside it")
     if asked.system in ("sketch", "both") and len(asked.states) != (2 if asked.system == "both" else 1):
         it.error("both takes two files" if asked.system == "both" else "sketch takes one file")
     facts = read_facts(read_text(asked.facts), asked.facts) if asked.facts else Facts()

@@ -223,7 +223,7 @@ class Explanation:
         lines += [
             "What can be restarted is an OS process, a node or a job: no thread, task or rank by itself. A supervisor "
             "that has to do it may itself be stuck, in this root or in another.",
-            "A member that is killed while it holds or writes something may leave the others stuck anew, and one that "
+            "A member that is killed while it holds or writes something may leave the others stuck again, and one that "
             "continues may take what another one waits for. So take the state again after each restart.",
         ]
         if not self.dump.sketch.as_of:

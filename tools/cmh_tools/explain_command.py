@@ -40,7 +40,7 @@ def load(path):
         dump = Dump(sketch_of(noted["sketch"], notes))
         if tree != read_json(dump.text(dump.low), path):
             raise Refusal(f"{shown(path)}: it isn't the dump of {shown(notes)}: one of them was changed. Make both "
-                          "anew with cmh-dump, or move the notes away")
+                          "again with cmh-dump, or move the notes away")
         return dump
     return load_bare(text, path)
 
@@ -51,7 +51,7 @@ def load_bare(text, path):
     if is_notes(tree):
         raise Refusal(f"{shown(path)}: these are notes; name the dump beside them")
     if isinstance(tree, dict) and not is_dump(tree) and "version" not in tree:
-        raise Refusal(f"{shown(path)}: this is no dump; of a sketch 'cmh-dump sketch FILE -o DUMP' makes one")
+        raise Refusal(f"{shown(path)}: this is no dump; for a sketch, 'cmh-dump sketch FILE -o DUMP' makes one")
     try:
         deadlocked_names(text.encode("utf-8", "surrogatepass"))
     except Refusal as refusal:

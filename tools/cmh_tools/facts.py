@@ -1,6 +1,6 @@
 """Facts: what stands in the source of a program and in no state of it, in one grammar for all recorders.
 
-    # who waits where, for whom
+    # FRAME [OPERATION] -> FACT
     Orders.book put                -> any auditor
     Orders.order FutureTask.get    -> any order-*
     main.main sync.WaitGroup.Wait  -> all main.work/*
@@ -14,23 +14,23 @@
     * gen_server:call pool         -> also answered by worker-*
 
 A line is FRAME [OPERATION] -> FACT. FRAME is matched with the topmost frame of the job's own, `< CALLER` with any frame
-further out, `of WHO` with the name of the process, OPERATION with the operation, its last name, or one of both and an
+further out, `of NAME` with the name of the process, OPERATION with the operation, its last name, or one of both and an
 object. All are patterns, in which `*` stands for any text and `?` for one character, and `[` for itself, since names
 have it; a FRAME is matched with FUNCTION, FUNCTION:LINE, FILE:LINE and the whole frame. The first line that matches
 counts:
 
-    any WHO ..               each of them alone can end the wait
-    all WHO ..               all of them have to come; who stands at the same line or waits for work has come
-    nobody                   nobody can end the wait
-    runs                     it goes on by itself
-    ended, ended needed      it has ended, well or with others still in need of it
-    holds WHAT               it holds WHAT: one more for all who wait at it. FRAME is any frame here, and all such lines
-                             count. Whoever waits at an object that is called WHAT waits for any of its holders
-    also answered by WHO ..  these may answer in place of whom it called
+    any NAME ..              any one of them can end the wait
+    all NAME ..              all of them have to come; one that is at the same line or waits for work has come
+    nobody                   nothing can end the wait
+    runs                     it continues by itself
+    ended, ended needed      it has ended; with 'needed', others still need it
+    holds WHAT               it holds WHAT, perhaps with others. FRAME is any frame here, and all such lines count. A
+                             process that waits at an object called WHAT waits for any of its holders
+    also answered by NAME .. these may answer in place of the process that was called
 
-WHO is a pattern of names of processes, or `@WHAT`: all who hold WHAT. What has spaces stands in double quotes. A wait
-is decided by a fact only where the state doesn't show it: who is unknown. A list that is too short makes up a deadlock,
-so a WHO that names nobody leaves the process unknown.
+NAME is a pattern of names of processes, or `@WHAT`: all that hold WHAT. What has spaces stands in double quotes. A fact
+decides a wait only if the state doesn't show it, so that it is unknown. A list that is too short invents a deadlock, so
+a NAME that fits no process leaves the process unknown.
 """
 from __future__ import annotations
 
@@ -304,7 +304,7 @@ def fact_of(words, at, text):
     bare = next((i for i, word in enumerate(words) if i and not word[1] and word[0] in BARE), None)
     split = arrow if arrow is not None else bare
     if split is None:
-        raise Refusal("it has no '->': a line is FRAME [OPERATION] -> any WHO ..")
+        raise Refusal("it has no '->': a line is FRAME [OPERATION] -> any NAME ..")
     frames, of, operation = place_of(words[:split])
     kind, *rest = [word for word, _ in words[split + (arrow is not None):]] or [""]
     if kind == "also":
@@ -325,7 +325,7 @@ def place_of(words):
         rest = rest[2:]
     if rest and rest[0] == ("of", False):
         if len(rest) == 1 or not rest[1][0]:
-            raise Refusal("'of' isn't followed by WHO")
+            raise Refusal("'of' isn't followed by NAME")
         of, rest = rest[1][0], rest[2:]
     return frames, of, " ".join(word for word, _ in rest)
 

@@ -141,8 +141,8 @@ def check_whom(process, names):
                       f"and one with a wait that nothing can end has an empty '{ANY}'")
     for name in process.whom:
         if name not in names:
-            raise Refusal(f"process {quote(process.name)}: '{process.kind}' names {quote(name)}, and nobody is "
-                          f"called so{near_name(name, names)}")
+            raise Refusal(f"process {quote(process.name)}: '{process.kind}' names {quote(name)}, and no process "
+                          f"has that name{near_name(name, names)}")
 
 
 # Reading

@@ -307,12 +307,12 @@ def call(sketch, block, by_key, more):
     if block.limit["limit"] != "infinity":
         return runs(block.name(), "it waits with a limit", **more)
     if block.is_answered(waiting, "{{'DOWN',{0},"):
-        return runs(block.name(), "a 'DOWN' lies in its mailbox", **more)
+        return runs(block.name(), "a 'DOWN' is in its mailbox", **more)
     answered = block.is_answered(waiting, "{{{0},") or block.is_answered(waiting, "{{[alias|{0}],")
     if not called or None in called:
         return unknown(block.name(), "it has called a process that isn't in the state", **more)
     if answered and len(called) > 1:
-        return runs(block.name(), "an answer lies in its mailbox", **more)
+        return runs(block.name(), "an answer is in its mailbox", **more)
     whom = [it.name() for it in called]
     if answered:
         sketch.in_transit.append((whom[0], block.name()))

@@ -30,7 +30,7 @@ NAMED = 5  # in a warning
 NO_OBJECT = "no object reference available"
 RELOCK = "waiting to re-lock in wait()"
 WAITS = ("java.lang.Object.wait", "java.lang.Object.wait0")
-VIRTUAL = "virtual threads stand in no jstack: take `jcmd PID Thread.dump_to_file -format=json FILE` twice instead"
+VIRTUAL = "jstack shows no virtual threads: take `jcmd PID Thread.dump_to_file -format=json FILE` twice instead"
 
 
 def record(states, facts):

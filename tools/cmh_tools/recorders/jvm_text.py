@@ -177,7 +177,7 @@ class PrintReader:
         shown_threads = sum(thread.number is not None for thread in self.dump.threads)
         if shown_threads < self.dump.listed:
             self.dump.warnings.append(f"{self.path}: the JVM lists {self.dump.listed} threads, and {shown_threads} are "
-                                      "shown: a WHO of the facts may name too few")
+                                      "shown: a NAME of the facts may fit too few")
         self.dump.close()
         return self.dump
 
