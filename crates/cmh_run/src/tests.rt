@@ -13,7 +13,7 @@ mod runs;
 mod scripted;
 mod surface;
 
-use crate::{Delivery, Ending, RunFault, RunLog};
+use crate::{CheckFault, Delivery, Ending, RunFault, RunLog};
 use cmh_graph::{Part, State, Verdict, WaitGraph};
 use cmh_process::{Kind, Message};
 use std::alloc::{AllocError, Global};
@@ -49,8 +49,6 @@ const TWO_IN_A_CYCLE: [Option<&[u32]>; 2] = [Some(&[1]), Some(&[0])];
 
 const ONE_FREE_ONE_STUCK: [Option<&[u32]>; 3] = [Some(&[1, 2]), Some(&[1]), None];
 
-const CYCLE_AND_FOLLOWER: [Option<&[u32]>; 3] = [Some(&[1]), Some(&[0]), Some(&[0])];
-
 const KNOT_OF_THREE: [Option<&[u32]>; 3] = [Some(&[1, 2]), Some(&[2]), Some(&[1])];
 
 /// The run of process 0 of `TWO_IN_A_CYCLE`, by the first message each time.
@@ -70,19 +68,19 @@ const STEPS_OF_STUCK: [Step; 5] = [
     Step::Reply(1, 1, 0),
 ];
 
-/// The same of `KNOT_OF_THREE`.
-const STEPS_OF_KNOT: [Step; 8] = [
+/// The run of process 0 of `TWO_IN_A_CYCLE` that starts again after two deliveries.
+const STEPS_OF_RESTART: [Step; 8] = [
     Step::Query(1, 0, 1),
-    Step::Query(1, 0, 2),
-    Step::Query(1, 1, 2),
-    Step::Query(1, 2, 1),
-    Step::Reply(1, 2, 1),
-    Step::Reply(1, 1, 2),
+    Step::Query(1, 1, 0),
+    Step::Reply(1, 0, 1),
+    Step::Query(2, 0, 1),
     Step::Reply(1, 1, 0),
-    Step::Reply(1, 2, 0),
+    Step::Query(2, 1, 0),
+    Step::Reply(2, 0, 1),
+    Step::Reply(2, 1, 0),
 ];
 
-/// A run without hints, and what comes of it.
+/// A run without hints, what comes of it, and what `check_run` answers about its log.
 #[derive(Clone, Copy)]
 struct Worked<'a> {
     waits: Waits<'a>,
@@ -94,9 +92,39 @@ struct Worked<'a> {
     ending: Ending,
     engaged: &'a [u32],
     restarted: u32,
+    checked: Result<Ending, CheckFault>,
 }
 
-/// `one_free_one_stuck`, a process that waits for the active one, and one that waits for that.
+/// The run of process 0 of `TWO_IN_A_CYCLE`. The other rows say what differs from it.
+const OF_TWO: Worked = Worked {
+    waits: &TWO_IN_A_CYCLE,
+    in_transit: &[],
+    initiator: 0,
+    choices: &[],
+    restarts: &[],
+    steps: &STEPS_OF_TWO,
+    ending: Ending::Declared,
+    engaged: &[0, 1],
+    restarted: 0,
+    checked: Ok(Ending::Declared),
+};
+
+const OF_NOBODY: Worked = Worked {
+    waits: &WAITS_FOR_NOBODY,
+    steps: &[],
+    engaged: &[0],
+    ..OF_TWO
+};
+
+const OF_STUCK: Worked = Worked {
+    waits: &ONE_FREE_ONE_STUCK,
+    steps: &STEPS_OF_STUCK,
+    ending: Ending::AtRest,
+    checked: Ok(Ending::AtRest),
+    ..OF_TWO
+};
+
+/// `ONE_FREE_ONE_STUCK`, a process that waits for the active one, and one that waits for that.
 const FREE_BY_TWO: [Option<&[u32]>; 5] = [Some(&[1, 2]), Some(&[1]), None, Some(&[2]), Some(&[3])];
 
 fn part_of(alloc: Global, waits: Option<&[u32]>) -> Result<Part, AllocError> {
@@ -134,15 +162,6 @@ fn delivery(initiator: u32, step: Step, hint: Option<Verdict>) -> Delivery {
         to,
     };
     Delivery { message, hint }
-}
-
-/// The deliveries of steps, without hints.
-fn log_of(alloc: Global, initiator: u32, steps: &[Step]) -> Result<Vec<Delivery>, RunFault> {
-    let mut log = Vec::new(alloc);
-    for step in steps {
-        log.push(delivery(initiator, *step, None))?;
-    }
-    Ok(log)
 }
 
 /// Whether the log has these steps, each without a hint.

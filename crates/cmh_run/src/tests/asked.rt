@@ -5,7 +5,7 @@ ghost use Rattle.std.specs.Prelude.{◌≡◌, ◌<◌, ⊤, None, IfSome};
 ghost use Rattle.cmh_graph.specs.Graph.{Graph, process_count};
 ghost use Rattle.cmh_graph.specs.Verdict.{IsVerdict};
 
-use super::{KNOT_OF_THREE, ONE_FREE_ONE_STUCK, TWO_IN_A_CYCLE, WAITS_FOR_ITSELF, Waits, graph_of};
+use super::{FREE_BY_TWO, KNOT_OF_THREE, ONE_FREE_ONE_STUCK, TWO_IN_A_CYCLE, Waits, graph_of};
 use crate::{Hints, RunFault, run_again};
 use cmh_graph::Verdict;
 use std::alloc::Global;
@@ -43,87 +43,54 @@ impl Hints for Asked {
     ghost keeps_silent = { λ a b x y. tt };
 }
 
-/// A run of process 0, and about whom it asks.
+/// A run, and about whom it asks.
+#[derive(Clone, Copy)]
 struct Asking<'a> {
     waits: Waits<'a>,
     in_transit: &'a [(u32, u32)],
-    choices: &'a [u64],
+    initiator: u32,
     restarts: &'a [u32],
     asked: &'a [u32],
 }
 
-const ASKING: [Asking; 10] = [
-    Asking {
-        waits: &WAITS_FOR_ITSELF,
-        in_transit: &[],
-        choices: &[],
-        restarts: &[],
-        asked: &[],
-    },
-    Asking {
-        waits: &TWO_IN_A_CYCLE,
-        in_transit: &[],
-        choices: &[],
-        restarts: &[],
-        asked: &[1],
-    },
-    // Nobody asks about an active process, nor about one that is awake.
+const OF_TWO: Asking = Asking {
+    waits: &TWO_IN_A_CYCLE,
+    in_transit: &[],
+    initiator: 0,
+    restarts: &[],
+    asked: &[1],
+};
+
+const ASKING: [Asking; 6] = [
+    OF_TWO,
+    // Nobody asks about an active process, nor about one that is awake, nor again about one that is engaged.
     Asking {
         waits: &ONE_FREE_ONE_STUCK,
-        in_transit: &[],
-        choices: &[],
-        restarts: &[],
-        asked: &[1],
+        ..OF_TWO
     },
     Asking {
-        waits: &TWO_IN_A_CYCLE,
         in_transit: &[(0, 1)],
-        choices: &[],
-        restarts: &[],
         asked: &[],
+        ..OF_TWO
     },
     Asking {
         waits: &KNOT_OF_THREE,
-        in_transit: &[],
-        choices: &[],
-        restarts: &[],
         asked: &[1, 2],
+        ..OF_TWO
     },
+    // Each start asks anew. A query of an older number engages and asks where it comes first.
     Asking {
-        waits: &KNOT_OF_THREE,
-        in_transit: &[],
-        choices: &[1, 1, 1],
-        restarts: &[],
-        asked: &[2, 1],
-    },
-    // A start again asks anew; queries of the older number engage and ask where they come first.
-    Asking {
-        waits: &TWO_IN_A_CYCLE,
-        in_transit: &[],
-        choices: &[],
-        restarts: &[2],
-        asked: &[1, 1],
-    },
-    Asking {
-        waits: &TWO_IN_A_CYCLE,
-        in_transit: &[],
-        choices: &[],
         restarts: &[0, 1],
         asked: &[1, 1, 1],
+        ..OF_TWO
     },
+    // Each computation is at rest after two deliveries.
     Asking {
-        waits: &KNOT_OF_THREE,
-        in_transit: &[],
-        choices: &[],
-        restarts: &[0],
-        asked: &[1, 2, 1, 2],
-    },
-    Asking {
-        waits: &KNOT_OF_THREE,
-        in_transit: &[],
-        choices: &[2, 2],
-        restarts: &[0],
-        asked: &[1, 2],
+        waits: &FREE_BY_TWO,
+        initiator: 4,
+        restarts: &[2, 4, 6, 8, 10, 12, 14, 16, 18, 20, 22, 24, 26, 28, 30, 32],
+        asked: &[3; 17],
+        ..OF_TWO
     },
 ];
 
@@ -136,8 +103,8 @@ fn asked_of(alloc: Global, asking: &Asking) -> Result<Vec<u32>, RunFault> {
     run_again(
         alloc,
         &graph,
-        0,
-        asking.choices,
+        asking.initiator,
+        &[],
         &mut hints,
         asking.restarts,
     )?;

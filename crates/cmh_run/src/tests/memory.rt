@@ -1,6 +1,7 @@
 //! Runs and checks of logs while memory is short.
 
-use super::{CYCLE_AND_FOLLOWER, STEPS_OF_TWO, TWO_IN_A_CYCLE, Waits, expect_eq, graph_of, log_of};
+use super::Step::{self, Query, Reply};
+use super::{STEPS_OF_RESTART, TWO_IN_A_CYCLE, Waits, expect_eq, graph_of, has_steps};
 use crate::{
     Bag, CheckFault, Delivery, Ending, Hints, NoHints, RunFault, ScriptFault, Scripted, check_run,
     run, run_again,
@@ -12,7 +13,18 @@ use std::test::Fail;
 /// The most bytes that are left for the call.
 const ROOM: usize = 8_192;
 
-const SCRIPT: [(u32, u32, Verdict); 2] = [(1, 0, Verdict::Deadlocked), (0, 1, Verdict::Deadlocked)];
+const CYCLE_AND_FOLLOWER: [Option<&[u32]>; 3] = [Some(&[1]), Some(&[0]), Some(&[0])];
+
+const STEPS_OF_FOLLOWER: [Step; 6] = [
+    Query(1, 2, 0),
+    Query(1, 0, 1),
+    Query(1, 1, 0),
+    Reply(1, 0, 1),
+    Reply(1, 1, 0),
+    Reply(1, 0, 2),
+];
+
+const SCRIPT: [(u32, u32, Verdict); 1] = [(0, 1, Verdict::Deadlocked)];
 
 /// Takes all the memory that there is, in blocks of falling sizes.
 fn take_all(alloc: Global, blocks: &mut Vec<Vec<u8>>) {
@@ -41,7 +53,7 @@ enum Call {
     RunAgain,
     /// The check of the log of the run of the cycle.
     CheckRun,
-    /// A script of two lines about the cycle.
+    /// A script of one line about the cycle.
     Script,
     /// 16 messages, put into a bag one by one.
     Push,
@@ -51,11 +63,11 @@ enum Call {
 fn answer(alloc: Global, call: Call, graph: &WaitGraph, log: &[Delivery]) -> Option<bool> {
     match call {
         Call::Run => match run(alloc, graph, 2, &[], &mut NoHints) {
-            Ok(run) => Some(run.ending() == Ending::Declared && run.log().len() == 6),
+            Ok(run) => Some(has_steps(&run, &STEPS_OF_FOLLOWER)),
             Err(fault) => refused(fault == RunFault::Memory),
         },
         Call::RunAgain => match run_again(alloc, graph, 0, &[], &mut NoHints, &[2]) {
-            Ok(run) => Some(run.restarted() == 1 && run.log().len() == 8),
+            Ok(run) => Some(has_steps(&run, &STEPS_OF_RESTART)),
             Err(fault) => refused(fault == RunFault::Memory),
         },
         Call::CheckRun => match check_run(alloc, graph, 0, log) {
@@ -94,7 +106,7 @@ struct Answers {
     refused: bool,
 }
 
-/// Some calls were refused for want of memory. All others were right, and so was the one after all
+/// Some calls ran out of memory. All others were right, and so was the one after all
 /// memory was given back.
 const AS_THEY_SHOULD_BE: Answers = Answers {
     right: true,
@@ -105,7 +117,7 @@ const AS_THEY_SHOULD_BE: Answers = Answers {
 /// Makes the call with each multiple of 16 bytes below `ROOM`, and then with all memory.
 fn sweep(alloc: Global, waits: Waits, call: Call) -> Result<Answers, Fail> {
     let graph = graph_of(alloc, waits, &[])?;
-    let log = log_of(alloc, 0, &STEPS_OF_TWO)?;
+    let checked = run(alloc, &graph, 0, &[], &mut NoHints)?;
     let mut blocks = Vec::with_capacity(alloc, 100_000)?;
     let room: Vec<u8> = Vec::with_capacity(alloc, ROOM)?;
     let _pin: Vec<u8> = Vec::with_capacity(alloc, 64)?;
@@ -119,7 +131,7 @@ fn sweep(alloc: Global, waits: Waits, call: Call) -> Result<Answers, Fail> {
     };
     for k in 0..ROOM / 16 {
         let taken: Result<Vec<u8>, _> = Vec::with_capacity(alloc, ROOM - 16 * k);
-        match answer(alloc, call, &graph, &log) {
+        match answer(alloc, call, &graph, checked.log()) {
             Some(true) => answers.right = true,
             Some(false) => answers.wrong = true,
             None => answers.refused = true,
@@ -127,43 +139,23 @@ fn sweep(alloc: Global, waits: Waits, call: Call) -> Result<Answers, Fail> {
         drop(taken);
     }
     drop(blocks);
-    if answer(alloc, call, &graph, &log) != Some(true) {
+    if answer(alloc, call, &graph, checked.log()) != Some(true) {
         answers.wrong = true;
     }
     Ok(answers)
 }
 
 #[test]
-fn want_of_memory_in_a_run(rt: HostRuntime) -> Result<(), Fail> {
-    let answers = sweep(rt.alloc(), &CYCLE_AND_FOLLOWER, Call::Run)?;
-    expect_eq(&rt, answers, AS_THEY_SHOULD_BE);
-    Ok(())
-}
-
-#[test]
-fn want_of_memory_with_a_restart(rt: HostRuntime) -> Result<(), Fail> {
-    let answers = sweep(rt.alloc(), &TWO_IN_A_CYCLE, Call::RunAgain)?;
-    expect_eq(&rt, answers, AS_THEY_SHOULD_BE);
-    Ok(())
-}
-
-#[test]
-fn want_of_memory_in_a_check(rt: HostRuntime) -> Result<(), Fail> {
-    let answers = sweep(rt.alloc(), &TWO_IN_A_CYCLE, Call::CheckRun)?;
-    expect_eq(&rt, answers, AS_THEY_SHOULD_BE);
-    Ok(())
-}
-
-#[test]
-fn want_of_memory_in_a_script(rt: HostRuntime) -> Result<(), Fail> {
-    let answers = sweep(rt.alloc(), &TWO_IN_A_CYCLE, Call::Script)?;
-    expect_eq(&rt, answers, AS_THEY_SHOULD_BE);
-    Ok(())
-}
-
-#[test]
-fn want_of_memory_in_a_bag(rt: HostRuntime) -> Result<(), Fail> {
-    let answers = sweep(rt.alloc(), &TWO_IN_A_CYCLE, Call::Push)?;
-    expect_eq(&rt, answers, AS_THEY_SHOULD_BE);
+fn memory_runs_out(rt: HostRuntime) -> Result<(), Fail> {
+    let rows: [(Waits, Call); 5] = [
+        (&CYCLE_AND_FOLLOWER, Call::Run),
+        (&TWO_IN_A_CYCLE, Call::RunAgain),
+        (&TWO_IN_A_CYCLE, Call::CheckRun),
+        (&TWO_IN_A_CYCLE, Call::Script),
+        (&TWO_IN_A_CYCLE, Call::Push),
+    ];
+    for (waits, call) in rows {
+        expect_eq(&rt, sweep(rt.alloc(), waits, call)?, AS_THEY_SHOULD_BE);
+    }
     Ok(())
 }

@@ -1,38 +1,22 @@
-//! Runs with restarts, while messages of older numbers are undelivered.
+//! Runs with restarts, while messages of older numbers are undelivered, and checks of their logs.
 
 use super::Step::{Query, Reply};
 use super::{
-    ONE_FREE_ONE_STUCK, STEPS_OF_STUCK, STEPS_OF_TWO, TWO_IN_A_CYCLE, WAITS_FOR_ITSELF,
-    WAITS_FOR_NOBODY, Worked, expect, expect_eq, graph_of, is_as_worked,
+    OF_NOBODY, OF_STUCK, OF_TWO, STEPS_OF_RESTART, TWO_IN_A_CYCLE, Worked, expect_eq, graph_of,
+    is_as_worked,
 };
-use crate::{Ending, NoHints, RunFault, run_again};
+use crate::CheckFault::{AfterEnd, NotUndelivered};
+use crate::{NoHints, RunFault, check_run, run_again};
 
-const WORKED: [Worked; 8] = [
+const WORKED: [Worked; 6] = [
     Worked {
-        waits: &TWO_IN_A_CYCLE,
-        in_transit: &[],
-        initiator: 0,
-        choices: &[],
         restarts: &[2],
-        steps: &[
-            Query(1, 0, 1),
-            Query(1, 1, 0),
-            Reply(1, 0, 1),
-            Query(2, 0, 1),
-            Reply(1, 1, 0),
-            Query(2, 1, 0),
-            Reply(2, 0, 1),
-            Reply(2, 1, 0),
-        ],
-        ending: Ending::Declared,
-        engaged: &[0, 1],
+        steps: &STEPS_OF_RESTART,
         restarted: 1,
+        checked: Err(NotUndelivered(3)),
+        ..OF_TWO
     },
     Worked {
-        waits: &TWO_IN_A_CYCLE,
-        in_transit: &[],
-        initiator: 0,
-        choices: &[],
         restarts: &[0],
         steps: &[
             Query(1, 0, 1),
@@ -42,71 +26,22 @@ const WORKED: [Worked; 8] = [
             Reply(2, 0, 1),
             Reply(2, 1, 0),
         ],
-        ending: Ending::Declared,
-        engaged: &[0, 1],
         restarted: 1,
-    },
-    Worked {
-        waits: &TWO_IN_A_CYCLE,
-        in_transit: &[],
-        initiator: 0,
-        choices: &[],
-        restarts: &[0, 1],
-        steps: &[
-            Query(1, 0, 1),
-            Query(2, 0, 1),
-            Query(1, 1, 0),
-            Query(3, 0, 1),
-            Query(2, 1, 0),
-            Query(3, 1, 0),
-            Reply(3, 0, 1),
-            Reply(3, 1, 0),
-        ],
-        ending: Ending::Declared,
-        engaged: &[0, 1],
-        restarted: 2,
+        checked: Err(NotUndelivered(1)),
+        ..OF_TWO
     },
     // A restart that isn't reached.
     Worked {
-        waits: &TWO_IN_A_CYCLE,
-        in_transit: &[],
-        initiator: 0,
-        choices: &[],
         restarts: &[9],
-        steps: &STEPS_OF_TWO,
-        ending: Ending::Declared,
-        engaged: &[0, 1],
-        restarted: 0,
+        ..OF_TWO
     },
     // There is none after the end.
     Worked {
-        waits: &WAITS_FOR_NOBODY,
-        in_transit: &[],
-        initiator: 0,
-        choices: &[],
         restarts: &[0],
-        steps: &[],
-        ending: Ending::Declared,
-        engaged: &[0],
-        restarted: 0,
-    },
-    Worked {
-        waits: &ONE_FREE_ONE_STUCK,
-        in_transit: &[],
-        initiator: 0,
-        choices: &[],
-        restarts: &[6],
-        steps: &STEPS_OF_STUCK,
-        ending: Ending::AtRest,
-        engaged: &[0, 1],
-        restarted: 0,
+        ..OF_NOBODY
     },
     // Where nothing is undelivered and a restart is due, it comes.
     Worked {
-        waits: &ONE_FREE_ONE_STUCK,
-        in_transit: &[],
-        initiator: 0,
-        choices: &[],
         restarts: &[5],
         steps: &[
             Query(1, 0, 1),
@@ -120,67 +55,34 @@ const WORKED: [Worked; 8] = [
             Reply(2, 1, 1),
             Reply(2, 1, 0),
         ],
-        ending: Ending::AtRest,
-        engaged: &[0, 1],
         restarted: 1,
+        checked: Err(AfterEnd(5)),
+        ..OF_STUCK
     },
-    // An awake initiator never starts.
     Worked {
-        waits: &TWO_IN_A_CYCLE,
-        in_transit: &[(1, 0)],
-        initiator: 0,
-        choices: &[],
-        restarts: &[0],
-        steps: &[],
-        ending: Ending::AtRest,
-        engaged: &[],
-        restarted: 0,
+        restarts: &[6],
+        ..OF_STUCK
     },
 ];
 
 #[test]
 fn as_worked(rt: HostRuntime) -> Result<(), RunFault> {
+    let alloc = rt.alloc();
     for (row, worked) in WORKED.iter().enumerate() {
-        let graph = graph_of(rt.alloc(), worked.waits, worked.in_transit)?;
+        let graph = graph_of(alloc, worked.waits, worked.in_transit)?;
+        let initiator = worked.initiator;
         let run = run_again(
-            rt.alloc(),
+            alloc,
             &graph,
-            worked.initiator,
+            initiator,
             worked.choices,
             &mut NoHints,
             worked.restarts,
         )?;
         assert!(rt; is_as_worked(&run, worked), "at {row}");
+        let checked = check_run(alloc, &graph, initiator, run.log());
+        assert_eq!(rt; checked, worked.checked, "at {row}");
     }
-    Ok(())
-}
-
-/// Each query of an older number is ignored. The seventeenth is answered.
-#[test]
-fn restarted_sixteen_times(rt: HostRuntime) -> Result<(), RunFault> {
-    let alloc = rt.alloc();
-    let mut restarts: Vec<u32> = Vec::new(alloc);
-    let mut steps = Vec::new(alloc);
-    for n in 0..16u32 {
-        restarts.push(n)?;
-        steps.push(Query(n + 1, 0, 0))?;
-    }
-    steps.push(Query(17, 0, 0))?;
-    steps.push(Reply(17, 0, 0))?;
-    let graph = graph_of(alloc, &WAITS_FOR_ITSELF, &[])?;
-    let run = run_again(alloc, &graph, 0, &[], &mut NoHints, &restarts)?;
-    let worked = Worked {
-        waits: &WAITS_FOR_ITSELF,
-        in_transit: &[],
-        initiator: 0,
-        choices: &[],
-        restarts: &restarts,
-        steps: &steps,
-        ending: Ending::Declared,
-        engaged: &[0],
-        restarted: 16,
-    };
-    expect(&rt, is_as_worked(&run, &worked));
     Ok(())
 }
 
@@ -188,21 +90,18 @@ fn restarted_sixteen_times(rt: HostRuntime) -> Result<(), RunFault> {
 fn refuses_bad_restarts(rt: HostRuntime) -> Result<(), RunFault> {
     let alloc = rt.alloc();
     let graph = graph_of(alloc, &TWO_IN_A_CYCLE, &[])?;
-    let mut rising: Vec<u32> = Vec::new(alloc);
-    for n in 0..17u32 {
-        rising.push(n)?;
-    }
-    for restarts in [rising.as_slice(), &[2, 2], &[3, 1]] {
+    let rising = [0, 1, 2, 3, 4, 5, 6, 7, 8, 9, 10, 11, 12, 13, 14, 15, 16];
+    let rows: [(u32, &[u32], RunFault); 3] = [
+        (0, &rising, RunFault::BadRestarts),
+        (0, &[2, 2], RunFault::BadRestarts),
+        (2, &[2, 2], RunFault::NotIdle),
+    ];
+    for (initiator, restarts, fault) in rows {
         expect_eq(
             &rt,
-            run_again(alloc, &graph, 0, &[], &mut NoHints, restarts).err(),
-            Some(RunFault::BadRestarts),
+            run_again(alloc, &graph, initiator, &[], &mut NoHints, restarts).err(),
+            Some(fault),
         );
     }
-    expect_eq(
-        &rt,
-        run_again(alloc, &graph, 2, &[], &mut NoHints, &[2, 2]).err(),
-        Some(RunFault::NotIdle),
-    );
     Ok(())
 }
