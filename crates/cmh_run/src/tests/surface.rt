@@ -2,11 +2,12 @@
 
 use super::{TWO_IN_A_CYCLE, expect, expect_eq, graph_of};
 use crate::{
-    CheckFault, Delivery, Ending, MAX_CHOICES, MAX_RESTARTS, NoHints, RunFault, ScriptFault, laws,
-    run, run_again,
+    CheckFault, Delivery, Ending, MAX_CHOICES, MAX_RESTARTS, NoHints, NoList, ProcessList,
+    RunFault, ScriptFault, laws, run, run_again,
 };
 use cmh_graph::Verdict;
 use cmh_process::{Kind, Message};
+use std::alloc::AllocError;
 use std::hash::{DefaultHasher, Hash};
 
 const FIRST: Delivery = Delivery {
@@ -36,6 +37,15 @@ fn runs(rt: HostRuntime) -> Result<(), RunFault> {
 }
 
 #[test]
+fn lists(rt: HostRuntime) -> Result<(), AllocError> {
+    let alloc = rt.alloc();
+    let kept: Vec<u32> = ProcessList::of(Vec::from_slice(alloc, &[4, 3])?);
+    expect_eq(&rt, kept.as_slice(), [4, 3].as_slice());
+    let _ = NoList::of(kept);
+    Ok(())
+}
+
+#[test]
 fn values(rt: HostRuntime) {
     expect_eq(&rt, (MAX_CHOICES, MAX_RESTARTS), (65_536, 16));
     let faults = (RunFault::Memory, ScriptFault::Memory, CheckFault::Memory);
@@ -44,6 +54,10 @@ fn values(rt: HostRuntime) {
     expect(&rt, Ending::CutFree(1) != Ending::CutFree(2));
     let mut state = DefaultHasher::new();
     (faults, Ending::AtRest, NoHints, FIRST).hash(&mut state);
+    laws::law_start();
+    laws::law_step();
+    laws::law_runs_are_steps();
+    laws::law_stale();
     laws::law_runs_sound();
     laws::law_delivery_bound();
     laws::law_messages_between();
