@@ -3,7 +3,7 @@
 //! They stand in one row behind those that were taken. Past the choices the next message is the first, at a place that is
 //! known; a ring would have to ask at each message whether it comes round.
 
-ghost use Rattle.std.specs.Prelude.{◌≡◌, ℕ, ◌<◌, ◌↔◌, ◌%◌, ◌++◌, [], ◌∷◌, Some, drop, length, map, option_to_list, remove, slice_get, IsNone, IsSome, IfSome, IfNone, IfErr, IsTrue, OnOk, OnErr};
+ghost use Rattle.std.specs.Prelude.{◌≡◌, ℕ, ◌+◌, ◌<◌, ◌≤◌, ◌↔◌, ◌%◌, ◌++◌, [], ◌∷◌, Some, drop, length, map, option_to_list, remove, slice_get, IsNone, IsSome, IfSome, IfNone, IfErr, IsTrue, OnOk, OnErr, vec_len, vec_capacity};
 ghost use Rattle.cmh_process.specs.declared.message.Message.{Message};
 ghost use Rattle.cmh_run.specs.Config.{query};
 ghost use Rattle.std.specs.Cmp.Lexicographic.{pointwise};
@@ -93,31 +93,27 @@ impl Bag {
         ensures ok { OnOk result (self.new ≡ self.old ++ message ∷ []) }
         ensures err { OnErr result (self.new ≡ self.old) }
     {
-        if self.messages.len() < self.messages.capacity() {
-            self.messages.push_reserved(message);
-            return Ok(());
-        }
-        self.add_where_full(message)
-    }
-
-    /// `add` where there is no room behind the last message. The first memory has room for so many that a row of few is
-    /// seldom moved.
-    #[inline(never)]
-    fn add_where_full(&mut self, message: Message) -> Result<(), AllocError>
-        ensures ok { OnOk result (self.new ≡ self.old ++ message ∷ []) }
-        ensures err { OnErr result (self.new ≡ self.old) }
-    {
-        self.forget_taken();
         if self.messages.len() == self.messages.capacity() {
-            self.messages.reserve(64)?;
+            self.make_room()?;
         }
         self.messages.push(message)?;
         Ok(())
     }
 
-    /// Adds the sender's query to each of these, in their order. Memory is taken for all at once. One query goes the way
-    /// of `add`, since in a chain each process sends one.
-    #[inline(always)]
+    /// There is room behind the last message. The first memory has room for so many that a row of few is seldom moved.
+    #[inline(never)]
+    fn make_room(&mut self) -> Result<(), AllocError>
+        ensures { self.new ≡ self.old }
+    {
+        self.forget_taken();
+        if self.messages.len() == self.messages.capacity() {
+            self.messages.reserve(64)?;
+        }
+        Ok(())
+    }
+
+    /// Adds the query of `from` to each of these, in their order. Memory is taken for all at once.
+    #[inline(never)]
     pub(crate) fn add_queries(
         &mut self,
         initiator: u32,
@@ -128,31 +124,11 @@ impl Bag {
         ensures ok { OnOk result (self.new
             ≡ self.old ++ map (λ (r : ℕ). query initiator number from r) receivers.now) }
     {
-        let head = Message {
-            kind: Kind::Query,
-            initiator,
-            number,
-            from,
-            to: 0,
-        };
-        if let [to] = receivers {
-            return self.add(to_receiver(head, *to));
-        }
-        self.add_row(head, receivers)
-    }
-
-    /// Adds a message like this one to each of these, however many, out of line.
-    #[inline(never)]
-    fn add_row(&mut self, head: Message, receivers: &[u32]) -> Result<(), AllocError>
-        ensures ok { OnOk result (self.new
-            ≡ self.old ++ map (λ (r : ℕ). record head { to = r }) receivers.now) }
-    {
         if self.messages.capacity() - self.messages.len() < receivers.len() {
             self.forget_taken();
         }
-        let start = self.messages.len();
-        self.messages.resize(start + receivers.len(), head)?;
-        write_each(&mut self.messages[start..], head, receivers);
+        self.messages.reserve(receivers.len())?;
+        push_queries(&mut self.messages, initiator, number, from, receivers);
         Ok(())
     }
 
@@ -164,13 +140,13 @@ impl Bag {
         self.taken = 0;
     }
 
-    /// Uses the memory of those that were taken again, where they are more than half of all, so that
-    /// each message is moved less than once.
+    /// Uses the memory of those that were taken again, where they are three quarters of all, so that few messages are
+    /// moved.
     #[inline(never)]
     fn forget_taken(&mut self)
         ensures { self.new ≡ self.old }
     {
-        if self.taken > self.messages.len() / 2 {
+        if self.taken > self.messages.len() / 4 * 3 {
             let left = self.messages.len() - self.taken;
             self.messages.copy_within(self.taken.., 0);
             self.messages.truncate(left);
@@ -243,35 +219,26 @@ impl Eq for Bag {
     ghost laws = { Prim.search (comparing, rules, message_laws.laws-law) };
 }
 
-/// The same message to another receiver.
+/// Adds the query of `from` to each of these, in their order, where there is room for all.
 #[inline(always)]
-fn to_receiver(head: Message, to: u32) -> Message
-    ensures { result ≡ record head { to = to } }
-{
-    let Message {
-        kind,
-        initiator,
-        number,
-        from,
-        ..
-    } = head;
-    Message {
-        kind,
-        initiator,
-        number,
-        from,
-        to,
-    }
-}
-
-/// Puts a message like this one to each of these over what was there. The row is a slice, whose place in memory is known
-/// before the first of them is written: a `Vec` would be asked for it at each.
-#[inline(always)]
-fn write_each(row: &mut [Message], head: Message, receivers: &[u32])
-    requires { length row.old ≡ length receivers.now }
-    ensures { row.new ≡ map (λ (r : ℕ). record head { to = r }) receivers.now }
+fn push_queries(
+    messages: &mut Vec<Message>,
+    initiator: u32,
+    number: u32,
+    from: u32,
+    receivers: &[u32],
+)
+    requires { vec_len messages.old + length receivers.now ≤ vec_capacity messages.old }
+    ensures { messages.new.items
+        ≡ messages.old.items ++ map (λ (r : ℕ). query initiator number from r) receivers.now }
 {
     for k in 0..receivers.len() {
-        row[k] = to_receiver(head, receivers[k]);
+        messages.push_reserved(Message {
+            kind: Kind::Query,
+            initiator,
+            number,
+            from,
+            to: receivers[k],
+        });
     }
 }

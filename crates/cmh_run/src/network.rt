@@ -3,7 +3,7 @@
 ghost use Rattle.std.specs.Prelude.{◌≡◌, ℕ, List, ◌+◌, ◌<◌, ◌^◌, ◌%◌, ◌↔◌, [], None, Some, length, slice_get, IfSome, IfNone, IsNone, IsFalse, IfOk, OnOk, if◌then◌else◌};
 ghost use Rattle.cmh_graph.specs.Graph.{process_count, is_awake};
 ghost use Rattle.cmh_run.specs.Legal.{going_at_start, HintIsFit};
-ghost use Rattle.cmh_run.specs.Config.{blank_config, proc_at, nothing_yet, start, after_action, after_engagement, after_message, asks_hint, without_message};
+ghost use Rattle.cmh_run.specs.Config.{blank_config, proc_at, nothing_yet, start, after_action, after_engagement, after_message, asks_hint, query, without_message};
 
 use crate::procs::Procs;
 use crate::send::Sender;
@@ -173,18 +173,23 @@ impl Network {
         if graph.is_awake(to) {
             return Ok(());
         }
+        let receiver = Sender {
+            initiator,
+            number,
+            from: to,
+        };
         if kind == Kind::Reply {
             let action = self.procs.reply(to, number);
-            return self.act(Sender::answering(initiator, message), &[], action);
+            return self.act(receiver, &[], action);
         }
         if !self.procs.is_engaged_by(to, number) {
             let action = self.procs.answer(to, number, from);
-            return self.act(Sender::answering(initiator, message), &[], action);
+            return self.act(receiver, &[], action);
         }
         law_built_graph(graph);
         match hint {
-            None => self.engage(initiator, message, graph.dependents(to)),
-            Some(Verdict::Deadlocked) => self.engage(initiator, message, &[]),
+            None => self.engage(initiator, number, from, to, graph.dependents(to)),
+            Some(Verdict::Deadlocked) => self.engage(initiator, number, from, to, &[]),
             Some(Verdict::Free) => {
                 self.ended = Some(Ending::CutFree(to));
                 Ok(())
@@ -197,26 +202,27 @@ impl Network {
     fn engage(
         &mut self,
         initiator: u32,
-        message: Message,
+        number: u32,
+        from: u32,
+        to: u32,
         dependents: &[u32],
     ) -> Result<(), AllocError>
-        requires within { message.to < length self.old.procs }
+        requires within { to < length self.old.procs }
         requires few { length dependents.now < 2 ^ 32 }
         ensures ok { OnOk result (self.new ≡
-            after_engagement initiator self.old message dependents.now) }
+            after_engagement initiator self.old (query initiator number from to) dependents.now) }
     {
-        let Message {
-            number,
-            from,
-            to,
-            ..
-        } = message;
         let size = dependents.len() as u32;
         let action = self.procs.engage(to, number, from, size)?;
         if number == self.number {
             self.engaged.push(to)?;
         }
-        self.act(Sender::answering(initiator, message), dependents, action)
+        let receiver = Sender {
+            initiator,
+            number,
+            from: to,
+        };
+        self.act(receiver, dependents, action)
     }
 
     /// A process sends, or it ends the run.

@@ -104,7 +104,7 @@ impl<'a, L: Log> Progress<'a, L> {
         let Some(next) = self.restarts.first() else {
             return Ok(());
         };
-        if self.network.has_ended() || *next as usize != self.made {
+        if *next as usize != self.made || self.network.has_ended() {
             return Ok(());
         }
         self.network.start(self.graph, self.initiator)?;

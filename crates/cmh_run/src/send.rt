@@ -16,21 +16,6 @@ pub(crate) struct Sender {
 }
 
 impl Sender {
-    /// The receiver of a message, in the computation of the message.
-    pub(crate) fn answering(initiator: u32, message: Message) -> Sender
-        ensures { result ≡ record {
-          initiator = initiator;
-          number = message.number;
-          from = message.to;
-        } }
-    {
-        Sender {
-            initiator,
-            number: message.number,
-            from: message.to,
-        }
-    }
-
     /// Sends what the action says: queries in the order of the dependents, or one reply.
     #[inline(always)]
     pub(crate) fn send(
