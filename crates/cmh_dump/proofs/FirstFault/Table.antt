@@ -1,5 +1,5 @@
 -- What stands in the table of faults, and that it doesn't hold where no fault is found.
-use Rattle.std.proofs.Common.{◌≡◌, ℕ, zero, suc, ◌<◌, ◌≤◌, List, [], ◌∷◌, ◌++◌, Bool, true, false, cond, Option, Some, None, map, get_or, ◌⊎◌, inl, inr, refl, sym, ap, ◌∙◌, subst, arith}
+use Rattle.std.proofs.Common.{◌≡◌, ℕ, zero, suc, ◌<◌, ◌≤◌, List, [], ◌∷◌, ◌++◌, Bool, true, false, cond, Option, Some, None, map, ◌⊎◌, inl, inr, refl, sym, ap, ◌∙◌, subst, arith}
 use Rattle.std.specs.Prelude.{find, flat_map}
 use Rattle.std.specs.Option.{option_or}
 use Rattle.std.proofs.lemmas.Bool.{cases_lt}
@@ -29,12 +29,6 @@ among_left x (y ∷ xs) ys (inr m) = inr (among_left x xs ys m)
 among_right : {X : Type 0} (x : X) (xs ys : List X) → Among x ys → Among x (xs ++ ys)
 among_right x [] ys m = m
 among_right x (y ∷ xs) ys m = inr (among_right x xs ys m)
-
--- an element of the list at a place is one of the lists
-pub among_at : {X : Type 0} (x : X) (lists : List (List X)) (k : ℕ) → Among x (get_or lists k []) → AmongLists x lists
-among_at x [] k m = m
-among_at x (xs ∷ rest) zero m = inl m
-among_at x (xs ∷ rest) (suc k) m = inr (among_at x rest k m)
 
 -- ---- by one number
 

@@ -22,7 +22,7 @@ use Rattle.cmh_dump.specs.Tree.{text_of, texts_of, elements_of}
 use Rattle.cmh_dump.specs.Entry.{sites, processes, transits, Entry, entry_of, entries, entry, names, is_pair}
 use Rattle.cmh_dump.specs.Dump.{holds, in_order, top_faults, site_faults, process_faults, name_faults, entry_faults, transit_faults, first_of, process_by, places_in_pair, tree_graph}
 use Rattle.cmh_dump.proofs.Places.{place_within, same_from_places, differs}
-use Rattle.cmh_dump.proofs.FirstFault.Table.{AmongLists, among_at, among_below, among_rows, all_fail}
+use Rattle.cmh_dump.proofs.FirstFault.Table.{AmongLists, among_below, among_rows, all_fail}
 use Rattle.cmh_dump.proofs.FirstFault.Kinds.{none_after, none_among}
 use Rattle.cmh_dump.proofs.FirstFault.Entries.{length-names}
 
@@ -48,50 +48,47 @@ module _ (d : Data) (clean : IsClean d) where
 
   -- the processes are few enough
   few_processes : holds d TooManyProcesses ≡ false
-  few_processes = process_fault TooManyProcesses (among_at TooManyProcesses (process_faults d) 0 (inl refl))
+  few_processes = process_fault TooManyProcesses (search (inl, inr) depth 9)
 
   -- each dependent names a process
   known_dependent : (i j : ℕ) → (i < length (processes d)) × (j < length (entry d i).dependents)
       → holds d (UnknownDependent i j) ≡ false
   known_dependent i j l =
-      entry_fault (UnknownDependent i j)
-      (among_at (UnknownDependent i j) (entry_faults d) 1
-      (among_rows UnknownDependent (λ i. length (entry d i).dependents) (length (processes d)) i j l.0 l.1))
+      let here = among_rows UnknownDependent (λ i. length (entry d i).dependents) (length (processes d)) i j l.0 l.1 in
+      entry_fault (UnknownDependent i j) (search (inl, inr, here) depth 9)
 
   -- no dependent equals an earlier one of its process
   new_dependent : (i j : ℕ) → (i < length (processes d)) × (j < length (entry d i).dependents)
       → holds d (RepeatedDependent i j) ≡ false
   new_dependent i j l =
-      entry_fault (RepeatedDependent i j)
-      (among_at (RepeatedDependent i j) (entry_faults d) 2
-      (among_rows RepeatedDependent (λ i. length (entry d i).dependents) (length (processes d)) i j l.0 l.1))
+      let here = among_rows RepeatedDependent (λ i. length (entry d i).dependents) (length (processes d)) i j l.0 l.1 in
+      entry_fault (RepeatedDependent i j) (search (inl, inr, here) depth 9)
 
   -- no active process has dependents
   none_active : (i : ℕ) → i < length (processes d) → holds d (ActiveWithDependents i) ≡ false
   none_active i l =
-      entry_fault (ActiveWithDependents i)
-      (among_at (ActiveWithDependents i) (entry_faults d) 3
-      (among_below ActiveWithDependents (length (processes d)) i l))
+      let here = among_below ActiveWithDependents (length (processes d)) i l in
+      entry_fault (ActiveWithDependents i) (search (inl, inr, here) depth 9)
 
   -- the dependents together are few enough
   few_dependencies : holds d TooManyDependencies ≡ false
-  few_dependencies = entry_fault TooManyDependencies (among_at TooManyDependencies (entry_faults d) 4 (inl refl))
+  few_dependencies = entry_fault TooManyDependencies (search (inl, inr) depth 9)
 
   -- the messages in transit are few enough
   few_in_transit : holds d TooManyInTransit ≡ false
-  few_in_transit = transit_fault TooManyInTransit (among_at TooManyInTransit (transit_faults d) 0 (inl refl))
+  few_in_transit = transit_fault TooManyInTransit (search (inl, inr) depth 9)
 
   -- each message in transit is a pair of texts
   pair_in_transit : (i : ℕ) → i < length (transits d) → holds d (BadInTransit i) ≡ false
   pair_in_transit i l =
-      transit_fault (BadInTransit i)
-      (among_at (BadInTransit i) (transit_faults d) 1 (among_below BadInTransit (length (transits d)) i l))
+      let here = among_below BadInTransit (length (transits d)) i l in
+      transit_fault (BadInTransit i) (search (inl, inr, here) depth 9)
 
   -- each message in transit names two processes
   known_in_transit : (i : ℕ) → i < length (transits d) → holds d (UnknownInTransit i) ≡ false
   known_in_transit i l =
-      transit_fault (UnknownInTransit i)
-      (among_at (UnknownInTransit i) (transit_faults d) 2 (among_below UnknownInTransit (length (transits d)) i l))
+      let here = among_below UnknownInTransit (length (transits d)) i l in
+      transit_fault (UnknownInTransit i) (search (inl, inr, here) depth 9)
 
 -- ---- the processes of the graph
 
