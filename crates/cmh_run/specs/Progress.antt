@@ -19,6 +19,11 @@ pub record Follows (g : Graph) (i : ℕ) (choices restarts : List ℕ) (s : Prog
   pub leads : DeliveriesLead (chosen_place choices) g i (going_at_start g i restarts) s.log s.going
   pub count : s.going.done ≡ length s.log
 
+-- the process is one of the graph's, and the configuration has as many
+pub record HasProcess (g : Graph) (c : Config) (p : ℕ) : Type 0 where
+  pub size : length c.procs ≡ process_count g
+  pub within : p < process_count g
+
 -- the initiator may start again: its number grows, and is less than 2 ^ 32
 pub record MayStart (g : Graph) (i : ℕ) (s : Going) : Type 0 where
   pub size : length s.config.procs ≡ process_count g

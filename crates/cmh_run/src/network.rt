@@ -1,9 +1,10 @@
 //! One configuration of an initiator's computations, and its steps.
 
-ghost use Rattle.std.specs.Prelude.{◌≡◌, ℕ, List, ◌+◌, ◌<◌, ◌^◌, ◌%◌, ◌↔◌, [], None, Some, length, slice_get, IfSome, IfNone, IsNone, IsFalse, IfOk, OnOk, if◌then◌else◌};
+ghost use Rattle.std.specs.Prelude.{◌≡◌, ℕ, List, ◌+◌, ◌<◌, ◌^◌, ◌%◌, ◌↔◌, [], None, Option, Some, length, slice_get, IfSome, IfNone, IsNone, IsFalse, IfOk, OnOk, if◌then◌else◌};
 ghost use Rattle.cmh_graph.specs.Graph.{process_count, is_awake};
 ghost use Rattle.cmh_run.specs.Legal.{going_at_start, HintIsFit};
-ghost use Rattle.cmh_run.specs.Config.{blank_config, proc_at, nothing_yet, start, after_action, after_engagement, after_message, asks_hint, query, without_message};
+ghost use Rattle.cmh_run.specs.Progress.{HasProcess};
+ghost use Rattle.cmh_run.specs.Config.{blank_config, proc_at, nothing_yet, start, after_action, after_engagement, after_hint, after_message, asks_hint, query, without_message};
 
 use crate::procs::Procs;
 use crate::send::Sender;
@@ -67,8 +68,7 @@ impl Network {
 
     /// The initiator starts with its next number.
     pub(crate) fn start(&mut self, graph: &WaitGraph, initiator: u32) -> Result<(), AllocError>
-        requires size { length self.old.procs ≡ process_count graph.now }
-        requires within { initiator < process_count graph.now }
+        requires process { HasProcess graph.now self.old initiator }
         requires next { (proc_at self.old.procs initiator).latest + 1 < 2 ^ 32 }
         ensures ok { OnOk result (self.new ≡ start graph.now initiator self.old) }
     {
@@ -115,8 +115,7 @@ impl Network {
     /// Whether hints are asked about the message before it is delivered.
     #[inline(always)]
     pub(crate) fn asks(&self, graph: &WaitGraph, message: Message) -> bool
-        requires size { length self.now.procs ≡ process_count graph.now }
-        requires within { message.to < process_count graph.now }
+        requires { HasProcess graph.now self.now message.to }
         ensures { result ≡ asks_hint graph.now self.now message }
     {
         message.kind == Kind::Query
@@ -124,32 +123,9 @@ impl Network {
             && self.procs.is_engaged_by(message.to, message.number)
     }
 
-    /// What hints say of the receiver, if they are asked about the message.
+    /// The delivery of a message that was taken out of the bag, with what is known of its receiver.
     #[inline(always)]
-    #[tactic(auto, using(crate::proofs::QueryLemmas::fit_where_asked))]
-    pub(crate) fn ask<H: Hints>(
-        &self,
-        graph: &WaitGraph,
-        message: Message,
-        hints: &mut H,
-    ) -> Option<Verdict>
-        requires size { length self.now.procs ≡ process_count graph.now }
-        requires within { message.to < process_count graph.now }
-        requires speaks { H.speaks_of hints.old graph.now }
-        ensures fit { HintIsFit graph.now self.now message result }
-        ensures silent { H.is_silent hints.old → result ≡ None }
-        ensures kept { H.keeps hints.old hints.new }
-    {
-        if self.asks(graph, message) {
-            return hints.hint(message.to);
-        }
-        None
-    }
-
-    /// The delivery of a message that was taken out of the bag, with what is known of its receiver. An awake process
-    /// discards it. Where a query engages nobody, it isn't read how many dependents the receiver has.
-    #[inline(always)]
-    #[tactic(auto, using(crate::proofs::QueryLemmas::answers))]
+    #[tactic(auto, using(crate::proofs::QueryLemmas::engaged_by_hint))]
     pub(crate) fn deliver(
         &mut self,
         graph: &WaitGraph,
@@ -157,9 +133,71 @@ impl Network {
         message: Message,
         hint: Option<Verdict>,
     ) -> Result<(), AllocError>
-        requires size { length self.old.procs ≡ process_count graph.now }
-        requires within { message.to < process_count graph.now }
+        requires { HasProcess graph.now self.old message.to }
         ensures ok { OnOk result (self.new ≡ (if is_awake graph.now message.to
+            then self.old
+            else after_message graph.now initiator self.old message message.kind hint)) }
+    {
+        let Message {
+            number,
+            from,
+            to,
+            ..
+        } = message;
+        if self.asks(graph, message) {
+            return self.engage_by_hint(graph, initiator, number, from, to, hint);
+        }
+        self.receive(graph, initiator, message)
+    }
+
+    /// `deliver`, with what hints say of the receiver, who are asked just before it engages.
+    #[inline(always)]
+    #[tactic(auto, using(crate::proofs::QueryLemmas::engaged_by_hint, crate::proofs::QueryLemmas::fit_where_asked))]
+    pub(crate) fn deliver_asking<H: Hints>(
+        &mut self,
+        graph: &WaitGraph,
+        initiator: u32,
+        message: Message,
+        hints: &mut H,
+    ) -> Result<Option<Verdict>, AllocError>
+        requires process { HasProcess graph.now self.old message.to }
+        requires speaks { H.speaks_of hints.old graph.now }
+        ensures fit { IfOk result (HintIsFit graph.now self.old message) }
+        ensures ok { IfOk result (λ hint. self.new ≡ (if is_awake graph.now message.to
+            then self.old
+            else after_message graph.now initiator self.old message message.kind hint)) }
+        ensures silent { H.is_silent hints.old → IfOk result (λ hint. hint ≡ None) }
+        ensures kept { H.keeps hints.old hints.new }
+    {
+        let Message {
+            number,
+            from,
+            to,
+            ..
+        } = message;
+        if self.asks(graph, message) {
+            let hint = hints.hint(to);
+            self.engage_by_hint(graph, initiator, number, from, to, hint)?;
+            return Ok(hint);
+        }
+        self.receive(graph, initiator, message)?;
+        Ok(None)
+    }
+
+    /// The delivery of a message that engages nobody. An awake process discards it. It isn't read how many dependents the
+    /// receiver has.
+    #[inline(always)]
+    #[tactic(auto, using(crate::proofs::QueryLemmas::answers, crate::proofs::QueryLemmas::not_engaged))]
+    fn receive(
+        &mut self,
+        graph: &WaitGraph,
+        initiator: u32,
+        message: Message,
+    ) -> Result<(), AllocError>
+        requires process { HasProcess graph.now self.old message.to }
+        requires unasked { IsFalse (asks_hint graph.now self.old message) }
+        ensures ok { OnOk result ((hint : Option Verdict)
+            → self.new ≡ (if is_awake graph.now message.to
             then self.old
             else after_message graph.now initiator self.old message message.kind hint)) }
     {
@@ -173,19 +211,33 @@ impl Network {
         if graph.is_awake(to) {
             return Ok(());
         }
+        let action = match kind {
+            Kind::Query => self.procs.answer(to, number, from),
+            Kind::Reply => self.procs.reply(to, number),
+        };
         let receiver = Sender {
             initiator,
             number,
             from: to,
         };
-        if kind == Kind::Reply {
-            let action = self.procs.reply(to, number);
-            return self.act(receiver, &[], action);
-        }
-        if !self.procs.is_engaged_by(to, number) {
-            let action = self.procs.answer(to, number, from);
-            return self.act(receiver, &[], action);
-        }
+        self.act(receiver, &[], action)
+    }
+
+    /// A query of `from` engages `to`, of which this is known. It stands apart, since few deliveries engage.
+    #[inline(never)]
+    fn engage_by_hint(
+        &mut self,
+        graph: &WaitGraph,
+        initiator: u32,
+        number: u32,
+        from: u32,
+        to: u32,
+        hint: Option<Verdict>,
+    ) -> Result<(), AllocError>
+        requires { HasProcess graph.now self.old to }
+        ensures ok { OnOk result (self.new ≡
+            after_hint graph.now initiator self.old (query initiator number from to) hint) }
+    {
         law_built_graph(graph);
         match hint {
             None => self.engage(initiator, number, from, to, graph.dependents(to)),
@@ -197,8 +249,7 @@ impl Network {
         }
     }
 
-    /// A query engages its receiver, which asks these. It stands apart, since few deliveries engage.
-    #[inline(never)]
+    /// A query of `from` engages `to`, which asks these.
     fn engage(
         &mut self,
         initiator: u32,

@@ -149,9 +149,9 @@ impl<'a, L: Log> Progress<'a, L> {
         let Some(message) = self.take() else {
             return Ok(false);
         };
-        let hint = self.network.ask(self.graph, message, hints);
-        self.network
-            .deliver(self.graph, self.initiator, message, hint)?;
+        let hint = self
+            .network
+            .deliver_asking(self.graph, self.initiator, message, hints)?;
         self.log.add(Delivery { message, hint })?;
         self.made += 1;
         self.restart_if_due()?;

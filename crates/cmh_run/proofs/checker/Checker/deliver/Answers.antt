@@ -34,21 +34,21 @@ is_fit-requires-clause-within c =
     c.requires.checked.0 c.requires.checked.1.0 c.requires.checked.1.1 c.requires.checked.1.2)
     (c.if-not-take.ensures.found.0 refl)
 
--- when a message is delivered, the network has as many processes as the graph
-pub deliver-requires-clause-size : goal.deliver-requires-clause-size
-deliver-requires-clause-size c =
-    ap (λ (a : CheckState). length a.network.procs) c.self.view_is
-    ∙ ap (λ (n : Config). length n.procs) c.if-not-take.ensures.network
-    ∙ network_size c.args.graph.now c.args.initiator c.requires.checked.0 c.requires.checked.1.0 c.args.self.now
-    c.requires.checked.1.1
-
-pub deliver-requires-clause-within : goal.deliver-requires-clause-within
-deliver-requires-clause-within c =
-    delivery_within c.args.graph.now c.args.initiator c.requires.checked.0 c.requires.checked.1.0 c.args.self.now
-    c.args.delivery c.requires.checked.1.1 c.requires.checked.1.2
-    (where_none c.ending.result _ c.if-is_some.ensures c.ending.ensures.none c.args.graph.now c.args.initiator
-    c.requires.checked.0 c.requires.checked.1.0 c.requires.checked.1.1 c.requires.checked.1.2)
-    (c.if-not-take.ensures.found.0 refl)
+-- the message goes to a process of the graph
+pub deliver-requires : goal.deliver-requires
+deliver-requires c = record {
+  size =
+      ap (λ (a : CheckState). length a.network.procs) c.self.view_is
+      ∙ ap (λ (n : Config). length n.procs) c.if-not-take.ensures.network
+      ∙ network_size c.args.graph.now c.args.initiator c.requires.checked.0 c.requires.checked.1.0 c.args.self.now
+      c.requires.checked.1.1;
+  within =
+      delivery_within c.args.graph.now c.args.initiator c.requires.checked.0 c.requires.checked.1.0 c.args.self.now
+      c.args.delivery c.requires.checked.1.1 c.requires.checked.1.2
+      (where_none c.ending.result _ c.if-is_some.ensures c.ending.ensures.none c.args.graph.now c.args.initiator
+      c.requires.checked.0 c.requires.checked.1.0 c.requires.checked.1.1 c.requires.checked.1.2)
+      (c.if-not-take.ensures.found.0 refl);
+}
 
 -- what is kept agrees with the run that is one delivery longer
 pub returns-clause-ok : goal.returns-clause-ok

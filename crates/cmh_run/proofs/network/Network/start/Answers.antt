@@ -7,5 +7,5 @@ pub overflow_cast-dependents : goal.overflow_cast-dependents
 overflow_cast-dependents c =
     let few : length c.dependents-dependents.result.now < 2 ^ 32 =
     rw c.dependents-dependents.ensures
-    (few_dependents c.args.graph.now c.args.initiator c.law_built_graph.ensures c.requires.within) in
+    (few_dependents c.args.graph.now c.args.initiator c.law_built_graph.ensures c.requires.process.within) in
     omega arith
