@@ -42,13 +42,10 @@ impl From<AllocError> for BoardFault {
     }
 }
 
-/// Why words weren't opened: memory was refused.
-pub(crate) fn opening_fault(fault: RwFault) -> BoardFault
-    requires { fault ≡ words.Memory }
+/// The refused memory for which words weren't opened.
+pub(crate) fn opening_fault(_fault: RwFault) -> BoardFault
+    requires { _fault ≡ words.Memory }
     ensures { result ≡ Memory }
 {
-    match fault {
-        RwFault::Memory => BoardFault::Memory,
-        RwFault::BadSeats => unreachable!(),
-    }
+    BoardFault::Memory
 }
