@@ -14,7 +14,7 @@ pub fn law_tree_fault()
         ↔ IsFirstIn (tree_faults d) (TreeHas d) fault }
 {}
 
-/// A tree means a graph exactly where it has no fault, and then the one that its names tell.
+/// A tree means a graph exactly where it has no fault, and then the one that its names say.
 pub fn law_tree_graph()
     ensures { (d : Data) (g : Graph) → (dump_of_tree d ≡ Ok g)
         ↔ (All (λ fault. ¬ (TreeHas d fault)) (tree_faults d) × (g ≡ tree_graph d)) }
@@ -26,7 +26,7 @@ pub fn law_first_fault()
         ↔ IsFirstIn (bytes_faults bytes) (BytesHave bytes) fault }
 {}
 
-/// Bytes mean a graph exactly where they have no fault, and then the one that their tree tells.
+/// Bytes mean a graph exactly where they have no fault, and then the one that their tree means.
 pub fn law_no_fault()
     ensures { (bytes : List ℕ) (g : Graph) → (dump bytes ≡ Ok g)
         ↔ (All (λ fault. ¬ (BytesHave bytes fault)) (bytes_faults bytes)

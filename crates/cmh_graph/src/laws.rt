@@ -67,13 +67,13 @@ pub fn law_rest()
         → Contains (rest_of g p) q ↔ (Reaches g p q × (Contains (core_of g p) q → ⊥)) }
 {}
 
-/// What a process reaches, its core and its rest stand by rising index, nobody twice.
+/// What a process reaches, its core and its rest stand by rising index, each once.
 pub fn law_rising()
     ensures { (g : Graph) (p : ℕ) → IsStrictlyIncreasing (reach_of g p)
         × IsStrictlyIncreasing (core_of g p) × IsStrictlyIncreasing (rest_of g p) }
 {}
 
-/// The leader of a process is in its core, and is the least of it. Nobody else is.
+/// The leader of a process is in its core, and is the least of it. No other process is.
 pub fn law_leader()
     ensures { (g : Graph) (p leader : ℕ) → IsWithinGraph g → p < process_count g
         → (leader_of g p ≡ leader) ↔ IsLeader g p leader }

@@ -1,4 +1,6 @@
 //! Who depends on each process.
+//!
+//! They are a list for each process: flat arrays would gain less than their proof takes.
 
 ghost use Rattle.std.specs.Prelude.{◌≡◌, ◌<◌, ℕ, [], length, All, IfOk, OnOk};
 ghost use Rattle.cmh_graph.specs.Graph.{process_count};

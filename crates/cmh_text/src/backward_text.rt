@@ -1,4 +1,7 @@
 //! A text that is made from its end.
+//!
+//! A line written by itself would be a call of the system for some 20 bytes; a chunk joined at once needs room for
+//! all its lines beside its text.
 
 ghost use Rattle.std.specs.Prelude.{◌≡◌, ◌++◌, [], IfOk, OnOk, flat_map, reverse, string_bytes};
 

@@ -1,4 +1,7 @@
 //! How many lines are worth a thread. Nothing here changes a byte of the report.
+//!
+//! A thread for each processor, whatever there is to do, would slow each small report; so the lines of a chunk take
+//! at least as long as the start of a thread.
 
 ghost use Rattle.std.specs.Prelude.{◌<◌};
 

@@ -1,5 +1,8 @@
 //! Whom a leader reaches. Another group that waits for this one reaches them too, so its search goes on
 //! from here, and often its line does.
+//!
+//! That a group is one process, and its rest all that the other one reaches, is seen by a comparison of marks: so
+//! nobody is picked out one by one.
 
 ghost use Rattle.std.specs.Prelude.{◌≡◌, ◌<◌, length, map, slice_index, IfOk, IsTrue};
 ghost use Rattle.cmh_graph.specs.Graph.{indices, process_count};

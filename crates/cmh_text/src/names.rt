@@ -1,5 +1,7 @@
 //! The names of lists of processes, as text. A line often ends with names of the line before it, so
 //! those of the last list are kept.
+//!
+//! What two lists share at their ends is seen by comparing them, so that no proof here speaks of paths or rests.
 
 ghost use Rattle.std.specs.Prelude.{◌≡◌, ◌++◌, ◌-◌, ◌<◌, ◌≤◌, ◌^◌, drop, length, min, All, IfOk, OnOk, string_bytes};
 ghost use Rattle.cmh_graph.specs.Graph.{process_count};

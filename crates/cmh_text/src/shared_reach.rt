@@ -1,4 +1,7 @@
 //! The group whose reach is searched once for all lines: many groups may wait for it.
+//!
+//! Two reaches are kept, and not that of each group, which would take memory by the square of the processes: that of
+//! the group with the most members, for all lines, and that of the group whose line was made last.
 
 ghost use Rattle.std.specs.Prelude.{ℕ, ◌<◌, length, All, Contains, IfOk, IfSome, IsTrue};
 ghost use Rattle.cmh_graph.specs.Graph.{process_count};

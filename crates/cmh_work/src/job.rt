@@ -1,4 +1,7 @@
 //! What all workers of an analysis share, and what one of them holds.
+//!
+//! Each part is lent to a worker by itself: the toolchain says nothing of the result of a task that captures one value
+//! with a lifetime.
 
 ghost use Rattle.std.specs.Prelude.{◌≡◌, ◌+◌, length};
 ghost use Rattle.cmh_graph.specs.Graph.{idle_list};

@@ -1,5 +1,8 @@
 //! Who leads the group of a deadlocked process: the least of those that it reaches and that reach it.
 //! Each worker keeps a table of the leaders that it has found.
+//!
+//! No table is shared: that would spare a second search where members of one group fall to several workers, and would
+//! need a lock and its proofs.
 
 ghost use Rattle.std.specs.Prelude.{◌≡◌, ◌<◌, length, All, IfOk};
 ghost use Rattle.cmh_graph.specs.Core.{leader_of};

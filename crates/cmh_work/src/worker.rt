@@ -1,4 +1,8 @@
 //! One worker, who draws chunks until there are no more.
+//!
+//! It gives way once, after its first verdict: workers that are far off in the list then make their first runs, which
+//! are the long ones, and post what cuts the others short. It does so at no other time, since each time it may lose its
+//! processor to another program.
 
 ghost use Rattle.std.specs.Prelude.{◌≡◌, ◌++◌, map, All, IfOk, OnOk, IsTrue};
 ghost use Rattle.cmh_graph.specs.Graph.{is_idle};
