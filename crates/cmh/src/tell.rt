@@ -47,7 +47,7 @@ pub(crate) fn refuse_memory<E: Sink>(err: &mut E) -> u8
     FAILED
 }
 
-/// Says why the words of the command line can't be had, and answers the status.
+/// Says why the arguments can't be had, and answers the status.
 pub(crate) fn refuse_args<E: Sink>(error: &io::Error, err: &mut E) -> u8 {
     if error.kind() == io::ErrorKind::OutOfMemory {
         return refuse_memory(err);

@@ -66,7 +66,7 @@ impl<T: Drop> From<AllocFailed<T>> for GraphFault {
     }
 }
 
-/// The refused memory that the fault of a call is which fails for memory alone.
+/// The fault of a call that fails for memory alone, as the fault of an allocator.
 pub fn out_of_memory(_fault: GraphFault) -> AllocError
     requires { _fault ≡ Memory }
 {

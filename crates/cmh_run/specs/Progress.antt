@@ -38,13 +38,13 @@ pub record RunState : Type 0 where
   pub choices : List ℕ
   pub progress : ProgressState
 
--- the run of an accepted initiator is on its way, and all its premises stand
+-- the initiator was accepted, and the deliveries of the log have led to where its run is
 pub record IsUnderWay (restarts : List ℕ) (r : RunState) : Type 0 where
   pub accepted : IsAccepted r.graph r.initiator r.choices restarts
   pub well_formed : IsWellFormed r.graph
   pub follows : Follows r.graph r.initiator r.choices restarts r.progress
 
--- the run is over, or has nothing left to deliver
+-- nothing more is delivered: the run has ended, or no message is undelivered
 abbrev pub IsOver : Config → Type 0
 IsOver c = c.ended ≢ None ⊎ (c.bag ≡ [])
 

@@ -77,7 +77,7 @@ impl Bag {
         &self.messages[self.taken..]
     }
 
-    /// Adds a message as the last. The only fault is the want of memory.
+    /// Adds a message as the last. The only fault is `Memory`.
     pub fn push(&mut self, message: Message) -> Result<(), RunFault>
         ensures ok { OnOk result (self.new ≡ self.old ++ message ∷ []) }
         ensures err { OnErr result (self.new ≡ self.old) }
@@ -100,7 +100,7 @@ impl Bag {
         Ok(())
     }
 
-    /// There is room behind the last message. The first memory has room for so many that a row of few is seldom moved.
+    /// Makes room behind the last message, if memory is found: for 64 more, so that a row of few is seldom moved.
     #[inline(never)]
     fn make_room(&mut self) -> Result<(), AllocError>
         ensures { self.new ≡ self.old }
@@ -140,8 +140,8 @@ impl Bag {
         self.taken = 0;
     }
 
-    /// Uses the memory of those that were taken again, where they are three quarters of all, so that few messages are
-    /// moved.
+    /// Uses the memory of those that were taken again, where they are about three quarters of all, so that few messages
+    /// are moved.
     #[inline(never)]
     fn forget_taken(&mut self)
         ensures { self.new ≡ self.old }

@@ -26,7 +26,7 @@ pub fn law_start()
 {}
 
 /// The rules allow the computed delivery and nothing else, where the message is undelivered, the run
-/// goes on, and a hint stands only where one is asked and is true.
+/// hasn't ended, and a hint stands only where one is asked and is true.
 pub fn law_step()
     ensures { (g : Graph) (i : ℕ) (c : Config) (x : ℕ) (d : Delivery) (after : Config)
         → IsStep g i c x d after
@@ -60,8 +60,8 @@ pub fn law_runs_sound()
         → IsRight g i restarts ending end }
 {}
 
-/// Whatever the ending, the initiator engaged first, unless it is awake, and each process once; the
-/// initiator reaches each of them, and none of them is awake. A run is cut at a free process
+/// Whatever the ending, the initiator engaged first, unless it is awake. No process engaged twice. The
+/// initiator reaches each that engaged, and none of them is awake. A run is cut at a free process
 /// that did not engage.
 pub fn law_who_engages()
     ensures { (rule : Rule) (g : Graph) (i : ℕ) (restarts : List ℕ)

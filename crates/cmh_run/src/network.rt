@@ -223,7 +223,8 @@ impl Network {
         self.act(receiver, &[], action)
     }
 
-    /// A query of `from` engages `to`, of which this is known. It stands apart, since few deliveries engage.
+    /// The delivery of a query of `from` that engages `to`, unless it is known to be free. It stands apart, so that the loop
+    /// of a run is short.
     #[inline(never)]
     fn engage_by_hint(
         &mut self,

@@ -58,7 +58,7 @@ impl Procs {
         self.all[k as usize].latest
     }
 
-    /// The process starts, with so many dependents.
+    /// The process starts, with this many dependents.
     #[tactic(auto, using(crate::proofs::TouchedProcesses::one_touched))]
     pub(crate) fn start(&mut self, k: u32, size: u32) -> Result<Action, AllocError>
         requires within { k < length self.old }
@@ -71,7 +71,7 @@ impl Procs {
         Ok(self.all[k as usize].start(size))
     }
 
-    /// A query with this number has come to the process, which has so many dependents.
+    /// A query with this number has come to the process, which has this many dependents.
     #[tactic(auto, using(crate::proofs::TouchedProcesses::one_touched))]
     pub(crate) fn engage(
         &mut self,

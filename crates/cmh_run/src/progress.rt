@@ -15,8 +15,8 @@ use cmh_process::Message;
 use std::alloc::{AllocError, Global};
 use std::marker::Model;
 
-/// A run on its way, over a graph and in a network that it was lent, with the deliveries that were made and the restarts
-/// that are still to come.
+/// A run on its way, with what was fixed at its start, the deliveries that were made and the restarts that are still to
+/// come. It gives its network back at the end.
 #[derive(Drop)]
 pub(crate) struct Progress<'a, L: Log> {
     graph: &'a WaitGraph,
@@ -113,7 +113,7 @@ impl<'a, L: Log> Progress<'a, L> {
         Ok(())
     }
 
-    /// Takes the message that comes next by the next of the choices, unless the run is over.
+    /// Takes the message that comes next by the next of the choices, unless the run has ended.
     #[inline(always)]
     fn take(&mut self) -> Option<Message>
         ensures same { self.new ≡ record self.old { progress = self.new.progress } }
@@ -130,8 +130,7 @@ impl<'a, L: Log> Progress<'a, L> {
     }
 
     /// Delivers the message that comes next by the choices, with what hints say of its receiver, if it is about to engage.
-    /// Then the initiator starts again, if that is due. Where the run is over, or nothing is left to deliver, it answers
-    /// no.
+    /// Then the initiator starts again, if that is due. It answers no where the run has ended or nothing is undelivered.
     #[inline(always)]
     pub(crate) fn deliver_next<H: Hints>(&mut self, hints: &mut H) -> Result<bool, AllocError>
         requires under_way { (restarts : List ℕ) × IsUnderWay restarts self.old }
@@ -158,8 +157,7 @@ impl<'a, L: Log> Progress<'a, L> {
         Ok(true)
     }
 
-    /// What is kept of the run, which is over or has nothing left to deliver, and the network for
-    /// the next run.
+    /// What is kept of the run, in which nothing more is delivered, and the network for the next run.
     pub(crate) fn finish(self, alloc: Global) -> (RunLog<L>, Network)
         ensures log { result.0 ≡ record {
           initiator = self.entry.initiator;

@@ -1,4 +1,4 @@
-//! Runs one after another, in memory that is taken once.
+//! Runs one after another, in memory that is kept from one to the next.
 
 ghost use Rattle.std.specs.Prelude.{◌≡◌, ◌⊎◌, [], Some, ◌*◌, ◌≤◌, ◌↔◌, length, IfOk, IfErr, IsTrue};
 ghost use Rattle.cmh_graph.specs.Graph.{dependency_count};

@@ -1,4 +1,4 @@
-//! What a process puts into the queue by an action.
+//! What a process puts into the bag by an action.
 
 ghost use Rattle.std.specs.Prelude.{◌≡◌, ◌++◌, OnOk};
 ghost use Rattle.cmh_run.specs.Config.{messages_of};

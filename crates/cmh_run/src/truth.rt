@@ -6,7 +6,7 @@ ghost use Rattle.cmh_graph.specs.Verdict.{verdicts};
 use cmh_graph::{GraphFault, Verdict, WaitGraph};
 use std::alloc::{AllocError, Global};
 
-/// The verdict of each process. A question to a graph has no other fault than want of memory.
+/// The verdict of each process. A question to a graph has no other fault than `Memory`.
 pub(crate) fn truth_of(alloc: Global, graph: &WaitGraph) -> Result<Vec<Verdict>, AllocError>
     ensures { IfOk result (λ list. list.items ≡ verdicts graph.now) }
 {

@@ -55,21 +55,21 @@ impl<T: Drop> From<AllocFailed<T>> for WorkFault {
     }
 }
 
-/// The refused memory that the fault of a run is.
+/// The fault of a run that was refused memory, as the fault of an allocator.
 pub(crate) fn run_out_of_memory(_fault: RunFault) -> AllocError
     requires { _fault ≡ run.Memory }
 {
     AllocError
 }
 
-/// The refused memory that the fault of a board is, at its opening or its close.
+/// The same of a board, at its opening or its close.
 pub(crate) fn board_out_of_memory(_fault: BoardFault) -> AllocError
     requires { _fault ≡ board.Memory }
 {
     AllocError
 }
 
-/// The refused memory that the fault of tickets is, at their opening.
+/// The same of tickets, at their opening.
 pub(crate) fn tickets_out_of_memory(_fault: PlanFault) -> AllocError
     requires { _fault ≡ plan.Memory }
 {

@@ -25,7 +25,7 @@ impl Shapes {
     ghost use Rattle.cmh_work.specs.Leaders.{KnowsLeaders};
     ghost use Rattle.cmh_work.specs.Shape.{IsShape, AreShapesOf};
 
-    /// Searches the graph once for all distances, and once for all cores that are one process. It takes
+    /// Searches the graph once for all distances, and once for cores that are one process. It takes
     /// time and memory linear in processes and dependencies.
     pub(crate) fn of_graph(alloc: Global, graph: &WaitGraph) -> Result<Shapes, AllocError>
         ensures { IfOk result (AreShapesOf graph.now) }

@@ -82,16 +82,16 @@ fn answer(alloc: Global, call: Call, graph: &WaitGraph, log: &[Delivery]) -> Opt
     }
 }
 
-/// Whether a bag takes the first message of the log 16 times, and keeps what it had at a refusal.
+/// Whether a bag takes the first message of the log 100 times, by two growths, and keeps what it had at a refusal.
 fn pushed(alloc: Global, log: &[Delivery]) -> Option<bool> {
     let message = log.first()?.message;
     let mut bag = Bag::new(alloc);
-    for count in 0..16usize {
+    for count in 0..100usize {
         if let Err(fault) = bag.push(message) {
             return refused(fault == RunFault::Memory && bag.len() == count);
         }
     }
-    Some(bag.len() == 16 && bag.get(15) == Some(&message))
+    Some(bag.len() == 100 && bag.get(99) == Some(&message))
 }
 
 fn refused(is_memory: bool) -> Option<bool> {

@@ -8,7 +8,7 @@ use crate::{
 use cmh_graph::Verdict;
 use cmh_process::{Kind, Message};
 use std::alloc::AllocError;
-use std::hash::{DefaultHasher, Hash};
+use std::hash::{DefaultHasher, Hash, Hasher};
 
 const FIRST: Delivery = Delivery {
     message: Message {
@@ -45,6 +45,12 @@ fn lists(rt: HostRuntime) -> Result<(), AllocError> {
     Ok(())
 }
 
+fn hash_of<T: Hash>(value: &T) -> u64 {
+    let mut state = DefaultHasher::new();
+    value.hash(&mut state);
+    state.finish()
+}
+
 #[test]
 fn values(rt: HostRuntime) {
     expect_eq(&rt, (MAX_CHOICES, MAX_RESTARTS), (65_536, 16));
@@ -52,8 +58,16 @@ fn values(rt: HostRuntime) {
     let copy = faults;
     expect_eq(&rt, copy, faults);
     expect(&rt, Ending::CutFree(1) != Ending::CutFree(2));
-    let mut state = DefaultHasher::new();
-    (faults, Ending::AtRest, NoHints, FIRST).hash(&mut state);
+    let values = (faults, Ending::AtRest, NoHints, FIRST);
+    expect_eq(
+        &rt,
+        hash_of(&values),
+        hash_of(&(copy, Ending::AtRest, NoHints, FIRST)),
+    );
+    expect(
+        &rt,
+        hash_of(&Ending::CutFree(1)) != hash_of(&Ending::CutFree(2)),
+    );
     laws::law_start();
     laws::law_step();
     laws::law_runs_are_steps();

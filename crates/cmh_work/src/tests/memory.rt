@@ -51,8 +51,8 @@ struct Seen {
     in_midst: bool,
 }
 
-/// Analyses the cycle and its follower with ample memory, so that the stack has grown as far as it needs, and then with
-/// more and more of it, up to `ROOM` bytes. The contract says what each answer is.
+/// Analyses the cycle and its follower with ample memory, so that the stack has grown as far as it needs, then with more
+/// and more of it, up to `ROOM` bytes, and at last with ample memory again. The contract says what each answer is.
 fn sweep<R: Threads + Wait + Sync>(rt: &R, alloc: Global, workers: u32) -> Result<Seen, Fail> {
     let graph = graph_of(alloc, &CYCLE_AND_FOLLOWER, &[])?;
     let plan = Plan::new(alloc, workers, &[1, 1], &[])?;
@@ -84,6 +84,7 @@ fn sweep<R: Threads + Wait + Sync>(rt: &R, alloc: Global, workers: u32) -> Resul
         drop(taken);
     }
     drop(blocks);
+    analyse(rt, alloc, &graph, &plan, &NoGate)?;
     Ok(seen)
 }
 
