@@ -140,13 +140,13 @@ impl Bag {
         self.taken = 0;
     }
 
-    /// Uses the memory of those that were taken again, where they are about three quarters of all, so that few messages
-    /// are moved.
+    /// Uses the memory of those that were taken again, where they are more than half of all, so that each message is moved
+    /// less than once.
     #[inline(never)]
     fn forget_taken(&mut self)
         ensures { self.new ≡ self.old }
     {
-        if self.taken > self.messages.len() / 4 * 3 {
+        if self.taken > self.messages.len() / 2 {
             let left = self.messages.len() - self.taken;
             self.messages.copy_within(self.taken.., 0);
             self.messages.truncate(left);
