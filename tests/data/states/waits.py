@@ -1,7 +1,7 @@
 """Threads and tasks that wait, and others that don't: the first letters of a name say what one does.
 
 `wait_` waits, for somebody that only the source names; `join_` waits for whom the state shows; `run_` computes, sleeps,
-or waits with a limit. It prints its state once all are where they stay, and ends.
+or waits with a limit. It writes its state into CMH_STATE_FILE once all are where they stay, and ends when it is whole.
 """
 import asyncio
 import concurrent.futures
@@ -23,6 +23,7 @@ left, right = socket.socketpair()
 limited, _ = socket.socketpair()
 limited.settimeout(500)
 reader, writer = os.pipe()
+STATE = os.environ["CMH_STATE_FILE"]
 children, CHILD = [], [sys.executable, "-c", "import time; time.sleep(30)"]
 pool = concurrent.futures.ThreadPoolExecutor(8)
 plain.acquire()
@@ -244,9 +245,12 @@ for name, work in list(vars(Works).items()):
     if name.startswith(("wait", "join", "run")) and name != "run_keeper":
         start(work, name)
 start(lambda: asyncio.run(tasks()), "join_loop")
-time.sleep(1)
+time.sleep(2)
 os.kill(os.getpid(), signal.SIGUSR2)
-time.sleep(1)
+for _ in range(600):
+    time.sleep(0.1)
+    if os.path.exists(STATE) and '"end"' in open(STATE, encoding="utf-8").read():
+        break
 for each in children:
     each.kill()
 sys.stdout.flush()
