@@ -7,7 +7,6 @@ pub mod DeliveryBound
 pub mod Determinism
 pub mod EngagedLemmas
 pub mod Examples
-pub mod FirstTaken
 pub mod Invariant
 pub mod InvariantSteps
 pub mod LastComputation
