@@ -6,25 +6,8 @@ ghost use Rattle.cmh_graph.specs.Judge.{IsFirst, IsRepeat};
 ghost use Rattle.cmh_dump.specs.Places.{first_repeated_place};
 ghost use Rattle.cmh_dump.specs.Read.{first_pair};
 
-use cmh_graph::Part;
+use cmh_graph::{Part, first_repeat};
 use std::alloc::{AllocError, Global};
-
-/// The first place that equals an earlier one. The places are stamped.
-fn first_repeat(stamp: usize, places: &[u32], stamps: &mut [usize]) -> Option<usize>
-    requires within { All (λ p. p < length stamps.old) places.now }
-    requires fresh { All (λ s. s < stamp) stamps.old }
-    ensures some { IfSome result (IsFirst (IsRepeat places.now)) }
-    ensures none { IfNone result ((j : ℕ) → IsRepeat places.now j → ⊥) }
-    ensures stamps { All (λ s. s ≤ stamp) stamps.new }
-{
-    for (j, place) in places.iter().enumerate() {
-        if stamps[*place as usize] == stamp {
-            return Some(j);
-        }
-        stamps[*place as usize] = stamp;
-    }
-    None
-}
 
 /// The first process with a dependent that equals an earlier one, and the place of that dependent.
 /// Each of `count` processes keeps the number of the last one that named it, counted from 1.

@@ -107,8 +107,10 @@ fn first_repeated_dependent(
     Ok(None)
 }
 
-/// The first dependent that equals an earlier one. The places that the list names are stamped.
-fn first_repeat(stamp: usize, list: &[u32], stamps: &mut [usize]) -> Option<usize>
+/// The place of the first entry that equals an earlier one. Each entry is a place of `stamps`, which gets the stamp: a
+/// number above all that stand there, so that one list after another can be looked through. It takes time linear in the
+/// list.
+pub fn first_repeat(stamp: usize, list: &[u32], stamps: &mut [usize]) -> Option<usize>
     requires within { All (λ r. r < length stamps.old) list.now }
     requires fresh { All (λ s. s < stamp) stamps.old }
     ensures some { IfSome result (IsFirst (IsRepeat list.now)) }

@@ -18,6 +18,7 @@ mod verdict;
 
 pub use fault::{GraphFault, out_of_memory};
 pub use graph::WaitGraph;
+pub use judge::first_repeat;
 pub use part::{Part, State};
 pub use predecessors::Predecessors;
 pub use search::marked_indices;
