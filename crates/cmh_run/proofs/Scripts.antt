@@ -17,14 +17,14 @@ use Rattle.cmh_graph.specs.Judge.{IsFirst}
 use Rattle.cmh_graph.proofs.PartLemmas.{first_place}
 use Rattle.cmh_graph.proofs.IndexLists.{length-by_index, by_index}
 use Rattle.cmh_graph.proofs.Verdicts.{one_verdict, verdict_true, by_test}
-use Rattle.cmh_run.specs.Script.{ScriptLine, told_at, AreTrueOf, IsLineOutOfRange, is_listed}
+use Rattle.cmh_run.specs.Script.{ScriptLine, answer_at, AreTrueOf, IsLineOutOfRange, is_listed}
 use Rattle.cmh_run.proofs.Verdicts.{same, same_as_itself}
 
 -- ---- what lines tell
 
 -- true lines tell the truth of a process at each ask
 pub told_true : (g : Graph) (lines : List ScriptLine) (ask p : ℕ) → AreTrueOf g lines
-    → IfSome (told_at lines ask p) (λ v. IsVerdict g p v)
+    → IfSome (answer_at lines ask p) (λ v. IsVerdict g p v)
 told_true g [] ask p h = tt
 told_true g (e ∷ lines) ask p h =
     by_test (e.0 == ask && e.1 == p)

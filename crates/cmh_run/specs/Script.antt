@@ -19,8 +19,8 @@ pub record Script : Type 0 where
   pub asked : ℕ
 
 -- what the lines tell at this ask of p
-abbrev pub told_at : List ScriptLine → ℕ → ℕ → Option Verdict
-told_at lines ask p = option_map (λ line. line.2) (find (λ line. line.0 == ask && line.1 == p) lines)
+abbrev pub answer_at : List ScriptLine → ℕ → ℕ → Option Verdict
+answer_at lines ask p = option_map (λ line. line.2) (find (λ line. line.0 == ask && line.1 == p) lines)
 
 -- each line tells the truth about a process
 abbrev pub AreTrueOf : Graph → List ScriptLine → Type 0

@@ -63,7 +63,7 @@ impl Checker {
         ensures none { IfNone result ((g : Graph) (i : ℕ) (log : List Delivery) (s : Going)
             → Agrees g i log s self.now → IsSettled self.now → ¬ (HasEnded s.config)) }
     {
-        if let Some(ending) = self.network.ended() {
+        if let Some(ending) = self.network.ending() {
             return Some(ending);
         }
         if self.undelivered.is_empty() {

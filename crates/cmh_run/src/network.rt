@@ -95,7 +95,7 @@ impl Network {
     }
 
     /// How a declaration or a hint has ended the run, if one has.
-    pub(crate) fn ended(&self) -> Option<Ending>
+    pub(crate) fn ending(&self) -> Option<Ending>
         ensures { result ≡ self.now.ended }
     {
         self.ended

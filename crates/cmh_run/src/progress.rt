@@ -169,7 +169,7 @@ impl<'a, L: Log> Progress<'a, L> {
         ensures network { result.1 ≡ blank_config (length self.entry.progress.going.config.procs) }
     {
         let mut network = self.network;
-        let ending = network.ended().unwrap_or(Ending::AtRest);
+        let ending = network.ending().unwrap_or(Ending::AtRest);
         let engaged = network.take_engaged(alloc);
         network.clear();
         let log = RunLog {

@@ -10,7 +10,7 @@ ghost use Rattle.cmh_graph.specs.contracts.verdict.VerdictEq.TheImpl.Laws as ver
 ghost use Rattle.cmh_graph.specs.contracts.verdict.VerdictPartialEq.TheImpl as verdict;
 ghost use Rattle.cmh_graph.specs.Graph.{Graph, process_count};
 ghost use Rattle.cmh_graph.specs.Verdict.{IsVerdict};
-ghost use Rattle.cmh_run.specs.Script.{AreTrueOf, IsLineOutOfRange, IsFirstScriptFault, is_listed as is_listed_lem, told_at};
+ghost use Rattle.cmh_run.specs.Script.{AreTrueOf, IsLineOutOfRange, IsFirstScriptFault, is_listed as is_listed_lem, answer_at};
 ghost use Rattle.cmh_run.specs.ScriptProofs.{scripts_keep_graphs, scripts_keep_silent};
 
 use crate::truth::truth_of;
@@ -70,7 +70,7 @@ impl Hints for Scripted {
 
     fn hint(&mut self, p: u32) -> Option<Verdict>
         ensures answer { result
-            ≡ (if nat_lt self.old.asked 4294967295 then told_at self.old.lines self.old.asked p else None) }
+            ≡ (if nat_lt self.old.asked 4294967295 then answer_at self.old.lines self.old.asked p else None) }
         ensures asked { self.new ≡ record self.old {
           asked = if nat_lt self.old.asked 4294967295 then self.old.asked + 1 else self.old.asked;
         } }
@@ -84,7 +84,7 @@ impl Hints for Scripted {
             return None;
         }
         self.asked += 1;
-        told_at(&self.lines, ask, p)
+        answer_at(&self.lines, ask, p)
     }
 
     ghost keeps_itself = { λ s. refl };
@@ -114,8 +114,8 @@ impl Eq for Scripted {
 }
 
 /// What the lines tell at that ask of `p`.
-fn told_at(lines: &[(u32, u32, Verdict)], ask: u32, p: u32) -> Option<Verdict>
-    ensures { result ≡ told_at lines.now ask p }
+fn answer_at(lines: &[(u32, u32, Verdict)], ask: u32, p: u32) -> Option<Verdict>
+    ensures { result ≡ answer_at lines.now ask p }
 {
     lines
         .iter()

@@ -148,7 +148,7 @@ fn take_turns_by<R: Threads + Wait + Sync>(
 }
 
 /// Whether each process stands in the rows once.
-fn stand_once(rows: &[Row]) -> bool {
+fn is_each_once(rows: &[Row]) -> bool {
     let mut stands = [false; 4_096];
     for row in rows {
         if let Some(place) = stands.get_mut(row.process as usize) {
@@ -167,7 +167,7 @@ fn four_threads_take_a_hundred_million_turns(rt: HostRuntime) -> Result<(), Fail
         let (board, seat) = Board::open(alloc, &graph)?;
         let (seat, is_right) = take_turns_by(&rt, alloc, &graph, &board, seat, 3);
         expect(&rt, is_right);
-        expect(&rt, stand_once(&board.close(alloc, seat)?));
+        expect(&rt, is_each_once(&board.close(alloc, seat)?));
     }
     Ok(())
 }

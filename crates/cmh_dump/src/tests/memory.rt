@@ -118,7 +118,7 @@ fn sweep(alloc: Global, call: Call) -> Result<Answers, Fail> {
 }
 
 #[test]
-fn want_of_memory(rt: HostRuntime) -> Result<(), Fail> {
+fn out_of_memory(rt: HostRuntime) -> Result<(), Fail> {
     for call in [Call::ReadDump, Call::ReadAll] {
         let answers = sweep(rt.alloc(), call)?;
         assert!(rt; answers == AS_THEY_SHOULD_BE, "{call:?}: {answers:?}");

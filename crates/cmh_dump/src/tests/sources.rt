@@ -23,7 +23,7 @@ impl Read for Broken<'_> {
 }
 
 /// How many bytes the reader gives, or the text of the fault.
-fn reading<R: Read + Drop>(alloc: Global, reader: R) -> Result<String, AllocError> {
+fn read_outcome<R: Read + Drop>(alloc: Global, reader: R) -> Result<String, AllocError> {
     match read_all(alloc, &mut ReadOf::new(reader)) {
         Ok(bytes) => bytes.len().to_string(alloc),
         Err(fault) => fault.to_string(alloc),
@@ -32,7 +32,7 @@ fn reading<R: Read + Drop>(alloc: Global, reader: R) -> Result<String, AllocErro
 
 /// Whether the reader is answered by this.
 fn is_read<R: Read + Drop>(alloc: Global, reader: R, wanted: &str) -> Result<bool, AllocError> {
-    Ok(reading(alloc, reader)?.as_str() == wanted)
+    Ok(read_outcome(alloc, reader)?.as_str() == wanted)
 }
 
 #[test]

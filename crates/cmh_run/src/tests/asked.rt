@@ -95,7 +95,7 @@ const ASKING: [Asking; 6] = [
 ];
 
 /// About whom the run asks.
-fn asked_of(alloc: Global, asking: &Asking) -> Result<Vec<u32>, RunFault> {
+fn asks_in_order(alloc: Global, asking: &Asking) -> Result<Vec<u32>, RunFault> {
     let graph = graph_of(alloc, asking.waits, asking.in_transit)?;
     let mut hints = Asked {
         list: Vec::new(alloc),
@@ -114,7 +114,7 @@ fn asked_of(alloc: Global, asking: &Asking) -> Result<Vec<u32>, RunFault> {
 #[test]
 fn once_for_each_engagement(rt: HostRuntime) -> Result<(), RunFault> {
     for (row, asking) in ASKING.iter().enumerate() {
-        let asked = asked_of(rt.alloc(), asking)?;
+        let asked = asks_in_order(rt.alloc(), asking)?;
         assert!(rt; asked.as_slice() == asking.asked, "at {row}");
     }
     Ok(())

@@ -64,37 +64,37 @@ fn answer(alloc: Global, call: Call, graph: &WaitGraph, log: &[Delivery]) -> Opt
     match call {
         Call::Run => match run(alloc, graph, 2, &[], &mut NoHints) {
             Ok(run) => Some(has_steps(&run, &STEPS_OF_FOLLOWER)),
-            Err(fault) => refused(fault == RunFault::Memory),
+            Err(fault) => unless_memory(fault == RunFault::Memory),
         },
         Call::RunAgain => match run_again(alloc, graph, 0, &[], &mut NoHints, &[2]) {
             Ok(run) => Some(has_steps(&run, &STEPS_OF_RESTART)),
-            Err(fault) => refused(fault == RunFault::Memory),
+            Err(fault) => unless_memory(fault == RunFault::Memory),
         },
         Call::CheckRun => match check_run(alloc, graph, 0, log) {
             Ok(ending) => Some(ending == Ending::Declared),
-            Err(fault) => refused(fault == CheckFault::Memory),
+            Err(fault) => unless_memory(fault == CheckFault::Memory),
         },
         Call::Script => match Scripted::new(alloc, graph, &SCRIPT) {
             Ok(mut hints) => Some(hints.hint(1) == Some(Verdict::Deadlocked)),
-            Err(fault) => refused(fault == ScriptFault::Memory),
+            Err(fault) => unless_memory(fault == ScriptFault::Memory),
         },
-        Call::Push => pushed(alloc, log),
+        Call::Push => push_many(alloc, log),
     }
 }
 
 /// Whether a bag takes the first message of the log 100 times, by two growths, and keeps what it had at a refusal.
-fn pushed(alloc: Global, log: &[Delivery]) -> Option<bool> {
+fn push_many(alloc: Global, log: &[Delivery]) -> Option<bool> {
     let message = log.first()?.message;
     let mut bag = Bag::new(alloc);
     for count in 0..100usize {
         if let Err(fault) = bag.push(message) {
-            return refused(fault == RunFault::Memory && bag.len() == count);
+            return unless_memory(fault == RunFault::Memory && bag.len() == count);
         }
     }
     Some(bag.len() == 100 && bag.get(99) == Some(&message))
 }
 
-fn refused(is_memory: bool) -> Option<bool> {
+fn unless_memory(is_memory: bool) -> Option<bool> {
     if is_memory { None } else { Some(false) }
 }
 

@@ -104,7 +104,7 @@ fn plans_agree(rt: HostRuntime) -> Result<(), Fail> {
     Ok(())
 }
 
-fn deadlocked(process: u32, last: bool) -> Row {
+fn deadlocked_row(process: u32, last: bool) -> Row {
     Row {
         process,
         verdict: Verdict::Deadlocked,
@@ -123,9 +123,9 @@ fn workers_look_at_the_board(rt: HostRuntime) -> Result<(), Fail> {
     expect(&rt, is_from_row(&found.records()[1], 1));
     expect(&rt, is_from_run(&found.records()[2], &log));
     let rows = [
-        deadlocked(0, false),
-        deadlocked(1, true),
-        deadlocked(2, true),
+        deadlocked_row(0, false),
+        deadlocked_row(1, true),
+        deadlocked_row(2, true),
     ];
     expect_eq(&rt, found.history(), rows.as_slice());
     let again = analysis(&rt, &CYCLE_AND_FOLLOWER, &[], 1, &[1, 1])?;
