@@ -56,7 +56,7 @@ behind_alone g p w i alone q (x ∷ r ∷ rest, (e, l)) back =
     (subst (λ xs. Contains xs q) (alone r l.0) ((core_law g r q w j).1 (to_q, reaches_on g q p r back to_r))) in
     sym other ∙ own
 
--- a process each of whose dependencies is a core by itself is one
+-- a process is a core by itself where each of its dependencies is one
 alone_more : (g : Graph) (p : ℕ) → IsWithinGraph g → p < process_count g
     → ((r : ℕ) → Depends g p r → core_of g r ≡ r ∷ []) → core_of g p ≡ p ∷ []
 alone_more g p w i alone = core_alone g p w i (behind_alone g p w i alone)
@@ -66,13 +66,13 @@ last_step : (g : Graph) (q r : ℕ) (rest : List ℕ) (p : ℕ) → Leads g q (r
 last_step g q r [] p l = (q, subst (λ z. Depends g q z) l.1 l.0)
 last_step g q r (s ∷ rest) p l = last_step g r s rest p l.1
 
--- where nobody depends on p, nobody but p reaches it
+-- where no process depends on p, only p reaches it
 unnamed_alone : (g : Graph) (p : ℕ) → ((t : ℕ) → Depends g t p → ⊥) → (q : ℕ) → Reaches g q p → q ≡ p
 unnamed_alone g p nobody q ([], e) = absurd e
 unnamed_alone g p nobody q (x ∷ [], (e, l)) = l
 unnamed_alone g p nobody q (x ∷ r ∷ rest, (e, l)) = let step = last_step g q r rest p l in absurd (nobody step.0 step.1)
 
--- where just those processes are marked on which nobody depends, each of them is a core by itself
+-- where just those processes are marked on which none depends, each of them is a core by itself
 pub alone_start : (g : Graph) (lists : List (List ℕ)) (marks : List Bool) → IsWithinGraph g → ArePredecessors g lists
     → marks ≡ map (λ p. eqb (length (predecessors_at lists p)) 0) (indices g) → AreAlone g marks
 alone_start g lists marks w pre is =
@@ -94,7 +94,7 @@ pub passed_start : (g : Graph) (marks : List Bool) (passed : List ℕ) → lengt
     → ((p : ℕ) → get_or passed p 0 ≡ 0) → ArePassed g marks passed
 passed_start g marks passed size none = record { size = size; marked = λ p k l. absurd (omega (arith, l, none p)) }
 
--- where the dependents of p up to a count are marked, so many of them may be passed
+-- where the dependents of p up to a count are marked, that many of them may be passed
 pub passed_more : (g : Graph) (marks : List Bool) (passed : List ℕ) (p count : ℕ) → ArePassed g marks passed
     → p < process_count g
     → ((k : ℕ) → get_or passed p 0 ≤ k → k < count → is_marked marks (get_or (dependents_of g p) k 0) ≡ true)

@@ -1,4 +1,4 @@
--- Which processes messages in transit wake.
+-- Which processes messages in transit unblock.
 use Rattle.std.proofs.Common.{◌≡◌, ℕ, zero, suc, ◌<◌, ◌≤◌, Bool, true, false, not, ◌&&◌, ◌||◌, List, [], ◌∷◌, map, take, length, get_or, refl, sym, ◌∙◌, ap, arith, eqb}
 use Rattle.std.specs.List.{list_any}
 use Rattle.std.proofs.lemmas.List.{length-map, take_all}
@@ -9,11 +9,11 @@ use Rattle.cmh_graph.specs.Graph.{Graph, dependents_of, indices, is_awake, is_id
 use Rattle.cmh_graph.specs.Search.{is_marked}
 use Rattle.cmh_graph.proofs.PartLemmas.{as_many}
 
--- the message lets p go on
+-- the message unblocks p
 abbrev pub wakes : Graph → ℕ → ℕ × ℕ → Bool
 wakes g p message = eqb message.1 p && list_any (λ d. eqb d message.0) (dependents_of g p)
 
--- The marks say which processes are active, or woken by one of the first n messages.
+-- The marks say which processes are active, or unblocked by one of the first n messages.
 pub record AwakeUpTo (g : Graph) (n : ℕ) (marks : List Bool) : Type 0 where
   pub size : length marks ≡ process_count g
   pub mark : (p : ℕ) → p < process_count g

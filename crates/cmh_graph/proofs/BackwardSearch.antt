@@ -20,8 +20,8 @@ use Rattle.cmh_graph.proofs.PathLemmas.{cons_contains, contains_cons, contains_i
 use Rattle.cmh_graph.proofs.LevelSearch.{marked_within}
 use Rattle.cmh_graph.proofs.Verdicts.{contains_filter, filter_contains, idle_within, reaches_more}
 
--- Marked are processes of the core of p, p itself among them. Each is pending, or it is found and
--- all of its predecessors that p reaches are marked.
+-- The marked processes are of the core of p, p itself among them. Each is pending, or it is found and all of its
+-- predecessors that p reaches are marked.
 pub record ReturnsTo (g : Graph) (p : ℕ) (marks : List Bool) (pending found : List ℕ) : Type 0 where
   pub size : length marks ≡ process_count g
   pub start : is_marked marks p ≡ true
@@ -59,7 +59,7 @@ marked_and_not marks =
 
 -- ---- the search
 
--- at first p alone is marked and pending, and nobody is found
+-- at first p alone is marked and pending, and none is found
 pub returns_start : (g : Graph) (p : ℕ) (marks : List Bool) (pending found : List ℕ) → length marks ≡ process_count g
     → p < process_count g → ((q : ℕ) → is_marked marks q ≡ eqb q p) → pending ≡ p ∷ [] → found ≡ []
     → ReturnsTo g p marks pending found
@@ -98,7 +98,7 @@ returning_within g p q marks pending rest found s e =
       s.size,
     )
 
--- who depends on a process reaches what it reaches
+-- a process that depends on another reaches what the other reaches
 reaches_before : (g : Graph) (r q p : ℕ) → Depends g r q → Reaches g q p → Reaches g r p
 reaches_before g r q p d ([], e) = absurd e
 reaches_before g r q p d (x ∷ rest, (e, l)) = (r ∷ q ∷ rest, (refl, (d, l)))
@@ -173,7 +173,7 @@ returns_more g p q lists reached old new pending rest after found more w i pre f
           count = omega (arith, h.count, s.count, ap length e, length_push rest q, length_push found q);
         }
 
--- where nothing is pending, who is on a way from p back to p is marked
+-- where nothing is pending, each process on a way from p back to p is marked
 led_back : (g : Graph) (p : ℕ) (marks : List Bool) → is_marked marks p ≡ true
     → ((q : ℕ) → is_marked marks q ≡ true → (r : ℕ) → Depends g r q → Reaches g p r → is_marked marks r ≡ true)
     → (q : ℕ) (rest : List ℕ) → Reaches g p q → Leads g q rest p → is_marked marks q ≡ true
@@ -201,7 +201,7 @@ mark_by true true false sound complete = complete refl refl
 mark_by true false false sound complete = refl
 mark_by false back false sound complete = refl
 
--- where nothing is pending, the marks say who is in the core
+-- where nothing is pending, the marks say which processes are in the core
 marks_end : (g : Graph) (p : ℕ) (marks : List Bool) (found : List ℕ) → IsWithinGraph g → p < process_count g
     → ReturnsTo g p marks [] found → marks ≡ map (λ q. reaches g p q && reaches g q p) (indices g)
 marks_end g p marks found w i s =
@@ -223,7 +223,7 @@ filter_both : (t u : ℕ → Bool) (xs : List ℕ) → filter (λ x. t x && u x)
 filter_both t u [] = refl
 filter_both t u (x ∷ xs) = filter_both_by u x (filter (λ y. t y && u y) xs) (filter t xs) (t x) (filter_both t u xs)
 
--- where the marks say who is in the core, the list of the marked places is the core
+-- where the marks say which processes are in the core, the list of the marked places is the core
 core_listed : (g : Graph) (p : ℕ) (marks : List Bool) → marks ≡ map (λ q. reaches g p q && reaches g q p) (indices g)
     → filter (is_marked marks) (range_with_len 0 (length marks)) ≡ core_of g p
 core_listed g p marks e =
@@ -238,8 +238,7 @@ core_listed g p marks e =
 first_lowest : (x : ℕ) (xs : List ℕ) → IsNonDecreasing (x ∷ xs) → (y : ℕ) → Contains (x ∷ xs) y → x ≤ y
 first_lowest x xs sorted y c = omega (arith, sorted 0 c.0 y (omega arith) c.1, c.2)
 
--- Numbers that don't fall, among which are all of a rising list, and which are no more than those,
--- are the rising list.
+-- Numbers that don't fall, among which are all of a rising list, and which are no more than those, are the rising list.
 pub sorted_is : (xs ys : List ℕ) → IsNonDecreasing xs → AllPairs (λ a b. a < b) ys
     → ((y : ℕ) → Contains ys y → Contains xs y) → length xs ≤ length ys → xs ≡ ys
 sorted_is [] [] sorted rises has l = refl

@@ -122,8 +122,7 @@ first_active_by g i np nd nr ne f TooManyInTransit h = refl
 first_active_by g i np nd nr ne f (TransitOutOfRange a) h = refl
 first_active_by g i np nd nr ne f Memory h = absurd h
 
--- where no fault of an earlier kind holds, the first active process with dependents is the first fault
--- of the graph
+-- where no fault of an earlier kind holds, the first active process with dependents is the first fault of the graph
 pub first_active : (g : Graph) (i : ℕ) → process_count g ≤ MAX_PROCESSES → dependent_count g ≤ MAX_DEPENDENCIES
     → IsWithinGraph g → ((i j : ℕ) → HasGraphFault g (RepeatedDependent i j) → ⊥)
     → IsFirst (λ i. HasGraphFault g (ActiveWithDependents i)) i → IsFirstGraphFault g (ActiveWithDependents i)
@@ -186,8 +185,8 @@ transit_none : (g : Graph)
 transit_none g n i (l, inl h) = let b = n i l in omega (arith, b.0, h)
 transit_none g n i (l, inr h) = let b = n i l in omega (arith, b.1, h)
 
--- a graph within its limits is well formed where nothing is out of range, no dependent repeats and no
--- active process has dependents
+-- a graph within its limits is well formed where nothing is out of range, no dependent repeats and no active process
+-- has dependents
 pub well_formed_then : (g : Graph) → process_count g ≤ MAX_PROCESSES → dependent_count g ≤ MAX_DEPENDENCIES
     → IsWithinGraph g → ((i j : ℕ) → HasGraphFault g (RepeatedDependent i j) → ⊥)
     → ((i : ℕ) → HasGraphFault g (ActiveWithDependents i) → ⊥)

@@ -194,7 +194,7 @@ pub chosen_is : (g : Graph) (p : ℕ) (path : List ℕ) → chosen_path g p ≡ 
 unfolding chosen_path
 chosen_is g p path e = chosen_by g p path (distance_of g p) refl e
 
--- ---- and it is there
+-- ---- that there is one
 
 -- a list that is not empty has a least member
 reduce_some : (xss : List (List ℕ)) → is_nonempty xss ≡ true → (path : List ℕ) × (reduce lesser_path xss ≡ Some path)
@@ -329,8 +329,7 @@ chosen_alone g p e = record {
     alone g p (x ∷ []) q w same = rw (sym (nat_cmp_is x p Equal w.0)) refl
     alone g p (x ∷ y ∷ rest) q w same = absurd (omega (arith, same))
 
--- where p is at distance n + 1, a dependency of p with a path of n dependencies to an awake process is
--- at distance n
+-- where p is at distance n + 1, a dependency of p with a path of n dependencies to an awake process is at distance n
 next_distance : (g : Graph) (p s n : ℕ) (tail : List ℕ) (q : ℕ) → IsWithinGraph g → p < process_count g
     → distance_of g p ≡ Some (suc n) → Depends g p s → Leads g s tail q → is_awake g q ≡ true → length tail ≡ n
     → distance_of g s ≡ Some n
@@ -352,7 +351,7 @@ later_than s x tail rest l h =
       | no k ↦ h (omega (arith, k, l))
     ]
 
--- The chosen path goes on with the least of the nearer dependencies, by its chosen path.
+-- The chosen path continues with the least of the nearer dependencies, by its chosen path.
 chosen_more : (g : Graph) (p r n : ℕ) (path : List ℕ) → IsWithinGraph g → p < process_count g
     → distance_of g p ≡ Some (suc n) → Depends g p r → distance_of g r ≡ Some n
     → ((s : ℕ) → Depends g p s → distance_of g s ≡ Some n → r ≤ s) → IsChosenPath g r path → IsChosenPath g p (p ∷ path)
@@ -388,8 +387,7 @@ chosen_more g p r n (x ∷ rest) w i e d f least c =
 
 -- ---- the path so far
 
--- The path so far ends with the last process, which is at this distance, and each chosen path
--- from there completes it.
+-- The path so far ends with the last process, which is at this distance, and each chosen path from there completes it.
 pub record LeadsOn (g : Graph) (p n : ℕ) (path : List ℕ) (last : ℕ) : Type 0 where
   pub within : last < process_count g
   pub distance : distance_of g last ≡ Some n
@@ -459,7 +457,7 @@ nearest_alone g p m d row distances w i e f a one =
       λ s c near. omega (arith, only_member row s d one c),
     )
 
--- the path so far goes on with the least dependent that is one nearer
+-- the path so far continues with the least dependent that is one nearer
 pub leads_on : (g : Graph) (p n m last r : ℕ) (path row : List ℕ) (distances : List (Option ℕ)) → IsWellFormed g
     → LeadsOn g p n path last → n ≡ suc m → row ≡ dependents_of g last → distances ≡ map (distance_of g) (indices g)
     → IsLeastAt m row distances (Some r) → LeadsOn g p m (path ++ r ∷ []) r

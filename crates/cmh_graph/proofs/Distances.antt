@@ -1,4 +1,4 @@
--- What a distance tells.
+-- What a distance says of a process.
 use Rattle.std.proofs.Common.{◌≡◌, ℕ, ◌<◌, true, false, cond, inl, inr, List, [], ◌∷◌, map, length, get_or, refl, sym, ◌∙◌, ap, arith}
 use Rattle.std.specs.Prelude.{Some, None, Option, is_some}
 use Rattle.std.proofs.lemmas.Bool.{cases_Bool}

@@ -1,5 +1,5 @@
--- Worked graphs, computed from the definitions. A dump is written short here: `p@a: q r` is idle p
--- on site a with dependents q and r, `p@a:` has none, and `r@a!` is active.
+-- Worked graphs, computed from the definitions. A dump is written short here: `p@a: q r` is idle p on site a with
+-- dependents q and r, `p@a:` has none, and `r@a!` is active.
 use Rattle.std.proofs.Common.{◌≡◌, ℕ, zero, suc, true, false, List, [], ◌∷◌, inl, inr, map, refl, arith}
 use Rattle.std.specs.Prelude.{codes, IsFalse, Some, None}
 use Rattle.cmh_graph.specs.declared.fault.GraphFault.{GraphFault}
@@ -30,7 +30,7 @@ active name site = record { name = name; site = site; state = Active; dependents
 abbrev graph : List Process → Graph
 graph processes = record { processes = processes; in_transit = [] }
 
--- the processes of a graph with just one message in transit
+-- the processes of a graph, with one message in transit
 abbrev with_message : ℕ × ℕ → Graph → Graph
 with_message message g = record { processes = g.processes; in_transit = message ∷ [] }
 
@@ -92,7 +92,7 @@ path_of_awake = refl
 
 -- ---- messages in transit
 
--- two in a cycle with a message from q to p, which wakes p
+-- two in a cycle with a message from q to p, which unblocks p
 abbrev cycle_with_message : Graph
 cycle_with_message = with_message (1, 0) two_in_a_cycle
 
@@ -111,7 +111,7 @@ path_to_woken : chosen_path cycle_with_message 1 ≡ Some (1 ∷ 0 ∷ [])
 unfolding chosen_path distance_of
 path_to_woken = refl
 
--- a cycle and r, which waits for it, with a message from p to r, which wakes r
+-- a cycle and r, which waits for it, with a message from p to r, which unblocks r
 abbrev follower_with_message : Graph
 follower_with_message = with_message (0, 2) cycle_and_follower
 
@@ -123,7 +123,7 @@ path_of_woken_follower : chosen_path follower_with_message 2 ≡ Some (2 ∷ [])
 unfolding chosen_path distance_of
 path_of_woken_follower = refl
 
--- a message from q to r, which wakes nobody, for q is no dependent of r
+-- a message from q to r, which unblocks none, for q is no dependent of r
 abbrev message_from_another : Graph
 message_from_another = with_message (1, 2) cycle_and_follower
 

@@ -27,7 +27,7 @@ never_both : (b : Bool) → not b ≡ true → b ≡ true → ⊥
 never_both true e f = cc
 never_both false e f = cc
 
--- the rest is who is reached and isn't in the core
+-- the rest is what is reached and isn't in the core
 pub rest_law : (g : Graph) (p q : ℕ) → IsWithinGraph g → p < process_count g
     → Contains (rest_of g p) q ↔ (Reaches g p q × (Contains (core_of g p) q → ⊥))
 rest_law = λ g p q w i. (
@@ -125,7 +125,7 @@ same_reach g p q w i j a b r =
     (λ e. then_reaches g q r w j (reaches_on g q p r b (reaches_then g p r e)))
     (λ e. then_reaches g p r w i (reaches_on g p q r a (reaches_then g q r e)))
 
--- whoever reaches one member of a core reaches the other
+-- what reaches one member of a core reaches the other
 same_reached : (g : Graph) (p q : ℕ) → IsWithinGraph g → Reaches g p q → Reaches g q p → (r : ℕ) → r < process_count g
     → reaches g r p ≡ reaches g r q
 same_reached g p q w a b r k =
@@ -159,7 +159,7 @@ leader_in_core g p w i =
     let some : 0 < length (core_of g p) = omega (arith, own.1) in
     (zero, some, get_or_default (core_of g p) 0 (leader_of g p) 0 some)
 
--- nobody in the core of a process is less than its leader
+-- no process in the core of a process is less than its leader
 pub leader_least : (g : Graph) (p q : ℕ) → Contains (core_of g p) q → leader_of g p ≤ q
 leader_least g p q c = first_least (core_of g p) q (AllPairs-from_increasing (core_of g p) (core_rises g p)) c
 
@@ -200,7 +200,7 @@ leader_listed g w p dead =
     contains_filter (leads_itself g) (indices g) l (contains_index (process_count g) l (core_within g p l member))
     (rw (test_from_deadlocked g l there, eq-eqb (leader_of g l) l own) refl)
 
--- who is listed is deadlocked, and leads itself
+-- a listed process is deadlocked, and leads itself
 listed_leads : (g : Graph) → IsWithinGraph g → (l : ℕ) → Contains (leaders g) l → IsDeadlocked g l × (leader_of g l ≡ l)
 listed_leads g w l c =
     let kept = filter_contains (leads_itself g) (indices g) l c in
@@ -211,7 +211,7 @@ listed_leads g w l c =
 pub leaders_rise : (g : Graph) → IsStrictlyIncreasing (leaders g)
 leaders_rise g = IsStrictlyIncreasing-filter (leads_itself g) (indices g) (indices_rise (process_count g))
 
--- who is in the list of leaders leads a deadlocked process, and who leads one is in the list
+-- each listed process leads a deadlocked one, and each that leads one is listed
 pub leaders_lead : (g : Graph) (l : ℕ) → IsWithinGraph g
     → Contains (leaders g) l ↔ ((p : ℕ) × IsDeadlocked g p × IsLeader g p l)
 leaders_lead g l w = (
@@ -399,11 +399,11 @@ pub number_from_one : (g : Graph) (p : ℕ) → IsWithinGraph g → IsDeadlocked
 number_from_one g p w dead =
     omega (arith, number_is g p, up_to_one (leaders g) (leader_of g p) (leader_listed g w p dead))
 
--- the number of a group is at most how many leaders there are
+-- the number of a group is at most the number of leaders
 pub number_to_last : (g : Graph) (p : ℕ) → group_number g p ≤ length (leaders g)
 number_to_last g p = count_by-le-length (λ q. leb q (leader_of g p)) (leaders g)
 
--- each number from 1 to how many leaders there are is some group's
+-- each number from 1 to the number of leaders is that of some group
 pub number_of_some : (g : Graph) (n : ℕ) → IsWithinGraph g → 1 ≤ n → n ≤ length (leaders g)
     → (p : ℕ) × IsDeadlocked g p × (group_number g p ≡ n)
 number_of_some g zero w l m = absurd (omega (arith, l))

@@ -153,8 +153,8 @@ steps_agree g t u w e p l = λ i. find (λ n. is_nonempty (paths_agree g t u w e
 
 -- ---- the search by levels
 
--- The list has the least number of dependencies of each process where it is up to n, and the
--- level has the processes where it is n.
+-- The list has the least number of dependencies of each process where it is up to n, and the level has the processes
+-- where it is n.
 pub record StepsUpTo (g : Graph) (test : ℕ → Bool) (n : ℕ) (steps : List (Option ℕ)) (level : List ℕ) : Type 0 where
   pub size : length steps ≡ process_count g
   pub sound : (p d : ℕ) → number_at steps p ≡ Some d → (steps_to g test p ≡ Some d) × (d ≤ n)
@@ -312,7 +312,7 @@ level_below g test n steps level l s =
     let q = get_or level 0 0 in
     steps_within g test q n (s.members q (Contains-get_or level 0 0 l)).1
 
--- where a level is empty, nobody is past it, so the least numbers of all processes are found
+-- where a level is empty, none is past it, so the least numbers of all processes are found
 pub steps_end : (g : Graph) (test : ℕ → Bool) (n : ℕ) (steps : List (Option ℕ)) (level : List ℕ) → IsWithinGraph g
     → length level ≡ 0 → StepsUpTo g test n steps level → steps ≡ map (steps_to g test) (indices g)
 steps_end g test n steps level w none s =
@@ -337,8 +337,7 @@ steps_end g test n steps level w none s =
 
 -- ---- the distance
 
--- the least numbers of dependencies to marked processes are the distances where the awake ones
--- are marked
+-- the least numbers of dependencies to marked processes are the distances where the awake ones are marked
 pub steps_to_awake : (g : Graph) (marks : List Bool) → IsWithinGraph g → marks ≡ map (is_awake g) (indices g)
     → map (steps_to g (is_marked marks)) (indices g) ≡ map (distance_of g) (indices g)
 unfolding distance_of

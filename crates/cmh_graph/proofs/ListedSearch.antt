@@ -1,4 +1,4 @@
--- The search along dependencies that lists whom it visits.
+-- The search along dependencies that lists what it visits.
 use Rattle.std.proofs.Common.{◌≡◌, ℕ, ◌+◌, ◌<◌, ◌≤◌, Bool, true, ◌⊎◌, inl, inr, List, [], ◌∷◌, ◌++◌, length, refl, sym, ◌∙◌, ap, subst, arith, eqb, eqb-true, eq-eqb}
 use Rattle.std.specs.Prelude.{Contains, filter}
 use Rattle.std.specs.Ordering.{nat_cmp}
@@ -24,7 +24,7 @@ pub record ListsFrom (g : Graph) (p : ℕ) (marks : List Bool) (pending list : L
   pub listed : (q : ℕ) → is_marked marks q ≡ true → Contains pending q ⊎ Contains list q
   pub count : unmarked_count marks + length pending + length list ≤ process_count g
 
--- at first p alone is marked and pending, and nobody is listed
+-- at first p alone is marked and pending, and none is listed
 pub lists_start : (g : Graph) (p : ℕ) (marks : List Bool) (pending list : List ℕ) → length marks ≡ process_count g
     → p < process_count g → ((q : ℕ) → is_marked marks q ≡ eqb q p) → pending ≡ p ∷ [] → list ≡ []
     → ListsFrom g p marks pending list

@@ -178,7 +178,7 @@ seen_more list n count seen l s m f =
       ];
     }
 
--- a dependent whose place has the stamp already is a repeat
+-- where its place has the stamp already, a dependent is a repeat
 pub stamp_repeat : (list : List ℕ) (n stamp : ℕ) (stamps : List ℕ) → n < length list → get_or list n 0 < length stamps
     → SeenUpTo n list (length stamps) (stamped stamp stamps) → get_or stamps (get_or list n 0) 0 ≡ stamp
     → IsRepeat list n
@@ -186,7 +186,7 @@ stamp_repeat list n stamp stamps l m s e =
     seen_repeat list n (length stamps) (stamped stamp stamps) l s
     (stamped_read stamp stamps (get_or list n 0) m ∙ eq-eqb (get_or stamps (get_or list n 0) 0) stamp e)
 
--- a dependent whose place doesn't have the stamp is no repeat, and its place is stamped next
+-- where its place doesn't have the stamp, a dependent is no repeat, and its place is stamped next
 pub stamp_more : (list : List ℕ) (n stamp : ℕ) (stamps : List ℕ) → n < length list → get_or list n 0 < length stamps
     → SeenUpTo n list (length stamps) (stamped stamp stamps) → (get_or stamps (get_or list n 0) 0 ≡ stamp → ⊥)
     → SeenUpTo (n + 1) list (length (set stamps (get_or list n 0) stamp))

@@ -135,8 +135,8 @@ marks_more i list old marks new before xs after l h m k e f =
     marks_are _ _ old _ new before _ after (take_more list i 0 l) e f
     (marks_one (take i list) (get_or list i 0) old marks before xs h m k)
 
--- where the next place of a list passes the test and is marked already, those that pass up to it are
--- marked without a change
+-- where the next place of a list passes the test and is marked already, those that pass up to it are marked without a
+-- change
 pub marks_inside_kept : (t : ℕ → Bool) (i : ℕ) (list : List ℕ) (old marks new : List Bool) (before xs after : List ℕ)
     → i < length list → MarksEach (filter t (take i list)) old marks before xs → t (get_or list i 0) ≡ true
     → is_marked marks (get_or list i 0) ≡ true → new ≡ marks → after ≡ xs
@@ -145,8 +145,8 @@ marks_inside_kept t i list old marks new before xs after l h b k e f =
     marks_are _ _ old marks new before xs after (filtered_more t list i true l (sym b)) e f
     (marks_stay (filter t (take i list)) (get_or list i 0) old marks before xs h k)
 
--- where the next place of a list passes the test, is marked now and becomes pending, those that pass
--- up to it are marked
+-- where the next place of a list passes the test, is marked now and becomes pending, those that pass up to it are
+-- marked
 pub marks_inside_more : (t : ℕ → Bool) (i : ℕ) (list : List ℕ) (old marks new : List Bool) (before xs after : List ℕ)
     → i < length list → MarksEach (filter t (take i list)) old marks before xs → t (get_or list i 0) ≡ true
     → get_or list i 0 < length marks → is_marked marks (get_or list i 0) ≡ false
@@ -271,8 +271,8 @@ waits_by g p r false w e c = let none : Contains {X = ℕ} [] r =
 pub waits : (g : Graph) (p r : ℕ) → IsWellFormed g → Contains (dependents_of g p) r → Depends g p r
 waits g p r w c = waits_by g p r (is_idle g p) w refl c
 
--- where process n has joined the lists of its dependents, the lists have the predecessors among the
--- first n + 1 processes
+-- where process n has joined the lists of its dependents, the lists have the predecessors among the first n + 1
+-- processes
 pub predecessors_more : (g : Graph) (n : ℕ) (old new : List (Vec ℕ)) → IsWellFormed g → PredecessorsBelow g n old
     → JoinsEach n (dependents_of g n) old new → PredecessorsBelow g (n + 1) new
 predecessors_more g n old new w h j = record {

@@ -22,7 +22,7 @@ idle_within_by (x ∷ ps) (suc p) e = omega (arith, idle_within_by ps p e)
 pub idle_within : (g : Graph) (p : ℕ) → is_idle g p ≡ true → p < process_count g
 idle_within g p e = idle_within_by g.processes p e
 
--- what is neither active nor woken is idle
+-- what is neither active nor unblocked is idle
 asleep_is_idle_by : (idle woken : Bool) → (not idle || woken) ≡ false → idle ≡ true
 asleep_is_idle_by true woken e = refl
 asleep_is_idle_by false woken e = absurd cc
@@ -31,7 +31,7 @@ asleep_is_idle_by false woken e = absurd cc
 pub asleep_is_idle : (g : Graph) (p : ℕ) → is_awake g p ≡ false → is_idle g p ≡ true
 asleep_is_idle g p e = asleep_is_idle_by (is_idle g p) (is_woken g p) e
 
--- a path goes on by a dependency
+-- a path continues by a dependency
 leads_more : (g : Graph) (p : ℕ) (rest : List ℕ) (q r : ℕ) → Leads g p rest q → Depends g q r
     → (longer : List ℕ) × Leads g p longer r
 leads_more g p [] q r e d = (r ∷ [], (subst (λ z. Depends g z r) (sym e) d, refl))
@@ -195,7 +195,7 @@ one_verdict g p Free Free a b = refl
 pub true_verdict : (g : Graph) (p : ℕ) (v : Verdict) → IsWithinGraph g → IsVerdict g p v → v ≡ verdict g p
 true_verdict g p v w h = one_verdict g p v (verdict g p) h (verdict_true g p (verdict g p) w refl)
 
--- a process's verdict stands at its place in the list of all verdicts
+-- the verdict of a process stands at its place in the list of all verdicts
 pub verdict_listed : (g : Graph) (known : List Verdict) (p : ℕ) (d : Verdict) → known ≡ verdicts g
     → p < process_count g → get_or known p d ≡ verdict g p
 verdict_listed g known p d are l =

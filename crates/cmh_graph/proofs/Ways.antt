@@ -12,7 +12,7 @@ some_member : (xss : List (List ℕ)) → is_nonempty xss ≡ true → (path : L
 some_member [] e = absurd cc
 some_member (path ∷ xss) e = (path, (0, omega arith, refl))
 
--- a process at a distance has a way out of so many dependencies
+-- a process at distance n has a way out of n dependencies
 way_at : (g : Graph) (p n : ℕ) → distance_of g p ≡ Some n → (path : List ℕ) × IsWayOut g p path × (length path ≡ suc n)
 unfolding distance_of
 way_at g p n e =

@@ -7,7 +7,7 @@ use Rattle.cmh_graph.specs.declared.fault.GraphFault.TheVariants.{TooManyProcess
 use Rattle.cmh_graph.specs.Graph.{Process, Graph, process_count, dependents_of, is_idle, dependent_at, HasDependentAt, IsWithinGraph}
 use Rattle.cmh_graph.specs.First.{IsFirstBy}
 
--- a part without where it lies in memory
+-- the process that a part describes
 abbrev pub process_of : Part → Process
 process_of part = record {
   name = string_bytes part.name;
@@ -20,15 +20,15 @@ process_of part = record {
 abbrev pub parts_graph : List Part → List (ℕ × ℕ) → Graph
 parts_graph parts in_transit = record { processes = map process_of parts; in_transit = in_transit }
 
--- how many dependents all processes have together, those of active ones among them
+-- the number of dependents that all processes have together, active ones among them
 abbrev pub dependent_count : Graph → ℕ
 dependent_count g = sum_by (λ p. length p.dependents) g.processes
 
--- message i in transit
+-- the sender and the receiver of message i in transit
 abbrev pub message_at : Graph → ℕ → ℕ × ℕ
 message_at g i = slice_index_or g.in_transit i (0, 0)
 
--- when the graph has the fault
+-- the graph has the fault
 abbrev pub HasGraphFault : Graph → GraphFault → Type 0
 HasGraphFault g TooManyProcesses = MAX_PROCESSES < process_count g
 HasGraphFault g TooManyDependencies = MAX_DEPENDENCIES < dependent_count g

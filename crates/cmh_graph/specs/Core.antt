@@ -24,11 +24,11 @@ leaders g = filter (λ p. is_deadlocked g p && leader_of g p == p) (indices g)
 unfoldable pub group_leader : Graph → ℕ → Option ℕ
 group_leader g p = if is_deadlocked g p then Some (leader_of g p) else None
 
--- the number of the group of a deadlocked p, from 1: how many leaders stand up to its own
+-- the number of the group of a deadlocked p, from 1: how many leaders there are up to its own
 abbrev pub group_number : Graph → ℕ → ℕ
 group_number g p = count_by (λ q. nat_le q (leader_of g p)) (leaders g)
 
--- the leader of p in words: it is in p's core, and nobody there is less
+-- the leader of p in words: it is in p's core, and no process there is less
 pub record IsLeader (g : Graph) (p leader : ℕ) : Type 0 where
   pub member : Contains (core_of g p) leader
   pub least : (q : ℕ) → Contains (core_of g p) q → leader ≤ q

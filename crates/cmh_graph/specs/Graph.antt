@@ -1,24 +1,23 @@
--- The wait graph: processes, who waits for whom, and which messages are in transit.
+-- The wait graph: processes, the ones that each waits for, and the messages in transit.
 use Rattle.std.specs.Prelude.{ℕ, Bool, true, false, not, ◌&&◌, ◌||◌, ◌==◌, ◌<◌, List, [], length, slice_index, slice_index_or, if◌then◌else◌, IsTrue, Contains, filter, sum_by}
 use Rattle.std.specs.List.{range_with_len, list_any}
 use Rattle.cmh_graph.specs.declared.part.State.{State}
 use Rattle.cmh_graph.specs.declared.part.State.TheVariants.{Idle, Active}
 
--- A process. Its dependents are the processes from any one of which a message lets it go on, by
--- their indices.
+-- A process. A message from any one of its dependents unblocks it. They are given by their indices.
 pub record Process : Type 0 where
   pub name : List ℕ
   pub site : ℕ
   pub state : State
   pub dependents : List ℕ
 
--- A wait graph: the processes of a dump in its order, where each has its index, from 0; and the
--- messages in transit, each by the indices of its sender and its receiver.
+-- A wait graph: the processes of a dump in its order, each with its index, from 0, and the messages in transit, each by
+-- the indices of its sender and its receiver.
 pub record Graph : Type 0 where
   pub processes : List Process
   pub in_transit : List (ℕ × ℕ)
 
--- what stands at an index past the end: an active process that waits for nobody
+-- what stands at an index past the end: an active process without dependents
 abbrev pub nobody : Process
 nobody = record { name = []; site = 0; state = Active; dependents = [] }
 
@@ -56,7 +55,7 @@ abbrev pub is_woken : Graph → ℕ → Bool
 is_woken g p =
     list_any (λ message. message.1 == p && list_any (λ d. d == message.0) (dependents_of g p)) g.in_transit
 
--- an awake process can still send: it is active, or a message in transit lets it go on
+-- an awake process can still send: it is active, or a message in transit unblocks it
 abbrev pub is_awake : Graph → ℕ → Bool
 is_awake g p = not (is_idle g p) || is_woken g p
 

@@ -6,8 +6,7 @@ pub record IsFirst (Holds : ℕ → Type 0) (i : ℕ) : Type 0 where
   pub holds : Holds i
   pub first : (k : ℕ) → Holds k → i ≤ k
 
--- a condition of dependents holds at dependent j of i, at no earlier one of i, and at none of a process
--- before i
+-- a condition of dependents holds at dependent j of i, at no earlier one of i, and at none of a process before i
 pub record IsFirstDependent (Holds : ℕ → ℕ → Type 0) (i j : ℕ) : Type 0 where
   pub holds : Holds i j
   pub first : (k l : ℕ) → Holds k l → (i < k) ⊎ ((i ≡ k) × (j ≤ l))

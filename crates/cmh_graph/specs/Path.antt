@@ -2,8 +2,8 @@
 use Rattle.std.specs.Prelude.{◌≡◌, ℕ, zero, suc, Bool, true, false, ◌==◌, List, [], ◌∷◌, map, if◌then◌else◌, is_some, filter, find, flat_map, Option}
 use Rattle.cmh_graph.specs.Graph.{Graph, Depends, dependencies_of, indices}
 
--- From p the processes of the list lead to q: the first is a dependency of p, each next one is a
--- dependency of the one before it, and the last is q.
+-- From p the processes of the list lead to q: the first is a dependency of p, each next one is a dependency of the one
+-- before it, and the last is q.
 abbrev pub Leads : Graph → ℕ → List ℕ → ℕ → Type 0
 Leads g p [] q = p ≡ q
 Leads g p (r ∷ rest) q = Depends g p r × Leads g r rest q
@@ -28,8 +28,8 @@ abbrev pub is_nonempty : List (List ℕ) → Bool
 is_nonempty [] = false
 is_nonempty (path ∷ paths) = true
 
--- The least number of dependencies from p to a process that passes the test. A shortest path
--- passes no process twice, so it has fewer dependencies than the graph has processes.
+-- The least number of dependencies from p to a process that passes the test. A shortest path passes no process twice,
+-- so it has fewer dependencies than the graph has processes.
 abbrev pub steps_to : Graph → (ℕ → Bool) → ℕ → Option ℕ
 steps_to g test p = find (λ n. is_nonempty (paths_to g test n p)) (indices g)
 

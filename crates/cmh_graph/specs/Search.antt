@@ -24,7 +24,7 @@ pub record JoinsEach (p : ℕ) (places : List ℕ) (old new : List (Vec ℕ)) : 
   pub only : (r q : ℕ) → Contains (list_at new r) q
       → Contains (list_at old r) q ⊎ ((q ≡ p) × Contains places r)
 
--- the predecessors of a process, of which each process has a list; past the end there are none
+-- the list of predecessors at that place; past the end it is empty
 abbrev pub predecessors_at : List (List ℕ) → ℕ → List ℕ
 predecessors_at lists r = slice_index_or lists r []
 
@@ -38,8 +38,7 @@ pub record ArePredecessors (g : Graph) (lists : List (List ℕ)) : Type 0 where
 abbrev pub IsNamedBy : List (List ℕ) → List ℕ → ℕ → Type 0
 IsNamedBy lists level p = (q : ℕ) × Contains level q × Contains (predecessors_at lists q) p
 
--- Each named place that had no number has this one now, and has joined the list of places.
--- Nothing else has changed.
+-- Each named place that had no number has this one now, and has joined the list of places. Nothing else has changed.
 pub record Numbers (IsNamed : ℕ → Type 0) (n : ℕ) (old new : List (Option ℕ))
     (before after : List ℕ) : Type 0 where
   pub size : length new ≡ length old
@@ -55,8 +54,7 @@ pub record Numbers (IsNamed : ℕ → Type 0) (n : ℕ) (old new : List (Option 
 abbrev pub unmarked_count : List Bool → ℕ
 unmarked_count marks = count_by (λ mark. not mark) marks
 
--- Each place of the list is marked now, and those that weren't have become pending. Nothing else
--- has changed.
+-- Each place of the list is marked now, and those that weren't have become pending. Nothing else has changed.
 pub record MarksEach (list : List ℕ) (old new : List Bool) (before after : List ℕ) : Type 0 where
   pub size : length new ≡ length old
   pub kept : (p : ℕ) → IsTrue (is_marked old p) → IsTrue (is_marked new p)
@@ -74,8 +72,8 @@ IsLeastAt n list numbers (Some least) =
     Contains list least × (number_at numbers least ≡ Some n)
     × ((q : ℕ) → Contains list q → number_at numbers q ≡ Some n → least ≤ q)
 
--- Marked are processes that p reaches, p itself among them. Each is pending, or all of its
--- dependencies are marked.
+-- The marked processes are ones that p reaches, p itself among them. Each is pending, or all of its dependencies are
+-- marked.
 pub record SpreadsFrom (g : Graph) (p : ℕ) (marks : List Bool) (pending : List ℕ) : Type 0 where
   pub size : length marks ≡ process_count g
   pub start : IsTrue (is_marked marks p)

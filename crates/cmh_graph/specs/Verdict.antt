@@ -33,8 +33,8 @@ IsVerdict g p Free = ¬ (IsDeadlocked g p)
 abbrev pub verdicts : Graph → List Verdict
 verdicts g = map (verdict g) (indices g)
 
--- The processes that pass the test are a deadlocked set: all are idle, none is awake by a message
--- in transit, and each one's dependent set is within the set.
+-- The processes that pass the test are a deadlocked set: all are idle, none is awake by a message in transit, and the
+-- set has the dependent set of each.
 pub record IsDeadlockedSet (g : Graph) (member : ℕ → Bool) : Type 0 where
   pub idle : (p : ℕ) → IsTrue (member p) → IsTrue (is_idle g p)
   pub asleep : (p : ℕ) → IsTrue (member p) → IsFalse (is_awake g p)

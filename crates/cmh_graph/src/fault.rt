@@ -14,9 +14,9 @@ pub enum GraphFault {
     TooManyProcesses,
     /// The dependent sets have more than `MAX_DEPENDENCIES` dependents together.
     TooManyDependencies,
-    /// Of this part this dependent names no part.
+    /// The dependent at the second place, of the part at the first, names no part.
     DependentOutOfRange(usize, usize),
-    /// Of this part this dependent equals an earlier one.
+    /// The dependent at the second place, of the part at the first, equals an earlier one of that part.
     RepeatedDependent(usize, usize),
     /// This part is active and has dependents.
     ActiveWithDependents(usize),
@@ -66,7 +66,7 @@ impl<T: Drop> From<AllocFailed<T>> for GraphFault {
     }
 }
 
-/// The fault of a call that fails for memory alone, as the fault of an allocator.
+/// The fault of a call that fails for lack of memory alone, as an allocator reports it.
 pub fn out_of_memory(_fault: GraphFault) -> AllocError
     requires { _fault ≡ Memory }
 {

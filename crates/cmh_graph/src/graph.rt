@@ -1,5 +1,6 @@
-//! The wait graph: how it is built, what it holds, and the questions to it: who reaches whom, cores,
-//! distances, paths and verdicts. The steps of its searches are in `search`.
+//! The wait graph: how it is built, what it holds, and the questions to it.
+//!
+//! They ask for reach, cores, distances, paths and verdicts. The steps of the searches are in `search`.
 
 ghost use Rattle.std.specs.Prelude.{◌≡◌, ◌⊎◌, ◌<◌, ◌↔◌, map, [], IfOk, IfErr, IsTrue, not, ◌+◌, length, Some, option_map, All, ◌==◌, ◌≤◌, OnOk, ◌∷◌, None};
 ghost use Rattle.cmh_graph.specs.Graph.{indices, process_count, is_idle, is_idle_state, is_awake, site_of, name_of, dependents_of, idle_list};
@@ -20,8 +21,8 @@ use crate::{GraphFault, MAX_PROCESSES, Part, Predecessors, State, Verdict};
 use std::alloc::{AllocError, Global};
 use std::marker::Model;
 
-/// A wait graph: who waits for whom, and which messages are in transit. Processes are named by
-/// their indices in the dump, from 0.
+/// A wait graph: the processes that each one waits for, and the messages in transit. Processes are named by their
+/// indices in the dump, from 0.
 #[derive(Debug, Drop)]
 pub struct WaitGraph {
     parts: Vec<Part>,
@@ -52,9 +53,9 @@ impl WaitGraph {
         WaitGraph::build_with(alloc, parts, &[])
     }
 
-    /// The graph of the parts, with messages in transit, each by its sender and its receiver. A
-    /// message may be there more than once. Neither names nor sites are judged. It takes time linear
-    /// in parts, dependents and, for each message, the dependents of its receiver.
+    /// The graph of the parts, with messages in transit, each by its sender and its receiver. A message may be there
+    /// more than once. Neither names nor sites are judged. It takes time linear in parts, dependents and, for each
+    /// message, the dependents of its receiver.
     pub fn build_with(
         alloc: Global,
         parts: Vec<Part>,
@@ -97,8 +98,8 @@ impl WaitGraph {
         matches!(self.parts[p as usize].state, State::Idle)
     }
 
-    /// Whether the process can still send: it is active, or a message is in transit to it from a
-    /// member of its dependent set.
+    /// Whether the process can still send: it is active, or a message is in transit to it from a member of its
+    /// dependent set.
     pub fn is_awake(&self, p: u32) -> bool
         requires { p < process_count self.now }
         ensures { result ≡ is_awake self.now p }
@@ -106,7 +107,7 @@ impl WaitGraph {
         self.awake[p as usize]
     }
 
-    /// What is true of every graph, for a function that reads no field of it.
+    /// Each graph is well formed: for a function that reads no field of it.
     pub(crate) fn has_no_fault(&self)
         ensures { IsWellFormed self.now }
     {
@@ -171,9 +172,9 @@ impl WaitGraph {
         Ok(list)
     }
 
-    /// The processes that `p` reaches, itself among them, by rising index. It takes time and
-    /// memory linear in processes and dependencies; where `p` reaches few, time linear in these and
-    /// their dependencies, beside clearing a mark for each process.
+    /// The processes that `p` reaches, itself among them, by rising index. It takes time and memory linear in processes
+    /// and dependencies; where `p` reaches few, time linear in these and their dependencies, beside clearing a mark for
+    /// each process.
     pub fn reach_of(&self, alloc: Global, p: u32) -> Result<Vec<u32>, GraphFault>
         requires { p < process_count self.now }
         ensures ok { IfOk result (λ list. list.items ≡ reach_of self.now p) }
@@ -192,9 +193,8 @@ impl WaitGraph {
         self.spread(alloc, p, marks)
     }
 
-    /// For each process whether `p` reaches it, as `reach_marks` gives it, by those that `q` reaches,
-    /// where `p` reaches `q`. It takes time linear in the processes and in the dependencies of those
-    /// that `p` reaches and `q` doesn't.
+    /// For each process whether `p` reaches it, as `reach_marks` gives it, by what `q` reaches, where `p` reaches `q`.
+    /// It takes time linear in the processes and in the dependencies of those that `p` reaches and `q` doesn't.
     pub fn reach_marks_by(
         &self,
         alloc: Global,
@@ -214,8 +214,8 @@ impl WaitGraph {
         self.spread(alloc, p, marks)
     }
 
-    /// The processes that `p` reaches and that reach `p`, by rising index. It takes time linear in
-    /// processes and dependencies, beside sorting the core, and memory linear in both.
+    /// The processes that `p` reaches and that reach `p`, by rising index. It takes time linear in processes and
+    /// dependencies, beside sorting the core, and memory linear in both.
     pub fn core_of(&self, alloc: Global, p: u32) -> Result<Vec<u32>, GraphFault>
         requires { p < process_count self.now }
         ensures ok { IfOk result (λ list. list.items ≡ core_of self.now p) }
@@ -225,9 +225,9 @@ impl WaitGraph {
         Ok(self.core_by(alloc, &predecessors, p)?)
     }
 
-    /// The core of `p`, as `core_of` gives it, by the predecessors of all processes. It takes time
-    /// linear in the processes, the dependencies of those that `p` reaches and the predecessors of
-    /// those in the core, beside sorting the core, and memory linear in the processes.
+    /// The core of `p`, as `core_of` gives it, by the predecessors of all processes. It takes time linear in the
+    /// processes, the dependencies of those that `p` reaches and the predecessors of those in the core, beside sorting
+    /// the core, and memory linear in the processes.
     pub fn core_by(
         &self,
         alloc: Global,
@@ -243,8 +243,8 @@ impl WaitGraph {
         let mut pending = Vec::new(alloc);
         pending.push(p)?;
         let mut core = Vec::new(alloc);
-        // The search stays among those that `p` reaches: each on a way from `p` back to `p` is one of
-        // them, so it visits the core alone.
+        // The search stays among those that `p` reaches. Each on a way from `p` back to `p` is one of them, so it
+        // visits the core alone.
         while let Some(q) = pending.pop() {
             core.push(q)?;
             mark_each_within(predecessors.at(q), &reached, &mut marks, &mut pending)?;
@@ -253,9 +253,9 @@ impl WaitGraph {
         Ok(core)
     }
 
-    /// Marks processes that are a core by themselves: those that nobody depends on, and those whose
-    /// dependents are all marked. There may be others. It takes time linear in processes and
-    /// dependencies, and memory linear in the processes.
+    /// Marks processes that are a core by themselves: those on which no process depends, and those with no dependent
+    /// that isn't marked. There may be others. It takes time linear in processes and dependencies, and memory linear in
+    /// the processes.
     pub fn singleton_marks(
         &self,
         alloc: Global,
@@ -278,8 +278,8 @@ impl WaitGraph {
         Ok(marks)
     }
 
-    /// For each process the least number of dependencies to an awake process, where there is one.
-    /// It takes time and memory linear in processes and dependencies.
+    /// For each process the least number of dependencies to an awake process, where there is one. It takes time and
+    /// memory linear in processes and dependencies.
     pub fn distances(&self, alloc: Global) -> Result<Vec<Option<u32>>, GraphFault>
         ensures ok { IfOk result (λ list.
             list.items ≡ map (distance_of self.now) (indices self.now)) }
@@ -289,8 +289,8 @@ impl WaitGraph {
         Ok(self.distances_by(alloc, &predecessors)?)
     }
 
-    /// The distances, as `distances` gives them, by the predecessors of all processes. It takes time
-    /// linear in processes and dependencies, and memory linear in the processes.
+    /// The distances, as `distances` gives them, by the predecessors of all processes. It takes time linear in
+    /// processes and dependencies, and memory linear in the processes.
     pub fn distances_by(
         &self,
         alloc: Global,
@@ -303,9 +303,9 @@ impl WaitGraph {
         self.steps_to(alloc, predecessors, self.awake_marks())
     }
 
-    /// Of the shortest paths from `p` to an awake process the one whose indices are least, from
-    /// the front. There is none where `p` is deadlocked, and it is `p` alone where `p` is awake.
-    /// It takes time and memory linear in processes and dependencies.
+    /// Of the shortest paths from `p` to an awake process the one whose indices are least, from the front. There is
+    /// none where `p` is deadlocked, and it is `p` alone where `p` is awake. It takes time and memory linear in
+    /// processes and dependencies.
     pub fn chosen_path(&self, alloc: Global, p: u32) -> Result<Option<Vec<u32>>, GraphFault>
         requires { p < process_count self.now }
         ensures ok { IfOk result (λ path.
@@ -316,8 +316,8 @@ impl WaitGraph {
         Ok(self.path_by(alloc, &distances, p)?)
     }
 
-    /// The chosen path of `p`, as `chosen_path` gives it, by the distances of all processes. It
-    /// takes time linear in the dependencies of the processes on the path.
+    /// The chosen path of `p`, as `chosen_path` gives it, by the distances of all processes. It takes time linear in
+    /// the dependencies of the processes on the path.
     pub fn path_by(
         &self,
         alloc: Global,
@@ -343,8 +343,8 @@ impl WaitGraph {
         Ok(Some(path))
     }
 
-    /// The process after `p` on its chosen path, where `p` is one further away than this distance: of
-    /// its dependents at the distance the least. It takes time linear in the dependents of `p`.
+    /// The process after `p` on its chosen path, where `p` is one further away than this distance: of its dependents at
+    /// the distance the least. It takes time linear in the dependents of `p`.
     pub fn next_at(&self, distance: u32, p: u32, distances: &[Option<u32>]) -> u32
         requires within { p < process_count self.now }
         requires known { distances.now ≡ map (distance_of self.now) (indices self.now) }
@@ -353,15 +353,15 @@ impl WaitGraph {
     {
         self.has_no_fault();
         let dependents = self.dependents(p);
-        // Some dependent is at the distance, so of one it isn't looked up.
+        // Some dependent is at the distance, so a single one is.
         if dependents.len() == 1 {
             return dependents[0];
         }
         least_at(distance, dependents, distances).unwrap()
     }
 
-    /// The verdict of each process, by one search of the graph. It takes time and memory linear in
-    /// processes and dependencies.
+    /// The verdict of each process, by one search of the graph. It takes time and memory linear in processes and
+    /// dependencies.
     pub fn verdicts_plain(&self, alloc: Global) -> Result<Vec<Verdict>, GraphFault>
         ensures ok { IfOk result (λ list. list.items ≡ verdicts self.now) }
         ensures memory { IfErr result (λ e. e ≡ GraphFault.Memory) }
@@ -370,8 +370,8 @@ impl WaitGraph {
         Ok(self.verdicts_by(alloc, &distances)?)
     }
 
-    /// The verdict of each process, as `verdicts_plain` gives it, by the distances of all processes.
-    /// It takes time and memory linear in the processes.
+    /// The verdict of each process, as `verdicts_plain` gives it, by the distances of all processes. It takes time and
+    /// memory linear in the processes.
     pub fn verdicts_by(
         &self,
         alloc: Global,
@@ -391,8 +391,8 @@ impl WaitGraph {
 // The searches that answer them.
 
 impl WaitGraph {
-    /// The processes that `p` reaches, by rising index. Few are sorted: read off the marks of all
-    /// processes, a reach of one would take most of its time for that.
+    /// The processes that `p` reaches, by rising index. A short list is sorted: to read it off the marks of all
+    /// processes would take most of the time.
     pub(crate) fn reach_from(&self, alloc: Global, p: u32) -> Result<Vec<u32>, AllocError>
         requires { p < process_count self.now }
         ensures { IfOk result (λ list. list.items ≡ reach_of self.now p) }
@@ -413,7 +413,7 @@ impl WaitGraph {
         Ok(list)
     }
 
-    /// Marks what `p` reaches beside those that are marked, whose dependencies are marked too.
+    /// Marks all that `p` reaches. Where another process is marked already, so are its dependencies.
     pub(crate) fn spread(
         &self,
         alloc: Global,
@@ -435,7 +435,7 @@ impl WaitGraph {
         Ok(marks)
     }
 
-    /// For each process whether nobody depends on it.
+    /// For each process whether no process depends on it.
     fn marks_without_predecessors(
         &self,
         alloc: Global,
@@ -494,8 +494,8 @@ impl WaitGraph {
         Ok(())
     }
 
-    /// Marks a process whose dependents are all marked, and says whether it has. It looks at no
-    /// marked dependent again that it has passed before.
+    /// Marks a process if all its dependents are marked, and says whether it has. It looks at no dependent again that
+    /// it has passed.
     fn trim(&self, p: u32, marks: &mut [bool], passed: &mut [usize]) -> bool
         requires within { p < process_count self.now }
         requires trimming { IsTrimming self.now marks.old passed.old }
@@ -512,8 +512,8 @@ impl WaitGraph {
         true
     }
 
-    /// For each process the least number of dependencies to a marked one, where there is one. The
-    /// search goes against the dependencies, from each distance to the next.
+    /// For each process the least number of dependencies to a marked one, where there is one. The search goes against
+    /// the dependencies, from each distance to the next.
     pub(crate) fn steps_to(
         &self,
         alloc: Global,
@@ -551,7 +551,7 @@ impl WaitGraph {
     }
 }
 
-/// Marks each part whose process is awake.
+/// Marks each part of an awake process.
 fn mark_awake(
     alloc: Global,
     parts: &[Part],

@@ -86,8 +86,8 @@ fn first_at_least(bound: usize, list: &[u32]) -> Option<usize>
     None
 }
 
-/// The first dependent that equals an earlier one of its part, by the places of the part and of the
-/// dependent. Each process keeps the number of the last part that named it, counted from 1.
+/// The first dependent that equals an earlier one of its part, by the places of the part and of the dependent. Each
+/// process keeps the number of the last part that named it, counted from 1.
 fn first_repeated_dependent(
     alloc: Global,
     parts: &[Part],

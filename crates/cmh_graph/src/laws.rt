@@ -1,5 +1,5 @@
-//! Laws: the definitions that compute say what the relations say. Each function here does nothing;
-//! its contract is the law.
+//! Laws: the definitions that compute say what the relations say. Each function here does nothing; its contract is the
+//! law.
 
 ghost use Rattle.std.specs.List.Sorted.{IsStrictlyIncreasing};
 ghost use Rattle.std.specs.Prelude.{ℕ, ◌<◌, ◌↔◌, IsTrue, ◌≡◌, ◌≤◌, List, Some, IsFalse, None, Option, ◌+◌, length, Contains};
@@ -13,8 +13,8 @@ ghost use Rattle.cmh_graph.specs.declared.fault.GraphFault.{GraphFault};
 
 use crate::WaitGraph;
 
-/// A process is deadlocked by paths exactly where it belongs to a deadlocked set: a set of idle
-/// processes, none awake, in which each one's dependent set is a subset.
+/// A process is deadlocked by paths exactly where it belongs to a deadlocked set: a set of idle processes, none awake,
+/// that contains the dependent set of each.
 pub fn law_closed_set()
     ensures { (g : Graph) (p : ℕ) → IsWithinGraph g → IsDeadlocked g p ↔ IsInDeadlockedSet g p }
 {}
@@ -42,8 +42,8 @@ pub fn law_chosen_path_exists()
         → (chosen_path g p ≡ None) ↔ ((q : ℕ) → Reaches g p q → IsFalse (is_awake g q)) }
 {}
 
-/// The distance of a process is n exactly where a path of n dependencies leads from it to an awake
-/// one and no shorter path does, and there is none exactly where no path does.
+/// The distance of a process is n exactly where a path of n dependencies leads from it to an awake one and no shorter
+/// path does, and there is none exactly where no path does.
 pub fn law_distance()
     ensures { (g : Graph) (p : ℕ) (distance : Option ℕ) → IsWithinGraph g → p < process_count g
         → (distance_of g p ≡ distance) ↔ IsDistance g p distance }
@@ -86,8 +86,8 @@ pub fn law_leaders()
         → Contains (leaders g) l ↔ ((p : ℕ) × IsDeadlocked g p × IsLeader g p l) }
 {}
 
-/// Groups are numbered from 1 by their leaders. Deadlocked processes have the same number exactly
-/// where they are of one core, and each number up to that of the last leader is some group's.
+/// Groups are numbered from 1 by their leaders. Deadlocked processes have the same number exactly where they are of one
+/// core, and each number up to that of the last leader is that of a group.
 pub fn law_group_number()
     ensures from_one { (g : Graph) (p : ℕ) → IsWithinGraph g → IsDeadlocked g p
         → 1 ≤ group_number g p }
@@ -105,7 +105,7 @@ pub fn law_well_formed()
     ensures { (g : Graph) → IsWellFormed g ↔ ((fault : GraphFault) → HasGraphFault g fault → ⊥) }
 {}
 
-/// A graph that was built is well formed. For a caller whose own contract rests on it.
+/// A graph that was built is well formed. For callers with contracts that rest on it.
 pub fn law_built_graph(graph: &WaitGraph)
     ensures { IsWellFormed graph.now }
 {

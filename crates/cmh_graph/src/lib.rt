@@ -1,8 +1,7 @@
 //! The wait graph of a stalled message-passing program, and what it says of deadlock.
 //!
-//! A blocked process goes on as soon as any one process of its dependent set sends to it. That is
-//! the communication model of K. M. Chandy, J. Misra and L. M. Haas, "Distributed Deadlock
-//! Detection", ACM TOCS 1(2), 1983.
+//! A blocked process continues as soon as any one process of its dependent set sends to it. That is the communication
+//! model of K. M. Chandy, J. Misra and L. M. Haas, "Distributed Deadlock Detection", ACM TOCS 1(2), 1983.
 #![tactic(auto)]
 
 mod fault;

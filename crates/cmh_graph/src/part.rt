@@ -16,7 +16,6 @@ pub struct Part {
     /// A number for each site. Equal numbers are one site.
     pub site: u32,
     pub state: State,
-    /// The processes of which any one lets an idle process go on by sending to it. Empty where the
-    /// process is active.
+    /// The processes of which any one unblocks this one by sending to it. Empty where it is active.
     pub dependents: Vec<u32>,
 }

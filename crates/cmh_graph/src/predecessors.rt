@@ -1,6 +1,6 @@
-//! Who depends on each process.
+//! The processes that depend on each process.
 //!
-//! They are a list for each process: flat arrays would gain less than their proof takes.
+//! Each has a list of its own: flat arrays would gain less than their proof takes.
 
 ghost use Rattle.std.specs.Prelude.{◌≡◌, ◌<◌, ℕ, [], length, All, IfOk, OnOk};
 ghost use Rattle.cmh_graph.specs.Graph.{process_count};
@@ -10,9 +10,8 @@ use crate::WaitGraph;
 use std::alloc::{AllocError, Global};
 use std::marker::Model;
 
-/// For each process of a graph those that depend on it. A search against the dependencies goes by
-/// them, and many such searches can share them. They take memory linear in processes and
-/// dependencies.
+/// For each process of a graph those that depend on it. A search against the dependencies uses them, and many such
+/// searches can share them. They take memory linear in processes and dependencies.
 #[derive(Debug, Drop)]
 pub struct Predecessors {
     lists: Vec<Vec<u32>>,
@@ -27,8 +26,7 @@ impl Model for Predecessors {
 }
 
 impl Predecessors {
-    /// The predecessors of each process of the graph. It takes time and memory linear in processes
-    /// and dependencies.
+    /// The predecessors of each process of the graph. It takes time and memory linear in processes and dependencies.
     pub fn of_graph(alloc: Global, graph: &WaitGraph) -> Result<Predecessors, AllocError>
         ensures { IfOk result (λ predecessors. ArePredecessors graph.now predecessors) }
     {
@@ -70,8 +68,8 @@ fn count_each(places: &[u32], counts: &mut [usize])
     }
 }
 
-/// An empty list for each count, with room for as many. What is added to a list moves it no more, but
-/// the room is no promise: a list that needs more gets it.
+/// An empty list for each count, with room for as many. So a list isn't moved as it grows, and one that needs more room
+/// gets it.
 fn empty_lists(alloc: Global, counts: &[usize]) -> Result<Vec<Vec<u32>>, AllocError>
     ensures size { IfOk result (λ lists. length lists.items ≡ length counts.now) }
     ensures empty { IfOk result (λ lists. (r : ℕ) → list_at lists.items r ≡ []) }

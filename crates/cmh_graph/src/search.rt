@@ -23,7 +23,7 @@ pub fn marked_indices(alloc: Global, marks: &[bool]) -> Result<Vec<u32>, AllocEr
     Ok(list)
 }
 
-/// Marks one process of so many.
+/// Marks one process of `count`.
 pub(crate) fn mark_alone(alloc: Global, count: u32, p: u32) -> Result<Vec<bool>, AllocError>
     requires { p < count }
     ensures size { IfOk result (λ marks. length marks.items ≡ count) }
@@ -102,7 +102,7 @@ fn number_each(
     Ok(())
 }
 
-/// The processes without a distance that depend on one of the level. They get this one.
+/// The processes without a distance that depend on one of the level. They get `distance`.
 pub(crate) fn next_level(
     alloc: Global,
     predecessors: &Predecessors,
@@ -123,7 +123,7 @@ pub(crate) fn next_level(
     Ok(next)
 }
 
-/// The first place of the list, from this one on, whose process isn't marked, or the end of the list.
+/// The first place of the list, from this one on, of a process that isn't marked, or the end of the list.
 pub(crate) fn first_unmarked(list: &[u32], marks: &[bool], from: usize) -> usize
     requires { All (λ p. p < length marks.now) list.now }
     ensures { (k : ℕ) → from ≤ k → k < result

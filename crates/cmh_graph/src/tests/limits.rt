@@ -50,8 +50,8 @@ fn first_of(alloc: Global, count: u32) -> Result<Vec<u32>, AllocError> {
     Ok(list)
 }
 
-/// The first of `count` processes waits for all, itself among them. The last is active, and the others
-/// wait for the first.
+/// The first of `count` processes waits for all, itself among them. The last is active, and the others wait for the
+/// first.
 fn star(alloc: Global, count: u32) -> Result<WaitGraph, GraphFault> {
     let mut parts = alike(alloc, 1, &first_of(alloc, count)?)?;
     parts.extend(alike(alloc, count.saturating_sub(2) as usize, &[0])?)?;
