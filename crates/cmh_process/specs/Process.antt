@@ -4,7 +4,7 @@ use Rattle.cmh_process.specs.declared.process.Proc.{Proc}
 use Rattle.cmh_process.specs.declared.process.Action.{Action}
 use Rattle.cmh_process.specs.declared.process.Action.TheVariants.{Nothing, Engage, ReplyTo, Declare}
 
--- a process that has heard of no computation
+-- a process that has taken part in no computation
 abbrev pub new_proc : Proc
 new_proc = record { latest = 0; engager = None; num = 0; wait = false }
 
@@ -17,15 +17,15 @@ proc_started p size = record {
   wait = true;
 }
 
--- what the initiator does at a start: with nobody to ask it is deadlocked at once
+-- what the initiator does at a start: without dependents it is deadlocked at once
 abbrev pub start_action : ℕ → Action
 start_action size = if size == 0 then Declare else Engage
 
--- a query with this number is news to the process, so it engages
+-- the number of a query is above the process's latest, so the query engages it
 abbrev pub engages : Proc → ℕ → Bool
 engages p number = nat_lt p.latest number
 
--- a process after a query has engaged it: it belongs to the computation, and waits for this many replies
+-- a process after a query has engaged it: it takes the query's number, and waits for this many replies
 abbrev pub proc_engaged : ℕ → ℕ → ℕ → Proc
 proc_engaged number from size = record {
   latest = number;
@@ -34,19 +34,19 @@ proc_engaged number from size = record {
   wait = true;
 }
 
--- what a process does when a query engages it: with nobody to ask it replies at once
+-- what a process does when a query engages it: without dependents it replies at once
 abbrev pub engage_action : ℕ → ℕ → Action
 engage_action from size = if size == 0 then ReplyTo from else Engage
 
--- a process after a query with this number has come from that process; size is how many dependents it has
+-- a process with `size` dependents, after a query with this number from that process
 abbrev pub proc_queried : Proc → ℕ → ℕ → ℕ → Proc
 proc_queried p number from size = if engages p number then proc_engaged number from size else p
 
--- a query that doesn't engage a process is answered where it is of the computation in which it waits
+-- what a process does at a query that doesn't engage it: it replies if it waits in the query's computation
 abbrev pub repeat_action : Proc → ℕ → ℕ → Action
 repeat_action p number from = if p.wait && p.latest == number then ReplyTo from else Nothing
 
--- what a process does that is asked by a query of this number, where its dependent set has that size
+-- what a process with `size` dependents does at a query with this number from that process
 abbrev pub query_action : Proc → ℕ → ℕ → ℕ → Action
 query_action p number from size =
     if engages p number then engage_action from size else repeat_action p number from
@@ -55,16 +55,16 @@ query_action p number from size =
 abbrev pub counts_reply : Proc → ℕ → Bool
 counts_reply p number = p.wait && (p.latest == number && nat_lt 0 p.num)
 
--- a process after a reply with this number: where it counts, there is one fewer to wait for
+-- a process after a reply with this number: if it counts, there is one fewer to wait for
 abbrev pub proc_replied : Proc → ℕ → Proc
 proc_replied p number = if counts_reply p number then record p { num = p.num - 1 } else p
 
--- what a process does once the last reply has come: the initiator alone has no engager
+-- what a process does once the last reply has come: it replies to its engager, which the initiator alone doesn't have
 abbrev pub last_action : Option ℕ → Action
 last_action None = Declare
 last_action (Some engager) = ReplyTo engager
 
--- what a process does that gets a reply of this number
+-- what a process does at a reply with this number
 abbrev pub reply_action : Proc → ℕ → Action
 reply_action p number =
     if counts_reply p number

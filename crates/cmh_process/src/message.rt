@@ -7,8 +7,7 @@ pub enum Kind {
     Reply,
 }
 
-/// The paper's query(i, m, j, k) or reply(i, m, k, j): processes are named by their indices in
-/// the wait graph.
+/// The paper's query(i, m, j, k) or reply(i, m, k, j): processes are named by their indices in the wait graph.
 #[derive(Clone, Copy, PartialEq, Eq, Hash, Debug)]
 pub struct Message {
     pub kind: Kind,

@@ -9,7 +9,7 @@ pub struct Proc {
     /// The greatest number of a computation that it has taken part in, 0 at first.
     pub latest: u32,
 
-    /// Whose query engaged it in that computation. The initiator has none.
+    /// The process that engaged it in that computation by a query. The initiator has none.
     pub engager: Option<u32>,
 
     /// How many replies of that computation it still waits for.
@@ -27,12 +27,12 @@ pub enum Action {
     Engage,
     /// One reply to this process.
     ReplyTo(u32),
-    /// Nothing: it is the initiator, and knows itself to be deadlocked.
+    /// Nothing: it is the initiator, and is found to be deadlocked.
     Declare,
 }
 
 impl Proc {
-    /// A process that has heard of no computation.
+    /// A process that has taken part in no computation.
     pub fn new() -> Proc
         ensures { result ≡ new_proc }
     {
@@ -44,8 +44,8 @@ impl Proc {
         }
     }
 
-    /// Starts the next computation at an idle initiator with that many dependents, by the paper's
-    /// rule for initiating a query computation.
+    /// Starts the next computation at an idle initiator with `size` dependents, by the paper's rule for initiating a
+    /// query computation.
     pub fn start(&mut self, size: u32) -> Action
         requires { self.old.latest + 1 < 2 ^ 32 }
         ensures proc { self.new ≡ proc_started self.old size }
@@ -71,8 +71,8 @@ impl Proc {
         self.latest < number
     }
 
-    /// Takes a query of computation `number` at an idle process with `size` dependents, by the
-    /// paper's rule for a query that an idle process receives.
+    /// Takes a query of computation `number` at an idle process with `size` dependents, by the paper's rule for a query
+    /// that an idle process receives.
     pub fn on_query(&mut self, number: u32, from: u32, size: u32) -> Action
         ensures proc { self.new ≡ proc_queried self.old number from size }
         ensures action { result ≡ query_action self.old number from size }
@@ -84,8 +84,7 @@ impl Proc {
         }
     }
 
-    /// What it sends at a query of computation `number` that doesn't engage it, which leaves it as it
-    /// is.
+    /// What it sends at a query of computation `number` that doesn't engage it. Such a query changes nothing.
     pub fn answer(&self, number: u32, from: u32) -> Action
         ensures { result ≡ repeat_action self.now number from }
     {
@@ -113,8 +112,8 @@ impl Proc {
         }
     }
 
-    /// Takes a reply of computation `number` at an idle process, by the paper's rule for a reply
-    /// that an idle process receives.
+    /// Takes a reply of computation `number` at an idle process, by the paper's rule for a reply that an idle process
+    /// receives.
     pub fn on_reply(&mut self, number: u32) -> Action
         ensures proc { self.new ≡ proc_replied self.old number }
         ensures action { result ≡ reply_action self.old number }

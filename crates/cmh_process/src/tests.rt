@@ -5,8 +5,8 @@ use crate::{Action, Proc};
 use std::fmt::Debug;
 use std::process::Abort;
 
-/// Fails the test where what was found is not what was wanted. As a call it is one step of a test's proof; written
-/// out, a comparison is several, and proofs of tests grow faster than their steps.
+/// Fails the test where what was found is not what was wanted. As a call it is one step of a test's proof; written out,
+/// a comparison is several, and proofs of tests grow faster than their steps.
 fn expect_eq<R: Abort, T: PartialEq + Debug + Drop>(rt: &R, found: T, wanted: T) {
     assert_eq!(*rt; found, wanted);
 }
@@ -26,7 +26,7 @@ fn starts(rt: HostRuntime) {
         (0, 2, Action::Engage),
         (0, 0, Action::Declare),
         (1, 2, Action::Engage),
-        // The greatest number that a computation may have is started from the one before it.
+        // A computation may have the greatest number, and is started from the one before it.
         (u32::MAX - 1, u32::MAX, Action::Engage),
     ];
     for (latest, size, action) in table {
