@@ -69,7 +69,7 @@ adds_all key s b id v at whole h = let few = b.lock.shares in
     (λ i u e. (b.lock.each i u.lock (at_map lock_of s.views i u e), (b.each i u e).gone)) at (omega arith))
     ∙ b.owners h
 
--- where a seat that is away has the whole share, nobody holds the lock
+-- where a seat that is away has the whole share, no seat holds the lock
 nobody_holds : (key : Graph) (s : Moment) (b : WordsRule key s) (id : ℕ) (v : View) → get_elem? s.views id ≡ some v
     → v.lock.state ≡ Away → v.lock.share ≡ MAX_SEATS
     → total writes (map state_of (map lock_of s.views)) + total reads (map state_of (map lock_of s.views)) +

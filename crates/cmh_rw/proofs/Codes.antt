@@ -1,4 +1,4 @@
--- Rows and verdicts can be told from their words.
+-- Rows and verdicts are read back from their words.
 use Rattle.cmh_rw.specs.declared.row.Row.{Row}
 use Rattle.std.proofs.Common.{◌≡◌, ◌≢◌, ℕ, zero, suc, ◌+◌, ◌-◌, ◌*◌, ◌/◌, ◌%◌, ◌≤◌, Bool, true, false, cond, eqb, Some, List, [], ◌∷◌, ◌++◌, length, get_or, refl, ap, ◌∙◌, arith}
 use Rattle.cmh_graph.specs.declared.verdict.Verdict.{Verdict}
@@ -7,7 +7,7 @@ use Rattle.cmh_rw.specs.declared.TheConstants.{FIRST_VERDICT}
 use Rattle.cmh_rw.specs.History.{bit, free_bit, verdict_code, row_of, row_code}
 use Rattle.cmh_rw.specs.View.{mark}
 
--- the three parts of a row's word can be told from it
+-- the three parts of a row's word are read back from it
 parts : (p a b : ℕ) → a ≤ 1 → b ≤ 1
     → ((4 * p + 2 * a + b) / 4 ≡ p) × ((4 * p + 2 * a + b) / 2 % 2 ≡ a) × ((4 * p + 2 * a + b) % 2 ≡ b)
 parts p a b ha hb = (omega arith, omega arith, omega arith)
@@ -22,17 +22,17 @@ pub free_bit-small : (v : Verdict) → free_bit v ≤ 1
 free_bit-small Deadlocked = omega arith
 free_bit-small Free = omega arith
 
--- a bit can be told from its number
+-- a bit is read back from its number
 eqb-bit : (b : Bool) → eqb (bit b) 1 ≡ b
 eqb-bit true = refl
 eqb-bit false = refl
 
--- a verdict can be told from its number
+-- a verdict is read back from its number
 free-verdict : (v : Verdict) → cond (eqb (free_bit v) 1) Free Deadlocked ≡ v
 free-verdict Deadlocked = refl
 free-verdict Free = refl
 
--- a row can be told from its word
+-- a row is read back from its word
 pub row_code_law : (r : Row) → row_of (row_code r) ≡ r
 row_code_law r =
     let e = parts r.process (bit r.last) (free_bit r.verdict) (bit-small r.last) (free_bit-small r.verdict) in
@@ -42,12 +42,12 @@ row_code_law r =
       last = (ap (λ n. eqb n 1) e.1 ∙ eqb-bit r.last) k;
     }
 
--- a verdict can be told from its word
+-- a verdict is read back from its word
 verdict_of-code : (v : Verdict) → cond (eqb (verdict_code (Some v)) 2) Free Deadlocked ≡ v
 verdict_of-code Deadlocked = refl
 verdict_of-code Free = refl
 
--- the process and the verdict can be told from the store of a verdict
+-- the process and the verdict are read back from the store of a verdict
 pub mark_of : (p : ℕ) (v : Verdict)
     → mark (FIRST_VERDICT + p - FIRST_VERDICT) (cond (eqb (verdict_code (Some v)) 2) Free Deadlocked) ≡ mark p v
 mark_of p v = let e : FIRST_VERDICT + p - FIRST_VERDICT ≡ p = omega arith in λ k. mark (e k) (verdict_of-code v k)

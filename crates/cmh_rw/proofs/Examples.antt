@@ -1,5 +1,5 @@
--- Worked rows, histories and events, computed from the definitions. A dump is written short here:
--- `p@a: q r` is idle p on site a with dependents q and r, and `r@a!` is active.
+-- Worked rows, histories and events, computed from the definitions. A dump is written short here: `p@a: q r` is idle p
+-- on site a with dependents q and r, and `r@a!` is active.
 use Rattle.std.proofs.Common.{◌≡◌, ℕ, true, false, Some, None, List, [], ◌∷◌, map, refl, arith}
 use Rattle.std.specs.Prelude.{codes}
 use Rattle.cmh_graph.specs.declared.part.State.TheVariants.{Idle}
@@ -22,14 +22,14 @@ use Rattle.cmh_rw.specs.View.{row, opening_view, view_after_compare, view_after_
 places : FIRST_ROW ∷ FIRST_VERDICT ∷ BOARD_WORDS ∷ [] ≡ 2 ∷ 4098 ∷ 8194 ∷ []
 places = refl
 
--- process 0 deadlocked, not last; 1 deadlocked, last; 2 deadlocked, last; 0 free, alone; 511 free,
--- alone; 4095 free, alone
+-- process 0 deadlocked, not last; 1 deadlocked, last; 2 deadlocked, last; 0 free, alone; 511 free, alone; 4095 free,
+-- alone
 row_codes : map row_code
     (row 0 Deadlocked false ∷ row 1 Deadlocked true ∷ row 2 Deadlocked true ∷ row 0 Free true ∷ row 511 Free true
     ∷ row 4095 Free true ∷ []) ≡ 0 ∷ 6 ∷ 10 ∷ 3 ∷ 2047 ∷ 16383 ∷ []
 row_codes = refl
 
--- the rows can be told from their words
+-- rows are read back from their words
 rows_of_codes : map row_of (0 ∷ 6 ∷ 16383 ∷ [])
     ≡ row 0 Deadlocked false ∷ row 1 Deadlocked true ∷ row 4095 Free true ∷ []
 rows_of_codes = refl
@@ -92,7 +92,7 @@ repeated_row h = let e = h.2 in cc
 says_of_q : fold_at (rows_in postings) 1 ≡ Some Deadlocked
 says_of_q = refl
 
--- nothing is said of a process without a row
+-- the rows say nothing of a process without a row
 says_of_nobody : fold_at (rows_in postings) 3 ≡ None
 says_of_nobody = refl
 
@@ -112,8 +112,7 @@ longer_of_two :
     ≡ row 0 Deadlocked true ∷ row 1 Free true ∷ []
 longer_of_two = refl
 
--- ---- events on a lock with two seats: a writer has to wait for a reader, and the reader, who comes
--- the seat retreats from the writer again
+-- ---- events on a lock with two seats: a writer waits for a reader, which comes again and retreats from the writer
 
 -- seat 0 comes, seat 1 tries to write, seat 0 leaves, seat 1 tries again, and seat 0 comes again
 abbrev lock_events : List Event

@@ -122,7 +122,7 @@ cond-says : (b : Bool) (v w : Verdict) (n : Option Verdict) → cond b (Some v) 
 cond-says true v w n e = inl refl
 cond-says false v w n e = inr e
 
--- who has a true row is idle
+-- a process with a true row is idle
 pub true-idle : (g : Graph) (xs : List Row) (p : ℕ) (v : Verdict) → IsTrueOf g xs → fold_at xs p ≡ Some v
     → is_idle g p ≡ true
 true-idle g [] p v h e = absurd (some_none v (sym e))
@@ -165,7 +165,8 @@ true-few g xs h =
     (length-le_from_distinct_below (map (λ (r : Row). r.process) xs) (process_count g) (true-distinct g xs h)
     (true-within g xs h))
 
--- what is told and what is staged is the same, where each told verdict is that of its row and each row's is told
+-- where each stored verdict is that of its row, and the verdict of each row is stored, stored verdicts and rows say the
+-- same
 pub told-all : (staged told : List Row) → ((p : ℕ) → (fold_at told p ≡ None) ⊎ (fold_at told p ≡ fold_at staged p))
     → AreTold staged told → (p : ℕ) → fold_at told p ≡ fold_at staged p
 told-all staged told each all p = ⊎_elim (λ none. by_staged (fold_at staged p) refl none) (λ same. same) (each p)
@@ -174,7 +175,7 @@ told-all staged told each all p = ⊎_elim (λ none. by_staged (fold_at staged p
     by_staged None e none = none ∙ sym e
     by_staged (Some v) e none = all p v e ∙ sym e
 
--- once the verdict of a staged row is told, what is told says it of the row's process
+-- once the verdict of a staged row is stored, the stored verdicts say it of the row's process
 pub told-now : (told staged : List Row) (r : Row) → fold_at staged r.process ≡ Some r.verdict
     → (fold_at told r.process ≡ None) ⊎ (fold_at told r.process ≡ fold_at staged r.process)
     → fold_at (told ++ r ∷ []) r.process ≡ Some r.verdict

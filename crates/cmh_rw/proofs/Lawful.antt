@@ -182,7 +182,7 @@ new-lawful n le =
 pub few_enough : (n : ℕ) → ¬ IsBadCount n → n ≤ 64
 few_enough n good = elim (cases_lt 64 n) as (λ d. n ≤ 64) [ inl more ↦ absurd (good (inr more)) | inr few ↦ few ]
 
--- one more event goes on from where the events before it led
+-- one more event continues from where the events before it led
 pub run-snoc : (w : World) (es : List Event) (e : Event) → run_from w (es ++ e ∷ []) ≡ step_of (run_from w es) e
 run-snoc w [] e = refl
 run-snoc w (x ∷ xs) e = run-snoc (step_of w x) xs e

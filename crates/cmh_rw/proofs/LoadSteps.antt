@@ -1,4 +1,4 @@
--- A load in a hold keeps the rule, and tells the history.
+-- A load in a hold keeps the rule, and shows the history.
 use Rattle.std.proofs.Common.{◌≡◌, ◌≢◌, ℕ, ◌+◌, ◌<◌, ◌≤◌, true, ◌++◌, map, length, get_or, set, sym, refl, ap, ◌∙◌, subst, arith, inr}
 use Rattle.std.proofs.lemmas.List.{set-get_or, get_or_append_left, length-map}
 use mathlib.Core.List.{map-append}
@@ -36,7 +36,7 @@ history-row key s b n lt = let rows = rows_in b.postings in let few = history-fe
 reading_writing : Reading ≢ Writing
 reading_writing e = cc
 
--- a load in a hold tells the history
+-- a load in a hold shows the history
 pub loads : (key : Graph) (slots id word : ℕ) (me : TableSeat) → IsHeld me.0.lock.state
     → Allows (WordsRule key) slots id me word (λ n. n) (λ found m. AfterLoad me.0 word found m.0 × (m.1 ≡ me.1))
 loads key slots id word me held s b _ at _ =

@@ -22,7 +22,7 @@ use Rattle.cmh_rw.proofs.Lawful.{total-set, total-in, total-snoc, lawful-set, tu
 abbrev LockSeat : Type 0
 LockSeat = Me (Unit {0}) LockView
 
--- who reads or retreats has a share
+-- a seat that reads or retreats has a share
 holds_one : (key : Graph) (v : LockView) → HasLockShare key v → reads v.state + retreats v.state ≤ v.share
 holds_one key v h = let P : SeatState → Type 0 = λ s. HasShare key v.graph v.share s → reads s + retreats s ≤ v.share in
     elim v.state as P [
@@ -105,7 +105,7 @@ has_same key v b h here there = let Q : Type 0 = (0 < v.share) × (v.graph ≡ k
       | Spent ↦ λ n. absurd (n refl)
     ] there
 
--- a seat whose state is one that isn't spent isn't spent
+-- a state that equals one that isn't spent isn't spent
 not_spent : (a b : SeatState) → a ≡ b → b ≢ Spent → a ≢ Spent
 not_spent a b is n e = n (sym is ∙ e)
 
@@ -145,7 +145,7 @@ leave_turn word Reading is = refl
 leave_turn word Writing is = absurd (omega arith)
 leave_turn word Spent is = absurd (omega arith)
 
--- who reads or retreats isn't spent
+-- a seat that reads or retreats isn't spent
 in-not_spent : (a : SeatState) → reads a + retreats a ≡ 1 → a ≢ Spent
 in-not_spent a is e = let z : reads a + retreats a ≡ 0 = ap (λ b. reads b + retreats b) e in absurd (omega arith)
 
@@ -231,7 +231,7 @@ quiet word l i a b at away light h =
     let k = h.one_writer in
     lawful-set word word l i a b at h (omega arith) (omega arith) (λ p q. let z = h.alone (omega arith) in omega arith)
 
--- who is away has a share
+-- a seat that is away has a share
 has_share : (key : Graph) (v : LockView) → HasLockShare key v → v.state ≡ Away → (0 < v.share) × (v.graph ≡ key)
 has_share key v h away = subst (λ s. HasShare key v.graph v.share s) away h
 

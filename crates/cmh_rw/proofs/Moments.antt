@@ -40,7 +40,7 @@ pub state_at : (views : List View) (id : ℕ) (v : View) → get_elem? views id 
     → get_elem? (map state_of (map lock_of views)) id ≡ some v.lock.state
 state_at views id v at = at_map state_of (map lock_of views) id v.lock (at_map lock_of views id v at)
 
--- who holds the lock names the graph of the table
+-- a seat that holds the lock names the graph of the table
 pub held_graph : (key : Graph) (l : LockView) → HasLockShare key l → IsHeld l.state → l.graph ≡ key
 held_graph key l h held = let P : SeatState → Type 0 = λ s. HasShare key l.graph l.share s → IsHeld s → l.graph ≡ key in
     elim l.state as P [
@@ -51,7 +51,7 @@ held_graph key l h held = let P : SeatState → Type 0 = λ s. HasShare key l.gr
       | Spent ↦ λ h e. absurd (omega arith)
     ] h held
 
--- who is away names the graph of the table
+-- a seat that is away names the graph of the table
 pub away_graph : (key : Graph) (l : LockView) → HasLockShare key l → l.state ≡ Away → l.graph ≡ key
 away_graph key l h is =
     let k : HasShare key l.graph l.share Away = subst (λ s. HasShare key l.graph l.share s) is h in k.1
@@ -63,7 +63,7 @@ same_views views id v w at same =
     map-set lock_of views id w ∙ ap (set (map lock_of views) id) same
     ∙ set_again (map lock_of views) id v.lock (at_map lock_of views id v at)
 
--- where nobody writes once a seat that didn't write has changed, nobody wrote before
+-- where no seat writes once a seat that didn't write has changed, none wrote before
 pub idle_still : (l : List SeatState) (id : ℕ) (a b : SeatState) → get_elem? l id ≡ some a → writes a ≡ 0
     → total writes (set l id b) ≡ 0 → total writes l ≡ 0
 idle_still l id a b at none_in z = let t = total-set writes l id a b at in omega arith
@@ -100,7 +100,7 @@ beside_writer key s b id i v u at writing at' apart =
     none_beside (get_or s.words 0 0) (map state_of (map lock_of s.views)) id i v.lock.state u.lock.state b.lock.lock
     (state_at s.views id v at) writing (state_at s.views i u at') apart
 
--- where a seat's view changes and its lock doesn't, and it writes, somebody writes
+-- where a seat's view changes and its lock doesn't, and it writes, some seat writes
 pub some_writer : (key : Graph) (s : Moment) (id : ℕ) (v w : View) → get_elem? s.views id ≡ some v → w.lock ≡ v.lock
     → v.lock.state ≡ Writing → total writes (map state_of (map lock_of (set s.views id w))) ≡ 0 → ⊥
 some_writer key s id v w at same writing z =
@@ -108,7 +108,7 @@ some_writer key s id v w at same writing z =
     let t = total-in writes (map state_of (map lock_of s.views)) id v.lock.state (state_at s.views id v at) in
     let y = ap (λ l. total writes (map state_of l)) (sym (same_views s.views id v w at same)) ∙ z in omega arith
 
--- a store past word 0 by a seat whose lock stays leaves the lock's part of the rule
+-- a store past word 0 leaves the lock's part of the rule, where the seat knows the same of the lock
 pub lock_beside : (key : Graph) (s : Moment) (b : WordsRule key s) (id : ℕ) (v w : View) (i n : ℕ)
     → get_elem? s.views id ≡ some v → w.lock ≡ v.lock → 0 < i
     → LockRule key record { words = set s.words i n; homes = s.homes; views = map lock_of (set s.views id w) }

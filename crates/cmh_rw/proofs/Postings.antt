@@ -27,11 +27,11 @@ seen-prefix seen postings h = (
       ∙ ap (λ l. l ++ rows_in h.1) (sym h.3),
 )
 
--- who has seen the whole history has seen a prefix of its postings
+-- a seat that has seen the whole history has seen a prefix of its postings
 pub all-seen : (postings : List (List Row)) → IsSeen (rows_in postings) postings
 all-seen postings = (postings, [], sym (append-nil postings), refl)
 
--- who has seen nothing has seen a prefix of the postings
+-- a seat that has seen nothing has seen a prefix of the postings
 pub none-seen : (postings : List (List Row)) → IsSeen [] postings
 none-seen postings = ([], postings, refl, refl)
 

@@ -25,7 +25,7 @@ use Rattle.cmh_rw.proofs.LoadSteps.{history-true}
 use Rattle.cmh_rw.proofs.Moments.{TableSeat, away_writing, away_spent, not_held, idle_still, state_at, away_graph, reviewed}
 use Rattle.cmh_rw.proofs.Postings.{none-seen, seen-prefix, seen_compare}
 
--- a view that doesn't write, and has loaded, staged, told and added nothing, is as the rule asks
+-- a view that doesn't write, and has loaded, stored and added nothing, is as the rule asks
 blank : (postings : List (List Row)) (staged told : List Row) (v : View) → v.lock.state ≢ Writing → v.staged ≡ []
     → v.told ≡ [] → v.mine ≡ [] → v.loaded ≡ false → v.other ≡ [] → IsSeen v.seen postings
     → SeatRule postings staged told v

@@ -24,7 +24,7 @@ use Rattle.cmh_rw.proofs.Lawful.{total-set}
 use Rattle.cmh_rw.proofs.Moments.{TableSeat, held_graph, writes-Writing, beside_writer, some_writer, lock_beside}
 use Rattle.cmh_rw.proofs.Postings.{part-snoc}
 
--- beside a writer, a seat knows the same whatever is staged and told
+-- beside a writer, a seat knows the same whatever rows are staged and verdicts stored
 still : (postings : List (List Row)) (staged told more_staged more_told : List Row) (u : View)
     → (u.lock.state ≡ Writing → ⊥) → SeatRule postings staged told u → SeatRule postings more_staged more_told u
 still postings staged told more_staged more_told u not k =

@@ -29,7 +29,7 @@ row_of code = record {
   last = code / 2 % 2 == 1;
 }
 
--- the word that a verdict, or that there is none, is stored as
+-- the word that a verdict, or none, is stored as
 abbrev pub verdict_code : Option Verdict → ℕ
 verdict_code None = 0
 verdict_code (Some Deadlocked) = 1
@@ -88,6 +88,6 @@ abbrev pub IsSeen : List Row → List (List Row) → Type 0
 IsSeen seen postings = (before : List (List Row)) × (after : List (List Row))
     × (postings ≡ before ++ after) × (seen ≡ rows_in before)
 
--- each verdict of the staged rows is told
+-- the verdict of each staged row is stored
 abbrev pub AreTold : List Row → List Row → Type 0
 AreTold staged told = (p : ℕ) (v : Verdict) → fold_at staged p ≡ Some v → fold_at told p ≡ Some v

@@ -22,7 +22,7 @@ abbrev pub total : {A : Type 0} → (A → ℕ) → List A → ℕ
 total f [] = 0
 total f (x ∷ xs) = f x + total f xs
 
--- seat i of those whose views these are has this view
+-- of the seats with these views, seat i has this one
 abbrev pub IsSeat : {V : Type 0} → List V → ℕ → V → Type 0
 IsSeat views i view = get_elem? views i ≡ some view
 
@@ -41,8 +41,8 @@ abbrev pub retreats : SeatState → ℕ
 retreats Retreating = 1
 retreats _ = 0
 
--- The word counts the writers, the readers and the retreaters; there is at most one writer, and
--- no reader beside a writer.
+-- The word counts the writers, the readers and the retreaters; there is at most one writer, and no reader beside a
+-- writer.
 pub record IsLawful (w : World) : Type 0 where
   pub word : w.word ≡ WRITER * total writes w.seats + total reads w.seats + total retreats w.seats
   pub one_writer : total writes w.seats ≤ 1
@@ -53,11 +53,11 @@ pub record IsLock (w : World) : Type 0 where
   pub lawful : IsLawful w
   pub few : length w.seats ≤ MAX_SEATS
 
--- no number of seats for a lock
+-- a lock can't have this number of seats
 abbrev pub IsBadCount : ℕ → Type 0
 IsBadCount seats = (seats ≡ 0) ⊎ (MAX_SEATS < seats)
 
--- the word and the seat's state after an event of this seat
+-- the word and the state of a seat after an event of this seat
 abbrev pub turn : Event → ℕ → SeatState → ℕ × SeatState
 turn (Admit n) word Away = (word + 1, if nat_lt word WRITER then Reading else Retreating)
 turn (Leave n) word Reading = (word - 1, Away)
@@ -66,24 +66,24 @@ turn (TryWrite n) word Away = if word == 0 then (WRITER, Writing) else (word, Aw
 turn (EndWrite n) word Writing = (word - WRITER, Away)
 turn e word state = (word, state)
 
--- the seat whose event it is
+-- the seat of the event
 abbrev pub seat_of : Event → ℕ
 seat_of (Admit n) = n
 seat_of (Leave n) = n
 seat_of (TryWrite n) = n
 seat_of (EndWrite n) = n
 
--- One event. No seat is as a spent one: nothing changes.
+-- a world after one event; an event on no seat changes nothing, as on a spent one
 abbrev pub step_of : World → Event → World
 step_of w e =
     let after = turn e w.word (slice_index_or w.seats (seat_of e) Spent) in
     world after.0 (slice_set w.seats (seat_of e) after.1)
 
--- the events, one after the other
+-- a world after these events, one after the other
 abbrev pub run_from : World → List Event → World
 run_from w [] = w
 run_from w (e ∷ es) = run_from (step_of w e) es
 
--- a world with so many seats, all away
+-- a world with this number of seats, all away
 abbrev pub new_world : ℕ → World
 new_world seats = world 0 (replicate seats Away)

@@ -46,28 +46,28 @@ HasShare key graph share _ = (0 < share) × (graph ≡ key)
 abbrev pub HasLockShare : Graph → LockView → Type 0
 HasLockShare key l = HasShare key l.graph l.share l.state
 
--- The lock's part of the rule: word 0 is the lock word of all views, which are lawful; each unspent
--- view has a share, and all shares add up to no more than the whole.
+-- The lock's part of the rule. Word 0 is the lock word of all views, which are lawful. Each unspent view has a share,
+-- and all shares add up to no more than the whole.
 pub record LockRule (key : Graph) (s : LockMoment) : Type 0 where
   pub wide : length s.words ≡ BOARD_WORDS
   pub lock : IsLawful (world (slice_index s.words 0) (map state_of s.views))
   pub shares : total share_of s.views ≤ MAX_SEATS
   pub each : (i : ℕ) (l : LockView) → IsSeat s.views i l → HasLockShare key l
 
--- What one seat knows, where these are the postings of the history, and these the rows and the
--- verdicts that the writer has stored since.
+-- What one seat knows, where these are the postings of the history, and these the rows and the verdicts that the writer
+-- has stored since.
 pub record SeatRule (postings : List (List Row)) (staged told : List Row) (v : View) : Type 0 where
-  -- only a writer has staged rows
+  -- only a writer has staged rows or stored verdicts
   pub writing : v.lock.state ≡ Writing → (v.staged ≡ staged) × (v.told ≡ told)
   pub bare : v.lock.state ≢ Writing → (v.staged ≡ []) × (v.told ≡ [])
-  -- who has staged rows has loaded the history before
+  -- a seat with staged rows has loaded a word in this hold
   pub ready : (v.staged ≡ []) ⊎ (v.loaded ≡ true)
   -- what a seat has seen is a prefix of whole postings
   pub seen : IsSeen v.seen postings
   pub other : IsSeen v.other postings
-  -- from the first load of a hold on a seat has seen the whole history
+  -- from the first load of a hold on, a seat has seen the whole history
   pub fresh : v.loaded ≡ true → IsHeld v.lock.state × (v.seen ≡ rows_in postings)
-  -- a spent view holds nothing
+  -- a spent view has no postings
   pub gone : v.lock.state ≡ Spent → v.mine ≡ []
 
 -- The whole rule. The history is the postings laid end to end.
@@ -77,12 +77,12 @@ pub record WordsRule (key : Graph) (s : Moment) : Type 0 where
   pub told : List Row
   pub small : process_count key ≤ MAX_PROCESSES
   pub lock : LockRule key (lock_moment s)
-  -- a word counts the rows of the history
+  -- one word counts the rows of the history
   pub count : slice_index s.words ROW_COUNT ≡ length (rows_in postings)
   -- the row words are the history, then the staged rows, then 0
   pub rows : (n : ℕ) → n < MAX_PROCESSES →
       slice_index s.words (FIRST_ROW + n) ≡ slice_index (map row_code (rows_in postings ++ staged)) n
-  -- a verdict word is what the history says of its process, or the writer has told
+  -- a verdict word is what the history says of its process, or the writer's stored verdicts
   pub verdicts : (p : ℕ) → p < MAX_PROCESSES →
       slice_index s.words (FIRST_VERDICT + p) ≡ verdict_code (fold_at (rows_in postings ++ told) p)
   pub whole : ArePostings postings
@@ -90,10 +90,11 @@ pub record WordsRule (key : Graph) (s : Moment) : Type 0 where
   pub true_of : IsTrueOf key (rows_in postings ++ staged)
   -- no staged row before the last one has `last`
   pub part : IsOpen staged ⊎ IsPosting staged
-  -- a verdict is told as its row says
+  -- a stored verdict is that of its row
   pub told_of : (p : ℕ) → (fold_at told p ≡ None) ⊎ (fold_at told p ≡ fold_at staged p)
-  -- without a writer nothing is staged
+  -- without a writer no row is staged, and no verdict stored
   pub idle : total writes (map state_of (map lock_of s.views)) ≡ 0 → (staged ≡ []) × (told ≡ [])
   pub each : (i : ℕ) (v : View) → IsSeat s.views i v → SeatRule postings staged told v
-  -- each posting stands in the `mine` of one view, and nothing else does, however postings weigh
+  -- each posting stands in the `mine` of exactly one view, and nothing else does: the sums are equal, whatever a
+  -- posting weighs
   pub owners : (h : List Row → ℕ) → total (λ v. total h v.mine) s.views ≡ total h postings

@@ -1,4 +1,4 @@
--- What clauses see of the words, of a seat, and of the words once they are closed.
+-- What contracts say of the words, of a seat, and of the words once they are closed.
 use Rattle.std.specs.Prelude.{◌≡◌, ℕ, ◌+◌, ◌<◌, ◌≤◌, List, map, length, slice_index}
 use Rattle.std.specs.Slots.{slots_items}
 use Rattle.cmh_graph.specs.declared.TheConstants.{MAX_PROCESSES}
@@ -25,7 +25,7 @@ IsSeatOf w s = s.seat.table_id ≡ w.table.shared.table_id
 abbrev pub IsRwSeatAway : RwSeat → Type 0
 IsRwSeatAway s = (rw_view s).lock.state ≡ Away
 
--- the graph whose verdicts the words hold
+-- the graph of the verdicts that the words hold
 abbrev pub words_graph : RwWords → Graph
 words_graph w = w.table.shared.key
 
@@ -33,8 +33,8 @@ words_graph w = w.table.shared.key
 abbrev pub words_of : Closed → List ℕ
 words_of c = slots_items c.inner.words
 
--- Nobody holds the lock and nothing is staged: past the history the row words are 0, and the
--- verdict words are what it says. The postings are the seat's own, however they weigh.
+-- No seat holds the lock, and nothing is staged. Past the history the row words are 0, and the verdict words are what
+-- it says. All postings are the seat's own: the sums are equal, whatever a posting weighs.
 pub record IsWhole (v : View) (postings : List (List Row)) (words : List ℕ) : Type 0 where
   pub free : slice_index words 0 ≡ 0
   pub rows : (n : ℕ) → n < MAX_PROCESSES →
@@ -43,8 +43,8 @@ pub record IsWhole (v : View) (postings : List (List Row)) (words : List ℕ) : 
       slice_index words (FIRST_VERDICT + p) ≡ verdict_code (fold_at (rows_in postings) p)
   pub mine : (h : List Row → ℕ) → total h v.mine ≡ total h postings
 
--- The history that the words show: how many rows, and which. It is true for the graph and begins
--- with what the seat had seen.
+-- The history that the words show: the number of its rows, and each row. It is true for the graph and begins with what
+-- the seat had seen.
 pub record ClosedHistory (key : Graph) (v : View) (words : List ℕ) : Type 0 where
   pub postings : List (List Row)
   pub whole : ArePostings postings

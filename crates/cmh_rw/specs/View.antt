@@ -30,17 +30,17 @@ opening_view g = record {
   loads = 0;
 }
 
--- the view of a seat whose try to get the lock found this word and left it in this state
+-- the view of a seat after a try to get the lock, which found this word and left the seat in this state
 abbrev pub view_after_try : View → SeatState → ℕ → View
 view_after_try v state found =
     record v { lock = record v.lock { state = state; tries = v.lock.tries + 1; found = found } }
 
--- the seat holds nothing any more, and what it loaded and told in the hold is over
+-- the seat holds nothing any more, and forgets what it loaded and which verdicts it stored in the hold
 abbrev pub view_after_end : View → View
 view_after_end v = record v { lock = record v.lock { state = Away }; loaded = false; told = [] }
 
--- What a load says. The seat sees the whole history: one that begins with all that it had seen, and
--- the same as at an earlier load of the hold.
+-- The view after a load. The seat sees the whole history: it begins with all that the seat had seen, and is the same as
+-- at an earlier load of the hold.
 pub record AfterLoad (v : View) (word found : ℕ) (w : View) : Type 0 where
   pub view : w ≡ record v { loaded = true; seen = w.seen; loads = v.loads + 1 }
   pub begins : StartsWith w.seen v.seen
@@ -56,8 +56,8 @@ pub record AfterLoad (v : View) (word found : ℕ) (w : View) : Type 0 where
   pub verdict : (p : ℕ) → word ≡ FIRST_VERDICT + p → p < MAX_PROCESSES →
       found ≡ verdict_code (fold_at (w.seen ++ v.told) p)
 
--- What a writer needs for its next row: no staged row has `last`, the process is idle and has no
--- row yet, and the verdict is its own.
+-- What a writer needs for its next row. No staged row has `last`, the process is idle and has no row yet, and the
+-- verdict is that of the process.
 pub record CanStage (v : View) (r : Row) : Type 0 where
   pub unended : IsOpen v.staged
   pub idle : IsTrue (is_idle v.lock.graph r.process)
@@ -97,11 +97,11 @@ lock_less_one l = record l { share = l.share - 1 }
 abbrev pub view_less_one : View → View
 view_less_one v = record v { lock = lock_less_one v.lock }
 
--- what a new seat knows of the lock, which was given one share
+-- what a new seat knows of the lock: it has got one share
 abbrev pub newcomer_lock : LockView → LockView
 newcomer_lock l = record { graph = l.graph; state = Away; share = 1; tries = 0; found = 0 }
 
--- a new seat that has seen the same
+-- the view of a new seat, which has seen what the given one has
 abbrev pub newcomer_view : View → View
 newcomer_view v = record (opening_view v.lock.graph) { lock = newcomer_lock v.lock; seen = v.seen }
 
@@ -117,7 +117,7 @@ view_before_compare v w = record v {
   mine = v.mine ++ w.mine;
 }
 
--- of two that have seen one history, the longer prefix is kept, and the first where they are as long
+-- of two prefixes of one history the longer is kept, and the first where they are equally long
 abbrev pub view_after_compare : View → View
 view_after_compare v = record v {
   seen = if nat_lt (length v.seen) (length v.other) then v.other else v.seen;

@@ -11,7 +11,7 @@ pub fn law_step_lawful()
     ensures { (w : World) (e : Event) → IsLawful w → IsLawful (step_of w e) }
 {}
 
-/// A row can be told from the word that it is stored as.
+/// A row can be read back from the word that it is stored as.
 pub fn law_row_code_injective()
     ensures { (r : Row) → row_of (row_code r) ≡ r }
 {}

@@ -1,9 +1,8 @@
 //! A reader and writer lock over atomic words, and under it a history of verdicts that only grows.
 //!
-//! Word 0 is the lock: `WRITER` while a seat writes, plus the number of seats that read or retreat.
-//! Word `ROW_COUNT` is how many rows the history has. The words from `FIRST_ROW` on are the rows, and those
-//! from `FIRST_VERDICT` on the verdicts by process. A thread steps on the words with a seat, whose
-//! view is what the thread knows.
+//! Word 0 is the lock: `WRITER` while a seat writes, plus the number of seats that read or retreat. Word `ROW_COUNT`
+//! has the number of rows in the history. The words from `FIRST_ROW` on are the rows, and those from `FIRST_VERDICT` on
+//! the verdicts by process. A thread steps on the words with a seat, and the view of the seat is what the thread knows.
 #![tactic(auto)]
 
 mod fault;
@@ -38,5 +37,5 @@ pub const FIRST_ROW: usize = 2;
 /// The word of the verdict on process 0.
 pub const FIRST_VERDICT: usize = FIRST_ROW + MAX_PROCESSES;
 
-/// How many words there are.
+/// The number of words.
 pub const BOARD_WORDS: usize = FIRST_VERDICT + MAX_PROCESSES;

@@ -12,7 +12,7 @@ use std::marker::Model;
 pub enum SeatState {
     /// It holds nothing.
     Away,
-    /// It tried to read, found a writer, and has still to take back its count.
+    /// It tried to read, found a writer, and still has to take back its count.
     Retreating,
     Reading,
     Writing,
@@ -137,7 +137,7 @@ pub fn run_events(alloc: Global, seats: u32, events: &[Event]) -> Result<LockWor
     Ok(world)
 }
 
-/// The word and the seat's state after an event of this seat.
+/// The word and the state of a seat after an event of this seat.
 fn turn(event: Event, word: u64, state: SeatState) -> (u64, SeatState)
     requires { word < WRITER + WRITER }
     ensures { result ≡ turn event word state }
@@ -165,7 +165,7 @@ fn turn(event: Event, word: u64, state: SeatState) -> (u64, SeatState)
     }
 }
 
-/// The seat whose event it is.
+/// The seat of the event.
 fn seat_number(event: Event) -> u32
     ensures { result ≡ seat_of event }
 {

@@ -1,6 +1,5 @@
-//! The rule of the words, and what each step on them tells. A try to write that got the lock, and a reader's load, say
-//! that nothing is staged, so that no caller has to keep track of it; the end of a hold forgets which verdicts were
-//! stored.
+//! The rule of the words, and what each step on them says. A try to write that got the lock, and a reader's load, say
+//! that nothing is staged, so no caller has to keep track of it. The end of a hold forgets which verdicts were stored.
 
 use crate::view::View;
 use atomic_table::{Join, Play, Split, TableRule};

@@ -6,11 +6,11 @@ use std::collections::LinkedList;
 
 /// What a seat knows of the lock. It is for contracts alone: no value of it is made.
 pub struct LockView {
-    /// The graph whose verdicts the words hold.
+    /// The graph of the verdicts that the words hold.
     pub graph: WaitGraph,
     pub state: SeatState,
     pub share: u32,
-    /// How often it tried to get the lock.
+    /// The number of its tries to get the lock.
     pub tries: u64,
     /// The word that the last try found.
     pub found: u64,
@@ -23,7 +23,7 @@ pub struct View {
     pub loaded: bool,
     /// The history, as far as the seat has seen it.
     pub seen: LinkedList<Row>,
-    /// What a seat that was just joined with this one had seen.
+    /// What another seat had seen that was just joined into this one.
     pub other: LinkedList<Row>,
     /// The rows that it has stored and not yet counted.
     pub staged: LinkedList<Row>,
@@ -31,6 +31,6 @@ pub struct View {
     pub told: LinkedList<Row>,
     /// The postings that it has added.
     pub mine: LinkedList<LinkedList<Row>>,
-    /// How many words it has loaded.
+    /// The number of words that it has loaded.
     pub loads: u64,
 }

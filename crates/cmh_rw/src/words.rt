@@ -1,5 +1,5 @@
 //! The words of the lock and of the history, their seats, and what a seat does with them. No call requires room for a
-//! row: rows name different idle processes of the graph, so they are no more than its processes.
+//! row: rows name different idle processes of the graph, so there are no more than processes.
 
 ghost use Rattle.std.specs.Prelude.{◌≡◌, ◌<◌, ◌≤◌, ◌++◌, [], ◌+◌};
 ghost use Rattle.std.specs.Slots.{slots_len, IsFull};
@@ -25,8 +25,7 @@ pub struct RwWords {
     pub ghost bare: { table.shared.table_id.slots ≡ 0 },
 }
 
-/// A seat of these words, with which one thread steps on them. A seat that is dropped in a hold
-/// keeps the hold for ever.
+/// A seat of these words, with which one thread steps on them. A seat that is dropped in a hold never ends the hold.
 #[derive(Drop)]
 pub struct RwSeat {
     pub(crate) seat: Seat<(), View>,
@@ -46,7 +45,7 @@ pub struct Closed {
     pub ghost bare: { slots_len inner.slots ≡ 0 },
 }
 
-/// Whether a try got the lock, and else the word that it found.
+/// Whether a try got the lock. If not, it has the word that was found.
 #[derive(Clone, Copy, PartialEq, Eq, Hash, Debug)]
 pub enum Entry {
     Held,
@@ -81,7 +80,7 @@ impl RwWords {
         Ok((RwWords { table }, seat))
     }
 
-    /// Gives one share to a new seat that has seen the same, where the seat keeps one.
+    /// Gives one share to a new seat that has seen the same, if the seat can keep one.
     pub fn split(&self, seat: &mut RwSeat) -> Option<RwSeat>
         requires own { IsSeatOf self.now seat.old }
         requires away { IsRwSeatAway seat.old }
@@ -102,8 +101,8 @@ impl RwWords {
         })
     }
 
-    /// The seat has the shares and the postings of both afterwards, and has seen what either had
-    /// seen.
+    /// Joins another seat into this one, which then has the shares and the postings of both, and has seen what either
+    /// had seen.
     pub fn join(&self, seat: &mut RwSeat, other: RwSeat)
         requires own { IsSeatOf self.now seat.old × IsSeatOf self.now other }
         requires away { IsRwSeatAway seat.old × IsRwSeatAway other }
@@ -123,8 +122,8 @@ impl RwWords {
         seat.share = share;
     }
 
-    /// One try to read. Where a writer holds the lock, the seat takes its count back by a second
-    /// exchange, and the answer has the word that the first one found.
+    /// One try to read. Where a writer holds the lock, the seat takes its count back by a second exchange, and the
+    /// answer has the word that the first one found.
     pub fn try_read(&self, seat: &mut RwSeat) -> Entry
         requires own { IsSeatOf self.now seat.old }
         requires away { IsRwSeatAway seat.old }
@@ -153,8 +152,7 @@ impl RwWords {
         self.table.shared.fetch_sub::<End>(&mut seat.seat, 0, 1);
     }
 
-    /// One try to write. Where anybody holds the lock or retreats from it, the answer has the word
-    /// that was found.
+    /// One try to write. Where another seat holds the lock or retreats from it, the answer has the word that was found.
     pub fn try_write(&self, seat: &mut RwSeat) -> Entry
         requires own { IsSeatOf self.now seat.old }
         requires away { IsRwSeatAway seat.old }
@@ -187,16 +185,16 @@ impl RwWords {
             .fetch_sub::<End>(&mut seat.seat, 0, WRITER);
     }
 
-    /// How many seats can still come of this one by splits, itself among them. A seat that has all
-    /// `MAX_SEATS` shares is the only one.
+    /// How many seats there can be of this one by splits, itself among them. A seat that has all `MAX_SEATS` shares is
+    /// the only one.
     pub fn share(&self, seat: &RwSeat) -> u32
         ensures { result ≡ (rw_view seat.now).lock.share }
     {
         seat.share()
     }
 
-    /// The words at the end, which are those of a moment that meets the rule, in which some seat has
-    /// this view. With the whole share no other seat is left, so that the lock is free.
+    /// The words at the end. They are those of a moment that meets the rule, in which some seat has this view. With the
+    /// whole share no other seat is left, so the lock is free.
     pub fn close_with(self, seat: RwSeat) -> Closed
         requires own { IsSeatOf self seat }
         requires away { IsRwSeatAway seat }
@@ -223,7 +221,7 @@ impl RwWords {
     ghost use Rattle.cmh_rw.specs.Seats.{rw_view, IsSeatOf};
     ghost use Rattle.cmh_graph.specs.declared.TheConstants.{MAX_PROCESSES};
 
-    /// The value of a word, in a hold. Nothing is said of the value of word 0.
+    /// The value of a word, in a hold. The contract says nothing of the value of word 0.
     pub fn load(&self, seat: &mut RwSeat, word: usize) -> u64
         requires own { IsSeatOf self.now seat.old }
         requires held { IsHeld (rw_view seat.old).lock.state }
@@ -269,7 +267,7 @@ impl RwWords {
             .store::<StoreVerdict>(&mut seat.seat, word, verdict_code(verdict));
     }
 
-    /// Stores how many rows the history has from now on: the staged rows become a posting of it.
+    /// Stores the number of rows that the history has from now on. The staged rows become a posting of it.
     pub fn store_count(&self, seat: &mut RwSeat, n: usize)
         requires own { IsSeatOf self.now seat.old }
         requires writing { (rw_view seat.old).lock.state ≡ Writing }

@@ -3,7 +3,7 @@
 use super::{expect, expect_eq};
 use crate::{Event, LockWorld, RwFault, SeatState, run_events};
 
-/// A writer has to wait for a reader. The reader, which comes again, retreats from the writer.
+/// A writer has to wait for a reader. Then the reader comes again, and retreats from the writer.
 const LOCK_EVENTS: [Event; 5] = [
     Event::Admit(0),
     Event::TryWrite(1),

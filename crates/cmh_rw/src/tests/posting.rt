@@ -11,7 +11,7 @@ ghost use Rattle.cmh_rw.specs.Seats.{rw_view, IsSeatOf, IsRwSeatAway};
 use crate::{Entry, FIRST_VERDICT, RwSeat, RwWords};
 use cmh_graph::{Verdict, WaitGraph};
 
-/// The verdict of process `p`, of those of all processes.
+/// The verdict of process `p`, by those of all processes.
 fn verdict_of(graph: &WaitGraph, all: &[Verdict], p: u32) -> Verdict
     requires all { all.now ≡ verdicts graph.now }
     requires within { p < process_count graph.now }
@@ -20,7 +20,7 @@ fn verdict_of(graph: &WaitGraph, all: &[Verdict], p: u32) -> Verdict
     all[p as usize]
 }
 
-/// Whether no row names the process, as a writer sees it that has staged nothing.
+/// Whether no row names the process. The seat is a writer that has staged nothing.
 fn is_new(words: &RwWords, seat: &mut RwSeat, p: u32) -> bool
     requires own { IsSeatOf words.now seat.old }
     requires writing { (rw_view seat.old).lock.state ≡ Writing }

@@ -74,8 +74,8 @@ fn calls_of_the_words(rt: HostRuntime) -> Result<(), Fail> {
     Ok(())
 }
 
-/// Splits `others` seats off this one. Each reads while the next are split off, and what is left of this
-/// one tries to write. Afterwards all are joined again.
+/// Splits `others` seats off this one. Each reads while the next are split off, and what is left of this one tries to
+/// write. Afterwards all are joined again.
 fn read_together<R: Abort>(rt: &R, words: &RwWords, seat: RwSeat, others: u32) -> RwSeat
     requires own { IsSeatOf words.now seat }
     requires away { IsRwSeatAway seat }
