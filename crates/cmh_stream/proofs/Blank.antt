@@ -1,4 +1,4 @@
--- A tape in memory: a struct with no bytes, which owns nothing. So one is had for nothing.
+-- A tape in memory: a struct with no bytes, which owns nothing, so it can be made from nothing.
 use seplogic.Ra.Ura.{Ura}
 use mir.Val.{Val, vstruct, vnil}
 use types.Logic.{Logic}

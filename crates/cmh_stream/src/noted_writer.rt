@@ -32,8 +32,7 @@ impl<W: Write> NotedWriter<W> {
         }
     }
 
-    /// One call of the writer. An error stays noted, and so does a call that takes nothing where
-    /// there is something.
+    /// One call of the writer. An error stays noted, and so does a call that takes nothing where there is something.
     pub(crate) fn write(&mut self, bytes: &[u8]) -> io::Result<usize>
         ensures within { IfOk result (λ n. n ≤ length bytes.now) }
         ensures known { WriteAppends

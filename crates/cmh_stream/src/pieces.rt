@@ -5,8 +5,8 @@ ghost use Rattle.std.specs.Prelude.{◌≡◌, ◌<◌, ◌++◌, ◌^◌, [], l
 use std::alloc::{AllocError, Global};
 use std::marker::Model;
 
-/// A text in pieces, which stands for the bytes of them all. Nothing is copied to put one piece behind
-/// the others, nor to put them into a sink.
+/// A text in pieces, which stands for the bytes of them all. Nothing is copied to put one piece behind the others, nor
+/// to put them into a sink.
 #[derive(Drop)]
 pub struct Pieces {
     list: Vec<String>,
@@ -81,8 +81,7 @@ impl Pieces {
         &self.list
     }
 
-    /// The text in one. A lone piece is the text; of several, each is given back once it stands in the
-    /// text.
+    /// The text in one piece. A lone piece is the text; of several, each is given back once it stands in the text.
     pub fn into_string(self, alloc: Global) -> Result<String, AllocError>
         ensures { IfOk result (λ text. string_bytes text ≡ self) }
     {

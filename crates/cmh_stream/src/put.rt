@@ -29,8 +29,8 @@ impl Error for WriteFault {}
 ///
 /// # Errors
 ///
-/// `WriteFault` where the sink fails. Its count is the whole length where all was taken and the
-/// sink failed to hand it on.
+/// `WriteFault` where the sink fails. Its count is the whole length where all was taken and the sink failed to hand it
+/// on.
 pub fn put_all<K: Sink>(sink: &mut K, bytes: &[u8]) -> Result<(), WriteFault>
     ensures written { OnOk result (
         (K.state sink.new).taken ≡ (K.state sink.old).taken ++ bytes.now) }
@@ -53,11 +53,11 @@ pub fn put_all<K: Sink>(sink: &mut K, bytes: &[u8]) -> Result<(), WriteFault>
     finish(sink, bytes.len())
 }
 
-/// As `put_all`, piece by piece: so a text that was made in pieces needn't be joined.
+/// Puts a text in pieces into the sink and finishes it, as `put_all` does. The pieces needn't be joined.
 ///
 /// # Errors
 ///
-/// `WriteFault` where the sink fails. Its count is of the bytes of all pieces, as that of `put_all`.
+/// `WriteFault` where the sink fails. It counts the bytes of all pieces, as that of `put_all` does.
 pub fn put_pieces<K: Sink>(sink: &mut K, text: &Pieces) -> Result<(), WriteFault>
     ensures written { OnOk result (
         (K.state sink.new).taken ≡ (K.state sink.old).taken ++ text.now) }
@@ -120,7 +120,7 @@ fn put_text<K: Sink>(sink: &mut K, bytes: &[u8]) -> Result<(), WriteFault>
     Ok(())
 }
 
-/// Finishes the sink, which was given so many bytes.
+/// Finishes the sink, which was given `written` bytes.
 fn finish<K: Sink>(sink: &mut K, written: usize) -> Result<(), WriteFault>
     ensures takes_nothing { (K.state sink.new).taken ≡ (K.state sink.old).taken }
     ensures known { Keeps (K.contents sink.old) (K.contents sink.new) }

@@ -8,8 +8,8 @@ use crate::Stopped;
 
 /// A device that takes bytes, or fails.
 ///
-/// A caller can tell from the answers alone which bytes it took, whether it is finished and whether
-/// it has failed: an implementor has no say in it.
+/// The answers alone say which bytes it took, whether it is finished and whether it has failed: an implementor has no
+/// say in it.
 pub trait Sink {
     // What it took so far, whether it is finished, and whether it has failed.
     ghost state: { Self → SinkState };
@@ -17,8 +17,7 @@ pub trait Sink {
     // The bytes that the device holds, where they are known.
     ghost contents: { Self → Option (List ℕ) } = { λ _. None };
 
-    /// Takes bytes from the front of the slice, at least one where there is one, and answers how
-    /// many.
+    /// Takes bytes from the front of the slice, at least one where there is one, and answers how many.
     ///
     /// # Errors
     ///
@@ -45,8 +44,8 @@ pub trait Sink {
     ///
     /// # Errors
     ///
-    /// `Stopped` where the device has an error, and at every call from then on. How many of the
-    /// bytes were handed on is then not known.
+    /// `Stopped` where the device has an error, and at every call from then on. How many of the bytes were handed on is
+    /// then not known.
     fn finish(&mut self) -> Result<(), Stopped>
         ensures takes_nothing { (state self.new).taken ≡ (state self.old).taken }
         ensures known { Keeps (contents self.old) (contents self.new) }

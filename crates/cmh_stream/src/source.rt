@@ -8,8 +8,8 @@ use crate::Stopped;
 
 /// A device that gives bytes up to its end, or until it fails.
 ///
-/// A caller can tell from the answers alone which bytes it gave, whether it has ended and whether
-/// it has failed: an implementor has no say in it.
+/// The answers alone say which bytes it gave, whether it has ended and whether it has failed: an implementor has no say
+/// in it.
 pub trait Source {
     // What it gave so far, whether it has ended, and whether it has failed.
     ghost state: { Self → SourceState };
@@ -17,8 +17,8 @@ pub trait Source {
     // The bytes that it gives from here on, where they are known.
     ghost remaining: { Self → Option (List ℕ) } = { λ _. None };
 
-    /// Gives bytes at the front of the buffer, and answers how many. None for a buffer that has
-    /// room means the end. What the rest of the buffer then holds is not said.
+    /// Gives bytes at the front of the buffer, and answers how many. None for a buffer that has room means the end. The
+    /// contract doesn't say what the rest of the buffer then holds.
     ///
     /// # Errors
     ///

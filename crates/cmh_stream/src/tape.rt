@@ -23,7 +23,7 @@ impl Tape {
         Tape {}
     }
 
-    /// The record after one call more. That these bytes went by is for the caller to see.
+    /// The record after one more call. The caller has to see that these bytes went by.
     pub(crate) fn append(&self, _bytes: &[u8]) -> Tape
         ensures { result.bytes ≡ self.now.bytes ++ _bytes.now }
     {

@@ -1,4 +1,4 @@
-//! Devices that work, that fail and that do their work in small pieces.
+//! Devices that work, that fail, and that work in small pieces.
 
 mod memory;
 mod reading;

@@ -35,8 +35,8 @@ impl<W: Write> Sink for WriteOf<W> {
 
     ghost contents = { λ s. W.contents s.writer.writer };
 
-    /// Each error of the writer is a failure, an interrupted call among them, and so is a call that
-    /// takes nothing where there is something.
+    /// Each error of the writer is a failure, an interrupted call among them, and so is a call that takes nothing where
+    /// there is something.
     fn put(&mut self, bytes: &[u8]) -> Result<usize, Stopped> {
         if self.writer.has_failed() {
             return Err(Stopped);

@@ -1,4 +1,4 @@
-//! A source and a sink of the user's own: bytes in memory that fail at a place.
+//! A source and a sink of the user's own: bytes in memory that fail at some place.
 
 ghost use Rattle.std.specs.Prelude.{◌≡◌, ◌≤◌, length, take, true};
 

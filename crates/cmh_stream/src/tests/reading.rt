@@ -7,11 +7,10 @@ use std::alloc::AllocError;
 use std::io;
 use std::io::{ErrorKind, Read};
 
-/// A size of a buffer that is filled by one call.
+/// The size of a buffer that one call fills.
 const SIXTY_FOUR_KILOBYTES: usize = 65_536;
 
-/// A reader that counts its calls. The second is interrupted or finds nothing, and all others fill the
-/// buffer.
+/// A reader that counts its calls. The second is interrupted or finds nothing, and all others fill the buffer.
 #[derive(Drop)]
 struct Counted {
     reads: usize,

@@ -9,11 +9,11 @@ use std::io::{ErrorKind, Write};
 
 const TEXT: &[u8] = b"eleven byte";
 
-/// A size of a text that is written by one call.
+/// The size of a text that one call writes.
 const TWO_MEGABYTES: usize = 2_097_152;
 
-/// A writer that counts its calls, and takes up to `most` bytes at a time and `room` bytes in all. Then
-/// it fails or takes nothing. It may fail to flush.
+/// A writer that counts its calls, and takes up to `most` bytes at a time and `room` bytes in all. Then it fails or
+/// takes nothing. It may fail to flush.
 #[derive(Drop)]
 struct Narrow {
     bytes: Vec<u8>,

@@ -1,4 +1,4 @@
--- A piece that isn't taken whole was taken up to so many bytes of it.
+-- Of a piece that isn't taken whole, no more bytes were taken than it has.
 use Rattle.std.proofs.Common.{rules, sym}
 use Rattle.std.specs.Prelude.{string_bytes}
 use Rattle.std.proofs.KnownBytes.{Appends-trans}

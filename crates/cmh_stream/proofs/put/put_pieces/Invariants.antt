@@ -1,5 +1,5 @@
--- The sink took the pieces so far, a sink that had failed before took nothing, and one that took
--- something isn't finished.
+-- The sink took the pieces so far, a sink that had failed before took nothing, and one that took something isn't
+-- finished.
 use Rattle.std.proofs.Common.{◌≡◌, ◌++◌, length, take, flat_map, true}
 use Rattle.std.specs.Prelude.{string_bytes}
 use Rattle.std.specs.Io.KnownBytes.{Appends}

@@ -1,5 +1,5 @@
--- The sink took a prefix of the text, a sink that had failed before took nothing, and one that took
--- something isn't finished.
+-- The sink took a prefix of the text, a sink that had failed before took nothing, and one that took something isn't
+-- finished.
 use Rattle.std.proofs.Common.{◌≡◌, ◌-◌, ◌≤◌, ◌++◌, length, take, true}
 use Rattle.std.specs.Io.KnownBytes.{Appends}
 use Rattle.cmh_stream.proofs.put.put_text.Given as goal
