@@ -11,7 +11,7 @@ use Rattle.cmh_rw.specs.Machine.{total}
 use Rattle.cmh_plan.specs.declared.ticket_rule.TicketView.{TicketView}
 use Rattle.cmh_plan.specs.Tickets.{sum_below, times, DrewAll, Dealt}
 
--- 1 at that number, and 0 elsewhere
+-- the weight of that number is 1, and that of each other 0
 abbrev hit : ℕ → ℕ → ℕ
 hit n k = cond (eqb k n) 1 0
 

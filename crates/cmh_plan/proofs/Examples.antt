@@ -1,4 +1,4 @@
--- Two tickets, drawn by two seats: what the rule lets be, and what it doesn't.
+-- Two tickets, drawn by two seats: what the rule allows, and what it doesn't.
 use Rattle.std.proofs.Common.{◌≡◌, ℕ, zero, suc, ◌<◌, List, [], ◌∷◌, refl, sym, subst, arith}
 use mathlib.Core.Option.{some, some-injective, some-ne-none}
 use lib.ListN.{get_elem?}
@@ -14,7 +14,7 @@ x_seat = with_drawn (ticket_less_one (ticket_opening_view 2)) 0
 abbrev y_seat : TicketView
 y_seat = with_drawn (ticket_newcomer (ticket_opening_view 2)) 1
 
--- the table after so many draws
+-- the table after `word` draws
 abbrev table : ℕ → List TicketView → State (Unit {0}) TicketView
 table word views = record { words = word ∷ []; homes = []; views = views }
 

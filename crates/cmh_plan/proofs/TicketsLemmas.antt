@@ -46,7 +46,7 @@ counted-le : (b : Bool) (n : ℕ) → cond b n 0 ≤ n
 counted-le true n = omega arith
 counted-le false n = omega arith
 
--- the shares of those who got none are no more than all shares
+-- the shares of the seats that found no chunk left are no more than all shares
 done-le : (views : List TicketView) → total done_share views ≤ total (λ (v : TicketView). v.share) views
 done-le [] = omega arith
 done-le (v ∷ vs) = omega (arith, done-le vs, counted-le v.done v.share)
@@ -60,7 +60,7 @@ holds_of_larger_word : (key x y : ℕ) (v : TicketView) → x ≤ y → IsTicket
 holds_of_larger_word key x y v le h =
     record { bare = h.bare; knows = h.knows; past = λ d. let p = h.past d in omega arith }
 
--- where nobody has a share, nobody has drawn a number
+-- where no seat has a share, none has drawn a number
 none_drawn : (key x : ℕ) (views : List TicketView) (f : ℕ → ℕ)
     → ((i : ℕ) (v : TicketView) → get_elem? views i ≡ some v → IsTicketSeat key x v)
     → total (λ (v : TicketView). v.share) views ≡ 0
@@ -83,7 +83,7 @@ drawn_of_one key x (y ∷ ys) (suc id) v f each at most =
     let r = drawn_of_one key x ys id v f (λ i w e. each (suc i) w e) at (omega arith) in let a =
     ap (total f) ((each zero y refl).bare (omega arith)) in omega arith
 
--- with the whole share and after none, a seat drew all
+-- with the whole share, and once it got no number, a seat drew all
 knows_all : (key : ℕ) (s : St) (id : ℕ) (v : TicketView) → Dealt key s → get_elem? s.views id ≡ some v → KnowsAll v
 knows_all key s id v h at done whole f = let has = h.each id v at in let few = h.shares in let is =
     has.knows (omega arith) in let past = has.past done in let r = h.at_end past in
@@ -157,7 +157,7 @@ done_kept key s id me h at mine fresh some_share high = let x = get_or s.words 0
           h.numbers f in omega arith;
     }
 
--- a draw keeps the rule, and tells the seat what it may know
+-- a draw keeps the rule, and the seat has drawn the number that it found, or knows that none is left
 pub draws : (key slots id : ℕ) (me : Sat) → me.0.chunks ≡ key → me.0.done ≡ false → 0 < me.0.share
     → Allows (Dealt key) slots id me 0 (λ n. (n + 1) % 2 ^ 64) (λ n m.
     (m ≡ (cond (ltb n me.0.chunks) (with_drawn me.0 n) (record me.0 { done = true }), me.1))

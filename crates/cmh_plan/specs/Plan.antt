@@ -5,8 +5,8 @@ use Rattle.cmh_plan.specs.declared.TheConstants.{MAX_WORKERS, MAX_CUTS}
 use Rattle.cmh_plan.specs.declared.fault.PlanFault.{PlanFault}
 use Rattle.cmh_plan.specs.declared.fault.PlanFault.TheVariants.{BadWorkers, TooManyCuts, TooManyChoices, Memory}
 
--- How many workers there are, how many initiators each chunk takes off the front, and which message
--- each delivery of a run takes.
+-- How many workers there are, how many initiators each chunk takes off the front, and which message each delivery of a
+-- run takes.
 pub record PlanValue : Type 0 where
   pub workers : ℕ
   pub cuts : List ℕ

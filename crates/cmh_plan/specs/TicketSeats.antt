@@ -1,4 +1,4 @@
--- What clauses see of the tickets and of a seat.
+-- What contracts say of the tickets and of a seat.
 use Rattle.std.specs.Prelude.{◌≡◌, ℕ}
 use Rattle.cmh_plan.specs.declared.ticket_rule.TicketView.{TicketView}
 use Rattle.cmh_plan.specs.declared.tickets.Tickets.{Tickets}

@@ -22,11 +22,11 @@ ticket_opening_view chunks = record { chunks = chunks; share = MAX_WORKERS; draw
 abbrev pub ticket_less_one : TicketView → TicketView
 ticket_less_one v = record v { share = v.share - 1 }
 
--- what the seat knows that was given 1 of this one's share
+-- what a new seat knows, which has got 1 of this one's share
 abbrev pub ticket_newcomer : TicketView → TicketView
 ticket_newcomer v = record { chunks = v.chunks; share = 1; drawn = []; done = v.done }
 
--- what a seat knows once it took another seat in
+-- what a seat knows once another one has joined it
 abbrev pub joined_views : TicketView → TicketView → TicketView
 joined_views v w = record v {
   share = v.share + w.share;
@@ -38,30 +38,29 @@ joined_views v w = record v {
 abbrev pub with_drawn : TicketView → ℕ → TicketView
 with_drawn v n = record v { drawn = v.drawn ++ n ∷ [] }
 
--- each number below the number of chunks was drawn once, and no other, however they are weighed
+-- each number below the number of chunks was drawn once, and no other: the sums are equal, whatever a number weighs
 abbrev pub DrewAll : TicketView → Type 0
 DrewAll v = (weight : ℕ → ℕ) → total weight v.drawn ≡ sum_below weight v.chunks
 
--- with the whole share and after none, the seat drew all
+-- with the whole share, and once it got no number, the seat drew all
 abbrev pub KnowsAll : TicketView → Type 0
 KnowsAll v = v.done ≡ true → v.share ≡ MAX_WORKERS → DrewAll v
 
 -- ---- the rule
 
--- the share of a seat, where it found no chunk left, else none
+-- the share of a seat that found no chunk left, and 0 for any other
 abbrev pub done_share : TicketView → ℕ
 done_share v = if v.done then v.share else 0
 
--- What is true of each seat. One with no share is spent, and has drawn nothing. Each other knows the
--- number of chunks, and where one got none, the word is past the last chunk.
+-- What is true of each seat. One without a share has drawn nothing. Each other one knows the number of chunks. Where a
+-- seat found no chunk left, the word is past the last one.
 pub record IsTicketSeat (chunks word : ℕ) (v : TicketView) : Type 0 where
   pub bare : v.share ≡ 0 → v.drawn ≡ []
   pub knows : 0 < v.share → v.chunks ≡ chunks
   pub past : v.done ≡ true → chunks ≤ word
 
--- The word is the number of draws. Each number below it and below the number of chunks stands once
--- among what the seats have drawn, and no other. The draws past the end are at most the shares of
--- the seats that got none.
+-- The word is the number of draws. Each number below it and below the number of chunks stands once among what the seats
+-- have drawn, and no other does. The draws past the end are at most the shares of the seats that found no chunk left.
 pub record Dealt (chunks : ℕ) (s : State (Unit {0}) TicketView) : Type 0 where
   pub reached : ℕ
   pub wide : length s.words ≡ 1

@@ -12,8 +12,8 @@ pub fn law_drew_each_once()
         → (n < v.chunks → times n v.drawn ≡ 1) × (v.chunks ≤ n → times n v.drawn ≡ 0) }
 {}
 
-/// Between any two steps, each number below the bound of what is drawn stands once among the
-/// numbers of all seats, and no other stands there.
+/// Between any two steps, each number below the bound of what is drawn stands once among the numbers of all seats, and
+/// no other stands there.
 pub fn law_drawn_once()
     ensures { (chunks : ℕ) (s : State (Unit {0}) TicketView) → Dealt chunks s → (n : ℕ)
         → (n < chunks → n < slice_index s.words 0 → total (λ v. times n v.drawn) s.views ≡ 1)

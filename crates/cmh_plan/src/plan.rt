@@ -8,8 +8,8 @@ use cmh_run::MAX_CHOICES;
 use std::alloc::Global;
 use std::marker::Model;
 
-/// How an analysis is shared out: how many workers there are, where the idle processes are cut into
-/// chunks, and in which order each run delivers its messages. No plan changes what is found.
+/// How an analysis is shared out: how many workers there are, where the idle processes are cut into chunks, and in
+/// which order each run delivers its messages. No plan changes what is found.
 #[derive(Debug, Drop)]
 pub struct Plan {
     workers: u32,
@@ -55,9 +55,9 @@ impl PartialEq for Plan {
 }
 
 impl Plan {
-    /// Each cut in order takes that many initiators off the front, or all that are left; the rest,
-    /// which may be empty, is the last chunk. Delivery `t` of each run takes the undelivered message
-    /// at place `choices[t]`, modulo how many there are; past the last choice it takes the first.
+    /// Each cut in order takes that many initiators off the front, or all that are left. The rest, which may be empty,
+    /// is the last chunk. Delivery `t` of each run takes the undelivered message at place `choices[t]`, modulo how many
+    /// there are. Past the last choice it takes the first.
     ///
     /// # Errors
     ///

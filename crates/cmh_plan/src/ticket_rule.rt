@@ -1,4 +1,4 @@
-//! What a seat of the tickets knows, the rule of their word, and what each step tells.
+//! What a seat of the tickets knows, the rule of their word, and what each step says.
 
 use atomic_table::{Join, Play, Split, TableRule};
 use std::collections::LinkedList;
@@ -7,15 +7,15 @@ use std::collections::LinkedList;
 pub struct TicketView {
     /// How many numbers there are.
     pub chunks: u32,
-    /// How many seats can still come of it by splits, itself among them.
+    /// How many seats there can be of it by splits, itself among them.
     pub share: u64,
     /// What it drew, in order.
     pub drawn: LinkedList<u32>,
-    /// Whether it was told that each number is drawn.
+    /// Whether it has found that each number is drawn.
     pub done: bool,
 }
 
-/// The rule of the one word: how many draws there were.
+/// The rule of the one word, which counts the draws.
 pub(crate) struct TicketRule;
 
 impl TableRule<(), TicketView, u32> for TicketRule {
@@ -26,8 +26,8 @@ impl TableRule<(), TicketView, u32> for TicketRule {
     ghost first = { ticket_opening_view };
 }
 
-/// The step that draws. Where it finds a number below the number of chunks, the seat has drawn it,
-/// and else it knows that none is left.
+/// The step that draws. Where it finds a number below the number of chunks, the seat has drawn it. Else the seat knows
+/// that none is left.
 pub(crate) struct Draw;
 
 impl Play<(), TicketView> for Draw {
@@ -39,7 +39,7 @@ impl Play<(), TicketView> for Draw {
         × (length m.0.drawn ≤ n) × KnowsAll m'.0 };
 }
 
-/// The step after a join, which tells a seat what it knows with its new share.
+/// The step after a join: what a seat knows with its new share.
 pub(crate) struct Measure;
 
 impl Play<(), TicketView> for Measure {
@@ -50,7 +50,7 @@ impl Play<(), TicketView> for Measure {
     ghost then = { λ st m n m'. (m' ≡ m) × (m.0.share ≤ MAX_WORKERS) × KnowsAll m.0 };
 }
 
-/// How seats are split and joined. A seat that was taken in has no share, and has drawn nothing.
+/// How seats are split and joined. A seat that was joined into another has no share, and has drawn nothing.
 pub(crate) struct Parts;
 
 impl Split<TicketView> for Parts {

@@ -9,7 +9,7 @@ use crate::{MAX_WORKERS, PlanFault};
 use atomic_table::{Seat, Table};
 use std::alloc::Global;
 
-/// The numbers below some bound, from 0. Each is drawn once, by whichever seat comes first.
+/// The numbers below some bound, from 0. Each is drawn once, by the seat that comes first.
 #[derive(Drop)]
 pub struct Tickets {
     pub(crate) table: Table<(), TicketView, u32, TicketRule, Global>,
@@ -19,8 +19,7 @@ pub struct Tickets {
     pub ghost counted: { table.shared.key ≡ chunks },
 }
 
-/// The right to draw. A seat has a share of all seats, and with the whole share it knows what was
-/// drawn.
+/// The right to draw. A seat has a share of all seats, and with the whole share it knows what was drawn.
 #[derive(Drop)]
 pub struct TicketSeat {
     pub(crate) seat: Seat<(), TicketView>,
@@ -57,7 +56,7 @@ impl Tickets {
         ))
     }
 
-    /// Gives 1 of the seat's share to a new seat, where the seat keeps some.
+    /// Gives 1 of the seat's share to a new seat, if the seat can keep some.
     pub fn split(&self, seat: &mut TicketSeat) -> Option<TicketSeat>
         requires own { IsTicketSeatOf self.now seat.old }
         ensures own { IsTicketSeatOf self.now seat.new }
@@ -78,7 +77,7 @@ impl Tickets {
         })
     }
 
-    /// The seat has the shares and the numbers of both afterwards, and the other is gone.
+    /// Joins another seat into this one, which then has the shares and the numbers of both.
     pub fn join(&self, seat: &mut TicketSeat, other: TicketSeat)
         requires own { IsTicketSeatOf self.now seat.old × IsTicketSeatOf self.now other }
         ensures own { IsTicketSeatOf self.now seat.new }
@@ -99,7 +98,7 @@ impl Tickets {
         seat.done = done;
     }
 
-    /// The next number, or none where each is drawn. After none a seat gets none, and takes no step.
+    /// The next number, or none where each is drawn. Once a seat got none, it gets none again, and takes no step.
     pub fn draw(&self, seat: &mut TicketSeat) -> Option<u32>
         requires own { IsTicketSeatOf self.now seat.old }
         ensures own { IsTicketSeatOf self.now seat.new }
@@ -127,7 +126,7 @@ impl TicketSeat {
     ghost use Rattle.std.specs.Prelude.{◌≡◌};
     ghost use Rattle.cmh_plan.specs.TicketSeats.{ticket_view};
 
-    /// How many seats can still come of this one by splits, itself among them.
+    /// How many seats there can be of this one by splits, itself among them.
     pub fn share(&self) -> u32
         ensures { result ≡ (ticket_view self.now).share }
     {

@@ -26,7 +26,7 @@ fn take_all(alloc: Global, blocks: &mut Vec<Vec<u8>>) {
     }
 }
 
-/// With more and more memory plans are refused, and then made. The contract says which plan each is.
+/// With more and more memory, plans are refused at first, and then made. The contract says which plan each is.
 #[test]
 fn out_of_memory_in_a_plan(rt: HostRuntime) -> Result<(), Fail> {
     let alloc = rt.alloc();
