@@ -93,7 +93,7 @@ staged_ends d ps v s st some = subst EndsLast (sym st.staged) (ends_some (unpost
     ends_some [] l = absurd (omega arith)
     ends_some (q ∷ qs) l = rows_end d q qs
 
--- each verdict of the rows that are staged for a posting is told
+-- each verdict of the rows that are staged for a posting is stored
 pub staged_told : (d : Verdict) (ps : List ℕ) (v s : View) → Stages d ps v s → AreTold s.staged s.told
 staged_told d ps v s st =
     subst (λ x. AreTold x s.told) (sym st.staged)
@@ -107,7 +107,7 @@ staged_number d ps v s count new st c n =
     let y = ap length st.staged ∙ length-rows_of d (unposted_in v.seen ps) in
     omega arith
 
--- what is told truly may be posted
+-- a true posting may be posted
 pub can_post : (g : Graph) (t : PostingValue) → IsWithinGraph g → IsTruth g t → CanPost g t.verdict t.processes
 can_post g t within truth = record {
   idle = truth.idle;
@@ -115,7 +115,7 @@ can_post g t within truth = record {
   once = truth.once;
 }
 
--- a seat that took the lock, added a posting and let the lock go has posted it
+-- a seat that took the lock, added a posting and ended its hold has posted it
 pub posts_from : (t : PostingValue) (v u a w : View) → u ≡ view_after_try v Writing 0 → Adds t u a → w
     ≡ view_after_end a
     → (w.lock.found ≡ 0) × (v.loads < w.loads) × Posts t v w
@@ -143,7 +143,7 @@ posts_from t v u a w took adds ended =
       },
     )
 
--- tries that were refused have changed nothing but how often the lock was tried
+-- refused tries have changed nothing but the number of tries
 pub record IsUntouched (v w : View) : Type 0 where
   pub seen : w.seen ≡ v.seen
   pub mine : w.mine ≡ v.mine

@@ -1,4 +1,4 @@
--- What closed words show, and whose postings they are.
+-- What closed words show, and which seat added the postings.
 use Rattle.std.proofs.Common.{◌≡◌, ℕ, ◌≤◌, List, sym, refl, arith}
 use Rattle.cmh_graph.specs.declared.TheConstants.{MAX_PROCESSES}
 use Rattle.cmh_graph.specs.Graph.{Graph, process_count}

@@ -54,9 +54,9 @@ stands_nowhere = refl
 free_stored_as : map row_code (rows_of Free (0 ∷ [])) ≡ 3 ∷ []
 free_stored_as = refl
 
--- ---- what runs tell
+-- ---- what runs post
 
--- what a run of p that engaged q tells, by how it ended
+-- what a run of p that engaged q posts, by how it ended
 abbrev run_that : Ending → PostingValue
 run_that ending = posting_of record { initiator = 0; log = []; ending = ending; engaged = 0 ∷ 1 ∷ []; restarted = 0 }
 

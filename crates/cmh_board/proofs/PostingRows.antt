@@ -79,7 +79,7 @@ rows-marks : (v : Verdict) (ps : List ℕ) (p : ℕ) → fold_at (rows_of v ps) 
 rows-marks v [] p = refl
 rows-marks v (q ∷ ps) p = ap (λ o. cond (eqb q p) (Some v) o) (rows-marks v ps p)
 
--- what the rows of a posting say of a process is told by its marks
+-- the marks of a posting say of each process what its rows say
 pub rows_told : (v : Verdict) (ps : List ℕ) → AreTold (rows_of v ps) (marks v ps)
 rows_told v ps p u e = sym (rows-marks v ps p) ∙ e
 

@@ -110,7 +110,7 @@ not_before rows ps i once l c =
 
 -- ---- what is staged
 
--- the rows of what is done are staged, and their verdicts are told
+-- the rows of what is done are staged, and their verdicts are stored
 pub record Staging (v : View) (d : Verdict) (ps : List ℕ) (i : ℕ) (w : View) (n : ℕ) : Type 0 where
   pub lock : w.lock ≡ v.lock
   pub loaded : w.loaded ≡ true
@@ -121,7 +121,7 @@ pub record Staging (v : View) (d : Verdict) (ps : List ℕ) (i : ℕ) (w : View)
   pub loads : v.loads ≤ w.loads
   pub number : n ≡ length v.seen + length (done v.seen ps i)
 
--- what is told says nothing of the process at hand
+-- the stored verdicts say nothing of the process at hand
 pub untold : (v : View) (d : Verdict) (ps : List ℕ) (i : ℕ) (w : View) (n : ℕ) → Staging v d ps i w n
     → IsDistinct eqb ps → i < length ps
     → fold_at (w.seen ++ w.told) (get_or ps i 0) ≡ fold_at v.seen (get_or ps i 0)
@@ -171,7 +171,7 @@ can_stage v d ps i w u n last s can l new a =
       true_verdict = can.truth p there ∙ ap (λ g. verdict g p) (sym graph);
     }
 
--- once the row of the process at hand is staged, its verdict may be told
+-- once the row of the process at hand is staged, its verdict may be stored
 pub can_tell : (v : View) (d : Verdict) (ps : List ℕ) (i : ℕ) (w u : View) (n : ℕ) (last : Bool) → Staging v d ps i w n
     → IsDistinct eqb ps → i < length ps → is_new v.seen (get_or ps i 0) ≡ true → OnlyLoads w u
     → (x : View) → x ≡ with_row u (row (get_or ps i 0) d last) → fold_at x.staged (get_or ps i 0) ≡ Some d
@@ -224,7 +224,7 @@ pub found_new : (v : View) (d : Verdict) (ps : List ℕ) (i : ℕ) (w : View) (n
     → i < length ps → b ≡ is_none (fold_at (w.seen ++ w.told) (get_or ps i 0)) → is_new v.seen (get_or ps i 0) ≡ b
 found_new v d ps i w n b s once l e = sym (e ∙ ap is_none (untold v d ps i w n s once l))
 
--- a process that stands in no row is done once its row is staged and its verdict is told
+-- a process that stands in no row is done once its row is staged and its verdict is stored
 pub staging-new : (v : View) (d : Verdict) (ps : List ℕ) (i : ℕ) (w u x y : View) (n : ℕ) (last : Bool)
     → Staging v d ps i w n → i < length ps
     → is_new v.seen (get_or ps i 0) ≡ true → OnlyLoads w u → x ≡ with_row u (row (get_or ps i 0) d last)

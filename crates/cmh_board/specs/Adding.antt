@@ -13,20 +13,20 @@ use Rattle.cmh_rw.specs.View.{mark}
 use Rattle.cmh_board.specs.Board.{unposted_in, rows_of, AddsPosting}
 use Rattle.cmh_board.specs.Posting.{PostingValue}
 
--- each of these processes is idle, and rows of them may be posted, with this verdict
+-- each of these processes is idle and has this verdict, and none stands here twice
 pub record CanPost (g : Graph) (v : Verdict) (processes : List ℕ) : Type 0 where
   pub idle : (p : ℕ) → Contains processes p → IsTrue (is_idle g p)
   pub truth : (p : ℕ) → Contains processes p → v ≡ verdict g p
   pub once : IsDistinct nat_eq processes
 
--- the seat writes and has staged nothing yet, and each process has its words
+-- the seat writes, has staged and stored nothing yet, and each process has its words
 pub record IsWriter (v : View) : Type 0 where
   pub writing : v.lock.state ≡ Writing
   pub unstaged : v.staged ≡ []
   pub untold : v.told ≡ []
   pub small : process_count v.lock.graph ≤ MAX_PROCESSES
 
--- in a hold in which words had been loaded others were, and nothing else has changed
+-- in a hold that had loaded words, the seat may have loaded more, and nothing else has changed
 pub record OnlyLoads (v w : View) : Type 0 where
   pub lock : w.lock ≡ v.lock
   pub loaded : w.loaded ≡ true
@@ -40,7 +40,7 @@ pub record OnlyLoads (v w : View) : Type 0 where
 abbrev pub marks : Verdict → List ℕ → List Row
 marks v processes = map (λ p. mark p v) processes
 
--- the rows of all processes that stood in none are staged, and their verdicts are told
+-- the rows of all processes that stood in none are staged, and their verdicts are stored
 pub record Stages (v : Verdict) (processes : List ℕ) (old new : View) : Type 0 where
   pub lock : new.lock ≡ old.lock
   pub seen : new.seen ≡ old.seen

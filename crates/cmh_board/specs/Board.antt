@@ -1,4 +1,4 @@
--- What clauses see of the board and of a seat, and what its calls tell.
+-- What contracts say of the board and of a seat, and of its calls.
 use Rattle.std.specs.Prelude.{◌≡◌, ◌↔◌, ℕ, ◌+◌, ◌<◌, ◌≤◌, ◌==◌, Bool, true, false, is_none, List, [], ◌∷◌, ◌++◌, filter, count_by, Contains, Some}
 use Rattle.cmh_graph.specs.declared.verdict.Verdict.{Verdict}
 use Rattle.cmh_graph.specs.Graph.{Graph}
@@ -20,12 +20,12 @@ use Rattle.cmh_board.specs.Posting.{PostingValue}
 abbrev pub board_view : BoardSeat → View
 board_view s = words.rw_view s.seat
 
--- the graph whose verdicts the board holds
+-- the graph of the verdicts that the board holds
 abbrev pub board_graph : Board → Graph
 board_graph b = words.words_graph b.words
 
--- The seat is one of this board: it names the board's graph, and what it has seen is a history that
--- is true for the graph.
+-- The seat is one of this board: it names the board's graph, and what it has seen is a history that is true for the
+-- graph.
 pub record SitsAt (b : Board) (s : BoardSeat) : Type 0 where
   pub own : words.IsSeatOf b.words s.seat
   pub graph : (board_view s).lock.graph ≡ board_graph b
@@ -64,7 +64,7 @@ pub record IsTurnedAway (n : ℕ) (v w : View) : Type 0 where
   pub staged : w.staged ≡ v.staged
   pub loads : w.loads ≡ v.loads
 
--- in one hold the history is read, and it is the same at each later reading
+-- the history is read in one hold, and it is the same at each later reading
 pub record ReadsHistory (v w : View) : Type 0 where
   pub lock : w.lock ≡ v.lock
   pub loaded : w.loaded ≡ true
@@ -99,8 +99,8 @@ with_posting postings (r ∷ rs) = postings ++ (r ∷ rs) ∷ []
 abbrev pub row_times : ℕ → List Row → ℕ
 row_times p rows = count_by (λ r. r.process == p) rows
 
--- Beside what others had added, the rows that came are those of the posting's processes that stood in
--- no row. They are the seat's next posting, if there are any, and each process stands in one row now.
+-- Beside what others had added, the rows that came are those of the posting's processes that stood in no row. They are
+-- the seat's next posting, if there are any, and each process stands in one row now.
 pub record AddsPosting (t : PostingValue) (v w : View) : Type 0 where
   pub between : List Row
   pub rows : List Row
@@ -110,13 +110,13 @@ pub record AddsPosting (t : PostingValue) (v w : View) : Type 0 where
   pub once : (p : ℕ) → Contains t.processes p → row_times p w.seen ≡ 1
   pub says : (p : ℕ) → Contains t.processes p → fold_at w.seen p ≡ Some t.verdict
 
--- what is told is on the board, and the seat's share and graph are the same
+-- the posting is on the board, and the seat's share and graph are the same
 pub record Posts (t : PostingValue) (v w : View) : Type 0 where
   pub added : AddsPosting t v w
   pub share : w.lock.share ≡ v.lock.share
   pub graph : w.lock.graph ≡ v.lock.graph
 
--- the rows are whole postings, which are just these, however they weigh
+-- the rows are whole postings, which are just the given ones: the sums are equal, whatever a posting weighs
 pub record IsMadeOf (mine : List (List Row)) (rows : List Row) : Type 0 where
   pub postings : List (List Row)
   pub is_laid : rows ≡ rows_in postings

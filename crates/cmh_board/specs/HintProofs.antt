@@ -1,5 +1,5 @@
--- What hints keep is kept where nothing changes, and from one change to the next. These two proofs
--- stand among the definitions since code can cite no others of its own crate.
+-- What hints keep is kept where nothing changes, and from one change to the next. These proofs stand among the
+-- definitions, since code can cite no others of its own crate.
 use Rattle.std.proofs.Common.{[], ◌++◌, refl, sym, ap, ◌∙◌, append-nil, append_assoc}
 use Rattle.cmh_rw.specs.declared.view.View.{View}
 use Rattle.cmh_board.specs.declared.hints.BoardHints.{BoardHints}

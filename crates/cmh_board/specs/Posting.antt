@@ -1,4 +1,4 @@
--- What one run tells the board.
+-- What one run posts on the board.
 use Rattle.std.specs.Prelude.{ℕ, nat_eq, IsTrue, List, [], ◌∷◌, Contains}
 use Rattle.std.specs.List.{IsDistinct}
 use Rattle.cmh_graph.specs.declared.verdict.Verdict.{Verdict}
@@ -12,19 +12,19 @@ pub record PostingValue : Type 0 where
   pub processes : List ℕ
   pub verdict : Verdict
 
--- whom a verdict of a run is about: all engaged processes if it is deadlocked, else the initiator
+-- the processes that a verdict of a run is about: all engaged ones if it is deadlocked, else the initiator
 abbrev pub spoken_of : Verdict → List ℕ → List ℕ → List ℕ
 spoken_of Deadlocked initiator engaged = engaged
 spoken_of Free initiator engaged = initiator
 
--- what a run tells: who is engaged is deadlocked where it is declared, else the initiator is free
+-- what a run posts: each engaged process is deadlocked if the run is declared, else the initiator is free
 abbrev pub posting_of : Run → PostingValue
 posting_of r = record {
   processes = spoken_of (verdict_of r.ending) (r.initiator ∷ []) r.engaged;
   verdict = verdict_of r.ending;
 }
 
--- the posting tells the truth about idle processes of the graph, and names none twice
+-- the posting is true: each of its processes is idle and has its verdict, and none stands there twice
 pub record IsTruth (g : Graph) (t : PostingValue) : Type 0 where
   pub idle : (p : ℕ) → Contains t.processes p → IsTrue (is_idle g p)
   pub verdict : (p : ℕ) → Contains t.processes p → IsVerdict g p t.verdict

@@ -39,7 +39,7 @@ pub enum Look {
     Known(Verdict),
     /// No posting has named it yet.
     Unknown,
-    /// Somebody was posting: the lock word that was found.
+    /// Another seat was posting: the lock word that was found.
     Busy(u64),
 }
 
@@ -48,7 +48,7 @@ pub enum Look {
 pub enum Post {
     /// Each process of the posting is on the board.
     Done,
-    /// The board was held: the lock word that was found. Nothing was posted.
+    /// Another seat held the board: the lock word that was found. Nothing was posted.
     Busy(u64),
 }
 
@@ -77,8 +77,7 @@ impl Board {
         Ok((Board { words, processes }, BoardSeat { seat }))
     }
 
-    /// Gives one share to a new seat, which has seen the same and added nothing, where the seat
-    /// keeps one.
+    /// Gives one share to a new seat, which has seen the same and added nothing, if the seat can keep one.
     pub fn split(&self, seat: &mut BoardSeat) -> Option<BoardSeat>
         requires sits { SitsAt self.now seat.old }
         requires away { IsAway seat.old }
@@ -94,8 +93,8 @@ impl Board {
         Some(BoardSeat { seat })
     }
 
-    /// The seat has the shares and the postings of both afterwards, and has seen what either had
-    /// seen: the longer of the two, which begins with the other.
+    /// Joins another seat into this one, which then has the shares and the postings of both. It has seen what either
+    /// had seen: the longer of the two, which begins with the other.
     pub fn join(&self, seat: &mut BoardSeat, other: BoardSeat)
         requires sits { SitsAt self.now seat.old × SitsAt self.now other }
         requires away { IsAway seat.old × IsAway other }
@@ -139,8 +138,8 @@ impl Board {
         }
     }
 
-    /// Holds the board for as many looks as wanted. One try. While anybody holds it nobody can
-    /// post, so `release` it soon. A seat that is dropped in a hold keeps the hold for ever.
+    /// Holds the board for as many looks as wanted. One try. While any seat holds it no other can post, so `release` it
+    /// soon. A seat that is dropped in a hold never ends the hold.
     pub fn hold(&self, seat: &mut BoardSeat) -> Entry
         requires sits { SitsAt self.now seat.old }
         requires away { IsAway seat.old }
@@ -181,8 +180,8 @@ impl Board {
         self.words.end_read(&mut seat.seat);
     }
 
-    /// Adds a row for each process of the posting that stands in none yet: one posting, or none
-    /// where nothing is new. One try; where it finds the board held, nothing changes.
+    /// Adds a row for each process of the posting that stands in none yet. They are one posting, or none where nothing
+    /// is new. One try; where it finds the board held, nothing changes.
     pub fn try_post(&self, seat: &mut BoardSeat, posting: &Posting) -> Post
         requires sits { SitsAt self.now seat.old }
         requires away { IsAway seat.old }
@@ -206,9 +205,9 @@ impl Board {
         }
     }
 
-    /// Tries to post until it is done, and gives way to other threads after each try that finds the
-    /// board held: who holds it may need the same processor to let go. It may wait for ever, since
-    /// nothing makes others let go.
+    /// Tries to post until it is done. After each try that finds the board held it gives way to other threads, since
+    /// the one that holds it may need the same processor to end its hold. It may wait for ever, since nothing makes
+    /// others end their holds.
     pub fn post<R: Wait>(&self, rt: &R, seat: &mut BoardSeat, posting: &Posting)
         requires sits { SitsAt self.now seat.old }
         requires away { IsAway seat.old }
@@ -270,8 +269,7 @@ impl Board {
         Ok(rows)
     }
 
-    /// The whole history at the end. With the whole share no other seat is left, so that the
-    /// postings are the seat's own.
+    /// The whole history at the end. With the whole share no other seat is left, so the postings are the seat's own.
     pub fn close(self, alloc: Global, seat: BoardSeat) -> Result<Vec<Row>, BoardFault>
         requires sits { SitsAt self seat }
         requires away { IsAway seat }
@@ -317,7 +315,7 @@ impl Board {
         ensures shows { (p : ℕ)
             → verdict_at verdicts.new.items p ≡ fold_at (board_view seat.new).seen p }
     {
-        // A graph without processes is looked at too: a look loads at least one word.
+        // A reading loads at least one word, of a graph without processes too.
         let _rows = self.held_count(seat);
         for p in 0..self.processes {
             verdicts.push_reserved(self.held_verdict(seat, p));

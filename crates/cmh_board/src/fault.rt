@@ -12,7 +12,7 @@ use std::fmt;
 /// Why the board gave no answer.
 #[derive(Clone, Copy, PartialEq, Eq, Hash, Debug)]
 pub enum BoardFault {
-    /// Somebody was posting: the lock word that was found.
+    /// Another seat was posting: the lock word that was found.
     Busy(u64),
     /// Memory was refused. The lock wasn't tried.
     Memory,
@@ -42,7 +42,7 @@ impl From<AllocError> for BoardFault {
     }
 }
 
-/// The refused memory for which words weren't opened.
+/// The fault of words that weren't opened: memory was refused.
 pub(crate) fn opening_fault(_fault: RwFault) -> BoardFault
     requires { _fault ≡ words.Memory }
     ensures { result ≡ Memory }

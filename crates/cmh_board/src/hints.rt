@@ -21,8 +21,7 @@ pub struct BoardHints<'a> {
 }
 
 impl<'a> BoardHints<'a> {
-    /// The seat is lent to the hints. Once they are gone it holds nothing still, and has seen what
-    /// they saw.
+    /// Lends the seat to the hints. Once they are gone it still holds nothing, and has seen what they saw.
     pub fn new(board: &'a Board, seat: &'a mut BoardSeat) -> BoardHints<'a>
         requires sits { SitsAt board.now seat.old }
         requires away { IsAway seat.old }
@@ -43,7 +42,7 @@ impl<'a> Hints for BoardHints<'a> {
     /// The board may always answer.
     ghost is_silent = { λ h. ⊥ };
 
-    /// One look. Where a seat was posting there is no answer, and nothing more was seen.
+    /// One look. Where another seat was posting there is no answer, and nothing more was seen.
     fn hint(&mut self, p: u32) -> Option<Verdict>
         requires { (g : Graph) × SpeaksOf self.old g × (p < process_count g) }
         ensures tried { TriesOnce (board_view self.old.seat.now) (board_view self.new.seat.now) }

@@ -1,9 +1,8 @@
-//! The board of verdicts: workers who analyse one wait graph tell each other through it which
-//! processes are deadlocked or free.
+//! The board of verdicts: on it the workers that analyse one wait graph share which processes are deadlocked or free.
 //!
-//! A posting is what one run tells, and comes onto the board whole. No process is posted twice, and
-//! each verdict is the truth, so a worker may take it for its own. The board is the history under
-//! the lock of `cmh_rw`. Whoever finds it locked is told so at once: no call waits but `post`.
+//! A posting is what one run says, and comes onto the board whole. No process is posted twice, and each verdict is
+//! true, so a worker may take it for its own. The board is the history under the lock of `cmh_rw`. A call that finds it
+//! locked says so at once: no call waits but `post`.
 #![tactic(auto)]
 
 mod board;

@@ -1,5 +1,5 @@
-//! Adding the rows of a posting, in a hold for writing. The new rows are counted by a pass of loads before any is
-//! stored, so that the last one is known when it is stored.
+//! Adding the rows of a posting, in a hold for writing. A pass of loads counts the new rows before any is stored, so
+//! the last one is known when it is stored.
 
 ghost use Rattle.std.specs.Prelude.{◌≡◌, ℕ, ◌+◌, ◌<◌, ◌++◌, length, is_none, true, Contains, IsTrue};
 ghost use Rattle.cmh_graph.specs.declared.TheConstants.{MAX_PROCESSES};
@@ -52,8 +52,8 @@ fn count_unposted(words: &RwWords, seat: &mut RwSeat, processes: &[u32]) -> usiz
     count
 }
 
-/// Stages a row for each of the processes that stand in none, from row `count` on. The row before
-/// row `end` is the last one.
+/// Stages a row for each of the processes that stand in none, from row `count` on. The row before row `end` is the last
+/// one.
 fn stage_rows(
     words: &RwWords,
     seat: &mut RwSeat,

@@ -1,4 +1,4 @@
-//! What one run tells the board.
+//! What one run posts on the board.
 
 ghost use Rattle.std.specs.Prelude.{◌≡◌};
 ghost use Rattle.cmh_graph.specs.Graph.{Graph};
@@ -9,7 +9,7 @@ use cmh_graph::Verdict;
 use cmh_run::{Log, RunLog};
 use std::marker::Model;
 
-/// What one run tells of processes: one verdict, and whom it is about. It borrows the run.
+/// What one run says of processes: one verdict, and the processes that have it. It borrows the run.
 #[derive(Drop)]
 pub struct Posting<'a> {
     engaged: &'a [u32],
@@ -29,8 +29,7 @@ impl<'a> Model for Posting<'a> {
 }
 
 impl<'a> Posting<'a> {
-    /// All processes that are engaged, as deadlocked, where the run is declared. Else the initiator
-    /// alone, as free.
+    /// All engaged processes, as deadlocked, where the run is declared. Else the initiator alone, as free.
     #[tactic(auto, using(crate::proofs::Lists::one_is_distinct))]
     pub fn of_run<L: Log>(run: &'a RunLog<L>) -> Posting<'a>
         ensures whole { result ≡ posting_of run.now }

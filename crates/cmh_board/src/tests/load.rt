@@ -21,8 +21,8 @@ const RINGS: u32 = 16;
 
 const SIZE: u32 = 256;
 
-/// How many boards there are, one after the other, and how many turns each thread has at each. A
-/// turn is a look at the first and the last process of a ring, in one hold.
+/// How many boards there are, one after the other, and how many turns each thread has at each. A turn is a look at the
+/// first and the last process of a ring, in one hold.
 const BOARDS: u32 = 100;
 
 const TURNS: u32 = 250_000;
@@ -30,8 +30,8 @@ const TURNS: u32 = 250_000;
 /// How many turns lie between two runs that a thread posts.
 const POSTED_IN: u32 = 1_024;
 
-/// How many of the first and the last process of a ring one hold shows as deadlocked. Nothing where
-/// the board was held for writing.
+/// How many of the first and the last process of a ring one hold shows as deadlocked. None where the board was held for
+/// writing.
 fn look_at_ring(board: &Board, seat: BoardSeat, ring: u32) -> (BoardSeat, Option<u32>)
     requires sits { SitsAt board.now seat × IsAway seat }
     requires full { process_count (board_graph board.now) ≡ 4096 }
@@ -69,8 +69,8 @@ fn post_ring<R: Wait>(
     }
 }
 
-/// One thread's turns, from some ring on: whether each look showed both processes or neither, and
-/// both where an earlier one did.
+/// One thread's turns, from some ring on. Answers whether each look showed both processes or neither, and both where an
+/// earlier one did.
 fn take_turns<R: Wait>(
     rt: &R,
     alloc: Global,
@@ -107,7 +107,7 @@ fn take_turns<R: Wait>(
     (seat, true)
 }
 
-/// As many other threads and this one take their turns, each from another ring on.
+/// `others` more threads and this one take their turns, each from another ring on.
 fn take_turns_by<R: Threads + Wait + Sync>(
     rt: &R,
     alloc: Global,

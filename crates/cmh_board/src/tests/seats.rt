@@ -25,8 +25,8 @@ fn row(process: u32, last: bool) -> Row {
     }
 }
 
-/// Whether the run sent a query from r to p, with the hint that p is deadlocked, and then a reply
-/// back, and was declared.
+/// Whether the run sent a query from r to p, with the hint that p is deadlocked, and then a reply back, and was
+/// declared.
 fn is_hinted_run(run: &RunLog) -> bool {
     let log = run.log();
     if log.len() != 2 || run.ending() != Ending::Declared {
@@ -41,8 +41,8 @@ fn is_hinted_run(run: &RunLog) -> bool {
         && log[1].hint.is_none()
 }
 
-/// The board of the cycle and its follower after two seats have posted p and q, and then r, each call
-/// with the answer that the rules give. The two seats are one again.
+/// The board of the cycle and its follower after two seats have posted p and q, and then r, each call with the answer
+/// that the rules give. The two seats are one again.
 fn posted_by_two<R: Abort>(
     rt: &R,
     alloc: Global,
@@ -113,8 +113,8 @@ fn rows_are_stored_as_numbers(rt: HostRuntime) -> Result<(), Fail> {
     Ok(())
 }
 
-/// The initiator of a run that isn't declared is posted alone, as free, though q is engaged: q is
-/// deadlocked. A seat that isn't the last one closes the board: what the other has posted is there.
+/// The initiator of a run that isn't declared is posted alone, as free, though q is engaged: q is deadlocked. A seat
+/// that isn't the last one closes the board: what the other has posted is there.
 #[test]
 fn one_free_one_stuck_posts(rt: HostRuntime) -> Result<(), Fail> {
     let graph = graph_of(rt.alloc(), &ONE_FREE_ONE_STUCK)?;

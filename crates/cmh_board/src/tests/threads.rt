@@ -20,8 +20,8 @@ use std::thread::{Threads, join};
 /// How often a test looks for what another thread does before it fails.
 const TURNS: u32 = 1_000_000_000;
 
-/// Holds the board, says so, and ends the hold only once the other thread holds it too. Whether it
-/// came to that, and process 0 wasn't posted.
+/// Holds the board, says so, and ends the hold only once the other thread holds it too. Answers whether it came to that
+/// and process 0 wasn't posted.
 fn meets(board: &Board, seat: BoardSeat, mine: &AtomicBool, other: &AtomicBool) -> (BoardSeat, bool)
     requires sits { SitsAt board.now seat × IsAway seat }
     requires process { 0 < process_count (board_graph board.now) }
@@ -89,8 +89,8 @@ fn two_threads_hold_at_once(rt: HostRuntime) -> Result<(), Fail> {
     Ok(())
 }
 
-/// Takes snapshots until one answers for p, up to a limit: whether it came to that, and each
-/// answered for both p and q or for neither.
+/// Takes snapshots until one answers for p, up to a limit. Answers whether one did, and each answered for both p and q
+/// or for neither.
 fn sees_whole_postings(board: &Board, alloc: Global, seat: BoardSeat) -> (BoardSeat, bool)
     requires { SitsAt board.now seat × IsAway seat }
     ensures { SitsAt board.now result.0 × IsAway result.0 }
