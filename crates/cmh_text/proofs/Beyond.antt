@@ -1,4 +1,4 @@
--- A leader that reaches itself and whom another one reaches.
+-- A leader that reaches itself and what another one reaches.
 use Rattle.std.proofs.Common.{◌≡◌, ℕ, zero, suc, ◌+◌, ◌-◌, ◌<◌, Bool, false, inl, inr, List, [], ◌∷◌, map, get_or, refl, sym, ◌∙◌, ap, subst, arith}
 use Rattle.std.specs.Prelude.{AllPairs, Contains}
 use Rattle.std.proofs.lemmas.Bool.{cases_eq, cases_lt, true≢false}
@@ -81,7 +81,7 @@ same_beside p q old new more other = elim (cases_lt q p) [
   ]
 ]
 
--- ---- who is reached
+-- ---- what is reached
 
 -- all that p reaches but itself is reached by l, p isn't, and p reaches l
 record ReachesBeside (g : Graph) (p l : ℕ) : Type 0 where

@@ -50,7 +50,7 @@ unfolding report_text totals_line deadlocked_line free_line group_line digits re
     distance_of
 empty_report = refl
 
--- p waits, and nobody can let it go on
+-- p waits, and no process can unblock it
 abbrev pub waits_for_nobody : List Process
 waits_for_nobody =
     idle (codes "p") 0 [] ∷ []
@@ -76,7 +76,7 @@ unfolding report_text totals_line deadlocked_line free_line group_line digits re
     distance_of
 waits_for_itself_report = refl
 
--- p can be let go by r, which is active; q waits for itself
+-- r, which is active, can unblock p; q waits for itself
 abbrev pub one_free_one_stuck : List Process
 one_free_one_stuck =
     idle (codes "p") 0 (1 ∷ 2 ∷ []) ∷

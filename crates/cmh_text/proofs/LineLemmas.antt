@@ -12,7 +12,7 @@ use Rattle.cmh_text.specs.Report.{deadlocked_line, free_line, group_line, line, 
 
 -- ---- words
 
--- words parted by spaces are the first one, and each other one after a space
+-- words separated by spaces are the first one, and each other one after a space
 join_spaced : (word : List ℕ) (words : List (List ℕ)) → join_with_byte 32 (word ∷ words) ≡ word ++ spaced_words words
 join_spaced word [] = sym (append-nil word)
 join_spaced word (next ∷ words) = ap (λ xs. word ++ (32 ∷ xs)) (join_spaced next words)
@@ -57,7 +57,7 @@ group_pieces old number sites core rest a b d e new h1 h2 h3 h4 h5 =
     simp append_assoc in
     h5 ∙ rw (h4, h3, h2, h1) pieces ∙ ap (λ xs. old ++ xs) (sym words)
 
--- ---- whose words they are
+-- ---- what the words are of
 
 -- the words of a deadlocked process are those of its line
 pub deadlocked_words : (g : Graph) (p number : ℕ) (name : List ℕ) → is_deadlocked g p ≡ true → name ≡ name_of g p

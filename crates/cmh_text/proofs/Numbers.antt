@@ -1,4 +1,4 @@
--- The numbers of groups, and who belongs to which.
+-- The numbers of groups, and the processes that belong to each.
 use Rattle.std.proofs.Common.{◌≡◌, ℕ, zero, suc, ◌+◌, ◌-◌, ◌<◌, ◌≤◌, ◌&&◌, Bool, true, false, not, cond, eqb, leb, List, [], ◌∷◌, length, map, refl, sym, ◌∙◌, ap, subst, arith, add-one, eqb-true, eq-eqb, length-append}
 use Rattle.std.specs.Prelude.{Contains, Option, Some, None, filter, count_by}
 use Rattle.std.specs.List.{range_with_len}
@@ -108,7 +108,7 @@ led_by : (dead : Bool) (leader l : ℕ)
 led_by true leader l = refl
 led_by false leader l = refl
 
--- the table says who is led by whom
+-- the table says which leader each process has
 pub led_test : (g : Graph) (list : List (Option ℕ)) (l p : ℕ) → list ≡ map (group_leader g) (indices g)
     → p < process_count g → is_led_by list l p ≡ (is_deadlocked g p && eqb (leader_of g p) l)
 unfolding group_leader

@@ -1,4 +1,4 @@
--- What a group reaches that waits for another.
+-- What a group that waits for another one reaches.
 use Rattle.std.proofs.Common.{◌≡◌, ℕ, ◌<◌, ◌&&◌, Bool, true, false, List, [], ◌∷◌, map, eqb, eqb-true, refl, sym, ◌∙◌, subst}
 use Rattle.std.specs.Prelude.{Contains, IfSome, IsTrue, None, Option, Some}
 use Rattle.std.proofs.lemmas.List.Elements.{All-contains}

@@ -16,7 +16,7 @@ use Rattle.cmh_graph.proofs.AwakeLemmas.{or_none}
 use Rattle.cmh_graph.proofs.Groups.{same_test}
 use Rattle.cmh_graph.proofs.PositionLemmas.{count_marked}
 
--- The sites are those of so many processes, each once, and are marked alone.
+-- The sites are those of the list `all`, each once, and they alone are marked.
 pub record AreSeen (bound : ℕ) (seen : List Bool) (sites all : List ℕ) : Type 0 where
   pub size : length seen ≡ bound
   pub distinct : IsDistinct nat_eq sites

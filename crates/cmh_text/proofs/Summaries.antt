@@ -1,4 +1,4 @@
--- What summaries tell of leaders and paths.
+-- What summaries say of leaders and paths.
 use Rattle.std.proofs.Common.{◌≡◌, ◌∙◌, ℕ, zero, suc, ◌+◌, ◌<◌, ◌≤◌, Bool, true, false, List, [], ◌∷◌, ◌++◌, length, length-append, map, drop, take, take_all, get_or, add-one, refl, sym, ap, subst}
 use Rattle.std.proofs.lemmas.Bool.{true≢false}
 use Rattle.std.proofs.lemmas.List.{take_more}
@@ -55,12 +55,12 @@ deadlocked_by g p leader true true e f is = let same = rw (e, f) at is in (f, ap
 deadlocked_by g p leader true false e f is = let same = rw (e, f) at is in absurd cc
 deadlocked_by g p leader false dead e f is = let same = rw e at is in absurd cc
 
--- a process whose summary names a leader is deadlocked, and that is its leader
+-- where its summary names a leader, a process is deadlocked, and that is its leader
 pub deadlocked_then : (g : Graph) (p leader : ℕ) → summary_of g p ≡ Deadlocked leader
     → (is_deadlocked g p ≡ true) × (leader_of g p ≡ leader)
 deadlocked_then g p leader is = deadlocked_by g p leader (is_idle g p) (is_deadlocked g p) refl refl is
 
--- a process whose summary is of a path is idle and free, and this is its path's
+-- p is idle and free, and its chosen path has this next process and this number of processes
 pub record IsFreeBy (g : Graph) (p : ℕ) (next : Option ℕ) (count : ℕ) : Type 0 where
   pub idle : is_idle g p ≡ true
   pub free : is_deadlocked g p ≡ false
@@ -146,7 +146,7 @@ some_path : (o : Option (List ℕ)) → IsSome o → o ≡ Some (unwrap_or o [])
 some_path (Some path) s = refl
 some_path None s = cc
 
--- a process whose summary is of a path has a chosen path
+-- where its summary is of a path, a process has a chosen path
 path_known : (g : Graph) (p : ℕ) (next : Option ℕ) (count : ℕ) → IsWithinGraph g → summary_of g p ≡ Free next count
     → chosen_path g p ≡ Some (unwrap_or (chosen_path g p) [])
 path_known g p next count w is =

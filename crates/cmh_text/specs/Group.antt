@@ -1,4 +1,4 @@
--- The groups of deadlocked processes, as the report finds them: who leads whom, and the numbers.
+-- The groups of deadlocked processes, as the report finds them: the leader of each process, and the numbers.
 use Rattle.std.specs.Prelude.{◌≡◌, ℕ, Bool, nat_eq, nat_le, List, map, count_by, slice_index_or, Option, Some, None}
 use Rattle.std.specs.Option.{option_eq}
 use Rattle.cmh_graph.specs.Graph.{Graph, indices}

@@ -1,4 +1,4 @@
--- Whom a leader reaches, as it is kept for the lines of other groups.
+-- What a leader reaches, kept for the lines of other groups.
 use Rattle.std.specs.Prelude.{◌≡◌, ℕ, ◌+◌, ◌<◌, Bool, false, List, drop, map, take}
 use Rattle.cmh_graph.specs.Core.{core_of, rest_of}
 use Rattle.cmh_graph.specs.Graph.{Graph, indices, process_count}

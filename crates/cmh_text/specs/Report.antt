@@ -8,7 +8,7 @@ use Rattle.cmh_graph.specs.ChosenPath.{chosen_path}
 use Rattle.cmh_graph.specs.Verdict.{is_deadlocked}
 use Rattle.cmh_graph.specs.Core.{core_of, rest_of, leaders, group_number}
 
--- words parted by one space, and a line feed
+-- words separated by one space, and a line feed
 abbrev pub line : List (List ℕ) → List ℕ
 line words = join_with_byte 32 words ++ 10 ∷ []
 
@@ -42,7 +42,7 @@ counts_line all active idle deadlocked =
     ∷ codes "deadlocked" ∷ decimal deadlocked
     ∷ []
 
--- the words of the first line: who isn't idle is active
+-- the words of the first line: a process that isn't idle is active
 unfoldable pub totals_line : Graph → List (List ℕ)
 totals_line g =
     counts_line (process_count g) (count_by (λ p. not (is_idle g p)) (indices g)) (length (idle_list g))
@@ -78,6 +78,6 @@ report_text g =
 abbrev pub IsReport : Graph → List ℕ → Type 0
 IsReport g text = text ≡ report_text g
 
--- the text is the report on the graph, of which so many processes are deadlocked
+-- the text is the report on the graph, of which this number of processes are deadlocked
 abbrev pub IsCountedReport : ℕ → Graph → List ℕ → Type 0
 IsCountedReport deadlocked g text = IsReport g text × (deadlocked ≡ deadlocked_count g)

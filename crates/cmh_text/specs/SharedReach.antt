@@ -5,7 +5,7 @@ use Rattle.cmh_text.specs.LeaderReach.{IsLeaderReachOf}
 use Rattle.cmh_text.specs.Sites.{AreSitesBelow}
 use Rattle.cmh_text.specs.declared.shared_reach.SharedReach.{SharedReach}
 
--- whom the group's leader reaches is known, if there is one, and all sites are below the bound
+-- the kept reach, if there is one, is that of its leader, and all sites are below the bound
 pub record IsSharedReachOf (g : Graph) (shared : SharedReach) : Type 0 where
   pub most : IfSome shared.most (IsLeaderReachOf g)
   pub sites : AreSitesBelow g shared.site_bound

@@ -7,11 +7,12 @@ use Rattle.cmh_graph.specs.Verdict.{is_deadlocked}
 use Rattle.cmh_text.specs.declared.summary.Summary.{Summary}
 use Rattle.cmh_text.specs.declared.summary.Summary.TheVariants.{Active, Deadlocked, Free}
 
--- the process after the first of the path, if there is one, and how many are on the path
+-- the process after the first of the path, if there is one, and the number of processes on the path
 abbrev pub path_summary : List ℕ → Summary
 path_summary path = Free (slice_get path 1) (length path)
 
--- the leader of a deadlocked process; of a free one its next process and how long its path is
+-- what the line of p needs: of a deadlocked process the leader, of a free one the next process and how many are on its
+-- path
 unfoldable pub summary_of : Graph → ℕ → Summary
 summary_of g p =
     if is_idle g p

@@ -1,7 +1,7 @@
 //! A text that is made from its end.
 //!
-//! A line written by itself would be a call of the system for some 20 bytes; a chunk joined at once needs room for
-//! all its lines beside its text.
+//! A line written by itself would be a system call for some 20 bytes. A chunk joined at once would need room for all
+//! its lines beside its text.
 
 ghost use Rattle.std.specs.Prelude.{◌≡◌, ◌++◌, [], IfOk, OnOk, flat_map, reverse, string_bytes};
 
@@ -10,12 +10,12 @@ use std::alloc::{AllocError, Global};
 use std::marker::Model;
 use std::mem;
 
-/// How many bytes of lines are joined to one piece, at least: less than the heap asks the system for
-/// by itself, so that the next lines take the place of these.
+/// The least number of bytes of lines that are joined to one piece. The heap doesn't ask the system for a block of that
+/// size by itself, so the next lines take the place of these.
 const JOINED: usize = 65_536;
 
-/// A text whose lines come from the last to the first. They are joined to pieces as they come, so that
-/// no more lines are held than make a piece.
+/// A text whose lines come from the last to the first. They are joined to pieces as they come, so no more lines are
+/// held than make a piece.
 #[derive(Drop)]
 pub(crate) struct BackwardText {
     /// The end of the text, from its last piece to its first.

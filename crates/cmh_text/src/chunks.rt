@@ -1,7 +1,7 @@
 //! How many lines are worth a thread. Nothing here changes a byte of the report.
 //!
-//! A thread for each processor, whatever there is to do, would slow each small report; so the lines of a chunk take
-//! at least as long as the start of a thread.
+//! A thread for each processor, whatever there is to do, would slow each small report. So the lines of a chunk take at
+//! least as long as the start of a thread.
 
 ghost use Rattle.std.specs.Prelude.{◌<◌};
 
@@ -11,11 +11,10 @@ use cmh_graph::WaitGraph;
 /// About how many steps, each a few instructions, take as long as a thread takes to start.
 const THREAD_STEPS: usize = 65_536;
 
-/// How many chunks there are at most. In each the names of the first line are all written anew.
+/// The most chunks. In each the names of the first line are all written anew.
 const CHUNKS: usize = 64;
 
-/// How many lines of processes make a chunk that is worth a thread: the fewer, the longer their paths
-/// are.
+/// How many lines of processes make a chunk that is worth a thread: the fewer, the longer their paths are.
 pub(crate) fn process_chunk(lines: usize, summaries: &[Summary]) -> usize
     ensures { 0 < result }
 {
@@ -28,7 +27,7 @@ pub(crate) fn process_chunk(lines: usize, summaries: &[Summary]) -> usize
     chunk(lines, names)
 }
 
-/// The same of so many lines of groups, where each takes a search of the whole graph.
+/// How many lines of groups make such a chunk. Each line takes a search of the whole graph.
 pub(crate) fn group_chunk(graph: &WaitGraph, lines: usize) -> usize
     ensures { 0 < result }
 {
@@ -41,7 +40,7 @@ pub(crate) fn group_chunk(graph: &WaitGraph, lines: usize) -> usize
     chunk(lines, steps.saturating_mul(lines))
 }
 
-/// How many of so many lines, which take so many steps, make a chunk.
+/// How many lines make a chunk, where `lines` of them take `steps`.
 fn chunk(lines: usize, steps: usize) -> usize
     ensures { 0 < result }
 {

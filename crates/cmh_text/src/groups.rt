@@ -1,4 +1,4 @@
-//! The groups of deadlocked processes: who leads each, its number, its members and their sites.
+//! The groups of deadlocked processes: the leader of each, its number, its members and their sites.
 
 ghost use Rattle.std.specs.Prelude.{◌≡◌, ◌<◌, map, length, filter, not, All, IfOk, IfSome, IsTrue};
 ghost use Rattle.cmh_graph.specs.Core.{core_of, rest_of, leaders as all_leaders, group_leader, group_number};
@@ -18,7 +18,7 @@ use cmh_graph::WaitGraph;
 use cmh_graph::laws::law_built_graph;
 use std::alloc::{AllocError, Global};
 
-/// Who leads whom, and the numbers of the groups.
+/// The leader of each process, and the numbers of the groups.
 #[derive(Drop)]
 pub(crate) struct Groups {
     /// For each process what its line is made of.

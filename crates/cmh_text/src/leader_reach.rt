@@ -1,8 +1,8 @@
-//! Whom a leader reaches. Another group that waits for this one reaches them too, so its search goes on
-//! from here, and often its line does.
+//! What a leader reaches. Another group that waits for this one reaches the same, so its search continues from here,
+//! and often its line does.
 //!
-//! That a group is one process, and its rest all that the other one reaches, is seen by a comparison of marks: so
-//! nobody is picked out one by one.
+//! A comparison of marks shows that a group is one process and its rest all that the other one reaches. So no process
+//! is picked out by itself.
 
 ghost use Rattle.std.specs.Prelude.{◌≡◌, ◌<◌, length, map, slice_index, IfOk, IsTrue};
 ghost use Rattle.cmh_graph.specs.Graph.{indices, process_count};
@@ -16,7 +16,7 @@ use cmh_graph::laws::law_built_graph;
 use cmh_graph::{WaitGraph, marked_indices, out_of_memory};
 use std::alloc::{AllocError, Global};
 
-/// Whom a leader reaches.
+/// What a leader reaches.
 #[derive(Drop)]
 pub(crate) struct LeaderReach {
     pub(crate) leader: u32,
@@ -26,7 +26,7 @@ pub(crate) struct LeaderReach {
     pub(crate) reach: Vec<u32>,
 }
 
-/// Whom a leader reaches, and who of them is of its group.
+/// What a leader reaches, and which of it is the core of its group and which the rest.
 #[derive(Drop)]
 pub(crate) struct GroupParts {
     pub(crate) leader_reach: LeaderReach,
@@ -34,7 +34,7 @@ pub(crate) struct GroupParts {
     pub(crate) rest: Vec<u32>,
 }
 
-/// Searches the graph for whom a leader reaches.
+/// Searches the graph for what a leader reaches.
 pub(crate) fn leader_reach_of(
     alloc: Global,
     graph: &WaitGraph,
@@ -52,7 +52,7 @@ pub(crate) fn leader_reach_of(
     })
 }
 
-/// The parts of a leader that reaches another one. The search goes on from whom that one reaches.
+/// The parts of a leader that reaches another one. The search continues from what that one reaches.
 pub(crate) fn parts_from(
     alloc: Global,
     graph: &WaitGraph,
@@ -101,8 +101,8 @@ pub(crate) fn parts_of(
     })
 }
 
-/// The parts of a leader that reaches itself and whom the base does. It is a group by itself, and its
-/// rest is all that the base reaches.
+/// The parts of a leader that reaches itself and what the base does. It is a group by itself, and its rest is all that
+/// the base reaches.
 fn parts_beyond(
     alloc: Global,
     graph: &WaitGraph,
@@ -187,8 +187,8 @@ fn are_same(old: &[bool], new: &[bool]) -> bool
     old == new
 }
 
-/// The marked processes, which a leader reaches, by rising index. Who waits for nobody reaches itself
-/// alone, so that a look at all marks is spared where many such are.
+/// The marked processes, which a leader reaches, by rising index. One without dependents reaches itself alone, so it
+/// needs no look at all marks.
 fn reach_of(
     alloc: Global,
     graph: &WaitGraph,

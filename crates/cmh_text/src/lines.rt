@@ -1,5 +1,4 @@
-//! The lines of the report, each appended to the text before it. What a line takes is reserved at
-//! once.
+//! The lines of the report, each appended to the text before it. The room for a line is reserved at once.
 
 ghost use Rattle.std.specs.Prelude.{◌≡◌, ◌++◌, ◌∷◌, [], ◌<◌, All, OnOk, codes, decimal, string_bytes};
 ghost use Rattle.cmh_graph.specs.Graph.{process_count};

@@ -1,7 +1,7 @@
-//! The names of lists of processes, as text. A line often ends with names of the line before it, so
-//! those of the last list are kept.
+//! The names of lists of processes, as text. A line often ends with names of the line before it, so those of the last
+//! list are kept.
 //!
-//! What two lists share at their ends is seen by comparing them, so that no proof here speaks of paths or rests.
+//! A comparison shows what two lists share at their ends, so no proof here speaks of paths or rests.
 
 ghost use Rattle.std.specs.Prelude.{◌≡◌, ◌++◌, ◌-◌, ◌<◌, ◌≤◌, ◌^◌, drop, length, min, All, IfOk, OnOk, string_bytes};
 ghost use Rattle.cmh_graph.specs.Graph.{process_count};
@@ -23,7 +23,7 @@ impl LastNames {
     ghost use Rattle.cmh_graph.specs.Graph.{Graph};
     ghost use Rattle.cmh_text.specs.Names.{AreNamesOf};
 
-    /// The names of nobody.
+    /// The names of no processes.
     pub(crate) fn new(alloc: Global) -> LastNames
         ensures { (g : Graph) → AreNamesOf g result }
     {
@@ -54,8 +54,8 @@ impl LastNames {
     }
 }
 
-/// How many processes at the end of the old list are also those at the end of the new one, where one
-/// of the lists is the end of the other.
+/// How many processes at the end of the old list are also those at the end of the new one, if one of the lists is the
+/// end of the other.
 fn kept_count(old: &[u32], new: &[u32]) -> usize
     ensures within { (result ≤ length old.now) × (result ≤ length new.now) }
     ensures same { drop (length old.now - result) old.now ≡ drop (length new.now - result) new.now }

@@ -10,8 +10,8 @@ use crate::summary::Summary;
 use cmh_graph::WaitGraph;
 use std::alloc::{AllocError, Global};
 
-/// What the text takes from an analysis, which isn't needed once this is made: the groups of
-/// deadlocked processes, and the counts of the first line.
+/// What the text takes from an analysis: the groups of deadlocked processes, and the counts of the first line. The
+/// analysis isn't needed once this is made.
 #[derive(Drop)]
 pub struct Outline {
     /// The first line.
@@ -23,8 +23,8 @@ pub struct Outline {
 impl Outline {
     ghost use Rattle.cmh_text.specs.Outline.{IsOutlineOf};
 
-    /// Takes a summary of each process, and how many processes are idle and deadlocked. The graph isn't searched: it takes time and memory linear in the
-    /// processes.
+    /// Takes a summary of each process, and how many processes are idle and deadlocked. The graph isn't searched: it
+    /// takes time and memory linear in the processes.
     ///
     /// # Errors
     ///
@@ -72,7 +72,7 @@ fn counts(
     format!(in alloc; "processes {all} active {active} idle {idle} deadlocked {deadlocked}\n")
 }
 
-/// The first line, where so many processes are idle and deadlocked.
+/// The first line, with these numbers of idle and of deadlocked processes.
 #[tactic(auto, using(crate::proofs::Counts::active_and_idle))]
 fn totals(
     alloc: Global,

@@ -1,6 +1,5 @@
-//! The lines of the report, made by several threads in chunks. Whichever thread makes a chunk, its text
-//! stands in its place. In a chunk, lines are made from the last to the first, since a line often goes on
-//! from the one after it.
+//! The lines of the report, made by several threads in chunks. Whichever thread makes a chunk, its text stands in its
+//! place. In a chunk, lines are made from the last to the first, since a line often ends as the one after it does.
 
 ghost use Rattle.std.specs.Prelude.{◌≡◌, ◌<◌, All, IfOk, IfSome, IsTrue, flat_map, map, string_bytes};
 ghost use Rattle.cmh_graph.specs.Core.{leaders};

@@ -1,4 +1,4 @@
-//! The paths of free processes. Each is walked when its line is written, so that none is kept.
+//! The paths of free processes. Each is walked when its line is written, so none is kept.
 
 ghost use Rattle.std.specs.Prelude.{◌≡◌, Some, IfOk};
 ghost use Rattle.cmh_graph.specs.ChosenPath.{chosen_path};
@@ -9,8 +9,8 @@ use cmh_graph::WaitGraph;
 use cmh_graph::laws::law_built_graph;
 use std::alloc::{AllocError, Global};
 
-/// The chosen path of a free process, by the process after it and by how many are on the path: the
-/// process, and then the path of that one. It takes time linear in the path.
+/// The chosen path of a free process, by the process after it and the number of processes on the path. It is the
+/// process, and then the path of the one after it. It takes time linear in the path.
 pub(crate) fn path_of(
     alloc: Global,
     graph: &WaitGraph,

@@ -1,7 +1,7 @@
 //! The group whose reach is searched once for all lines: many groups may wait for it.
 //!
-//! Two reaches are kept, and not that of each group, which would take memory by the square of the processes: that of
-//! the group with the most members, for all lines, and that of the group whose line was made last.
+//! Two reaches are kept: for all lines that of the group with the most members, and that of the group whose line was
+//! made last. To keep that of each group would take memory by the square of the processes.
 
 ghost use Rattle.std.specs.Prelude.{ℕ, ◌<◌, length, All, Contains, IfOk, IfSome, IsTrue};
 ghost use Rattle.cmh_graph.specs.Graph.{process_count};
@@ -21,7 +21,7 @@ use std::alloc::{AllocError, Global};
 /// What the lines of groups share.
 #[derive(Drop)]
 pub(crate) struct SharedReach {
-    /// Whom the leader of the greatest group reaches, if there is one.
+    /// What the leader of the greatest group reaches, if there is one.
     pub(crate) most: Option<LeaderReach>,
     /// One more than the greatest site.
     pub(crate) site_bound: usize,
@@ -48,8 +48,8 @@ impl SharedReach {
     }
 }
 
-/// The reach from which the search for that of a leader can continue, if there is one: that of the
-/// line before, or of the greatest group.
+/// The reach from which the search for that of a leader can continue, if there is one: that of the line before, or of
+/// the greatest group.
 pub(crate) fn find_base<'a>(
     graph: &WaitGraph,
     groups: &Groups,
@@ -76,7 +76,7 @@ pub(crate) fn find_base<'a>(
     None
 }
 
-/// Whom that leader reaches, if there is one.
+/// What the leader reaches, if there is one.
 fn leader_reach_if_any(
     alloc: Global,
     graph: &WaitGraph,
@@ -91,7 +91,7 @@ fn leader_reach_if_any(
     }
 }
 
-/// Who leads the most processes, if there is a leader.
+/// The leader of the most processes, if there is one.
 fn leader_of_most(alloc: Global, groups: &Groups) -> Result<Option<u32>, AllocError>
     ensures { IfOk result (λ leader. IfSome leader (λ l. Contains groups.now.list.items l)) }
 {
@@ -130,7 +130,7 @@ fn waits_for(graph: &WaitGraph, groups: &Groups, p: u32, leader: u32) -> bool
     has_led(&groups.summaries, leader, graph.dependents(p))
 }
 
-/// Whether the list has somebody whom that leader leads.
+/// Whether the list has a process that this leader leads.
 fn has_led(summaries: &[Summary], leader: u32, list: &[u32]) -> bool
     requires { All (λ q. q < length summaries.now) list.now }
     ensures { IsTrue result

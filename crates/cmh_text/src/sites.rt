@@ -39,8 +39,7 @@ pub(crate) fn count_sites(
     }
 }
 
-/// The same by a mark for each site below the bound, which costs least. Where all of them are marked
-/// it stops.
+/// The same by a mark for each site below the bound, which costs least. Where all of them are marked it stops.
 fn count_marked(
     alloc: Global,
     graph: &WaitGraph,

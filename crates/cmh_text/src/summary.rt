@@ -10,13 +10,12 @@ pub enum Summary {
     Active,
     /// It is deadlocked, and this process leads its group.
     Deadlocked(u32),
-    /// It is free. The process after it on its path, if there is one, and how many processes are on
-    /// the path.
+    /// It is free. The process after it on its path, if there is one, and how many processes are on the path.
     Free(Option<u32>, usize),
 }
 
 impl Summary {
-    /// Who leads the process, if it is deadlocked.
+    /// The leader of the process, if it is deadlocked.
     pub(crate) fn leader(self) -> Option<u32>
         ensures { result ≡ leader_in self }
     {

@@ -12,16 +12,15 @@ use cmh_stream::Pieces;
 use std::alloc::{AllocError, Global};
 use std::thread::Threads;
 
-/// How many bytes a text has at most that is worth a copy to be in one piece.
+/// The most bytes of a text that is worth a copy to be in one piece.
 const SHORT: usize = 1_048_576;
 
-/// The report on a graph in pieces, by what was taken from an analysis: a line of counts, a line for
-/// each idle process, and a line for each group of deadlocked processes. The graph is searched once
-/// for each group, for whom its leader reaches; a group that waits for the greatest one, or for the
-/// group after it, goes on from the reach of that. The rest takes time close to linear in the
-/// processes and in the text. Where there is much to do, the lines are made by as
-/// many threads as there are processors. Memory is taken for the lines and for the whole text; lines
-/// are given back once they stand in the text.
+/// The report on a graph in pieces, by what was taken from an analysis: a line of counts, a line for each idle process,
+/// and a line for each group of deadlocked processes. The graph is searched once for each group, for what its leader
+/// reaches. Where a group waits for the greatest one, or for the group after it, the search continues from the reach of
+/// that one. The rest takes time close to linear in the processes and in the text. Where there is much to do, the lines
+/// are made by as many threads as there are processors. Memory is taken for the lines and for the whole text; lines are
+/// given back once they stand in the text.
 ///
 /// # Errors
 ///
