@@ -1,4 +1,4 @@
--- When a process is written as it has to be, from what its members are read as.
+-- Which processes are written as they have to be, by what their members are read as.
 use Rattle.std.proofs.Common.{◌≡◌, ℕ, List, [], ◌∷◌, Bool, true, false, ◌&&◌, ◌||◌, cond, codes, map, Option, Some, None, refl, sym, ap, ◌∙◌, Bor}
 use Rattle.std.specs.Prelude.{bytes_eq, is_some, option_map, unwrap_or}
 use Rattle.std.specs.List.{list_all}

@@ -1,4 +1,4 @@
--- Dumps whose meaning is known, by computation. In their texts ' stands for a double quote.
+-- Dumps with a known meaning, by computation. In their texts ' stands for a double quote.
 use Rattle.std.proofs.Common.{◌≡◌, ℕ, ◌+◌, ◌≤◌, List, [], ◌∷◌, ◌++◌, codes, map, None, Ok, Err, refl, subst, arith}
 use Rattle.std.specs.Prelude.{replicate, ◌==◌, if◌then◌else◌}
 use Rattle.std.specs.Str.{is_utf8, chars}
@@ -129,7 +129,7 @@ no_messages : Means (with_messages (codes "[]")) cycle []
 unfolding dump dump_of_tree serde_json_on_literals is_utf8 chars
 no_messages = refl
 
--- a message may repeat, and come from whoever it is
+-- a message may repeat, and may come from any process
 repeated_message : Means (with_messages (codes "[['p','p'],['q','p'],['q','p']]")) cycle ((0, 0) ∷ (1, 0) ∷ (1, 0) ∷ [])
 unfolding dump dump_of_tree serde_json_on_literals is_utf8 chars
 repeated_message = refl

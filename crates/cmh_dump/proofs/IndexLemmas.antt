@@ -26,7 +26,7 @@ pub length-texts : (names : List (Bor (List ℕ))) → length (texts names) ≡ 
 length-texts [] = refl
 length-texts (x ∷ xs) = ap suc (length-texts xs)
 
--- whether the keys so far hold the name at place i tells whether it repeats an earlier one
+-- whether the keys so far hold the name at place i says whether it repeats an earlier one
 repeat_is : (names keys : List (Bor (List ℕ))) (i : ℕ) (d : Bor (List ℕ)) → i < length names
     → texts keys ≡ take i (texts names) → list_any (same_text (get_or names i d)) keys ≡ repeats (texts names) i
 repeat_is names keys i d lt h =

@@ -33,16 +33,16 @@ map-next f xs i x lt e =
     let next : i + 1 ≡ suc i = omega arith in
     ap (λ n. map f (take n xs)) next ∙ ap (map f) (take-next xs i x (get-at xs i x lt e)) ∙ map-last f (take i xs) x
 
--- a list seen as what a function makes of the first i elements of another is seen as that of the
--- first i + 1, once what is seen as that of the next one is pushed on it
+-- a list seen as what a function makes of the first i elements of another is seen as that of the first i + 1, once what
+-- is seen as that of the next one is pushed on it
 pub seen-next : {X Y Z : Type 0} (g : Z → Y) (f : X → Y) (zs more : List Z) (z : Z) (xs : List X) (i : ℕ) (x : X)
     → more ≡ zs ++ z ∷ [] → map g zs ≡ map f (take i xs) → g z ≡ f x → i < length xs → x ≡ get_or xs i x
     → map g more ≡ map f (take (i + 1) xs)
 seen-next g f zs more z xs i x pushed seen same lt e =
     ap (map g) pushed ∙ map-last g zs z ∙ (λ t. seen t ++ same t ∷ []) ∙ sym (map-next f xs i x lt e)
 
--- a list that is what a function makes of the first i elements of another is that of the first i + 1,
--- once what the function makes of the next one is pushed on it
+-- a list that is what a function makes of the first i elements of another is that of the first i + 1, once what the
+-- function makes of the next one is pushed on it
 pub made-next : {X Y : Type 0} (f : X → Y) (ys more : List Y) (y : Y) (xs : List X) (i : ℕ) (x : X)
     → more ≡ ys ++ y ∷ [] → ys ≡ map f (take i xs) → y ≡ f x → i < length xs → x ≡ get_or xs i x
     → more ≡ map f (take (i + 1) xs)

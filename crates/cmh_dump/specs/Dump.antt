@@ -14,7 +14,7 @@ use Rattle.cmh_dump.specs.Name.{is_name, is_among, place_of, repeats}
 use Rattle.cmh_dump.specs.Tree.{texts_of, has_array, has_keys}
 use Rattle.cmh_dump.specs.Entry.{is_version, sites, processes, transits, Entry, entries, entry, names, is_process, is_pair}
 
--- ---- the conditions, of which each is looked at only where none before it holds
+-- ---- the conditions: each is looked at only where none before it holds
 
 -- the keys at the top: version 2 has one more
 abbrev pub top_keys : Data → List (List ℕ)
@@ -27,8 +27,8 @@ is_top d =
     has_keys (top_keys d) [] d && has_array (codes "sites") d && has_array (codes "processes") d
     && (not (is_version 2 d) || has_array (codes "in_transit") d)
 
--- the condition of a fault holds of the tree; those of no tree never do: out of memory, a failed
--- source, and bytes that are too many or no JSON
+-- the condition of the fault holds of the tree; faults that no tree has never hold: out of memory, a failed source, too
+-- many bytes, and bytes that are no JSON
 abbrev pub holds : Data → DumpFault → Bool
 holds d BadTop = not (is_top d)
 holds d BadVersion = not (is_version 1 d || is_version 2 d)
@@ -71,7 +71,7 @@ top_faults = (BadTop ∷ []) ∷ (BadVersion ∷ []) ∷ []
 abbrev pub site_faults : Data → List (List DumpFault)
 site_faults d = each (sites d) BadSites ∷ each (sites d) RepeatedSite ∷ (TooManySites ∷ []) ∷ []
 
--- what can be wrong with the number of processes, and with each without the others
+-- what can be wrong with the number of processes, and with each process by itself
 abbrev pub process_faults : Data → List (List DumpFault)
 process_faults d = (TooManyProcesses ∷ []) ∷ each (processes d) BadProcess ∷ []
 
@@ -106,8 +106,8 @@ first_of test (faults ∷ rest) = option_or (find test faults) (first_of test re
 
 -- ---- the graph
 
--- a process by indices: its site becomes a place among the names of the sites, and each dependent
--- one among the names of the processes
+-- a process by indices: its site becomes a place among the names of the sites, and each dependent one among the names
+-- of the processes
 abbrev pub process_by : List (List ℕ) → List (List ℕ) → Entry → Process
 process_by sites names e = record {
   name = e.name;
@@ -116,8 +116,7 @@ process_by sites names e = record {
   dependents = map (place_of names) e.dependents;
 }
 
--- a message in transit by indices: the places of its sender and its receiver among the names of the
--- processes
+-- a message in transit by indices: the places of its sender and its receiver among the names of the processes
 abbrev pub places_in_pair : List (List ℕ) → Data → ℕ × ℕ
 places_in_pair names t =
     (place_of names (slice_index_or (texts_of t) 0 []), place_of names (slice_index_or (texts_of t) 1 []))

@@ -1,4 +1,4 @@
--- What is said of an index of names.
+-- What contracts say of an index of names.
 use Rattle.std.specs.Prelude.{ℕ, List, length, find, Option}
 use Rattle.std.specs.List.{range_with_len}
 use Rattle.cmh_dump.specs.Name.{repeats}

@@ -14,7 +14,7 @@ use Rattle.cmh_dump.specs.Entry.{Entry}
 use Rattle.cmh_dump.specs.Tree.{text_of}
 use Rattle.serde_json.specs.View.{view}
 
--- a process as it is written, without where it lies in memory
+-- what an entry in memory stands for: a process as it is written
 abbrev pub entry_view : declared.Entry → Entry
 entry_view e = record {
   name = e.name.now;
@@ -31,8 +31,8 @@ first_pair search i (y ∷ ys) =
 
 -- ---- stages
 
--- A stage judges some kinds of faults: at Ok none of them holds, and the fault answered is the
--- first that does, out of memory apart.
+-- A stage judges some kinds of faults: at Ok none of them holds, and the fault answered is the first that does, out of
+-- memory apart.
 abbrev pub Judges : {T : Type 0} → Data → List (List DumpFault) → Result T DumpFault → Type 0
 Judges d kinds (Ok x) = first_of (holds d) kinds ≡ None
 Judges d kinds (Err e) = e ≢ Memory → first_of (holds d) kinds ≡ Some e
@@ -43,11 +43,11 @@ Judges d kinds (Err e) = e ≢ Memory → first_of (holds d) kinds ≡ Some e
 abbrev pub with_name : List ℕ → Process → Process
 with_name name p = record { name = name; site = p.site; state = p.state; dependents = p.dependents }
 
--- a process whose name is still in the tree
+-- a process with its name still in the tree
 abbrev pub without_name : Process → Process
 without_name p = with_name [] p
 
--- a graph whose names are still in the tree
+-- a graph with its names still in the tree
 abbrev pub without_names : Graph → Graph
 without_names g = record { processes = map without_name g.processes; in_transit = g.in_transit }
 
@@ -57,8 +57,8 @@ with_names [] ps = ps
 with_names (name ∷ names) [] = []
 with_names (name ∷ names) (p ∷ ps) = with_name name p ∷ with_names names ps
 
--- None of the kinds holds, and the parts and messages in transit make the graph of the tree, names
--- apart; or the fault answered is the first that holds, out of memory apart.
+-- None of the kinds holds, and the parts and messages in transit make the graph of the tree, names apart; or the fault
+-- answered is the first that holds, out of memory apart.
 abbrev pub Builds : Data → List (List DumpFault) → Result (Vec Part × Vec (ℕ × ℕ)) DumpFault → Type 0
 Builds d kinds (Ok parts) =
     (first_of (holds d) kinds ≡ None) × (graph.parts_graph parts.0.items parts.1.items ≡ without_names (tree_graph d))

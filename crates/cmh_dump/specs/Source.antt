@@ -1,4 +1,4 @@
--- What is said of reading a source to its end.
+-- What contracts say of reading a source to its end.
 use Rattle.std.specs.Prelude.{◌≡◌, ℕ, ◌≤◌, List, ◌++◌, length}
 use Rattle.cmh_stream.specs.Device.{SourceState}
 

@@ -1,5 +1,4 @@
--- What stands at a place of a tree of JSON. A place that isn't there, or has another kind, reads
--- as empty.
+-- What stands at a place of a tree of JSON. A place that isn't there, or has another kind, reads as empty.
 use Rattle.std.specs.Prelude.{ℕ, ◌&&◌, ◌||◌, List, [], ◌∷◌, Bool, map, is_some, unwrap_or}
 use Rattle.std.specs.List.{list_all}
 use Rattle.std.specs.Option.{option_map_or}

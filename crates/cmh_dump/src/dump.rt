@@ -81,16 +81,15 @@ fn read_tree(alloc: Global, tree: Value) -> Result<WaitGraph, DumpFault>
     match WaitGraph::build_with(alloc, parts, &in_transit) {
         Ok(graph) => Ok(graph),
         Err(fault) => {
-            // What was judged is well formed, so that nothing else can be refused.
+            // What was judged is well formed, so only memory can be refused.
             prove!(matches!(fault, GraphFault::Memory));
             Err(DumpFault::Memory)
         }
     }
 }
 
-/// The wait graph that the bytes mean, or the first condition that refuses them, in the order of
-/// the variants of `DumpFault`. `Memory` may be answered before the others. It takes time
-/// close to linear in the bytes.
+/// The wait graph that the bytes mean, or the first condition that refuses them, in the order of the variants of
+/// `DumpFault`. `Memory` may be answered before the others. It takes time close to linear in the bytes.
 #[tactic(auto, using(crate::proofs::FirstFault::Bytes::too_long, crate::proofs::FirstFault::Bytes::no_json, crate::proofs::FirstFault::Bytes::of_the_tree))]
 pub fn read_dump(alloc: Global, bytes: &[u8]) -> Result<WaitGraph, DumpFault>
     ensures ok { IfOk result (λ g. dump bytes.now ≡ Ok g) }

@@ -21,8 +21,8 @@ pub enum DumpFault {
     /// The bytes are no JSON text.
     #[error("not JSON")]
     NotJson,
-    /// The text is no object with just the keys of its version, of which `sites`, `processes` and,
-    /// in version 2, `in_transit` are arrays.
+    /// The text is no object with just the keys of its version, of which `sites`, `processes` and, in version 2,
+    /// `in_transit` are arrays.
     #[error("bad top")]
     BadTop,
     /// The version is neither 1 nor 2.
@@ -49,10 +49,10 @@ pub enum DumpFault {
     /// The site of this process is not in `sites`.
     #[error("unknown site {0}")]
     UnknownSite(usize),
-    /// Of this process this dependent names no process.
+    /// The dependent at the second place, of the process at the first, names no process.
     #[error("unknown dependent {0} {1}")]
     UnknownDependent(usize, usize),
-    /// Of this process this dependent equals an earlier one.
+    /// The dependent at the second place, of the process at the first, equals an earlier one of that process.
     #[error("repeated dependent {0} {1}")]
     RepeatedDependent(usize, usize),
     /// This process is active and has dependents.

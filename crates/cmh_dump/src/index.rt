@@ -101,8 +101,8 @@ pub(crate) fn place_of(index: &IndexSet<&str>, name: &str) -> u32
     }
 }
 
-/// The places of the names that stand as values, or where the first stands that is none of them.
-/// Each is looked up once.
+/// The places of the names that stand as values, or where the first stands that is none of them. Each is looked up
+/// once.
 pub(crate) fn places_of(
     alloc: Global,
     index: &IndexSet<&str>,

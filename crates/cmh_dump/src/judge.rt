@@ -84,7 +84,7 @@ pub(crate) fn read_sites<'v>(alloc: Global, tree: &'v Value) -> Result<IndexSet<
     Ok(index)
 }
 
-/// The processes as they are written, each judged without the others.
+/// The processes as they are written, each judged by itself.
 pub(crate) fn read_processes<'v>(
     alloc: Global,
     tree: &'v Value,
@@ -125,7 +125,7 @@ pub(crate) fn read_names<'v>(
     }
 }
 
-/// The place of the first process whose site is not among the sites.
+/// The place of the first process on a site that is not among the sites.
 fn first_unknown_site(entries: &[Entry<'_>], sites: &IndexSet<&str>) -> Option<usize>
     ensures { result ≡ position
         (λ e. not (is_among (texts sites.now.keys) e.site.now)) entries.now }

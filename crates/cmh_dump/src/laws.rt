@@ -33,8 +33,7 @@ pub fn law_no_fault()
         × (option_map tree_graph (tree_of bytes) ≡ Some g)) }
 {}
 
-/// The graph that bytes mean is well formed: the only fault of `WaitGraph::build_with` on it is out of
-/// memory.
+/// The graph that bytes mean is well formed: the only fault of `WaitGraph::build_with` on it is out of memory.
 pub fn law_well_formed()
     ensures { (bytes : List ℕ) (g : Graph) → dump bytes ≡ Ok g → IsWellFormed g }
 {}

@@ -1,5 +1,4 @@
-//! Dumps of stalled message-passing programs: the bytes of a source, and the wait graph that they
-//! mean.
+//! Dumps of stalled message-passing programs: the bytes of a source, and the wait graph that they mean.
 #![tactic(auto)]
 
 mod dump;

@@ -22,8 +22,7 @@ fn all_name_bytes(bytes: &[u8]) -> bool
     bytes.iter().all(|byte| is_name_byte(*byte))
 }
 
-/// A name has 1 to `MAX_NAME` bytes: ASCII letters, digits and `_ - . : /`. The first is a letter or
-/// a digit.
+/// A name has 1 to `MAX_NAME` bytes: ASCII letters, digits and `_ - . : /`. The first is a letter or a digit.
 pub(crate) fn is_name(text: &str) -> bool
     ensures { result ≡ is_name_lem text.now }
 {

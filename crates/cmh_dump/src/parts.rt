@@ -1,5 +1,5 @@
-//! From processes as they are written to the parts of the wait graph: names become indices, and those
-//! of the processes themselves are moved out of the tree at the end.
+//! From processes as they are written to the parts of the wait graph. Names become indices, and those of the processes
+//! themselves are moved out of the tree at the end.
 
 ghost use Rattle.std.specs.Prelude.{◌≡◌, ◌≢◌, ◌<◌, ◌^◌, ℕ, length, map, vec_len, Some, None, IfOk, IfErr, OnOk};
 ghost use Rattle.cmh_graph.specs.Build.{process_of};
@@ -19,8 +19,7 @@ use indexmap::IndexSet;
 use serde_json::Value;
 use std::alloc::Global;
 
-/// A process by indices and without its name, or the place of its first dependent that names no
-/// process.
+/// A process by indices and without its name, or the place of its first dependent that names no process.
 fn part_of(
     alloc: Global,
     entry: &Entry<'_>,
@@ -74,7 +73,7 @@ pub(crate) fn parts_of(
     Ok(parts)
 }
 
-/// The parts with the names of the processes, which are moved out of the trees of these.
+/// The parts with the names of the processes, which are moved out of the trees.
 pub(crate) fn move_names(alloc: Global, processes: Vec<Value>, mut parts: Vec<Part>) -> Vec<Part>
     requires { vec_len processes ≡ vec_len parts }
     ensures { map process_of result.items

@@ -9,8 +9,8 @@ ghost use Rattle.cmh_dump.specs.Read.{first_pair};
 use cmh_graph::{Part, first_repeat};
 use std::alloc::{AllocError, Global};
 
-/// The first process with a dependent that equals an earlier one, and the place of that dependent.
-/// Each of `count` processes keeps the number of the last one that named it, counted from 1.
+/// The first process with a dependent that equals an earlier one, and the place of that dependent. Each of `count`
+/// processes keeps the number of the last one that named it, counted from 1.
 pub(crate) fn first_repeated_dependent(
     alloc: Global,
     parts: &[Part],

@@ -8,13 +8,12 @@ use crate::{DumpFault, MAX_BYTES};
 use cmh_stream::Source;
 use std::alloc::Global;
 
-/// The bytes that the source gives up to its end. At most one byte more than a dump may have is
-/// taken, whatever is answered, and what was taken stays taken.
+/// The bytes that the source gives up to its end. At most one byte more than a dump may have is taken, and what was
+/// taken stays taken, whatever the answer is.
 ///
 /// # Errors
 ///
-/// `Memory`, `ReadFault` where the source has failed, and `TooLong` where it gave more than
-/// `MAX_BYTES` bytes.
+/// `Memory`, `ReadFault` where the source has failed, and `TooLong` where it gave more than `MAX_BYTES` bytes.
 pub fn read_all<S: Source>(alloc: Global, source: &mut S) -> Result<Vec<u8>, DumpFault>
     ensures given { IfOk result (λ v.
         (S.state source.new).given ≡ (S.state source.old).given ++ v.items) }

@@ -1,5 +1,4 @@
-//! Dumps that are accepted and dumps that are refused. What is wanted is from the rules of dumps,
-//! by hand.
+//! Dumps that are accepted and dumps that are refused. Wanted answers are from the rules of dumps, by hand.
 
 mod accepted;
 mod in_transit;
@@ -13,8 +12,8 @@ use std::alloc::{AllocError, Global};
 use std::fmt::Debug;
 use std::process::Abort;
 
-/// Fails the test where what was found is not what was wanted. As a call it is one step of a test's proof; written
-/// out, a comparison is several, and proofs of tests grow faster than their steps.
+/// Fails the test where what was found is not what was wanted. As a call it is one step of a test's proof; written out,
+/// a comparison is several, and proofs of tests grow faster than their steps.
 fn expect_eq<R: Abort, T: PartialEq + Debug + Drop>(rt: &R, found: T, wanted: T) {
     assert_eq!(*rt; found, wanted);
 }
@@ -30,7 +29,7 @@ const TWO_IN_A_CYCLE: &str = concat!(
     r#"{"name":"q","site":"a","state":"idle","dependents":["p"]}]}"#,
 );
 
-/// What the bytes are answered by: `accepted`, or the text of the fault.
+/// The answer to the bytes: `accepted`, or the text of the fault.
 fn answer(alloc: Global, bytes: &[u8]) -> Result<String, AllocError> {
     match read_dump(alloc, bytes) {
         Ok(_) => String::from_str(alloc, "accepted"),
@@ -38,12 +37,12 @@ fn answer(alloc: Global, bytes: &[u8]) -> Result<String, AllocError> {
     }
 }
 
-/// Whether the bytes are answered by this.
+/// Whether this is the answer to the bytes.
 fn is_answered(alloc: Global, bytes: &[u8], wanted: &str) -> Result<bool, AllocError> {
     Ok(answer(alloc, bytes)?.as_str() == wanted)
 }
 
-/// The place of the first dump that is not answered by what stands with it.
+/// The place of the first dump with another answer than the one beside it.
 fn first_wrong(alloc: Global, rows: &[(&str, &str)]) -> Result<Option<usize>, AllocError> {
     for (i, (dump, wanted)) in rows.iter().enumerate() {
         if !is_answered(alloc, dump.as_bytes(), wanted)? {

@@ -1,5 +1,4 @@
-//! Messages in transit: each is written as the names of its sender and its receiver, and read by the
-//! places of these.
+//! Messages in transit: each is written as the names of its sender and its receiver, and read by the places of these.
 
 ghost use Rattle.std.specs.Prelude.{◌≡◌, ◌<◌, ◌^◌, not, length, map, position, is_some, true, Some, None, IfOk, if◌then◌else◌};
 ghost use Rattle.std.specs.List.{list_all};

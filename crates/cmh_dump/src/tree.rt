@@ -1,5 +1,4 @@
-//! The tree of a dump, and what stands at its places. A place that isn't there, or has another
-//! kind, reads as empty.
+//! The tree of a dump, and what stands at its places. A place that isn't there, or has another kind, reads as empty.
 
 ghost use Rattle.std.specs.Prelude.{◌≡◌, ◌≢◌, ◌||◌, Some, None, IfOk, IfErr, false, ◌==◌, is_some, map, option_and_then, option_map, bytes_eq, string_bytes};
 ghost use Rattle.std.specs.List.{list_all, list_any};

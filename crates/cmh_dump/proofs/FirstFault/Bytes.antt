@@ -19,7 +19,7 @@ pub too_long : (bytes : List ℕ) → MAX_BYTES < length bytes → dump bytes �
 unfolding dump
 too_long bytes h = ap (λ b. cond b (Err TooLong) (of_tree (tree_of bytes))) (lt-ltb MAX_BYTES (length bytes) h)
 
--- what bytes that are not too many mean, their tree decides
+-- the tree of bytes that are not too many decides what they mean
 short : (bytes : List ℕ) → length bytes ≤ MAX_BYTES → dump bytes ≡ of_tree (tree_of bytes)
 unfolding dump
 short bytes h = ap (λ b. cond b (Err TooLong) (of_tree (tree_of bytes))) (le-ltb MAX_BYTES (length bytes) h)

@@ -193,8 +193,8 @@ module _ (d : Data) (es : List declared.Entry) (seen : map entry_view es ≡ ent
       (first_here (holds d) (each_dependent d UnknownDependent) from_repeats _ (UnknownDependent i j)
       (unknown_dependents d es seen process_names are_names) (ap (option_map (λ p. UnknownDependent p.0 p.1)) k))
 
-  -- where all sites are known, a fault that says the unknown dependent, out of memory apart, is the
-  -- first fault of the entries
+  -- where all sites are known, a fault that names the unknown dependent, out of memory apart, is the first fault of the
+  -- entries
   pub dependent_found : (e : DumpFault) → unknown_site ≡ None
       → (e ≢ Memory → (i j : ℕ) × (e ≡ UnknownDependent i j) × (unknown_dependent ≡ Some (i, j))) → e ≢ Memory
       → first_of (holds d) (entry_faults d) ≡ Some e
@@ -227,8 +227,8 @@ module _ (d : Data) (es : List declared.Entry) (seen : map entry_view es ≡ ent
       (first_later (holds d) (each_dependent d RepeatedDependent) from_active _ r (repeated_dependents d es seen)
       (ap (option_map (λ p. RepeatedDependent p.0 p.1)) l) later)
 
-  -- where all sites and all dependents are known and no dependent repeats, an active process with
-  -- dependents is the first fault of the entries
+  -- where all sites and all dependents are known and no dependent repeats, an active process with dependents is the
+  -- first fault of the entries
   pub active_waits : (i : ℕ) → unknown_site ≡ None → unknown_dependent ≡ None → repeated_dependent ≡ None
       → active ≡ Some i → first_of (holds d) (entry_faults d) ≡ Some (ActiveWithDependents i)
   active_waits i h k l m =

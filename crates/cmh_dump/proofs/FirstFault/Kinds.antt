@@ -74,8 +74,8 @@ pub at_seen : {Y Z : Type 0} (f : Y → Z) (ys : List Y) (all : List Z) (k : ℕ
     → slice_get (map f ys) k ≡ Some z → slice_get all k ≡ Some z
 at_seen f ys all k z e h = ap (λ zs. slice_get zs k) (sym e) ∙ h
 
--- where a list is seen as another one, what is seen at a place is what the other has there,
--- whatever would be read past its end
+-- where a list is seen as another one, what is seen at a place is what the other has there, whatever would be read past
+-- its end
 pub or_seen : {Y Z : Type 0} (f : Y → Z) (ys : List Y) (all : List Z) (k : ℕ) (z x : Z) → map f ys ≡ all
     → slice_get (map f ys) k ≡ Some z → get_or all k x ≡ z
 or_seen f ys all k z x e h = sym (unwrap_or-slice_get all k x) ∙ ap (λ o. unwrap_or o x) (at_seen f ys all k z e h)

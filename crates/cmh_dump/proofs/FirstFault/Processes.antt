@@ -1,4 +1,4 @@
--- What the searches of the processes, each without the others, say of their faults.
+-- What the searches of the processes, each by itself, say of their faults.
 use Rattle.std.proofs.Common.{◌≡◌, ℕ, ◌≤◌, List, [], ◌∷◌, false, not, Option, Some, None, map, length, refl, ap}
 use Rattle.std.specs.Prelude.{find, position, option_map}
 use Rattle.serde_json.specs.Data.{Data, null}

@@ -69,8 +69,7 @@ module _ {V : Type 0} (view : V → Data) (d : Data) (vs : List V) (seen : map v
       (first_later (holds d) (each (transits d) BadInTransit) (each (transits d) UnknownInTransit ∷ []) _ r
       (bad_transits view d vs seen) (ap (option_map BadInTransit) h) later)
 
-  -- where the messages in transit are few enough and all are pairs, one with an unknown name is their
-  -- first fault
+  -- where the messages in transit are few enough and all are pairs, one with an unknown name is their first fault
   pub transit_unknown : (i : ℕ) → length vs ≤ MAX_IN_TRANSIT → bad_pair ≡ None → unknown_pair ≡ Some i
       → first_of (holds d) (transit_faults d) ≡ Some (UnknownInTransit i)
   transit_unknown i few h k =

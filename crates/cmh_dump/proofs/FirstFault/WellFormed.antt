@@ -159,7 +159,7 @@ distinct d clean i j k h l s =
 
 -- ---- active processes
 
--- a process has the state that the tree tells
+-- a process has the state that the tree says
 state_by : (d : Data) (ps : List Data) (i : ℕ) → i < length ps
     → (get_or (map (process d) (map entry_of ps)) i graph.nobody).state ≡ (entry_of (get_or ps i null)).state
 state_by d [] i l = absurd (omega arith)
@@ -192,7 +192,7 @@ waiting d clean i e = dependents_are d i ∙ ap (map (place_of (names d))) (by (
 
 -- ---- the sum of the dependents
 
--- a process of the graph has as many dependents as the tree tells
+-- a process of the graph has as many dependents as the tree says
 counts_by : (d : Data) (es : List Entry)
     → map (λ p. length p.dependents) (map (process d) es) ≡ map (λ e. length e.dependents) es
 counts_by d [] = refl
@@ -222,7 +222,7 @@ known_in_pair d clean i k h l =
     let place = place_within (names d) (get_or (texts_of t) k []) one in
     omega (arith, place, length-names d, process_count_is d)
 
--- a message of the graph is the one that the tree tells
+-- a message of the graph is the one that the tree says
 transit_is : (d : Data) (i : ℕ) → i < length (tree_graph d).in_transit
     → (i < length (transits d)) × (message_at (tree_graph d) i ≡ places_in_pair (names d) (get_or (transits d) i null))
 transit_is d i l =

@@ -7,7 +7,7 @@ use std::test::Fail;
 
 const DUMPS: [(&str, &str); 3] = [
     (r#"{"version":1,"sites":[],"processes":[]}"#, "accepted"),
-    // Of a key that stands twice the last value counts.
+    // Of a key that stands twice, the last value counts.
     (
         r#"{"version":3,"sites":[],"processes":[],"version":1}"#,
         "accepted",

@@ -50,8 +50,8 @@ enum Call {
     ReadAll,
 }
 
-/// How many bytes more a call has than the one before. What `read_all` asks for are whole blocks of
-/// 2,048 bytes; after a smaller step the heap would keep what is left over, under a kilobyte, apart.
+/// How many bytes more a call has than the one before. `read_all` asks for whole blocks of 2,048 bytes. After a smaller
+/// step the heap would keep what is left over, under a kilobyte, apart.
 fn step(call: Call) -> usize
     ensures { 0 < result }
 {
@@ -61,7 +61,7 @@ fn step(call: Call) -> usize
     }
 }
 
-/// Whether the call answers what it does with memory enough.
+/// Whether the call gives the same answer as with enough memory.
 fn answer(alloc: Global, call: Call) -> Result<bool, DumpFault> {
     match call {
         Call::ReadDump => {

@@ -30,7 +30,7 @@ fn read_outcome<R: Read + Drop>(alloc: Global, reader: R) -> Result<String, Allo
     }
 }
 
-/// Whether the reader is answered by this.
+/// Whether this is the outcome of reading.
 fn is_read<R: Read + Drop>(alloc: Global, reader: R, wanted: &str) -> Result<bool, AllocError> {
     Ok(read_outcome(alloc, reader)?.as_str() == wanted)
 }
