@@ -68,7 +68,7 @@ signed_none item e = by_test (is_number item) refl
     by_test true h = absurd (signed_digits item e (number_parts item h).1)
     by_test false h = refl
 
--- the items of a list are told from other texts by its digits
+-- a text of digits alone is a numeral, with their value
 digits_model : IsNumeralModel (λ ds. all_ascii_digits ds ≡ true) (digits_value 10)
 digits_model = numerals_by_value (λ ds. all_ascii_digits ds ≡ true) tells_all_ascii_digits
 
@@ -101,8 +101,7 @@ pub item_is : (list : List (Bor (List ℕ))) (text : List ℕ) (i : ℕ) (d : Bo
 item_is list text i d e l =
     sym (get_or-map (λ (item : Bor (List ℕ)). item.now) list i d [] l) ∙ ap (λ xs. get_or xs i []) e
 
--- where the first i items write the numbers so far and the next one writes n, the first i + 1 write
--- n at the end
+-- where the first i items write the numbers so far and the next one writes n, the first i + 1 write n at the end
 pub written_more : (items : List (List ℕ)) (numbers : List ℕ) (i n : ℕ) → i < length items
     → map number_of (take i items) ≡ map Some numbers → number_of (get_or items i []) ≡ Some n
     → map number_of (take (i + 1) items) ≡ map Some (numbers ++ n ∷ [])
@@ -110,7 +109,7 @@ written_more items numbers i n l e h = ap (map number_of) (take_more items i [] 
     ∙ map-append number_of (take i items) (get_or items i [] ∷ [])
     ∙ rw (e, h) (sym (map-append Some numbers (n ∷ [])))
 
--- the fault is want of memory, whatever the items are
+-- where the fault is out of memory, what is promised of lists holds, whatever the items are
 pub out_of_memory : (text : List ℕ) (r : Result (Vec ℕ) ListFault) → IsErrAnd r (λ e. e ≡ Memory)
     → IfOk r (λ list. IsListOf text list.items) × IfOk r (λ list. length list.items ≤ MAX_NUMBERS)
     × IfErr r (λ e. (e ≡ Memory) ⊎ IsFirstListFault text e)

@@ -19,7 +19,7 @@ use Rattle.cmh_command.specs.CommandLine.{HasBadWorkers, HasWorkers, IsCommand, 
 use Rattle.cmh_command.specs.declared.request.Request.{Request}
 use Rattle.cmh_command.specs.declared.request.TheConstants.{DEFAULT_WORKERS}
 
--- the command line is one of which `clap` says all
+-- `clap` says all about the command line
 pub is_free : is_simple_and_free program ≡ true
 is_free = refl
 
@@ -83,7 +83,7 @@ pub some_workers : (rows : List Row) (r : Option ℕ) (n : ℕ)
     → MatchOption r (HasBadWorkers rows) (λ n. HasWorkers n rows) → r ≡ Some n → HasWorkers n rows
 some_workers rows r n h is = subst (λ (o : Option ℕ). MatchOption o (HasBadWorkers rows) (λ n. HasWorkers n rows)) is h
 
--- an error that isn't want of memory has a kind of the words' own
+-- an error other than out of memory has a kind of the words' own
 kind_is : (e : Error) (kinds : List ErrorKind) → HasKind kinds e → kind_of e ≢ OutOfMemory
     → IsAmong (kind_of e) kinds
 kind_is e kinds (inl memory) other = absurd (other memory)

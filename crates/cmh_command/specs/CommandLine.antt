@@ -48,13 +48,13 @@ abbrev pub HasWorkers : ℕ → List Row → Type 0
 HasWorkers n options = MatchOption (first_of (codes "workers") options) (n ≡ DEFAULT_WORKERS)
     (λ text. number_of text ≡ Some n)
 
--- what is written as the number of workers is none, or too large
+-- the number of workers is written as no number, or as too large a one
 abbrev pub HasBadWorkers : List Row → Type 0
 HasBadWorkers options = (text : Text) × (first_of (codes "workers") options ≡ Some text)
     × MatchOption (number_of text) ⊤ (λ n. 2 ^ 32 ≤ n)
 
--- what is asked for by the command `analyse` with these options: workers, cuts and choices are
--- theirs, and choices that aren't given are the empty text
+-- what is asked for by the command `analyse` with these options: workers, cuts and choices are theirs, and choices that
+-- aren't given are the empty text
 abbrev pub IsAnalysis : List Row → Request → Type 0
 IsAnalysis options (Analyse plan) = HasWorkers plan.workers options
     × (option_map (λ text. text.now) plan.cuts ≡ first_of (codes "cuts") options)
@@ -62,8 +62,8 @@ IsAnalysis options (Analyse plan) = HasWorkers plan.workers options
 IsAnalysis options (Refused text) = HasBadWorkers options
 IsAnalysis options request = ⊥
 
--- what is asked for by the command `trace` with these options: name and choices are theirs,
--- and what isn't given is the empty text
+-- what is asked for by the command `trace` with these options: name and choices are theirs, and one that isn't given is
+-- the empty text
 abbrev pub IsTracing : List Row → Request → Type 0
 IsTracing options (Trace name choices) = (name.now ≡ unwrap_or (first_of (codes "NAME") options) [])
     × (choices.now ≡ unwrap_or (first_of (codes "choices") options) [])
@@ -83,15 +83,15 @@ IsCommand entered request = Enters (codes "analyse") (λ options. IsAnalysis opt
 abbrev pub HasCommand : Option (Text × List Row) → Type 0
 HasCommand entered = Enters (codes "analyse") (λ options. ⊤) entered ⊎ Enters (codes "trace") (λ options. ⊤) entered
 
--- what is asked for where `clap` answers with an error of this kind: its text, where that is the help or
--- the version, and else nothing
+-- what is asked for where `clap` answers with an error of this kind: the text of the help or of the version, and else
+-- nothing
 abbrev pub IsOfKind : ErrorKind → Request → Type 0
 IsOfKind kind (Show text) = (kind ≡ DisplayHelp) ⊎ (kind ≡ DisplayVersion)
 IsOfKind kind (Refused text) = ¬ ((kind ≡ DisplayHelp) ⊎ (kind ≡ DisplayVersion))
 IsOfKind kind request = ⊥
 
--- This is what the arguments ask for: a command where `clap` finds no fault in them, and else a text or
--- nothing, by the kind of some fault that it finds.
+-- This is what the arguments ask for: a command where `clap` finds no fault in them, and else a text or nothing, by the
+-- kind of some fault that it finds.
 abbrev pub IsRequest : List Text → Request → Type 0
 IsRequest args request =
     ((fault_of program args ≡ []) × IsCommand (subcommand_of program args) request)

@@ -1,4 +1,4 @@
--- Lists of numbers on the command line: items parted by one comma. The empty text has no item.
+-- Lists of numbers on the command line: items separated by one comma. The empty text has no item.
 use Rattle.std.specs.Prelude.{◌≡◌, ℕ, ◌<◌, ◌≤◌, ◌^◌, ◌==◌, ◌&&◌, Bool, List, [], ◌∷◌, length, map, nat_lt, slice_index_or, Option, Some, None, if◌then◌else◌, IsTrue, IsFalse, ◌++◌, codes}
 use Rattle.std.specs.Fmt.{decimal}
 use Rattle.std.specs.List.{slice_split}
@@ -13,7 +13,7 @@ abbrev pub items_of : List ℕ → List (List ℕ)
 items_of [] = []
 items_of (b ∷ bs) = slice_split (λ c. c == 44) (b ∷ bs)
 
--- a number is one or more decimal digits whose value fits 64 bits
+-- a number is one or more decimal digits with a value that fits 64 bits
 unfoldable pub is_number : List ℕ → Bool
 is_number item =
     nat_lt 0 (length item) && all_ascii_digits item && nat_lt (digits_value 10 item) (2 ^ 64)
@@ -27,8 +27,8 @@ pub record IsListOf (text numbers : List ℕ) : Type 0 where
   pub few : length (items_of text) ≤ MAX_NUMBERS
   pub written : map number_of (items_of text) ≡ map Some numbers
 
--- the first fault from the left: an item that is no number, or one too many, whatever it holds; each
--- item before it is a number
+-- the first fault from the left: an item that is no number, or one too many, whatever it holds; each item before it is
+-- a number
 abbrev pub IsFirstListFault : List ℕ → ListFault → Type 0
 IsFirstListFault text (BadNumber i) = (i < MAX_NUMBERS) × (i < length (items_of text))
     × IsFalse (is_number (slice_index_or (items_of text) i []))

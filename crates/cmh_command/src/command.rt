@@ -1,4 +1,4 @@
-//! What `clap` is told of the command line.
+//! The command line, as `clap` is given it.
 
 ghost use Rattle.std.specs.Prelude.{◌≡◌, Some, true, false, codes, pos, IfOk};
 ghost use Rattle.clap.specs.Words.{app_of, new_app, new_rule, rule_of, with_subcommand};
@@ -88,7 +88,7 @@ fn top_command<'a>(alloc: Global) -> Command<'a>
         .disable_help_subcommand(true)
 }
 
-/// The command with what it says of itself.
+/// The command with what the help says of it.
 fn describe<'a>(command: Command<'a>, about: &'a str, after: &'a str) -> Command<'a>
     ensures app { app_of result ≡ app_of command.entry }
     ensures required { (out-Command result).subcommand_required ≡ (out-Command command.entry).subcommand_required }

@@ -1,5 +1,4 @@
-//! The command line: its rules, as `clap` takes them, what it then asks for, and the lists of numbers
-//! that stand in it.
+//! The command line: its rules, as `clap` takes them, what it then asks for, and the lists of numbers that stand in it.
 #![tactic(auto)]
 
 mod command;

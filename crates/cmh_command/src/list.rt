@@ -54,8 +54,8 @@ impl<T: Drop> From<AllocFailed<T>> for ListFault {
     }
 }
 
-/// The numbers of a list: items parted by one comma, each of one or more decimal digits. The empty
-/// text is the empty list. It takes time linear in the text.
+/// The numbers of a list: items separated by one comma, each of one or more decimal digits. The empty text is the empty
+/// list. It takes time linear in the text.
 ///
 /// # Errors
 ///

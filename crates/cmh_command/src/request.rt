@@ -11,7 +11,7 @@ use clap::{ArgMatches, Error};
 use std::alloc::{AllocError, Global};
 use std::convert::AsStr;
 
-/// How many workers there are where nothing is said.
+/// The default number of workers.
 pub const DEFAULT_WORKERS: u32 = 4;
 
 const BAD_WORKERS: &str = "\
@@ -120,8 +120,8 @@ fn request_of<'a>(alloc: Global, error: &Error) -> Result<Request<'a>, AllocErro
     }
 }
 
-/// The text with its control characters written out, but for line feeds: an argument may stand in it,
-/// and a terminal would obey it.
+/// The text with its control characters written out, but for line feeds: an argument may stand in it, and a terminal
+/// would obey it.
 fn escape_controls(alloc: Global, text: &str) -> Result<String, AllocError> {
     let mut escaped = String::new(alloc);
     for c in text.chars() {

@@ -5,8 +5,7 @@ use crate::{ListFault, read_list};
 use std::alloc::Global;
 use std::test::Fail;
 
-/// The size of the memory that is left for a call at most, and how many bytes more each call has than
-/// the one before.
+/// The most memory that is left for a call, and how many bytes more each call has than the one before.
 const ROOM: usize = 32_768;
 
 const STEP: usize = 16;
@@ -29,8 +28,8 @@ fn take_all(alloc: Global, blocks: &mut Vec<Vec<u8>>) {
     }
 }
 
-/// How often the list was read, and how often memory was refused, in calls with more and more memory;
-/// nothing where a call answered something else.
+/// How often the list was read, and how often memory was refused, in calls with more and more memory. None where a call
+/// answered something else.
 fn answers(alloc: Global) -> Option<(u32, u32)> {
     let (mut read, mut refused) = (0u32, 0u32);
     for k in 0..ROOM / STEP {
