@@ -103,7 +103,7 @@ refused_dump r e f own failed = by_status (status_of (Dump f)) (dump_status f) o
 
 -- ---- lists and plans
 
--- a list is refused for want of memory, or for its own fault
+-- a list is refused as out of memory, or for its own fault
 pub list_status : (text : List ℕ) (f : ListFault) → (f ≡ list.Memory) ⊎ IsFirstListFault text f
     → (status_of_list f ≡ FAILED) ⊎ ((status_of_list f ≡ MISUSED) × IsBadList text)
 list_status text list.Memory h = inl refl
@@ -125,7 +125,7 @@ pub choices_next : (w : PlanArgs) (s : ℕ) → (s ≡ FAILED) ⊎ ((s ≡ MISUS
 choices_next w s (inl h) = inl h
 choices_next w s (inr h) = inr (h.0, inr (inl h.1))
 
--- a plan is refused for want of memory, or for its own fault
+-- a plan is refused as out of memory, or for its own fault
 pub plan_status : (w : PlanArgs) (cuts choices : List ℕ) (f : PlanFault) → HasCuts w.cuts cuts
     → IsListOf w.choices.now choices
     → (f ≡ plan.Memory) ⊎ IsFirstPlanFault record { workers = w.workers; cuts = cuts; choices = choices } f
@@ -222,7 +222,7 @@ traced name list choices ending e listed h = is_done (Trace name list) e (record
   finished = h.finished;
 })
 
--- where nobody has the name, nobody idle has it
+-- where no process has the name, no idle one has it
 nobody_named : (name : List ℕ) (g : Graph) → NobodyIsNamed g name → (p : ℕ) → IsFirstNamed g name p
     → IsFalse (is_idle g p)
 nobody_named name g none p h = absurd (none p h.within h.named)
@@ -243,7 +243,7 @@ no_restarts = record {
   rising = λ k l. absurd (omega arith);
 }
 
--- where a named process has no run by few choices, memory is wanting or nobody idle has the name
+-- where a named process has no run by few choices, memory was refused or no idle process has the name
 not_idle : (name choices : List ℕ) (f : RunFault) (g : Graph) → length choices ≤ MAX_CHOICES → HasNoRun name choices f g
     → (f ≡ run.Memory) ⊎ ((p : ℕ) → IsFirstNamed g name p → IsFalse (is_idle g p))
 not_idle name choices f g few h = by_fault f h.cause

@@ -25,8 +25,8 @@ use Rattle.cmh.specs.declared.status.TheConstants.{FREE, REFUSED, MISUSED, DEADL
 
 -- ---- the status after a fault
 
--- The status with which a fault of an analysis or a trace ends the program. Want of memory and a failed
--- source are no fault of the dump, and the faults of a run lie in what was asked, all but want of memory.
+-- The status with which a fault of an analysis or a trace ends the program. Out of memory and a failed source are no
+-- faults of the dump. The faults of a run, except out of memory, lie in what was asked.
 abbrev pub status_of : AppFault → ℕ
 status_of (Dump dump.Memory) = FAILED
 status_of (Dump dump.ReadFault) = FAILED
@@ -50,7 +50,7 @@ status_of_plan fault = MISUSED
 
 -- ---- the two ends
 
--- how the source and standard output stand before a call and after it
+-- the states of the source and of standard output, before a call and after it
 pub record Ends : Type 0 where
   pub source_old : SourceState
   pub source_new : SourceState
@@ -74,7 +74,7 @@ abbrev pub HasStopped : (Graph → List ℕ → Type 0) → Ends → Type 0
 HasStopped Fits e = (e.out_new.has_failed ≡ true) × ((written : ℕ)
     × IsCutShort Fits e.source_old e.source_new e.out_old e.out_new written)
 
--- ---- what is said of lists and of plans
+-- ---- lists and plans
 
 -- a trace of the process of that name, by the choices that the text lists
 abbrev pub FitsTrace : List ℕ → List ℕ → Graph → List ℕ → Type 0
@@ -85,13 +85,12 @@ FitsTrace name list g text =
 abbrev pub IsBadList : List ℕ → Type 0
 IsBadList text = (fault : ListFault) × IsFirstListFault text fault
 
--- the cuts that the text lists; where nothing is said, as many ones as there may be
+-- the cuts that the text lists; the default is as many ones as there may be
 abbrev pub HasCuts : Option (Bor (List ℕ)) → List ℕ → Type 0
 HasCuts words cuts =
     MatchOption words (cuts ≡ replicate MAX_CUTS 1) (λ text. IsListOf text.now cuts)
 
--- the arguments for a plan have a fault: cuts or choices are no list, or they are lists of which there is
--- no plan
+-- the arguments for a plan have a fault: cuts or choices are no list, or they are lists of which there is no plan
 abbrev pub AreBadPlanArgs : PlanArgs → Type 0
 AreBadPlanArgs args = MatchOption args.cuts ⊥ (λ text. IsBadList text.now)
     ⊎ IsBadList args.choices.now
@@ -109,16 +108,15 @@ IsDone (Show text) e = IsUnread e × (e.out_new.taken ≡ e.out_old.taken ++ str
     × (e.out_new.is_finished ≡ true)
 IsDone (Refused text) e = ⊥
 
--- the dump of an analysis or a trace has a fault of its own, whose status is that of a refusal, and
--- nothing was written
+-- the dump of an analysis or a trace has a fault with the status of a refusal, and nothing was written
 abbrev pub HasRefusedDump : Request → Ends → Type 0
 HasRefusedDump (Show text) e = ⊥
 HasRefusedDump (Refused text) e = ⊥
 HasRefusedDump request e = IsUnwritten e × ((fault : DumpFault)
     × (status_of (Dump fault) ≡ REFUSED) × IsRefused e.source_old e.source_new fault)
 
--- the words, a list or the plan are refused before anything is read, or the name is of no idle
--- process of the dump; nothing was written
+-- the words, a list or the plan are refused before anything is read, or the name is of no idle process of the dump, and
+-- nothing was written
 abbrev pub IsMisused : Request → Ends → Type 0
 IsMisused (Analyse plan) e = IsUnwritten e × IsUnread e × AreBadPlanArgs plan
 IsMisused (Trace name choices) e = IsUnwritten e × ((IsUnread e × IsBadList choices.now)
@@ -132,8 +130,8 @@ abbrev pub HasDeadlock : Request → Ends → Type 0
 HasDeadlock (Analyse plan) e = (d : ℕ) × (0 < d) × HasAnswered (IsCountedReport d) e
 HasDeadlock request e = ⊥
 
--- Memory was refused, a worker was lost or the source failed, and nothing was written; or the output
--- failed, after it had taken a prefix of the text.
+-- Memory was refused, a worker was lost or the source failed, and nothing was written; or the output failed, after it
+-- had taken a prefix of the text.
 abbrev pub HasFailed : Request → Ends → Type 0
 HasFailed (Analyse plan) e = IsUnwritten e ⊎ HasStopped IsReport e
 HasFailed (Trace name choices) e = IsUnwritten e ⊎ HasStopped (FitsTrace name.now choices.now) e

@@ -6,8 +6,8 @@ use std::io::{IsTerminal, Read, Write};
 const FROM_TERMINAL: &str =
     "cmh: reading the dump from the terminal, up to Ctrl-D; to read a file, add < dump.json\n";
 
-/// Standard input, and where a line is written before the first read of a terminal: a user who forgot
-/// the dump would else wait without a word.
+/// Standard input, and where a line is written before the first read of a terminal. Without it a user who forgot the
+/// dump would wait without a word.
 #[derive(Drop)]
 pub(crate) struct Input<I, E> {
     input: I,

@@ -1,4 +1,4 @@
-//! cmh: which processes of a stalled message-passing program can never go on.
+//! cmh: which processes of a stalled message-passing program can never continue.
 #![tactic(auto)]
 
 mod input;

@@ -1,5 +1,5 @@
-//! The plan that the arguments ask for: its lists, read in order. Cuts that nobody gives are a list too, so running out
-//! of memory for them is a fault of `cuts`.
+//! The plan that the arguments ask for: its lists, read in order. The default cuts are a list too, so where memory for
+//! them is refused, the fault is of `cuts`.
 
 ghost use Rattle.std.specs.Prelude.{◌≡◌, ◌⊎◌, ◌≤◌, length, IfOk, IfErr, MatchOption, OnOk};
 ghost use Rattle.cmh_command.specs.List.{IsListOf};
@@ -13,7 +13,7 @@ use cmh_plan::{MAX_CUTS, Plan};
 use cmh_stream::Sink;
 use std::alloc::Global;
 
-/// The numbers that the list of this option writes, or the status after its fault, which is told.
+/// The numbers that the list of this option writes, or the status after its fault, which is reported.
 #[tactic(auto, using(crate::proofs::Outcomes::list_status))]
 pub(crate) fn read_numbers<E: Sink>(
     alloc: Global,
@@ -33,8 +33,7 @@ pub(crate) fn read_numbers<E: Sink>(
     }
 }
 
-/// The cuts that are asked for. Where there is no list of them, each initiator is a chunk of its own,
-/// up to the most cuts of a plan.
+/// The cuts that are asked for. The default is a chunk for each initiator, up to the most cuts of a plan.
 fn read_cuts<E: Sink>(alloc: Global, list: Option<&str>, err: &mut E) -> Result<Vec<u64>, u8>
     ensures cuts { IfOk result (λ cuts. HasCuts list.entry cuts.items) }
     ensures quiet { OnOk result ((E.state err.new).taken ≡ (E.state err.old).taken) }
@@ -50,8 +49,8 @@ fn read_cuts<E: Sink>(alloc: Global, list: Option<&str>, err: &mut E) -> Result<
     }
 }
 
-/// The plan that the arguments ask for, or the status after the first fault, which is reported. Cuts are
-/// read before choices.
+/// The plan that the arguments ask for, or the status after the first fault, which is reported. Cuts are read before
+/// choices.
 #[tactic(auto, using(crate::proofs::Outcomes::cuts_first, crate::proofs::Outcomes::choices_next, crate::proofs::Outcomes::plan_status))]
 pub(crate) fn read_plan<E: Sink>(alloc: Global, args: &PlanArgs, err: &mut E) -> Result<Plan, u8>
     ensures workers { IfOk result (λ plan. plan.workers ≡ args.now.workers) }

@@ -92,12 +92,16 @@ fn show<O: Sink, E: Sink>(text: &str, out: &mut O, err: &mut E) -> u8
     }
 }
 
-/// Does what the words ask for, of which the first is the program's name, and answers the status of
-/// the program: 0 where no process is deadlocked, a process was traced or a text was asked for, 1
-/// where the dump is refused, 2 where the words, a list or a plan are, or the name is of no idle
-/// process of the dump, 3 where some process is deadlocked, and 4 where memory is refused or a
-/// device fails. Lists and plan are read before the dump. A fault is told on `err` in one line;
-/// where `err` fails, the status stays. An analysis waits for its workers.
+/// Does what the words ask for, of which the first is the program's name, and answers the status of the program:
+///
+/// - 0: no process is deadlocked, a process was traced, or a text was asked for
+/// - 1: the dump is refused
+/// - 2: the words, a list or a plan are refused, or the name is of no idle process of the dump
+/// - 3: some process is deadlocked
+/// - 4: memory is refused, or a device fails
+///
+/// Lists and plan are read before the dump. A fault is reported on `err` in one line. Where `err` fails, the status
+/// stays. An analysis waits for its workers.
 #[tactic(auto, using(crate::proofs::Outcomes::requested, crate::proofs::Outcomes::refused_words, crate::proofs::Outcomes::shown))]
 pub fn serve<R: Threads + Wait + Sync, T: AsStr, S: Source, O: Sink, E: Sink>(
     rt: &R,

@@ -1,5 +1,5 @@
-//! What the user is told on standard error, in one line. No line needs memory, so that want of memory
-//! never takes the place of another fault.
+//! What the program says on standard error, in one line. No line needs memory, so out of memory never takes the place
+//! of another fault.
 
 ghost use Rattle.std.specs.Prelude.{◌≡◌};
 ghost use Rattle.cmh.specs.Status.{status_of as status_of_lem, status_of_list as status_of_list_lem, status_of_plan as status_of_plan_lem};
@@ -33,7 +33,7 @@ pub(crate) fn tell<E: Sink>(text: &str, err: &mut E) {
     let _ = put_all(err, text.as_bytes());
 }
 
-/// Tells a fault, whatever it is of, in one line.
+/// Reports a fault, whatever it is of, in one line.
 fn tell_fault<F: fmt::Display, E: Sink>(fault: &F, err: &mut E) {
     let mut line = Pieces { sink: err };
     let _ = write!(line, "cmh: {fault}\n");
@@ -56,7 +56,7 @@ pub(crate) fn refuse_args<E: Sink>(error: &io::Error, err: &mut E) -> u8 {
     MISUSED
 }
 
-/// Tells a fault, and answers the status.
+/// Reports a fault, and answers the status.
 pub(crate) fn fail<E: Sink>(fault: &AppFault, err: &mut E) -> u8
     ensures { result ≡ status_of_lem fault.now }
 {
@@ -64,7 +64,7 @@ pub(crate) fn fail<E: Sink>(fault: &AppFault, err: &mut E) -> u8
     status_of(fault)
 }
 
-/// Tells a fault of the list of this option, and answers the status.
+/// Reports a fault of the list of this option, and answers the status.
 pub(crate) fn refuse_list<E: Sink>(option: &str, fault: &ListFault, err: &mut E) -> u8
     ensures { result ≡ status_of_list_lem fault.now }
 {
@@ -73,7 +73,7 @@ pub(crate) fn refuse_list<E: Sink>(option: &str, fault: &ListFault, err: &mut E)
     status_of_list(fault)
 }
 
-/// Tells a fault of the plan, and answers the status.
+/// Reports a fault of the plan, and answers the status.
 pub(crate) fn refuse_plan<E: Sink>(fault: &PlanFault, err: &mut E) -> u8
     ensures { result ≡ status_of_plan_lem fault.now }
 {

@@ -17,8 +17,8 @@ use std::process::Abort;
 use std::sync::Wait;
 use std::thread::Threads;
 
-/// Fails the test where what was found is not what was wanted. As a call it is one step of a test's proof; written
-/// out, a comparison is several, and proofs of tests grow faster than their steps.
+/// Fails the test where what was found is not what was wanted. As a call it is one step of a test's proof; written out,
+/// a comparison is several, and proofs of tests grow faster than their steps.
 fn expect_eq<R: Abort, T: PartialEq + Debug + Drop>(rt: &R, found: T, wanted: T) {
     assert_eq!(*rt; found, wanted);
 }

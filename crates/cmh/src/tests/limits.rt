@@ -17,7 +17,7 @@ fn the_longest_dump(rt: HostRuntime) -> Result<(), AllocError> {
     Ok(())
 }
 
-/// All messages are from p to itself, who doesn't wait for them.
+/// All messages are from p to itself, which doesn't wait for them.
 #[test]
 fn the_most_messages_in_transit(rt: HostRuntime) -> Result<(), AllocError> {
     let processes = r#"{"version":2,"sites":["a"],"processes":[
