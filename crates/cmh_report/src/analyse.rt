@@ -13,10 +13,10 @@ use crate::fault::{AppFault, ReportFault};
 use crate::input::read_graph;
 use crate::records::outline_of;
 use cmh_graph::WaitGraph;
-use cmh_run::{NoList, NoLog, ProcessList, RunLog};
+use cmh_run::{BriefList, NoLog, ProcessList, RunLog};
 use cmh_stream::{Pieces, Sink, Source, put_pieces};
 use cmh_text::{Outline, text_of};
-use cmh_work::{Analysis, Gate, NextStep, Plan, WorkFault, analyse_keeping};
+use cmh_work::{Analysis, Gate, Plan, WorkFault, analyse_keeping};
 use std::alloc::{AllocError, Global};
 use std::sync::Wait;
 use std::thread::Threads;
@@ -35,8 +35,8 @@ fn run_analysis<R: Threads + Wait + Sync, G: Gate>(
     graph: &WaitGraph,
     plan: &Plan,
     gate: &G,
-) -> Result<Analysis<RunLog<NoLog, NoList>, NextStep>, AppFault>
-    ensures analysis { IfOk result (IsSomeAnalysisOf ⟦<NextStep as ProcessList>⟧.processes graph.now) }
+) -> Result<Analysis<RunLog<NoLog, BriefList>, BriefList>, AppFault>
+    ensures analysis { IfOk result (IsSomeAnalysisOf ⟦<BriefList as ProcessList>⟧.processes graph.now) }
     ensures memory { IfErr result (λ e. e ≡ AppFault.Work WorkFault.Memory) }
 {
     Ok(analyse_keeping(rt, alloc, graph, plan, gate)?)
@@ -46,9 +46,9 @@ fn run_analysis<R: Threads + Wait + Sync, G: Gate>(
 fn make_outline(
     alloc: Global,
     graph: &WaitGraph,
-    analysis: Analysis<RunLog<NoLog, NoList>, NextStep>,
+    analysis: Analysis<RunLog<NoLog, BriefList>, BriefList>,
 ) -> Result<Outline, AllocError>
-    requires { IsSomeAnalysisOf ⟦<NextStep as ProcessList>⟧.processes graph.now analysis }
+    requires { IsSomeAnalysisOf ⟦<BriefList as ProcessList>⟧.processes graph.now analysis }
     ensures { IfOk result (IsOutlineOf graph.now) }
 {
     outline_of(alloc, graph, analysis.records())
@@ -59,9 +59,9 @@ fn text_and_count<R: Threads + Sync>(
     rt: &R,
     alloc: Global,
     graph: &WaitGraph,
-    analysis: Analysis<RunLog<NoLog, NoList>, NextStep>,
+    analysis: Analysis<RunLog<NoLog, BriefList>, BriefList>,
 ) -> Result<CountedText, AllocError>
-    requires { IsSomeAnalysisOf ⟦<NextStep as ProcessList>⟧.processes graph.now analysis }
+    requires { IsSomeAnalysisOf ⟦<BriefList as ProcessList>⟧.processes graph.now analysis }
     ensures text { IfOk result (λ r. r.text ≡ report_text graph.now) }
     ensures deadlocked { IfOk result (λ r. r.deadlocked ≡ deadlocked_count graph.now) }
 {
@@ -78,9 +78,9 @@ fn render_report<R: Threads + Sync>(
     rt: &R,
     alloc: Global,
     graph: &WaitGraph,
-    analysis: Analysis<RunLog<NoLog, NoList>, NextStep>,
+    analysis: Analysis<RunLog<NoLog, BriefList>, BriefList>,
 ) -> Result<CountedText, AppFault>
-    requires { IsSomeAnalysisOf ⟦<NextStep as ProcessList>⟧.processes graph.now analysis }
+    requires { IsSomeAnalysisOf ⟦<BriefList as ProcessList>⟧.processes graph.now analysis }
     ensures text { IfOk result (λ r. r.text ≡ report_text graph.now) }
     ensures deadlocked { IfOk result (λ r. r.deadlocked ≡ deadlocked_count graph.now) }
     ensures memory { IfErr result (λ e. e ≡ AppFault.Report ReportFault.Memory) }

@@ -10,12 +10,12 @@ use cmh_graph::laws::law_built_graph;
 use cmh_graph::{Verdict, WaitGraph};
 use cmh_run::{Log, ProcessList, RunLog};
 use cmh_text::{Outline, Summary};
-use cmh_work::{PathList, Record, Shape};
+use cmh_work::{Record, Shape};
 use std::alloc::{AllocError, Global};
 
 /// What the text takes from the records. Once it is made they can be given back. Each record is read
 /// twice, and the graph isn't searched.
-pub(crate) fn outline_of<L: Log, E: ProcessList, P: PathList>(
+pub(crate) fn outline_of<L: Log, E: ProcessList, P: ProcessList>(
     alloc: Global,
     graph: &WaitGraph,
     records: &[Record<RunLog<L, E>, P>],
@@ -30,7 +30,7 @@ pub(crate) fn outline_of<L: Log, E: ProcessList, P: PathList>(
 }
 
 /// For each process what its line is made of.
-fn summaries_of<L: Log, E: ProcessList, P: PathList>(
+fn summaries_of<L: Log, E: ProcessList, P: ProcessList>(
     alloc: Global,
     graph: &WaitGraph,
     records: &[Record<RunLog<L, E>, P>],
@@ -53,7 +53,7 @@ fn active_summaries(alloc: Global, count: u32) -> Result<Vec<Summary>, AllocErro
 }
 
 /// What the text takes of a process that has this shape.
-fn summary_in<P: PathList>(shape: &Shape<P>) -> Summary
+fn summary_in<P: ProcessList>(shape: &Shape<P>) -> Summary
     ensures { result ≡ summary_in P.processes shape.now }
 {
     match shape {
@@ -63,7 +63,9 @@ fn summary_in<P: PathList>(shape: &Shape<P>) -> Summary
 }
 
 /// How many processes the records tell to be deadlocked.
-fn count_deadlocked<L: Log, E: ProcessList, P: PathList>(records: &[Record<RunLog<L, E>, P>]) -> u32
+fn count_deadlocked<L: Log, E: ProcessList, P: ProcessList>(
+    records: &[Record<RunLog<L, E>, P>],
+) -> u32
     requires { length records.now < 2 ^ 32 }
     ensures { result ≡ count_by tells_deadlocked records.now }
 {

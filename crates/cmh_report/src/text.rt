@@ -9,7 +9,7 @@ use crate::records::outline_of;
 use cmh_graph::WaitGraph;
 use cmh_run::{Log, ProcessList, RunLog};
 use cmh_text::text_of;
-use cmh_work::{Analysis, PathList, Record};
+use cmh_work::{Analysis, Record};
 use std::alloc::{AllocError, Global};
 use std::thread::Threads;
 
@@ -20,7 +20,7 @@ use std::thread::Threads;
 /// # Errors
 ///
 /// `Memory` where memory is refused.
-pub fn report<L: Log, E: ProcessList, P: PathList, R: Threads + Sync>(
+pub fn report<L: Log, E: ProcessList, P: ProcessList, R: Threads + Sync>(
     rt: &R,
     alloc: Global,
     graph: &WaitGraph,
@@ -33,7 +33,7 @@ pub fn report<L: Log, E: ProcessList, P: PathList, R: Threads + Sync>(
 }
 
 /// The report, by the records.
-fn text_of_records<L: Log, E: ProcessList, P: PathList, R: Threads + Sync>(
+fn text_of_records<L: Log, E: ProcessList, P: ProcessList, R: Threads + Sync>(
     rt: &R,
     alloc: Global,
     graph: &WaitGraph,

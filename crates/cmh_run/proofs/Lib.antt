@@ -13,6 +13,7 @@ pub mod LastComputation
 pub mod LastComputationSteps
 pub mod LiveInvariant
 pub mod LogAnswers
+pub mod NextProcesses
 pub mod OneComputation
 pub mod Paths
 pub mod Places

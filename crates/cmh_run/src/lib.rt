@@ -31,7 +31,7 @@ pub use check::check_run;
 pub use delivery::{Delivery, Ending};
 pub use fault::{CheckFault, RunFault, ScriptFault};
 pub use hints::{Hints, NoHints};
-pub use list::{NoList, ProcessList};
+pub use list::{BriefList, ProcessList};
 pub use log::{Log, NoLog};
 pub use run_log::RunLog;
 pub use runner::Runner;

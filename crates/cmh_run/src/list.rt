@@ -1,14 +1,17 @@
-//! Lists of processes that are kept, or not.
+//! Lists of processes, kept whole or in brief.
 
-ghost use Rattle.std.specs.Prelude.{◌≡◌, ◌<◌, ℕ, List, Some, map, IsSome, IfOk};
+ghost use Rattle.std.specs.Prelude.{◌≡◌, ◌<◌, ℕ, List, Some, length, map, slice_get, IsSome, IfOk};
 ghost use Rattle.cmh_graph.specs.ChosenPath.{chosen_path, distance_of};
 ghost use Rattle.cmh_graph.specs.Graph.{indices, process_count};
 
 use crate::tape::ListTape;
 use cmh_graph::WaitGraph;
+use cmh_graph::laws::law_built_graph;
 use std::alloc::{AllocError, Global};
 
-/// A list of processes: whole in a `Vec`, or not kept at all in a `NoList`.
+/// A list of processes that says which is the second and how many there are: whole in a `Vec`, or no
+/// more than that in a `BriefList`. The chosen path of a process is the process, and then the chosen
+/// path of its second one: so whole paths can be walked from list to list.
 pub trait ProcessList: Drop + Sized {
     /// The processes that are listed, in their order.
     ghost processes: { Self → List ℕ };
@@ -17,8 +20,7 @@ pub trait ProcessList: Drop + Sized {
     fn of(list: Vec<u32>) -> Self
         ensures { processes result ≡ list.items };
 
-    /// The chosen path of a process that has one, by the distances of all processes. Where it isn't
-    /// kept, nobody looks for it.
+    /// The chosen path of a process that has one, by the distances of all processes.
     fn path_by(
         alloc: Global,
         graph: &WaitGraph,
@@ -29,6 +31,14 @@ pub trait ProcessList: Drop + Sized {
         requires known { distances.now ≡ map (distance_of graph.now) (indices graph.now) }
         requires some { IsSome (chosen_path graph.now p) }
         ensures { IfOk result (λ path. chosen_path graph.now p ≡ Some (processes path)) };
+
+    /// The second process, if there is one.
+    fn next(&self) -> Option<u32>
+        ensures { result ≡ slice_get (processes self.now) 1 };
+
+    /// How many processes there are.
+    fn count(&self) -> usize
+        ensures { result ≡ length (processes self.now) };
 }
 
 impl ProcessList for Vec<u32> {
@@ -46,31 +56,72 @@ impl ProcessList for Vec<u32> {
     ) -> Result<Vec<u32>, AllocError> {
         Ok(graph.path_by(alloc, distances, p)?.unwrap())
     }
+
+    fn next(&self) -> Option<u32> {
+        self.get(1).copied()
+    }
+
+    fn count(&self) -> usize {
+        self.len()
+    }
 }
 
-/// Keeps no process. Which ones were listed is known in proofs alone.
+/// Keeps the second process of a list, and how many there are. Which ones they are is known in proofs
+/// alone.
 #[derive(Drop)]
-pub struct NoList {
+pub struct BriefList {
+    next: Option<u32>,
+    count: usize,
     tape: ListTape,
+    ghost second: { next ≡ slice_get tape.processes 1 },
+    ghost size: { count ≡ length tape.processes },
 }
 
-impl ProcessList for NoList {
+impl ProcessList for BriefList {
     ghost processes = { λ list. list.tape.processes };
 
-    fn of(list: Vec<u32>) -> NoList {
-        NoList {
+    fn of(list: Vec<u32>) -> BriefList {
+        BriefList {
+            next: list.get(1).copied(),
+            count: list.len(),
             tape: ListTape::of(&list),
         }
     }
 
+    /// It takes time linear in the dependents of `p`.
     fn path_by(
         _alloc: Global,
         graph: &WaitGraph,
-        _distances: &[Option<u32>],
+        distances: &[Option<u32>],
         p: u32,
-    ) -> Result<NoList, AllocError> {
-        Ok(NoList {
+    ) -> Result<BriefList, AllocError> {
+        let distance = distances[p as usize].unwrap();
+        Ok(BriefList {
+            next: next_by(graph, distances, p, distance),
+            count: distance as usize + 1,
             tape: ListTape::chosen_path(graph, &p),
         })
     }
+
+    fn next(&self) -> Option<u32> {
+        self.next
+    }
+
+    fn count(&self) -> usize {
+        self.count
+    }
+}
+
+/// The process after `p` on its chosen path, if `p` isn't its end.
+fn next_by(graph: &WaitGraph, distances: &[Option<u32>], p: u32, distance: u32) -> Option<u32>
+    requires within { p < process_count graph.now }
+    requires known { distances.now ≡ map (distance_of graph.now) (indices graph.now) }
+    requires distance { distance_of graph.now p ≡ Some distance }
+    ensures { (path : List ℕ) → chosen_path graph.now p ≡ Some path → result ≡ slice_get path 1 }
+{
+    law_built_graph(graph);
+    if distance == 0 {
+        return None;
+    }
+    Some(graph.next_at(distance - 1, p, distances))
 }

@@ -81,7 +81,7 @@ impl<L: Log> RunLog<L> {
         &self.engaged
     }
 
-    /// The same run, with who engaged in a list of any kind.
+    /// The same run, with its engaged processes in a list of any kind.
     pub fn keeping<E: ProcessList>(self) -> RunLog<L, E>
         ensures { result ≡ self }
     {

@@ -8,5 +8,4 @@ pub mod LeadersLemmas
 pub mod LentSeats
 pub mod RecordLemmas
 pub mod RisingLists
-pub mod NextSteps
 pub mod Rows

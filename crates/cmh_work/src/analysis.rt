@@ -52,9 +52,9 @@ pub fn analyse<R: Threads + Wait + Sync, G: Gate>(
     analyse_keeping(rt, alloc, graph, plan, gate)
 }
 
-/// `analyse`, with a log of any kind for each run, and lists of any kind of who engaged and of paths:
-/// `analyse_keeping::<NoLog, NoList, NextStep, _, _>` keeps no delivery, nobody who engaged, and of
-/// each path how it begins.
+/// `analyse`, where an `L` keeps the deliveries of each run, an `E` the processes that engaged in it,
+/// and a `P` the path of each free process. `analyse_keeping::<NoLog, BriefList, BriefList, _, _>` keeps
+/// no delivery, and of each list the second process and how many there are.
 ///
 /// # Errors
 ///

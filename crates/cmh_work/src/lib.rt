@@ -10,7 +10,6 @@ mod job;
 pub mod laws;
 mod leaders;
 mod number;
-mod path;
 mod record;
 mod shapes;
 #[cfg(test)]
@@ -23,5 +22,4 @@ pub use cmh_board::Row;
 pub use cmh_plan::{MAX_CUTS, MAX_WORKERS, Plan, PlanFault, TicketSeat, Tickets};
 pub use fault::WorkFault;
 pub use gate::{Gate, NoGate};
-pub use path::{NextStep, PathList};
 pub use record::{Analysis, Origin, Record, Shape};

@@ -1,7 +1,7 @@
 //! One run after another over the same graph, with and without logs.
 
 use super::{KNOT_OF_THREE, expect_eq, graph_of};
-use crate::{Delivery, Ending, NoHints, NoList, NoLog, RunFault, Runner};
+use crate::{BriefList, Delivery, Ending, NoHints, NoLog, RunFault, Runner};
 
 /// Each initiator of the knot, with its deliveries and who engaged.
 const OF_KNOT: [(u32, usize, &[u32]); 3] = [(0, 8, &[0, 1, 2]), (1, 4, &[1, 2]), (2, 4, &[2, 1])];
@@ -19,7 +19,7 @@ fn one_network_serves_all_initiators(rt: HostRuntime) -> Result<(), RunFault> {
         expect_eq(&rt, run.engaged(), engaged);
         let run = runner
             .run_again::<NoLog, _>(alloc, initiator, &[], &mut NoHints, &[1])?
-            .keeping::<NoList>();
+            .keeping::<BriefList>();
         expect_eq(&rt, (run.initiator(), run.restarted()), (initiator, 1));
     }
     Ok(())

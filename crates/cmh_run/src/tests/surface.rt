@@ -2,7 +2,7 @@
 
 use super::{TWO_IN_A_CYCLE, expect, expect_eq, graph_of};
 use crate::{
-    CheckFault, Delivery, Ending, MAX_CHOICES, MAX_RESTARTS, NoHints, NoList, ProcessList,
+    BriefList, CheckFault, Delivery, Ending, MAX_CHOICES, MAX_RESTARTS, NoHints, ProcessList,
     RunFault, ScriptFault, laws, run, run_again,
 };
 use cmh_graph::Verdict;
@@ -41,7 +41,9 @@ fn lists(rt: HostRuntime) -> Result<(), AllocError> {
     let alloc = rt.alloc();
     let kept: Vec<u32> = ProcessList::of(Vec::from_slice(alloc, &[4, 3])?);
     expect_eq(&rt, kept.as_slice(), [4, 3].as_slice());
-    let _ = NoList::of(kept);
+    expect_eq(&rt, (kept.next(), kept.count()), (Some(3), 2));
+    let brief = BriefList::of(kept);
+    expect_eq(&rt, (brief.next(), brief.count()), (Some(3), 2));
     Ok(())
 }
 

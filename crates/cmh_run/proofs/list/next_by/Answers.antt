@@ -1,6 +1,6 @@
 use Rattle.std.proofs.Common.{◌≡◌, ◌∙◌, ◌+◌, ◌-◌, Some, ap, arith, refl}
-use Rattle.cmh_work.proofs.NextSteps.{next_none, next_some}
-use Rattle.cmh_work.proofs.path.next_by.Goals as goal
+use Rattle.cmh_run.proofs.NextProcesses.{next_none, next_some}
+use Rattle.cmh_run.proofs.list.next_by.Goals as goal
 
 pub returns-then-distance-eq0 : goal.returns-then-distance-eq0
 returns-then-distance-eq0 c = λ path is.
