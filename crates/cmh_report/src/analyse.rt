@@ -16,7 +16,7 @@ use cmh_graph::WaitGraph;
 use cmh_run::{BriefList, NoLog, ProcessList, RunLog};
 use cmh_stream::{Pieces, Sink, Source, put_pieces};
 use cmh_text::{Outline, text_of};
-use cmh_work::{Analysis, Gate, Plan, WorkFault, analyse_keeping};
+use cmh_work::{Analysis, Gate, Plan, WorkFault, analyse_with};
 use std::alloc::{AllocError, Global};
 use std::sync::Wait;
 use std::thread::Threads;
@@ -39,7 +39,7 @@ fn run_analysis<R: Threads + Wait + Sync, G: Gate>(
     ensures analysis { IfOk result (IsSomeAnalysisOf ⟦<BriefList as ProcessList>⟧.processes graph.now) }
     ensures memory { IfErr result (λ e. e ≡ AppFault.Work WorkFault.Memory) }
 {
-    Ok(analyse_keeping(rt, alloc, graph, plan, gate)?)
+    Ok(analyse_with(rt, alloc, graph, plan, gate)?)
 }
 
 /// What the text takes from the analysis, which is given back.

@@ -82,7 +82,7 @@ impl<L: Log> RunLog<L> {
     }
 
     /// The same run, with its engaged processes in a list of any kind.
-    pub fn keeping<E: ProcessList>(self) -> RunLog<L, E>
+    pub fn with_list<E: ProcessList>(self) -> RunLog<L, E>
         ensures { result ≡ self }
     {
         let RunLog {

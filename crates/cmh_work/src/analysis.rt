@@ -49,17 +49,17 @@ pub fn analyse<R: Threads + Wait + Sync, G: Gate>(
     ensures ok { IfOk result (IsAnalysisOf (λ path. path.items) graph.now plan.now.choices) }
     ensures memory { IfErr result (λ e. e ≡ WorkFault.Memory) }
 {
-    analyse_keeping(rt, alloc, graph, plan, gate)
+    analyse_with(rt, alloc, graph, plan, gate)
 }
 
 /// `analyse`, where an `L` keeps the deliveries of each run, an `E` the processes that engaged in it,
-/// and a `P` the path of each free process. `analyse_keeping::<NoLog, BriefList, BriefList, _, _>` keeps
+/// and a `P` the path of each free process. `analyse_with::<NoLog, BriefList, BriefList, _, _>` keeps
 /// no delivery, and of each list the second process and how many there are.
 ///
 /// # Errors
 ///
 /// As `analyse`.
-pub fn analyse_keeping<
+pub fn analyse_with<
     L: Log + Send,
     E: ProcessList + Send,
     P: ProcessList + Send,

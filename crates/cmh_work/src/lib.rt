@@ -17,7 +17,7 @@ mod tests;
 mod worker;
 mod workers;
 
-pub use analysis::{analyse, analyse_keeping};
+pub use analysis::{analyse, analyse_with};
 pub use cmh_board::Row;
 pub use cmh_plan::{MAX_CUTS, MAX_WORKERS, Plan, PlanFault, TicketSeat, Tickets};
 pub use fault::WorkFault;

@@ -78,7 +78,7 @@ fn ask<L: Log, E: ProcessList, R: Wait>(
     job.shared.board.post(rt, seat, &Posting::of_run(&run));
     Ok(Answer {
         verdict: run.verdict(),
-        run: Some(run.keeping()),
+        run: Some(run.with_list()),
     })
 }
 

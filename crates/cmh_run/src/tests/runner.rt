@@ -19,7 +19,7 @@ fn one_network_serves_all_initiators(rt: HostRuntime) -> Result<(), RunFault> {
         expect_eq(&rt, run.engaged(), engaged);
         let run = runner
             .run_again::<NoLog, _>(alloc, initiator, &[], &mut NoHints, &[1])?
-            .keeping::<BriefList>();
+            .with_list::<BriefList>();
         expect_eq(&rt, (run.initiator(), run.restarted()), (initiator, 1));
     }
     Ok(())

@@ -25,5 +25,5 @@ returns g c =
       share = search rules;
       answered =
           subst (λ kept. IsAnswered gr choices p (board_view c.args.seat.now) w record
-          { verdict = c.verdict.result; run = Some kept }) (sym c.keeping.ensures) answered;
+          { verdict = c.verdict.result; run = Some kept }) (sym c.with_list.ensures) answered;
     }
