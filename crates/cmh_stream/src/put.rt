@@ -1,8 +1,9 @@
 //! Whole texts for a sink.
 
-ghost use Rattle.std.specs.Prelude.{◌≡◌, ◌≤◌, ◌++◌, length, take, true, false, IfErr, IsErr, IsErrAnd, MatchResult, OnOk, OnErr, Some, codes};
+ghost use Rattle.std.specs.Prelude.{◌≡◌, ◌++◌, length, true, false, IfErr, IsErr, MatchResult, OnOk, OnErr, Some, codes};
 ghost use Rattle.std.specs.Fmt.{decimal};
-ghost use Rattle.std.specs.Io.KnownBytes.{Appends, Keeps};
+ghost use Rattle.std.specs.Io.KnownBytes.{Keeps};
+ghost use Rattle.cmh_stream.specs.Put.{Puts, PutsAndFinishes};
 
 use crate::{Pieces, Sink};
 use std::error::Error;
@@ -32,22 +33,8 @@ impl Error for WriteFault {}
 /// `WriteFault` where the sink fails. Its count is the whole length where all was taken and the sink failed to hand it
 /// on.
 pub fn put_all<K: Sink>(sink: &mut K, bytes: &[u8]) -> Result<(), WriteFault>
-    ensures written { OnOk result (
-        (K.state sink.new).taken ≡ (K.state sink.old).taken ++ bytes.now) }
-    ensures finished { OnOk result ((K.state sink.new).is_finished ≡ true) }
-    ensures works { OnOk result ((K.state sink.new).has_failed ≡ false) }
-
-    ensures within { IfErr result (λ e. e.written ≤ length bytes.now) }
-    ensures prefix { IfErr result (λ e.
-        (K.state sink.new).taken ≡ (K.state sink.old).taken ++ take e.written bytes.now) }
-    ensures stops { OnErr result ((K.state sink.new).has_failed ≡ true) }
-    ensures unfinished { IfErr result (λ e. (K.state sink.new).is_finished ≡ true
-        → ((K.state sink.old).is_finished ≡ true) × (e.written ≡ 0)) }
-    ensures stays { (K.state sink.old).has_failed ≡ true → IsErrAnd result (λ e. e.written ≡ 0) }
-
-    ensures known { MatchResult result
-        (λ _. Appends (K.contents sink.old) (K.contents sink.new) bytes.now)
-        (λ e. Appends (K.contents sink.old) (K.contents sink.new) (take e.written bytes.now)) }
+    ensures { PutsAndFinishes bytes.now result
+        (K.state sink.old) (K.state sink.new) (K.contents sink.old) (K.contents sink.new) }
 {
     put_text(sink, bytes)?;
     finish(sink, bytes.len())
@@ -59,22 +46,8 @@ pub fn put_all<K: Sink>(sink: &mut K, bytes: &[u8]) -> Result<(), WriteFault>
 ///
 /// `WriteFault` where the sink fails. It counts the bytes of all pieces, as that of `put_all` does.
 pub fn put_pieces<K: Sink>(sink: &mut K, text: &Pieces) -> Result<(), WriteFault>
-    ensures written { OnOk result (
-        (K.state sink.new).taken ≡ (K.state sink.old).taken ++ text.now) }
-    ensures finished { OnOk result ((K.state sink.new).is_finished ≡ true) }
-    ensures works { OnOk result ((K.state sink.new).has_failed ≡ false) }
-
-    ensures within { IfErr result (λ e. e.written ≤ length text.now) }
-    ensures prefix { IfErr result (λ e.
-        (K.state sink.new).taken ≡ (K.state sink.old).taken ++ take e.written text.now) }
-    ensures stops { OnErr result ((K.state sink.new).has_failed ≡ true) }
-    ensures unfinished { IfErr result (λ e. (K.state sink.new).is_finished ≡ true
-        → ((K.state sink.old).is_finished ≡ true) × (e.written ≡ 0)) }
-    ensures stays { (K.state sink.old).has_failed ≡ true → IsErrAnd result (λ e. e.written ≡ 0) }
-
-    ensures known { MatchResult result
-        (λ _. Appends (K.contents sink.old) (K.contents sink.new) text.now)
-        (λ e. Appends (K.contents sink.old) (K.contents sink.new) (take e.written text.now)) }
+    ensures { PutsAndFinishes text.now result
+        (K.state sink.old) (K.state sink.new) (K.contents sink.old) (K.contents sink.new) }
 {
     let pieces = text.list();
     let mut written = 0;
@@ -91,24 +64,13 @@ pub fn put_pieces<K: Sink>(sink: &mut K, text: &Pieces) -> Result<(), WriteFault
 
 /// Puts the text into the sink, and doesn't finish it.
 fn put_text<K: Sink>(sink: &mut K, bytes: &[u8]) -> Result<(), WriteFault>
-    ensures written { OnOk result (
-        (K.state sink.new).taken ≡ (K.state sink.old).taken ++ bytes.now) }
+    ensures puts { Puts bytes.now result
+        (K.state sink.old) (K.state sink.new) (K.contents sink.old) (K.contents sink.new) }
     ensures opens { OnOk result ((K.state sink.new).is_finished ≡ true
         → ((K.state sink.old).is_finished ≡ true) × (length bytes.now ≡ 0)) }
-
-    ensures within { IfErr result (λ e. e.written ≤ length bytes.now) }
-    ensures prefix { IfErr result (λ e.
-        (K.state sink.new).taken ≡ (K.state sink.old).taken ++ take e.written bytes.now) }
-    ensures stops { OnErr result ((K.state sink.new).has_failed ≡ true) }
-    ensures unfinished { IfErr result (λ e. (K.state sink.new).is_finished ≡ true
-        → ((K.state sink.old).is_finished ≡ true) × (e.written ≡ 0)) }
     ensures stays { (K.state sink.old).has_failed ≡ true → MatchResult result
         (λ _. ((K.state sink.new).has_failed ≡ true) × (length bytes.now ≡ 0))
         (λ e. e.written ≡ 0) }
-
-    ensures known { MatchResult result
-        (λ _. Appends (K.contents sink.old) (K.contents sink.new) bytes.now)
-        (λ e. Appends (K.contents sink.old) (K.contents sink.new) (take e.written bytes.now)) }
 {
     let mut written = 0;
     while written < bytes.len() {
