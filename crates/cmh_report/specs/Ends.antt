@@ -1,11 +1,14 @@
 -- What is said of the devices at the two ends: a dump comes in, and a text goes out.
-use Rattle.std.specs.Prelude.{◌≡◌, ◌⊎◌, ℕ, ◌+◌, ◌≤◌, List, ◌++◌, length, take, true, Result, Ok, Err}
+use Rattle.std.specs.Prelude.{◌≡◌, ◌⊎◌, ℕ, ◌+◌, ◌≤◌, List, ◌++◌, length, take, true, Result, Ok, Err, IfErr}
 use Rattle.cmh_graph.specs.Graph.{Graph}
 use Rattle.cmh_stream.specs.Device.{SinkState, SourceState}
 use Rattle.cmh_dump.specs.Dump.{dump}
+use Rattle.cmh_dump.specs.Source.{GaveAtMost}
 use Rattle.cmh_dump.specs.declared.TheConstants.{MAX_BYTES}
 use Rattle.cmh_dump.specs.declared.fault.DumpFault.{DumpFault}
 use Rattle.cmh_dump.specs.declared.fault.DumpFault.TheVariants.{Memory, ReadFault, TooLong}
+use Rattle.cmh_report.specs.declared.fault.AppFault.{AppFault}
+use Rattle.cmh_report.specs.Fault.{IfDump, IfUnwritten, IfWriteFault}
 
 -- The source has given just some bytes more, up to its end, and they mean this graph or have this
 -- fault.
@@ -49,3 +52,16 @@ IsRefused old new fault =
     ⊎ ((fault ≡ ReadFault) × (new.has_failed ≡ true))
     ⊎ ((fault ≡ TooLong) × (length new.given ≡ length old.given + (MAX_BYTES + 1)))
     ⊎ GaveDump old new (Err fault)
+
+-- How a call leaves the two ends. A dump is refused for a reason; any fault but a write fault leaves the sink as it
+-- was; a write fault comes only where the sink has failed, and leaves one that took a byte unfinished; and the source
+-- gave at most one byte more than a dump may have.
+pub record LeavesEnds {A K : Type 0} (result : Result A AppFault) (source_old source_new : SourceState)
+    (state : K → SinkState) (sink_old sink_new : K) : Type 0 where
+  pub refused : IfErr result (λ e. IfDump e (IsRefused source_old source_new))
+  pub unwritten : IfErr result (λ e. IfUnwritten e ((state sink_new).taken ≡ (state sink_old).taken))
+  pub untouched : IfErr result (λ e. IfUnwritten e (sink_new ≡ sink_old))
+  pub stopped : IfErr result (λ e. IfWriteFault e (λ written. (state sink_new).has_failed ≡ true))
+  pub unfinished : IfErr result (λ e. IfWriteFault e (λ written. (state sink_new).is_finished ≡ true
+      → ((state sink_old).is_finished ≡ true) × (written ≡ 0)))
+  pub at_most : GaveAtMost (MAX_BYTES + 1) source_old source_new

@@ -1,12 +1,10 @@
 //! An analysis from end to end: a dump comes in, and its report goes out.
 
-ghost use Rattle.std.specs.Prelude.{◌≡◌, ◌+◌, true, IfOk, IfErr};
-ghost use Rattle.cmh_dump.specs.Source.{GaveAtMost};
-ghost use Rattle.cmh_dump.specs.declared.TheConstants.{MAX_BYTES};
+ghost use Rattle.std.specs.Prelude.{◌≡◌, IfOk, IfErr};
 ghost use Rattle.cmh_text.specs.Outline.{IsOutlineOf};
 ghost use Rattle.cmh_text.specs.Report.{IsCountedReport, IsReport, report_text, deadlocked_count};
-ghost use Rattle.cmh_report.specs.Ends.{IsAnswer, IsCutShort, IsRefused};
-ghost use Rattle.cmh_report.specs.Fault.{IfDump, IfNoSuchProcess, IfRun, IfUnwritten, IfWriteFault};
+ghost use Rattle.cmh_report.specs.Ends.{IsAnswer, IsCutShort, LeavesEnds};
+ghost use Rattle.cmh_report.specs.Fault.{IfNoSuchProcess, IfRun, IfWriteFault};
 ghost use Rattle.cmh_report.specs.Records.{IsSomeAnalysisOf};
 
 use crate::fault::{AppFault, ReportFault};
@@ -108,23 +106,14 @@ pub fn analyse_bytes<R: Threads + Wait + Sync, S: Source, K: Sink, G: Gate>(
     ensures answer { IfOk result (λ deadlocked. IsAnswer (IsCountedReport deadlocked)
         (S.state source.old) (S.state source.new) (K.state sink.old) (K.state sink.new)) }
 
-    ensures refused { IfErr result (λ e.
-        IfDump e (IsRefused (S.state source.old) (S.state source.new))) }
     ensures memory { IfErr result (λ e. (fault : WorkFault) → e ≡ AppFault.Work fault → fault ≡ WorkFault.Memory) }
     ensures nobody { IfErr result (λ e. IfNoSuchProcess e ⊥) }
     ensures no_run { IfErr result (λ e. IfRun e (λ _. ⊥)) }
-    ensures unwritten { IfErr result (λ e.
-        IfUnwritten e ((K.state sink.new).taken ≡ (K.state sink.old).taken)) }
-    ensures untouched { IfErr result (λ e. IfUnwritten e (sink.new ≡ sink.old)) }
     ensures cut_short { IfErr result (λ e. IfWriteFault e (IsCutShort IsReport
         (S.state source.old) (S.state source.new) (K.state sink.old) (K.state sink.new))) }
-    ensures stopped { IfErr result (λ e.
-        IfWriteFault e (λ _. (K.state sink.new).has_failed ≡ true)) }
-    ensures unfinished { IfErr result (λ e. IfWriteFault e (λ written.
-        (K.state sink.new).is_finished ≡ true
-        → ((K.state sink.old).is_finished ≡ true) × (written ≡ 0))) }
 
-    ensures at_most { GaveAtMost (MAX_BYTES + 1) (S.state source.old) (S.state source.new) }
+    ensures ends { LeavesEnds result
+        (S.state source.old) (S.state source.new) K.state sink.old sink.new }
 {
     let graph = read_graph(alloc, source)?;
     let analysis = run_analysis(rt, alloc, &graph, plan, gate)?;

@@ -1,8 +1,6 @@
 //! A trace from end to end: a dump comes in, and each query and reply of one computation goes out.
 
-ghost use Rattle.std.specs.Prelude.{◌≡◌, ◌≢◌, ◌++◌, ◌<◌, ◌≤◌, ◌+◌, ◌⊎◌, [], ℕ, length, true, IfOk, IfErr, IsTrue, OnOk, MatchOption, flat_map, string_bytes};
-ghost use Rattle.cmh_dump.specs.Source.{GaveAtMost};
-ghost use Rattle.cmh_dump.specs.declared.TheConstants.{MAX_BYTES};
+ghost use Rattle.std.specs.Prelude.{◌≡◌, ◌≢◌, ◌++◌, ◌<◌, ◌≤◌, ◌⊎◌, [], ℕ, length, IfOk, IfErr, IsTrue, OnOk, MatchOption, flat_map, string_bytes};
 ghost use Rattle.cmh_graph.specs.Graph.{is_idle};
 ghost use Rattle.cmh_run.specs.Choices.{HasNoHints};
 ghost use Rattle.cmh_run.specs.Legal.{IsBetween};
@@ -11,8 +9,8 @@ ghost use Rattle.cmh_run.specs.declared.TheConstants.{MAX_CHOICES};
 ghost use Rattle.cmh_run.specs.declared.fault.RunFault.{RunFault};
 ghost use Rattle.cmh_text.specs.Report.{line};
 ghost use Rattle.cmh_work.specs.declared.fault.WorkFault.{WorkFault};
-ghost use Rattle.cmh_report.specs.Ends.{GaveGraph, IsAnswer, IsCutShort, IsRefused};
-ghost use Rattle.cmh_report.specs.Fault.{IfDump, IfNoSuchProcess, IfRun, IfUnwritten, IfWriteFault};
+ghost use Rattle.cmh_report.specs.Ends.{GaveGraph, IsAnswer, IsCutShort, LeavesEnds};
+ghost use Rattle.cmh_report.specs.Fault.{IfDump, IfNoSuchProcess, IfRun, IfWriteFault};
 ghost use Rattle.cmh_report.specs.Trace.{ending_lines, message_line, trace_text, HasLines, HasNoRun, IsEndedTrace, IsFirstNamed, IsSomeTrace, NobodyIsNamed};
 
 use crate::fault::{AppFault, ReportFault};
@@ -54,26 +52,17 @@ pub fn trace_bytes<S: Source, K: Sink>(
     ensures never_cut { IfOk result (λ ending. (k : ℕ) → ending ≢ Ending.CutFree k) }
     ensures few { IfOk result (λ _. length choices.now ≤ MAX_CHOICES) }
 
-    ensures refused { IfErr result (λ e.
-        IfDump e (IsRefused (S.state source.old) (S.state source.new))) }
     ensures no_work { IfErr result (λ e. (fault : WorkFault) → e ≢ AppFault.Work fault) }
     ensures nobody { IfErr result (λ e. IfNoSuchProcess e (GaveGraph
         (S.state source.old) (S.state source.new) (λ g. NobodyIsNamed g name.now))) }
     ensures no_run { IfErr result (λ e. IfRun e (λ fault. GaveGraph
         (S.state source.old) (S.state source.new) (HasNoRun name.now choices.now fault))) }
-    ensures unwritten { IfErr result (λ e.
-        IfUnwritten e ((K.state sink.new).taken ≡ (K.state sink.old).taken)) }
-    ensures untouched { IfErr result (λ e. IfUnwritten e (sink.new ≡ sink.old)) }
     ensures cut_short { IfErr result (λ e. IfWriteFault e (IsCutShort
         (IsSomeTrace name.now choices.now)
         (S.state source.old) (S.state source.new) (K.state sink.old) (K.state sink.new))) }
-    ensures stopped { IfErr result (λ e.
-        IfWriteFault e (λ _. (K.state sink.new).has_failed ≡ true)) }
-    ensures unfinished { IfErr result (λ e. IfWriteFault e (λ written.
-        (K.state sink.new).is_finished ≡ true
-        → ((K.state sink.old).is_finished ≡ true) × (written ≡ 0))) }
 
-    ensures at_most { GaveAtMost (MAX_BYTES + 1) (S.state source.old) (S.state source.new) }
+    ensures ends { LeavesEnds result
+        (S.state source.old) (S.state source.new) K.state sink.old sink.new }
 {
     let graph = read_graph(alloc, source)?;
     let trace = trace_of(alloc, &graph, name, choices)?;
