@@ -1,8 +1,7 @@
 //! Dependents that equal an earlier one of their process, by their places.
 
-ghost use Rattle.std.specs.Prelude.{◌≡◌, ◌<◌, ◌≤◌, ℕ, true, length, nat_lt, All, IfNone, IfOk, IfSome};
+ghost use Rattle.std.specs.Prelude.{◌≡◌, true, nat_lt, IfOk};
 ghost use Rattle.std.specs.List.{list_all};
-ghost use Rattle.cmh_graph.specs.Judge.{IsFirst, IsRepeat};
 ghost use Rattle.cmh_dump.specs.Places.{first_repeated_place};
 ghost use Rattle.cmh_dump.specs.Read.{first_pair};
 
