@@ -1,4 +1,4 @@
--- What records tell of the graph: how many processes are idle and deadlocked, and a summary of each.
+-- What records say of the graph: the numbers of idle and of deadlocked processes, and a summary of each.
 use Rattle.std.proofs.Common.{◌≡◌, ℕ, ◌+◌, ◌<◌, ◌≤◌, Bool, true, false, cond, zero, suc, inl, inr, List, [], ◌∷◌, length, map, take, take_all, get_or, set, replicate, refl, sym, ◌∙◌, ap, subst, arith}
 use Rattle.std.specs.Prelude.{All, Contains, filter, count_by, unwrap_or}
 use Rattle.std.proofs.lemmas.Bool.{cases_eq}
@@ -50,7 +50,7 @@ initiator_at listed g records i r are l is =
     ∙ get_or-map initiator_of records i r 0 l
     ∙ ap initiator_of is
 
--- each of the records tells the verdict and the leader of an idle process as they are
+-- each of the records has the verdict and the summary of its process
 pub tells_at : {L : Type 0} (listed : L → List ℕ) (g : Graph) (records : List (Record Run L)) (i : ℕ) (r : Record Run L)
     → AreRecordsOf listed g records → i < length records → get_or records i r ≡ r → TellsOf listed g r
 tells_at listed g records i r are l is = subst (TellsOf listed g) is (are.tell i r l)
@@ -74,7 +74,7 @@ count_cons : {X : Type 0} (p : X → Bool) (x : X) (xs : List X)
     → count_by p (x ∷ xs) ≡ cond {A = ℕ} (p x) 1 0 + count_by p xs
 count_cons p x xs = sum_by-cons (λ y. cond {A = ℕ} (p y) 1 0) x xs
 
--- as many records tell of a deadlocked process as are of one
+-- as many records say that their process is deadlocked as are of a deadlocked one
 counted : {L : Type 0} (listed : L → List ℕ) (g : Graph) (records : List (Record Run L)) → IsWithinGraph g
     → All (TellsOf listed g) records
     → count_by tells_deadlocked records ≡ count_by (is_deadlocked g) (map initiator_of records)
@@ -111,7 +111,7 @@ count_idle : (g : Graph) (ps : List ℕ)
 count_idle g [] = refl
 count_idle g (p ∷ ps) = count_more g p ps (is_idle g p) refl (count_idle g ps)
 
--- as many processes are deadlocked as records tell of one
+-- as many processes are deadlocked as records say that theirs is
 pub deadlocked_told : {L : Type 0} (listed : L → List ℕ) (g : Graph) (records : List (Record Run L)) → IsWithinGraph g
     → AreRecordsOf listed g records → count_by tells_deadlocked records ≡ deadlocked_count g
 deadlocked_told listed g records w are =
@@ -148,14 +148,13 @@ analysed listed g a (choices, is) = record {
 abbrev summary_at : List Summary → ℕ → Summary
 summary_at list p = get_or list p Active
 
--- The table has a place for each process, the summaries of these, and of each other one that it is
--- active.
+-- The table has a place for each process, the summaries of these, and of each other one that it is active.
 pub record AreSummariesOfThese (g : Graph) (done : List ℕ) (list : List Summary) : Type 0 where
   pub size : length list ≡ process_count g
   pub named : (p : ℕ) → Contains done p → summary_at list p ≡ summary_of g p
   pub other : (p : ℕ) → (Contains done p → ⊥) → summary_at list p ≡ Active
 
--- of so many that are alike each is so
+-- each of n equal elements is that element
 alike_at : {X : Type 0} (x : X) (n p : ℕ) → get_or (replicate n x) p x ≡ x
 alike_at x zero p = refl
 alike_at x (suc n) zero = refl

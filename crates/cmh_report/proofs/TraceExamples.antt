@@ -21,7 +21,7 @@ run_of messages ending = record {
   restarted = 0;
 }
 
--- p waits for nobody: nothing is delivered
+-- p has no dependents: nothing is delivered
 waits_for_nobody_trace : trace_text (record { processes = waits_for_nobody; in_transit = [] }) (run_of [] Declared)
     ≡ codes "declared p" ++ lf
 unfolding trace_text message_line
@@ -38,7 +38,7 @@ two_in_a_cycle_trace : trace_text (record { processes = two_in_a_cycle; in_trans
 unfolding trace_text message_line
 two_in_a_cycle_trace = refl
 
--- p waits for q, who waits for itself, and for r, who is active and discards the query
+-- p waits for q, which waits for itself, and for r, which is active and discards the query
 abbrev one_free_one_stuck : List Process
 one_free_one_stuck =
     idle (codes "p") 0 (1 ∷ 2 ∷ []) ∷

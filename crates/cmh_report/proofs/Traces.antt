@@ -133,7 +133,7 @@ named_once g name p q a b =
     (cases_lt p q))
     (cases_eq p q)
 
--- the text goes by who ran, what was delivered and how the run ended
+-- the text goes by the initiator, the deliveries and the ending of the run
 text_by_parts : (g : Graph) (r t : Run) → r.initiator ≡ t.initiator → r.log ≡ t.log → r.ending ≡ t.ending
     → trace_text g r ≡ trace_text g t
 unfolding trace_text

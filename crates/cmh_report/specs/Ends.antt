@@ -10,22 +10,21 @@ use Rattle.cmh_dump.specs.declared.fault.DumpFault.TheVariants.{Memory, ReadFaul
 use Rattle.cmh_report.specs.declared.fault.AppFault.{AppFault}
 use Rattle.cmh_report.specs.Fault.{IfDump, IfUnwritten, IfWriteFault}
 
--- The source has given just some bytes more, up to its end, and they mean this graph or have this
--- fault.
+-- The source gave just some more bytes and then ended. They mean this graph, or have this fault.
 pub record GaveDump (old new : SourceState) (meaning : Result Graph DumpFault) : Type 0 where
   pub bytes : List ℕ
   pub given : new.given ≡ old.given ++ bytes
   pub whole : new.has_ended ≡ true
   pub means : dump bytes ≡ meaning
 
--- the source gave just the dump of a graph of which the fact holds
+-- the source gave just the dump of a graph for which the fact holds
 pub record GaveGraph (old new : SourceState) (Holds : Graph → Type 0) : Type 0 where
   pub graph : Graph
   pub dump : GaveDump old new (Ok graph)
   pub holds : Holds graph
 
--- The answer to a dump. The source gave just the dump of a graph, the sink took just a text that
--- fits this graph, and finished.
+-- The answer to a dump. The source gave just the dump of a graph, the sink took just a text that fits this graph, and
+-- finished.
 pub record IsAnswer (Fits : Graph → List ℕ → Type 0) (source_old source_new : SourceState)
     (sink_old sink_new : SinkState) : Type 0 where
   pub graph : Graph
@@ -35,7 +34,8 @@ pub record IsAnswer (Fits : Graph → List ℕ → Type 0) (source_old source_ne
   pub taken : sink_new.taken ≡ sink_old.taken ++ text
   pub finished : sink_new.is_finished ≡ true
 
--- The source gave a dump as above, and the sink took a prefix of its text, so many bytes of it.
+-- The source gave just the dump of a graph, and the sink took the first bytes of a text that fits this graph, as many
+-- as were written.
 pub record IsCutShort (Fits : Graph → List ℕ → Type 0) (source_old source_new : SourceState)
     (sink_old sink_new : SinkState) (written : ℕ) : Type 0 where
   pub graph : Graph
@@ -45,7 +45,7 @@ pub record IsCutShort (Fits : Graph → List ℕ → Type 0) (source_old source_
   pub within : written ≤ length text
   pub taken : sink_new.taken ≡ sink_old.taken ++ take written text
 
--- why a dump is refused: memory, the source, too many bytes, or what the bytes are
+-- why a dump is refused: memory was refused, the source failed, it gave too many bytes, or its bytes have the fault
 abbrev pub IsRefused : SourceState → SourceState → DumpFault → Type 0
 IsRefused old new fault =
     (fault ≡ Memory)
@@ -53,8 +53,8 @@ IsRefused old new fault =
     ⊎ ((fault ≡ TooLong) × (length new.given ≡ length old.given + (MAX_BYTES + 1)))
     ⊎ GaveDump old new (Err fault)
 
--- How a call leaves the two ends. A dump is refused for a reason; any fault but a write fault leaves the sink as it
--- was; a write fault comes only where the sink has failed, and leaves one that took a byte unfinished; and the source
+-- How a call leaves the two ends. A dump is refused for a reason. Any fault but a write fault leaves the sink as it
+-- was. A write fault comes only where the sink has failed, and leaves a sink that took a byte unfinished. The source
 -- gave at most one byte more than a dump may have.
 pub record LeavesEnds {A K : Type 0} (result : Result A AppFault) (source_old source_new : SourceState)
     (state : K → SinkState) (sink_old sink_new : K) : Type 0 where

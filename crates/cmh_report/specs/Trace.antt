@@ -23,8 +23,7 @@ kind_word Reply = codes "reply"
 unfoldable pub message_line : Graph → Message → List (List ℕ)
 message_line g m = kind_word m.kind ∷ name_of g m.from ∷ name_of g m.to ∷ []
 
--- The words of the last line, if there is one, by the initiator's name. A run without hints is
--- never cut free.
+-- The words of the last line, if there is one, by the initiator's name. A run without hints is never cut free.
 abbrev pub ending_lines : List ℕ → Ending → List (List (List ℕ))
 ending_lines name Declared = (codes "declared" ∷ name ∷ []) ∷ []
 ending_lines name AtRest = (codes "at" ∷ codes "rest" ∷ name ∷ []) ∷ []
@@ -45,8 +44,8 @@ pub record IsFirstNamed (g : Graph) (name : List ℕ) (p : ℕ) : Type 0 where
 abbrev pub NobodyIsNamed : Graph → List ℕ → Type 0
 NobodyIsNamed g name = (p : ℕ) → p < process_count g → name_of g p ≢ name
 
--- The text is the trace of the idle process of that name: of its run that follows these choices
--- without hints, and that has ended so.
+-- The text is the trace of the idle process of that name: of its run that follows these choices without hints, and has
+-- ended so.
 pub record IsTrace (name choices : List ℕ) (EndsSo : Ending → Type 0) (g : Graph)
     (text : List ℕ) : Type 0 where
   pub run : Run
@@ -57,8 +56,8 @@ pub record IsTrace (name choices : List ℕ) (EndsSo : Ending → Type 0) (g : G
   pub ends : EndsSo run.ending
   pub lines : text ≡ trace_text g run
 
--- The same in the rules of the computation: the text is the trace of a run whose starts and deliveries are by these
--- rules, each delivery the one that the choices name, and which kept its deliveries, its ending and who engaged.
+-- The same by the rules of the computation. The text is the trace of a run by these rules, in which each delivery is
+-- the one that the choices name. The ending and the engaged processes that are kept are those of this run.
 pub record IsTraceOfSteps (name choices : List ℕ) (ending : Ending) (g : Graph) (text : List ℕ) : Type 0 where
   pub run : Run
   pub end : Going
@@ -71,22 +70,22 @@ pub record IsTraceOfSteps (name choices : List ℕ) (ending : Ending) (g : Graph
   pub ends : ending ≡ run.ending
   pub lines : text ≡ trace_text g run
 
--- the trace, and how its run has ended
+-- the text is the trace, and its run has ended so
 abbrev pub IsEndedTrace : List ℕ → List ℕ → Ending → Graph → List ℕ → Type 0
 IsEndedTrace name choices ending = IsTrace name choices (λ last. ending ≡ last)
 
--- the trace, however its run has ended
+-- the text is the trace, however its run has ended
 abbrev pub IsSomeTrace : List ℕ → List ℕ → Graph → List ℕ → Type 0
 IsSomeTrace name choices = IsTrace name choices (λ last. ⊤)
 
--- The process of that name has no run by these choices: memory was refused, or this is the first
--- fault of what was asked.
+-- The process of that name has no run by these choices: memory was refused, or this is the first fault of what was
+-- asked.
 pub record HasNoRun (name choices : List ℕ) (fault : RunFault) (g : Graph) : Type 0 where
   pub initiator : ℕ
   pub named : IsFirstNamed g name initiator
   pub cause : (fault ≡ Memory) ⊎ IsFirstRunFault g initiator choices [] fault
 
--- what the lines of a run ask of it: processes of the graph, and an ending that has a line
+-- the run can be written: its messages go between processes of the graph, and its ending has a line
 pub record HasLines (g : Graph) (r : Run) : Type 0 where
   pub initiator : r.initiator < process_count g
   pub messages : All (λ d. IsBetween g d.message) r.log

@@ -19,7 +19,7 @@ use std::alloc::{AllocError, Global};
 use std::sync::Wait;
 use std::thread::Threads;
 
-/// The report on a graph, in pieces, and how many of its processes are deadlocked.
+/// The report on a graph, in pieces, and the number of its deadlocked processes.
 #[derive(Drop)]
 struct CountedText {
     text: Pieces,
@@ -40,7 +40,7 @@ fn run_analysis<R: Threads + Wait + Sync, G: Gate>(
     Ok(analyse_with(rt, alloc, graph, plan, gate)?)
 }
 
-/// What the text takes from the analysis, which is given back.
+/// What the text takes from the analysis. The analysis is given back.
 fn make_outline(
     alloc: Global,
     graph: &WaitGraph,
@@ -52,7 +52,7 @@ fn make_outline(
     outline_of(alloc, graph, analysis.records())
 }
 
-/// The text of an analysis, which is given back before the text is made: so both aren't held at once.
+/// The text of an analysis. The analysis is given back before the text is made, so both aren't held at once.
 fn text_and_count<R: Threads + Sync>(
     rt: &R,
     alloc: Global,
@@ -86,15 +86,15 @@ fn render_report<R: Threads + Sync>(
     text_and_count(rt, alloc, graph, analysis).map_err(|_| AppFault::Report(ReportFault::Memory))
 }
 
-/// The one-thread answer, by workers. Reads a dump from the source up to its end, analyses it by the
-/// plan, writes its report to the sink, and answers how many processes are deadlocked. No plan, gate
-/// or timing changes a byte of it. Nothing is written before the whole text is ready. The cost is
-/// that of `analyse` and of `report`, and close to linear in the bytes of the dump besides.
+/// Reads a dump from the source up to its end, analyses it by the plan, writes its report to the sink, and answers the
+/// number of deadlocked processes. No plan, gate or timing changes a byte of the report. Nothing is written before the
+/// whole text is ready. The cost is that of `analyse` and of `report`, and close to linear in the bytes of the dump
+/// besides.
 ///
 /// # Errors
 ///
-/// `Dump` where the source gives no dump, `Work` where memory is refused to the workers, `Report`
-/// where it is refused to the text, and `WriteFault` where the sink fails.
+/// `Dump` where the source gives no dump, `Work` where memory is refused to the workers, `Report` where it is refused
+/// to the text, and `WriteFault` where the sink fails.
 pub fn analyse_bytes<R: Threads + Wait + Sync, S: Source, K: Sink, G: Gate>(
     rt: &R,
     alloc: Global,

@@ -1,5 +1,6 @@
-//! What the text of a report takes from the records of an analysis: a summary of each process, and how
-//! many processes are idle and deadlocked.
+//! What the text of a report takes from the records of an analysis.
+//!
+//! It is a summary of each process, and the numbers of idle and of deadlocked processes.
 
 ghost use Rattle.std.specs.Prelude.{◌≡◌, ◌<◌, ◌^◌, length, replicate, IfOk, count_by};
 ghost use Rattle.cmh_text.specs.Outline.{IsOutlineOf};
@@ -13,8 +14,8 @@ use cmh_text::{Outline, Summary};
 use cmh_work::{Record, Shape};
 use std::alloc::{AllocError, Global};
 
-/// What the text takes from the records. Once it is made they can be given back. Each record is read
-/// twice, and the graph isn't searched.
+/// What the text takes from the records, which can be given back then. Each record is read twice, and the graph isn't
+/// searched.
 pub(crate) fn outline_of<L: Log, E: ProcessList, P: ProcessList>(
     alloc: Global,
     graph: &WaitGraph,
@@ -29,7 +30,7 @@ pub(crate) fn outline_of<L: Log, E: ProcessList, P: ProcessList>(
     Outline::new(alloc, graph, summaries, records.len() as u32, deadlocked)
 }
 
-/// For each process what its line is made of.
+/// The summary of each process, from which its line is made.
 fn summaries_of<L: Log, E: ProcessList, P: ProcessList>(
     alloc: Global,
     graph: &WaitGraph,
@@ -45,14 +46,14 @@ fn summaries_of<L: Log, E: ProcessList, P: ProcessList>(
     Ok(summaries)
 }
 
-/// A table in which each process has no line.
+/// A table in which each process is active.
 fn active_summaries(alloc: Global, count: u32) -> Result<Vec<Summary>, AllocError>
     ensures { IfOk result (λ list. list.items ≡ replicate count Summary.Active) }
 {
     Ok(vec![in alloc; Summary::Active; count as usize]?)
 }
 
-/// What the text takes of a process that has this shape.
+/// What the text takes from a process with this shape.
 fn summary_in<P: ProcessList>(shape: &Shape<P>) -> Summary
     ensures { result ≡ summary_in P.processes shape.now }
 {
@@ -62,7 +63,7 @@ fn summary_in<P: ProcessList>(shape: &Shape<P>) -> Summary
     }
 }
 
-/// How many processes the records tell to be deadlocked.
+/// The number of processes that are deadlocked by the records.
 fn count_deadlocked<L: Log, E: ProcessList, P: ProcessList>(
     records: &[Record<RunLog<L, E>, P>],
 ) -> u32

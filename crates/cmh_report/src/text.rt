@@ -13,9 +13,8 @@ use cmh_work::{Analysis, Record};
 use std::alloc::{AllocError, Global};
 use std::thread::Threads;
 
-/// The report on a graph that was analysed: a line of counts, a line for each idle process, and a
-/// line for each group of deadlocked processes. The analysis is of this graph. The cost is that of
-/// `cmh_text::text_of`, and linear in the records and in the text besides.
+/// The report on a graph that was analysed: a line of counts, a line for each idle process, and a line for each group
+/// of deadlocked processes. The cost is that of `cmh_text::text_of`, and linear in the records and in the text besides.
 ///
 /// # Errors
 ///

@@ -29,17 +29,16 @@ struct EndedTrace {
     ending: Ending,
 }
 
-/// Reads a dump from the source up to its end, runs the computation of the process of that name by
-/// the choices and without hints, writes its trace to the sink, and answers how the run ended. The
-/// names of a dump differ, so that there is one such process at most, and one such run of it.
-/// Nothing is written before the whole text is ready. It takes time linear in the deliveries and in
-/// their text, and close to linear in the bytes of the dump besides.
+/// Reads a dump from the source up to its end, runs the computation of the process of that name by the choices and
+/// without hints, writes its trace to the sink, and answers how the run ended. The names of a dump differ, so there is
+/// one such process at most, and one such run of it. Nothing is written before the whole text is ready. It takes time
+/// linear in the deliveries and in their text, and close to linear in the bytes of the dump besides.
 ///
 /// # Errors
 ///
-/// `Dump` where the source gives no dump, `NoSuchProcess` where no process has the name, `Run`
-/// where the process isn't idle, there are too many choices or memory is refused to the run,
-/// `Report` where it is refused to the text, and `WriteFault` where the sink fails.
+/// `Dump` where the source gives no dump, `NoSuchProcess` where no process has the name, `Run` where the process isn't
+/// idle, there are too many choices or memory is refused to the run, `Report` where it is refused to the text, and
+/// `WriteFault` where the sink fails.
 pub fn trace_bytes<S: Source, K: Sink>(
     alloc: Global,
     source: &mut S,
@@ -112,8 +111,8 @@ fn find_process(graph: &WaitGraph, name: &str) -> Option<u32>
     None
 }
 
-/// The run of a process that follows the choices without hints. Memory that is refused is reported
-/// as the fault of the run.
+/// The run of a process that follows the choices without hints. Memory that is refused is reported as the fault of the
+/// run.
 fn plain_run(
     alloc: Global,
     graph: &WaitGraph,

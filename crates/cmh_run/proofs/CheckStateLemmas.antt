@@ -28,7 +28,7 @@ use Rattle.cmh_run.proofs.Configurations.{Status, first_start, leads_stands, sta
 use Rattle.cmh_run.proofs.ProgressLemmas.{leads_on, nothing_comes}
 use Rattle.cmh_run.proofs.Places.{IsIn, in_nothing, in_first, in_last, in_either, left_was, was_left, one_place}
 
--- ---- whose messages they are
+-- ---- messages of one initiator
 
 -- a message of the first computation of initiator i
 pub record Own (i : ℕ) (m : Message) : Type 0 where

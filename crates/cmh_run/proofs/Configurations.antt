@@ -27,7 +27,7 @@ use Rattle.cmh_run.proofs.Tokens.{Each, each_at, tokens, set_is, is_token, is_to
 use Rattle.cmh_run.proofs.LiveInvariant as live
 use Rattle.cmh_run.proofs.LiveInvariant.{IsSoundRun, IsSoundMessage, started}
 
--- who is engaged in the newest computation, and what is true of whoever has heard of any
+-- the engaged of the newest computation, and what is true of each process that has heard of any
 pub record Party (g : Graph) (i n : ℕ) (F : ℕ → Proc) (engaged : List ℕ) : Type 0 where
   pub positive : 0 < n
   pub engaged_in : (k : ℕ) → 0 < tally k engaged → (F k).latest ≡ n
@@ -44,7 +44,7 @@ pub record CutAt (g : Graph) (i n : ℕ) (F : ℕ → Proc) (engaged : List ℕ)
   pub rests : is_awake g k ≡ false
   pub reached : Reaches g i k
 
--- what stays true of a run tells who is engaged
+-- what stays true of a run says which processes are engaged
 pub party_of : (g : Graph) (i n : ℕ) (F : ℕ → Proc) (bag : List Message) (engaged : List ℕ)
     → IsSoundRun g i n F bag engaged
     → Party g i n F engaged
@@ -70,7 +70,7 @@ pub record IsSoundConfig (g : Graph) (i : ℕ) (c : Config) : Type 0 where
   pub size : length c.procs ≡ process_count g
   pub status : Status g i c.number (proc_at c.procs) c.bag c.engaged c.ended
 
--- a configuration whose process k was changed
+-- a configuration with another process k
 changed : (g : Graph) (i n : ℕ) (procs : List Proc) (k : ℕ) (p : Proc) (bag : List Message) (engaged : List ℕ)
     (e : Option Ending) → length procs ≡ process_count g → k < process_count g
     → Status g i n (upd (proc_at procs) k p) bag engaged e
@@ -154,7 +154,7 @@ module _ (g : Graph) (i : ℕ) (c : Config) (ok : IsWithinGraph g) (size : lengt
       (subst (λ (G : ℕ → Proc). Status g i c.number G (remove c.bag x) c.engaged None)
       (sym (upd_self (proc_at c.procs) k)) (l, more)))
 
-  -- what is true of a configuration stays true after a query that engages nobody
+  -- what is true of a configuration stays true after a query that doesn't engage its receiver
   not_engaging : m.kind ≡ Query → engages (proc_at c.procs m.to) m.number ≡ false
       → IsSoundConfig g i
       (after_step i (without_message c x) m.number m.to [] (proc_queried (proc_at c.procs m.to) m.number m.from 0)

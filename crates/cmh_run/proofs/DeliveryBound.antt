@@ -1,4 +1,4 @@
--- How many deliveries a run has at most.
+-- The most deliveries that a run has.
 use Rattle.cmh_run.specs.declared.delivery.Ending.{Ending}
 use Rattle.std.specs.Prelude.{IsTrue}
 use Rattle.std.proofs.Common.{◌≡◌, ℕ, zero, suc, ◌+◌, ◌-◌, ◌<◌, ◌≤◌, Bool, true, false, ◌&&◌, cond, eqb, ltb, List, [], ◌∷◌, ◌++◌, map, remove, replicate, length, get_or, slice_get, slice_set, Option, Some, None, is_none, sum_by, refl, ap, subst, arith, ⊎_elim}
@@ -36,7 +36,7 @@ abbrev kind_weight : Kind → ℕ
 kind_weight Query = 2
 kind_weight Reply = 1
 
--- how many deliveries the messages still lead to: a query to a reply
+-- the number of deliveries that the messages still lead to: a query leads to a reply
 abbrev load : List Message → ℕ
 load bag = sum_by (λ x. kind_weight x.kind) bag
 
@@ -72,7 +72,7 @@ total_upd g n F k p (suc l) h =
     (λ (w : l ≡ k → ⊥). rw (ne_eqb l k w) (omega (arith, total_upd g n F k p l (omega (arith, w)))))
     (cases_eq l k)
 
--- how many deliveries the messages and the processes still lead to at most
+-- the most deliveries that the messages and the processes still lead to
 phi : Graph → ℕ → (ℕ → Proc) → List Message → ℕ
 phi g n F bag = load bag + total g n F (process_count g)
 
@@ -235,7 +235,7 @@ module _ (g : Graph) (i : ℕ) (c : Config) (ok : IsWithinGraph g) (size : lengt
           (query_action (proc_at c.procs m.to) m.number m.from 0))))
           (λ e. asked_falls kind e rests hint) (λ e. repeat_falls kind e)
 
--- how many dependencies the first processes have together
+-- the number of dependencies that the first processes have together
 abbrev width_below : Graph → ℕ → ℕ
 width_below g zero = 0
 width_below g (suc n) = width_below g n + width g n

@@ -1,4 +1,4 @@
--- Who is engaged when a run has ended, and that an awake initiator starts nothing.
+-- The processes that are engaged when a run has ended, and that an awake initiator starts nothing.
 use Rattle.std.specs.Prelude.{IsTrue}
 use Rattle.std.proofs.Common.{◌≡◌, ℕ, ◌<◌, Bool, true, false, List, [], ◌∷◌, Contains, Option, Some, refl, sym, ◌∙◌, ap, subst, arith}
 use Rattle.std.proofs.lemmas.Option.{none-some}
@@ -17,11 +17,11 @@ use Rattle.cmh_run.proofs.Configurations.{Status, IsSoundConfig, Party, CutAt, p
 use Rattle.cmh_run.proofs.Soundness.{runs_are_sound}
 
 module _ (g : Graph) (i n : ℕ) (F : ℕ → Proc) (engaged : List ℕ) (p : Party g i n F engaged) where
-  -- whoever is engaged has heard of a computation
+  -- each engaged process has heard of a computation
   heard : (k : ℕ) → Contains engaged k → 0 < (F k).latest
   heard k c = omega (arith, p.positive, p.engaged_in k (tally_from_contains k engaged c))
 
-  -- those who are engaged are as they should be, where what the ending says of them is true
+  -- the engaged are as they should be, where what the ending says of them is true
   engaged_by_ending : (ending : Ending) → (ending ≡ Declared → (k : ℕ) → Contains engaged k → IsDeadlocked g k)
       → ((k : ℕ) → ending ≡ CutFree k → CutAt g i n F engaged k) → AreEngaged g i ending engaged
   engaged_by_ending ending deadlocked cut = record {
@@ -80,7 +80,7 @@ awake_ones_start_nothing rule g i restarts log ending end up run =
     let leads : DeliveriesLead rule g i (going_from (nothing_yet g) []) log end = rw up at run.leads in
     nothing_started rule g i log ending end leads run.ends
 
--- nobody is engaged in the empty run
+-- no process is engaged in the empty run
 nobody : (g : Graph) (i : ℕ) (log : List Delivery) (ending : Ending) (end : Going) → is_awake g i ≡ true
     → IsEmptyRun log ending end → AreEngaged g i ending end.config.engaged
 nobody g i log ending end up h = rw (h.nobody, h.at_rest) (record {

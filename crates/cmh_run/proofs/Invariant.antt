@@ -17,7 +17,7 @@ is_engager k (Some e) = eqb e k
 abbrev pub owes : ℕ → ℕ → Proc → Bool
 owes m k p = eqb p.latest m && (is_engager k p.engager && ltb 0 p.num)
 
--- T k r: how many messages of computation m are on their way between k and its dependent r
+-- T k r: the number of messages of computation m that are on their way between k and its dependent r
 abbrev pub weight : ℕ → (ℕ → Proc) → (ℕ → ℕ → ℕ) → ℕ → ℕ → ℕ
 weight m P T k r = T k r + one_if (owes m k (P r))
 
@@ -53,7 +53,7 @@ is_engager_true : (k : ℕ) (o : Option ℕ) → is_engager k o ≡ true → o �
 is_engager_true k None h = absurd (true≢false (sym h))
 is_engager_true k (Some e) h = ap Some (eqb-true e k h)
 
--- who owes k a reply is of computation m, was engaged by k, and still waits
+-- a process that owes k a reply is of computation m, was engaged by k, and still waits
 owes_parts : (m k : ℕ) (p : Proc) → owes m k p ≡ true → (p.latest ≡ m) × (p.engager ≡ Some k) × (0 < p.num)
 owes_parts m k p h =
     let a = and_parts (eqb p.latest m) (is_engager k p.engager && ltb 0 p.num) h in
@@ -67,7 +67,7 @@ one_if_true false h = absurd (omega arith)
 
 module _ (g : Graph) (i m : ℕ) (P : ℕ → Proc) (T : ℕ → ℕ → ℕ) (out : ℕ → List ℕ) (rank : ℕ → ℕ) (clock : ℕ)
     (s : Sound g i m P T out rank clock) where
-  -- once the initiator has all its replies, so has everyone that is engaged
+  -- once the initiator has all its replies, so has each process that is engaged
   none_waits_below : (P i).num ≡ 0 → (n k : ℕ) → rank k < n → (P k).latest ≡ m → (P k).num ≡ 0
   none_waits_below top zero k h l = absurd (omega arith)
   none_waits_below top (suc n) k h l = by_engager (P k).engager refl (λ e. none_waits_below top n e)
@@ -87,11 +87,11 @@ module _ (g : Graph) (i m : ℕ) (P : ℕ → Proc) (T : ℕ → ℕ → ℕ) (o
           (λ (more : 0 < (P k).num). absurd (let o = owes_from m e (P k) l is more in omega (arith, rw o at none)))
           (eq-zero-or-pos (P k).num)
 
-  -- once the initiator waits for no reply, nobody in its computation waits
+  -- once the initiator waits for no reply, no process in its computation waits
   none_waits : (P i).num ≡ 0 → (k : ℕ) → (P k).latest ≡ m → (P k).num ≡ 0
   none_waits top k l = none_waits_below top (suc (rank k)) k (omega arith) l
 
-  -- once the initiator waits for no reply, nobody awake can be reached from one that is engaged
+  -- once the initiator waits for no reply, no awake process can be reached from one that is engaged
   all_rest : (P i).num ≡ 0 → (path : List ℕ) (k q : ℕ) → (P k).latest ≡ m → Leads g k path q → is_awake g q ≡ false
   all_rest top [] k q l e = subst (λ (x : ℕ). is_awake g x ≡ false) e (s.rests k (omega (arith, s.positive, l)))
   all_rest top (r ∷ rest) k q l h =
@@ -105,7 +105,7 @@ module _ (g : Graph) (i m : ℕ) (P : ℕ → Proc) (T : ℕ → ℕ → ℕ) (o
       (all r h.0.1))
       (s.settled k l)
 
-  -- once the initiator waits for no reply, everyone in its computation is deadlocked
+  -- once the initiator waits for no reply, each process in its computation is deadlocked
   pub engaged_deadlocked : (P i).num ≡ 0 → (k : ℕ) → (P k).latest ≡ m → IsDeadlocked g k
   engaged_deadlocked top k l = (
     asleep_is_idle g k (s.rests k (omega (arith, s.positive, l))),
@@ -122,7 +122,7 @@ module _ (g : Graph) (i m : ℕ) (P : ℕ → Proc) (T : ℕ → ℕ → ℕ) (o
       (arith, s.held k r, tally-le-length r (out k), s.idle_out k (omega (arith, s.latest k, l))))
       (cases_eq (P k).latest m)
 
-  -- where nothing is on its way and nobody awake can be reached, nobody waits
+  -- where nothing is on its way and no awake process can be reached, no process waits
   at_rest_above : IsDeadlocked g i → ((k r : ℕ) → T k r ≡ 0) → (n k : ℕ) → clock ≤ rank k + n → (P k).latest ≡ m
       → (P k).num ≡ 0
   at_rest_above dead none zero k h l = absurd (omega (arith, s.clocked k l))

@@ -105,7 +105,7 @@ module _ (rule : Rule) (g : Graph) (i : ℕ) (ok : IsWithinGraph g) (within : i 
         })
         (λ t low. sh)
 
-    -- where the run of computation n alone is, after so many of its deliveries
+    -- where the deliveries of computation n lead its run alone
     record Alone (log : List Delivery) (a : Config) (k : ℕ) (end : Going) : Type 0 where
       at : Config
       done : ℕ
@@ -158,7 +158,7 @@ module _ (rule : Rule) (g : Graph) (i : ℕ) (ok : IsWithinGraph g) (within : i 
                   (eqb (proc_at s.config.procs d.message.to).latest d.message.number
                   && ltb 0 (proc_at s.config.procs d.message.to).num) c).1).0
 
-      -- while the whole run goes on, the run of computation n alone goes on too
+      -- while the whole run hasn't ended, the run of computation n alone hasn't either
       at_shadow : d.message.number ≡ n → (a : Config) (e : Option Ending) → SameEnd s.config.ended e
           → a ≡ shadow n s.config e → a ≡ shadow d.message.number s.config None
       at_shadow is_n a e same here =
@@ -271,7 +271,7 @@ module _ (rule : Rule) (g : Graph) (i : ℕ) (ok : IsWithinGraph g) (within : i 
               shadows = rest.shadows;
             }
 
-  -- a run that has come so far can be finished: there are fewer and fewer messages to come
+  -- a run can be finished from here: there are fewer and fewer messages to come
   record Finish (c : Config) (k : ℕ) : Type 0 where
     rest : List Delivery
     ending : Ending

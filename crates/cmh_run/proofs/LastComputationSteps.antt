@@ -37,7 +37,7 @@ same_end Engage = refl
 same_end (ReplyTo to) = refl
 same_end Declare = refl
 
--- a run that goes on also goes on alone
+-- a run that hasn't ended hasn't ended alone
 pub still_going : (o e : Option Ending) → o ≡ None → SameEnd o e → e ≡ None
 still_going o e h s = subst (λ (z : Option Ending). SameEnd z e) h s
 
@@ -207,7 +207,7 @@ module _ (g : Graph) (i : ℕ) (c : Config) (x : ℕ) (m : Message) (there : sli
 
 -- ---- a message of an older computation
 
--- a query makes nobody declare
+-- a query makes no process declare
 no_declaration : (p : Proc) (number from size : ℕ) → ending_after (query_action p number from size) ≡ None
 no_declaration p number from size =
     by_test (engages p number)
@@ -216,7 +216,7 @@ no_declaration p number from size =
     (λ e. by_test (p.wait && eqb p.latest number) (λ b. ending_after (cond b (ReplyTo from) Nothing) ≡ None) (λ q. refl)
     (λ q. refl))
 
--- a reply makes nobody declare, unless it counts for a process without an engager
+-- a reply makes no process declare, unless it counts for one without an engager
 no_declaration_yet : (p : Proc) (number : ℕ) → (counts_reply p number ≡ true → p.engager ≡ None → ⊥)
     → ending_after (reply_action p number) ≡ None
 no_declaration_yet p number no_top =
@@ -233,7 +233,7 @@ no_declaration_yet p number no_top =
 module _ (n : ℕ) (g : Graph) (i : ℕ) (c : Config) (x : ℕ) (m : Message) (there : slice_get c.bag x ≡ Some m)
     (newest : c.number ≡ n) (below : m.number < n) (going : c.ended ≡ None)
     (no_top : counts_reply (proc_at c.procs m.to) m.number ≡ true → (proc_at c.procs m.to).engager ≡ None → ⊥) where
-  -- m, whose number is below n, isn't a message of computation n
+  -- the number of m is below n, so m isn't a message of computation n
   other : m.number ≡ n → ⊥
   other e = omega arith
 

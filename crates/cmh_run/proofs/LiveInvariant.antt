@@ -1,4 +1,4 @@
--- What stays true of a configuration, by its processes as a function, its bag and who is engaged.
+-- What stays true of a configuration, by its processes as a function, its bag and the engaged processes.
 use Rattle.std.proofs.Common.{◌≡◌, ℕ, suc, ◌+◌, ◌-◌, ◌<◌, ◌≤◌, Bool, true, false, ◌&&◌, cond, eqb, ltb, List, [], ◌∷◌, ◌++◌, remove, length, slice_get, Contains, Option, Some, None, refl, sym, ◌∙◌, ap, subst, arith, ◌⊎◌, ⊎_elim, if◌then◌else◌, ◌==◌}
 use Rattle.std.proofs.lemmas.Bool.{eqb-true, eqb-false, eq-eqb, ne_eqb, cases_eq, cases_Bool, true≢false, lt-ltb}
 use Rattle.std.proofs.lemmas.Option.{none-some}
@@ -30,7 +30,7 @@ pub record IsSoundMessage (g : Graph) (i n : ℕ) (F : ℕ → Proc) (x : Messag
   pub asked : x.kind ≡ Query → Depends g x.from x.to × Reaches g i x.to
   pub told : x.kind ≡ Reply → x.number ≡ n → (F x.from).latest ≡ n
 
--- what stays true of a run while it goes on
+-- what stays true of a run while it hasn't ended
 pub record IsSoundRun (g : Graph) (i n : ℕ) (F : ℕ → Proc) (bag : List Message) (engaged : List ℕ) : Type 0 where
   pub out : ℕ → List ℕ
   pub rank : ℕ → ℕ
@@ -47,12 +47,12 @@ tally-append : (r : ℕ) (xs ys : List ℕ) → tally r (xs ++ ys) ≡ tally r x
 tally-append r [] ys = omega arith
 tally-append r (x ∷ xs) ys = omega (arith, tally-append r xs ys)
 
--- a list that goes on begins as before
+-- a list with more behind it begins as before
 begins_append : (xs ys : List ℕ) (i : ℕ) → slice_get xs 0 ≡ Some i → slice_get (xs ++ ys) 0 ≡ Some i
 begins_append [] ys i h = absurd (cc)
 begins_append (x ∷ xs) ys i h = h
 
--- what is true of each undelivered message stays true while nobody leaves the newest computation
+-- what is true of each undelivered message stays true while no process leaves the newest computation
 fine_on : (g : Graph) (i n : ℕ) (F F' : ℕ → Proc) (bag : List Message)
     → ((k : ℕ) → (F k).latest ≡ n → (F' k).latest ≡ n) → Each (IsSoundMessage g i n F) bag
     → Each (IsSoundMessage g i n F') bag
@@ -66,12 +66,12 @@ fine_on g i n F F' bag still a = each_more (IsSoundMessage g i n F) (IsSoundMess
       told = λ k e. still x.from (f.told k e);
     }) a
 
--- what is true of whoever stands in a list is true of each place of it
+-- what is true of all that stands in a list is true of each place of it
 pub each_from : (Q : ℕ → Type 0) (es : List ℕ) → ((r : ℕ) → 0 < tally r es → Q r) → Each Q es
 each_from Q [] f = tt
 each_from Q (e ∷ es) f = (f e (rw (eq-eqb e e refl) (omega arith)), each_from Q es (λ r h. f r (omega arith)))
 
--- a process that has somebody to ask doesn't reply at once
+-- a process with dependents doesn't reply at once
 pub some_engage : (from n : ℕ) → engage_action from (suc n) ≡ Engage
 some_engage from n = rw (ne_eqb (suc n) 0 (λ e. omega arith)) refl
 

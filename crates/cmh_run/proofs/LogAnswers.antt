@@ -167,7 +167,7 @@ module _ (g : Graph) (i : ℕ) (w : IsWellFormed g) where
   HasFlaw : List Delivery → CheckFault → Type 0
   HasFlaw log e = (t : ℕ) × (d : Delivery) × (s : Going) × ComesAt g i log t d s × IsFlaw g s.config t d e
 
-  -- a log whose deliveries are all legal has none with which something is wrong
+  -- a log of legal deliveries has none with which something is wrong
   no_flaw : (log : List Delivery) (end : Going) (e : CheckFault) → LeadTo g i log end → HasFlaw log e → ⊥
   unfolding HasFlaw
   no_flaw log end e l (t, d, s, comes, f) = none_bad log t end l (flaw_bad g i log t d s e comes f)

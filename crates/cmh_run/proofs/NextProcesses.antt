@@ -1,4 +1,4 @@
--- Where the chosen path of a process goes on.
+-- Where the chosen path of a process leads next.
 use Rattle.std.proofs.Common.{◌≡◌, ◌∙◌, ℕ, suc, ◌+◌, ◌<◌, List, [], ◌∷◌, ◌++◌, get_or, length, length-append, map, arith, refl, sym, ap, subst}
 use Rattle.std.proofs.lemmas.Bool.{true≢false}
 use Rattle.std.proofs.lemmas.Option.{slice_get_past}
@@ -32,7 +32,7 @@ far_chosen g p n w i e =
     (way_out g p (chosen_path g p) w i
     (λ (dead : IsDeadlocked g p). true≢false (sym out.1.1 ∙ dead.1 out.1.0 (out.0, out.1.2))) refl)
 
--- at distance 0 nobody comes after the process
+-- at distance 0 no process comes after this one
 pub next_none : (g : Graph) (p n : ℕ) (path : List ℕ) → distance_of g p ≡ Some n → n ≡ 0 → chosen_path g p ≡ Some path
     → None ≡ slice_get path 1
 next_none g p n path e zero is =

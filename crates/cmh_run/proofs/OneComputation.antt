@@ -11,7 +11,7 @@ use Rattle.cmh_run.specs.Config.{query, proc_at, messages_of}
 use Rattle.cmh_run.specs.Last.{renumber}
 use Rattle.cmh_graph.proofs.Verdicts.{by_test}
 
--- a process as computation n has it: whoever isn't in it has heard of nothing
+-- a process as computation n has it: one that isn't in it has heard of nothing
 abbrev pub recast : ℕ → Proc → Proc
 recast n p = cond (eqb p.latest n) (record { latest = 1; engager = p.engager; num = p.num; wait = p.wait }) new_proc
 
@@ -197,7 +197,7 @@ recast_at n [] k h = rw (ne_eqb 0 n (λ e. omega arith)) refl
 recast_at n (p ∷ procs) zero h = refl
 recast_at n (p ∷ procs) (suc k) h = recast_at n procs k h
 
--- before anybody is in computation n, nobody has heard of anything
+-- before any process is in computation n, none has heard of anything
 pub all_fresh : (n : ℕ) (procs : List Proc) → ((k : ℕ) → (proc_at procs k).latest < n)
     → map (recast n) procs ≡ replicate (length procs) new_proc
 all_fresh n [] h = refl

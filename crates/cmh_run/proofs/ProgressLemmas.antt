@@ -1,4 +1,4 @@
--- A run that goes on by one delivery, and what its steps may count on.
+-- A run that is led on by one delivery, and what its steps may count on.
 use Rattle.std.proofs.Common.{◌≡◌, ℕ, ◌+◌, ◌-◌, ◌*◌, ◌^◌, ◌<◌, ◌≤◌, ◌≢◌, Bool, true, false, ◌&&◌, cond, eqb, List, [], ◌∷◌, ◌++◌, length, slice_get, Contains, Option, Some, None, is_none, refl, sym, ◌∙◌, ap, subst, arith, ◌⊎◌, ⊎_elim, length-append, mul-le-mul_left}
 use Rattle.std.proofs.lemmas.Bool.{eq-eqb, and_parts}
 use Rattle.std.proofs.lemmas.Option.{none-some}
@@ -31,7 +31,7 @@ use Rattle.cmh_run.proofs.EngagedLemmas.{who_engages, awake_ones_start_nothing}
 use Rattle.cmh_run.proofs.DeliveryBound.{leads_are_short, deliveries_are_bounded, few_dependencies}
 use Rattle.cmh_graph.specs.Build.{IsWellFormed}
 
--- a restart changes nothing of how many deliveries there were
+-- a restart leaves the number of deliveries as it was
 restart_keeps_count : (g : Graph) (i : ℕ) (s : Going) (ns : List ℕ) → (after_first_restart g i s ns).done ≡ s.done
 restart_keeps_count g i s [] = refl
 restart_keeps_count g i s (n ∷ ns) =
@@ -231,7 +231,7 @@ module _ (g : Graph) (i : ℕ) (choices restarts : List ℕ) (s : ProgressState)
       let most : s.going.restarted + 1 ≤ MAX_RESTARTS + 1 = omega (arith, few_restarts few) in
       omega (arith, short, mul-le-mul_left (2 * dependency_count g) most)
 
-  -- the run goes on by a delivery that the choices name
+  -- a delivery that the choices name leads the run on
   follows_on : (d : Delivery) → MayCome g s.going.config (place_in choices s) d
       → Follows g i choices restarts
       (record { going = after_due_restart g i (going_after g i s.going (place_in choices s) d); log = s.log ++ d ∷ [] })
@@ -526,7 +526,7 @@ verdict_right g i restarts Declared end h = h.declared refl
 verdict_right g i restarts AtRest end h = h.free (λ e. cc)
 verdict_right g i restarts (CutFree k) end h = h.free (λ e. cc)
 
--- a run that is kept tells the truth
+-- what a run that is kept says is true
 run_is_true : (g : Graph) (i : ℕ) (choices restarts : List ℕ) (r : Run) → IsWithinGraph g → is_idle g i ≡ true
     → r.initiator ≡ i
     → IsRunOf g choices restarts r → TellsTruth g r
@@ -567,7 +567,7 @@ restarted_few g choices restarts r k =
       begun_restarts g r.initiator restarts,
     )
 
--- who is engaged in a run that is kept is as it should be
+-- the engaged of a run that is kept are as they should be
 run_engages : (g : Graph) (i : ℕ) (choices restarts : List ℕ) (r : Run) → IsWithinGraph g → is_idle g i ≡ true
     → r.initiator ≡ i
     → IsRunOf g choices restarts r → AreEngaged g i r.ending r.engaged

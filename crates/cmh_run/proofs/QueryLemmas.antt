@@ -1,4 +1,4 @@
--- What a query does: hints are asked about a receiver that is about to engage, and nobody else is changed.
+-- What a query does: hints are asked about a receiver that is about to engage, and no other process is changed.
 use Rattle.std.proofs.Common.{◌≡◌, ℕ, [], true, false, not, ◌&&◌, cond, Option, Some, None, refl, sym, ◌∙◌}
 use Rattle.std.proofs.lemmas.Bool.{true≢false, not-true, and_parts}
 use Rattle.std.specs.Prelude.{IfSome, IsTrue}

@@ -1,4 +1,4 @@
--- What lines tell, and which of them are refused.
+-- What lines answer, and which of them are refused.
 use Rattle.std.proofs.Common.{◌≡◌, ℕ, suc, ◌<◌, ◌≤◌, ◌↔◌, Bool, true, false, not, cond, eqb, List, [], ◌∷◌, length, get_or, slice_get, Option, Some, None, refl, sym, ◌∙◌, ap, subst, arith, true≢false, IfSome}
 use Rattle.std.specs.Prelude.{option_map, unwrap_or, find, nat_le, position, ◌&&◌, ◌==◌}
 use Rattle.std.specs.List.{position_or_len}
@@ -20,9 +20,9 @@ use Rattle.cmh_graph.proofs.Verdicts.{one_verdict, verdict_true, by_test}
 use Rattle.cmh_run.specs.Script.{ScriptLine, answer_at, AreTrueOf, IsLineOutOfRange, is_listed}
 use Rattle.cmh_run.proofs.Verdicts.{same, same_as_itself}
 
--- ---- what lines tell
+-- ---- what lines answer
 
--- true lines tell the truth of a process at each ask
+-- true lines answer the truth about a process at each ask
 pub told_true : (g : Graph) (lines : List ScriptLine) (ask p : ℕ) → AreTrueOf g lines
     → IfSome (answer_at lines ask p) (λ v. IsVerdict g p v)
 told_true g [] ask p h = tt
@@ -73,7 +73,7 @@ module _ (test : ScriptLine → Bool) (P : ScriptLine → Type 0) (lines : List 
 -- ---- lines out of range
 
 module _ (n count : ℕ) (lines : List ScriptLine) (is : n ≡ count) where
-  -- a line is about none of so many processes exactly where it passes the test
+  -- a line is about none of this number of processes exactly where it passes the test
   beyond_means : (k : ℕ) (line : ScriptLine) → slice_get lines k ≡ Some line
       → (nat_le n line.1 ≡ true) ↔ (count ≤ line.1)
   beyond_means k line s = (λ e. grind (arith, is), λ l. grind (arith, is))
@@ -107,7 +107,7 @@ fails_means : (b : Bool) (P : Type 0) → (b ≡ true) ↔ P → (not b ≡ true
 fails_means true P means = (λ e. absurd (cc), λ n. absurd (n (means.0 refl)))
 fails_means false P means = (λ e p. true≢false (sym (means.1 p)), λ n. refl)
 
--- a test whose opposite fails passes
+-- a test passes where its opposite fails
 passes : (b : Bool) → not b ≡ false → b ≡ true
 passes true e = refl
 passes false e = absurd (cc)

@@ -1,4 +1,4 @@
--- How many dependents a process has at most.
+-- The most dependents that a process has.
 use Rattle.std.proofs.Common.{ℕ, ◌<◌, ◌^◌, length, arith}
 use Rattle.std.proofs.lemmas.List.Sums.{get_or-le-sum_by}
 use Rattle.cmh_graph.specs.Graph.{Graph, Process, process_count, dependents_of, nobody}

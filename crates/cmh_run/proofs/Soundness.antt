@@ -1,4 +1,4 @@
--- What a run that has ended tells.
+-- What a run that has ended says.
 use Rattle.std.specs.Prelude.{IsTrue}
 use Rattle.std.proofs.Common.{◌≡◌, ℕ, ◌+◌, ◌<◌, Bool, true, false, cond, List, [], ◌∷◌, replicate, get_or, slice_get, Contains, Option, Some, None, refl, sym, ◌∙◌, ap, subst, arith, ⊎_elim}
 use Rattle.std.proofs.lemmas.Bool.{eq-eqb, cases_eq, true≢false}
@@ -100,7 +100,7 @@ no_member : (bag : List Message) → ((m : Message) → Contains bag m → ⊥) 
 no_member [] none = refl
 no_member (m ∷ bag) none = absurd (none m (0, omega arith, refl))
 
--- where what stays true of a run holds at its end, the run tells the truth
+-- where what stays true of a run holds at its end, the run is right
 right_at : (g : Graph) (i : ℕ) (restarts : List ℕ) (ending : Ending) (end : Going) → IsWithinGraph g
     → IsSoundConfig g i end.config → EndsAs end.config ending → (restarts ≡ [] → end.config.number ≡ 1)
     → IsRight g i restarts ending end
@@ -171,7 +171,7 @@ empty_run rule g i restarts [] AtRest end up l e = record {
   all_delivered = λ none q. absurd (cc);
 }
 
--- every legal run of an idle process tells the truth
+-- every legal run of an idle process is right
 pub runs_are_sound : (rule : Rule) (g : Graph) (i : ℕ) (restarts : List ℕ)
     (log : List Delivery) (ending : Ending) (end : Going)
     → IsWithinGraph g → IsTrue (is_idle g i) → IsRun rule g i restarts log ending end

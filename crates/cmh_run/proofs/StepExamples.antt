@@ -35,7 +35,7 @@ proc latest engager num = record { latest = latest; engager = engager; num = num
 abbrev fresh : Proc
 fresh = record { latest = 0; engager = None; num = 0; wait = false }
 
--- a run of process 0 on its way, by what is undelivered, the processes, the number and who is engaged
+-- a run of process 0 on its way, by what is undelivered, the processes, the number and the engaged
 abbrev going : List Message → List Proc → ℕ → List ℕ → Config
 going bag procs number engaged =
     record { bag = bag; procs = procs; number = number; engaged = engaged; ended = None }
@@ -167,7 +167,7 @@ stuck : IsDeadlocked two_in_a_cycle 1
 unfolding reaches is_deadlocked
 stuck = deadlocked_from_test two_in_a_cycle 1 within refl
 
--- with the hint that it is deadlocked process 1 asks nobody, and replies
+-- with the hint that it is deadlocked process 1 asks none, and replies
 engages_with_nothing : IsStep two_in_a_cycle 0 started 0 (hinted Deadlocked) replied
 engages_with_nothing = record {
   going = refl;
@@ -232,11 +232,11 @@ no_reply_of_awake : IsStep chain 0
     (going (reply 0 1 2 1 ∷ []) (proc 1 None 1 ∷ proc 1 (Some 0) 1 ∷ fresh ∷ []) 1 (0 ∷ 1 ∷ [])) → ⊥
 no_reply_of_awake step = absurd (let e = ap (λ (c : Config). c.bag) (step_computed _ _ _ _ _ _ step).1 in cc)
 
--- processes 1 and 2 wait for nobody, and process 0 for both
+-- processes 1 and 2 have no dependents, and process 0 has both
 abbrev fork : Graph
 fork = record { processes = idle (1 ∷ 2 ∷ []) ∷ idle [] ∷ idle [] ∷ []; in_transit = [] }
 
--- with nobody to ask process 2 engages and replies at once: what it sends stands last
+-- with none to ask process 2 engages and replies at once: what it sends stands last
 engages_and_replies : IsStep fork 0
     (going (query 0 1 0 2 ∷ reply 0 1 1 0 ∷ []) (proc 1 None 2 ∷ proc 1 (Some 0) 0 ∷ fresh ∷ []) 1 (0 ∷ 1 ∷ [])) 0
     (plain (query 0 1 0 2))
@@ -267,7 +267,7 @@ counts_down = record {
   effect = count_down 1 (refl, refl) (refl, refl) refl (omega arith);
 }
 
--- process 1 of the fork has nobody to ask, so it declares itself deadlocked at its start
+-- process 1 of the fork has no dependents, so it declares itself deadlocked at its start
 starts_alone : IsStart fork 1 (nothing_yet fork) (record {
   bag = [];
   procs = fresh ∷ proc 1 None 0 ∷ fresh ∷ [];
@@ -316,7 +316,7 @@ starts_again = start_again [] (again (reply 0 1 0 1 ∷ query 0 2 0 1 ∷ [])) r
   declares = λ none. absurd cc;
 })
 
--- after two deliveries no start again is due that is to come after three
+-- after two deliveries no restart is due that is to come after three
 not_due : BecomesReady two_in_a_cycle 0 (record due { restarts = 3 ∷ [] }) (record due { restarts = 3 ∷ [] })
 not_due = go_on (λ now. absurd (let e = now.2 in cc))
 

@@ -57,7 +57,7 @@ start_computed g i c after s =
     (s.procs ∙ (rw (s.number) refl)) s.number s.engaged
     (start_ends (dependents_of g i) after.ended s.goes_on s.declares)
 
--- the computed start is one by the rule, of an initiator that isn't awake, while the run goes on
+-- the computed start is one by the rule, of an initiator that isn't awake, while the run hasn't ended
 pub computed_start : (g : Graph) (i : ℕ) (c : Config) → IsFalse (is_awake g i) → c.ended ≡ None
     → IsStart g i c (start g i c)
 computed_start g i c asleep going = record {
@@ -132,7 +132,7 @@ counts_parts p number e =
     let rest = and_parts (eqb p.latest number) (ltb 0 p.num) some.1 in
     ((some.0, eqb-true p.latest number rest.0), ltb-true 0 p.num rest.1)
 
--- what a rule does is computed, while the run goes on
+-- what a rule does is computed, while the run hasn't ended
 effect_computed : (g : Graph) (i : ℕ) (c : Config) (x : ℕ) (m : Message) (hint : Option Verdict) (after : Config)
     → c.ended ≡ None → IsEffect g i c x m hint after
     → HintIsFit g c m hint × (after ≡ after_delivery g i c x m hint)
@@ -218,7 +218,7 @@ effect_computed g i c x m hint after going (ignore_reply q w) =
     (tt, rw (q.0, q.1, other, append-nil (remove c.bag x), set-get_or c.procs m.to new_proc, going) refl)
 effect_computed g i c x m hint after going (discard awake) = (tt, rw awake refl)
 
--- with any of its dependents, or with nobody to ask, a process can engage by the rule
+-- with any of its dependents, or with none to ask, a process can engage by the rule
 can_engage : (i : ℕ) (c : Config) (x : ℕ) (m : Message) (asked : List ℕ)
     → (after : Config) × IsEngagement i c x m asked after
 can_engage i c x m asked = (
@@ -288,7 +288,7 @@ module _ (g : Graph) (i : ℕ) (c : Config) (x : ℕ) (m : Message) where
   last q w one None from = (_, declare q w one from)
   last q w one (Some engager) from = (_, reply_to_engager engager q w one from)
 
-  -- a reply that counts has an effect by how many were waited for
+  -- a reply that counts has an effect by the number of replies that were waited for
   counting : IsReceived g m Reply → WaitsIn (receiver c m) m.number → (num : ℕ) → (receiver c m).num ≡ num → 0 < num
       → HasEffect None
   counting q w zero e some = absurd (omega (arith, some))
@@ -386,7 +386,7 @@ ready_computed g i s now (go_on undue) = by_restarts s.restarts refl
 ready_computed g i s now (start_again rest c due begins) =
     rw (due, begins.going, eq-eqb s.done s.done refl, start_computed g i s.config c begins) refl
 
--- a start again adds no delivery
+-- a restart adds no delivery
 ready_done : (g : Graph) (i : ℕ) (s now : Going) → BecomesReady g i s now → now.done ≡ s.done
 ready_done g i s now (go_on undue) = refl
 ready_done g i s now (start_again rest c due begins) = refl
@@ -427,7 +427,7 @@ steps_are_deliveries rule g i (d ∷ log) s end l =
           (steps_are_deliveries rule g i log (record now { config = l.4; done = now.done + 1 }) end l.6),
     )
 
--- from where nobody has heard of anything no delivery leads anywhere
+-- where no process has heard of anything no delivery leads anywhere
 nothing_leads : (rule : Rule) (g : Graph) (i : ℕ) (log : List Delivery) (end : Going)
     → DeliveriesLead rule g i (going_from (nothing_yet g) []) log end
     → (log ≡ []) × (going_from (nothing_yet g) [] ≡ end)

@@ -78,7 +78,7 @@ last_cleared touched procs k h = record {
   ];
 }
 
--- where nobody has taken part, nobody has heard of anything
+-- where no process has taken part, none has heard of anything
 pub all_clear : (procs : List Proc) → AreTouched [] procs → procs ≡ replicate (length procs) new_proc
 all_clear procs h = all_fresh procs (λ k. h.others k (λ c. absurd (omega (arith, c.1))))
   where

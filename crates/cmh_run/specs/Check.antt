@@ -13,7 +13,7 @@ use Rattle.cmh_run.specs.Legal.{Going, going_at_start, HintIsFit, any_place, Del
 abbrev pub LeadTo : Graph → ℕ → List Delivery → Going → Type 0
 LeadTo g i log s = DeliveriesLead any_place g i (going_at_start g i []) log s
 
--- the run is over, or nothing is undelivered
+-- a declaration or a hint has ended the run, or nothing is undelivered
 abbrev pub HasEnded : Config → Type 0
 HasEnded c = (ending : Ending) × EndsAs c ending
 
@@ -21,7 +21,7 @@ HasEnded c = (ending : Ending) × EndsAs c ending
 abbrev pub IsUndelivered : Config → Message → Type 0
 IsUndelivered c m = (x : ℕ) × (slice_get c.bag x ≡ Some m)
 
--- the log is a legal run that has ended so
+-- the log is a legal run with this ending
 pub record IsLegalRun (g : Graph) (i : ℕ) (log : List Delivery) (ending : Ending) : Type 0 where
   pub idle : IsTrue (is_idle g i)
   pub end : Going
@@ -34,7 +34,7 @@ pub record ComesAt (g : Graph) (i : ℕ) (log : List Delivery) (t : ℕ)
   pub there : slice_get log t ≡ Some d
   pub before : LeadTo g i (take t log) s
 
--- what is wrong with delivery t, which comes at c
+-- this is what is wrong with d, which is delivery t and comes at c
 abbrev pub IsFlaw : Graph → Config → ℕ → Delivery → CheckFault → Type 0
 IsFlaw g c t d (AfterEnd n) = (n ≡ t) × HasEnded c
 IsFlaw g c t d (NotUndelivered n) = (n ≡ t) × ¬ (HasEnded c) × ¬ (IsUndelivered c d.message)
@@ -44,8 +44,8 @@ IsFlaw g c t d NotIdle = ⊥
 IsFlaw g c t d NotEnded = ⊥
 IsFlaw g c t d Memory = ⊥
 
--- The first thing that is wrong with the log: its initiator isn't idle, or all deliveries are legal and
--- the run could go on, or something is wrong with a delivery, and those before it are legal.
+-- This is the first thing that is wrong with the log. Its initiator isn't idle; or all deliveries are legal, and the
+-- run could continue; or something is wrong with a delivery, and those before it are legal.
 abbrev pub IsFirstCheckFault : Graph → ℕ → List Delivery → CheckFault → Type 0
 IsFirstCheckFault g i log NotIdle = IsFalse (is_idle g i)
 IsFirstCheckFault g i log NotEnded =

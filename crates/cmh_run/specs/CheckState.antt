@@ -14,7 +14,7 @@ use Rattle.cmh_run.specs.Config.{Config}
 use Rattle.cmh_run.specs.Legal.{Going}
 use Rattle.cmh_run.specs.Check.{LeadTo, IsUndelivered}
 
--- pairs by their first parts, then by their second ones
+-- pairs are compared by their first parts, then by their second ones
 abbrev pub pair_cmp : ℕ × ℕ → ℕ × ℕ → Ordering
 pair_cmp a b = ordering_then (nat_cmp a.0 b.0) (nat_cmp a.1 b.1)
 
@@ -23,12 +23,12 @@ abbrev pub of_kind : {A : Type 0} → Kind → A → A → A
 of_kind Query queries replies = queries
 of_kind Reply queries replies = replies
 
--- the ends of the queries and of the replies that are undelivered
+-- the undelivered queries and replies, each by its sender and its receiver
 pub record UndeliveredState : Type 0 where
   pub queries : List (ℕ × ℕ)
   pub replies : List (ℕ × ℕ)
 
--- a message with this kind and these ends is among the undelivered ones
+-- a message of this kind, with this sender and this receiver, is among the undelivered ones
 abbrev pub is_waiting : UndeliveredState → Message → Bool
 is_waiting w m = list_any (is_at (pair_cmp (m.from, m.to))) (of_kind m.kind w.queries w.replies)
 
@@ -36,12 +36,11 @@ is_waiting w m = list_any (is_at (pair_cmp (m.from, m.to))) (of_kind m.kind w.qu
 abbrev pub is_same_kind : Kind → Kind → Bool
 is_same_kind a b = of_kind a (of_kind b true false) (of_kind b false true)
 
--- both messages are queries or both are replies, from the same process to the same
+-- both messages are queries or both are replies, from the same sender to the same receiver
 abbrev pub goes_like : Message → Message → Bool
 goes_like a b = is_same_kind a.kind b.kind && (a.from == b.from && a.to == b.to)
 
--- what is kept: a network whose bag has what was just sent, and which messages are undelivered
--- beside those
+-- what is kept: a network, with what was just sent in its bag, and the other undelivered messages
 pub record CheckState : Type 0 where
   pub network : Config
   pub undelivered : UndeliveredState
@@ -50,8 +49,8 @@ pub record CheckState : Type 0 where
 abbrev pub with_bag : Config → List Message → Config
 with_bag c bag = record c { bag = bag }
 
--- The deliveries have led to s, and what is kept agrees with it: the network but for its bag, and
--- all that is undelivered, in the one place or in the other.
+-- The deliveries have led to s, and what is kept agrees with it: the network but for its bag, and all that is
+-- undelivered, in the set or in that bag.
 pub record Agrees (g : Graph) (i : ℕ) (log : List Delivery) (s : Going)
     (a : CheckState) : Type 0 where
   pub graph : IsWellFormed g
@@ -68,6 +67,6 @@ pub record Agrees (g : Graph) (i : ℕ) (log : List Delivery) (s : Going)
 abbrev pub IsSettled : CheckState → Type 0
 IsSettled a = a.network.bag ≡ []
 
--- the deliveries have led somewhere, and what is kept agrees with it
+-- the deliveries have led somewhere, what is kept agrees with it, and nothing that was just sent is left in the bag
 abbrev pub IsChecked : Graph → ℕ → List Delivery → CheckState → Type 0
 IsChecked g i log a = (s : Going) × Agrees g i log s a × IsSettled a

@@ -3,11 +3,11 @@ use Rattle.std.specs.Prelude.{◌≡◌, ℕ, ◌%◌, ◌==◌, List, [], ◌�
 use Rattle.cmh_run.specs.declared.delivery.Delivery.{Delivery}
 use Rattle.cmh_run.specs.Legal.{Rule}
 
--- the next choice, modulo how many messages are undelivered; past the list's end it is 0
+-- x is the next choice, which is 0 past the end of the list, modulo the number of undelivered messages
 abbrev pub chosen_place : List ℕ → Rule
 chosen_place choices done c x = x == slice_index choices done % length c.bag
 
--- no delivery came with a hint
+-- no delivery has a hint
 abbrev pub HasNoHints : List Delivery → Type 0
 HasNoHints [] = ⊤
 HasNoHints (d ∷ rest) = (d.hint ≡ None) × HasNoHints rest

@@ -11,7 +11,7 @@ use Rattle.cmh_run.specs.Legal.{Going, any_place, IsRun}
 abbrev pub renumber : Message → Message
 renumber m = record m { number = 1 }
 
--- the deliveries of computation n, renumbered 1; their hints stay as they stood
+-- the deliveries of computation n, renumbered 1, with their hints
 abbrev pub computation_log : ℕ → List Delivery → List Delivery
 computation_log n [] = []
 computation_log n (d ∷ log) =
@@ -19,8 +19,8 @@ computation_log n (d ∷ log) =
     then record d { message = renumber d.message } ∷ computation_log n log
     else computation_log n log
 
--- The deliveries of the last number begin a legal run without restarts, and are all of one where the run
--- was declared or came to rest: then with this ending and the same engaged.
+-- The deliveries of the last number begin a legal run without restarts. Where the run was declared or came to rest,
+-- they are all of such a run, with this ending and the same engaged processes.
 pub record LastIsRun (g : Graph) (i : ℕ) (log : List Delivery)
     (ending : Ending) (end : Going) : Type 0 where
   pub begins : (rest : List Delivery) × (last : Ending) × (on : Going)

@@ -1,4 +1,4 @@
--- Legal runs of one initiator, and what they tell of the graph.
+-- Legal runs of one initiator, and what they say of the graph.
 use Rattle.std.specs.Prelude.{◌≡◌, ◌≢◌, ℕ, ◌+◌, ◌<◌, Bool, true, nat_eq, ◌&&◌, ◌==◌, if◌then◌else◌, List, [], ◌∷◌, slice_get, Contains, Option, Some, None, is_none, IsTrue, ⊤}
 use Rattle.std.specs.List.{IsDistinct}
 use Rattle.cmh_graph.specs.declared.verdict.Verdict.{Verdict}
@@ -10,8 +10,8 @@ use Rattle.cmh_run.specs.declared.delivery.Ending.{Ending}
 use Rattle.cmh_run.specs.declared.delivery.Ending.TheVariants.{Declared, AtRest, CutFree}
 use Rattle.cmh_run.specs.Config.{Config, nothing_yet, start, after_delivery, asks_hint}
 
--- A run on its way: after so many deliveries, with the restarts that are still to come, each by the
--- number of deliveries before it, and how many restarts there were.
+-- A run on its way: its configuration, the number of deliveries that were made, the restarts that are still to come,
+-- each by the number of deliveries before it, and the number of restarts that were made.
 pub record Going : Type 0 where
   pub config : Config
   pub done : ℕ
@@ -22,14 +22,14 @@ pub record Going : Type 0 where
 abbrev pub going_from : Config → List ℕ → Going
 going_from c restarts = record { config = c; done = 0; restarts = restarts; restarted = 0 }
 
--- The start. An awake initiator asks nobody, and never starts again.
+-- The start of a run. An awake initiator sends nothing, and never starts again.
 abbrev pub going_at_start : Graph → ℕ → List ℕ → Going
 going_at_start g i restarts =
     if is_awake g i
     then going_from (nothing_yet g) []
     else going_from (start g i (nothing_yet g)) restarts
 
--- the initiator has started again, and these restarts are still to come
+-- the run once the initiator has started again, with these restarts still to come
 abbrev pub after_restart : Graph → ℕ → Going → List ℕ → Going
 after_restart g i s rest = record s {
   config = start g i s.config;
@@ -37,13 +37,13 @@ after_restart g i s rest = record s {
   restarted = s.restarted + 1;
 }
 
--- the run once the first of these restarts has come, if the run goes on and it is due now
+-- the run after the first of these restarts, if that is due now and the run hasn't ended
 abbrev pub after_first_restart : Graph → ℕ → Going → List ℕ → Going
 after_first_restart g i s [] = s
 after_first_restart g i s (n ∷ rest) =
     if is_none s.config.ended && n == s.done then after_restart g i s rest else s
 
--- the run once the restart that is due now has come, if one is
+-- the run after the restart that is due now, if one is
 abbrev pub after_due_restart : Graph → ℕ → Going → Going
 after_due_restart g i s = after_first_restart g i s s.restarts
 
@@ -54,7 +54,7 @@ going_after g i s x d = record s {
   done = s.done + 1;
 }
 
--- a hint stands only where hints are asked, and is true
+-- there is no hint, or one that was asked for and is true
 abbrev pub HintIsFit : Graph → Config → Message → Option Verdict → Type 0
 HintIsFit g c m None = ⊤
 HintIsFit g c m (Some v) = IsTrue (asks_hint g c m) × IsVerdict g m.to v
@@ -65,7 +65,7 @@ pub record MayCome (g : Graph) (c : Config) (x : ℕ) (d : Delivery) : Type 0 wh
   pub there : slice_get c.bag x ≡ Some d.message
   pub hint : HintIsFit g c d.message d.hint
 
--- a rule says which places may be taken next, after how many deliveries
+-- a rule says, after a number of deliveries, whether the message at a place may be taken next
 abbrev pub Rule : Type 0
 Rule = ℕ → Config → ℕ → Bool
 
@@ -81,7 +81,7 @@ DeliveriesLead rule g i s (d ∷ rest) end =
     (x : ℕ) × MayCome g now.config x d × IsTrue (rule s.done now.config x)
     × DeliveriesLead rule g i (going_after g i now x d) rest end
 
--- how a run ends: it is over, or nothing is undelivered
+-- the run has this ending: a declaration or a hint has ended it, or nothing is undelivered
 abbrev pub EndsAs : Config → Ending → Type 0
 EndsAs c Declared = c.ended ≡ Some Declared
 EndsAs c (CutFree k) = c.ended ≡ Some (CutFree k)
@@ -93,7 +93,7 @@ pub record IsRun (rule : Rule) (g : Graph) (i : ℕ) (restarts : List ℕ)
   pub leads : DeliveriesLead rule g i (going_at_start g i restarts) log end
   pub ends : EndsAs end.config ending
 
--- what a run that has ended tells of the graph
+-- a run that has ended is right about the graph
 pub record IsRight (g : Graph) (i : ℕ) (restarts : List ℕ)
     (ending : Ending) (end : Going) : Type 0 where
   pub declared : ending ≡ Declared → IsDeadlocked g i

@@ -19,12 +19,12 @@ pub record Follows (g : Graph) (i : ℕ) (choices restarts : List ℕ) (s : Prog
   pub leads : DeliveriesLead (chosen_place choices) g i (going_at_start g i restarts) s.log s.going
   pub count : s.going.done ≡ length s.log
 
--- the process is one of the graph's, and the configuration has as many
+-- p is a process of the graph, and the configuration has as many processes as the graph
 pub record HasProcess (g : Graph) (c : Config) (p : ℕ) : Type 0 where
   pub size : length c.procs ≡ process_count g
   pub within : p < process_count g
 
--- the initiator may start again: its number grows, and is less than 2 ^ 32
+-- the initiator may start again: its next number and the number of restarts are less than 2 ^ 32
 pub record MayStart (g : Graph) (i : ℕ) (s : Going) : Type 0 where
   pub size : length s.config.procs ≡ process_count g
   pub within : i < process_count g
@@ -44,15 +44,15 @@ pub record IsUnderWay (restarts : List ℕ) (r : RunState) : Type 0 where
   pub well_formed : IsWellFormed r.graph
   pub follows : Follows r.graph r.initiator r.choices restarts r.progress
 
--- nothing more is delivered: the run has ended, or no message is undelivered
+-- nothing more is delivered: a declaration or a hint has ended the run, or no message is undelivered
 abbrev pub IsOver : Config → Type 0
 IsOver c = c.ended ≢ None ⊎ (c.bag ≡ [])
 
--- the place that the choices name
+-- the place that the next choice names
 abbrev pub place_in : List ℕ → ProgressState → ℕ
 place_in choices s = slice_index choices s.going.done % length s.going.config.bag
 
--- the message that the choices name was taken, or there is none to take
+-- the message that the next choice names was taken, or nothing more is delivered
 abbrev pub IsTakenBy : List ℕ → ProgressState → ProgressState → Option Message → Type 0
 IsTakenBy choices old new None =
     (new ≡ old) × IsOver old.going.config

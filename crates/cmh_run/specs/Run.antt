@@ -1,4 +1,4 @@
--- What is kept of a run that has ended, and what is answered of one.
+-- What is kept of a run that has ended, which runs are refused, and what the answer is.
 use Rattle.std.specs.Prelude.{◌≡◌, ℕ, nat_eq, ◌+◌, ◌*◌, Contains, ◌<◌, ◌≤◌, IsTrue, IsFalse, List, [], length, slice_get, Some}
 use Rattle.std.specs.List.{IsDistinct}
 use Rattle.std.specs.List.Sorted.{IsStrictlyIncreasing}
@@ -32,18 +32,18 @@ pub record IsRunOf (g : Graph) (choices restarts : List ℕ) (r : Run) : Type 0 
   pub engaged : r.engaged ≡ end.config.engaged
   pub restarted : r.restarted ≡ end.restarted
 
--- restarts that a run may be given
+-- a run may be given these restarts
 pub record AreRestarts (restarts : List ℕ) : Type 0 where
   pub few : length restarts ≤ MAX_RESTARTS
   pub rising : IsStrictlyIncreasing restarts
 
--- what a run may be asked for
+-- a run of this initiator may be given these choices and restarts
 pub record IsAccepted (g : Graph) (i : ℕ) (choices restarts : List ℕ) : Type 0 where
   pub idle : IsTrue (is_idle g i)
   pub choices_few : length choices ≤ MAX_CHOICES
   pub restarts_good : AreRestarts restarts
 
--- the first reason for which there is no run
+-- this is the first reason why there is no run
 abbrev pub IsFirstRunFault : Graph → ℕ → List ℕ → List ℕ → RunFault → Type 0
 IsFirstRunFault g i choices restarts NotIdle = IsFalse (is_idle g i)
 IsFirstRunFault g i choices restarts TooManyChoices =
@@ -58,8 +58,8 @@ verdict_of Declared = Deadlocked
 verdict_of AtRest = Free
 verdict_of (CutFree k) = Free
 
--- What a run that is kept tells of the graph is true, and it is short. Whatever its end was, that
--- tells the truth too, and the computation of its last number is a run of its own.
+-- What the kept run says of the graph is true, and the run is short. Each legal run with this log and this ending is
+-- right about the graph too, and its last computation, taken alone, begins a run.
 pub record TellsTruth (g : Graph) (r : Run) : Type 0 where
   pub idle : IsTrue (is_idle g r.initiator)
   pub verdict : IsVerdict g r.initiator (verdict_of r.ending)
@@ -74,8 +74,8 @@ pub record TellsTruth (g : Graph) (r : Run) : Type 0 where
       → LastIsRun g r.initiator r.log r.ending end
   pub short : length r.log ≤ 2 * dependency_count g * (r.restarted + 1)
 
--- what is answered of an accepted initiator: a legal run of it that tells the truth, with those engaged who should be,
--- and where it is awake, one that starts nothing
+-- The answer for an accepted initiator: a legal run of it, which is true of the graph, with the processes engaged that
+-- should be. Where the initiator is awake, the run starts nothing.
 pub record IsRunAnswer (g : Graph) (i : ℕ) (choices restarts : List ℕ) (r : Run) : Type 0 where
   pub accepted : IsAccepted g i choices restarts
   pub initiator : r.initiator ≡ i

@@ -1,4 +1,4 @@
--- Scripted hints: what is told at which ask, and what makes no script.
+-- Scripted hints: what they answer at which ask, and which lines are refused.
 use Rattle.std.specs.Prelude.{◌≡◌, ℕ, ◌≤◌, Bool, false, ◌&&◌, ◌==◌, List, find, slice_get, Option, Some, option_map, unwrap_or}
 use denote.Enum.Bare.{sameb}
 use Rattle.cmh_graph.specs.declared.verdict.Verdict.{Verdict}
@@ -9,32 +9,32 @@ use Rattle.cmh_run.specs.declared.fault.ScriptFault.TheVariants.{ProcessOutOfRan
 use Rattle.cmh_graph.specs.Judge.{IsFirst}
 use Rattle.cmh_graph.specs.Verdict.{IsVerdict}
 
--- the number of an ask, a process, and what is told of it at that ask
+-- the number of an ask, a process, and the answer about it at that ask
 abbrev pub ScriptLine : Type 0
 ScriptLine = ℕ × ℕ × Verdict
 
--- the lines, and how many asks there were
+-- the lines, and the number of asks so far
 pub record Script : Type 0 where
   pub lines : List ScriptLine
   pub asked : ℕ
 
--- what the lines tell at this ask of p
+-- what the lines answer at this ask about p
 abbrev pub answer_at : List ScriptLine → ℕ → ℕ → Option Verdict
 answer_at lines ask p = option_map (λ line. line.2) (find (λ line. line.0 == ask && line.1 == p) lines)
 
--- each line tells the truth about a process
+-- each line has the true verdict of its process
 abbrev pub AreTrueOf : Graph → List ScriptLine → Type 0
 AreTrueOf g lines = (k : ℕ) (line : ScriptLine) → slice_get lines k ≡ Some line → IsVerdict g line.1 line.2
 
--- line k is about none of so many processes
+-- line k is about none of this number of processes
 abbrev pub IsLineOutOfRange : ℕ → List ScriptLine → ℕ → Type 0
 IsLineOutOfRange count lines k = (line : ScriptLine) × (slice_get lines k ≡ Some line) × (count ≤ line.1)
 
--- the list has the verdict that the line tells of its process
+-- the list has the line's verdict at the line's process
 abbrev pub is_listed : List Verdict → ScriptLine → Bool
 is_listed truth line = unwrap_or (option_map (λ v. sameb the_type v line.2) (slice_get truth line.1)) false
 
--- the first fault of the lines: all processes are judged before any verdict
+-- this is the first fault of the lines: all processes are judged before any verdict
 abbrev pub IsFirstScriptFault : Graph → List ScriptLine → ScriptFault → Type 0
 IsFirstScriptFault g lines (ProcessOutOfRange i) =
     IsFirst (IsLineOutOfRange (process_count g) lines) i

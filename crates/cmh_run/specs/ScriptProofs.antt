@@ -1,5 +1,5 @@
--- What scripts with the same lines have in common. These two proofs stand among the definitions
--- since code can cite no others of its own crate.
+-- What scripts with the same lines have in common. These two proofs stand among the definitions since code can cite no
+-- others of its own crate.
 use Rattle.std.specs.Prelude.{◌≡◌, ◌↔◌, List, []}
 use Rattle.std.proofs.Common.{sym, subst, ◌∙◌}
 use Rattle.cmh_graph.specs.Graph.{Graph}

@@ -15,9 +15,9 @@ use Rattle.cmh_run.specs.declared.delivery.Ending.TheVariants.{Declared, AtRest,
 use Rattle.cmh_run.specs.Config.{Config, proc_at, query, reply, nothing_yet}
 use Rattle.cmh_run.specs.Legal.{Going, going_from, Rule, EndsAs}
 
--- The initiator, which isn't awake, starts while the run goes on: its latest number grows by 1, it has no engager, it
--- waits for a reply of each of its dependents, and one query goes to each, in their order. It alone is engaged. Without
--- dependents it declares itself deadlocked.
+-- The initiator, which isn't awake, starts while the run hasn't ended. Its latest number grows by 1, it has no engager,
+-- it waits for a reply of each of its dependents, and one query goes to each, in their order. It alone is engaged.
+-- Without dependents it declares itself deadlocked.
 pub record IsStart (g : Graph) (i : ℕ) (c after : Config) : Type 0 where
   pub asleep : IsFalse (is_awake g i)
   pub going : c.ended ≡ None
@@ -29,9 +29,10 @@ pub record IsStart (g : Graph) (i : ℕ) (c after : Config) : Type 0 where
   pub goes_on : dependents_of g i ≢ [] → after.ended ≡ None
   pub declares : dependents_of g i ≡ [] → after.ended ≡ Some Declared
 
--- The receiver of m, which stood at place x, engages and asks these: m's number is its latest, m's sender its engager,
--- it waits for a reply of each, and one query goes to each, in their order. With nobody to ask it replies at once. It
--- joins the engaged where the number is that of the last start. Nobody else changes, and the run goes on.
+-- The receiver of m, which stood at place x, engages and asks these. The number of m is its latest, the sender of m is
+-- its engager, it waits for a reply of each, and one query goes to each, in their order. With none to ask it replies at
+-- once. It joins the engaged where the number is that of the last start. No other process changes, and the run hasn't
+-- ended.
 pub record IsEngagement (i : ℕ) (c : Config) (x : ℕ) (m : Message) (asked : List ℕ) (after : Config) : Type 0 where
   pub procs : after.procs ≡ slice_set c.procs m.to
       (record { latest = m.number; engager = Some m.from; num = length asked; wait = true })
@@ -71,7 +72,7 @@ pub data IsEffect (g : Graph) (i : ℕ) (c : Config) (x : ℕ) (m : Message) : O
   -- Any other query changes nothing: it isn't above the latest, and the receiver doesn't wait in its computation.
   ignore_query : IsReceived g m Query → m.number ≤ (receiver c m).latest → ¬ (WaitsIn (receiver c m) m.number)
       → IsEffect g i c x m None (record c { bag = remove c.bag x })
-  -- A reply of the computation in which a process waits counts one down, and others are left to wait for.
+  -- A reply of the computation in which a process waits counts one down, and it still waits for others.
   count_down : (left : ℕ) → IsReceived g m Reply → WaitsIn (receiver c m) m.number
       → (receiver c m).num ≡ left + 1 → 0 < left
       → IsEffect g i c x m None (record c {
@@ -99,20 +100,20 @@ pub data IsEffect (g : Graph) (i : ℕ) (c : Config) (x : ℕ) (m : Message) : O
   -- An awake process discards what it receives.
   discard : IsTrue (is_awake g m.to) → IsEffect g i c x m None (record c { bag = remove c.bag x })
 
--- The delivery of the message at place x, with its hint or none, leads from one configuration to another: the run goes
--- on, the message is undelivered, and a rule says what it does.
+-- The delivery of the message at place x, with its hint or none, leads from one configuration to another: the run
+-- hasn't ended, the message is undelivered, and a rule says what it does.
 pub record IsStep (g : Graph) (i : ℕ) (c : Config) (x : ℕ) (d : Delivery) (after : Config) : Type 0 where
   pub going : c.ended ≡ None
   pub there : slice_get c.bag x ≡ Some d.message
   pub effect : IsEffect g i c x d.message d.hint after
 
--- a start again is due: the run goes on, and the next one of the list comes after this many deliveries
+-- a restart is due: the run hasn't ended, and the next restart of the list comes after this number of deliveries
 abbrev pub IsDue : Going → Type 0
 IsDue s = (s.config.ended ≡ None) × (rest : List ℕ) × (s.restarts ≡ s.done ∷ rest)
 
 -- a run on its way becomes ready for its next delivery, or for its end
 pub data BecomesReady (g : Graph) (i : ℕ) (s : Going) : Going → Type 0 where
-  -- Where no start again is due, it is ready.
+  -- Where no restart is due, it is ready.
   go_on : ¬ (IsDue s) → BecomesReady g i s s
   -- Where one is due, the initiator starts again.
   start_again : (rest : List ℕ) (c : Config) → s.restarts ≡ s.done ∷ rest → IsStart g i s.config c
@@ -126,8 +127,8 @@ StepsLead rule g i s (d ∷ rest) end =
     × (after : Config) × IsStep g i now.config x d after
     × StepsLead rule g i (record now { config = after; done = now.done + 1 }) rest end
 
--- A legal run that has ended: the initiator starts when nobody has heard of anything, steps lead to the end, and the
--- run ends so. One that is awake starts nothing, and its run is at rest.
+-- A legal run that has ended: the initiator starts when no process has heard of anything, steps lead to the end, and
+-- the run ends so. An initiator that is awake starts nothing, and its run is at rest.
 pub record IsRunOfSteps (rule : Rule) (g : Graph) (i : ℕ) (restarts : List ℕ)
     (log : List Delivery) (ending : Ending) (end : Going) : Type 0 where
   pub asleep : IsFalse (is_awake g i) → (first : Config) × IsStart g i (nothing_yet g) first

@@ -1,4 +1,4 @@
-//! The undelivered messages, of a run or for whoever delivers them by hand.
+//! The undelivered messages of a run, or of a caller that delivers them by itself.
 
 ghost use Rattle.std.specs.Prelude.{◌≡◌, ℕ, ◌<◌, ◌↔◌, ◌%◌, ◌++◌, [], ◌∷◌, Some, length, map, remove, slice_get, IsNone, IsSome, IfSome, IfNone, IfErr, IsTrue, OnOk, OnErr};
 ghost use Rattle.cmh_process.specs.declared.message.Message.{Message};
@@ -16,8 +16,8 @@ use std::alloc::{AllocError, Global};
 use std::collections::VecDeque;
 use std::marker::Model;
 
-/// From so many messages on there is room for all that one computation of any graph can have undelivered. Memory that a
-/// growing bag leaves behind is lost to its thread, so it grows in few steps.
+/// A bag with this number of messages makes room for all that one computation of any graph can have undelivered. Memory
+/// that a growing bag leaves behind is lost to its thread, so it grows in few steps.
 const FEW: usize = 4_096;
 
 /// The undelivered messages, in the order in which they were sent.
@@ -45,7 +45,7 @@ impl Bag {
         }
     }
 
-    /// How many messages there are, in constant time.
+    /// The number of messages, in constant time.
     pub fn len(&self) -> usize
         ensures { result ≡ length self.now }
     {
@@ -77,7 +77,7 @@ impl Bag {
         Ok(())
     }
 
-    /// `push`, where running out of memory is no run's fault.
+    /// `push`, with the error of the allocator.
     #[inline(always)]
     pub(crate) fn add(&mut self, message: Message) -> Result<(), AllocError>
         ensures ok { OnOk result (self.new ≡ self.old ++ message ∷ []) }
@@ -113,15 +113,15 @@ impl Bag {
         Ok(())
     }
 
-    /// No message is left. It keeps its memory.
+    /// Removes all messages, and keeps the memory.
     pub(crate) fn clear(&mut self)
         ensures { self.new ≡ [] }
     {
         self.messages.clear();
     }
 
-    /// Takes the message at place `choice` modulo the number of messages; the others keep their
-    /// order. It takes constant time at choice 0, and else at most linear time.
+    /// Takes the message at place `choice` modulo the number of messages; the others keep their order. It takes
+    /// constant time at choice 0, and else at most linear time.
     #[inline(always)]
     pub fn take(&mut self, choice: u64) -> Option<Message>
         ensures none { IsNone result ↔ (self.old ≡ []) }

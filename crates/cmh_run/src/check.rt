@@ -11,13 +11,12 @@ use crate::{CheckFault, Delivery, Ending};
 use cmh_graph::WaitGraph;
 use std::alloc::Global;
 
-/// Checks a log, whoever made it, as a run of the initiator without restarts: any undelivered
-/// message may come next. It answers how the run ended, or the first thing that is wrong: at the
-/// first delivery that fails, that it comes after the end, else that its message isn't undelivered,
-/// else its hint; after the last, that the run could go on.
+/// Checks a log from any source as a run of the initiator without restarts, in which any undelivered message may come
+/// next. It answers how the run ended, or the first thing that is wrong. With a delivery that is: it comes after the
+/// end, else its message isn't undelivered, else its hint is false. After the last one it is: the run could continue.
 ///
-/// It searches the graph once. A delivery takes time logarithmic in the undelivered messages for
-/// each message that is taken or sent.
+/// It searches the graph once. A delivery takes time logarithmic in the undelivered messages for each message that is
+/// taken or sent.
 pub fn check_run(
     alloc: Global,
     graph: &WaitGraph,

@@ -18,8 +18,8 @@ use cmh_process::Message;
 use std::alloc::{AllocError, Global};
 use std::marker::Model;
 
-/// The run that the deliveries of a log make. Its bag is kept as a set, so that a message is found
-/// among many; the network's own bag has only what was just sent.
+/// The run that the deliveries of a log make. Its bag is kept as a set, so that a message is found among many; the
+/// network's own bag has only what was just sent.
 #[derive(Drop)]
 pub(crate) struct Checker {
     network: Network,
@@ -72,8 +72,7 @@ impl Checker {
         None
     }
 
-    /// Makes delivery `t`, unless something is wrong with it. `truth` has the verdicts of all
-    /// processes.
+    /// Makes delivery `t`, unless something is wrong with it. `truth` has the verdicts of all processes.
     pub(crate) fn deliver(
         &mut self,
         graph: &WaitGraph,
@@ -132,7 +131,7 @@ impl Checker {
         self.network.asks(graph, delivery.message) && truth[delivery.message.to as usize] == verdict
     }
 
-    /// Puts what was just sent to the other undelivered messages.
+    /// Adds what was just sent to the other undelivered messages.
     fn settle(&mut self) -> Result<(), AllocError>
         ensures settled { OnOk result (IsSettled self.new) }
         ensures ok { OnOk result ((g : Graph) (i : ℕ) (log : List Delivery) (s : Going)

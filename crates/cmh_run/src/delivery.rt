@@ -3,7 +3,7 @@
 use cmh_graph::Verdict;
 use cmh_process::Message;
 
-/// A message that was delivered, and what was known of its receiver just before, if it was asked.
+/// A message that was delivered, and the hint about its receiver, if one was asked for and given.
 #[derive(Clone, Copy, PartialEq, Eq, Hash, Debug)]
 pub struct Delivery {
     pub message: Message,

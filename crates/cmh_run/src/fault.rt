@@ -1,4 +1,4 @@
-//! Why there is no run, or no script, or why a log is no run.
+//! Why there is no run, why lines make no script, and why a log is no run.
 
 ghost use Rattle.std.specs.Prelude.{◌≡◌};
 ghost use Rattle.cmh_run.specs.declared.fault.RunFault.TheVariants.{Memory};
@@ -56,7 +56,7 @@ impl<T: Drop> From<AllocFailed<T>> for RunFault {
     }
 }
 
-/// Why lines make no script, by their places.
+/// Why lines make no script. A line is named by its place.
 #[derive(Clone, Copy, PartialEq, Eq, Hash, Debug)]
 pub enum ScriptFault {
     /// This line is about no process of the graph.
@@ -92,7 +92,7 @@ impl From<AllocError> for ScriptFault {
     }
 }
 
-/// The first thing that is wrong with a log, a delivery by its place in it.
+/// The first thing that is wrong with a log. A delivery is named by its place.
 #[derive(Clone, Copy, PartialEq, Eq, Hash, Debug)]
 pub enum CheckFault {
     /// The initiator is the index of no idle process.
@@ -103,7 +103,7 @@ pub enum CheckFault {
     FalseHint(usize),
     /// The run had ended before this delivery.
     AfterEnd(usize),
-    /// The run could go on.
+    /// The run could continue.
     NotEnded,
     /// Memory was refused.
     Memory,

@@ -1,7 +1,4 @@
-//! Who may be asked about a process just before it engages.
-//!
-//! A member says whether hints are silent, so that a run over any hints can promise that silent ones leave none in its
-//! log.
+//! What may be asked about a process just before it engages.
 
 ghost use Rattle.std.specs.Prelude.{◌≡◌, ◌<◌, ◌↔◌, ⊤, None, IfSome};
 ghost use Rattle.cmh_graph.specs.Graph.{Graph, process_count};
@@ -9,8 +6,8 @@ ghost use Rattle.cmh_graph.specs.Verdict.{IsVerdict};
 
 use cmh_graph::Verdict;
 
-/// Whoever may know the verdict of a process already. An answer is the truth in each graph of which
-/// these hints speak, and an ask changes nothing of what they keep.
+/// What may know the verdict of a process before its run. An answer is true in each graph of which these hints speak,
+/// and an ask changes nothing of what they keep.
 pub trait Hints {
     /// The graphs of which these hints speak.
     ghost speaks_of: { Self → Graph → Type 0 };

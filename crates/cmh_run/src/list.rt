@@ -9,9 +9,9 @@ use cmh_graph::WaitGraph;
 use cmh_graph::laws::law_built_graph;
 use std::alloc::{AllocError, Global};
 
-/// A list of processes that says which is the second and how many there are: whole in a `Vec`, or no
-/// more than that in a `BriefList`. The chosen path of a process is the process, and then the chosen
-/// path of its second one: so whole paths can be walked from list to list.
+/// A list of processes that says which is the second and how many there are. A `Vec` keeps it whole, a `BriefList` no
+/// more than that. The chosen path of a process is the process, and then the chosen path of the second one on it. So
+/// whole paths can be walked from list to list.
 pub trait ProcessList: Drop + Sized {
     /// The processes that are listed, in their order.
     ghost processes: { Self → List ℕ };
@@ -36,7 +36,7 @@ pub trait ProcessList: Drop + Sized {
     fn next(&self) -> Option<u32>
         ensures { result ≡ slice_get (processes self.now) 1 };
 
-    /// How many processes there are.
+    /// The number of processes.
     fn count(&self) -> usize
         ensures { result ≡ length (processes self.now) };
 }
@@ -66,8 +66,7 @@ impl ProcessList for Vec<u32> {
     }
 }
 
-/// Keeps the second process of a list, and how many there are. Which ones they are is known in proofs
-/// alone.
+/// Keeps the second process of a list, and the number of processes. Which ones they are is known in proofs alone.
 #[derive(Drop)]
 pub struct BriefList {
     next: Option<u32>,

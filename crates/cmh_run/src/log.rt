@@ -9,8 +9,8 @@ use std::alloc::{AllocError, Global};
 
 /// Where the deliveries of a run are kept: all of them in a `Vec`, or none in `NoLog`.
 ///
-/// Code that serves any log gets one that speaks of deliveries only by adding each of them, so what
-/// is proved of it is proved of a run that was made, whether or not anything is left to read.
+/// Code that serves any log can make one speak of deliveries only by adding each of them. So what is proved of it is
+/// proved of a run that was made, whether or not anything is left to read.
 pub trait Log: Drop + Sized {
     ghost use Rattle.cmh_run.specs.declared.delivery.Delivery.{Delivery};
 
@@ -41,7 +41,7 @@ impl Log for Vec<Delivery> {
     }
 }
 
-/// Keeps no delivery. Which ones it was told of is known in proofs alone.
+/// Keeps no delivery. Which ones were added is known in proofs alone.
 #[derive(Drop)]
 pub struct NoLog {
     tape: Tape,

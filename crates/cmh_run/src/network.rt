@@ -40,7 +40,7 @@ impl Model for Network {
 }
 
 impl Network {
-    /// Nobody has heard of anything.
+    /// The network in which no process has heard of anything.
     pub(crate) fn nothing_yet(alloc: Global, graph: &WaitGraph) -> Result<Network, AllocError>
         ensures ok { IfOk result (λ n. n ≡ nothing_yet graph.now) }
     {
@@ -53,7 +53,7 @@ impl Network {
         })
     }
 
-    /// The start of a run. An awake initiator asks nobody.
+    /// The start of a run. An awake initiator sends nothing.
     pub(crate) fn begin(&mut self, graph: &WaitGraph, initiator: u32) -> Result<(), AllocError>
         requires blank { self.old ≡ nothing_yet graph.now }
         requires within { initiator < process_count graph.now }
@@ -112,7 +112,7 @@ impl Network {
         self.bag.take(choice)
     }
 
-    /// Whether hints are asked about the message before it is delivered.
+    /// Whether hints are asked about the receiver before the message is delivered.
     #[inline(always)]
     pub(crate) fn asks(&self, graph: &WaitGraph, message: Message) -> bool
         requires { HasProcess graph.now self.now message.to }
@@ -150,7 +150,7 @@ impl Network {
         self.receive(graph, initiator, message)
     }
 
-    /// `deliver`, with what hints say of the receiver, who are asked just before it engages.
+    /// `deliver`, with what the hints say of the receiver. They are asked just before it engages.
     #[inline(always)]
     #[tactic(auto, using(crate::proofs::QueryLemmas::engaged_by_hint, crate::proofs::QueryLemmas::fit_where_asked))]
     pub(crate) fn deliver_asking<H: Hints>(
@@ -184,8 +184,8 @@ impl Network {
         Ok(None)
     }
 
-    /// The delivery of a message that engages nobody. An awake process discards it. It isn't read how many dependents the
-    /// receiver has.
+    /// The delivery of a message that doesn't engage its receiver. An awake process discards it. The dependents of the
+    /// receiver aren't looked up.
     #[inline(always)]
     #[tactic(auto, using(crate::proofs::QueryLemmas::answers, crate::proofs::QueryLemmas::not_engaged))]
     fn receive(
@@ -223,8 +223,8 @@ impl Network {
         self.act(receiver, &[], action)
     }
 
-    /// The delivery of a query of `from` that engages `to`, unless it is known to be free. It stands apart, so that the loop
-    /// of a run is short.
+    /// The delivery of a query of `from` that engages `to`, unless `to` is known to be free. It is a function of its
+    /// own, so that the loop of a run is short.
     #[inline(never)]
     fn engage_by_hint(
         &mut self,
@@ -277,7 +277,7 @@ impl Network {
         self.act(receiver, dependents, action)
     }
 
-    /// A process sends, or it ends the run.
+    /// A process sends, ends the run, or does nothing.
     #[inline(always)]
     fn act(&mut self, sender: Sender, dependents: &[u32], action: Action) -> Result<(), AllocError>
         ensures ok { OnOk result (self.new ≡
@@ -290,7 +290,7 @@ impl Network {
         sender.send(&mut self.bag, dependents, action)
     }
 
-    /// Who is engaged, and nobody from then on.
+    /// The engaged processes. From then on none is engaged.
     pub(crate) fn take_engaged(&mut self, alloc: Global) -> Vec<u32>
         ensures engaged { result.items ≡ self.old.engaged }
         ensures procs { self.new.procs ≡ self.old.procs }
@@ -298,8 +298,7 @@ impl Network {
         std::mem::replace(&mut self.engaged, Vec::new(alloc))
     }
 
-    /// Nobody has heard of anything, as at first. It takes time linear in the processes that took
-    /// part.
+    /// Makes the network as at first, in time linear in the processes that took part.
     pub(crate) fn clear(&mut self)
         ensures { self.new ≡ blank_config (length self.old.procs) }
     {

@@ -1,7 +1,6 @@
 //! The processes of a network, which are made once and used for one run after another.
 //!
-//! Numbers that tell old marks from new ones would need no clearing, but each look would compare them, and they run
-//! out.
+//! Marks that are numbered by run wouldn't have to be cleared, but each look would compare numbers, and these run out.
 
 ghost use Rattle.std.specs.Prelude.{◌≡◌, ◌+◌, ◌<◌, ◌^◌, length, replicate, slice_set, IfOk, OnOk};
 ghost use Rattle.cmh_process.specs.Process.{new_proc, proc_started, start_action, engages, proc_queried, query_action, repeat_action, proc_replied, reply_action};
@@ -31,7 +30,7 @@ impl Model for Procs {
 }
 
 impl Procs {
-    /// So many processes that have heard of nothing.
+    /// `count` processes that have heard of nothing.
     #[tactic(auto, using(crate::proofs::TouchedProcesses::none_touched))]
     pub(crate) fn new(alloc: Global, count: usize) -> Result<Procs, AllocError>
         ensures { IfOk result (λ p. p ≡ replicate count new_proc) }
@@ -58,7 +57,7 @@ impl Procs {
         self.all[k as usize].latest
     }
 
-    /// The process starts, with this many dependents.
+    /// The process, which has `size` dependents, starts.
     #[tactic(auto, using(crate::proofs::TouchedProcesses::one_touched))]
     pub(crate) fn start(&mut self, k: u32, size: u32) -> Result<Action, AllocError>
         requires within { k < length self.old }
@@ -71,7 +70,7 @@ impl Procs {
         Ok(self.all[k as usize].start(size))
     }
 
-    /// A query with this number has come to the process, which has this many dependents.
+    /// A query with this number has come to the process, which has `size` dependents.
     #[tactic(auto, using(crate::proofs::TouchedProcesses::one_touched))]
     pub(crate) fn engage(
         &mut self,
@@ -108,8 +107,7 @@ impl Procs {
         self.all[k as usize].on_reply(number)
     }
 
-    /// All processes are again as if they had heard of nothing. It takes time linear in those that
-    /// took part.
+    /// Makes all processes as if they had heard of nothing, in time linear in those that took part.
     pub(crate) fn clear(&mut self)
         ensures { self.new ≡ replicate (length self.old) new_proc }
     {

@@ -52,8 +52,8 @@ impl<'a, L: Log> Model for Progress<'a, L> {
 }
 
 impl<'a, L: Log> Progress<'a, L> {
-    /// The start of an accepted initiator, and its first restart, if that is due at once. An awake one asks nobody, and
-    /// never starts again.
+    /// The start of an accepted initiator, and its first restart, if that is due at once. An awake one sends nothing,
+    /// and never starts again.
     pub(crate) fn begin(
         alloc: Global,
         graph: &'a WaitGraph,
@@ -113,7 +113,7 @@ impl<'a, L: Log> Progress<'a, L> {
         Ok(())
     }
 
-    /// Takes the message that comes next by the next of the choices, unless the run has ended.
+    /// Takes the message that the next choice names, unless the run has ended.
     #[inline(always)]
     fn take(&mut self) -> Option<Message>
         ensures same { self.new ≡ record self.old { progress = self.new.progress } }
@@ -129,8 +129,9 @@ impl<'a, L: Log> Progress<'a, L> {
         self.network.take(choice)
     }
 
-    /// Delivers the message that comes next by the choices, with what hints say of its receiver, if it is about to engage.
-    /// Then the initiator starts again, if that is due. It answers no where the run has ended or nothing is undelivered.
+    /// Delivers the message that the next choice names, with what hints say of its receiver, if that is about to
+    /// engage. Then the initiator starts again, if that is due. It answers false where the run has ended or nothing is
+    /// undelivered.
     #[inline(always)]
     pub(crate) fn deliver_next<H: Hints>(&mut self, hints: &mut H) -> Result<bool, AllocError>
         requires under_way { (restarts : List ℕ) × IsUnderWay restarts self.old }

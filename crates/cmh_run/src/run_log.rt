@@ -15,7 +15,7 @@ use crate::{Delivery, Ending, Log, ProcessList};
 use cmh_graph::Verdict;
 use std::marker::Model;
 
-/// A run that has ended, with its deliveries in a log of this kind, and who engaged in such a list.
+/// A run that has ended. Its deliveries are kept in an `L`, and the processes that engaged in an `E`.
 #[derive(Clone, Debug, Drop)]
 pub struct RunLog<L: Log = Vec<Delivery>, E: ProcessList = Vec<u32>> {
     pub(crate) initiator: u32,
@@ -40,14 +40,14 @@ impl<L: Log, E: ProcessList> Model for RunLog<L, E> {
 }
 
 impl<L: Log, E: ProcessList> RunLog<L, E> {
-    /// The process whose run it is, by its index in the graph.
+    /// The initiator, by its index in the graph.
     pub fn initiator(&self) -> u32
         ensures { result ≡ self.now.initiator }
     {
         self.initiator
     }
 
-    /// How the run ended. What that says of the initiator is for `verdict`.
+    /// How the run ended. `verdict` says what that means for the initiator.
     pub fn ending(&self) -> Ending
         ensures { result ≡ self.now.ending }
     {
@@ -73,8 +73,8 @@ impl<L: Log, E: ProcessList> RunLog<L, E> {
 }
 
 impl<L: Log> RunLog<L> {
-    /// Who engaged in the computation of the last start, in order: nobody where the initiator is
-    /// awake, else the initiator first.
+    /// The processes that engaged in the computation of the last start, in order: none where the initiator is awake,
+    /// else the initiator first.
     pub fn engaged(&self) -> &[u32]
         ensures { result.now ≡ self.now.engaged }
     {

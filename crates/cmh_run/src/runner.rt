@@ -14,8 +14,8 @@ use cmh_graph::WaitGraph;
 use std::alloc::{AllocError, Global};
 use std::marker::Model;
 
-/// Makes one run after another over a graph. Its network is made at the first run, and used again:
-/// each other run takes time and memory for the processes that take part, however many there are.
+/// Makes one run after another over a graph. Its network is made at the first run, and used again: each later run takes
+/// time and memory for the processes that take part in it, however many the graph has.
 #[derive(Drop)]
 pub struct Runner<'a> {
     graph: &'a WaitGraph,
@@ -104,7 +104,7 @@ impl<'a> Runner<'a> {
     }
 }
 
-/// Whether there is a run.
+/// Refuses a run for the first reason why there is none.
 fn judge(
     graph: &WaitGraph,
     initiator: u32,
@@ -139,7 +139,7 @@ fn is_rising(list: &[u32]) -> bool
     true
 }
 
-/// The run of what was judged.
+/// The run that was accepted.
 fn follow<L: Log, H: Hints>(
     alloc: Global,
     graph: &WaitGraph,

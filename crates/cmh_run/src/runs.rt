@@ -10,16 +10,15 @@ use crate::{Hints, RunFault, RunLog};
 use cmh_graph::WaitGraph;
 use std::alloc::Global;
 
-/// Runs the computations of an idle initiator, which starts again after each of these numbers of
-/// deliveries, if the run gets that far.
+/// Runs the computations of an idle initiator, which starts again after each of these numbers of deliveries, if the run
+/// gets that far.
 ///
-/// Delivery `t` takes the undelivered message at place `choices[t]`, modulo how many there are;
-/// past the last choice it takes the first. The hints are asked just before a query would engage an
-/// idle process. An awake initiator starts nothing: its run is empty, and it doesn't start again.
+/// Delivery `t` takes the undelivered message at place `choices[t]` modulo their number; past the last choice it takes
+/// the first. The hints are asked just before a query would engage a process. An awake initiator starts nothing: its
+/// run is empty, and it doesn't start again.
 ///
-/// Each message that is taken or sent takes constant time at choice 0, and at most time linear in
-/// the undelivered ones at any other choice, hints apart. A process that engages sends a query to
-/// each of its dependents.
+/// Each message that is taken or sent takes constant time at choice 0, and at most time linear in the undelivered ones
+/// at any other choice, hints apart. A process that engages sends a query to each of its dependents.
 pub fn run_again<H: Hints>(
     alloc: Global,
     graph: &WaitGraph,
@@ -38,8 +37,7 @@ pub fn run_again<H: Hints>(
     Runner::new(graph).run_again(alloc, initiator, choices, hints, restarts)
 }
 
-/// Runs one computation of an idle initiator: `run_again` without restarts. It delivers at most two
-/// messages for each dependency of the graph.
+/// Runs one computation of an idle initiator: `run_again` without restarts.
 pub fn run<H: Hints>(
     alloc: Global,
     graph: &WaitGraph,

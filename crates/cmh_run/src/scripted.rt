@@ -1,4 +1,4 @@
-//! Hints that are written down before the run, each with the ask at which it is told.
+//! Hints that are written down before the run, each with the number of the ask that it answers.
 
 ghost use Rattle.std.specs.Prelude.{◌==◌, ◌≡◌, ◌⊎◌, ◌<◌, [], None, IfOk, IfErr, IfSome, nat_le, not, position, refl, ◌+◌, nat_lt, if◌then◌else◌, ℕ};
 ghost use Rattle.std.proofs.Common.{◌∙◌};
@@ -35,8 +35,8 @@ impl Model for Scripted {
 }
 
 impl Scripted {
-    /// A line (n, p, v) answers v at ask n, from 0, where that ask is of process p. All other
-    /// asks have no answer, nor has any from ask `u32::MAX` on.
+    /// A line (n, p, v) answers v at ask n, from 0, where that ask is about process p. All other asks have no answer,
+    /// nor has any from ask `u32::MAX` on.
     pub fn new(
         alloc: Global,
         graph: &WaitGraph,
@@ -113,7 +113,7 @@ impl Eq for Scripted {
     ghost laws = { Prim.search (comparing, rules, verdict_laws.laws-law) depth 9 };
 }
 
-/// What the lines tell at that ask of `p`.
+/// What the lines answer at that ask about `p`.
 fn answer_at(lines: &[(u32, u32, Verdict)], ask: u32, p: u32) -> Option<Verdict>
     ensures { result ≡ answer_at lines.now ask p }
 {
@@ -123,21 +123,21 @@ fn answer_at(lines: &[(u32, u32, Verdict)], ask: u32, p: u32) -> Option<Verdict>
         .map(|line| line.2)
 }
 
-/// The first line that is about none of so many processes.
+/// The first line that is about none of `count` processes.
 fn first_out_of_range(count: u32, lines: &[(u32, u32, Verdict)]) -> Option<usize>
     ensures { result ≡ position (λ line. nat_le count line.1) lines.now }
 {
     lines.iter().position(|line| line.1 >= count)
 }
 
-/// The first line that differs from the verdicts of all processes.
+/// The first line with a verdict other than that of its process. `truth` has the verdicts of all processes.
 fn first_difference(truth: &[Verdict], lines: &[(u32, u32, Verdict)]) -> Option<usize>
     ensures { result ≡ position (λ line. not (is_listed_lem truth.now line)) lines.now }
 {
     lines.iter().position(|line| !is_listed(truth, *line))
 }
 
-/// Whether the list has the verdict that the line tells.
+/// Whether the list has the line's verdict at the line's process.
 fn is_listed(truth: &[Verdict], line: (u32, u32, Verdict)) -> bool
     ensures { result ≡ is_listed_lem truth.now line }
 {

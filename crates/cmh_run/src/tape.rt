@@ -9,8 +9,7 @@ use crate::Delivery;
 use cmh_graph::WaitGraph;
 use std::marker::Model;
 
-/// The deliveries that were made, in their order. It has no bytes of its own, and its methods do
-/// nothing when they run.
+/// The deliveries that were made, in their order. It has no bytes of its own, and its methods do nothing when they run.
 #[derive(Drop)]
 pub(crate) struct Tape {
     ghost deliveries: { List Delivery },
@@ -28,7 +27,7 @@ impl Tape {
         Tape {}
     }
 
-    /// The tape with this delivery as the last. The one that it was asked of stays as it is.
+    /// The tape with this delivery as the last. The old tape stays as it is.
     pub(crate) fn append(&self, _delivery: &Delivery) -> Tape
         ensures { result.deliveries ≡ self.now.deliveries ++ _delivery.now ∷ [] }
     {
@@ -54,7 +53,7 @@ impl ListTape {
         ListTape {}
     }
 
-    /// Of a process without a chosen path it is empty.
+    /// The tape of the chosen path of a process, empty for a process without one.
     pub(crate) fn chosen_path(_graph: &WaitGraph, _p: &u32) -> ListTape
         ensures { result.processes ≡ unwrap_or (chosen_path _graph.now _p.now) [] }
     {

@@ -1,4 +1,4 @@
-//! What hints are checked by.
+//! The verdicts by which hints are checked.
 
 ghost use Rattle.std.specs.Prelude.{◌≡◌, IfOk};
 ghost use Rattle.cmh_graph.specs.Verdict.{verdicts};

@@ -11,8 +11,7 @@ use std::alloc::{AllocError, Global};
 use std::collections::BTreeSet;
 use std::marker::Model;
 
-/// The undelivered messages of one computation, each by its kind, its sender and its receiver: no
-/// two are alike.
+/// The undelivered messages of one computation, each by its kind, its sender and its receiver: no two are alike.
 #[derive(Drop)]
 pub(crate) struct Undelivered {
     queries: BTreeSet<(u32, u32)>,
@@ -28,7 +27,7 @@ impl Model for Undelivered {
 }
 
 impl Undelivered {
-    /// No message.
+    /// An empty set.
     pub(crate) fn new(alloc: Global) -> Undelivered
         ensures { (m : Message) → is_waiting result m ≡ false }
     {
@@ -38,15 +37,14 @@ impl Undelivered {
         }
     }
 
-    /// Whether there is no message.
+    /// Whether the set is empty.
     pub(crate) fn is_empty(&self) -> bool
         ensures { IsTrue result ↔ ((m : Message) → is_waiting self.now m ≡ false) }
     {
         self.queries.is_empty() && self.replies.is_empty()
     }
 
-    /// Adds a message, in time logarithmic in their number. Where it is there already, nothing
-    /// changes.
+    /// Adds a message, in time logarithmic in their number. Where it is there already, nothing changes.
     pub(crate) fn add(&mut self, message: Message) -> Result<(), AllocError>
         ensures ok { OnOk result ((m : Message) →
             is_waiting self.new m ≡ (goes_like message m || is_waiting self.old m)) }

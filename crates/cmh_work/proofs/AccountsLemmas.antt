@@ -38,7 +38,7 @@ next_posting : (mine more : List (List Row)) (rows : List Row) → more ≡ with
 next_posting mine more [] e = inl e
 next_posting mine more (r ∷ rs) e = inr e
 
--- what a run tells, once it is posted, is an answer
+-- what a run says, once it is posted, is an answer
 pub run_answers : (g : Graph) (choices : List ℕ) (p : ℕ) (v v1 v2 w : View) (run : Run) → SeesMore v v1 → SeesMore v1 v2
     → IsRunFor g choices p (verdict_of run.ending) run → TellsTruth g run → AddsPosting (posting_of run) v2 w
     → IsAnswered g choices p v w record { verdict = verdict_of run.ending; run = Some run }

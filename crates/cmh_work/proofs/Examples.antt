@@ -32,7 +32,7 @@ chunks_of_three : chunks_of (0 ∷ 1 ∷ 0 ∷ 9 ∷ []) (0 ∷ 1 ∷ 2 ∷ [])
     ≡ [] ∷ (0 ∷ []) ∷ [] ∷ (1 ∷ 2 ∷ []) ∷ [] ∷ []
 chunks_of_three = refl
 
--- where they begin, by cuts whose sum is no u64: none is left to the last cut and the rest
+-- where they begin, by cuts with a sum that is no u64: none is left to the last cut and the rest
 bounds_of_three : bounds_of (1 ∷ 18446744073709551615 ∷ 5 ∷ []) 3 ≡ 0 ∷ 1 ∷ 3 ∷ 3 ∷ 3 ∷ []
 bounds_of_three = refl
 
@@ -40,7 +40,7 @@ bounds_of_three = refl
 one_chunk : chunks_of [] (0 ∷ 1 ∷ []) ≡ (0 ∷ 1 ∷ []) ∷ []
 one_chunk = refl
 
--- chunks as a worker draws them, who draws the third before the first
+-- chunks as a worker draws them, the third before the first
 gathered_in_another_order : concat_chunks ((0 ∷ []) ∷ (1 ∷ []) ∷ (2 ∷ 3 ∷ []) ∷ []) (2 ∷ 0 ∷ [])
     ≡ 2 ∷ 3 ∷ 0 ∷ []
 gathered_in_another_order = refl
@@ -65,9 +65,9 @@ leader_of_r : leader_of cycle_and_follower 2 ≡ 2
 unfolding reaches
 leader_of_r = refl
 
--- ---- an analysis by one worker, who takes p, q and r in turn
+-- ---- an analysis by one worker, which takes p, q and r in turn
 
--- a delivery about whose receiver nothing was known
+-- a delivery without a hint
 abbrev plain : Message → Delivery
 plain m = record { message = m; hint = None }
 
@@ -91,7 +91,7 @@ run_of_r = record {
   restarted = 0;
 }
 
--- the first posting is p and q, of whom q's row is a last one
+-- the first posting is p and q, and q's row is its last one
 abbrev p_and_q : List Row
 p_and_q = row 0 Deadlocked false ∷ row 1 Deadlocked true ∷ []
 
@@ -178,7 +178,7 @@ legal_p = record {
   tells = refl;
 }
 
--- the run of r, whose hint is true, is legal
+-- the run of r, with a hint that is true, is legal
 legal_r : IsRunFor cycle_and_follower [] 2 Deadlocked run_of_r
 legal_r = record {
   initiator = refl;

@@ -67,7 +67,7 @@ pub leader_first : (g : Graph) (p d : ℕ) (core : List ℕ) → core ≡ core_o
     → get_or core 0 d ≡ leader_of g p
 leader_first g p d core is some = get_or_default core 0 d 0 some ∙ ap (λ xs. get_or xs 0 0) is
 
--- a core has somebody
+-- a core isn't empty
 pub core_some : (g : Graph) (p : ℕ) (core : List ℕ) → IsWithinGraph g → p < process_count g → core ≡ core_of g p
     → 0 < length core
 core_some g p core w i is =

@@ -38,7 +38,7 @@ rows_within g [] h = All-nil (λ (r : Row). r.process < process_count g)
 rows_within g (r ∷ rs) h =
     All-cons (λ (x : Row). x.process < process_count g) r rs (idle_within g r.process h.0) (rows_within g rs h.3)
 
--- who stands in rows of so many processes is one of these
+-- a process that stands in rows of this number of processes is one of these
 stands_within : (rows : List Row) (count p : ℕ) (v : Verdict) → All (λ (r : Row). r.process < count) rows
     → fold_at rows p ≡ Some v → p < count
 stands_within [] count p v w e = absurd cc
@@ -48,7 +48,7 @@ stands_within (r ∷ rs) count p v w e = elim (cases_Bool (eqb r.process p)) [
       stands_within rs count p v (All-tail (λ (x : Row). x.process < count) r rs w) (sym (said_later r rs p other) ∙ e)
 ]
 
--- From row n on each row's process has the number of a row that tells what the rows from there on say of it.
+-- From row n on each row's process has the number of a row that says what the rows from there on say of it.
 pub record NumbersFrom (rows : List Row) (count n : ℕ) (numbers : List ℕ) : Type 0 where
   pub size : length numbers ≡ count
   pub few : n ≤ length rows

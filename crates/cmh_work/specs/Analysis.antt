@@ -16,7 +16,7 @@ use Rattle.cmh_work.specs.Record.{IsTrueRecord}
 abbrev pub records_of : {L : Type 0} → Analysis Run L → List (Record Run L)
 records_of a = a.records.items
 
--- the rows of the board when all workers were done
+-- the rows of the board once all workers were done
 abbrev pub history_of : {L : Type 0} → Analysis Run L → List Row
 history_of a = a.history.items
 
@@ -24,12 +24,12 @@ history_of a = a.history.items
 abbrev pub initiator_of : {L : Type 0} → Record Run L → ℕ
 initiator_of r = r.initiator
 
--- the posting is what this run tells, but for whom stood in a row before
+-- the posting is what this run says of each process that stood in no row before
 abbrev pub IsPostedBy : List Row → List Row → Run → Type 0
 IsPostedBy before posting run = let told = posting_of run in
     posting ≡ rows_of told.verdict (unposted_in before told.processes)
 
--- each posting is what the run of a record tells, but for whom stood in a row before
+-- each posting is what the run of a record says of each process that stood in no row before
 abbrev pub AreOfRecords : {L : Type 0} → List (Record Run L) → List Row → List (List Row) → Type 0
 AreOfRecords records before [] = Unit {0}
 AreOfRecords {L = L} records before (posting ∷ postings) =
@@ -37,13 +37,13 @@ AreOfRecords {L = L} records before (posting ∷ postings) =
     × (run : Run) × (r.source ≡ FromRun run) × IsPostedBy before posting run)
     × AreOfRecords records (before ++ posting) postings
 
--- the history is postings, end to end, each of a record's run
+-- the history is postings, laid end to end, each of the run of a record
 abbrev pub IsPostedByRecords : {L : Type 0} → List (Record Run L) → List Row → Type 0
 IsPostedByRecords records history = (postings : List (List Row))
     × (history ≡ rows_in postings) × ArePostings postings × AreOfRecords records [] postings
 
--- The records are of the idle processes, one of each, by rising index, and true. The history holds
--- each idle process once, and no other, with the verdict that its record tells.
+-- There is one true record of each idle process, by rising index. The history has each idle process once, and no other,
+-- with the verdict of its record.
 pub record IsAnalysisOf {L : Type 0} (listed : L → List ℕ) (g : Graph) (choices : List ℕ)
     (a : Analysis Run L) : Type 0 where
   pub order : map initiator_of (records_of a) ≡ idle_list g

@@ -28,8 +28,8 @@ AddsOneOf v w ran = (w.mine ≡ v.mine)
     ⊎ ((posting : List Row) × (w.mine ≡ v.mine ++ posting ∷ [])
     × (run : Run) × (ran ≡ Some run) × IsSeenFrom w.seen posting run)
 
--- a seat that asked of p, and knew v before and w after, has an answer: it is true, it stands in
--- what is seen, and where the seat added a posting, it is that of the run
+-- a seat that asked about p, and knew v before and w after, has an answer: it is true, it stands in what is seen, and a
+-- posting that the seat added is that of its run
 pub record IsAnswered (g : Graph) (choices : List ℕ) (p : ℕ) (v w : View) (a : Answer Run)
     : Type 0 where
   pub sees : StartsWith w.seen v.seen

@@ -1,4 +1,4 @@
--- What a worker knows of who leads whom.
+-- What a worker knows of the leaders of processes.
 use Rattle.std.specs.Prelude.{◌≡◌, ◌⊎◌, ℕ, List, length, slice_index_or, Contains, Option, Some, None}
 use Rattle.cmh_graph.specs.Core.{leader_of}
 use Rattle.cmh_graph.specs.Graph.{Graph, process_count}
@@ -7,12 +7,12 @@ use Rattle.cmh_graph.specs.Graph.{Graph, process_count}
 abbrev pub leader_at : List (Option ℕ) → ℕ → Option ℕ
 leader_at list p = slice_index_or list p None
 
--- the table has a place for each process, and whoever stands there leads it
+-- the table has a place for each process, and what stands there is its leader
 pub record KnowsLeaders (g : Graph) (list : List (Option ℕ)) : Type 0 where
   pub size : length list ≡ process_count g
   pub leads : (p leader : ℕ) → leader_at list p ≡ Some leader → leader ≡ leader_of g p
 
--- each member has the leader now, and nobody else has got one
+-- each member has this leader now, and no other process has got one
 pub record LeadsEach (leader : ℕ) (members : List ℕ) (old new : List (Option ℕ)) : Type 0 where
   pub size : length new ≡ length old
   pub led : (p : ℕ) → Contains members p → leader_at new p ≡ Some leader

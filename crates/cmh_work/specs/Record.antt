@@ -10,7 +10,7 @@ use Rattle.cmh_work.specs.declared.record.Origin.{Origin}
 use Rattle.cmh_work.specs.declared.record.Origin.TheVariants.{FromRun, FromBoard}
 use Rattle.cmh_work.specs.Shape.{IsShape}
 
--- a legal run of p that followed the choices, without a restart, and tells this verdict
+-- a legal run of p that followed the choices, without a restart, and says this verdict
 pub record IsRunFor (g : Graph) (choices : List ℕ) (p : ℕ) (verdict : Verdict) (run : Run)
     : Type 0 where
   pub initiator : run.initiator ≡ p
@@ -22,12 +22,12 @@ abbrev pub IsRowFor : List Row → ℕ → ℕ → Verdict → Type 0
 IsRowFor history n p verdict = (last : Bool)
     × (slice_get history n ≡ Some (record { process = p; verdict = verdict; last = last }))
 
--- the verdict of p is known by a run of p that tells it, or by a row of the history
+-- the verdict of p is known by a run of p that says it, or by a row of the history
 abbrev pub IsSource : Graph → List ℕ → List Row → ℕ → Verdict → Origin Run → Type 0
 IsSource g choices history p verdict (FromRun run) = IsRunFor g choices p verdict run
 IsSource g choices history p verdict (FromBoard n) = IsRowFor history n p verdict
 
--- the record of an idle process tells its verdict, its shape, and how the verdict is known
+-- the record of an idle process has its verdict, its shape, and how the verdict is known
 pub record IsTrueRecord {L : Type 0} (listed : L → List ℕ) (g : Graph) (choices : List ℕ) (history : List Row)
     (r : Record Run L)
     : Type 0 where

@@ -42,8 +42,7 @@ pub record AreBack (s : Shared) (old new : Seats) : Type 0 where
   pub tickets : (ticket_view new.tickets).share ≡ (ticket_view old.tickets).share
   pub board : (board_view new.board).lock.share ≡ (board_view old.board).lock.share
 
--- what was found is of the chunks that the seat drew, in order, and explains what it added, and no
--- chunk is left
+-- what was found is of the chunks that the seat drew, in order, and explains what the seat added, and no chunk is left
 pub record IsWorked {L : Type 0} (listed : L → List ℕ) (g : Graph) (plan : PlanValue) (s : Shared) (seats : Seats)
     (found : List (Finding Run L))
     : Type 0 where

@@ -26,15 +26,14 @@ use std::alloc::{AllocError, Global};
 use std::sync::Wait;
 use std::thread::Threads;
 
-/// Finds out about each idle process of the graph, by as many workers as the plan says. Each draws
-/// chunks of initiators until there are no more. For each initiator in order it calls the gate and
-/// looks at the board; where that doesn't answer, it runs the initiator's computation and posts what
-/// the run tells. Each worker has a thread of its own, where one can be had; the last works in
-/// this thread. All are joined before the answer.
+/// Finds the verdict and the shape of each idle process of the graph, by as many workers as the plan says. Each draws
+/// chunks of initiators until none is left. For each initiator in order it calls the gate and looks at the board. If
+/// the board doesn't answer, it runs the initiator's computation and posts what the run says. Each worker has a thread
+/// of its own, where one can be had; the last works in this thread. All are joined before the answer.
 ///
-/// One run may serve all members of a deadlocked knot. A run takes time linear in dependencies at
-/// choice 0; besides there are two searches of the graph, in each worker one of each core that isn't
-/// seen to be one process, and for each free process the length of its path.
+/// One run may serve all members of a deadlocked knot. A run takes time linear in dependencies at choice 0. Besides,
+/// the graph is searched twice. Each worker searches a core that isn't seen to be one process, at most once. The path
+/// of a free process takes time for its length.
 ///
 /// # Errors
 ///
@@ -52,9 +51,9 @@ pub fn analyse<R: Threads + Wait + Sync, G: Gate>(
     analyse_with(rt, alloc, graph, plan, gate)
 }
 
-/// `analyse`, where an `L` keeps the deliveries of each run, an `E` the processes that engaged in it,
-/// and a `P` the path of each free process. `analyse_with::<NoLog, BriefList, BriefList, _, _>` keeps
-/// no delivery, and of each list the second process and how many there are.
+/// `analyse`, where an `L` keeps the deliveries of each run, an `E` the processes that engaged in it, and a `P` the
+/// path of each free process. `analyse_with::<NoLog, BriefList, BriefList, _, _>` keeps no delivery, and of each list
+/// the second process and the number of processes.
 ///
 /// # Errors
 ///
@@ -96,7 +95,7 @@ pub fn analyse_with<
     Ok(finish(rt, alloc, graph, plan, shared, gate, seats)?)
 }
 
-/// A number for each chunk of the plan: there is one more than cuts.
+/// Tickets for the chunks of the plan, of which there is one more than cuts.
 fn open_tickets(alloc: Global, plan: &Plan) -> Result<(Tickets, TicketSeat), AllocError>
     ensures { IfOk result (λ r. IsTicketSeatOf r.0 r.1 × (chunk_count r.0 ≡ length plan.now.cuts + 1)
         × (ticket_view r.1 ≡ ticket_opening_view (length plan.now.cuts + 1))) }

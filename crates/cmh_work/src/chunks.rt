@@ -6,8 +6,8 @@ ghost use Rattle.cmh_work.specs.Cutting.{chunks_of, bounds_of};
 use crate::job::Job;
 use std::alloc::{AllocError, Global};
 
-/// Where each chunk of a list of this length begins, and where the last one ends. The sum of the
-/// cuts may be any: a cut takes at most what is left.
+/// Where each chunk of a list of this length begins, and where the last one ends. The sum of the cuts may be any: a cut
+/// takes at most what is left.
 pub(crate) fn chunk_bounds(
     alloc: Global,
     cuts: &[u64],
@@ -26,7 +26,7 @@ pub(crate) fn chunk_bounds(
     Ok(bounds)
 }
 
-/// Where a chunk ends that begins there and is made by this cut.
+/// Where a chunk ends that begins at `begin` and is made by this cut.
 fn end_of(begin: usize, cut: u64, size: usize) -> usize
     requires { begin ≤ size }
     ensures { result ≡ min (begin + cut) size }
@@ -38,8 +38,7 @@ fn end_of(begin: usize, cut: u64, size: usize) -> usize
     }
 }
 
-/// The chunk of this number, of those that the plan cuts the idle processes into. It takes constant
-/// time.
+/// The chunk of this number, of those that the plan cuts the idle processes into. It takes constant time.
 pub(crate) fn chunk_at<'a>(job: &'a Job, number: usize) -> &'a [u32]
     requires { number ≤ length job.now.plan.now.cuts }
     ensures { result.now ≡ slice_index_or

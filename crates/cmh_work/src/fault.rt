@@ -18,8 +18,8 @@ use std::fmt;
 pub enum WorkFault {
     /// Memory was refused.
     Memory,
-    /// A worker was lost. Workers are started and joined by a call that goes on in the thread of
-    /// its caller where no other can be had, so none is lost today.
+    /// A worker was lost. The call that starts and joins workers continues in the thread of its caller where no other
+    /// can be had, so none is lost today.
     WorkerLost,
 }
 
@@ -62,14 +62,14 @@ pub(crate) fn run_out_of_memory(_fault: RunFault) -> AllocError
     AllocError
 }
 
-/// The same of a board, at its opening or its close.
+/// The fault of a board that was refused memory, as the fault of an allocator.
 pub(crate) fn board_out_of_memory(_fault: BoardFault) -> AllocError
     requires { _fault ≡ board.Memory }
 {
     AllocError
 }
 
-/// The same of tickets, at their opening.
+/// The fault of tickets that were refused memory, as the fault of an allocator.
 pub(crate) fn tickets_out_of_memory(_fault: PlanFault) -> AllocError
     requires { _fault ≡ plan.Memory }
 {

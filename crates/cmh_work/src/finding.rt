@@ -3,7 +3,7 @@
 use crate::record::Shape;
 use cmh_graph::Verdict;
 
-/// The verdict of a process, and the run that told it, where the board didn't.
+/// The verdict of a process, and the run that found it, where the board didn't know it.
 #[derive(Drop)]
 pub(crate) struct Answer<R> {
     pub(crate) verdict: Verdict,

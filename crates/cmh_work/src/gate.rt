@@ -1,12 +1,12 @@
-//! Who is told of each initiator before a worker turns to it.
+//! What a worker calls before it turns to an initiator.
 
-/// Is told of each initiator just before a worker turns to it, in the thread of that worker. It may
-/// keep the worker waiting.
+/// A worker calls it with each initiator just before it turns to that, in its own thread. It may keep the worker
+/// waiting.
 pub trait Gate: Sync {
     fn pass(&self, initiator: u32);
 }
 
-/// Lets everyone pass.
+/// Keeps no worker waiting.
 #[derive(Clone, Copy, PartialEq, Eq, Hash, Debug)]
 pub struct NoGate;
 

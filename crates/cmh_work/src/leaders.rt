@@ -1,8 +1,7 @@
-//! Who leads the group of a deadlocked process: the least of those that it reaches and that reach it.
-//! Each worker keeps a table of the leaders that it has found.
+//! The leader of the group of a deadlocked process: the least of those that it reaches and that reach it.
 //!
-//! No table is shared: that would spare a second search where members of one group fall to several workers, and would
-//! need a lock and its proofs.
+//! Each worker keeps a table of the leaders that it has found. No table is shared: that would spare a second search
+//! where members of one group fall to several workers, and would need a lock and its proofs.
 
 ghost use Rattle.std.specs.Prelude.{◌≡◌, ◌<◌, length, All, IfOk};
 ghost use Rattle.cmh_graph.specs.Core.{leader_of};
@@ -22,9 +21,9 @@ pub(crate) fn no_leaders(alloc: Global, graph: &WaitGraph) -> Result<Vec<Option<
     Ok(vec![in alloc; None; graph.len() as usize]?)
 }
 
-/// The leader of a process: what stands in the table, or the process itself where it is seen to be a
-/// core alone. Else its core is searched, in the time of a reach, and its least member goes to each
-/// member's place. So each core is searched at most once.
+/// The leader of a process: what stands in the table, or the process itself where it is seen to be a core alone. Else
+/// its core is searched, in the time of a reach, and its least member goes to each member's place. So each core is
+/// searched at most once.
 pub(crate) fn find_leader(
     alloc: Global,
     graph: &WaitGraph,

@@ -12,8 +12,8 @@ use crate::record::{Origin, Record};
 use cmh_board::Row;
 use std::alloc::{AllocError, Global};
 
-/// For each of so many processes the number of its row, if it stands in the history. From the last
-/// row to the first, so that a process's first row stays.
+/// For each of `count` processes the number of its row, if it stands in the history. It goes from the last row to the
+/// first, so that a process's first row stays.
 fn row_numbers(alloc: Global, history: &[Row], count: u32) -> Result<Vec<u32>, AllocError>
     requires within { All (λ row. row.process < count) history.now }
     requires few { length history.now < 2 ^ 32 }
@@ -52,7 +52,7 @@ fn number_one<R: Drop, P: Drop>(row: u32, finding: Finding<R, P>) -> Record<R, P
     }
 }
 
-/// Each finding as a record. The history is of so many processes.
+/// Each finding as a record. The history is of `count` processes.
 pub(crate) fn number_all<R: Drop, P: Drop>(
     alloc: Global,
     history: &[Row],

@@ -15,7 +15,7 @@ pub struct Record<R = RunLog, P = Vec<u32>> {
     pub shape: Shape<P>,
 }
 
-/// How a worker came to know a verdict.
+/// How a worker knows a verdict.
 #[derive(PartialEq, Eq, Debug, Drop)]
 pub enum Origin<R = RunLog> {
     /// By this run of the process, which it posted.
@@ -29,8 +29,7 @@ pub enum Origin<R = RunLog> {
 pub enum Shape<P = Vec<u32>> {
     /// The chosen path of a free process to an awake one.
     Path(P),
-    /// The leader of a deadlocked process's group: the least of those that it reaches and that reach
-    /// it.
+    /// The leader of a deadlocked process's group: the least of those that it reaches and that reach it.
     Leader(u32),
 }
 

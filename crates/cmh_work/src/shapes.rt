@@ -25,8 +25,8 @@ impl Shapes {
     ghost use Rattle.cmh_work.specs.Leaders.{KnowsLeaders};
     ghost use Rattle.cmh_work.specs.Shape.{IsShape, AreShapesOf};
 
-    /// Searches the graph once for all distances, and once for cores that are one process. It takes
-    /// time and memory linear in processes and dependencies.
+    /// Searches the graph once for all distances, and once for cores that are one process. It takes time and memory
+    /// linear in processes and dependencies.
     pub(crate) fn of_graph(alloc: Global, graph: &WaitGraph) -> Result<Shapes, AllocError>
         ensures { IfOk result (AreShapesOf graph.now) }
     {
@@ -40,9 +40,9 @@ impl Shapes {
         })
     }
 
-    /// The shape of a process with this verdict. A path that is kept takes time linear in the
-    /// dependencies of the processes on it, its first step in those of the process alone, and a leader
-    /// that the worker hasn't found yet a search of its core.
+    /// The shape of a process with this verdict. A path that is kept takes time linear in the dependencies of the
+    /// processes on it, its first step in those of the process alone, and a leader that the worker hasn't found yet a
+    /// search of its core.
     pub(crate) fn shape_of<P: ProcessList>(
         &self,
         alloc: Global,

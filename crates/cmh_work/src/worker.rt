@@ -1,8 +1,8 @@
-//! One worker, who draws chunks until there are no more.
+//! One worker, which draws chunks until none is left.
 //!
-//! It gives way once, after its first verdict: workers that are far off in the list then make their first runs, which
-//! are the long ones, and post what cuts the others short. It does so at no other time, since each time it may lose its
-//! processor to another program.
+//! It yields its processor once, after its first verdict: workers that are far off in the list then make their first
+//! runs, which are the long ones, and post what cuts the others short. It does so at no other time, since each time it
+//! may lose its processor to another program.
 
 ghost use Rattle.std.specs.Prelude.{◌≡◌, ◌++◌, map, All, IfOk, OnOk, IsTrue};
 ghost use Rattle.cmh_graph.specs.Graph.{is_idle};
@@ -124,8 +124,7 @@ fn find_one<L: Log, E: ProcessList, P: ProcessList, R: Wait, G: Gate>(
     })
 }
 
-/// Adds what is found of each initiator of the chunk, in order. After the first of all it gives way
-/// once, so that workers who are far off can post what cuts its later runs short.
+/// Adds what is found of each initiator of the chunk, in order. After the first of all it yields its processor once.
 fn find_each<L: Log, E: ProcessList, P: ProcessList, R: Wait, G: Gate>(
     rt: &R,
     alloc: Global,
@@ -163,7 +162,7 @@ fn find_each<L: Log, E: ProcessList, P: ProcessList, R: Wait, G: Gate>(
     Ok(())
 }
 
-/// Works on chunks until there are no more, or memory is refused.
+/// Works on chunks until none is left, or memory is refused.
 fn draw_all<L: Log, E: ProcessList, P: ProcessList, R: Wait, G: Gate>(
     rt: &R,
     alloc: Global,

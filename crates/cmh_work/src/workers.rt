@@ -34,7 +34,7 @@ fn concat_findings<L: Log, E: ProcessList, P: ProcessList>(
     Ok(all)
 }
 
-/// A seat of each with share 1, for another worker.
+/// A seat at the board and one for tickets, with share 1 each, for another worker.
 fn split_off(shared: &Shared, seats: &mut Seats) -> Option<Seats>
     requires sit { AreSeated shared.now seats.old }
     requires new { AreNew seats.old }
@@ -56,7 +56,7 @@ fn split_off(shared: &Shared, seats: &mut Seats) -> Option<Seats>
     Some(Seats { board, tickets })
 }
 
-/// The seats of another worker come back.
+/// Joins the seats of another worker to these.
 fn take_back(shared: &Shared, seats: &mut Seats, other: Seats)
     requires sit { AreSeated shared.now seats.old × AreSeated shared.now other }
     ensures sit { AreSeated shared.now seats.new }
@@ -72,8 +72,8 @@ fn take_back(shared: &Shared, seats: &mut Seats, other: Seats)
     shared.board.join(&mut seats.board, board);
 }
 
-/// So many workers in threads of their own, and one in this thread. All are joined on every path,
-/// and their seats come back.
+/// `others` workers in threads of their own, and one in this thread. All are joined on every path, and their seats come
+/// back.
 pub(crate) fn workers<
     L: Log + Send,
     E: ProcessList + Send,

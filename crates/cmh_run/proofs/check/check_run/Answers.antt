@@ -47,7 +47,7 @@ returns-clause-legal c =
     (take_all c.loop-t.t c.args.log.now c.loop-t-test.false) c.loop-t.invariant)
     c.ending.result c.ending.ensures.some)
 
--- the ending that is answered tells the truth
+-- the ending that is answered is right
 pub returns-clause-true_verdict : goal.returns-clause-true_verdict
 returns-clause-true_verdict c =
     subst (λ r. IfOk r (λ ending. (ending ≡ Declared) ↔ IsDeadlocked c.args.graph.now c.args.initiator))

@@ -5,7 +5,7 @@ use Rattle.cmh_work.specs.Leaders.{KnowsLeaders}
 use Rattle.cmh_work.proofs.LeadersLemmas.{core_some, knows_more, leader_first}
 use Rattle.cmh_work.proofs.leaders.find_leader.Goals as goal
 
--- whoever stands at the place of the process leads it
+-- what stands at the place of the process is its leader
 pub returns-in-Some-clause-leader : goal.returns-in-Some-clause-leader
 returns-in-Some-clause-leader c =
     c.requires.leaders.leads c.args.p c.in-Some.leader

@@ -25,4 +25,5 @@ returns-clause-none c g i log s h settled =
     goes_on g i log s (record { network = c.self.inside.network; undelivered = c.self.inside.undelivered })
     (subst (λ (a : CheckState). Agrees g i log s a) (sym c.self.view_is) h)
     (subst (λ (a : CheckState). IsSettled a) (sym c.self.view_is) settled)
-    (sym c.ending.ensures ∙ c.in_default.is) (λ none. true≢false (sym (c.is_empty.ensures.1 none) ∙ c.if-is_empty.false))
+    (sym c.ending.ensures ∙ c.in_default.is)
+    (λ none. true≢false (sym (c.is_empty.ensures.1 none) ∙ c.if-is_empty.false))

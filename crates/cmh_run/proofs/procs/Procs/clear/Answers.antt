@@ -18,7 +18,7 @@ loop-k-preserved c =
       size = length-set all c.in-Some.k c.new.result ∙ c.loop-k.invariant.size;
     }
 
--- all who took part are cleared, so nobody is left
+-- all that took part are cleared, so none is left
 pub returns : goal.returns
 returns c =
     let all = c.loop-k.self-inside.all.items in

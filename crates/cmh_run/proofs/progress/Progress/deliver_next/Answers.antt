@@ -34,7 +34,7 @@ returns-clause-under_way g c restarts way =
     c.in_ok-hint.ensures.fit c.deliver_asking.new.self _ c.in_ok-hint.ensures.ok c.in_ok-add.ensures
     c.restart_if_due.new.self c.in_ok-restart_if_due.ensures.ok
 
--- where nobody answers, no hint stands in the log
+-- where hints never answer, no hint stands in the log
 pub returns-clause-silent : goal.returns-clause-silent
 returns-clause-silent g c q none =
     subst (λ (xs : List Delivery). HasNoHints xs)

@@ -29,7 +29,7 @@ returns-clause-within c =
     never_beyond c.len.result (process_count c.args.graph.now) c.args.lines.now c.len.ensures.count
     (sym c.first_out_of_range.ensures ∙ c.in_default.is)
 
--- each line of the script tells the truth
+-- each line of the script is true
 pub returns-clause-speaks : goal.returns-clause-speaks
 returns-clause-speaks c =
     let never =
