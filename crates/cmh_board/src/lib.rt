@@ -12,8 +12,6 @@ mod post;
 mod posting;
 mod reading;
 mod snap;
-#[cfg(test)]
-mod tests;
 
 pub use board::{Board, BoardSeat, Look, Post};
 pub use cmh_rw::{Entry, Row};

@@ -11,8 +11,6 @@ mod names;
 mod parts;
 mod repeats;
 mod source;
-#[cfg(test)]
-mod tests;
 mod transit;
 mod tree;
 

@@ -11,8 +11,6 @@ pub mod laws;
 mod part;
 mod predecessors;
 mod search;
-#[cfg(test)]
-mod tests;
 mod verdict;
 
 pub use fault::{GraphFault, out_of_memory};

@@ -4,8 +4,6 @@
 mod fault;
 pub mod laws;
 mod plan;
-#[cfg(test)]
-mod tests;
 mod ticket_rule;
 mod tickets;
 

@@ -9,8 +9,6 @@
 pub mod laws;
 mod message;
 mod process;
-#[cfg(test)]
-mod tests;
 
 pub use message::{Kind, Message};
 pub use process::{Action, Proc};

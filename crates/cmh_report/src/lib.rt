@@ -6,8 +6,6 @@ mod fault;
 mod input;
 pub mod laws;
 mod records;
-#[cfg(test)]
-mod tests;
 mod text;
 mod trace;
 

@@ -1,6 +1,7 @@
-//! The query computation of K. M. Chandy, J. Misra and L. M. Haas, "Distributed Deadlock
-//! Detection", ACM TOCS 1(2), 1983, in their communication model: whole runs of one initiator over
-//! a wait graph, in any order of delivery.
+//! Whole runs of one initiator over a wait graph, by queries and replies in any order of delivery.
+//!
+//! The computation is that of K. M. Chandy, J. Misra and L. M. Haas, "Distributed Deadlock Detection", ACM TOCS 1(2),
+//! 1983, in their communication model.
 #![tactic(auto)]
 
 mod bag;
@@ -21,8 +22,6 @@ mod runs;
 mod scripted;
 mod send;
 mod tape;
-#[cfg(test)]
-mod tests;
 mod truth;
 mod undelivered;
 

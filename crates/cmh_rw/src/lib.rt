@@ -10,8 +10,6 @@ pub mod laws;
 mod machine;
 mod row;
 mod rule;
-#[cfg(test)]
-mod tests;
 mod view;
 mod words;
 

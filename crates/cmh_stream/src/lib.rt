@@ -10,8 +10,6 @@ mod sink;
 mod source;
 mod stopped;
 mod tape;
-#[cfg(test)]
-mod tests;
 mod write_of;
 
 pub use pieces::Pieces;

@@ -12,8 +12,6 @@ mod leaders;
 mod number;
 mod record;
 mod shapes;
-#[cfg(test)]
-mod tests;
 mod worker;
 mod workers;
 

@@ -1,4 +1,0 @@
-use Rattle.cmh_rw.proofs.tests.surface.+read_together.Given as goal
-
-abbrev pub decreases-read_together : goal.decreases-read_together
-decreases-read_together g l = l.others

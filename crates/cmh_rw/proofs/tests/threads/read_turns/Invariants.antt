@@ -1,5 +1,0 @@
-use Rattle.cmh_rw.specs.Seats.{IsSeatOf, IsRwSeatAway}
-use Rattle.cmh_rw.proofs.tests.threads.read_turns.Given as goal
-
-abbrev pub invariant-loop : goal.invariant-loop
-invariant-loop l = IsSeatOf l.words l.seat × IsRwSeatAway l.seat

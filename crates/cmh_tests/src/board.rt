@@ -1,0 +1,11 @@
+//! The board by one thread and by several, and when memory is refused.
+
+mod full;
+mod graphs;
+mod load;
+mod memory;
+mod runs;
+mod seats;
+mod threads;
+
+use crate::expect::{expect, expect_eq};

@@ -1,0 +1,110 @@
+//! A board while memory is short. The contracts say what each answer is.
+
+ghost use Rattle.std.specs.Prelude.{IfOk};
+ghost use Rattle.cmh_board.specs.Board.{SitsAt, IsAway};
+
+use super::expect_eq;
+use super::graphs::{CYCLE_AND_FOLLOWER, graph_of};
+use super::runs::try_post_run;
+use cmh_board::{Board, BoardFault, BoardSeat, Post};
+use cmh_graph::WaitGraph;
+use cmh_run::{NoHints, run};
+use std::alloc::Global;
+use std::test::Fail;
+
+/// The most bytes that are left for calls that read the board.
+const ROOM: usize = 2_048;
+
+/// The most bytes that are left for the opening of a board.
+const OPENING_ROOM: usize = 131_072;
+
+/// Takes all the memory that there is, in blocks of falling sizes.
+fn take_all(alloc: Global, blocks: &mut Vec<Vec<u8>>) {
+    let mut size = 1usize << 46;
+    for _ in 0..100_000 {
+        if size < 16 {
+            return;
+        }
+        match Vec::with_capacity(alloc, size) {
+            Ok(block) => {
+                if blocks.push(block).is_err() {
+                    return;
+                }
+            }
+            Err(_) => size /= 2,
+        }
+    }
+}
+
+/// Takes all memory but this room.
+fn leave(alloc: Global, room: usize, blocks: &mut Vec<Vec<u8>>) -> Result<(), Fail> {
+    let room: Vec<u8> = Vec::with_capacity(alloc, room)?;
+    let _pin: Vec<u8> = Vec::with_capacity(alloc, 64)?;
+    take_all(alloc, blocks);
+    drop(room);
+    Ok(())
+}
+
+/// Whether a call succeeded at some time, and whether memory was refused to it at some time.
+type Seen = (bool, bool);
+
+fn note<T>(seen: &mut Seen, answer: &Result<T, BoardFault>) {
+    seen.0 = seen.0 || answer.is_ok();
+    seen.1 = seen.1 || matches!(answer, Err(BoardFault::Memory));
+}
+
+#[test]
+fn out_of_memory_at_the_opening(rt: HostRuntime) -> Result<(), Fail> {
+    let alloc = rt.alloc();
+    let graph = graph_of(alloc, &CYCLE_AND_FOLLOWER)?;
+    let mut blocks = Vec::with_capacity(alloc, 100_000)?;
+    leave(alloc, OPENING_ROOM, &mut blocks)?;
+    let mut seen = (false, false);
+    for k in 0..OPENING_ROOM / 1_024 {
+        let taken: Result<Vec<u8>, _> = Vec::with_capacity(alloc, OPENING_ROOM - 1_024 * k);
+        note(&mut seen, &Board::open(alloc, &graph));
+        drop(taken);
+    }
+    drop(blocks);
+    expect_eq(&rt, seen, (true, true));
+    Ok(())
+}
+
+/// A board on which p and q are posted.
+fn with_p_and_q(alloc: Global, graph: &WaitGraph) -> Result<(Board, BoardSeat), Fail>
+    ensures { IfOk result (λ r. SitsAt r.0 r.1 × IsAway r.1) }
+{
+    let (board, mut seat) = Board::open(alloc, graph)?;
+    let run = run(alloc, graph, 0, &[], &mut NoHints)?;
+    let _done = try_post_run(&board, &mut seat, &run) == Post::Done;
+    Ok((board, seat))
+}
+
+/// Takes a snapshot and the history of a board, and closes it, with 16·k bytes left for each.
+fn read_with_little(
+    alloc: Global,
+    graph: &WaitGraph,
+    k: usize,
+    seen: &mut [Seen; 3],
+) -> Result<(), Fail> {
+    let (board, mut seat) = with_p_and_q(alloc, graph)?;
+    let mut blocks = Vec::with_capacity(alloc, 100_000)?;
+    leave(alloc, ROOM, &mut blocks)?;
+    let taken: Result<Vec<u8>, _> = Vec::with_capacity(alloc, ROOM.saturating_sub(16 * k.min(64)));
+    note(&mut seen[0], &board.snapshot(alloc, &mut seat));
+    note(&mut seen[1], &board.history(alloc, &mut seat));
+    note(&mut seen[2], &board.close(alloc, seat));
+    drop(taken);
+    Ok(())
+}
+
+#[test]
+fn out_of_memory_at_reading(rt: HostRuntime) -> Result<(), Fail> {
+    let graph = graph_of(rt.alloc(), &CYCLE_AND_FOLLOWER)?;
+    let mut seen = [(false, false); 3];
+    for k in 0..16 {
+        read_with_little(rt.alloc(), &graph, k, &mut seen)?;
+    }
+    expect_eq(&rt, seen, [(true, true); 3]);
+    Ok(())
+}
