@@ -3,9 +3,9 @@
 ghost use Rattle.std.specs.Prelude.{IfOk};
 ghost use Rattle.cmh_board.specs.Board.{SitsAt, IsAway};
 
-use super::expect_eq;
 use super::graphs::{CYCLE_AND_FOLLOWER, graph_of};
 use super::runs::try_post_run;
+use super::{expect, expect_eq};
 use cmh_board::{Board, BoardFault, BoardSeat, Post};
 use cmh_graph::WaitGraph;
 use cmh_run::{NoHints, run};
@@ -98,9 +98,19 @@ fn read_with_little(
     Ok(())
 }
 
+/// Whether a board is read and closed where memory is ample.
+fn is_read(alloc: Global, graph: &WaitGraph) -> Result<bool, Fail> {
+    let (board, mut seat) = with_p_and_q(alloc, graph)?;
+    let has_snapshot = board.snapshot(alloc, &mut seat).is_ok();
+    let has_history = board.history(alloc, &mut seat).is_ok();
+    Ok(has_snapshot && has_history && board.close(alloc, seat).is_ok())
+}
+
+/// Memory is ample at first, so that the stack has grown as far as it needs.
 #[test]
 fn out_of_memory_at_reading(rt: HostRuntime) -> Result<(), Fail> {
     let graph = graph_of(rt.alloc(), &CYCLE_AND_FOLLOWER)?;
+    expect(&rt, is_read(rt.alloc(), &graph)?);
     let mut seen = [(false, false); 3];
     for k in 0..16 {
         read_with_little(rt.alloc(), &graph, k, &mut seen)?;

@@ -91,8 +91,9 @@ const AS_THEY_SHOULD_BE: Answers = Answers {
     refused: true,
 };
 
-/// Makes the call with more and more memory.
+/// Makes the call with ample memory, so that the stack has grown as far as it needs, and then with more and more of it.
 fn sweep(alloc: Global, call: Call) -> Result<Answers, Fail> {
+    let ample = answer(alloc, call);
     let mut blocks = Vec::with_capacity(alloc, 100_000)?;
     let room: Vec<u8> = Vec::with_capacity(alloc, ROOM)?;
     let _pin: Vec<u8> = Vec::with_capacity(alloc, 64)?;
@@ -101,7 +102,7 @@ fn sweep(alloc: Global, call: Call) -> Result<Answers, Fail> {
 
     let mut answers = Answers {
         right: false,
-        wrong: false,
+        wrong: !matches!(ample, Ok(true)),
         refused: false,
     };
     for left in (0..ROOM).step_by(step(call)) {

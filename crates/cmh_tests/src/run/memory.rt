@@ -113,10 +113,12 @@ const AS_THEY_SHOULD_BE: Answers = Answers {
     refused: true,
 };
 
-/// Makes the call with each multiple of 16 bytes below `ROOM`, and then with all memory.
+/// Makes the call with ample memory, so that the stack has grown as far as it needs, then with each multiple of 16 bytes
+/// below `ROOM`, and at last with ample memory again.
 fn sweep(alloc: Global, waits: Waits, call: Call) -> Result<Answers, Fail> {
     let graph = graph_of(alloc, waits, &[])?;
     let checked = run(alloc, &graph, 0, &[], &mut NoHints)?;
+    let ample = answer(alloc, call, &graph, checked.log());
     let mut blocks = Vec::with_capacity(alloc, 100_000)?;
     let room: Vec<u8> = Vec::with_capacity(alloc, ROOM)?;
     let _pin: Vec<u8> = Vec::with_capacity(alloc, 64)?;
@@ -125,7 +127,7 @@ fn sweep(alloc: Global, waits: Waits, call: Call) -> Result<Answers, Fail> {
 
     let mut answers = Answers {
         right: false,
-        wrong: false,
+        wrong: ample != Some(true),
         refused: false,
     };
     for k in 0..ROOM / 16 {
