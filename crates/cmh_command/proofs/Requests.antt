@@ -164,10 +164,10 @@ commanded c words m r app h kinds asked = inl (
 )
 
 -- `clap` finds a fault in the words, or they ask for a text
-pub answered : (c : Command) (words : List Text) (e : Error) (r : Request) → app_of c ≡ program
+pub answer_of_args : (c : Command) (words : List Text) (e : Error) (r : Request) → app_of c ≡ program
     → (is_simple_and_free (app_of c) ≡ true → HasKind (fault_of (app_of c) words) e) → kind_of e ≢ OutOfMemory
     → IsOfKind (kind_of e) r → IsRequest words r
-answered c words e r app kinds other asked = inr (
+answer_of_args c words e r app kinds other asked = inr (
   kind_of e,
   kind_is e (fault_of program words)
       (subst (λ (a : App). HasKind (fault_of a words) e) app (kinds (ap is_simple_and_free app ∙ is_free))) other,

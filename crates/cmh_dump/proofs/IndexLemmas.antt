@@ -88,9 +88,10 @@ first_is : (b : ℕ) → nat_lt 0 (suc b) ≡ true
 first_is b = grind arith
 
 -- a place is within the names exactly where the name is among them
-pub among : (name : List ℕ) (names : List (List ℕ)) → nat_lt (place_of names name) (length names) ≡ is_among names name
-among name [] = refl
-among name (x ∷ xs) = by (bytes_eq name x) (among name xs)
+pub place_is_below : (name : List ℕ) (names : List (List ℕ))
+    → nat_lt (place_of names name) (length names) ≡ is_among names name
+place_is_below name [] = refl
+place_is_below name (x ∷ xs) = by (bytes_eq name x) (place_is_below name xs)
   where
     by : (b : Bool) → nat_lt (place_of xs name) (length xs) ≡ is_among xs name
         → nat_lt (cond (not b) (1 + place_of xs name) 0) (suc (length xs)) ≡ (b || is_among xs name)
@@ -104,4 +105,4 @@ pub place_is : (name : List ℕ) (keys : List (Bor (List ℕ)))
     ≡ cond (is_among (texts keys) name) (Some (place_of (texts keys) name)) None
 place_is name keys =
     (λ i. cond (nat_lt (position-texts name keys i) (sym (length-texts keys) i)) (Some (position-texts name keys i))
-    None) ∙ ap (λ b. cond b (Some (place_of (texts keys) name)) None) (among name (texts keys))
+    None) ∙ ap (λ b. cond b (Some (place_of (texts keys) name)) None) (place_is_below name (texts keys))

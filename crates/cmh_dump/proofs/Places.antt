@@ -10,7 +10,7 @@ use Rattle.serde_json.specs.Data.{Data}
 use Rattle.cmh_dump.specs.Dump.{places_in_pair}
 use Rattle.cmh_dump.specs.Name.{is_among, place_of}
 use Rattle.cmh_dump.specs.Tree.{texts_of}
-use Rattle.cmh_dump.proofs.IndexLemmas.{among}
+use Rattle.cmh_dump.proofs.IndexLemmas.{place_is_below}
 
 -- the first place of a list that passes a test is within it where one passes
 pub first_within : {X : Type 0} (test : X → Bool) (xs : List X) → list_any test xs ≡ true
@@ -76,7 +76,7 @@ pub place_is_none : (names : List (List ℕ)) (name : List ℕ) → None ≡ pla
 place_is_none names name h =
     let past =
     ltb-false (place_of names name) (length names)
-    (among name names ∙ none_by names name (is_among names name) refl h) in
+    (place_is_below name names ∙ none_by names name (is_among names name) refl h) in
     let up_to = prefix_len-le-length (λ x. not (bytes_eq name x)) names in
     omega (arith, past, up_to)
 

@@ -22,7 +22,7 @@ use Rattle.cmh_dump.specs.Read.{entry_view, first_pair, without_name}
 use Rattle.cmh_dump.specs.Tree.{text_of}
 use Rattle.serde_json.specs.View.{view}
 use Rattle.cmh_dump.proofs.FirstFault.Searches.{below, least_found, none_found, find_alike}
-use Rattle.cmh_dump.proofs.IndexLemmas.{among}
+use Rattle.cmh_dump.proofs.IndexLemmas.{place_is_below}
 use Rattle.cmh_dump.proofs.Places.{first_within, same_from_places}
 use Rattle.cmh_dump.proofs.Pairs.{all_pass, neither_row}
 use Rattle.cmh_dump.proofs.Trees.{all-map}
@@ -143,7 +143,8 @@ module _ (names : List (List ℕ)) where
   row_within : (xs : List (List ℕ)) → AreAmong xs
       → list_all (λ p. nat_lt p (length names)) (map (place_of names) xs) ≡ true
   row_within xs h =
-      sym (all-map (λ p. nat_lt p (length names)) (place_of names) xs) ∙ (λ i. list_all (λ x. among x names i) xs) ∙ h
+      sym (all-map (λ p. nat_lt p (length names)) (place_of names) xs)
+      ∙ (λ i. list_all (λ x. place_is_below x names i) xs) ∙ h
 
   -- where no process has an unknown dependent, the places of all dependents are below the number of names
   rows_within : (i : ℕ) (es : List declared.Entry) → first_pair (λ e. first_unknown names e.dependents.now) i es ≡ None

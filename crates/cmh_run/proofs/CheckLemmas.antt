@@ -12,7 +12,7 @@ use Rattle.cmh_graph.specs.Build.{IsWellFormed}
 use Rattle.cmh_graph.specs.Verdict.{verdict, verdicts, IsDeadlocked}
 use Rattle.cmh_graph.proofs.Verdicts.{one_verdict, verdict_listed, verdict_true}
 use Rattle.cmh_run.proofs.Scripts.{verdict_count}
-use Rattle.cmh_run.proofs.Verdicts.{same, same_as_itself}
+use Rattle.cmh_run.proofs.Verdicts.{equal_verdicts, verdict_equals_itself}
 use Rattle.cmh_run.specs.declared.delivery.Delivery.{Delivery}
 use Rattle.cmh_run.specs.declared.delivery.Ending.{Ending}
 use Rattle.cmh_run.specs.declared.delivery.Ending.TheVariants.{Declared, AtRest, CutFree}
@@ -122,12 +122,12 @@ fit_where_true g c m hint v d truth b w is asked all within test = (
   λ e. subst (λ (o : Option Verdict). HintIsFit g c m o) (sym is) (
     asked,
     verdict_true g m.to v w.within
-        (sym (verdict_listed g truth m.to d all within) ∙ same (get_or truth m.to d) v (sym test ∙ e)),
+        (sym (verdict_listed g truth m.to d all within) ∙ equal_verdicts (get_or truth m.to d) v (sym test ∙ e)),
   ),
   λ fit. let told : HintIsFit g c m (Some v) = subst (λ (o : Option Verdict). HintIsFit g c m o) is fit in
       let equal : get_or truth m.to d ≡ v = verdict_listed g truth m.to d all within
       ∙ one_verdict g m.to (verdict g m.to) v (verdict_true g m.to (verdict g m.to) w.within refl) told.1 in
-      test ∙ ap (λ (u : Verdict). sameb the_type u v) equal ∙ same_as_itself v,
+      test ∙ ap (λ (u : Verdict). sameb the_type u v) equal ∙ verdict_equals_itself v,
 )
 
 -- ---- a delivery

@@ -14,10 +14,12 @@ use Rattle.cmh_run.specs.Legal.{Going, going_at_start, after_due_restart, going_
 use Rattle.cmh_run.specs.Choices.{chosen_place, HasNoHints}
 
 -- once a run has ended no delivery may come
-pub over : (g : Graph) (c : Config) (x : ℕ) (d : Delivery) (ending : Ending) → EndsAs c ending → MayCome g c x d → ⊥
-over g c x d Declared e may = none-some _ (sym may.going ∙ e)
-over g c x d (CutFree k) e may = none-some _ (sym may.going ∙ e)
-over g c x d AtRest e may = none-some _ (ap (λ (bag : List Message). slice_get bag x) (sym e.1) ∙ may.there)
+pub ended_delivers_nothing : (g : Graph) (c : Config) (x : ℕ) (d : Delivery) (ending : Ending) → EndsAs c ending
+    → MayCome g c x d → ⊥
+ended_delivers_nothing g c x d Declared e may = none-some _ (sym may.going ∙ e)
+ended_delivers_nothing g c x d (CutFree k) e may = none-some _ (sym may.going ∙ e)
+ended_delivers_nothing g c x d AtRest e may =
+    none-some _ (ap (λ (bag : List Message). slice_get bag x) (sym e.1) ∙ may.there)
 
 -- from the same state, without hints, the choices lead to one end by one list of deliveries
 decides : (choices : List ℕ) (g : Graph) (i : ℕ) (log other : List Delivery) (s end far : Going) (ending last : Ending)
@@ -26,10 +28,10 @@ decides : (choices : List ℕ) (g : Graph) (i : ℕ) (log other : List Delivery)
     → HasNoHints log → HasNoHints other → (log ≡ other) × (end ≡ far)
 decides choices g i [] [] s end far ending last l k e f a b = (refl, sym l ∙ k)
 decides choices g i [] (d ∷ other) s end far ending last l k e f a b =
-    absurd (over g (after_due_restart g i s).config k.0 d ending
+    absurd (ended_delivers_nothing g (after_due_restart g i s).config k.0 d ending
     (subst (λ (t : Going). EndsAs t.config ending) (sym l) e) k.1)
 decides choices g i (d ∷ log) [] s end far ending last l k e f a b =
-    absurd (over g (after_due_restart g i s).config l.0 d last
+    absurd (ended_delivers_nothing g (after_due_restart g i s).config l.0 d last
     (subst (λ (t : Going). EndsAs t.config last) (sym k) f) l.1)
 decides choices g i (d ∷ log) (h ∷ other) s end far ending last l k e f a b =
     let place : l.0 ≡ k.0 = eqb-true l.0 (slice_index choices s.done % length (after_due_restart g i s).config.bag) l.2

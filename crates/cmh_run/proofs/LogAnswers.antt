@@ -11,7 +11,7 @@ use Rattle.cmh_run.specs.declared.fault.CheckFault.TheVariants.{NotIdle, NotUnde
 use Rattle.cmh_run.specs.Legal.{Going, going_at_start, after_due_restart, going_after, MayCome, any_place, DeliveriesLead, EndsAs}
 use Rattle.cmh_run.specs.Check.{LeadTo, IsUndelivered, IsLegalRun, ComesAt, IsFlaw, IsFirstCheckFault}
 use Rattle.cmh_run.specs.Config.{Config}
-use Rattle.cmh_run.proofs.Determinism.{over, one_ending}
+use Rattle.cmh_run.proofs.Determinism.{ended_delivers_nothing, one_ending}
 use Rattle.cmh_run.proofs.Places.{one_place}
 use Rattle.cmh_run.proofs.ProgressLemmas.{leads_on}
 use Rattle.cmh_run.proofs.CheckStateLemmas.{firm}
@@ -64,7 +64,13 @@ record BadAt (g : Graph) (i : ℕ) (log : List Delivery) (t : ℕ) : Type 0 wher
 flaw_bad : (g : Graph) (i : ℕ) (log : List Delivery) (t : ℕ) (d : Delivery) (s : Going) (e : CheckFault)
     → ComesAt g i log t d s → IsFlaw g s.config t d e → BadAt g i log t
 flaw_bad g i log t d s (AfterEnd n) comes f =
-    record { delivery = d; state = s; comes = comes; cannot = λ x may. over g s.config x d f.1.0 f.1.1 may }
+    record {
+      delivery = d;
+      state = s;
+      comes = comes;
+      cannot = λ x may.
+          ended_delivers_nothing g s.config x d f.1.0 f.1.1 may;
+    }
 flaw_bad g i log t d s (NotUndelivered n) comes f =
     record { delivery = d; state = s; comes = comes; cannot = λ x may. f.2 (x, may.there) }
 flaw_bad g i log t d s (FalseHint n) comes f =

@@ -18,7 +18,7 @@ use Rattle.cmh_graph.proofs.PartLemmas.{first_place}
 use Rattle.cmh_graph.proofs.IndexLists.{length-by_index, by_index}
 use Rattle.cmh_graph.proofs.Verdicts.{one_verdict, verdict_true, by_test}
 use Rattle.cmh_run.specs.Script.{ScriptLine, answer_at, AreTrueOf, IsLineOutOfRange, is_listed}
-use Rattle.cmh_run.proofs.Verdicts.{same, same_as_itself}
+use Rattle.cmh_run.proofs.Verdicts.{equal_verdicts, verdict_equals_itself}
 
 -- ---- what lines answer
 
@@ -124,10 +124,10 @@ module _ (g : Graph) (truth : List Verdict) (lines : List ScriptLine) (w : IsWit
       ap (λ (o : Option Verdict). unwrap_or (option_map (λ v. sameb the_type v line.2) o) false)
       (ap (λ (xs : List Verdict). slice_get xs line.1) is ∙ verdict_at g line.1 within) in
       let truly = verdict_true g line.1 (verdict g line.1) w refl in (
-        λ e. verdict_true g line.1 line.2 w (same (verdict g line.1) line.2 (sym told ∙ e)),
+        λ e. verdict_true g line.1 line.2 w (equal_verdicts (verdict g line.1) line.2 (sym told ∙ e)),
         λ v. told
             ∙ ap (λ (u : Verdict). sameb the_type u line.2) (one_verdict g line.1 (verdict g line.1) line.2 truly v)
-            ∙ same_as_itself line.2,
+            ∙ verdict_equals_itself line.2,
       )
 
   -- a line isn't in the list of all verdicts exactly where it isn't true

@@ -6,13 +6,13 @@ use Rattle.cmh_graph.specs.declared.verdict.Verdict.TheVariants.{Deadlocked, Fre
 use Rattle.cmh_graph.specs.contracts.verdict.Verdict.{the_type}
 
 -- two verdicts that compare as alike are equal
-pub same : (a b : Verdict) → sameb the_type a b ≡ true → a ≡ b
-same Deadlocked Deadlocked h = refl
-same Deadlocked Free h = absurd (cc)
-same Free Deadlocked h = absurd (cc)
-same Free Free h = refl
+pub equal_verdicts : (a b : Verdict) → sameb the_type a b ≡ true → a ≡ b
+equal_verdicts Deadlocked Deadlocked h = refl
+equal_verdicts Deadlocked Free h = absurd (cc)
+equal_verdicts Free Deadlocked h = absurd (cc)
+equal_verdicts Free Free h = refl
 
 -- a verdict compares as alike with itself
-pub same_as_itself : (a : Verdict) → sameb the_type a a ≡ true
-same_as_itself Deadlocked = refl
-same_as_itself Free = refl
+pub verdict_equals_itself : (a : Verdict) → sameb the_type a a ≡ true
+verdict_equals_itself Deadlocked = refl
+verdict_equals_itself Free = refl

@@ -81,9 +81,10 @@ pub or_seen : {Y Z : Type 0} (f : Y → Z) (ys : List Y) (all : List Z) (k : ℕ
 or_seen f ys all k z x e h = sym (unwrap_or-slice_get all k x) ∙ ap (λ o. unwrap_or o x) (at_seen f ys all k z e h)
 
 -- where a list is longer than a limit, so is the one that it is seen as
-pub over : {Y Z : Type 0} (f : Y → Z) (ys : List Y) (all : List Z) (most : ℕ) → map f ys ≡ all → most < length ys
+pub is_over_most : {Y Z : Type 0} (f : Y → Z) (ys : List Y) (all : List Z) (most : ℕ) → map f ys ≡ all
+    → most < length ys
     → nat_lt most (length all) ≡ true
-over f ys all most e h =
+is_over_most f ys all most e h =
     ap (λ zs. nat_lt most (length zs)) (sym e) ∙ ap (nat_lt most) (length-map ys f) ∙ lt-ltb most (length ys) h
 
 -- where a list is within a limit, so is the one that it is seen as

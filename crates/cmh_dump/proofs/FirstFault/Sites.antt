@@ -11,7 +11,7 @@ use Rattle.cmh_dump.specs.Index.{first_repeat}
 use Rattle.cmh_dump.specs.Name.{is_name}
 use Rattle.cmh_dump.specs.Texts.{texts}
 use Rattle.cmh_dump.proofs.FirstFault.Searches.{below, each_seen, find-map}
-use Rattle.cmh_dump.proofs.FirstFault.Kinds.{first_here, first_later, alone, size_of, or_seen, over, within}
+use Rattle.cmh_dump.proofs.FirstFault.Kinds.{first_here, first_later, alone, size_of, or_seen, is_over_most, within}
 
 -- the first bad site stands where the first bad name does
 pub bad_sites : (d : Data) (ys : List (Bor (List ℕ))) → texts ys ≡ sites d
@@ -72,7 +72,7 @@ module _ (d : Data) (ys : List (Bor (List ℕ))) (seen : texts ys ≡ sites d) w
   sites_many h apart many =
       apart_only (Some TooManySites) h apart
       (first_here (holds d) (TooManySites ∷ []) [] _ TooManySites
-      (alone (holds d) TooManySites true (over (λ t. t.now) ys (sites d) MAX_SITES seen many)) refl)
+      (alone (holds d) TooManySites true (is_over_most (λ t. t.now) ys (sites d) MAX_SITES seen many)) refl)
 
   -- where no name of a site is bad, none repeats and the sites are few enough, they have no fault
   pub sites_judged : bad_name ≡ None → first_repeat (texts ys) ≡ None → length ys ≤ MAX_SITES

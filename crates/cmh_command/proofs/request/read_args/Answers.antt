@@ -1,7 +1,7 @@
 use Rattle.std.proofs.Common.{map}
 use Rattle.std.proofs.lemmas.Result.{IfOk-weaker}
 use Rattle.clap.proofs.CallerLemmas.{subcommand_required}
-use Rattle.cmh_command.proofs.Requests.{answered, commanded, is_known}
+use Rattle.cmh_command.proofs.Requests.{answer_of_args, commanded, is_known}
 use Rattle.cmh_command.proofs.request.read_args.Goals as goal
 
 pub request_in-requires : goal.request_in-requires
@@ -21,6 +21,6 @@ returns-in-Ok g c = IfOk-weaker c.request_in.result _ _
 
 pub returns-in-Err : goal.returns-in-Err
 returns-in-Err g c = IfOk-weaker c.request_of.result _ _
-    (λ r h. answered c.in_ok-command.field-0 (map g.T.AsStr.text c.args.args.now) c.in-Err.error r
+    (λ r h. answer_of_args c.in_ok-command.field-0 (map g.T.AsStr.text c.args.args.now) c.in-Err.error r
     c.in_ok-command.ensures.app c.in-Err.ensures.kinds h.0 h.1)
     c.request_of.ensures
