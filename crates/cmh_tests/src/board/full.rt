@@ -6,7 +6,7 @@ ghost use Rattle.cmh_board.specs.Board.{board_graph, SitsAt, IsAway};
 use super::graphs::{graph_of, rings};
 use super::runs::try_post_run;
 use super::{expect, expect_eq};
-use cmh_board::{Board, BoardSeat, Entry, Post, Row};
+use cmh_board::{Board, BoardSeat, Entry, Post, Row, Snap};
 use cmh_graph::{Verdict, WaitGraph};
 use cmh_run::{NoHints, run};
 use std::alloc::Global;
@@ -29,6 +29,16 @@ fn posted_run<R: Abort>(
     Ok((board, seat))
 }
 
+/// Whether the snapshot shows each of 4,096 processes as deadlocked.
+fn shows_all_deadlocked(snap: &Snap) -> bool {
+    for p in 0..4_096 {
+        if snap.get(p) != Some(Verdict::Deadlocked) {
+            return false;
+        }
+    }
+    true
+}
+
 #[test]
 fn a_posting_of_4096_processes(rt: HostRuntime) -> Result<(), Fail> {
     let alloc = rt.alloc();
@@ -42,7 +52,7 @@ fn a_posting_of_4096_processes(rt: HostRuntime) -> Result<(), Fail> {
     expect_eq(&rt, board.held_verdict(&mut seat, 4_095), deadlocked);
     board.release(&mut seat);
     let snap = board.snapshot(alloc, &mut seat)?;
-    expect(&rt, (0..4_096).all(|p: u32| snap.get(p) == deadlocked));
+    expect(&rt, shows_all_deadlocked(&snap));
     expect_eq(&rt, snap.get(4_096), None);
     let rows = board.history(alloc, &mut seat)?;
     let last = Row {

@@ -11,7 +11,7 @@ use super::runs::post_run;
 use cmh_board::{Board, BoardSeat, Entry, Row};
 use cmh_graph::{Verdict, WaitGraph};
 use cmh_run::{NoHints, run};
-use std::alloc::Global;
+use std::alloc::{AllocError, Global};
 use std::sync::Wait;
 use std::test::Fail;
 use std::thread::{Threads, join};
@@ -148,14 +148,15 @@ fn take_turns_by<R: Threads + Wait + Sync>(
 }
 
 /// Whether each process stands in the rows once.
-fn is_each_once(rows: &[Row]) -> bool {
-    let mut stands = [false; 4_096];
+fn is_each_once(alloc: Global, rows: &[Row]) -> Result<bool, AllocError> {
+    let mut stands = vec![in alloc; false; 4_096]?;
     for row in rows {
-        if let Some(place) = stands.get_mut(row.process as usize) {
-            *place = true;
+        match stands.get_mut(row.process as usize) {
+            Some(place) if !*place => *place = true,
+            _ => return Ok(false),
         }
     }
-    rows.len() == 4_096 && stands.iter().all(|stands| *stands)
+    Ok(rows.len() == 4_096)
 }
 
 #[test]
@@ -167,7 +168,7 @@ fn four_threads_take_a_hundred_million_turns(rt: HostRuntime) -> Result<(), Fail
         let (board, seat) = Board::open(alloc, &graph)?;
         let (seat, is_right) = take_turns_by(&rt, alloc, &graph, &board, seat, 3);
         expect(&rt, is_right);
-        expect(&rt, is_each_once(&board.close(alloc, seat)?));
+        expect(&rt, is_each_once(alloc, &board.close(alloc, seat)?)?);
     }
     Ok(())
 }
