@@ -1,9 +1,9 @@
 //! The board by one thread and by several, and when memory is refused.
 
 mod full;
-mod graphs;
 mod load;
 mod memory;
+mod rings;
 mod runs;
 mod seats;
 mod threads;

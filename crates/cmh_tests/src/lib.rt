@@ -11,6 +11,8 @@ mod expect;
 #[cfg(test)]
 mod graph;
 #[cfg(test)]
+mod graphs;
+#[cfg(test)]
 mod plan;
 #[cfg(test)]
 mod process;
@@ -20,6 +22,8 @@ mod report;
 mod run;
 #[cfg(test)]
 mod rw;
+#[cfg(test)]
+mod shortage;
 #[cfg(test)]
 mod stream;
 #[cfg(test)]

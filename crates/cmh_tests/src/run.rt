@@ -14,13 +14,11 @@ mod scripted;
 mod surface;
 
 use crate::expect::{expect, expect_eq};
-use cmh_graph::{Part, State, Verdict, WaitGraph};
+use crate::graphs::{self, ONE_FREE_ONE_STUCK, TWO_IN_A_CYCLE, Waits};
+use cmh_graph::{Verdict, WaitGraph};
 use cmh_process::{Kind, Message};
 use cmh_run::{CheckFault, Delivery, Ending, RunFault, RunLog};
-use std::alloc::{AllocError, Global};
-
-/// The dependents of each process, `None` of an active one.
-type Waits<'a> = &'a [Option<&'a [u32]>];
+use std::alloc::Global;
 
 /// Number, sender and receiver of a message.
 #[derive(Clone, Copy)]
@@ -32,10 +30,6 @@ enum Step {
 const WAITS_FOR_NOBODY: [Option<&[u32]>; 1] = [Some(&[])];
 
 const WAITS_FOR_ITSELF: [Option<&[u32]>; 1] = [Some(&[0])];
-
-const TWO_IN_A_CYCLE: [Option<&[u32]>; 2] = [Some(&[1]), Some(&[0])];
-
-const ONE_FREE_ONE_STUCK: [Option<&[u32]>; 3] = [Some(&[1, 2]), Some(&[1]), None];
 
 const KNOT_OF_THREE: [Option<&[u32]>; 3] = [Some(&[1, 2]), Some(&[2]), Some(&[1])];
 
@@ -115,25 +109,8 @@ const OF_STUCK: Worked = Worked {
 /// `ONE_FREE_ONE_STUCK`, a process that waits for the active one, and one that waits for that.
 const FREE_BY_TWO: [Option<&[u32]>; 5] = [Some(&[1, 2]), Some(&[1]), None, Some(&[2]), Some(&[3])];
 
-fn part_of(alloc: Global, waits: Option<&[u32]>) -> Result<Part, AllocError> {
-    let (state, dependents) = match waits {
-        Some(dependents) => (State::Idle, Vec::from_slice(alloc, dependents)?),
-        None => (State::Active, Vec::new(alloc)),
-    };
-    Ok(Part {
-        name: String::new(alloc),
-        site: 0,
-        state,
-        dependents,
-    })
-}
-
 fn graph_of(alloc: Global, waits: Waits, in_transit: &[(u32, u32)]) -> Result<WaitGraph, RunFault> {
-    let mut parts = Vec::new(alloc);
-    for dependents in waits {
-        parts.push(part_of(alloc, *dependents)?)?;
-    }
-    WaitGraph::build_with(alloc, parts, in_transit).map_err(|_| RunFault::Memory)
+    graphs::graph_of(alloc, waits, in_transit).map_err(|_| RunFault::Memory)
 }
 
 /// The delivery of a step of the computations of this initiator.

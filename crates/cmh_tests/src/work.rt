@@ -3,8 +3,8 @@
 mod analyses;
 mod full;
 mod gates;
-mod graphs;
 mod memory;
+mod wanted;
 mod workers;
 
 use crate::expect::{expect, expect_eq};

@@ -3,9 +3,10 @@
 ghost use Rattle.std.specs.Prelude.{◌≡◌, IfOk};
 ghost use Rattle.cmh_board.specs.Board.{board_graph, SitsAt, IsAway};
 
-use super::graphs::{graph_of, rings};
+use super::rings::rings;
 use super::runs::try_post_run;
 use super::{expect, expect_eq};
+use crate::graphs::graph_of;
 use cmh_board::{Board, BoardSeat, Entry, Post, Row, Snap};
 use cmh_graph::{Verdict, WaitGraph};
 use cmh_run::{NoHints, run};
@@ -70,7 +71,7 @@ fn a_posting_of_4096_processes(rt: HostRuntime) -> Result<(), Fail> {
 fn the_greatest_row(rt: HostRuntime) -> Result<(), Fail> {
     let mut waits: [Option<&[u32]>; 4_096] = [None; 4_096];
     waits[4_095] = Some(&[0]);
-    let graph = graph_of(rt.alloc(), &waits)?;
+    let graph = graph_of(rt.alloc(), &waits, &[])?;
     let (board, seat) = posted_run(&rt, rt.alloc(), &graph, 4_095)?;
     let greatest = Row {
         process: 4_095,

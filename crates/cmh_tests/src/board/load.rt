@@ -6,7 +6,7 @@ ghost use Rattle.cmh_graph.specs.Graph.{process_count};
 ghost use Rattle.cmh_board.specs.Board.{board_graph, SitsAt, IsAway};
 
 use super::expect;
-use super::graphs::rings;
+use super::rings::rings;
 use super::runs::post_run;
 use cmh_board::{Board, BoardSeat, Entry, Row};
 use cmh_graph::{Verdict, WaitGraph};

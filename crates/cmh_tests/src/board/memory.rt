@@ -3,9 +3,10 @@
 ghost use Rattle.std.specs.Prelude.{IfOk};
 ghost use Rattle.cmh_board.specs.Board.{SitsAt, IsAway};
 
-use super::graphs::{CYCLE_AND_FOLLOWER, graph_of};
 use super::runs::try_post_run;
 use super::{expect, expect_eq};
+use crate::graphs::{CYCLE_AND_FOLLOWER, graph_of};
+use crate::shortage::take_all_but;
 use cmh_board::{Board, BoardFault, BoardSeat, Post};
 use cmh_graph::WaitGraph;
 use cmh_run::{NoHints, run};
@@ -18,33 +19,6 @@ const ROOM: usize = 2_048;
 /// The most bytes that are left for the opening of a board.
 const OPENING_ROOM: usize = 131_072;
 
-/// Takes all the memory that there is, in blocks of falling sizes.
-fn take_all(alloc: Global, blocks: &mut Vec<Vec<u8>>) {
-    let mut size = 1usize << 46;
-    for _ in 0..100_000 {
-        if size < 16 {
-            return;
-        }
-        match Vec::with_capacity(alloc, size) {
-            Ok(block) => {
-                if blocks.push(block).is_err() {
-                    return;
-                }
-            }
-            Err(_) => size /= 2,
-        }
-    }
-}
-
-/// Takes all memory but this room.
-fn leave(alloc: Global, room: usize, blocks: &mut Vec<Vec<u8>>) -> Result<(), Fail> {
-    let room: Vec<u8> = Vec::with_capacity(alloc, room)?;
-    let _pin: Vec<u8> = Vec::with_capacity(alloc, 64)?;
-    take_all(alloc, blocks);
-    drop(room);
-    Ok(())
-}
-
 /// Whether a call succeeded at some time, and whether memory was refused to it at some time.
 type Seen = (bool, bool);
 
@@ -56,16 +30,15 @@ fn note<T>(seen: &mut Seen, answer: &Result<T, BoardFault>) {
 #[test]
 fn out_of_memory_at_the_opening(rt: HostRuntime) -> Result<(), Fail> {
     let alloc = rt.alloc();
-    let graph = graph_of(alloc, &CYCLE_AND_FOLLOWER)?;
-    let mut blocks = Vec::with_capacity(alloc, 100_000)?;
-    leave(alloc, OPENING_ROOM, &mut blocks)?;
+    let graph = graph_of(alloc, &CYCLE_AND_FOLLOWER, &[])?;
+    let shortage = take_all_but(alloc, OPENING_ROOM)?;
     let mut seen = (false, false);
     for k in 0..OPENING_ROOM / 1_024 {
         let taken: Result<Vec<u8>, _> = Vec::with_capacity(alloc, OPENING_ROOM - 1_024 * k);
         note(&mut seen, &Board::open(alloc, &graph));
         drop(taken);
     }
-    drop(blocks);
+    drop(shortage);
     expect_eq(&rt, seen, (true, true));
     Ok(())
 }
@@ -88,8 +61,7 @@ fn read_with_little(
     seen: &mut [Seen; 3],
 ) -> Result<(), Fail> {
     let (board, mut seat) = with_p_and_q(alloc, graph)?;
-    let mut blocks = Vec::with_capacity(alloc, 100_000)?;
-    leave(alloc, ROOM, &mut blocks)?;
+    let _shortage = take_all_but(alloc, ROOM)?;
     let taken: Result<Vec<u8>, _> = Vec::with_capacity(alloc, ROOM.saturating_sub(16 * k.min(64)));
     note(&mut seen[0], &board.snapshot(alloc, &mut seat));
     note(&mut seen[1], &board.history(alloc, &mut seat));
@@ -109,7 +81,7 @@ fn is_read(alloc: Global, graph: &WaitGraph) -> Result<bool, Fail> {
 /// Memory is ample at first, so that the stack has grown as far as it needs.
 #[test]
 fn out_of_memory_at_reading(rt: HostRuntime) -> Result<(), Fail> {
-    let graph = graph_of(rt.alloc(), &CYCLE_AND_FOLLOWER)?;
+    let graph = graph_of(rt.alloc(), &CYCLE_AND_FOLLOWER, &[])?;
     expect(&rt, is_read(rt.alloc(), &graph)?);
     let mut seen = [(false, false); 3];
     for k in 0..16 {

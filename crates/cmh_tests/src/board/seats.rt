@@ -4,8 +4,8 @@ ghost use Rattle.std.specs.Prelude.{IfOk};
 ghost use Rattle.cmh_board.specs.Board.{SitsAt, IsAway};
 
 use super::expect;
-use super::graphs::{CYCLE_AND_FOLLOWER, ONE_FREE_ONE_STUCK, graph_of};
 use super::runs::{run_with_hints, try_post_run};
+use crate::graphs::{CYCLE_AND_FOLLOWER, ONE_FREE_ONE_STUCK, graph_of};
 use cmh_board::{Board, BoardFault, BoardSeat, Entry, Look, Post, Posting, Row};
 use cmh_graph::{Verdict, WaitGraph};
 use cmh_process::Kind;
@@ -84,7 +84,7 @@ fn posted_by_two<R: Abort>(
 
 #[test]
 fn board_by_two_seats(rt: HostRuntime) -> Result<(), Fail> {
-    let graph = graph_of(rt.alloc(), &CYCLE_AND_FOLLOWER)?;
+    let graph = graph_of(rt.alloc(), &CYCLE_AND_FOLLOWER, &[])?;
     let (board, seat) = posted_by_two(&rt, rt.alloc(), &graph)?;
     let rows = board.close(rt.alloc(), seat)?;
     expect(
@@ -98,7 +98,7 @@ fn board_by_two_seats(rt: HostRuntime) -> Result<(), Fail> {
 /// that isn't the last one closes the board: what the other has posted is there.
 #[test]
 fn one_free_one_stuck_posts(rt: HostRuntime) -> Result<(), Fail> {
-    let graph = graph_of(rt.alloc(), &ONE_FREE_ONE_STUCK)?;
+    let graph = graph_of(rt.alloc(), &ONE_FREE_ONE_STUCK, &[])?;
     let (board, mut x) = Board::open(rt.alloc(), &graph)?;
     assert!(rt; graph.len() == 3);
     let Some(mut y) = board.split(&mut x) else {

@@ -7,8 +7,8 @@ ghost use Rattle.cmh_run.specs.Run.{TellsTruth};
 ghost use Rattle.cmh_board.specs.Board.{board_graph, SitsAt, IsAway};
 
 use super::expect;
-use super::graphs::{CYCLE_AND_FOLLOWER, graph_of};
 use super::runs::post_run;
+use crate::graphs::{CYCLE_AND_FOLLOWER, graph_of};
 use cmh_board::{Board, BoardFault, BoardSeat, Entry};
 use cmh_run::{NoHints, RunLog, run};
 use std::alloc::Global;
@@ -78,7 +78,7 @@ fn both_hold<R: Threads + Sync>(
 
 #[test]
 fn two_threads_hold_at_once(rt: HostRuntime) -> Result<(), Fail> {
-    let graph = graph_of(rt.alloc(), &CYCLE_AND_FOLLOWER)?;
+    let graph = graph_of(rt.alloc(), &CYCLE_AND_FOLLOWER, &[])?;
     assert!(rt; graph.len() == 3);
     let (board, mut x) = Board::open(rt.alloc(), &graph)?;
     let Some(y) = board.split(&mut x) else {
@@ -141,7 +141,7 @@ fn post_beside_snapshots<R: Threads + Wait + Sync>(
 #[test]
 fn snapshots_have_whole_postings(rt: HostRuntime) -> Result<(), Fail> {
     let alloc = rt.alloc();
-    let graph = graph_of(alloc, &CYCLE_AND_FOLLOWER)?;
+    let graph = graph_of(alloc, &CYCLE_AND_FOLLOWER, &[])?;
     let run = run(alloc, &graph, 0, &[], &mut NoHints)?;
     for _ in 0..200 {
         let (board, mut x) = Board::open(alloc, &graph)?;

@@ -3,6 +3,7 @@
 ghost use Rattle.std.specs.Prelude.{◌<◌};
 
 use super::TWO_IN_A_CYCLE;
+use crate::shortage::take_all_but;
 use cmh_dump::{DumpFault, ReadOf, read_all, read_dump};
 use std::alloc::Global;
 use std::io;
@@ -11,24 +12,6 @@ use std::test::Fail;
 
 /// The most bytes that are left for a call.
 const ROOM: usize = 65_536;
-
-/// Takes all the memory that there is, in blocks of falling sizes.
-fn take_all(alloc: Global, blocks: &mut Vec<Vec<u8>>) {
-    let mut size = 1usize << 46;
-    for _ in 0..100_000 {
-        if size < 16 {
-            return;
-        }
-        match Vec::with_capacity(alloc, size) {
-            Ok(block) => {
-                if blocks.push(block).is_err() {
-                    return;
-                }
-            }
-            Err(_) => size /= 2,
-        }
-    }
-}
 
 /// A reader that gives at most 2,048 bytes a call, so that what is read grows often.
 #[derive(Drop)]
@@ -94,12 +77,7 @@ const AS_THEY_SHOULD_BE: Answers = Answers {
 /// Makes the call with ample memory, so that the stack has grown as far as it needs, and then with more and more of it.
 fn sweep(alloc: Global, call: Call) -> Result<Answers, Fail> {
     let ample = answer(alloc, call);
-    let mut blocks = Vec::with_capacity(alloc, 100_000)?;
-    let room: Vec<u8> = Vec::with_capacity(alloc, ROOM)?;
-    let _pin: Vec<u8> = Vec::with_capacity(alloc, 64)?;
-    take_all(alloc, &mut blocks);
-    drop(room);
-
+    let shortage = take_all_but(alloc, ROOM)?;
     let mut answers = Answers {
         right: false,
         wrong: !matches!(ample, Ok(true)),
@@ -114,7 +92,7 @@ fn sweep(alloc: Global, call: Call) -> Result<Answers, Fail> {
         }
         drop(taken);
     }
-    drop(blocks);
+    drop(shortage);
     Ok(answers)
 }
 

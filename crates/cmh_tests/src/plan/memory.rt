@@ -1,6 +1,7 @@
 //! Plans while memory is short.
 
 use super::expect;
+use crate::shortage::take_all_but;
 use cmh_plan::Plan;
 use std::alloc::Global;
 use std::test::Fail;
@@ -8,34 +9,11 @@ use std::test::Fail;
 /// The most bytes that are left for a plan.
 const ROOM: usize = 8_192;
 
-/// Takes all the memory that there is, in blocks of falling sizes.
-fn take_all(alloc: Global, blocks: &mut Vec<Vec<u8>>) {
-    let mut size = 1usize << 46;
-    for _ in 0..100_000 {
-        if size < 16 {
-            return;
-        }
-        match Vec::with_capacity(alloc, size) {
-            Ok(block) => {
-                if blocks.push(block).is_err() {
-                    return;
-                }
-            }
-            Err(_) => size /= 2,
-        }
-    }
-}
-
 /// With more and more memory, plans are refused at first, and then made. The contract says which plan each is.
 #[test]
 fn out_of_memory_in_a_plan(rt: HostRuntime) -> Result<(), Fail> {
     let alloc = rt.alloc();
-    let mut blocks = Vec::with_capacity(alloc, 100_000)?;
-    let room: Vec<u8> = Vec::with_capacity(alloc, ROOM)?;
-    let _pin: Vec<u8> = Vec::with_capacity(alloc, 64)?;
-    take_all(alloc, &mut blocks);
-    drop(room);
-
+    let shortage = take_all_but(alloc, ROOM)?;
     let mut was_made = false;
     let mut was_refused = false;
     for k in 0..ROOM / 16 {
@@ -46,7 +24,7 @@ fn out_of_memory_in_a_plan(rt: HostRuntime) -> Result<(), Fail> {
         drop(answer);
         drop(taken);
     }
-    drop(blocks);
+    drop(shortage);
     expect(&rt, was_made);
     expect(&rt, was_refused);
     expect(&rt, Plan::new(alloc, 2, &[1, 2, 3], &[4, 5]).is_ok());

@@ -7,6 +7,7 @@ use super::{
     CYCLE_AND_FOLLOWER, CYCLE_AND_FOLLOWER_REPORT, TWO_IN_A_CYCLE_DUMP, TWO_IN_A_CYCLE_REPORT,
     expect, graph, page,
 };
+use crate::shortage::take_all;
 use cmh_dump::DumpFault;
 use cmh_graph::WaitGraph;
 use cmh_report::{AppFault, ReportFault, analyse_bytes, report, trace_bytes};
@@ -37,26 +38,6 @@ const CALLS: usize = 1_024;
 const STEP: usize = 512;
 
 const REPORT_STEP: usize = 16;
-
-/// Takes all the memory that there is, in blocks of falling sizes: of the small ones each size, since the heap keeps
-/// small blocks that were given back by their size.
-fn take_all(alloc: Global, blocks: &mut Vec<Vec<u8>>) {
-    let mut size = 1usize << 46;
-    for _ in 0..100_000 {
-        if size < 16 {
-            return;
-        }
-        match Vec::with_capacity(alloc, size) {
-            Ok(block) => {
-                if blocks.push(block).is_err() {
-                    return;
-                }
-            }
-            Err(_) if size > 1_024 => size /= 2,
-            Err(_) => size -= 16,
-        }
-    }
-}
 
 /// Pieces of the heap that lie side by side, so that they are one once they are given back.
 fn heap(alloc: Global, count: usize) -> Result<Vec<Vec<u8>>, Fail> {

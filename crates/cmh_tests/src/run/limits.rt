@@ -1,6 +1,7 @@
 //! Calls at their limits: as many processes, dependencies and restarts as there may be, and a long script.
 
-use super::{Step, delivery, expect_eq, part_of};
+use super::{Step, delivery, expect_eq};
+use crate::graphs::part;
 use cmh_graph::{MAX_PROCESSES, Verdict, WaitGraph};
 use cmh_run::{Ending, NoHints, RunFault, Scripted, check_run, run, run_again};
 use std::alloc::{AllocError, Global};
@@ -11,9 +12,9 @@ const COUNT: u32 = MAX_PROCESSES as u32;
 fn chain(alloc: Global) -> Result<WaitGraph, RunFault> {
     let mut parts = Vec::new(alloc);
     for p in 1..COUNT {
-        parts.push(part_of(alloc, Some(&[p]))?)?;
+        parts.push(part(alloc, Some(&[p]))?)?;
     }
-    parts.push(part_of(alloc, Some(&[]))?)?;
+    parts.push(part(alloc, Some(&[]))?)?;
     WaitGraph::build(alloc, parts).map_err(|_| RunFault::Memory)
 }
 
@@ -31,7 +32,7 @@ fn knot(alloc: Global) -> Result<WaitGraph, RunFault> {
     let all = numbers(alloc, 0, 256)?;
     let mut parts = Vec::new(alloc);
     for _ in 0..256u32 {
-        parts.push(part_of(alloc, Some(&all))?)?;
+        parts.push(part(alloc, Some(&all))?)?;
     }
     WaitGraph::build(alloc, parts).map_err(|_| RunFault::Memory)
 }
@@ -40,9 +41,9 @@ fn knot(alloc: Global) -> Result<WaitGraph, RunFault> {
 fn wheel(alloc: Global) -> Result<WaitGraph, RunFault> {
     let spokes = numbers(alloc, 1, COUNT)?;
     let mut parts = Vec::new(alloc);
-    parts.push(part_of(alloc, Some(&spokes))?)?;
+    parts.push(part(alloc, Some(&spokes))?)?;
     for _ in 1..COUNT {
-        parts.push(part_of(alloc, Some(&[0]))?)?;
+        parts.push(part(alloc, Some(&[0]))?)?;
     }
     WaitGraph::build(alloc, parts).map_err(|_| RunFault::Memory)
 }

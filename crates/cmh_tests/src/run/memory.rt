@@ -1,7 +1,9 @@
 //! Runs and checks of logs while memory is short.
 
 use super::Step::{self, Query, Reply};
-use super::{STEPS_OF_RESTART, TWO_IN_A_CYCLE, Waits, expect_eq, graph_of, has_steps};
+use super::{STEPS_OF_RESTART, expect_eq, graph_of, has_steps};
+use crate::graphs::{CYCLE_AND_FOLLOWER, TWO_IN_A_CYCLE, Waits};
+use crate::shortage::take_all_but;
 use cmh_graph::{Verdict, WaitGraph};
 use cmh_run::{
     Bag, CheckFault, Delivery, Ending, Hints, NoHints, RunFault, ScriptFault, Scripted, check_run,
@@ -13,8 +15,6 @@ use std::test::Fail;
 /// The most bytes that are left for the call.
 const ROOM: usize = 8_192;
 
-const CYCLE_AND_FOLLOWER: [Option<&[u32]>; 3] = [Some(&[1]), Some(&[0]), Some(&[0])];
-
 const STEPS_OF_FOLLOWER: [Step; 6] = [
     Query(1, 2, 0),
     Query(1, 0, 1),
@@ -25,24 +25,6 @@ const STEPS_OF_FOLLOWER: [Step; 6] = [
 ];
 
 const SCRIPT: [(u32, u32, Verdict); 1] = [(0, 1, Verdict::Deadlocked)];
-
-/// Takes all the memory that there is, in blocks of falling sizes.
-fn take_all(alloc: Global, blocks: &mut Vec<Vec<u8>>) {
-    let mut size = 1usize << 46;
-    for _ in 0..100_000 {
-        if size < 16 {
-            return;
-        }
-        match Vec::with_capacity(alloc, size) {
-            Ok(block) => {
-                if blocks.push(block).is_err() {
-                    return;
-                }
-            }
-            Err(_) => size /= 2,
-        }
-    }
-}
 
 /// What is done while memory is short.
 #[derive(Clone, Copy)]
@@ -119,12 +101,7 @@ fn sweep(alloc: Global, waits: Waits, call: Call) -> Result<Answers, Fail> {
     let graph = graph_of(alloc, waits, &[])?;
     let checked = run(alloc, &graph, 0, &[], &mut NoHints)?;
     let ample = answer(alloc, call, &graph, checked.log());
-    let mut blocks = Vec::with_capacity(alloc, 100_000)?;
-    let room: Vec<u8> = Vec::with_capacity(alloc, ROOM)?;
-    let _pin: Vec<u8> = Vec::with_capacity(alloc, 64)?;
-    take_all(alloc, &mut blocks);
-    drop(room);
-
+    let shortage = take_all_but(alloc, ROOM)?;
     let mut answers = Answers {
         right: false,
         wrong: ample != Some(true),
@@ -139,7 +116,7 @@ fn sweep(alloc: Global, waits: Waits, call: Call) -> Result<Answers, Fail> {
         }
         drop(taken);
     }
-    drop(blocks);
+    drop(shortage);
     if answer(alloc, call, &graph, checked.log()) != Some(true) {
         answers.wrong = true;
     }

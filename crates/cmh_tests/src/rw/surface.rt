@@ -4,7 +4,8 @@ ghost use Rattle.std.specs.Prelude.{◌<◌};
 ghost use Rattle.cmh_rw.specs.Seats.{IsSeatOf, IsRwSeatAway};
 
 use super::posting::post_two;
-use super::{expect, expect_eq, two_in_a_cycle};
+use super::{expect, expect_eq};
+use crate::graphs::{TWO_IN_A_CYCLE, graph_of};
 use cmh_graph::Verdict;
 use cmh_rw::laws::{law_row_code_injective, law_step_lawful};
 use cmh_rw::{
@@ -45,7 +46,7 @@ fn rows_and_verdicts_as_words(rt: HostRuntime) {
 #[test]
 fn calls_of_the_words(rt: HostRuntime) -> Result<(), Fail> {
     let alloc = rt.alloc();
-    let graph = two_in_a_cycle(alloc)?;
+    let graph = graph_of(alloc, &TWO_IN_A_CYCLE, &[])?;
     let all = graph.verdicts_plain(alloc)?;
     let (words, mut x) = RwWords::open(alloc, &graph)?;
     let Some(mut y) = words.split(&mut x) else {
@@ -102,7 +103,7 @@ fn read_together<R: Abort>(rt: &R, words: &RwWords, seat: RwSeat, others: u32) -
 
 #[test]
 fn sixty_four_seats(rt: HostRuntime) -> Result<(), Fail> {
-    let graph = two_in_a_cycle(rt.alloc())?;
+    let graph = graph_of(rt.alloc(), &TWO_IN_A_CYCLE, &[])?;
     let (words, x) = RwWords::open(rt.alloc(), &graph)?;
     let x = read_together(&rt, &words, x, 63);
     expect_eq(&rt, words.share(&x), 64);

@@ -2,7 +2,8 @@
 
 ghost use Rattle.cmh_rw.specs.Seats.{IsSeatOf, IsRwSeatAway};
 
-use super::{expect_eq, two_in_a_cycle};
+use super::expect_eq;
+use crate::graphs::{TWO_IN_A_CYCLE, graph_of};
 use cmh_rw::{Entry, RwSeat, RwWords};
 use std::test::Fail;
 use std::thread::{Threads, join};
@@ -67,7 +68,7 @@ fn both<R: Threads + Sync>(
 
 #[test]
 fn two_threads_take_turns(rt: HostRuntime) -> Result<(), Fail> {
-    let graph = two_in_a_cycle(rt.alloc())?;
+    let graph = graph_of(rt.alloc(), &TWO_IN_A_CYCLE, &[])?;
     let (words, mut x) = RwWords::open(rt.alloc(), &graph)?;
     let Some(y) = words.split(&mut x) else {
         panic!(rt; "a seat with the whole share is split")

@@ -1,13 +1,14 @@
 //! The lock on the words, by one thread with two seats.
 
-use super::{expect, two_in_a_cycle};
+use super::expect;
+use crate::graphs::{TWO_IN_A_CYCLE, graph_of};
 use cmh_rw::{Entry, RwWords};
 use std::test::Fail;
 
 /// A writer keeps a reader out, and a reader keeps a writer out.
 #[test]
 fn lock_words_by_two_seats(rt: HostRuntime) -> Result<(), Fail> {
-    let graph = two_in_a_cycle(rt.alloc())?;
+    let graph = graph_of(rt.alloc(), &TWO_IN_A_CYCLE, &[])?;
     let (words, mut x) = RwWords::open(rt.alloc(), &graph)?;
     let Some(mut y) = words.split(&mut x) else {
         panic!(rt; "a seat with the whole share is split")

@@ -1,10 +1,9 @@
 //! Analyses of worked graphs.
 
-use super::graphs::Wanted::{Leader, Path};
-use super::graphs::{
-    CYCLE_AND_FOLLOWER, TWO_IN_A_CYCLE, Waits, Wanted, delivery, graph_of, is_from_row, is_from_run,
-};
+use super::wanted::Wanted::{Leader, Path};
+use super::wanted::{Wanted, delivery, is_from_row, is_from_run};
 use super::{expect, expect_eq};
+use crate::graphs::{CYCLE_AND_FOLLOWER, TWO_IN_A_CYCLE, Waits, graph_of};
 use cmh_graph::Verdict;
 use cmh_process::Kind;
 use cmh_work::laws::{law_chunks, law_drawn_once, law_drew_each_once};

@@ -1,7 +1,8 @@
 //! Analyses of as many processes as there may be.
 
-use super::graphs::{delivery, is_from_row, is_from_run, part};
+use super::wanted::{delivery, is_from_row, is_from_run};
 use super::{expect, expect_eq};
+use crate::graphs::part;
 use cmh_graph::{GraphFault, Verdict, WaitGraph};
 use cmh_process::Kind;
 use cmh_work::{NoGate, Plan, Record, Shape, analyse};

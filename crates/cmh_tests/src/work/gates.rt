@@ -2,7 +2,8 @@
 //! make the runs themselves.
 
 use super::expect;
-use super::graphs::{CYCLE_AND_FOLLOWER, TWO_IN_A_CYCLE, Waits, graph_of, is_from_row};
+use super::wanted::is_from_row;
+use crate::graphs::{CYCLE_AND_FOLLOWER, TWO_IN_A_CYCLE, Waits, graph_of};
 use cmh_work::{Analysis, Gate, Plan, analyse};
 use std::sync::Wait;
 use std::sync::atomic::{AtomicU64, Ordering};

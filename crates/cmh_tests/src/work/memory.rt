@@ -1,7 +1,8 @@
 //! Analyses while memory is short.
 
 use super::expect;
-use super::graphs::{CYCLE_AND_FOLLOWER, graph_of};
+use crate::graphs::{CYCLE_AND_FOLLOWER, graph_of};
+use crate::shortage::take_all_but;
 use cmh_work::{Gate, NoGate, Plan, analyse};
 use std::alloc::Global;
 use std::sync::Wait;
@@ -11,24 +12,6 @@ use std::thread::{Threads, join};
 
 /// The most bytes that are left for an analysis.
 const ROOM: usize = 98_304;
-
-/// Takes all the memory that there is, in blocks of falling sizes.
-fn take_all(alloc: Global, blocks: &mut Vec<Vec<u8>>) {
-    let mut size = 1usize << 46;
-    for _ in 0..100_000 {
-        if size < 16 {
-            return;
-        }
-        match Vec::with_capacity(alloc, size) {
-            Ok(block) => {
-                if blocks.push(block).is_err() {
-                    return;
-                }
-            }
-            Err(_) => size /= 2,
-        }
-    }
-}
 
 /// Counts how often it is passed.
 #[derive(Drop)]
@@ -62,12 +45,7 @@ fn sweep<R: Threads + Wait + Sync>(rt: &R, alloc: Global, workers: u32) -> Resul
     // Threads take memory of their own the first time.
     let _ = join(rt, || 0u8, || 0u8);
     analyse(rt, alloc, &graph, &plan, &NoGate)?;
-    let mut blocks = Vec::with_capacity(alloc, 100_000)?;
-    let free: Vec<u8> = Vec::with_capacity(alloc, ROOM)?;
-    let _pin: Vec<u8> = Vec::with_capacity(alloc, 64)?;
-    take_all(alloc, &mut blocks);
-    drop(free);
-
+    let shortage = take_all_but(alloc, ROOM)?;
     let mut seen = Seen {
         succeeded: false,
         refused: false,
@@ -83,7 +61,7 @@ fn sweep<R: Threads + Wait + Sync>(rt: &R, alloc: Global, workers: u32) -> Resul
         seen.in_midst = seen.in_midst || !succeeded && (times == 1 || times == 2);
         drop(taken);
     }
-    drop(blocks);
+    drop(shortage);
     analyse(rt, alloc, &graph, &plan, &NoGate)?;
     Ok(seen)
 }

@@ -1,6 +1,6 @@
 //! The number of workers, and that each idle process passes the gate once.
 
-use super::graphs::graph_of;
+use crate::graphs::graph_of;
 use cmh_work::{Gate, Plan, analyse};
 use std::sync::atomic::{AtomicU64, Ordering};
 use std::test::Fail;
