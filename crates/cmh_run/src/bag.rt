@@ -135,7 +135,21 @@ impl Bag {
             return self.messages.pop_front();
         }
         let place = choice % self.len() as u64;
-        self.messages.remove(place as usize)
+        // In parts: if this call wrote a whole message, those that are taken first would be kept in memory, too.
+        let Message {
+            kind,
+            initiator,
+            number,
+            from,
+            to,
+        } = self.messages.remove(place as usize)?;
+        Some(Message {
+            kind,
+            initiator,
+            number,
+            from,
+            to,
+        })
     }
 }
 
