@@ -1,14 +1,8 @@
 -- The messages of a run go between processes of the graph.
-use Rattle.cmh_run.specs.declared.delivery.Ending.{Ending}
-use Rattle.std.specs.Prelude.{IsTrue}
-use Rattle.std.proofs.Common.{◌≡◌, ℕ, ◌<◌, true, false, cond, List, [], ◌∷◌, Some, None, All}
+use Rattle.cmh_run.proofs.Common.{Ending, IsTrue, ◌≡◌, ℕ, ◌<◌, true, false, cond, List, [], ◌∷◌, Some, None, Graph, process_count, is_awake, is_idle, IsWithinGraph, idle_within, by_test, Message, Delivery, proc_at, nothing_yet, start, Going, Rule, going_at_start, going_from, after_due_restart, going_after, DeliveriesLead, IsRun}
+use Rattle.std.proofs.Common.{All}
 use Rattle.std.proofs.lemmas.List.Elements.{All-nil, All-cons}
-use Rattle.cmh_graph.specs.Graph.{Graph, process_count, is_awake, is_idle, IsWithinGraph}
-use Rattle.cmh_graph.proofs.Verdicts.{idle_within, by_test}
-use Rattle.cmh_process.specs.declared.message.Message.{Message}
-use Rattle.cmh_run.specs.declared.delivery.Delivery.{Delivery}
-use Rattle.cmh_run.specs.Config.{proc_at, nothing_yet, start}
-use Rattle.cmh_run.specs.Legal.{Going, Rule, going_at_start, going_from, after_due_restart, going_after, DeliveriesLead, IsBetween, IsRun}
+use Rattle.cmh_run.specs.Legal.{IsBetween}
 use Rattle.cmh_run.proofs.LiveInvariant.{IsSoundMessage}
 use Rattle.cmh_run.proofs.Configurations.{IsSoundConfig, stepped, first_start, ready_stands, status_none}
 use Rattle.cmh_run.proofs.Tokens.{each_at}

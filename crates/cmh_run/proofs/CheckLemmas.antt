@@ -1,28 +1,13 @@
 -- What a checker answers, against the run that the deliveries make.
-use Rattle.std.proofs.Common.{◌≡◌, ℕ, ◌<◌, Bool, true, false, not, ◌&&◌, cond, List, [], ◌∷◌, ◌++◌, length, get_or, slice_get, Option, Some, None, is_some, refl, sym, ◌∙◌, ap, subst, ◌⊎◌, inr, ⊎_elim, IsTrue}
-use Rattle.std.specs.Prelude.{IfSome, IfNone, IfOk, IfErr, ok_or, ◌↔◌, take}
-use Rattle.std.proofs.lemmas.Bool.{true≢false, cases_Bool}
-use Rattle.cmh_process.specs.declared.message.Message.{Message}
-use Rattle.cmh_graph.specs.declared.verdict.Verdict.{Verdict}
-use Rattle.std.proofs.lemmas.Option.{none-some}
+use Rattle.cmh_run.proofs.Common.{◌≡◌, ℕ, ◌<◌, Bool, true, false, not, ◌&&◌, cond, List, [], ◌∷◌, ◌++◌, length, get_or, slice_get, Option, Some, None, refl, sym, ◌∙◌, ap, subst, ◌⊎◌, inr, ⊎_elim, IfSome, IfOk, IfErr, ◌↔◌, true≢false, cases_Bool, Message, Verdict, none-some, the_type, Graph, process_count, is_idle, is_awake, IsWellFormed, verdict, verdicts, IsDeadlocked, one_verdict, verdict_true, Delivery, Ending, Declared, AtRest, CutFree, Config, proc_at, asks_hint, after_message, Going, going_after, HintIsFit, any_place, EndsAs, CheckFault, NotIdle, NotUndelivered, FalseHint, AfterEnd, NotEnded, Memory, LeadTo, IsUndelivered, IsLegalRun, IsFlaw, IsFirstCheckFault, is_waiting, goes_like, UndeliveredState, CheckState, with_bag, Agrees, IsSettled, IsChecked}
+use Rattle.std.proofs.Common.{is_some, IsTrue}
+use Rattle.std.specs.Prelude.{IfNone, ok_or, take}
 use denote.Enum.Bare.{sameb}
-use Rattle.cmh_graph.specs.contracts.verdict.Verdict.{the_type}
-use Rattle.cmh_graph.specs.Graph.{Graph, process_count, is_idle, is_awake}
-use Rattle.cmh_graph.specs.Build.{IsWellFormed}
-use Rattle.cmh_graph.specs.Verdict.{verdict, verdicts, IsDeadlocked}
-use Rattle.cmh_graph.proofs.Verdicts.{one_verdict, verdict_listed, verdict_true}
+use Rattle.cmh_graph.proofs.Verdicts.{verdict_listed}
 use Rattle.cmh_run.proofs.Scripts.{verdict_count}
 use Rattle.cmh_run.proofs.Verdicts.{equal_verdicts, verdict_equals_itself}
-use Rattle.cmh_run.specs.declared.delivery.Delivery.{Delivery}
-use Rattle.cmh_run.specs.declared.delivery.Ending.{Ending}
-use Rattle.cmh_run.specs.declared.delivery.Ending.TheVariants.{Declared, AtRest, CutFree}
-use Rattle.cmh_run.specs.Config.{Config, proc_at, asks_hint, after_message}
-use Rattle.cmh_run.specs.Legal.{Going, going_after, HintIsFit, any_place, EndsAs}
-use Rattle.cmh_run.specs.declared.fault.CheckFault.{CheckFault}
-use Rattle.cmh_run.specs.declared.fault.CheckFault.TheVariants.{NotIdle, NotUndelivered, FalseHint, AfterEnd, NotEnded, Memory}
-use Rattle.cmh_run.specs.Check.{LeadTo, HasEnded, IsUndelivered, IsLegalRun, IsFlaw, IsFirstCheckFault}
+use Rattle.cmh_run.specs.Check.{HasEnded}
 use Rattle.cmh_run.proofs.Soundness.{runs_are_sound}
-use Rattle.cmh_run.specs.CheckState.{is_waiting, goes_like, UndeliveredState, CheckState, with_bag, Agrees, IsSettled, IsChecked}
 use Rattle.cmh_run.proofs.Tokens.{each_at}
 use Rattle.cmh_run.proofs.LiveInvariant.{IsSoundMessage}
 use Rattle.cmh_run.proofs.Places.{IsIn, in_nothing, none_in}

@@ -1,26 +1,6 @@
 -- What a checker keeps agrees with the run, from delivery to delivery.
-use Rattle.std.proofs.Common.{◌≡◌, ℕ, ◌+◌, Bool, true, false, not, ◌&&◌, ◌||◌, cond, eqb, List, [], ◌∷◌, ◌++◌, map, remove, replicate, length, slice_get, Option, Some, None, refl, sym, ◌∙◌, ap, subst, inl, inr, ◌⊎◌, ⊎_elim, append-nil}
-use Rattle.std.proofs.lemmas.Bool.{eqb-true, eq-eqb, cases_eq, true≢false, and_parts, and_from, or_right}
-use Rattle.std.proofs.lemmas.Option.{none-some, same_Some}
-use Rattle.std.proofs.lemmas.List.{length-replicate}
-use Rattle.cmh_process.specs.declared.message.Kind.{Kind}
-use Rattle.cmh_process.specs.declared.message.Kind.TheVariants.{Query, Reply}
-use Rattle.cmh_process.specs.declared.message.Message.{Message}
-use Rattle.cmh_process.specs.declared.process.Action.{Action}
-use Rattle.cmh_process.specs.declared.process.Action.TheVariants.{Nothing, Engage, ReplyTo, Declare}
-use Rattle.cmh_process.specs.Process.{new_proc, start_action, engages, query_action, reply_action}
-use Rattle.cmh_graph.specs.declared.verdict.Verdict.{Verdict}
-use Rattle.cmh_graph.specs.declared.verdict.Verdict.TheVariants.{Deadlocked, Free}
-use Rattle.cmh_graph.specs.Graph.{Graph, process_count, dependents_of, is_idle, is_awake}
-use Rattle.cmh_graph.specs.Build.{IsWellFormed}
-use Rattle.cmh_graph.proofs.Verdicts.{idle_within, by_test}
-use Rattle.cmh_run.specs.declared.delivery.Delivery.{Delivery}
-use Rattle.cmh_run.specs.declared.delivery.Ending.{Ending}
-use Rattle.cmh_run.specs.declared.delivery.Ending.TheVariants.{AtRest}
-use Rattle.cmh_run.specs.Config.{Config, proc_at, messages_of, nothing_yet, start, after_hint, after_answer, after_message, without_message, after_delivery}
-use Rattle.cmh_run.specs.Legal.{Going, going_from, going_at_start, after_due_restart, going_after, MayCome, any_place, DeliveriesLead}
-use Rattle.cmh_run.specs.Check.{LeadTo, IsUndelivered}
-use Rattle.cmh_run.specs.CheckState.{is_waiting, is_same_kind, goes_like, CheckState, with_bag, Agrees, IsSettled}
+use Rattle.cmh_run.proofs.Common.{◌≡◌, ℕ, ◌+◌, Bool, true, false, not, ◌&&◌, ◌||◌, cond, eqb, List, [], ◌∷◌, ◌++◌, map, remove, replicate, length, slice_get, Option, Some, None, refl, sym, ◌∙◌, ap, subst, inl, inr, ◌⊎◌, ⊎_elim, append-nil, eqb-true, eq-eqb, cases_eq, true≢false, and_parts, and_from, none-some, same_Some, length-replicate, Kind, Query, Reply, Message, Action, Nothing, Engage, ReplyTo, Declare, new_proc, start_action, engages, query_action, reply_action, Verdict, Deadlocked, Free, Graph, process_count, dependents_of, is_idle, is_awake, IsWellFormed, idle_within, by_test, Delivery, Ending, AtRest, Config, proc_at, messages_of, nothing_yet, start, after_hint, after_answer, after_message, without_message, after_delivery, Going, going_from, going_at_start, after_due_restart, going_after, MayCome, any_place, DeliveriesLead, LeadTo, IsUndelivered, is_waiting, is_same_kind, goes_like, CheckState, with_bag, Agrees, IsSettled}
+use Rattle.std.proofs.lemmas.Bool.{or_right}
 use Rattle.cmh_run.proofs.Tokens.{Each, each_append, each_remove, each_at}
 use Rattle.cmh_run.proofs.LiveInvariant.{IsSoundRun}
 use Rattle.cmh_run.proofs.Soundness.{number_kept}

@@ -1,26 +1,7 @@
 -- From the steps over functions to configurations and whole runs.
-use Rattle.std.proofs.Common.{◌≡◌, ℕ, zero, suc, ◌+◌, ◌-◌, ◌<◌, ◌≤◌, Bool, true, false, ◌&&◌, cond, eqb, ltb, List, [], ◌∷◌, ◌++◌, remove, replicate, length, slice_get, slice_set, Contains, Option, Some, None, is_none, refl, sym, ◌∙◌, ap, subst, arith, inl, inr, ◌⊎◌, ⊎_elim, append-nil, length-set}
-use Rattle.std.proofs.lemmas.Bool.{eqb-true, eqb-false, eq-eqb, ne_eqb, cases_eq, true≢false, and_parts, and_from, lt-ltb, ltb-true, ltb-false}
-use Rattle.std.proofs.lemmas.List.{length-replicate}
-use Rattle.std.proofs.lemmas.Option.{none-some}
+use Rattle.cmh_run.proofs.Common.{◌≡◌, ℕ, zero, suc, ◌+◌, ◌-◌, ◌<◌, ◌≤◌, Bool, true, false, ◌&&◌, cond, eqb, ltb, List, [], ◌∷◌, ◌++◌, remove, replicate, length, slice_get, slice_set, Contains, Option, Some, None, is_none, refl, sym, ◌∙◌, ap, subst, arith, inl, inr, ◌⊎◌, ⊎_elim, append-nil, eqb-true, eqb-false, eq-eqb, ne_eqb, cases_eq, true≢false, and_parts, and_from, lt-ltb, ltb-true, ltb-false, length-replicate, none-some, Kind, Query, Reply, Message, Proc, Nothing, ReplyTo, Verdict, Deadlocked, Free, Delivery, Ending, Declared, AtRest, CutFree, new_proc, proc_started, start_action, proc_engaged, engage_action, last_action, engages, proc_queried, query_action, counts_reply, proc_replied, reply_action, Graph, process_count, dependents_of, is_awake, Depends, IsWithinGraph, Reaches, IsDeadlocked, asleep_is_idle, by_test, Config, reply, proc_at, messages_of, ending_after, after_step, after_engagement, after_hint, after_message, without_message, after_delivery, start, nothing_yet, HintIsFit, Going, after_first_restart, after_due_restart, going_after, DeliveriesLead}
+use Rattle.std.proofs.Common.{length-set}
 use std.Path.{fun_ext}
-use Rattle.cmh_process.specs.declared.message.Kind.{Kind}
-use Rattle.cmh_process.specs.declared.message.Kind.TheVariants.{Query, Reply}
-use Rattle.cmh_process.specs.declared.message.Message.{Message}
-use Rattle.cmh_process.specs.declared.process.Proc.{Proc}
-use Rattle.cmh_process.specs.declared.process.Action.TheVariants.{Nothing, ReplyTo}
-use Rattle.cmh_graph.specs.declared.verdict.Verdict.{Verdict}
-use Rattle.cmh_graph.specs.declared.verdict.Verdict.TheVariants.{Deadlocked, Free}
-use Rattle.cmh_run.specs.declared.delivery.Delivery.{Delivery}
-use Rattle.cmh_run.specs.declared.delivery.Ending.{Ending}
-use Rattle.cmh_run.specs.declared.delivery.Ending.TheVariants.{Declared, AtRest, CutFree}
-use Rattle.cmh_process.specs.Process.{new_proc, proc_started, start_action, proc_engaged, engage_action, last_action, engages, proc_queried, query_action, counts_reply, proc_replied, reply_action}
-use Rattle.cmh_graph.specs.Graph.{Graph, process_count, dependents_of, is_awake, Depends, IsWithinGraph}
-use Rattle.cmh_graph.specs.Path.{Reaches}
-use Rattle.cmh_graph.specs.Verdict.{IsDeadlocked}
-use Rattle.cmh_graph.proofs.Verdicts.{asleep_is_idle, by_test}
-use Rattle.cmh_run.specs.Config.{Config, reply, proc_at, messages_of, ending_after, after_step, after_engagement, after_hint, after_message, without_message, after_delivery, start, nothing_yet}
-use Rattle.cmh_run.specs.Legal.{HintIsFit, Going, after_first_restart, after_due_restart, going_after, DeliveriesLead}
 use Rattle.cmh_run.proofs.Tally.{tally, tally-le-length, tally_from_contains, contains_from_tally}
 use Rattle.cmh_run.proofs.InvariantSteps.{upd, place, AllowsStart, allows_start}
 use Rattle.cmh_run.proofs.Tokens.{Each, each_at, tokens, set_is, is_token, is_token_parts}

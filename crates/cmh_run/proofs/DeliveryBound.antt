@@ -1,36 +1,16 @@
 -- The most deliveries that a run has.
-use Rattle.cmh_run.specs.declared.delivery.Ending.{Ending}
-use Rattle.std.specs.Prelude.{IsTrue}
-use Rattle.std.proofs.Common.{◌≡◌, ℕ, zero, suc, ◌+◌, ◌-◌, ◌<◌, ◌≤◌, Bool, true, false, ◌&&◌, cond, eqb, ltb, List, [], ◌∷◌, ◌++◌, map, remove, replicate, length, get_or, slice_get, slice_set, Option, Some, None, is_none, sum_by, refl, ap, subst, arith, ⊎_elim}
-use Rattle.std.proofs.lemmas.Bool.{eqb-true, eqb-false, eq-eqb, ne_eqb, cases_eq, and_parts, lt-ltb, ltb-true}
-use Rattle.std.proofs.lemmas.List.{length-replicate}
+use Rattle.cmh_run.proofs.Common.{Ending, IsTrue, ◌≡◌, ℕ, zero, suc, ◌+◌, ◌-◌, ◌<◌, ◌≤◌, Bool, true, false, ◌&&◌, cond, eqb, ltb, List, [], ◌∷◌, ◌++◌, map, remove, replicate, length, get_or, slice_get, slice_set, Option, Some, None, is_none, sum_by, refl, ap, subst, arith, ⊎_elim, eqb-true, eqb-false, eq-eqb, ne_eqb, cases_eq, and_parts, lt-ltb, ltb-true, length-replicate, Kind, Query, Reply, Message, Proc, Nothing, ReplyTo, Verdict, Deadlocked, Free, Delivery, new_proc, proc_started, start_action, proc_engaged, engage_action, last_action, engages, proc_queried, query_action, repeat_action, counts_reply, proc_replied, reply_action, Graph, process_count, dependents_of, is_idle, is_awake, IsWithinGraph, dependency_count, Process, nobody, IsWellFormed, asleep_is_idle, idle_within, by_test, Config, query, proc_at, messages_of, after_step, after_engagement, after_hint, after_message, without_message, after_delivery, start, nothing_yet, going_at_start, Going, after_first_restart, after_due_restart, going_after, DeliveriesLead, Rule, IsRun, get_or-le-sum_by, sum_by-remove, sum_by-append, sum_by-cons, mul-le-mul_left, ◌*◌, none-some, slice_get_within, get_or_from_slice_get}
 use Rattle.std.specs.List.{range_with_len}
 use Rattle.std.proofs.lemmas.List.{map-id}
 use Rattle.std.proofs.lemmas.List.FromFn.{sum_by-map-range_with_len_more}
-use Rattle.cmh_process.specs.declared.message.Kind.{Kind}
-use Rattle.cmh_process.specs.declared.message.Kind.TheVariants.{Query, Reply}
-use Rattle.cmh_process.specs.declared.message.Message.{Message}
-use Rattle.cmh_process.specs.declared.process.Proc.{Proc}
-use Rattle.cmh_process.specs.declared.process.Action.TheVariants.{Nothing, ReplyTo}
-use Rattle.cmh_graph.specs.declared.verdict.Verdict.{Verdict}
-use Rattle.cmh_graph.specs.declared.verdict.Verdict.TheVariants.{Deadlocked, Free}
-use Rattle.cmh_run.specs.declared.delivery.Delivery.{Delivery}
-use Rattle.cmh_process.specs.Process.{new_proc, proc_started, start_action, proc_engaged, engage_action, last_action, engages, proc_queried, query_action, repeat_action, counts_reply, proc_replied, reply_action}
-use Rattle.cmh_graph.specs.Graph.{Graph, process_count, dependents_of, dependencies_of, is_idle, is_awake, IsWithinGraph, dependency_count}
-use Rattle.cmh_graph.specs.Graph.{Process, nobody}
-use Rattle.cmh_graph.specs.Build.{IsWellFormed}
+use Rattle.cmh_graph.specs.Graph.{dependencies_of}
 use Rattle.cmh_graph.specs.declared.TheConstants.{MAX_PROCESSES, MAX_DEPENDENCIES}
-use Rattle.cmh_graph.proofs.Verdicts.{asleep_is_idle, idle_within, by_test}
-use Rattle.cmh_run.specs.Config.{Config, query, proc_at, messages_of, after_step, after_engagement, after_hint, after_message, without_message, after_delivery, start, nothing_yet}
-use Rattle.cmh_run.specs.Legal.{going_at_start, Going, after_first_restart, after_due_restart, going_after, DeliveriesLead, Rule, IsRun}
 use Rattle.cmh_run.proofs.InvariantSteps.{upd}
 use Rattle.cmh_run.proofs.Tokens.{each_at, set_is}
 use Rattle.cmh_run.proofs.LiveInvariant.{IsSoundRun, IsSoundMessage, some_engage}
 use Rattle.cmh_run.proofs.Soundness.{number_kept}
 use Rattle.cmh_run.proofs.Configurations.{is_none_true, IsSoundConfig, first_start, status_none, fresh_at, stepped, ready_stands}
-use Rattle.std.proofs.lemmas.List.Sums.{get_or-le-sum_by, sum_by-remove, sum_by-append, sum_by-cons}
-use Rattle.std.proofs.Common.{mul-le-mul_left, mul-suc, ◌*◌, add-one}
-use Rattle.std.proofs.lemmas.Option.{none-some, slice_get_within, get_or_from_slice_get}
+use Rattle.std.proofs.Common.{mul-suc, add-one}
 
 abbrev kind_weight : Kind → ℕ
 kind_weight Query = 2

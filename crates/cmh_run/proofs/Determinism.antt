@@ -1,17 +1,6 @@
 -- Without hints the choices leave one run.
-use Rattle.std.proofs.Common.{◌≡◌, ℕ, ◌%◌, List, [], ◌∷◌, length, slice_get, slice_index, Option, refl, sym, ◌∙◌, ap, ap₂, subst}
-use Rattle.std.proofs.lemmas.Bool.{eqb-true}
-use Rattle.std.proofs.lemmas.Option.{none-some, same_Some}
-use Rattle.cmh_process.specs.declared.message.Message.{Message}
-use Rattle.cmh_graph.specs.declared.verdict.Verdict.{Verdict}
-use Rattle.cmh_run.specs.declared.delivery.Delivery.{Delivery}
-use Rattle.cmh_run.specs.declared.delivery.Ending.{Ending}
-use Rattle.cmh_run.specs.declared.delivery.Ending.TheVariants.{Declared, AtRest, CutFree}
-use Rattle.cmh_graph.specs.Graph.{Graph}
-use Rattle.cmh_run.specs.Config.{Config}
-use Rattle.cmh_run.specs.Run.{Run, IsRunOf}
-use Rattle.cmh_run.specs.Legal.{Going, going_at_start, after_due_restart, going_after, MayCome, DeliveriesLead, EndsAs, IsRun}
-use Rattle.cmh_run.specs.Choices.{chosen_place, HasNoHints}
+use Rattle.cmh_run.proofs.Common.{◌≡◌, ℕ, ◌%◌, List, [], ◌∷◌, length, slice_get, Option, refl, sym, ◌∙◌, ap, subst, eqb-true, none-some, same_Some, Message, Verdict, Delivery, Ending, Declared, AtRest, CutFree, Graph, Config, Run, IsRunOf, Going, going_at_start, after_due_restart, going_after, MayCome, DeliveriesLead, EndsAs, IsRun, chosen_place, HasNoHints}
+use Rattle.std.proofs.Common.{slice_index, ap₂}
 
 -- once a run has ended no delivery may come
 pub ended_delivers_nothing : (g : Graph) (c : Config) (x : ℕ) (d : Delivery) (ending : Ending) → EndsAs c ending

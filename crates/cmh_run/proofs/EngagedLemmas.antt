@@ -1,17 +1,6 @@
 -- The processes that are engaged when a run has ended, and that an awake initiator starts nothing.
-use Rattle.std.specs.Prelude.{IsTrue}
-use Rattle.std.proofs.Common.{◌≡◌, ℕ, ◌<◌, Bool, true, false, List, [], ◌∷◌, Contains, Option, Some, refl, sym, ◌∙◌, ap, subst, arith}
-use Rattle.std.proofs.lemmas.Option.{none-some}
-use Rattle.cmh_graph.specs.Graph.{Graph, is_awake, is_idle, IsWithinGraph}
-use Rattle.cmh_graph.specs.Verdict.{IsDeadlocked}
-use Rattle.cmh_graph.proofs.Verdicts.{idle_within}
-use Rattle.cmh_process.specs.declared.process.Proc.{Proc}
-use Rattle.cmh_run.specs.declared.delivery.Delivery.{Delivery}
-use Rattle.cmh_run.specs.declared.delivery.Ending.{Ending}
-use Rattle.cmh_run.specs.declared.delivery.Ending.TheVariants.{Declared, AtRest, CutFree}
-use Rattle.cmh_run.specs.Config.{Config, proc_at, nothing_yet, start}
-use Rattle.cmh_run.specs.Legal.{Going, going_from, Rule, DeliveriesLead, EndsAs, IsRun}
-use Rattle.cmh_run.specs.Engaged.{AreEngaged, IsEmptyRun}
+use Rattle.cmh_run.proofs.Common.{IsTrue, ◌≡◌, ℕ, ◌<◌, Bool, true, false, List, [], ◌∷◌, Contains, Option, Some, refl, sym, ◌∙◌, ap, subst, arith, none-some, Graph, is_awake, is_idle, IsWithinGraph, IsDeadlocked, idle_within, Proc, Delivery, Ending, Declared, AtRest, CutFree, Config, proc_at, nothing_yet, start, Going, going_from, Rule, DeliveriesLead, EndsAs, IsRun, AreEngaged}
+use Rattle.cmh_run.specs.Engaged.{IsEmptyRun}
 use Rattle.cmh_run.proofs.Tally.{tally_from_contains, distinct}
 use Rattle.cmh_run.proofs.Configurations.{Status, IsSoundConfig, Party, CutAt, party_of, first_start, leads_stands, status_none}
 use Rattle.cmh_run.proofs.Soundness.{runs_are_sound}

@@ -1,13 +1,5 @@
 -- Definitions, computed on worked runs of two processes that wait for each other.
-use Rattle.std.proofs.Common.{◌≡◌, List, [], ◌∷◌, None, refl}
-use Rattle.cmh_graph.specs.declared.part.State.TheVariants.{Idle}
-use Rattle.cmh_graph.specs.Graph.{Graph}
-use Rattle.cmh_process.specs.declared.message.Message.{Message}
-use Rattle.cmh_run.specs.declared.delivery.Delivery.{Delivery}
-use Rattle.cmh_run.specs.declared.delivery.Ending.TheVariants.{Declared}
-use Rattle.cmh_run.specs.Config.{query, reply}
-use Rattle.cmh_run.specs.Last.{computation_log}
-use Rattle.cmh_run.specs.Legal.{Going, any_place, IsRun}
+use Rattle.cmh_run.proofs.Common.{◌≡◌, List, [], ◌∷◌, None, refl, Idle, Graph, Message, Delivery, Declared, query, reply, computation_log, Going, any_place, IsRun}
 
 -- a delivery without a hint
 abbrev pub plain : Message → Delivery

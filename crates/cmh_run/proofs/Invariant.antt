@@ -1,11 +1,6 @@
 -- What stays true of a run, over plain functions, and what it says at the end.
-use Rattle.std.proofs.Common.{◌≡◌, ℕ, zero, suc, ◌+◌, ◌<◌, ◌≤◌, Bool, true, false, ◌&&◌, eqb, ltb, List, [], ◌∷◌, length, Contains, Option, Some, None, refl, sym, ap, subst, arith, ◌⊎◌, ⊎_elim, eq-zero-or-pos}
-use Rattle.std.proofs.lemmas.Bool.{eqb-true, eq-eqb, cases_eq, true≢false, and_parts, and_from, lt-ltb, ltb-true}
-use Rattle.cmh_process.specs.declared.process.Proc.{Proc}
-use Rattle.cmh_graph.specs.Graph.{Graph, dependents_of, is_awake, Depends}
-use Rattle.cmh_graph.specs.Path.{Leads, Reaches}
-use Rattle.cmh_graph.specs.Verdict.{IsDeadlocked}
-use Rattle.cmh_graph.proofs.Verdicts.{asleep_is_idle, reaches_more}
+use Rattle.cmh_run.proofs.Common.{◌≡◌, ℕ, zero, suc, ◌+◌, ◌<◌, ◌≤◌, Bool, true, false, ◌&&◌, eqb, ltb, List, [], ◌∷◌, length, Contains, Option, Some, None, refl, sym, ap, subst, arith, ◌⊎◌, ⊎_elim, eqb-true, eq-eqb, cases_eq, true≢false, and_parts, and_from, lt-ltb, ltb-true, Proc, Graph, dependents_of, is_awake, Depends, Leads, Reaches, IsDeadlocked, asleep_is_idle, reaches_more}
+use Rattle.std.proofs.Common.{eq-zero-or-pos}
 use Rattle.cmh_run.proofs.Paths.{reaches_leading, leads_reached}
 use Rattle.cmh_run.proofs.Tally.{one_if, tally, tally-le-length, some_tally}
 

@@ -1,10 +1,5 @@
 -- Each step keeps what is true of a run, over plain functions.
-use Rattle.std.proofs.Common.{◌≡◌, ℕ, suc, ◌+◌, ◌<◌, ◌≤◌, Bool, true, false, ◌&&◌, cond, eqb, ltb, List, [], length, Contains, Some, None, refl, sym, ◌∙◌, subst, arith, inl, inr, ◌⊎◌, ⊎_elim}
-use Rattle.std.proofs.lemmas.Bool.{eqb-true, eqb-false, eq-eqb, ne_eqb, cases_eq}
-use Rattle.cmh_process.specs.declared.process.Proc.{Proc}
-use Rattle.cmh_graph.specs.Graph.{Graph, dependents_of, is_awake, Depends}
-use Rattle.cmh_graph.specs.Path.{Reaches}
-use Rattle.cmh_graph.specs.Verdict.{IsDeadlocked}
+use Rattle.cmh_run.proofs.Common.{◌≡◌, ℕ, suc, ◌+◌, ◌<◌, ◌≤◌, Bool, true, false, ◌&&◌, cond, eqb, ltb, List, [], length, Contains, Some, None, refl, sym, ◌∙◌, subst, arith, inl, inr, ◌⊎◌, ⊎_elim, eqb-true, eqb-false, eq-eqb, ne_eqb, cases_eq, Proc, Graph, dependents_of, is_awake, Depends, Reaches, IsDeadlocked}
 use Rattle.cmh_run.proofs.Paths.{reaches_self}
 use Rattle.cmh_run.proofs.Tally.{one_if, tally, without_one, tally-le-length, length-without_one, tally-without_one}
 use Rattle.cmh_run.proofs.Invariant.{Sound, weight, owes}

@@ -1,19 +1,7 @@
 -- The last computation of a run, taken alone, begins a run.
-use Rattle.std.specs.Prelude.{IsTrue, ◌≢◌}
-use Rattle.std.proofs.Common.{◌≡◌, ℕ, zero, suc, ◌+◌, ◌<◌, ◌≤◌, Bool, true, false, ◌&&◌, cond, eqb, ltb, List, [], ◌∷◌, ◌++◌, length, slice_get, Option, Some, None, is_none, refl, sym, ◌∙◌, ap, subst, arith, ◌⊎◌, inl, inr}
-use Rattle.std.proofs.lemmas.Option.{none-some}
-use Rattle.std.proofs.lemmas.Bool.{eqb-true, eq-eqb, ne_eqb, cases_eq, and_parts}
-use Rattle.std.proofs.lemmas.List.{length-replicate}
-use Rattle.cmh_process.specs.declared.message.Message.{Message}
-use Rattle.cmh_process.specs.Process.{new_proc, start_action, counts_reply}
-use Rattle.cmh_graph.specs.Graph.{Graph, process_count, dependents_of, is_awake, IsWithinGraph, is_idle}
-use Rattle.cmh_graph.proofs.Verdicts.{idle_within, by_test}
-use Rattle.cmh_run.specs.declared.delivery.Delivery.{Delivery}
-use Rattle.cmh_run.specs.declared.delivery.Ending.{Ending}
-use Rattle.cmh_run.specs.declared.delivery.Ending.TheVariants.{Declared, AtRest, CutFree}
-use Rattle.cmh_run.specs.Config.{Config, proc_at, nothing_yet, start, after_delivery}
-use Rattle.cmh_run.specs.Legal.{Going, going_from, after_restart, after_first_restart, after_due_restart, going_after, Rule, MayCome, any_place, DeliveriesLead, EndsAs, IsRun}
-use Rattle.cmh_run.specs.Last.{renumber, computation_log, LastIsRun}
+use Rattle.cmh_run.proofs.Common.{IsTrue, ◌≡◌, ℕ, zero, suc, ◌+◌, ◌<◌, ◌≤◌, Bool, true, false, ◌&&◌, cond, eqb, ltb, List, [], ◌∷◌, ◌++◌, length, slice_get, Option, Some, None, is_none, refl, sym, ◌∙◌, ap, subst, arith, ◌⊎◌, inl, inr, none-some, eqb-true, eq-eqb, ne_eqb, cases_eq, and_parts, length-replicate, Message, new_proc, start_action, counts_reply, Graph, process_count, dependents_of, is_awake, IsWithinGraph, is_idle, idle_within, by_test, Delivery, Ending, Declared, AtRest, CutFree, Config, proc_at, nothing_yet, start, after_delivery, Going, going_from, after_restart, after_first_restart, after_due_restart, going_after, Rule, MayCome, any_place, DeliveriesLead, EndsAs, IsRun, renumber, computation_log}
+use Rattle.std.specs.Prelude.{◌≢◌}
+use Rattle.cmh_run.specs.Last.{LastIsRun}
 use Rattle.cmh_run.proofs.Tokens.{each_at, each_more}
 use Rattle.cmh_run.proofs.LiveInvariant.{IsSoundRun, IsSoundMessage}
 use Rattle.cmh_run.proofs.Soundness.{number_kept}

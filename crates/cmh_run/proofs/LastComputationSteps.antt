@@ -1,24 +1,7 @@
 -- The steps of a run, seen from its last computation alone.
-use Rattle.std.proofs.Common.{◌≡◌, ℕ, ◌+◌, ◌<◌, ◌≤◌, Bool, true, false, ◌&&◌, cond, eqb, List, [], ◌∷◌, ◌++◌, map, remove, length, slice_get, slice_set, Option, Some, None, refl, sym, ◌∙◌, ap, subst, arith, append-nil}
-use Rattle.std.proofs.lemmas.Bool.{eq-eqb, ne_eqb, true≢false}
+use Rattle.cmh_run.proofs.Common.{◌≡◌, ℕ, ◌+◌, ◌<◌, ◌≤◌, Bool, true, false, ◌&&◌, cond, eqb, List, [], ◌∷◌, ◌++◌, map, remove, length, slice_get, slice_set, Option, Some, None, refl, sym, ◌∙◌, ap, subst, arith, append-nil, eq-eqb, ne_eqb, true≢false, Kind, Query, Reply, Message, Proc, Action, Nothing, Engage, ReplyTo, Declare, new_proc, proc_started, start_action, engages, proc_queried, query_action, repeat_action, engage_action, counts_reply, proc_replied, reply_action, last_action, Verdict, Deadlocked, Free, Graph, process_count, dependents_of, is_awake, by_test, Ending, Declared, AtRest, CutFree, Config, proc_at, messages_of, ending_after, nothing_yet, start, after_step, after_engagement, after_hint, after_answer, after_message, without_message, after_delivery, HintIsFit, renumber}
 use Rattle.std.proofs.lemmas.List.{map-set}
 use Rattle.std.proofs.Math.Seq.{map-set_same}
-use Rattle.cmh_process.specs.declared.message.Kind.{Kind}
-use Rattle.cmh_process.specs.declared.message.Kind.TheVariants.{Query, Reply}
-use Rattle.cmh_process.specs.declared.message.Message.{Message}
-use Rattle.cmh_process.specs.declared.process.Proc.{Proc}
-use Rattle.cmh_process.specs.declared.process.Action.{Action}
-use Rattle.cmh_process.specs.declared.process.Action.TheVariants.{Nothing, Engage, ReplyTo, Declare}
-use Rattle.cmh_process.specs.Process.{new_proc, proc_started, start_action, engages, proc_queried, query_action, repeat_action, engage_action, counts_reply, proc_replied, reply_action, last_action}
-use Rattle.cmh_graph.specs.declared.verdict.Verdict.{Verdict}
-use Rattle.cmh_graph.specs.declared.verdict.Verdict.TheVariants.{Deadlocked, Free}
-use Rattle.cmh_graph.specs.Graph.{Graph, process_count, dependents_of, is_awake}
-use Rattle.cmh_graph.proofs.Verdicts.{by_test}
-use Rattle.cmh_run.specs.declared.delivery.Ending.{Ending}
-use Rattle.cmh_run.specs.declared.delivery.Ending.TheVariants.{Declared, AtRest, CutFree}
-use Rattle.cmh_run.specs.Config.{Config, proc_at, messages_of, ending_after, nothing_yet, start, after_step, after_engagement, after_hint, after_answer, after_message, without_message, after_delivery}
-use Rattle.cmh_run.specs.Legal.{HintIsFit}
-use Rattle.cmh_run.specs.Last.{renumber}
 use Rattle.cmh_run.proofs.Tokens.{Each}
 use Rattle.cmh_run.proofs.Configurations.{fresh_at}
 use Rattle.cmh_run.proofs.OneComputation.{recast, kept, place_among, kept_append, kept_taken, kept_other, kept_sent, kept_other_sent, same_engages, same_queried, same_query_action, same_replied, same_reply_action, queried_below, replied_below, recast_at, all_fresh}

@@ -2,6 +2,7 @@ pub mod BetweenLemmas
 pub mod Blank
 pub mod CheckLemmas
 pub mod CheckStateLemmas
+pub mod Common
 pub mod Configurations
 pub mod DeliveryBound
 pub mod Determinism

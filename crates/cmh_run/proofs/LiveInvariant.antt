@@ -1,20 +1,8 @@
 -- What stays true of a configuration, by its processes as a function, its bag and the engaged processes.
-use Rattle.std.proofs.Common.{◌≡◌, ℕ, suc, ◌+◌, ◌-◌, ◌<◌, ◌≤◌, Bool, true, false, ◌&&◌, cond, eqb, ltb, List, [], ◌∷◌, ◌++◌, remove, length, slice_get, Contains, Option, Some, None, refl, sym, ◌∙◌, ap, subst, arith, ◌⊎◌, ⊎_elim, if◌then◌else◌, ◌==◌}
-use Rattle.std.proofs.lemmas.Bool.{eqb-true, eqb-false, eq-eqb, ne_eqb, cases_eq, cases_Bool, true≢false, lt-ltb}
-use Rattle.std.proofs.lemmas.Option.{none-some}
-use Rattle.cmh_process.specs.declared.message.Kind.{Kind}
-use Rattle.cmh_process.specs.declared.message.Kind.TheVariants.{Query, Reply}
-use Rattle.cmh_process.specs.declared.message.Message.{Message}
-use Rattle.cmh_process.specs.declared.process.Proc.{Proc}
-use Rattle.cmh_process.specs.declared.process.Action.TheVariants.{Nothing, Engage, Declare}
-use Rattle.cmh_process.specs.Process.{proc_engaged, engage_action, last_action}
-use Rattle.cmh_graph.specs.Graph.{Graph, process_count, dependents_of, is_awake, Depends, IsWithinGraph}
-use Rattle.cmh_graph.specs.Path.{Reaches}
-use Rattle.cmh_graph.specs.Verdict.{IsDeadlocked}
+use Rattle.cmh_run.proofs.Common.{◌≡◌, ℕ, suc, ◌+◌, ◌-◌, ◌<◌, ◌≤◌, Bool, true, false, ◌&&◌, cond, eqb, ltb, List, [], ◌∷◌, ◌++◌, remove, length, slice_get, Contains, Option, Some, None, refl, sym, ◌∙◌, ap, subst, arith, ◌⊎◌, ⊎_elim, eqb-true, eqb-false, eq-eqb, ne_eqb, cases_eq, cases_Bool, true≢false, lt-ltb, none-some, Kind, Query, Reply, Message, Proc, Nothing, Engage, Declare, proc_engaged, engage_action, last_action, Graph, process_count, dependents_of, is_awake, Depends, IsWithinGraph, Reaches, IsDeadlocked, asleep_is_idle, reaches_more, query, reply, messages_of}
+use Rattle.std.proofs.Common.{if◌then◌else◌, ◌==◌}
 use Rattle.cmh_graph.proofs.PathLemmas.{depends_within}
-use Rattle.cmh_graph.proofs.Verdicts.{asleep_is_idle, reaches_more}
 use Rattle.cmh_run.proofs.Paths.{reaches_self}
-use Rattle.cmh_run.specs.Config.{query, reply, messages_of}
 use Rattle.cmh_run.proofs.Tally.{one_if, tally, without_one, tally-le-length, tally_from_contains, contains_from_tally}
 use Rattle.cmh_run.proofs.Invariant.{Sound, owes}
 use Rattle.cmh_run.proofs.InvariantSteps as steps

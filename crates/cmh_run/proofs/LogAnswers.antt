@@ -1,16 +1,6 @@
 -- A log has one answer: since a message stands at one place, the deliveries lead to one state.
-use Rattle.std.proofs.Common.{◌≡◌, ℕ, zero, suc, ◌<◌, Bool, true, false, List, [], ◌∷◌, ◌++◌, take, slice_get, Some, refl, sym, ◌∙◌, ap, subst, arith}
-use Rattle.std.proofs.lemmas.Bool.{true≢false}
-use Rattle.std.proofs.lemmas.Option.{same_Some}
-use Rattle.cmh_graph.specs.Graph.{Graph, is_idle, is_awake}
-use Rattle.cmh_graph.specs.Build.{IsWellFormed}
-use Rattle.cmh_run.specs.declared.delivery.Delivery.{Delivery}
-use Rattle.cmh_run.specs.declared.delivery.Ending.{Ending}
-use Rattle.cmh_run.specs.declared.fault.CheckFault.{CheckFault}
-use Rattle.cmh_run.specs.declared.fault.CheckFault.TheVariants.{NotIdle, NotUndelivered, FalseHint, AfterEnd, NotEnded, Memory}
-use Rattle.cmh_run.specs.Legal.{Going, going_at_start, after_due_restart, going_after, MayCome, any_place, DeliveriesLead, EndsAs}
-use Rattle.cmh_run.specs.Check.{LeadTo, IsUndelivered, IsLegalRun, ComesAt, IsFlaw, IsFirstCheckFault}
-use Rattle.cmh_run.specs.Config.{Config}
+use Rattle.cmh_run.proofs.Common.{◌≡◌, ℕ, zero, suc, ◌<◌, Bool, true, false, List, [], ◌∷◌, ◌++◌, take, slice_get, Some, refl, sym, ◌∙◌, ap, subst, arith, true≢false, same_Some, Graph, is_idle, is_awake, IsWellFormed, Delivery, Ending, CheckFault, NotIdle, NotUndelivered, FalseHint, AfterEnd, NotEnded, Memory, Going, going_at_start, after_due_restart, going_after, MayCome, any_place, DeliveriesLead, EndsAs, LeadTo, IsUndelivered, IsLegalRun, IsFlaw, IsFirstCheckFault, Config}
+use Rattle.cmh_run.specs.Check.{ComesAt}
 use Rattle.cmh_run.proofs.Determinism.{ended_delivers_nothing, one_ending}
 use Rattle.cmh_run.proofs.Places.{one_place}
 use Rattle.cmh_run.proofs.ProgressLemmas.{leads_on}

@@ -1,15 +1,11 @@
 -- Where the chosen path of a process leads next.
-use Rattle.std.proofs.Common.{◌≡◌, ◌∙◌, ℕ, suc, ◌+◌, ◌<◌, List, [], ◌∷◌, ◌++◌, get_or, length, length-append, map, arith, refl, sym, ap, subst}
-use Rattle.std.proofs.lemmas.Bool.{true≢false}
+use Rattle.cmh_run.proofs.Common.{◌≡◌, ◌∙◌, ℕ, suc, ◌+◌, ◌<◌, List, [], ◌∷◌, ◌++◌, get_or, length, length-append, map, arith, refl, sym, ap, subst, true≢false, unwrap_or, IsWellFormed, chosen_path, distance_of, dependents_of, Graph, process_count, IsWithinGraph, IsDeadlocked, by_index}
 use Rattle.std.proofs.lemmas.Option.{slice_get_past}
-use Rattle.std.specs.Prelude.{slice_get, unwrap_or, IsSome, None, Option, Some}
-use Rattle.cmh_graph.specs.Build.{IsWellFormed}
-use Rattle.cmh_graph.specs.ChosenPath.{chosen_path, distance_of, IsChosenPath}
-use Rattle.cmh_graph.specs.Graph.{dependents_of, indices, Graph, process_count, IsWithinGraph}
+use Rattle.std.specs.Prelude.{slice_get, IsSome, None, Option, Some}
+use Rattle.cmh_graph.specs.ChosenPath.{IsChosenPath}
+use Rattle.cmh_graph.specs.Graph.{indices}
 use Rattle.cmh_graph.specs.Search.{IsLeastAt}
-use Rattle.cmh_graph.specs.Verdict.{IsDeadlocked}
 use Rattle.cmh_graph.proofs.ChosenPathLemmas.{chosen_is, chosen_length, chosen_path_law, leads_on, leads_start, nearest_some, way_out}
-use Rattle.cmh_graph.proofs.IndexLists.{by_index}
 use Rattle.cmh_graph.proofs.Ways.{distance_law, path_length_law}
 
 -- an option that is there is of what it has

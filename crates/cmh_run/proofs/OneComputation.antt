@@ -1,15 +1,5 @@
 -- Processes and messages seen from one computation alone, which is numbered 1 then.
-use Rattle.std.proofs.Common.{◌≡◌, ℕ, zero, suc, ◌-◌, ◌<◌, ◌≤◌, true, false, ◌&&◌, cond, eqb, ltb, List, [], ◌∷◌, ◌++◌, map, remove, replicate, length, slice_get, Some, refl, sym, ap, arith, ⊎_elim}
-use Rattle.std.proofs.lemmas.Bool.{eqb-true, eq-eqb, ne_eqb, cases_eq, and_parts, lt-ltb, le-ltb, ltb-true, ltb-false}
-use Rattle.std.proofs.Math.Bool.{and-false}
-use Rattle.cmh_process.specs.declared.message.Message.{Message}
-use Rattle.cmh_process.specs.declared.process.Proc.{Proc}
-use Rattle.cmh_process.specs.declared.process.Action.{Action}
-use Rattle.cmh_process.specs.declared.process.Action.TheVariants.{Nothing, Engage, ReplyTo, Declare}
-use Rattle.cmh_process.specs.Process.{new_proc, engages, proc_engaged, engage_action, last_action, repeat_action, proc_queried, query_action, counts_reply, proc_replied, reply_action}
-use Rattle.cmh_run.specs.Config.{query, proc_at, messages_of}
-use Rattle.cmh_run.specs.Last.{renumber}
-use Rattle.cmh_graph.proofs.Verdicts.{by_test}
+use Rattle.cmh_run.proofs.Common.{◌≡◌, ℕ, zero, suc, ◌-◌, ◌<◌, ◌≤◌, true, false, ◌&&◌, cond, eqb, ltb, List, [], ◌∷◌, ◌++◌, map, remove, replicate, length, slice_get, Some, refl, sym, ap, arith, ⊎_elim, eqb-true, eq-eqb, ne_eqb, cases_eq, and_parts, lt-ltb, le-ltb, ltb-true, ltb-false, and-false, Message, Proc, Action, Nothing, Engage, ReplyTo, Declare, new_proc, engages, proc_engaged, engage_action, last_action, repeat_action, proc_queried, query_action, counts_reply, proc_replied, reply_action, query, proc_at, messages_of, renumber, by_test}
 
 -- a process as computation n has it: one that isn't in it has heard of nothing
 abbrev pub recast : ℕ → Proc → Proc

@@ -1,7 +1,6 @@
 -- Paths as processes that lead to one.
-use Rattle.std.proofs.Common.{ℕ, List, [], ◌∷◌, refl}
-use Rattle.cmh_graph.specs.Graph.{Graph}
-use Rattle.cmh_graph.specs.Path.{Leads, IsPath, Reaches}
+use Rattle.cmh_run.proofs.Common.{ℕ, List, [], ◌∷◌, refl, Graph, Leads, Reaches}
+use Rattle.cmh_graph.specs.Path.{IsPath}
 
 -- each process reaches itself
 pub reaches_self : (g : Graph) (p : ℕ) → Reaches g p p

@@ -1,13 +1,5 @@
 -- Where messages stand in a bag, and that none stands there twice.
-use Rattle.std.proofs.Common.{◌≡◌, ◌≢◌, ℕ, zero, suc, ◌<◌, ◌≤◌, List, [], ◌∷◌, ◌++◌, remove, length, get_or, slice_get, Some, refl, sym, ◌∙◌, ap, arith, inl, inr, ◌⊎◌, ⊎_elim}
-use Rattle.std.proofs.lemmas.Bool.{eq-eqb, ne_eqb, cases_eq}
-use Rattle.std.proofs.lemmas.List.Sums.{sum_by-cons}
-use Rattle.cmh_process.specs.declared.message.Kind.{Kind}
-use Rattle.cmh_process.specs.declared.message.Kind.TheVariants.{Query, Reply}
-use Rattle.cmh_process.specs.declared.message.Message.{Message}
-use Rattle.cmh_graph.specs.Graph.{Graph, process_count, dependents_of}
-use Rattle.cmh_graph.specs.Build.{IsWellFormed}
-use Rattle.cmh_run.specs.Config.{Config, proc_at}
+use Rattle.cmh_run.proofs.Common.{◌≡◌, ◌≢◌, ℕ, zero, suc, ◌<◌, ◌≤◌, List, [], ◌∷◌, ◌++◌, remove, length, get_or, slice_get, Some, refl, sym, ◌∙◌, ap, arith, inl, inr, ◌⊎◌, ⊎_elim, eq-eqb, ne_eqb, cases_eq, sum_by-cons, Kind, Query, Reply, Message, Graph, process_count, dependents_of, IsWellFormed, Config, proc_at}
 use Rattle.cmh_run.proofs.Tally.{tally, contains_from_tally}
 use Rattle.cmh_run.proofs.Tokens.{each_at, edge_from, edge_to, token, tokens, tokens-remove}
 use Rattle.cmh_run.proofs.LiveInvariant.{IsSoundRun, IsSoundMessage}

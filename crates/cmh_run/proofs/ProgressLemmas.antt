@@ -1,26 +1,9 @@
 -- A run that is led on by one delivery, and what its steps may count on.
-use Rattle.std.proofs.Common.{◌≡◌, ℕ, ◌+◌, ◌-◌, ◌*◌, ◌^◌, ◌<◌, ◌≤◌, ◌≢◌, Bool, true, false, ◌&&◌, cond, eqb, List, [], ◌∷◌, ◌++◌, length, slice_get, Contains, Option, Some, None, is_none, refl, sym, ◌∙◌, ap, subst, arith, ◌⊎◌, ⊎_elim, length-append, mul-le-mul_left}
-use Rattle.std.proofs.lemmas.Bool.{eq-eqb, and_parts}
-use Rattle.std.proofs.lemmas.Option.{none-some}
-use Rattle.std.specs.Prelude.{unwrap_or}
+use Rattle.cmh_run.proofs.Common.{◌≡◌, ℕ, ◌+◌, ◌-◌, ◌*◌, ◌^◌, ◌<◌, ◌≤◌, ◌≢◌, Bool, true, false, ◌&&◌, cond, eqb, List, [], ◌∷◌, ◌++◌, length, slice_get, Contains, Option, Some, None, is_none, refl, sym, ◌∙◌, ap, subst, arith, ◌⊎◌, ⊎_elim, length-append, mul-le-mul_left, eq-eqb, and_parts, none-some, unwrap_or, length-replicate, Message, Verdict, Delivery, Ending, Declared, AtRest, CutFree, Graph, process_count, is_idle, is_awake, IsWithinGraph, dependency_count, idle_within, by_test, new_proc, Config, proc_at, nothing_yet, start, after_message, without_message, Going, going_from, going_at_start, after_restart, after_first_restart, after_due_restart, going_after, Rule, MayCome, DeliveriesLead, EndsAs, IsRun, HintIsFit, IsRight, chosen_place, HasNoHints, AreEngaged, Run, IsRunOf, IsRunAnswer, RunState, IsUnderWay, MAX_RESTARTS, IsVerdict, IsWellFormed}
 use Rattle.std.specs.List.{IsDistinct}
-use Rattle.std.proofs.lemmas.List.{length-replicate}
-use Rattle.cmh_process.specs.declared.message.Message.{Message}
-use Rattle.cmh_graph.specs.declared.verdict.Verdict.{Verdict}
-use Rattle.cmh_run.specs.declared.delivery.Delivery.{Delivery}
-use Rattle.cmh_run.specs.declared.delivery.Ending.{Ending}
-use Rattle.cmh_run.specs.declared.delivery.Ending.TheVariants.{Declared, AtRest, CutFree}
-use Rattle.cmh_graph.specs.Graph.{Graph, process_count, is_idle, is_awake, IsWithinGraph, dependency_count}
-use Rattle.cmh_graph.proofs.Verdicts.{idle_within, by_test}
-use Rattle.cmh_process.specs.Process.{new_proc}
-use Rattle.cmh_run.specs.Config.{Config, blank_config, proc_at, nothing_yet, start, after_message, without_message}
-use Rattle.cmh_run.specs.Legal.{Going, going_from, going_at_start, after_restart, after_first_restart, after_due_restart, going_after, Rule, MayCome, DeliveriesLead, EndsAs, IsRun, HintIsFit, IsRight}
-use Rattle.cmh_run.specs.Choices.{chosen_place, HasNoHints}
-use Rattle.cmh_run.specs.Engaged.{AreEngaged}
-use Rattle.cmh_run.specs.Run.{Run, IsAccepted, IsRunOf, IsRunAnswer, TellsTruth, verdict_of}
-use Rattle.cmh_run.specs.Progress.{ProgressState, RunState, IsUnderWay, IsOver, Follows, MayStart, place_in, IsTakenBy, progress_after}
-use Rattle.cmh_run.specs.declared.TheConstants.{MAX_RESTARTS}
-use Rattle.cmh_graph.specs.Verdict.{IsVerdict}
+use Rattle.cmh_run.specs.Config.{blank_config}
+use Rattle.cmh_run.specs.Run.{IsAccepted, TellsTruth, verdict_of}
+use Rattle.cmh_run.specs.Progress.{ProgressState, IsOver, Follows, MayStart, place_in, IsTakenBy, progress_after}
 use Rattle.cmh_run.proofs.LiveInvariant.{IsSoundMessage}
 use Rattle.cmh_run.proofs.Tokens.{each_at}
 use Rattle.cmh_run.proofs.Soundness.{number_kept, runs_are_sound}
@@ -29,7 +12,6 @@ use Rattle.cmh_run.proofs.LastComputation.{last_computation_is_a_run}
 use Rattle.cmh_run.proofs.Determinism.{same_run}
 use Rattle.cmh_run.proofs.EngagedLemmas.{who_engages, awake_ones_start_nothing}
 use Rattle.cmh_run.proofs.DeliveryBound.{leads_are_short, deliveries_are_bounded, few_dependencies}
-use Rattle.cmh_graph.specs.Build.{IsWellFormed}
 
 -- a restart leaves the number of deliveries as it was
 restart_keeps_count : (g : Graph) (i : ℕ) (s : Going) (ns : List ℕ) → (after_first_restart g i s ns).done ≡ s.done

@@ -1,18 +1,7 @@
 -- What a query does: hints are asked about a receiver that is about to engage, and no other process is changed.
-use Rattle.std.proofs.Common.{◌≡◌, ℕ, [], true, false, not, ◌&&◌, cond, Option, Some, None, refl, sym, ◌∙◌}
-use Rattle.std.proofs.lemmas.Bool.{true≢false, not-true, and_parts}
-use Rattle.std.specs.Prelude.{IfSome, IsTrue}
-use Rattle.std.proofs.lemmas.List.{set-get_or}
-use Rattle.cmh_graph.specs.declared.verdict.Verdict.{Verdict}
-use Rattle.cmh_graph.specs.declared.verdict.Verdict.TheVariants.{Deadlocked, Free}
-use Rattle.cmh_process.specs.declared.message.Kind.{Kind}
-use Rattle.cmh_process.specs.declared.message.Kind.TheVariants.{Query, Reply}
-use Rattle.cmh_process.specs.declared.message.Message.{Message}
-use Rattle.cmh_graph.specs.Graph.{Graph, is_awake}
-use Rattle.cmh_process.specs.Process.{engages, new_proc, repeat_action}
-use Rattle.cmh_run.specs.Config.{Config, after_answer, after_hint, after_message, asks_hint, after_action, proc_at, query}
-use Rattle.cmh_graph.specs.Verdict.{IsVerdict}
-use Rattle.cmh_run.specs.Legal.{HintIsFit}
+use Rattle.cmh_run.proofs.Common.{◌≡◌, ℕ, [], true, false, not, ◌&&◌, cond, Option, Some, None, refl, sym, ◌∙◌, true≢false, and_parts, IfSome, IsTrue, set-get_or, Verdict, Deadlocked, Free, Kind, Query, Reply, Message, Graph, is_awake, engages, new_proc, repeat_action, Config, after_answer, after_hint, after_message, asks_hint, proc_at, query, IsVerdict, HintIsFit}
+use Rattle.std.proofs.lemmas.Bool.{not-true}
+use Rattle.cmh_run.specs.Config.{after_action}
 
 -- a true hint fits where hints are asked
 pub fit_where_asked : (g : Graph) (c : Config) (m : Message) (hint : Option Verdict) → IsTrue (asks_hint g c m)

@@ -1,23 +1,15 @@
 -- What lines answer, and which of them are refused.
-use Rattle.std.proofs.Common.{◌≡◌, ℕ, suc, ◌<◌, ◌≤◌, ◌↔◌, Bool, true, false, not, cond, eqb, List, [], ◌∷◌, length, get_or, slice_get, Option, Some, None, refl, sym, ◌∙◌, ap, subst, arith, true≢false, IfSome}
-use Rattle.std.specs.Prelude.{option_map, unwrap_or, find, nat_le, position, ◌&&◌, ◌==◌}
+use Rattle.cmh_run.proofs.Common.{◌≡◌, ℕ, suc, ◌<◌, ◌≤◌, Bool, true, false, not, cond, eqb, List, [], ◌∷◌, length, get_or, slice_get, Option, Some, None, refl, sym, ◌∙◌, ap, subst, arith, unwrap_or, eqb-true, and_parts, slice_get-get_or, slice_get_within, get_or_from_slice_get, Verdict, Free, the_type, Graph, process_count, IsWithinGraph, verdict, verdicts, IsVerdict, length-by_index, by_index, one_verdict, verdict_true, by_test, ScriptLine, AreTrueOf}
+use Rattle.std.proofs.Common.{◌↔◌, true≢false, IfSome}
+use Rattle.std.specs.Prelude.{option_map, find, nat_le, position, ◌&&◌, ◌==◌}
 use Rattle.std.specs.List.{position_or_len}
-use Rattle.std.proofs.lemmas.Bool.{eqb-true, and_parts}
 use Rattle.std.proofs.lemmas.Grind.{common_steps}
 use Rattle.std.proofs.lemmas.List.Quantifiers.{position-Some}
 use Rattle.std.proofs.lemmas.List.Sums.{fails_before_first}
-use Rattle.std.proofs.lemmas.Option.{slice_get-get_or, slice_get_within, get_or_from_slice_get}
 use denote.Enum.Bare.{sameb}
-use Rattle.cmh_graph.specs.declared.verdict.Verdict.{Verdict}
-use Rattle.cmh_graph.specs.declared.verdict.Verdict.TheVariants.{Free}
-use Rattle.cmh_graph.specs.contracts.verdict.Verdict.{the_type}
-use Rattle.cmh_graph.specs.Graph.{Graph, process_count, IsWithinGraph}
-use Rattle.cmh_graph.specs.Verdict.{verdict, verdicts, IsVerdict}
 use Rattle.cmh_graph.specs.Judge.{IsFirst}
 use Rattle.cmh_graph.proofs.PartLemmas.{first_place}
-use Rattle.cmh_graph.proofs.IndexLists.{length-by_index, by_index}
-use Rattle.cmh_graph.proofs.Verdicts.{one_verdict, verdict_true, by_test}
-use Rattle.cmh_run.specs.Script.{ScriptLine, answer_at, AreTrueOf, IsLineOutOfRange, is_listed}
+use Rattle.cmh_run.specs.Script.{answer_at, IsLineOutOfRange, is_listed}
 use Rattle.cmh_run.proofs.Verdicts.{equal_verdicts, verdict_equals_itself}
 
 -- ---- what lines answer

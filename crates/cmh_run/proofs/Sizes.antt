@@ -1,8 +1,5 @@
 -- The most dependents that a process has.
-use Rattle.std.proofs.Common.{ℕ, ◌<◌, ◌^◌, length, arith}
-use Rattle.std.proofs.lemmas.List.Sums.{get_or-le-sum_by}
-use Rattle.cmh_graph.specs.Graph.{Graph, Process, process_count, dependents_of, nobody}
-use Rattle.cmh_graph.specs.Build.{IsWellFormed}
+use Rattle.cmh_run.proofs.Common.{ℕ, ◌<◌, ◌^◌, length, arith, get_or-le-sum_by, Graph, Process, process_count, dependents_of, nobody, IsWellFormed}
 
 -- a process of a graph has fewer than 2 ^ 32 dependents
 pub few_dependents : (g : Graph) (p : ℕ) → IsWellFormed g → p < process_count g

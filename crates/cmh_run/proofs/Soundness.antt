@@ -1,30 +1,12 @@
 -- What a run that has ended says.
-use Rattle.std.specs.Prelude.{IsTrue}
-use Rattle.std.proofs.Common.{◌≡◌, ℕ, ◌+◌, ◌<◌, Bool, true, false, cond, List, [], ◌∷◌, replicate, get_or, slice_get, Contains, Option, Some, None, refl, sym, ◌∙◌, ap, subst, arith, ⊎_elim}
-use Rattle.std.proofs.lemmas.Bool.{eq-eqb, cases_eq, true≢false}
-use Rattle.cmh_process.specs.declared.message.Kind.{Kind}
-use Rattle.cmh_process.specs.declared.message.Kind.TheVariants.{Query, Reply}
-use Rattle.cmh_process.specs.declared.message.Message.{Message}
-use Rattle.cmh_graph.specs.declared.verdict.Verdict.{Verdict}
-use Rattle.cmh_graph.specs.declared.verdict.Verdict.TheVariants.{Deadlocked, Free}
-use Rattle.cmh_run.specs.declared.delivery.Delivery.{Delivery}
-use Rattle.cmh_run.specs.declared.delivery.Ending.{Ending}
-use Rattle.cmh_run.specs.declared.delivery.Ending.TheVariants.{Declared, AtRest, CutFree}
-use Rattle.cmh_process.specs.Process.{new_proc, engages, proc_queried, query_action}
-use Rattle.cmh_graph.specs.Graph.{Graph, process_count, is_awake, IsWithinGraph, is_idle}
-use Rattle.cmh_graph.specs.Verdict.{IsDeadlocked}
-use Rattle.cmh_graph.proofs.Verdicts.{idle_within, by_test}
+use Rattle.cmh_run.proofs.Common.{IsTrue, ◌≡◌, ℕ, ◌+◌, ◌<◌, Bool, true, false, cond, List, [], ◌∷◌, replicate, get_or, slice_get, Contains, Option, Some, None, refl, sym, ◌∙◌, ap, subst, arith, ⊎_elim, eq-eqb, cases_eq, true≢false, Kind, Query, Reply, Message, Verdict, Deadlocked, Free, Delivery, Ending, Declared, AtRest, CutFree, new_proc, engages, proc_queried, query_action, Graph, process_count, is_awake, IsWithinGraph, is_idle, IsDeadlocked, idle_within, by_test, Config, proc_at, after_step, after_hint, after_message, without_message, after_delivery, start, nothing_yet, Going, after_due_restart, going_after, DeliveriesLead, EndsAs, IsRight, Rule, IsRun, get_or-le-sum_by, none-some, slice_get-get_or}
 use Rattle.cmh_run.proofs.Paths.{reaches_self}
 use Rattle.cmh_graph.proofs.Groups.{reached_deadlocked}
-use Rattle.cmh_run.specs.Config.{Config, proc_at, after_step, after_hint, after_message, without_message, after_delivery, start, nothing_yet}
-use Rattle.cmh_run.specs.Legal.{Going, after_due_restart, going_after, DeliveriesLead, EndsAs, IsRight, Rule, IsRun}
 use Rattle.cmh_run.proofs.Tally.{tally_from_contains, distinct}
 use Rattle.cmh_run.proofs.Invariant.{engaged_deadlocked, none_on_way, at_rest_free}
 use Rattle.cmh_run.proofs.Tokens.{each_at, tokens, token, edge_from, edge_to}
 use Rattle.cmh_run.proofs.LiveInvariant.{IsSoundRun, IsSoundMessage}
 use Rattle.cmh_run.proofs.Configurations.{Status, IsSoundConfig, first_start, leads_stands, status_none, fresh_at}
-use Rattle.std.proofs.lemmas.List.Sums.{get_or-le-sum_by}
-use Rattle.std.proofs.lemmas.Option.{none-some, slice_get-get_or}
 
 -- a delivery and a restart keep or raise the number
 pub number_kept : (g : Graph) (i : ℕ) (c : Config) (x : ℕ) (m : Message) (hint : Option Verdict)

@@ -1,16 +1,5 @@
 -- A message of an older computation changes nothing.
-use Rattle.std.proofs.Common.{◌≡◌, ◌<◌, ℕ, cond, Option, None, refl, arith, append-nil, remove}
-use Rattle.std.proofs.lemmas.Bool.{ne_eqb, le-ltb}
-use Rattle.std.proofs.Math.Bool.{and-false}
-use Rattle.std.proofs.lemmas.List.{set-get_or}
-use Rattle.cmh_graph.specs.declared.verdict.Verdict.{Verdict}
-use Rattle.cmh_graph.specs.Graph.{Graph, is_awake}
-use Rattle.cmh_graph.proofs.Verdicts.{by_test}
-use Rattle.cmh_process.specs.declared.message.Kind.{Kind}
-use Rattle.cmh_process.specs.declared.message.Kind.TheVariants.{Query, Reply}
-use Rattle.cmh_process.specs.declared.message.Message.{Message}
-use Rattle.cmh_process.specs.Process.{new_proc}
-use Rattle.cmh_run.specs.Config.{Config, proc_at, after_message, without_message, after_delivery}
+use Rattle.cmh_run.proofs.Common.{◌≡◌, ◌<◌, ℕ, cond, Option, None, refl, arith, append-nil, remove, ne_eqb, le-ltb, and-false, set-get_or, Verdict, Graph, is_awake, by_test, Kind, Query, Reply, Message, new_proc, Config, proc_at, after_message, without_message, after_delivery}
 
 -- a message numbered below its receiver's latest changes nothing and sends nothing
 pub stale_untouched : (g : Graph) (i : ℕ) (c : Config) (x : ℕ) (m : Message) (hint : Option Verdict)

@@ -1,21 +1,9 @@
 -- Steps by the rules, worked by hand: what each message does, and what is no step.
-use Rattle.std.proofs.Common.{ℕ, zero, suc, true, false, List, [], ◌∷◌, Option, Some, None, refl, sym, ap, arith}
-use Rattle.std.proofs.lemmas.Bool.{true≢false}
-use Rattle.std.proofs.lemmas.Option.{none-some, same_Some}
-use Rattle.cmh_graph.specs.declared.part.State.TheVariants.{Idle, Active}
-use Rattle.cmh_graph.specs.declared.verdict.Verdict.{Verdict}
-use Rattle.cmh_graph.specs.declared.verdict.Verdict.TheVariants.{Deadlocked, Free}
-use Rattle.cmh_graph.specs.Graph.{Graph, Process, IsWithinGraph}
+use Rattle.cmh_run.proofs.Common.{ℕ, zero, suc, true, false, List, [], ◌∷◌, Option, Some, None, refl, sym, ap, arith, true≢false, none-some, same_Some, Idle, Verdict, Deadlocked, Free, Graph, Process, IsWithinGraph, IsDeadlocked, Message, Proc, Delivery, Declared, CutFree, Config, query, reply, nothing_yet, Going, any_place, IsStart, engage, engage_with_nothing, cut_free, reply_at_once, ignore_query, count_down, reply_to_engager, declare, ignore_reply, discard, IsStep, BecomesReady, go_on, start_again, IsRunOfSteps}
+use Rattle.cmh_graph.specs.declared.part.State.TheVariants.{Active}
 use Rattle.cmh_graph.specs.Path.{reaches}
-use Rattle.cmh_graph.specs.Verdict.{IsDeadlocked, is_deadlocked}
+use Rattle.cmh_graph.specs.Verdict.{is_deadlocked}
 use Rattle.cmh_graph.proofs.Verdicts.{deadlocked_from_test}
-use Rattle.cmh_process.specs.declared.message.Message.{Message}
-use Rattle.cmh_process.specs.declared.process.Proc.{Proc}
-use Rattle.cmh_run.specs.declared.delivery.Delivery.{Delivery}
-use Rattle.cmh_run.specs.declared.delivery.Ending.TheVariants.{Declared, CutFree}
-use Rattle.cmh_run.specs.Config.{Config, query, reply, nothing_yet}
-use Rattle.cmh_run.specs.Legal.{Going, any_place}
-use Rattle.cmh_run.specs.Step.{IsStart, engage, engage_with_nothing, cut_free, reply_at_once, ignore_query, count_down, reply_to_engager, declare, ignore_reply, discard, IsStep, BecomesReady, go_on, start_again, IsRunOfSteps}
 use Rattle.cmh_run.proofs.Examples.{plain, two_in_a_cycle, deliveries}
 use Rattle.cmh_run.proofs.StepLemmas.{step_computed}
 

@@ -1,28 +1,13 @@
 -- The rules as relations are what is computed: starts, steps, and runs.
-use Rattle.std.proofs.Common.{◌≡◌, ℕ, zero, suc, ◌+◌, ◌-◌, ◌<◌, ◌≤◌, Bool, true, false, ◌&&◌, cond, eqb, ltb, List, [], ◌∷◌, ◌++◌, map, remove, length, slice_set, Option, Some, None, is_none, refl, sym, ◌∙◌, ap, subst, arith, ⊎_elim, append-nil, IsTrue}
-use Rattle.std.specs.Prelude.{◌≢◌, ◌↔◌, IsFalse}
-use Rattle.std.proofs.lemmas.Bool.{eqb-true, eqb-false, eq-eqb, ne_eqb, cases_lt, true≢false, and_parts, and_from, lt-ltb, le-ltb, ltb-true}
-use Rattle.std.proofs.Math.Bool.{and-false}
-use Rattle.std.proofs.lemmas.List.{set-get_or}
-use Rattle.std.proofs.lemmas.Option.{none-some}
-use Rattle.cmh_graph.specs.declared.verdict.Verdict.{Verdict}
-use Rattle.cmh_graph.specs.declared.verdict.Verdict.TheVariants.{Deadlocked, Free}
-use Rattle.cmh_graph.specs.Graph.{Graph, dependents_of, is_awake}
-use Rattle.cmh_graph.proofs.Verdicts.{by_test}
-use Rattle.cmh_process.specs.declared.message.Kind.{Kind}
-use Rattle.cmh_process.specs.declared.message.Kind.TheVariants.{Query, Reply}
-use Rattle.cmh_process.specs.declared.message.Message.{Message}
-use Rattle.cmh_process.specs.declared.process.Proc.{Proc}
-use Rattle.cmh_process.specs.Process.{new_proc, start_action, engage_action, engages, counts_reply}
-use Rattle.cmh_run.specs.declared.delivery.Delivery.{Delivery}
-use Rattle.cmh_run.specs.declared.delivery.Ending.{Ending}
-use Rattle.cmh_run.specs.declared.delivery.Ending.TheVariants.{Declared}
-use Rattle.cmh_run.specs.Config.{Config, proc_at, query, reply, messages_of, ending_after, after_engagement, without_message, after_delivery, is_query, asks_hint, start, nothing_yet}
-use Rattle.cmh_run.specs.Legal.{HintIsFit, MayCome, Going, Rule, going_from, after_restart, after_first_restart, after_due_restart, going_after, DeliveriesLead, IsRun}
+use Rattle.cmh_run.proofs.Common.{◌≡◌, ℕ, zero, suc, ◌+◌, ◌-◌, ◌<◌, ◌≤◌, Bool, true, false, ◌&&◌, cond, eqb, ltb, List, [], ◌∷◌, ◌++◌, map, remove, length, slice_set, Option, Some, None, is_none, refl, sym, ◌∙◌, ap, subst, arith, ⊎_elim, append-nil, ◌↔◌, eqb-true, eqb-false, eq-eqb, ne_eqb, true≢false, and_parts, and_from, lt-ltb, le-ltb, ltb-true, and-false, set-get_or, none-some, Verdict, Deadlocked, Free, Graph, dependents_of, is_awake, by_test, Kind, Query, Reply, Message, Proc, new_proc, start_action, engage_action, engages, counts_reply, Delivery, Ending, Declared, Config, proc_at, query, reply, messages_of, ending_after, after_engagement, without_message, after_delivery, asks_hint, start, nothing_yet, HintIsFit, MayCome, Going, Rule, going_from, after_restart, after_first_restart, after_due_restart, going_after, DeliveriesLead, IsRun, IsStart, engage, engage_with_nothing, cut_free, reply_at_once, ignore_query, count_down, reply_to_engager, declare, ignore_reply, discard, IsStep, BecomesReady, go_on, start_again, IsRunOfSteps}
+use Rattle.std.proofs.Common.{IsTrue}
+use Rattle.std.specs.Prelude.{◌≢◌, IsFalse}
+use Rattle.std.proofs.lemmas.Bool.{cases_lt}
+use Rattle.cmh_run.specs.Config.{is_query}
 use Rattle.cmh_run.proofs.Configurations.{is_none_true}
 use Rattle.cmh_run.proofs.EngagedLemmas.{awake_ones_start_nothing}
 use Rattle.cmh_run.proofs.QueryLemmas.{asked_of_query}
-use Rattle.cmh_run.specs.Step.{IsStart, IsEngagement, IsReceived, WaitsIn, receiver, IsEffect, engage, engage_with_nothing, cut_free, reply_at_once, ignore_query, count_down, reply_to_engager, declare, ignore_reply, discard, IsStep, BecomesReady, go_on, start_again, StepsLead, IsRunOfSteps}
+use Rattle.cmh_run.specs.Step.{IsEngagement, IsReceived, WaitsIn, receiver, IsEffect, StepsLead}
 
 -- two configurations are equal where all that they keep is
 same_config : (a b : Config) → a.bag ≡ b.bag → a.procs ≡ b.procs → a.number ≡ b.number → a.engaged ≡ b.engaged

@@ -1,16 +1,7 @@
 -- Counting and checking the messages of a bag.
-use Rattle.std.proofs.Common.{◌≡◌, ℕ, zero, suc, ◌+◌, ◌<◌, Bool, true, ◌&&◌, cond, eqb, List, [], ◌∷◌, ◌++◌, map, take, drop, remove, length, get_or, set, slice_get, Some, sum_by, refl, subst, arith}
-use Rattle.std.proofs.lemmas.Bool.{eqb-true, eq-eqb, ne_eqb, and_parts}
-use Rattle.std.proofs.lemmas.List.Sums.{sum_by-remove, sum_by-append, sum_by-cons}
-use Rattle.std.proofs.lemmas.List.{get_or-set_same, get_or-set_other}
-use Rattle.std.proofs.lemmas.Option.{slice_get_within, get_or_from_slice_get}
+use Rattle.cmh_run.proofs.Common.{◌≡◌, ℕ, zero, suc, ◌+◌, ◌<◌, Bool, true, ◌&&◌, cond, eqb, List, [], ◌∷◌, ◌++◌, map, take, remove, length, get_or, slice_get, Some, sum_by, refl, subst, arith, eqb-true, eq-eqb, ne_eqb, and_parts, sum_by-remove, sum_by-append, sum_by-cons, get_or-set_same, get_or-set_other, slice_get_within, get_or_from_slice_get, Kind, Query, Reply, Message, Proc, new_proc, query, proc_at}
+use Rattle.std.proofs.Common.{drop, set}
 use std.Path.{fun_ext}
-use Rattle.cmh_process.specs.declared.message.Kind.{Kind}
-use Rattle.cmh_process.specs.declared.message.Kind.TheVariants.{Query, Reply}
-use Rattle.cmh_process.specs.declared.message.Message.{Message}
-use Rattle.cmh_process.specs.declared.process.Proc.{Proc}
-use Rattle.cmh_process.specs.Process.{new_proc}
-use Rattle.cmh_run.specs.Config.{query, proc_at}
 use Rattle.cmh_run.proofs.Tally.{one_if, tally}
 use Rattle.cmh_run.proofs.InvariantSteps.{upd, place}
 

@@ -1,13 +1,8 @@
 -- Which processes may have heard of anything.
-use Rattle.std.proofs.Common.{inl, inr, ⊎_elim, ◌≡◌, ◌≢◌, ◌∙◌, ℕ, zero, suc, ◌+◌, ◌<◌, List, [], ◌∷◌, ◌++◌, length, length-append, arith, ap, sym, refl, subst, replicate}
-use Rattle.std.specs.Prelude.{All, Contains, slice_set}
-use Rattle.std.proofs.lemmas.Bool.{cases_eq}
-use Rattle.std.proofs.lemmas.List.{get_or-set_same, get_or-set_other, get_or_append_left, get_or-append-add, length-set}
+use Rattle.cmh_run.proofs.Common.{inl, inr, ⊎_elim, ◌≡◌, ◌≢◌, ◌∙◌, ℕ, zero, suc, ◌+◌, ◌<◌, List, [], ◌∷◌, ◌++◌, length, length-append, arith, ap, sym, refl, subst, replicate, slice_set, cases_eq, get_or-set_same, get_or-set_other, length-set, Proc, new_proc, proc_replied, proc_at, AreTouched}
+use Rattle.std.specs.Prelude.{All, Contains}
+use Rattle.std.proofs.lemmas.List.{get_or_append_left, get_or-append-add}
 use Rattle.std.proofs.lemmas.List.Elements.{All-append, Contains-append_left, Contains-append_right, Contains-append_cases}
-use Rattle.cmh_process.specs.declared.process.Proc.{Proc}
-use Rattle.cmh_process.specs.Process.{new_proc, proc_replied}
-use Rattle.cmh_run.specs.Config.{proc_at}
-use Rattle.cmh_run.specs.Procs.{AreTouched}
 use Rattle.cmh_run.proofs.Configurations.{fresh_at}
 
 -- where all processes have heard of nothing, none of them has taken part

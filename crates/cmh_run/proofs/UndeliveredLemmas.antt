@@ -1,16 +1,11 @@
 -- Sets of undelivered messages: one more, one fewer, and none.
-use Rattle.std.proofs.Common.{◌≡◌, ℕ, Bool, true, false, not, ◌&&◌, ◌||◌, cond, eqb, ltb, List, [], ◌∷◌, length, refl, sym, ◌∙◌, ap, arith}
-use Rattle.std.proofs.lemmas.Bool.{eq-eqb, ne_eqb, true≢false, ltb-true}
+use Rattle.cmh_run.proofs.Common.{◌≡◌, ℕ, Bool, true, false, not, ◌&&◌, ◌||◌, cond, eqb, ltb, List, [], ◌∷◌, length, refl, sym, ◌∙◌, ap, arith, eq-eqb, ne_eqb, true≢false, ltb-true, Kind, Query, Reply, Message, UndeliveredState, is_waiting, is_same_kind, goes_like, by_test}
 use Rattle.std.specs.Cmp.{tied_then}
 use Rattle.std.specs.List.{list_any}
 use Rattle.std.specs.Ordering.{nat_cmp, is_eq}
 use Rattle.std.specs.declared.cmp.Ordering.TheVariants.{Less, Equal, Greater}
 use Rattle.std.specs.BTreeMap.{is_at}
-use Rattle.cmh_process.specs.declared.message.Kind.{Kind}
-use Rattle.cmh_process.specs.declared.message.Kind.TheVariants.{Query, Reply}
-use Rattle.cmh_process.specs.declared.message.Message.{Message}
-use Rattle.cmh_run.specs.CheckState.{pair_cmp, of_kind, UndeliveredState, is_waiting, is_same_kind, goes_like}
-use Rattle.cmh_graph.proofs.Verdicts.{by_test}
+use Rattle.cmh_run.specs.CheckState.{pair_cmp, of_kind}
 
 -- two numbers compare as equal where they are tested to be
 is_eq_nat : (x y : ℕ) → is_eq (nat_cmp x y) ≡ eqb x y

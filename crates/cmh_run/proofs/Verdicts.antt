@@ -1,9 +1,6 @@
 -- The comparison of two verdicts.
-use Rattle.std.proofs.Common.{◌≡◌, true, refl}
+use Rattle.cmh_run.proofs.Common.{◌≡◌, true, refl, Verdict, Deadlocked, Free, the_type}
 use denote.Enum.Bare.{sameb}
-use Rattle.cmh_graph.specs.declared.verdict.Verdict.{Verdict}
-use Rattle.cmh_graph.specs.declared.verdict.Verdict.TheVariants.{Deadlocked, Free}
-use Rattle.cmh_graph.specs.contracts.verdict.Verdict.{the_type}
 
 -- two verdicts that compare as alike are equal
 pub equal_verdicts : (a b : Verdict) → sameb the_type a b ≡ true → a ≡ b

@@ -1,16 +1,7 @@
-use Rattle.std.proofs.Common.{◌≡◌, ℕ, ◌+◌, List, take, suc, get_or, arith, sym, ◌∙◌, ap, subst, inl, inr, ◌⊎◌, ⊎_elim}
-use Rattle.std.specs.Prelude.{IfOk, IfErr, ◌↔◌}
+use Rattle.cmh_run.proofs.Common.{◌≡◌, ℕ, ◌+◌, List, take, suc, get_or, arith, sym, ◌∙◌, ap, subst, inl, inr, ◌⊎◌, ⊎_elim, IfOk, IfErr, ◌↔◌, slice_get-get_or, IsDeadlocked, Delivery, Declared, Memory, Going, IsLegalRun, IsFlaw, IsFirstCheckFault, Agrees, IsSettled, IsChecked}
 use Rattle.std.proofs.lemmas.List.{take_all}
-use Rattle.std.proofs.lemmas.Option.{slice_get-get_or}
 use Rattle.std.proofs.lemmas.Result.{err_from_is_err_and}
 use Rattle.std.proofs.Math.Seq.{take-suc}
-use Rattle.cmh_graph.specs.Verdict.{IsDeadlocked}
-use Rattle.cmh_run.specs.declared.delivery.Delivery.{Delivery}
-use Rattle.cmh_run.specs.declared.delivery.Ending.TheVariants.{Declared}
-use Rattle.cmh_run.specs.declared.fault.CheckFault.TheVariants.{Memory}
-use Rattle.cmh_run.specs.Legal.{Going}
-use Rattle.cmh_run.specs.Check.{IsLegalRun, IsFlaw, IsFirstCheckFault}
-use Rattle.cmh_run.specs.CheckState.{Agrees, IsSettled, IsChecked}
 use Rattle.cmh_run.proofs.CheckLemmas.{flaw_is_fault, answer_legal, answer_true, answer_cut}
 use Rattle.cmh_run.proofs.check.check_run.Goals as goal
 

@@ -1,5 +1,4 @@
-use Rattle.std.proofs.Common.{take}
-use Rattle.cmh_run.specs.CheckState.{IsChecked}
+use Rattle.cmh_run.proofs.Common.{take, IsChecked}
 use Rattle.cmh_run.proofs.check.check_run.Given as goal
 
 abbrev pub invariant-loop-t : goal.invariant-loop-t

@@ -1,4 +1,4 @@
-use Rattle.std.proofs.Common.{◌≡◌, ◌∙◌, ◌+◌, ◌-◌, Some, ap, arith, refl}
+use Rattle.cmh_run.proofs.Common.{◌≡◌, ◌∙◌, ◌+◌, ◌-◌, Some, ap, arith, refl}
 use Rattle.cmh_run.proofs.NextProcesses.{next_none, next_some}
 use Rattle.cmh_run.proofs.list.next_by.Goals as goal
 

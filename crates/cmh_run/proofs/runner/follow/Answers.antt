@@ -1,9 +1,4 @@
-use Rattle.std.proofs.Common.{◌∙◌, ◌+◌, ◌*◌, ◌-◌, ◌<◌, ap, subst, length}
-use Rattle.cmh_graph.specs.Graph.{dependency_count}
-use Rattle.cmh_run.specs.declared.TheConstants.{MAX_RESTARTS}
-use Rattle.cmh_run.specs.Config.{nothing_yet}
-use Rattle.cmh_run.specs.Run.{IsRunAnswer}
-use Rattle.cmh_run.specs.Progress.{RunState}
+use Rattle.cmh_run.proofs.Common.{◌∙◌, ◌+◌, ◌*◌, ◌-◌, ◌<◌, ap, subst, length, dependency_count, MAX_RESTARTS, nothing_yet, IsRunAnswer, RunState}
 use Rattle.cmh_run.proofs.ProgressLemmas.{log_falls, answer_of, cleared}
 use Rattle.cmh_run.proofs.runner.follow.Goals as goal
 

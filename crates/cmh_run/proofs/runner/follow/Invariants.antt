@@ -1,8 +1,4 @@
-use Rattle.std.proofs.Common.{◌≡◌, ◌+◌, ◌*◌, ◌-◌, length}
-use Rattle.cmh_graph.specs.Graph.{dependency_count}
-use Rattle.cmh_run.specs.Choices.{HasNoHints}
-use Rattle.cmh_run.specs.declared.TheConstants.{MAX_RESTARTS}
-use Rattle.cmh_run.specs.Progress.{IsUnderWay}
+use Rattle.cmh_run.proofs.Common.{◌≡◌, ◌+◌, ◌*◌, ◌-◌, length, dependency_count, HasNoHints, MAX_RESTARTS, IsUnderWay}
 use Rattle.cmh_run.proofs.runner.follow.Given as goal
 
 abbrev pub invariant-loop-progress : goal.invariant-loop-progress

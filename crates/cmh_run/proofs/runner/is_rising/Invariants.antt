@@ -1,4 +1,4 @@
-use Rattle.std.proofs.Common.{ℕ, ◌+◌, ◌<◌, get_or}
+use Rattle.cmh_run.proofs.Common.{ℕ, ◌+◌, ◌<◌, get_or}
 use Rattle.cmh_run.proofs.runner.is_rising.Given as goal
 
 abbrev pub invariant-loop-i : goal.invariant-loop-i

@@ -1,7 +1,6 @@
-use Rattle.std.proofs.Common.{ℕ, rules}
+use Rattle.cmh_run.proofs.Common.{ℕ, rules, query}
 use Rattle.std.proofs.lemmas.Iterator.{YieldsList-from_slice, YieldsList-from_map}
 use Rattle.std.proofs.lemmas.Iterator.Adapters.{items_from_extend}
-use Rattle.cmh_run.specs.Config.{query}
 use Rattle.cmh_run.proofs.bag.Bag.add_queries.Goals as goal
 
 pub returns : goal.returns

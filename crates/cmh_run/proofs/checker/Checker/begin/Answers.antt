@@ -1,5 +1,4 @@
-use Rattle.std.proofs.Common.{[]}
-use Rattle.cmh_run.specs.Legal.{going_at_start}
+use Rattle.cmh_run.proofs.Common.{[], going_at_start}
 use Rattle.cmh_run.proofs.CheckStateLemmas.{agrees_first}
 use Rattle.cmh_run.proofs.checker.Checker.begin.Goals as goal
 

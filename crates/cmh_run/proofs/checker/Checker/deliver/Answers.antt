@@ -1,9 +1,4 @@
-use Rattle.std.proofs.Common.{◌≡◌, ◌∷◌, [], ◌++◌, refl, sym, ◌∙◌, ap, subst, inr, cond, length}
-use Rattle.std.proofs.lemmas.Bool.{true≢false}
-use Rattle.cmh_graph.specs.Graph.{is_awake}
-use Rattle.cmh_run.specs.Config.{Config, after_message}
-use Rattle.cmh_run.specs.Legal.{going_after}
-use Rattle.cmh_run.specs.CheckState.{CheckState}
+use Rattle.cmh_run.proofs.Common.{◌≡◌, ◌∷◌, [], ◌++◌, refl, sym, ◌∙◌, ap, subst, inr, cond, length, true≢false, is_awake, Config, after_message, going_after, CheckState}
 use Rattle.cmh_run.proofs.CheckLemmas.{network_size, awaited, where_none, is_there, delivery_within, after_delivery}
 use Rattle.cmh_run.proofs.checker.Checker.deliver.Goals as goal
 

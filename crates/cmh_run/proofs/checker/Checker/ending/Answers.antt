@@ -1,6 +1,4 @@
-use Rattle.std.proofs.Common.{sym, ◌∙◌, subst}
-use Rattle.std.proofs.lemmas.Bool.{true≢false}
-use Rattle.cmh_run.specs.CheckState.{CheckState, Agrees, IsSettled}
+use Rattle.cmh_run.proofs.Common.{sym, ◌∙◌, subst, true≢false, CheckState, Agrees, IsSettled}
 use Rattle.cmh_run.proofs.CheckLemmas.{ended_as, rests, goes_on}
 use Rattle.cmh_run.proofs.checker.Checker.ending.Goals as goal
 

@@ -1,6 +1,4 @@
-use Rattle.std.proofs.Common.{◌≡◌, true, sym, ◌∙◌, subst}
-use Rattle.cmh_run.specs.CheckState.{CheckState}
-use Rattle.cmh_run.specs.Legal.{HintIsFit}
+use Rattle.cmh_run.proofs.Common.{◌≡◌, true, sym, ◌∙◌, subst, CheckState, HintIsFit}
 use Rattle.cmh_run.proofs.CheckLemmas.{truth_at, fit_where_true}
 use Rattle.cmh_run.proofs.checker.Checker.is_fit.Goals as goal
 

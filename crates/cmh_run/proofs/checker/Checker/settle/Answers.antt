@@ -1,4 +1,4 @@
-use Rattle.std.proofs.Common.{◌%◌, length}
+use Rattle.cmh_run.proofs.Common.{◌%◌, length}
 use Rattle.cmh_run.proofs.CheckStateLemmas.{agrees_on}
 use Rattle.cmh_run.proofs.checker.Checker.settle.Goals as goal
 

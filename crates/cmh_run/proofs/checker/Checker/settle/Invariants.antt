@@ -1,8 +1,4 @@
-use Rattle.std.proofs.Common.{ℕ, List, length}
-use Rattle.cmh_graph.specs.Graph.{Graph}
-use Rattle.cmh_run.specs.declared.delivery.Delivery.{Delivery}
-use Rattle.cmh_run.specs.Legal.{Going}
-use Rattle.cmh_run.specs.CheckState.{Agrees}
+use Rattle.cmh_run.proofs.Common.{ℕ, List, length, Graph, Delivery, Going, Agrees}
 use Rattle.cmh_run.proofs.checker.Checker.settle.Given as goal
 
 abbrev pub invariant-loop-message : goal.invariant-loop-message

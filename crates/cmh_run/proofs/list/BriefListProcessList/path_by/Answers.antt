@@ -1,7 +1,5 @@
-use Rattle.std.proofs.Common.{◌≡◌, ◌∙◌, [], ap, arith, length, sym}
+use Rattle.cmh_run.proofs.Common.{◌≡◌, ◌∙◌, [], ap, arith, length, sym, chosen_path, distance_of, length-by_index}
 use Rattle.std.specs.Prelude.{Some}
-use Rattle.cmh_graph.specs.ChosenPath.{chosen_path, distance_of}
-use Rattle.cmh_graph.proofs.IndexLists.{length-by_index}
 use Rattle.cmh_run.proofs.NextProcesses.{distance_at, path_far, some_of}
 use Rattle.cmh_run.proofs.list.BriefListProcessList.path_by.Goals as goal
 

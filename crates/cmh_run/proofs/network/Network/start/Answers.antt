@@ -1,4 +1,4 @@
-use Rattle.std.proofs.Common.{◌<◌, ◌^◌, length, arith}
+use Rattle.cmh_run.proofs.Common.{◌<◌, ◌^◌, length, arith}
 use Rattle.cmh_run.proofs.Sizes.{few_dependents}
 use Rattle.cmh_run.proofs.network.Network.start.Goals as goal
 

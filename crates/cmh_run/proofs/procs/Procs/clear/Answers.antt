@@ -1,8 +1,5 @@
-use Rattle.std.proofs.Common.{◌≡◌, ◌∙◌, ◌++◌, ◌∷◌, [], ap, rules, subst, sym}
-use Rattle.std.specs.Prelude.{option_to_list, replicate, slice_set}
-use Rattle.std.proofs.lemmas.List.{length-set}
-use Rattle.cmh_process.specs.Process.{new_proc}
-use Rattle.cmh_run.specs.Procs.{AreTouched}
+use Rattle.cmh_run.proofs.Common.{◌≡◌, ◌∙◌, ◌++◌, ◌∷◌, [], ap, rules, subst, sym, slice_set, length-set, new_proc, AreTouched}
+use Rattle.std.specs.Prelude.{option_to_list, replicate}
 use Rattle.cmh_run.proofs.TouchedProcesses.{all_clear, last_cleared}
 use Rattle.cmh_run.proofs.procs.Procs.clear.Goals as goal
 

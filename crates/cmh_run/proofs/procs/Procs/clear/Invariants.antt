@@ -1,5 +1,4 @@
-use Rattle.std.proofs.Common.{◌≡◌, length}
-use Rattle.cmh_run.specs.Procs.{AreTouched}
+use Rattle.cmh_run.proofs.Common.{◌≡◌, length, AreTouched}
 use Rattle.cmh_run.proofs.procs.Procs.clear.Given as goal
 
 abbrev pub invariant-loop-k : goal.invariant-loop-k

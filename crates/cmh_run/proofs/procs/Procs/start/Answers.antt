@@ -1,6 +1,4 @@
-use Rattle.std.proofs.Common.{ap, arith, length, subst, sym}
-use Rattle.std.specs.Prelude.{slice_set}
-use Rattle.cmh_run.specs.Procs.{AreTouched}
+use Rattle.cmh_run.proofs.Common.{ap, arith, length, subst, sym, slice_set, AreTouched}
 use Rattle.cmh_run.proofs.TouchedProcesses.{one_touched}
 use Rattle.cmh_run.proofs.procs.Procs.start.Goals as goal
 

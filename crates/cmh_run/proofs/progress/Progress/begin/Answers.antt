@@ -1,4 +1,4 @@
-use Rattle.std.proofs.Common.{[]}
+use Rattle.cmh_run.proofs.Common.{[]}
 use Rattle.cmh_run.proofs.ProgressLemmas.{may_start_at}
 use Rattle.cmh_run.proofs.progress.Progress.begin.Goals as goal
 

@@ -1,6 +1,4 @@
-use Rattle.std.proofs.Common.{subst, sym, List, arith}
-use Rattle.cmh_run.specs.declared.delivery.Delivery.{Delivery}
-use Rattle.cmh_run.specs.Choices.{HasNoHints}
+use Rattle.cmh_run.proofs.Common.{subst, sym, List, arith, Delivery, HasNoHints}
 use Rattle.cmh_run.proofs.ProgressLemmas.{next_size, next_within, next_room, next_may_start, next_under_way, next_log, no_hints_on}
 use Rattle.cmh_run.proofs.progress.Progress.deliver_next.Goals as goal
 

@@ -1,6 +1,4 @@
-use Rattle.std.proofs.Common.{◌∙◌, inr, subst, sym, List}
-use Rattle.cmh_graph.specs.Graph.{process_count}
-use Rattle.cmh_run.specs.Script.{ScriptLine, AreTrueOf}
+use Rattle.cmh_run.proofs.Common.{◌∙◌, inr, subst, sym, List, process_count, ScriptLine, AreTrueOf}
 use Rattle.cmh_run.proofs.Scripts.{never_beyond, first_beyond, first_untrue, true_of}
 use Rattle.cmh_run.proofs.scripted.Scripted.new.Goals as goal
 

@@ -1,6 +1,5 @@
 -- The tape has the chosen path of the process. Nothing is read when it runs.
-use Rattle.std.proofs.Common.{[], ◌∷◌, refl}
-use Rattle.std.specs.Prelude.{unwrap_or}
+use Rattle.cmh_run.proofs.Common.{[], ◌∷◌, refl, unwrap_or, chosen_path}
 use Rattle.std.proofs.raw_atomic.Walks.{proved}
 use mir.Syntax.{named}
 use types.Kit.{‵, raw, ◌⊛◌, ◌$◌, ◌∵◌, !, qed, done, move, keep, split, join, suffices}
@@ -15,7 +14,6 @@ use denote.Signature.{plain, types_at}
 use denote.Steps.{nothing, owned}
 use denote.Triple.Entry.{alive}
 use denote.Triple.Walked.{Stays, walk_of, says, stay_dropped, Goes-dropped, ends_at}
-use Rattle.cmh_graph.specs.ChosenPath.{chosen_path}
 use Rattle.cmh_graph.specs.contracts.graph.WaitGraph.{the_row as WaitGraph}
 use Rattle.cmh_run.specs.contracts.tape.ListTape.{the_row as ListTape}
 use Rattle.cmh_run.specs.contracts.tape.ListTape.chosen_path as f

@@ -1,5 +1,5 @@
 -- The tape has the processes of the list. Nothing is read when it runs.
-use Rattle.std.proofs.Common.{[], ◌∷◌, refl}
+use Rattle.cmh_run.proofs.Common.{[], ◌∷◌, refl}
 use Rattle.std.proofs.raw_atomic.Walks.{proved}
 use mir.Syntax.{named}
 use types.Kit.{‵, raw, ◌⊛◌, ◌$◌, ◌∵◌, !, qed, done, move, keep, split, join, suffices}

@@ -1,5 +1,5 @@
 -- The new tape has no deliveries.
-use Rattle.std.proofs.Common.{[], ◌∷◌, refl}
+use Rattle.cmh_run.proofs.Common.{[], ◌∷◌, refl}
 use Rattle.std.proofs.raw_atomic.Walks.{proved}
 use types.Kit.{‵, raw, ◌⊛◌, ◌$◌, ◌∵◌, !, qed, done, move, keep, split, suffices}
 use types.Part.{agg}

@@ -1,7 +1,4 @@
-use Rattle.std.proofs.Common.{◌≡◌, ◌∙◌, sym, subst, false}
-use Rattle.std.proofs.lemmas.Bool.{true≢false}
-use Rattle.cmh_process.specs.declared.message.Message.{Message}
-use Rattle.cmh_run.specs.CheckState.{UndeliveredState, is_waiting}
+use Rattle.cmh_run.proofs.Common.{◌≡◌, ◌∙◌, sym, subst, false, true≢false, Message, UndeliveredState, is_waiting}
 use Rattle.cmh_run.proofs.UndeliveredLemmas.{no_queries, no_replies, none_waiting}
 use Rattle.cmh_run.proofs.undelivered.Undelivered.is_empty.Goals as goal
 
