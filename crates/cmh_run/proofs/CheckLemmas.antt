@@ -7,6 +7,7 @@ use Rattle.cmh_graph.proofs.Verdicts.{verdict_listed}
 use Rattle.cmh_run.proofs.Scripts.{verdict_count}
 use Rattle.cmh_run.proofs.Verdicts.{equal_verdicts, verdict_equals_itself}
 use Rattle.cmh_run.specs.Check.{HasEnded}
+use Rattle.cmh_run.specs.Progress.{HasProcess}
 use Rattle.cmh_run.proofs.Soundness.{runs_are_sound}
 use Rattle.cmh_run.proofs.Tokens.{each_at}
 use Rattle.cmh_run.proofs.LiveInvariant.{IsSoundMessage}
@@ -136,6 +137,14 @@ module _ (g : Graph) (i : ℕ) (log : List Delivery) (s : Going) (a : CheckState
   -- where the run hasn't ended, the network that is kept hasn't
   pub network_going : a.network.ended ≡ None
   network_going = ap (λ (c : Config). c.ended) h.network ∙ is_going g i log s a h going
+
+  -- a network like the one that is kept has the receiver, and hasn't ended
+  pub has_receiver : (c : Config) → c ≡ a.network → HasProcess g c d.message.to
+  has_receiver c same = subst (λ (x : Config). HasProcess g x d.message.to) (sym same) (record {
+    size = network_size g i log s a h;
+    within = delivery_within;
+    going = network_going;
+  })
 
   -- once an awaited message is delivered with a fit hint, what is kept agrees with the longer run
   pub after_delivery : (t b : CheckState) → t.network ≡ a.network

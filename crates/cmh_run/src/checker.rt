@@ -1,11 +1,12 @@
 //! A log that is checked: the run that its deliveries make, from one to the next.
 
-ghost use Rattle.std.specs.Prelude.{◌≡◌, ◌⊎◌, ◌<◌, ◌↔◌, ℕ, List, [], ◌∷◌, ◌++◌, None, length, IfOk, IfErr, IfSome, IfNone, IsTrue, not, ◌&&◌, OnOk};
+ghost use Rattle.std.specs.Prelude.{◌≡◌, ◌⊎◌, ◌<◌, ◌↔◌, ℕ, List, [], ◌∷◌, ◌++◌, None, IfOk, IfErr, IfSome, IfNone, IsTrue, not, ◌&&◌, OnOk};
 ghost use Rattle.cmh_graph.specs.Graph.{Graph, process_count, is_idle};
 ghost use Rattle.cmh_graph.specs.Verdict.{verdicts};
 ghost use Rattle.cmh_process.specs.declared.message.Message.{Message};
 ghost use Rattle.cmh_run.specs.declared.delivery.Delivery.{Delivery};
 ghost use Rattle.cmh_run.specs.Legal.{Going, HintIsFit, EndsAs};
+ghost use Rattle.cmh_run.specs.Progress.{HasProcess};
 ghost use Rattle.cmh_run.specs.Check.{HasEnded, IsFlaw};
 ghost use Rattle.cmh_run.specs.CheckState.{is_waiting, goes_like, Agrees, IsChecked, IsSettled};
 
@@ -118,8 +119,7 @@ impl Checker {
 
     /// Whether the delivery has no hint, or one that is asked for and true.
     fn is_fit(&self, graph: &WaitGraph, truth: &[Verdict], delivery: Delivery) -> bool
-        requires size { length self.now.network.procs ≡ process_count graph.now }
-        requires within { delivery.message.to < process_count graph.now }
+        requires process { HasProcess graph.now self.now.network delivery.message.to }
         requires truth { truth.now ≡ verdicts graph.now }
         ensures { IsTrue result
             ↔ HintIsFit graph.now self.now.network delivery.message delivery.hint }

@@ -3,7 +3,7 @@
 ghost use Rattle.std.specs.Prelude.{◌≡◌, ℕ, List, ◌+◌, ◌<◌, ◌^◌, ◌%◌, ◌↔◌, [], None, Option, Some, length, slice_get, IfSome, IfNone, IsNone, IsFalse, IfOk, OnOk, if◌then◌else◌};
 ghost use Rattle.cmh_graph.specs.Graph.{process_count, is_awake};
 ghost use Rattle.cmh_run.specs.Legal.{going_at_start, HintIsFit};
-ghost use Rattle.cmh_run.specs.Progress.{HasProcess};
+ghost use Rattle.cmh_run.specs.Progress.{HasProcess, MayReceive};
 ghost use Rattle.cmh_run.specs.Config.{blank_config, proc_at, nothing_yet, start, after_action, after_engagement, after_hint, after_message, asks_hint, query, without_message};
 
 use crate::procs::Procs;
@@ -119,8 +119,8 @@ impl Network {
         ensures { result ≡ asks_hint graph.now self.now message }
     {
         message.kind == Kind::Query
-            && !graph.is_awake(message.to)
             && self.procs.is_engaged_by(message.to, message.number)
+            && !graph.is_awake(message.to)
     }
 
     /// The delivery of a message that was taken out of the bag, with what is known of its receiver.
@@ -144,6 +144,9 @@ impl Network {
             to,
             ..
         } = message;
+        if graph.is_awake(to) {
+            return Ok(());
+        }
         if self.asks(graph, message) {
             return self.engage_by_hint(graph, initiator, number, from, to, hint);
         }
@@ -160,7 +163,7 @@ impl Network {
         message: Message,
         hints: &mut H,
     ) -> Result<Option<Verdict>, AllocError>
-        requires process { HasProcess graph.now self.old message.to }
+        requires may { MayReceive graph.now self.old message }
         requires speaks { H.speaks_of hints.old graph.now }
         ensures fit { IfOk result (HintIsFit graph.now self.old message) }
         ensures ok { IfOk result (λ hint. self.new ≡ (if is_awake graph.now message.to
@@ -184,17 +187,17 @@ impl Network {
         Ok(None)
     }
 
-    /// The delivery of a message that doesn't engage its receiver. An awake process discards it. The dependents of the
-    /// receiver aren't looked up.
+    /// The delivery of a message that doesn't engage its receiver, whose dependents aren't looked up. To an awake process
+    /// no message has come before, so it does nothing, and needn't be told from the others.
     #[inline(always)]
-    #[tactic(auto, using(crate::proofs::QueryLemmas::answers, crate::proofs::QueryLemmas::not_engaged))]
+    #[tactic(auto, using(crate::proofs::QueryLemmas::answered, crate::proofs::QueryLemmas::replied))]
     fn receive(
         &mut self,
         graph: &WaitGraph,
         initiator: u32,
         message: Message,
     ) -> Result<(), AllocError>
-        requires process { HasProcess graph.now self.old message.to }
+        requires may { MayReceive graph.now self.old message }
         requires unasked { IsFalse (asks_hint graph.now self.old message) }
         ensures ok { OnOk result ((hint : Option Verdict)
             → self.new ≡ (if is_awake graph.now message.to
@@ -208,9 +211,6 @@ impl Network {
             to,
             ..
         } = message;
-        if graph.is_awake(to) {
-            return Ok(());
-        }
         let action = match kind {
             Kind::Query => self.procs.answer(to, number, from),
             Kind::Reply => self.procs.reply(to, number),
@@ -260,6 +260,7 @@ impl Network {
         dependents: &[u32],
     ) -> Result<(), AllocError>
         requires within { to < length self.old.procs }
+        requires going { self.old.ended ≡ None }
         requires few { length dependents.now < 2 ^ 32 }
         ensures ok { OnOk result (self.new ≡
             after_engagement initiator self.old (query initiator number from to) dependents.now) }
@@ -280,13 +281,13 @@ impl Network {
     /// A process sends, ends the run, or does nothing.
     #[inline(always)]
     fn act(&mut self, sender: Sender, dependents: &[u32], action: Action) -> Result<(), AllocError>
+        requires { self.old.ended ≡ None }
         ensures ok { OnOk result (self.new ≡
             after_action sender.initiator self.old sender.number sender.from dependents.now action) }
     {
-        self.ended = match action {
-            Action::Declare => Some(Ending::Declared),
-            _ => None,
-        };
+        if let Action::Declare = action {
+            self.ended = Some(Ending::Declared);
+        }
         sender.send(&mut self.bag, dependents, action)
     }
 

@@ -1,17 +1,16 @@
 //! A run on its way.
 
-ghost use Rattle.std.specs.Prelude.{◌≡◌, ℕ, List, ◌+◌, ◌<◌, [], None, length, IfOk, OnOk, IsTrue, IsFalse, unwrap_or};
+ghost use Rattle.std.specs.Prelude.{◌≡◌, ℕ, List, ◌+◌, ◌<◌, [], None, length, slice_index, IfOk, OnOk, IsTrue, IsFalse, unwrap_or};
 ghost use Rattle.cmh_run.specs.Choices.{HasNoHints};
 ghost use Rattle.cmh_run.specs.Config.{blank_config, nothing_yet};
 ghost use Rattle.cmh_run.specs.Legal.{after_due_restart};
 ghost use Rattle.cmh_run.specs.Run.{IsAccepted};
-ghost use Rattle.cmh_run.specs.Progress.{RunState, IsUnderWay, IsOver, MayStart, IsTakenBy};
+ghost use Rattle.cmh_run.specs.Progress.{RunState, IsUnderWay, IsOver, MayStart};
 
 use crate::network::Network;
 use crate::{Delivery, Ending, Hints, Log, RunLog};
 use cmh_graph::WaitGraph;
 use cmh_graph::laws::law_built_graph;
-use cmh_process::Message;
 use std::alloc::{AllocError, Global};
 use std::marker::Model;
 
@@ -39,15 +38,13 @@ impl<'a, L: Log> Model for Progress<'a, L> {
       graph = p.graph.now;
       initiator = p.initiator;
       choices = p.choices.now;
-      progress = record {
-        going = record {
-          config = p.network;
-          done = p.made;
-          restarts = p.restarts.now;
-          restarted = p.restarted;
-        };
-        log = L.deliveries p.log;
+      going = record {
+        config = p.network;
+        done = p.made;
+        restarts = p.restarts.now;
+        restarted = p.restarted;
       };
+      log = L.deliveries p.log;
     } };
 }
 
@@ -68,10 +65,11 @@ impl<'a, L: Log> Progress<'a, L> {
           graph = graph.now;
           initiator = initiator;
           choices = choices.now;
-          progress = p.progress;
+          going = p.going;
+          log = p.log;
         }) }
         ensures under_way { IfOk result (IsUnderWay restarts.now) }
-        ensures log { IfOk result (λ p. p.progress.log ≡ []) }
+        ensures log { IfOk result (λ p. p.log ≡ []) }
     {
         law_built_graph(graph);
         network.begin(graph, initiator)?;
@@ -93,12 +91,10 @@ impl<'a, L: Log> Progress<'a, L> {
     /// The initiator starts again, if that is due now.
     #[inline(always)]
     fn restart_if_due(&mut self) -> Result<(), AllocError>
-        requires may { self.old.progress.going.config.ended ≡ None
-            → MayStart self.old.graph self.old.initiator self.old.progress.going }
+        requires may { self.old.going.config.ended ≡ None
+            → MayStart self.old.graph self.old.initiator self.old.going }
         ensures ok { OnOk result (self.new ≡ record self.old {
-          progress = record self.old.progress {
-            going = after_due_restart self.old.graph self.old.initiator self.old.progress.going;
-          };
+          going = after_due_restart self.old.graph self.old.initiator self.old.going;
         }) }
     {
         let Some(next) = self.restarts.first() else {
@@ -113,22 +109,6 @@ impl<'a, L: Log> Progress<'a, L> {
         Ok(())
     }
 
-    /// Takes the message that the next choice names, unless the run has ended.
-    #[inline(always)]
-    fn take(&mut self) -> Option<Message>
-        ensures same { self.new ≡ record self.old { progress = self.new.progress } }
-        ensures taken { IsTakenBy self.old.choices self.old.progress self.new.progress result }
-    {
-        if self.network.has_ended() {
-            return None;
-        }
-        let choice = match self.choices.get(self.made) {
-            Some(choice) => *choice,
-            None => 0,
-        };
-        self.network.take(choice)
-    }
-
     /// Delivers the message that the next choice names, with what hints say of its receiver, if that is about to
     /// engage. Then the initiator starts again, if that is due. It answers false where the run has ended or nothing is
     /// undelivered.
@@ -136,17 +116,24 @@ impl<'a, L: Log> Progress<'a, L> {
     pub(crate) fn deliver_next<H: Hints>(&mut self, hints: &mut H) -> Result<bool, AllocError>
         requires under_way { (restarts : List ℕ) × IsUnderWay restarts self.old }
         requires speaks { H.speaks_of hints.old self.old.graph }
-        ensures same { OnOk result (self.new ≡ record self.old { progress = self.new.progress }) }
+        ensures same { OnOk result (self.new ≡ record self.old {
+          going = self.new.going;
+          log = self.new.log;
+        }) }
         ensures under_way { IfOk result (λ more. (restarts : List ℕ)
             → IsUnderWay restarts self.old → IsUnderWay restarts self.new) }
         ensures more { IfOk result (λ more. IsTrue more
-            → length self.new.progress.log ≡ length self.old.progress.log + 1) }
-        ensures over { IfOk result (λ more. IsFalse more → IsOver self.new.progress.going.config) }
+            → length self.new.log ≡ length self.old.log + 1) }
+        ensures over { IfOk result (λ more. IsFalse more → IsOver self.new.going.config) }
         ensures silent { IfOk result (λ more. H.is_silent hints.old
-            → HasNoHints self.old.progress.log → HasNoHints self.new.progress.log) }
+            → HasNoHints self.old.log → HasNoHints self.new.log) }
         ensures kept { H.keeps hints.old hints.new }
     {
-        let Some(message) = self.take() else {
+        if self.network.has_ended() {
+            return Ok(false);
+        }
+        let choice = choice_at(self.choices, self.made);
+        let Some(message) = self.network.take(choice) else {
             return Ok(false);
         };
         let hint = self
@@ -162,12 +149,12 @@ impl<'a, L: Log> Progress<'a, L> {
     pub(crate) fn finish(self, alloc: Global) -> (RunLog<L>, Network)
         ensures log { result.0 ≡ record {
           initiator = self.entry.initiator;
-          log = self.entry.progress.log;
-          ending = unwrap_or self.entry.progress.going.config.ended Ending.AtRest;
-          engaged = self.entry.progress.going.config.engaged;
-          restarted = self.entry.progress.going.restarted;
+          log = self.entry.log;
+          ending = unwrap_or self.entry.going.config.ended Ending.AtRest;
+          engaged = self.entry.going.config.engaged;
+          restarted = self.entry.going.restarted;
         } }
-        ensures network { result.1 ≡ blank_config (length self.entry.progress.going.config.procs) }
+        ensures network { result.1 ≡ blank_config (length self.entry.going.config.procs) }
     {
         let mut network = self.network;
         let ending = network.ending().unwrap_or(Ending::AtRest);
@@ -181,5 +168,16 @@ impl<'a, L: Log> Progress<'a, L> {
             restarted: self.restarted,
         };
         (log, network)
+    }
+}
+
+/// The choice of a delivery, which is 0 past the last one.
+#[inline(always)]
+fn choice_at(choices: &[u64], made: usize) -> u64
+    ensures { result ≡ slice_index choices.now made }
+{
+    match choices.get(made) {
+        Some(choice) => *choice,
+        None => 0,
     }
 }

@@ -6,8 +6,8 @@ use Rattle.cmh_run.proofs.runner.follow.Goals as goal
 pub loop-progress-smaller : goal.loop-progress-smaller
 loop-progress-smaller g c =
     subst (λ (x : RunState).
-    2 * dependency_count x.graph * (MAX_RESTARTS + 1) + 1 - length c.deliver_next.new.self.progress.log
-    < 2 * dependency_count x.graph * (MAX_RESTARTS + 1) + 1 - length c.loop-progress.progress.progress.log)
+    2 * dependency_count x.graph * (MAX_RESTARTS + 1) + 1 - length c.deliver_next.new.self.log
+    < 2 * dependency_count x.graph * (MAX_RESTARTS + 1) + 1 - length c.loop-progress.progress.log)
     c.loop-progress.invariant.same
     (log_falls c.args.restarts.now c.loop-progress.progress c.deliver_next.new.self
     (c.in_ok-deliver_next.ensures.under_way c.args.restarts.now c.loop-progress.invariant.under_way)
@@ -17,7 +17,8 @@ loop-progress-smaller g c =
 pub loop-progress-preserved : goal.loop-progress-preserved
 loop-progress-preserved g c = record {
   same = c.in_ok-deliver_next.ensures.same
-      ∙ ap (λ (x : RunState). let z : RunState = record x { progress = c.deliver_next.new.self.progress } in z)
+      ∙ ap (λ (x : RunState). let z : RunState =
+      record x { going = c.deliver_next.new.self.going; log = c.deliver_next.new.self.log } in z)
       c.loop-progress.invariant.same;
   under_way = c.in_ok-deliver_next.ensures.under_way c.args.restarts.now c.loop-progress.invariant.under_way;
   kept = g.met.H.Hints.keeps_on c.args.hints.now c.loop-progress.hints c.deliver_next.new.hints
@@ -32,11 +33,12 @@ pub returns-clause-run : goal.returns-clause-run
 returns-clause-run g c =
     subst (λ (x : RunState). IsRunAnswer x.graph x.initiator x.choices c.args.restarts.now c.finish.result.0)
     (c.in_ok-deliver_next.ensures.same
-    ∙ ap (λ (x : RunState). let z : RunState = record x { progress = c.deliver_next.new.self.progress } in z)
+    ∙ ap (λ (x : RunState). let z : RunState =
+    record x { going = c.deliver_next.new.self.going; log = c.deliver_next.new.self.log } in z)
     c.loop-progress.invariant.same)
-    (answer_of c.args.restarts.now c.deliver_next.new.self c.finish.result.0
+    (answer_of c.args.restarts.now c.deliver_next.new.self
     (c.in_ok-deliver_next.ensures.under_way c.args.restarts.now c.loop-progress.invariant.under_way)
-    (c.in_ok-deliver_next.ensures.over c.if-branch.false) c.finish.ensures.log)
+    (c.in_ok-deliver_next.ensures.over c.if-branch.false) c.finish.result.0 c.finish.ensures.log)
 
 -- at the end the network is as at first
 pub returns-clause-blank : goal.returns-clause-blank
@@ -46,5 +48,6 @@ returns-clause-blank g c =
     c.finish.ensures.network
     ∙ ap (λ (x : RunState). nothing_yet x.graph)
     (c.in_ok-deliver_next.ensures.same
-    ∙ ap (λ (x : RunState). let z : RunState = record x { progress = c.deliver_next.new.self.progress } in z)
+    ∙ ap (λ (x : RunState). let z : RunState =
+    record x { going = c.deliver_next.new.self.going; log = c.deliver_next.new.self.log } in z)
     c.loop-progress.invariant.same)

@@ -1,5 +1,5 @@
-use Rattle.cmh_run.proofs.Common.{◌≡◌, ◌∷◌, [], ◌++◌, refl, sym, ◌∙◌, ap, subst, inr, cond, length, true≢false, is_awake, Config, after_message, going_after, CheckState}
-use Rattle.cmh_run.proofs.CheckLemmas.{network_size, awaited, where_none, is_there, delivery_within, after_delivery}
+use Rattle.cmh_run.proofs.Common.{◌≡◌, ◌∷◌, [], ◌++◌, refl, sym, ◌∙◌, ap, subst, inr, cond, true≢false, is_awake, after_message, going_after, CheckState}
+use Rattle.cmh_run.proofs.CheckLemmas.{awaited, where_none, is_there, has_receiver, after_delivery}
 use Rattle.cmh_run.proofs.checker.Checker.deliver.Goals as goal
 
 -- the message isn't awaited, so it isn't undelivered
@@ -13,37 +13,24 @@ returns-then-not-take-clause-fault c = inr (λ log s h settled. (
       (awaited c.args.graph.now c.args.initiator log s c.args.self.now h settled c.args.delivery.message u))),
 ))
 
--- when a hint is checked, the network has as many processes as the graph
-pub is_fit-requires-clause-size : goal.is_fit-requires-clause-size
-is_fit-requires-clause-size c =
-    ap (λ (n : Config). length n.procs) c.if-not-take.ensures.network
-    ∙ network_size c.args.graph.now c.args.initiator c.requires.checked.0 c.requires.checked.1.0 c.args.self.now
-    c.requires.checked.1.1
-
--- when a hint is checked, the receiver is a process of the graph
-pub is_fit-requires-clause-within : goal.is_fit-requires-clause-within
-is_fit-requires-clause-within c =
-    delivery_within c.args.graph.now c.args.initiator c.requires.checked.0 c.requires.checked.1.0 c.args.self.now
+-- when a hint is checked, the network has the receiver, and hasn't ended
+pub is_fit-requires-clause-process : goal.is_fit-requires-clause-process
+is_fit-requires-clause-process c =
+    has_receiver c.args.graph.now c.args.initiator c.requires.checked.0 c.requires.checked.1.0 c.args.self.now
     c.args.delivery c.requires.checked.1.1 c.requires.checked.1.2
     (where_none c.ending.result _ c.if-is_some.ensures c.ending.ensures.none c.args.graph.now c.args.initiator
     c.requires.checked.0 c.requires.checked.1.0 c.requires.checked.1.1 c.requires.checked.1.2)
-    (c.if-not-take.ensures.found.0 refl)
+    (c.if-not-take.ensures.found.0 refl) c.take.new.self.network c.if-not-take.ensures.network
 
--- the message goes to a process of the graph
+-- and so it is when the message is delivered
 pub deliver-requires : goal.deliver-requires
-deliver-requires c = record {
-  size =
-      ap (λ (a : CheckState). length a.network.procs) c.self.view_is
-      ∙ ap (λ (n : Config). length n.procs) c.if-not-take.ensures.network
-      ∙ network_size c.args.graph.now c.args.initiator c.requires.checked.0 c.requires.checked.1.0 c.args.self.now
-      c.requires.checked.1.1;
-  within =
-      delivery_within c.args.graph.now c.args.initiator c.requires.checked.0 c.requires.checked.1.0 c.args.self.now
-      c.args.delivery c.requires.checked.1.1 c.requires.checked.1.2
-      (where_none c.ending.result _ c.if-is_some.ensures c.ending.ensures.none c.args.graph.now c.args.initiator
-      c.requires.checked.0 c.requires.checked.1.0 c.requires.checked.1.1 c.requires.checked.1.2)
-      (c.if-not-take.ensures.found.0 refl);
-}
+deliver-requires c =
+    has_receiver c.args.graph.now c.args.initiator c.requires.checked.0 c.requires.checked.1.0 c.args.self.now
+    c.args.delivery c.requires.checked.1.1 c.requires.checked.1.2
+    (where_none c.ending.result _ c.if-is_some.ensures c.ending.ensures.none c.args.graph.now c.args.initiator
+    c.requires.checked.0 c.requires.checked.1.0 c.requires.checked.1.1 c.requires.checked.1.2)
+    (c.if-not-take.ensures.found.0 refl) c.self.inside.network
+    (ap (λ (a : CheckState). a.network) c.self.view_is ∙ c.if-not-take.ensures.network)
 
 -- what is kept agrees with the run that is one delivery longer
 pub returns-clause-ok : goal.returns-clause-ok
