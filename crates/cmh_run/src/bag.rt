@@ -131,25 +131,27 @@ impl Bag {
             self.new ≡ remove self.old (choice % length self.old)) }
         ensures unchanged { IfNone result (self.new ≡ self.old) }
     {
-        if choice == 0 || self.is_empty() {
-            return self.messages.pop_front();
+        if choice != 0 {
+            self.bring_to_front(choice);
+        }
+        self.messages.pop_front()
+    }
+
+    /// Puts the message that the choice names before the others. It stands apart, so that the loop of a run has the first
+    /// message's way alone in it.
+    #[inline(never)]
+    fn bring_to_front(&mut self, choice: u64)
+        ensures none { self.old ≡ [] → self.new ≡ [] }
+        ensures first { (m : Message) → slice_get self.old (choice % length self.old) ≡ Some m
+            → self.new ≡ m ∷ remove self.old (choice % length self.old) }
+    {
+        if self.is_empty() {
+            return;
         }
         let place = choice % self.len() as u64;
-        // In parts: if this call wrote a whole message, those that are taken first would be kept in memory, too.
-        let Message {
-            kind,
-            initiator,
-            number,
-            from,
-            to,
-        } = self.messages.remove(place as usize)?;
-        Some(Message {
-            kind,
-            initiator,
-            number,
-            from,
-            to,
-        })
+        if let Some(message) = self.messages.remove(place as usize) {
+            self.messages.push_front_reserved(message);
+        }
     }
 }
 
