@@ -3,7 +3,7 @@ use Rattle.cmh_run.proofs.Common.{inl, inr, zero, suc, ◌%◌, lt-ltb, true≢f
 use Rattle.std.specs.Prelude.{slice_index}
 use Rattle.cmh_run.specs.Config.{blank_config}
 use Rattle.cmh_run.specs.Run.{TellsTruth, verdict_of}
-use Rattle.cmh_run.specs.Progress.{IsOver, MayReceive, MayStart}
+use Rattle.cmh_run.specs.Progress.{IsOver, IsRunState, MayReceive, MayStart}
 use Rattle.cmh_run.proofs.LiveInvariant.{IsSoundMessage, IsSoundRun}
 use Rattle.cmh_run.proofs.Tokens.{each_at}
 use Rattle.cmh_run.proofs.Soundness.{number_kept, runs_are_sound}
@@ -266,15 +266,12 @@ module _ (restarts : List ℕ) (r : RunState) (way : IsUnderWay restarts r) wher
           })
 
 -- a run under way has made fewer deliveries than it may make, and one more leaves fewer to come
-pub log_falls : (restarts : List ℕ) (r v : RunState) → IsUnderWay restarts v
-    → v ≡ record r { going = v.going; log = v.log } → length v.log ≡ length r.log + 1
-    → 2 * dependency_count r.graph * (MAX_RESTARTS + 1) + 1 - length v.log
-    < 2 * dependency_count r.graph * (MAX_RESTARTS + 1) + 1 - length r.log
-log_falls restarts r v way same longer =
-    let here : length v.log ≤ 2 * dependency_count r.graph * (MAX_RESTARTS + 1) =
-    subst (λ (x : RunState). length v.log ≤ 2 * dependency_count x.graph * (MAX_RESTARTS + 1)) same
-    (log_bound restarts v way) in
-    omega (arith, here, longer)
+pub log_falls : (restarts : List ℕ) (g : Graph) (r v : RunState) → IsUnderWay restarts v → v.graph ≡ g
+    → length v.log ≡ length r.log + 1
+    → 2 * dependency_count g * (MAX_RESTARTS + 1) + 1 - length v.log
+    < 2 * dependency_count g * (MAX_RESTARTS + 1) + 1 - length r.log
+log_falls restarts g r v way same longer =
+    let bound = rw same at (log_bound restarts v way) in omega (arith, bound, longer)
 
 -- ---- the end
 
@@ -353,9 +350,10 @@ module _ (restarts : List ℕ) (r : RunState) (way : IsUnderWay restarts r) (ove
       none.silent none.at_rest none.nobody none.once
 
   -- what is kept of it is what is answered
-  pub answer_of : (k : Run) → k ≡ kept → IsRunAnswer r.graph r.initiator r.choices restarts k
-  answer_of k e =
-      subst (λ (x : Run). IsRunAnswer r.graph r.initiator r.choices restarts x) (sym e) (record {
+  pub answer_of : (g : Graph) (i : ℕ) (choices : List ℕ) → IsRunState g i choices r → (k : Run) → k ≡ kept
+      → IsRunAnswer g i choices restarts k
+  answer_of g i choices same k e =
+      rw (← same.graph, ← same.initiator, ← same.choices, e) (record {
         accepted = way.accepted;
         initiator = refl;
         legal = record { end = r.going; legal = legal; engaged = refl; restarted = refl };

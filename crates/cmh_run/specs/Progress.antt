@@ -44,6 +44,12 @@ pub record IsUnderWay (restarts : List ℕ) (r : RunState) : Type 0 where
       r.log r.going
   pub count : r.going.done ≡ length r.log
 
+-- the run has this graph, this initiator and these choices
+pub record IsRunState (g : Graph) (i : ℕ) (given : List ℕ) (r : RunState) : Type 0 where
+  pub graph : r.graph ≡ g
+  pub initiator : r.initiator ≡ i
+  pub choices : r.choices ≡ given
+
 -- nothing more is delivered: a declaration or a hint has ended the run, or no message is undelivered
 abbrev pub IsOver : Config → Type 0
 IsOver c = c.ended ≢ None ⊎ (c.bag ≡ [])

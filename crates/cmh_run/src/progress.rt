@@ -5,7 +5,7 @@ ghost use Rattle.cmh_run.specs.Choices.{HasNoHints};
 ghost use Rattle.cmh_run.specs.Config.{blank_config, nothing_yet};
 ghost use Rattle.cmh_run.specs.Legal.{after_due_restart};
 ghost use Rattle.cmh_run.specs.Run.{IsAccepted};
-ghost use Rattle.cmh_run.specs.Progress.{RunState, IsUnderWay, IsOver, MayStart};
+ghost use Rattle.cmh_run.specs.Progress.{RunState, IsUnderWay, IsOver, IsRunState, MayStart};
 
 use crate::network::Network;
 use crate::{Delivery, Ending, Hints, Log, RunLog};
@@ -61,13 +61,7 @@ impl<'a, L: Log> Progress<'a, L> {
     ) -> Result<Progress<'a, L>, AllocError>
         requires blank { network ≡ nothing_yet graph.now }
         requires accepted { IsAccepted graph.now initiator choices.now restarts.now }
-        ensures same { IfOk result (λ p. p ≡ record {
-          graph = graph.now;
-          initiator = initiator;
-          choices = choices.now;
-          going = p.going;
-          log = p.log;
-        }) }
+        ensures same { IfOk result (IsRunState graph.now initiator choices.now) }
         ensures under_way { IfOk result (IsUnderWay restarts.now) }
         ensures log { IfOk result (λ p. p.log ≡ []) }
     {
@@ -116,10 +110,8 @@ impl<'a, L: Log> Progress<'a, L> {
     pub(crate) fn deliver_next<H: Hints>(&mut self, hints: &mut H) -> Result<bool, AllocError>
         requires under_way { (restarts : List ℕ) × IsUnderWay restarts self.old }
         requires speaks { H.speaks_of hints.old self.old.graph }
-        ensures same { OnOk result (self.new ≡ record self.old {
-          going = self.new.going;
-          log = self.new.log;
-        }) }
+        ensures same { OnOk result
+            (IsRunState self.old.graph self.old.initiator self.old.choices self.new) }
         ensures under_way { IfOk result (λ more. (restarts : List ℕ)
             → IsUnderWay restarts self.old → IsUnderWay restarts self.new) }
         ensures more { IfOk result (λ more. IsTrue more

@@ -1,10 +1,11 @@
 //! Runs one after another, in memory that is kept from one to the next.
 
-ghost use Rattle.std.specs.Prelude.{◌≡◌, ◌⊎◌, [], Some, ◌*◌, ◌≤◌, ◌↔◌, length, IfOk, IfErr, IsTrue};
+ghost use Rattle.std.specs.Prelude.{◌≡◌, ◌⊎◌, [], Some, ◌*◌, ◌≤◌, ◌↔◌, length, IfOk, IfErr, IsTrue, OnOk, List, ℕ};
 ghost use Rattle.cmh_graph.specs.Graph.{dependency_count};
 ghost use Rattle.cmh_run.specs.Choices.{HasNoHints};
 ghost use Rattle.cmh_run.specs.Config.{nothing_yet};
 ghost use Rattle.std.specs.List.Sorted.{IsStrictlyIncreasing};
+ghost use Rattle.cmh_run.specs.Progress.{IsOver, IsRunState, IsUnderWay};
 ghost use Rattle.cmh_run.specs.Run.{IsAccepted, IsFirstRunFault, IsRunAnswer};
 
 use crate::network::Network;
@@ -159,6 +160,26 @@ fn follow<L: Log, H: Hints>(
     ensures blank { IfOk result (λ r. r.1 ≡ nothing_yet graph.now) }
 {
     let mut progress = Progress::begin(alloc, graph, network, initiator, choices, restarts)?;
-    while progress.deliver_next(hints)? {}
+    deliver_all(&mut progress, hints)?;
     Ok(progress.finish(alloc))
+}
+
+/// Makes one delivery after another, until the run is over.
+fn deliver_all<L: Log, H: Hints>(
+    progress: &mut Progress<L>,
+    hints: &mut H,
+) -> Result<(), AllocError>
+    requires under_way { (restarts : List ℕ) × IsUnderWay restarts progress.old }
+    requires speaks { H.speaks_of hints.old progress.old.graph }
+    ensures same { OnOk result
+        (IsRunState progress.old.graph progress.old.initiator progress.old.choices progress.new) }
+    ensures under_way { OnOk result ((restarts : List ℕ)
+        → IsUnderWay restarts progress.old → IsUnderWay restarts progress.new) }
+    ensures over { OnOk result (IsOver progress.new.going.config) }
+    ensures silent { OnOk result (H.is_silent hints.old
+        → HasNoHints progress.old.log → HasNoHints progress.new.log) }
+    ensures kept { H.keeps hints.old hints.new }
+{
+    while progress.deliver_next(hints)? {}
+    Ok(())
 }

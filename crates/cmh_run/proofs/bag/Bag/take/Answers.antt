@@ -33,7 +33,8 @@ returns c =
     let old = c.args.self.now in
     let x = c.args.choice % length old in
     let front : (old ≡ [] → c.if-choice-ne0.self ≡ [])
-    × ((m : Message) → slice_get old x ≡ Some m → c.if-choice-ne0.self ≡ m ∷ remove old x) = elim c.if-choice-ne0.branch [
+    × ((m : Message) → slice_get old x ≡ Some m → c.if-choice-ne0.self ≡ m ∷ remove old x) =
+    elim c.if-choice-ne0.branch [
       | then-choice-ne0 w ↦ (
         λ e. w.self-is ∙ w.bring_to_front.ensures.none e,
         λ m e. w.self-is ∙ w.bring_to_front.ensures.first m e,
