@@ -1,5 +1,5 @@
 -- Where the chosen path of a process leads next.
-use Rattle.cmh_run.proofs.Common.{◌≡◌, ◌∙◌, ℕ, suc, ◌+◌, ◌<◌, List, [], ◌∷◌, ◌++◌, get_or, length, length-append, map, arith, refl, sym, ap, subst, true≢false, unwrap_or, IsWellFormed, chosen_path, distance_of, dependents_of, Graph, process_count, IsWithinGraph, IsDeadlocked, by_index}
+use Rattle.cmh_run.proofs.Common.{◌≡◌, ◌∙◌, ℕ, ◌+◌, ◌<◌, List, [], ◌∷◌, ◌++◌, get_or, length, map, arith, refl, sym, ap, true≢false, unwrap_or, IsWellFormed, chosen_path, distance_of, dependents_of, Graph, process_count, IsWithinGraph, IsDeadlocked, by_index}
 use Rattle.std.proofs.lemmas.Option.{slice_get_past}
 use Rattle.std.specs.Prelude.{slice_get, IsSome, None, Option, Some}
 use Rattle.cmh_graph.specs.ChosenPath.{IsChosenPath}
@@ -12,12 +12,6 @@ use Rattle.cmh_graph.proofs.Ways.{distance_law, path_length_law}
 pub some_of : {X : Type 0} (o : Option X) (d : X) → IsSome o → o ≡ Some (unwrap_or o d)
 some_of (Some x) d s = refl
 some_of None d s = cc
-
--- the distance of a process stands at its place
-pub distance_read : (g : Graph) (p : ℕ) (distances : List (Option ℕ)) (d : Option ℕ)
-    → distances ≡ map (distance_of g) (indices g) → p < process_count g
-    → get_or distances p d ≡ distance_of g p
-distance_read g p distances d are i = by_index g (distance_of g) distances p d are i
 
 -- a process with a distance has a chosen path
 far_chosen : (g : Graph) (p n : ℕ) → IsWithinGraph g → p < process_count g → distance_of g p ≡ Some n
@@ -38,10 +32,10 @@ next_none g p n path e zero is =
 -- what follows one process, and begins with q, has q at its second place
 second_is : (p q : ℕ) (front rest : List ℕ) → front ++ q ∷ [] ≡ p ∷ q ∷ [] → slice_get rest 0 ≡ Some q
     → slice_get (front ++ rest) 1 ≡ Some q
-second_is p q [] rest e first = absurd (omega (arith, ap length e))
+second_is p q [] rest e first = absurd (cc)
 second_is p q (x ∷ []) rest e first = first
-second_is p q (x ∷ y ∷ front) rest e first =
-    absurd (omega (arith, ap length e, length-append front (q ∷ [])))
+second_is p q (x ∷ y ∷ []) rest e first = absurd (cc)
+second_is p q (x ∷ y ∷ z ∷ front) rest e first = absurd (cc)
 
 -- a chosen path begins with its process
 first_is : (g : Graph) (q : ℕ) (path : List ℕ) → IsChosenPath g q path → slice_get path 0 ≡ Some q
@@ -56,23 +50,20 @@ pub next_some : (g : Graph) (p m n : ℕ) (row path : List ℕ) (distances : Lis
 next_some g p m n row path distances None w i e far f are least is =
     absurd (true≢false (sym (nearest_some g p m row distances None w i (e ∙ ap Some far) f are least)))
 next_some g p m n row path distances (Some q) w i e far f are least is =
-    let more : m + 1 ≡ suc m = omega arith in
     let start = leads_start g p n (p ∷ []) distances (distance_of g p) i are
-    (sym (distance_read g p distances (distance_of g p) are i)) e refl in
-    let on = leads_on g p n m p q (p ∷ []) row distances w start (far ∙ more) f are least in
+    (sym (by_index g (distance_of g) distances p (distance_of g p) are i)) e refl in
+    let on = leads_on g p n m p q (p ∷ []) row distances w start (omega arith) f are least in
     let rest = unwrap_or (chosen_path g q) [] in
     let chosen = chosen_is g q rest (far_chosen g q m w.within on.within on.distance) in
     let whole = (chosen_path_law g p (on.front ++ rest) w.within i).1 (on.completes rest chosen) in
-    let same : Some path ≡ Some (on.front ++ rest) = sym is ∙ whole in
-    let path_is : path ≡ on.front ++ rest = cc in
-    sym (ap (λ xs. slice_get xs 1) path_is
-    ∙ second_is p q on.front rest (sym on.is) (first_is g q rest chosen))
+    let second = second_is p q on.front rest (sym on.is) (first_is g q rest chosen) in
+    cc
 
 -- a distance that is read is that of the process
 pub distance_at : (g : Graph) (p n : ℕ) (distances : List (Option ℕ)) (d : Option ℕ)
     → distances ≡ map (distance_of g) (indices g) → p < process_count g → get_or distances p d ≡ Some n
     → distance_of g p ≡ Some n
-distance_at g p n distances d are i read = sym (distance_read g p distances d are i) ∙ read
+distance_at g p n distances d are i read = sym (by_index g (distance_of g) distances p d are i) ∙ read
 
 -- a process with a chosen path has a distance, and is one more process away than that
 pub path_far : (g : Graph) (p : ℕ) (distances : List (Option ℕ)) (d : Option ℕ) (path : List ℕ)
@@ -80,9 +71,5 @@ pub path_far : (g : Graph) (p : ℕ) (distances : List (Option ℕ)) (d : Option
     → IsSome (get_or distances p d) × ((n : ℕ) → get_or distances p d ≡ Some n → n + 1 ≡ length path)
 path_far g p distances d path are i is =
     let far = path_length_law g p path is in
-    let read = distance_read g p distances d are i ∙ far.1 in (
-      subst IsSome (sym read) refl,
-      λ n e.
-          let same : n ≡ far.0 = ap (λ o. unwrap_or o 0) (sym e ∙ read) in
-          omega (arith, same, far.2),
-    )
+    let read = by_index g (distance_of g) distances p d are i ∙ far.1 in
+    (rw read refl, λ n e. grind (arith, far.2, read, e))

@@ -1,5 +1,6 @@
 -- Processes and messages seen from one computation alone, which is numbered 1 then.
-use Rattle.cmh_run.proofs.Common.{◌≡◌, ℕ, zero, suc, ◌-◌, ◌<◌, ◌≤◌, true, false, ◌&&◌, cond, eqb, ltb, List, [], ◌∷◌, ◌++◌, map, remove, replicate, length, slice_get, Some, refl, sym, ap, arith, ⊎_elim, eqb-true, eq-eqb, ne_eqb, cases_eq, and_parts, lt-ltb, le-ltb, ltb-true, ltb-false, and-false, Message, Proc, Action, Nothing, Engage, ReplyTo, Declare, new_proc, engages, proc_engaged, engage_action, last_action, repeat_action, proc_queried, query_action, counts_reply, proc_replied, reply_action, query, proc_at, messages_of, renumber, by_test}
+use Rattle.cmh_run.proofs.Common.{◌≡◌, ℕ, zero, suc, ◌<◌, ◌≤◌, cond, eqb, List, [], ◌∷◌, ◌++◌, map, remove, replicate, length, slice_get, Some, refl, arith, eq-eqb, ne_eqb, Message, Proc, Action, Nothing, Engage, ReplyTo, Declare, new_proc, engages, proc_queried, query_action, proc_replied, reply_action, proc_at, messages_of, renumber}
+use Rattle.std.proofs.lemmas.Bool.Decides.{nat_tests}
 
 -- a process as computation n has it: one that isn't in it has heard of nothing
 abbrev pub recast : ℕ → Proc → Proc
@@ -21,76 +22,44 @@ place_among n (m ∷ bag) (suc x) = cond (eqb m.number n) (suc (place_among n ba
 -- the messages of computation n in two lists together are those of the one and of the other
 pub kept_append : (n : ℕ) (xs ys : List Message) → kept n (xs ++ ys) ≡ kept n xs ++ kept n ys
 kept_append n [] ys = refl
-kept_append n (m ∷ xs) ys =
-    by_test (eqb m.number n)
-    (λ b. cond b (renumber m ∷ kept n (xs ++ ys)) (kept n (xs ++ ys))
-    ≡ cond b (renumber m ∷ kept n xs) (kept n xs) ++ kept n ys)
-    (λ e. ap (λ (zs : List Message). renumber m ∷ zs) (kept_append n xs ys)) (λ e. kept_append n xs ys)
+kept_append n (m ∷ xs) ys = grind (arith, kept_append n xs ys)
 
 -- a message of computation n stands at its place among those
 pub kept_at : (n : ℕ) (bag : List Message) (x : ℕ) (m : Message) → slice_get bag x ≡ Some m → m.number ≡ n
     → slice_get (kept n bag) (place_among n bag x) ≡ Some (renumber m)
 kept_at n [] x m h e = absurd (cc)
-kept_at n (y ∷ bag) zero m h e =
-    let same : y ≡ m = cc in
-    rw (same, eq-eqb m.number n e) refl
-kept_at n (y ∷ bag) (suc x) m h e =
-    by_test (eqb y.number n)
-    (λ b. slice_get (cond b (renumber y ∷ kept n bag) (kept n bag))
-    (cond b (suc (place_among n bag x)) (place_among n bag x)) ≡ Some (renumber m))
-    (λ t. kept_at n bag x m h e) (λ t. kept_at n bag x m h e)
+kept_at n (y ∷ bag) zero m h e = let same : y ≡ m = cc in rw (same, eq-eqb m.number n e) refl
+kept_at n (y ∷ bag) (suc x) m h e = grind (arith, kept_at n bag x m h e)
 
 -- once a message of computation n is taken, the others of that computation are those without it
 pub kept_taken : (n : ℕ) (bag : List Message) (x : ℕ) (m : Message) → slice_get bag x ≡ Some m → m.number ≡ n
     → kept n (remove bag x) ≡ remove (kept n bag) (place_among n bag x)
 kept_taken n [] x m h e = absurd (cc)
-kept_taken n (y ∷ bag) zero m h e =
-    let same : y ≡ m = cc in
-    rw (same, eq-eqb m.number n e) refl
-kept_taken n (y ∷ bag) (suc x) m h e =
-    by_test (eqb y.number n)
-    (λ b. cond b (renumber y ∷ kept n (remove bag x)) (kept n (remove bag x))
-    ≡ remove (cond b (renumber y ∷ kept n bag) (kept n bag))
-    (cond b (suc (place_among n bag x)) (place_among n bag x)))
-    (λ t. ap (λ (zs : List Message). renumber y ∷ zs) (kept_taken n bag x m h e)) (λ t. kept_taken n bag x m h e)
+kept_taken n (y ∷ bag) zero m h e = let same : y ≡ m = cc in rw (same, eq-eqb m.number n e) refl
+kept_taken n (y ∷ bag) (suc x) m h e = grind (arith, kept_taken n bag x m h e)
 
 -- once a message of another computation is taken, those of computation n are the same
 pub kept_other : (n : ℕ) (bag : List Message) (x : ℕ) (m : Message) → slice_get bag x ≡ Some m → (m.number ≡ n → ⊥)
     → kept n (remove bag x) ≡ kept n bag
 kept_other n [] x m h e = absurd (cc)
-kept_other n (y ∷ bag) zero m h e =
-    let same : y ≡ m = cc in
-    rw (same, ne_eqb m.number n e) refl
-kept_other n (y ∷ bag) (suc x) m h e =
-    by_test (eqb y.number n)
-    (λ b. cond b (renumber y ∷ kept n (remove bag x)) (kept n (remove bag x))
-    ≡ cond b (renumber y ∷ kept n bag) (kept n bag))
-    (λ t. ap (λ (zs : List Message). renumber y ∷ zs) (kept_other n bag x m h e)) (λ t. kept_other n bag x m h e)
-
--- the queries of computation n are, as that computation has them, those with the number 1
-kept_queries : (n i k : ℕ) (ds : List ℕ)
-    → kept n (map (λ (r : ℕ). query i n k r) ds) ≡ map (λ (r : ℕ). query i 1 k r) ds
-kept_queries n i k [] = refl
-kept_queries n i k (d ∷ ds) = rw (eq-eqb n n refl, kept_queries n i k ds) refl
+kept_other n (y ∷ bag) zero m h e = let same : y ≡ m = cc in rw (same, ne_eqb m.number n e) refl
+kept_other n (y ∷ bag) (suc x) m h e = grind (arith, kept_other n bag x m h e)
 
 -- what is sent in computation n is, as that computation has it, sent with the number 1
 pub kept_sent : (n i k : ℕ) (ds : List ℕ) (action : Action) → kept n (messages_of i n k ds action)
     ≡ messages_of i 1 k ds action
 kept_sent n i k ds Nothing = refl
-kept_sent n i k ds Engage = kept_queries n i k ds
+kept_sent n i k [] Engage = refl
+kept_sent n i k (d ∷ ds) Engage = rw (eq-eqb n n refl, kept_sent n i k ds Engage) refl
 kept_sent n i k ds (ReplyTo to) = rw (eq-eqb n n refl) refl
 kept_sent n i k ds Declare = refl
-
--- queries of another computation are none of the messages of computation n
-kept_other_queries : (n l i k : ℕ) (ds : List ℕ) → (l ≡ n → ⊥) → kept n (map (λ (r : ℕ). query i l k r) ds) ≡ []
-kept_other_queries n l i k [] e = refl
-kept_other_queries n l i k (d ∷ ds) e = rw (ne_eqb l n e) (kept_other_queries n l i k ds e)
 
 -- what is sent in another computation is none of the messages of computation n
 pub kept_other_sent : (n l i k : ℕ) (ds : List ℕ) (action : Action) → (l ≡ n → ⊥)
     → kept n (messages_of i l k ds action) ≡ []
 kept_other_sent n l i k ds Nothing e = refl
-kept_other_sent n l i k ds Engage e = kept_other_queries n l i k ds e
+kept_other_sent n l i k [] Engage e = refl
+kept_other_sent n l i k (d ∷ ds) Engage e = rw (ne_eqb l n e) (kept_other_sent n l i k ds Engage e)
 kept_other_sent n l i k ds (ReplyTo to) e = rw (ne_eqb l n e) refl
 kept_other_sent n l i k ds Declare e = refl
 
@@ -99,84 +68,34 @@ kept_other_sent n l i k ds Declare e = refl
 module _ (n : ℕ) (p : Proc) (low : p.latest ≤ n) (positive : 0 < n) where
   -- a query engages a process just if it engages the process as computation n has it
   pub same_engages : engages (recast n p) 1 ≡ engages p n
-  same_engages =
-      ⊎_elim
-      (λ (e : p.latest ≡ n). rw (eq-eqb p.latest n e, le-ltb p.latest n (omega arith)) refl)
-      (λ (w : p.latest ≡ n → ⊥). rw (ne_eqb p.latest n w, lt-ltb p.latest n (omega (arith, w))) refl)
-      (cases_eq p.latest n)
-
-  -- a process that a query doesn't engage is in computation n
-  in_it : engages p n ≡ false → p.latest ≡ n
-  in_it e = let h = ltb-false p.latest n e in omega arith
+  same_engages = grind (arith, nat_tests)
 
   -- a query changes a process as computation n has it just as it changes the process
   pub same_queried : (from size : ℕ) → proc_queried (recast n p) 1 from size ≡ recast n (proc_queried p n from size)
-  same_queried from size = rw same_engages
-      (by_test (engages p n)
-      (λ b. cond b (proc_engaged 1 from size) (recast n p) ≡ recast n (cond b (proc_engaged n from size) p))
-      (λ e. rw (eq-eqb n n refl) refl) (λ e. refl))
+  same_queried from size = grind (arith, nat_tests)
 
   -- on a query a process as computation n has it acts just as the process does
   pub same_query_action : (from size : ℕ) → query_action (recast n p) 1 from size ≡ query_action p n from size
-  same_query_action from size = rw same_engages
-      (by_test (engages p n)
-      (λ b. cond b (engage_action from size) (repeat_action (recast n p) 1 from)
-      ≡ cond b (engage_action from size) (repeat_action p n from))
-      (λ e. refl) (λ e. rw (eq-eqb p.latest n (in_it e)) refl))
-
-  -- a reply counts for a process just if it counts for the process as computation n has it
-  same_counts : counts_reply (recast n p) 1 ≡ counts_reply p n
-  same_counts =
-      ⊎_elim
-      (λ (e : p.latest ≡ n). rw (eq-eqb p.latest n e) refl)
-      (λ (w : p.latest ≡ n → ⊥). rw (ne_eqb p.latest n w) (sym (and-false p.wait)))
-      (cases_eq p.latest n)
-
-  -- a process for which a reply counts is in computation n
-  counts_in : counts_reply p n ≡ true → p.latest ≡ n
-  counts_in e =
-      eqb-true p.latest n
-      (and_parts (eqb p.latest n) (ltb 0 p.num) (and_parts p.wait (eqb p.latest n && ltb 0 p.num) e).1).0
+  same_query_action from size = grind (arith, nat_tests)
 
   -- a reply changes a process as computation n has it just as it changes the process
   pub same_replied : proc_replied (recast n p) 1 ≡ recast n (proc_replied p n)
-  same_replied = rw same_counts
-      (by_test (counts_reply p n)
-      (λ b. cond b (record (recast n p) { num = (recast n p).num - 1 }) (recast n p)
-      ≡ recast n (cond b (record p { num = p.num - 1 }) p))
-      (λ e. rw (eq-eqb p.latest n (counts_in e)) refl) (λ e. refl))
+  same_replied = grind (arith, nat_tests)
 
   -- on a reply a process as computation n has it acts just as the process does
   pub same_reply_action : reply_action (recast n p) 1 ≡ reply_action p n
-  same_reply_action = rw same_counts
-      (by_test (counts_reply p n)
-      (λ b. cond b (cond (eqb (recast n p).num 1) (last_action (recast n p).engager) Nothing) Nothing
-      ≡ cond b (cond (eqb p.num 1) (last_action p.engager) Nothing) Nothing)
-      (λ e. rw (eq-eqb p.latest n (counts_in e)) refl) (λ e. refl))
+  same_reply_action = grind (arith, nat_tests)
 
 -- ---- a process and a message of an older computation
 
 module _ (n l : ℕ) (p : Proc) (below : l < n) where
   -- a query of an older computation changes nothing of the process as computation n has it
   pub queried_below : (from size : ℕ) → recast n (proc_queried p l from size) ≡ recast n p
-  queried_below from size =
-      by_test (engages p l)
-      (λ b. recast n (cond b (proc_engaged l from size) p) ≡ recast n p)
-      (λ e. let h = ltb-true p.latest l e in
-      rw (ne_eqb l n (λ q. omega arith), ne_eqb p.latest n (λ q. omega arith)) refl)
-      (λ e. refl)
+  queried_below from size = grind (arith, nat_tests)
 
   -- a reply of an older computation changes nothing of the process as computation n has it
   pub replied_below : recast n (proc_replied p l) ≡ recast n p
-  replied_below =
-      by_test (counts_reply p l)
-      (λ b. recast n (cond b (record p { num = p.num - 1 }) p) ≡ recast n p)
-      (λ e.
-      let same : p.latest ≡ l =
-      eqb-true p.latest l
-      (and_parts (eqb p.latest l) (ltb 0 p.num) (and_parts p.wait (eqb p.latest l && ltb 0 p.num) e).1).0 in
-      rw (ne_eqb p.latest n (λ q. omega arith)) refl)
-      (λ e. refl)
+  replied_below = grind (arith, nat_tests)
 
 -- ---- all processes
 
@@ -192,5 +111,4 @@ pub all_fresh : (n : ℕ) (procs : List Proc) → ((k : ℕ) → (proc_at procs 
     → map (recast n) procs ≡ replicate (length procs) new_proc
 all_fresh n [] h = refl
 all_fresh n (p ∷ procs) h =
-    let first : p.latest < n = h 0 in
-    rw (ne_eqb p.latest n (λ e. omega arith), all_fresh n procs (λ k. h (suc k))) refl
+    rw (ne_eqb p.latest n (λ e. omega (arith, h 0)), all_fresh n procs (λ k. h (suc k))) refl

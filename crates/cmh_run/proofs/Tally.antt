@@ -1,5 +1,6 @@
 -- How often a number stands in a list.
-use Rattle.cmh_run.proofs.Common.{◌≡◌, ℕ, zero, suc, ◌+◌, ◌<◌, ◌≤◌, Bool, true, false, cond, eqb, List, [], ◌∷◌, length, get_or, Contains, refl, sym, arith, eqb-true, eq-eqb, ne_eqb}
+use Rattle.cmh_run.proofs.Common.{◌≡◌, ℕ, zero, suc, ◌+◌, ◌<◌, ◌≤◌, Bool, false, cond, eqb, List, [], ◌∷◌, length, Contains, refl, sym, arith, eq-eqb, ne_eqb, cases_eq, inl, inr}
+use Rattle.std.proofs.lemmas.Bool.Decides.{nat_tests}
 use Rattle.std.specs.List.{AllByRecursion, IsDistinct}
 
 abbrev pub one_if : Bool → ℕ
@@ -17,57 +18,39 @@ without_one r (y ∷ ys) = cond (eqb y r) ys (y ∷ without_one r ys)
 -- a process stands in a list at most as often as the list is long
 pub tally-le-length : (r : ℕ) (ys : List ℕ) → tally r ys ≤ length ys
 tally-le-length r [] = omega arith
-tally-le-length r (y ∷ ys) = step (eqb y r) (tally-le-length r ys)
-  where
-    step : (b : Bool) → tally r ys ≤ length ys → one_if b + tally r ys ≤ suc (length ys)
-    step true h = omega arith
-    step false h = omega arith
+tally-le-length r (y ∷ ys) = grind (arith, tally-le-length r ys)
 
 -- without one r that stood in it the list is shorter by one
 pub length-without_one : (r : ℕ) (ys : List ℕ) → 0 < tally r ys → length (without_one r ys) + 1 ≡ length ys
 length-without_one r [] h = omega arith
-length-without_one r (y ∷ ys) h = step (eqb y r) h (length-without_one r ys)
-  where
-    step : (b : Bool) → 0 < one_if b + tally r ys → (0 < tally r ys → length (without_one r ys) + 1 ≡ length ys)
-        → length (cond b ys (y ∷ without_one r ys)) + 1 ≡ suc (length ys)
-    step true h ih = omega arith
-    step false h ih = omega (arith, ih (omega arith))
+length-without_one r (y ∷ ys) h = grind (arith, length-without_one r ys)
 
 -- without one r, r stands in the list once less, and any other as often as before
 pub tally-without_one : (r x : ℕ) (ys : List ℕ) → 0 < tally r ys
     → tally x (without_one r ys) + one_if (eqb r x) ≡ tally x ys
 tally-without_one r x [] h = omega arith
-tally-without_one r x (y ∷ ys) h = step (eqb y r) refl h (tally-without_one r x ys)
-  where
-    step : (b : Bool) → eqb y r ≡ b → 0 < one_if b + tally r ys
-        → (0 < tally r ys → tally x (without_one r ys) + one_if (eqb r x) ≡ tally x ys)
-        → tally x (cond b ys (y ∷ without_one r ys)) + one_if (eqb r x) ≡ one_if (eqb y x) + tally x ys
-    step true e h ih = let same : y ≡ r = eqb-true y r e in rw (← same) (omega arith)
-    step false e h ih = omega (arith, ih (omega arith))
+tally-without_one r x (y ∷ ys) h = grind (arith, nat_tests, tally-without_one r x ys)
 
 -- in a list that isn't empty some process stands
 pub some_tally : (ys : List ℕ) → 0 < length ys → (r : ℕ) × (0 < tally r ys)
 some_tally [] h = absurd (omega arith)
 some_tally (y ∷ ys) h = (y, rw (eq-eqb y y refl) (omega arith))
 
--- a process that stands at a place of the list stands in it
-tally_at : (r k : ℕ) (ys : List ℕ) → k < length ys → get_or ys k r ≡ r → 0 < tally r ys
-tally_at r k [] h e = absurd (omega arith)
-tally_at r zero (y ∷ ys) h e = rw (eq-eqb y r e) (omega arith)
-tally_at r (suc k) (y ∷ ys) h e = omega (arith, tally_at r k ys (omega arith) e)
-
 -- what the list contains stands in it at least once
 pub tally_from_contains : (r : ℕ) (ys : List ℕ) → Contains ys r → 0 < tally r ys
-tally_from_contains r ys c = tally_at r c.0 ys c.1 c.2
+tally_from_contains r [] c = absurd (omega (arith, c.1))
+tally_from_contains r (y ∷ ys) (zero, w, e) = rw (eq-eqb y r e) (omega arith)
+tally_from_contains r (y ∷ ys) (suc k, w, e) = omega (arith, tally_from_contains r ys (k, omega arith, e))
 
 -- what stands in the list at least once, it contains
 pub contains_from_tally : (r : ℕ) (ys : List ℕ) → 0 < tally r ys → Contains ys r
 contains_from_tally r [] h = absurd (omega arith)
-contains_from_tally r (y ∷ ys) h = step (eqb y r) refl h (contains_from_tally r ys)
-  where
-    step : (b : Bool) → eqb y r ≡ b → 0 < one_if b + tally r ys → (0 < tally r ys → Contains ys r) → Contains (y ∷ ys) r
-    step true e h ih = (0, omega arith, eqb-true y r e)
-    step false e h ih = let c : Contains ys r = ih (omega arith) in (suc c.0, omega (arith, c.1), c.2)
+contains_from_tally r (y ∷ ys) h = elim (cases_eq y r) [
+  | inl e ↦ (0, omega arith, e)
+  | inr w ↦
+      let c = contains_from_tally r ys (omega (arith, rw (ne_eqb y r w) at h)) in
+      (suc c.0, omega (arith, c.1), c.2)
+]
 
 -- a process that doesn't stand in the list is none of it
 none_equal : (y : ℕ) (ys : List ℕ) → tally y ys ≡ 0 → AllByRecursion (λ z. eqb y z ≡ false) ys

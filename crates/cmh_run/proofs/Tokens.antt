@@ -1,9 +1,10 @@
 -- Counting and checking the messages of a bag.
-use Rattle.cmh_run.proofs.Common.{◌≡◌, ℕ, zero, suc, ◌+◌, ◌<◌, Bool, true, ◌&&◌, cond, eqb, List, [], ◌∷◌, ◌++◌, map, take, remove, length, get_or, slice_get, Some, sum_by, refl, subst, arith, eqb-true, eq-eqb, ne_eqb, and_parts, sum_by-remove, sum_by-append, sum_by-cons, get_or-set_same, get_or-set_other, slice_get_within, get_or_from_slice_get, Kind, Query, Reply, Message, Proc, new_proc, query, proc_at}
-use Rattle.std.proofs.Common.{drop, set}
+use Rattle.cmh_run.proofs.Common.{◌≡◌, ℕ, zero, suc, ◌+◌, ◌<◌, Bool, true, ◌&&◌, cond, eqb, List, [], ◌∷◌, ◌++◌, map, remove, length, slice_get, Some, sum_by, refl, subst, arith, ne_eqb, sum_by-remove, sum_by-cons, get_or-set_same, get_or-set_other, slice_get_within, get_or_from_slice_get, Kind, Query, Reply, Message, Proc, new_proc, query, proc_at}
+use Rattle.std.proofs.Common.{set}
+use Rattle.std.proofs.lemmas.Bool.Decides.{nat_tests}
 use std.Path.{fun_ext}
 use Rattle.cmh_run.proofs.Tally.{one_if, tally}
-use Rattle.cmh_run.proofs.InvariantSteps.{upd, place}
+use Rattle.cmh_run.proofs.InvariantSteps.{upd}
 
 -- P of each message, by recursion
 abbrev pub Each : {X : Type 0} → (X → Type 0) → List X → Type 0
@@ -15,21 +16,12 @@ pub each_append : {X : Type 0} (P : X → Type 0) (xs ys : List X) → Each P xs
 each_append P [] ys a b = b
 each_append P (x ∷ xs) ys a b = (a.0, each_append P xs ys a.1 b)
 
--- what is true of each in a list is true of each of the first n
-each_take : {X : Type 0} (P : X → Type 0) (n : ℕ) (xs : List X) → Each P xs → Each P (take n xs)
-each_take P zero xs a = tt
-each_take P (suc n) [] a = tt
-each_take P (suc n) (x ∷ xs) a = (a.0, each_take P n xs a.1)
-
--- what is true of each in a list is true of each after the first n
-each_drop : {X : Type 0} (P : X → Type 0) (n : ℕ) (xs : List X) → Each P xs → Each P (drop n xs)
-each_drop P zero xs a = a
-each_drop P (suc n) [] a = tt
-each_drop P (suc n) (x ∷ xs) a = each_drop P n xs a.1
-
 -- what is true of each in a list stays true once one is removed
 pub each_remove : {X : Type 0} (P : X → Type 0) (n : ℕ) (xs : List X) → Each P xs → Each P (remove xs n)
-each_remove P n xs a = each_append P (take n xs) (drop (suc n) xs) (each_take P n xs a) (each_drop P (suc n) xs a)
+each_remove P zero [] a = tt
+each_remove P (suc n) [] a = tt
+each_remove P zero (x ∷ xs) a = a.1
+each_remove P (suc n) (x ∷ xs) a = (a.0, each_remove P n xs a.1)
 
 -- what is true of each in a list is true of what stands at a place
 pub each_at : {X : Type 0} (P : X → Type 0) (xs : List X) (n : ℕ) (x : X) → Each P xs → slice_get xs n ≡ Some x → P x
@@ -41,11 +33,6 @@ each_at P (y ∷ xs) (suc n) x a e = each_at P xs n x a.1 e
 pub each_more : {X : Type 0} (P Q : X → Type 0) (xs : List X) → ((x : X) → P x → Q x) → Each P xs → Each Q xs
 each_more P Q [] f a = tt
 each_more P Q (x ∷ xs) f a = (f x a.0, each_more P Q xs f a.1)
-
--- what is true of each image is true of the list of images
-pub each_map : {X Y : Type 0} (P : Y → Type 0) (h : X → Y) (xs : List X) → Each (λ x. P (h x)) xs → Each P (map h xs)
-each_map P h [] a = tt
-each_map P h (x ∷ xs) a = (a.0, each_map P h xs a.1)
 
 -- the dependency that a message goes along: a reply goes back along it
 abbrev pub edge_from : Kind → Message → ℕ
@@ -69,54 +56,27 @@ tokens m bag k r = sum_by (token m k r) bag
 -- a message of computation m along a dependency has that number and these two ends
 pub is_token_parts : (m k r : ℕ) (x : Message) → is_token m k r x ≡ true
     → (x.number ≡ m) × (k ≡ edge_from x.kind x) × (edge_to x.kind x ≡ r)
-is_token_parts m k r x h =
-    let a = and_parts (eqb x.number m) (eqb k (edge_from x.kind x) && eqb (edge_to x.kind x) r) h in
-    let b = and_parts (eqb k (edge_from x.kind x)) (eqb (edge_to x.kind x) r) a.1 in
-    (eqb-true x.number m a.0, eqb-true k (edge_from x.kind x) b.0, eqb-true (edge_to x.kind x) r b.1)
-
--- a message with another number counts nothing in computation m
-pub token_old : (m k r : ℕ) (x : Message) → (x.number ≡ m → ⊥) → token m k r x ≡ 0
-token_old m k r x h = rw (ne_eqb x.number m h) refl
+is_token_parts m k r x h = grind (arith, nat_tests)
 
 -- a message that is taken counts no longer along its dependency
 pub tokens-remove : (m : ℕ) (bag : List Message) (n : ℕ) (x : Message) (k r : ℕ) → slice_get bag n ≡ Some x
     → tokens m (remove bag n) k r + token m k r x ≡ tokens m bag k r
 tokens-remove m bag n x k r e =
-    let same : get_or bag n x ≡ x = get_or_from_slice_get bag n x x e in
-    let h = sum_by-remove (token m k r) bag n x (slice_get_within bag n x e) in
-    subst (λ (y : Message). tokens m (remove bag n) k r + token m k r y ≡ tokens m bag k r) same h
-
--- along a dependency, two lists of messages count together what each counts
-pub tokens-append : (m : ℕ) (xs ys : List Message) (k r : ℕ)
-    → tokens m (xs ++ ys) k r ≡ tokens m xs k r + tokens m ys k r
-tokens-append m xs ys k r = sum_by-append (token m k r) xs ys
-
--- a single message counts what it is along a dependency
-pub tokens-one : (m : ℕ) (x : Message) (k r : ℕ) → tokens m (x ∷ []) k r ≡ token m k r x
-tokens-one m x k r = omega arith
+    rw (get_or_from_slice_get bag n x x e) at (sum_by-remove (token m k r) bag n x (slice_get_within bag n x e))
 
 -- queries from a count along its dependency on r as often as they go to r, and along no others
-pub tokens-queries : (i m n a k r : ℕ) (ds : List ℕ) → n ≡ m
-    → tokens m (map (λ (y : ℕ). query i n a y) ds) k r ≡ cond (eqb k a) (tally r ds) 0
-tokens-queries i m n a k r [] e = place a k (λ b. ◌≡◌ {A = ℕ} 0 (cond b 0 0)) (λ q. refl) (λ q. refl)
-tokens-queries i m n a k r (d ∷ ds) e =
-    rw (
-      sum_by-cons (token m k r) (query i n a d) (map (λ (y : ℕ). query i n a y) ds),
-      tokens-queries i m n a k r ds e,
-      eq-eqb n m e,
-    )
-    (place a k (λ b. one_if (b && eqb d r) + cond b (tally r ds) 0 ≡ cond b (one_if (eqb d r) + tally r ds) 0)
-    (λ q. refl) (λ q. omega arith))
+pub tokens-queries : (i m n a k r : ℕ) (ds : List ℕ)
+    → tokens m (map (λ (y : ℕ). query i n a y) ds) k r ≡ cond (eqb n m && eqb k a) (tally r ds) 0
+tokens-queries i m n a k r [] = grind arith
+tokens-queries i m n a k r (d ∷ ds) = rw sum_by-cons (grind (arith, nat_tests, tokens-queries i m n a k r ds))
 
 -- messages with other numbers count nothing in computation m
 pub tokens-old : (m : ℕ) (k r : ℕ) (xs : List Message) → Each (λ x. x.number ≡ m → ⊥) xs → tokens m xs k r ≡ 0
 tokens-old m k r [] a = refl
-tokens-old m k r (x ∷ xs) a =
-    rw (sum_by-cons (token m k r) x xs) (omega (arith, token_old m k r x a.0, tokens-old m k r xs a.1))
+tokens-old m k r (x ∷ xs) a = rw (sum_by-cons, ne_eqb x.number m a.0) (omega (arith, tokens-old m k r xs a.1))
 
 -- the processes of a list with p at place k are those of the list with process k changed to p
 pub set_is : (procs : List Proc) (k : ℕ) (p : Proc) → k < length procs
     → ◌≡◌ {A = ℕ → Proc} (proc_at (set procs k p)) (upd (proc_at procs) k p)
-set_is procs k p h = fun_ext (λ x. place k x (λ b. get_or (set procs k p) x new_proc
-    ≡ cond b p (get_or procs x new_proc))
-    (λ q. rw q (get_or-set_same procs k p new_proc h)) (λ n. get_or-set_other procs k x p new_proc n))
+set_is procs k p h = fun_ext
+    (λ x. grind (arith, nat_tests, get_or-set_same procs k p new_proc h, get_or-set_other procs k x p new_proc))
