@@ -1,5 +1,5 @@
 -- Definitions, computed on worked runs of two processes that wait for each other.
-use Rattle.cmh_run.proofs.Common.{◌≡◌, List, [], ◌∷◌, None, refl, Idle, Graph, Message, Delivery, Declared, query, reply, computation_log, Going, any_place, IsRun}
+use Rattle.cmh_run.proofs.Common.{◌≡◌, ℕ, true, List, [], ◌∷◌, slice_get, Some, None, refl, Idle, Graph, Message, Delivery, Declared, Config, query, reply, computation_log, Going, MayCome, any_place, IsRun}
 
 -- a delivery without a hint
 abbrev pub plain : Message → Delivery
@@ -29,72 +29,22 @@ restarted =
 last_alone : computation_log 2 restarted ≡ deliveries
 last_alone = refl
 
+-- the first message of the bag comes next, without a hint
+first : {g : Graph} {c : Config} {m : Message} {Rest : ℕ → Type 0} → c.ended ≡ None → slice_get c.bag 0 ≡ Some m
+    → Rest 0 → (x : ℕ) × MayCome g c x (plain m) × (true ≡ true) × Rest x
+first going there rest = (0, record { going = going; there = there; hint = tt }, refl, rest)
+
 -- the run without restarts is legal, and declared
 legal : (end : Going) × IsRun any_place two_in_a_cycle 0 [] deliveries Declared end
-legal = (
-  _,
-  record {
-    leads = (
-      0,
-      record { going = refl; there = refl; hint = tt },
-      refl,
-      (
-        0,
-        record { going = refl; there = refl; hint = tt },
-        refl,
-        (
-          0,
-          record { going = refl; there = refl; hint = tt },
-          refl,
-          (0, record { going = refl; there = refl; hint = tt }, refl, refl),
-        ),
-      ),
-    );
-    ends = refl;
-  },
-)
+legal = (_, record { leads = first refl refl (first refl refl (first refl refl (first refl refl refl))); ends = refl })
 
 -- the run with a restart after two deliveries is legal, and declared
 legal_again : (end : Going) × IsRun any_place two_in_a_cycle 0 (2 ∷ []) restarted Declared end
 legal_again = (
   _,
   record {
-    leads = (
-      0,
-      record { going = refl; there = refl; hint = tt },
-      refl,
-      (
-        0,
-        record { going = refl; there = refl; hint = tt },
-        refl,
-        (
-          0,
-          record { going = refl; there = refl; hint = tt },
-          refl,
-          (
-            0,
-            record { going = refl; there = refl; hint = tt },
-            refl,
-            (
-              0,
-              record { going = refl; there = refl; hint = tt },
-              refl,
-              (
-                0,
-                record { going = refl; there = refl; hint = tt },
-                refl,
-                (
-                  0,
-                  record { going = refl; there = refl; hint = tt },
-                  refl,
-                  (0, record { going = refl; there = refl; hint = tt }, refl, refl),
-                ),
-              ),
-            ),
-          ),
-        ),
-      ),
-    );
+    leads = first refl refl (first refl refl (first refl refl (first refl refl
+        (first refl refl (first refl refl (first refl refl (first refl refl refl)))))));
     ends = refl;
   },
 )

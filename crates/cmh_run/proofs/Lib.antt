@@ -1,5 +1,4 @@
 pub mod BetweenLemmas
-pub mod Blank
 pub mod CheckLemmas
 pub mod CheckStateLemmas
 pub mod Common

@@ -1,132 +1,79 @@
 -- Sets of undelivered messages: one more, one fewer, and none.
-use Rattle.cmh_run.proofs.Common.{◌≡◌, ℕ, Bool, true, false, not, ◌&&◌, ◌||◌, cond, eqb, ltb, List, [], ◌∷◌, length, refl, sym, ◌∙◌, ap, arith, eq-eqb, ne_eqb, true≢false, ltb-true, Kind, Query, Reply, Message, UndeliveredState, is_waiting, is_same_kind, goes_like, by_test}
-use Rattle.std.specs.Cmp.{tied_then}
+use Rattle.cmh_run.proofs.Common.{◌≡◌, ℕ, Bool, true, false, not, ◌&&◌, ◌||◌, cond, eqb, List, [], ◌∷◌, length, refl, sym, ◌∙◌, eq-eqb, true≢false, ◌↔◌, Kind, Query, Reply, Message, UndeliveredState, is_waiting, is_same_kind, goes_like, by_test}
+use Rattle.std.proofs.lemmas.List.{nil_from_length}
+use Rattle.std.specs.Cmp.{tied_then, unsigned_tied}
 use Rattle.std.specs.List.{list_any}
-use Rattle.std.specs.Ordering.{nat_cmp, is_eq}
-use Rattle.std.specs.declared.cmp.Ordering.TheVariants.{Less, Equal, Greater}
+use Rattle.std.specs.Ordering.{nat_cmp}
 use Rattle.std.specs.BTreeMap.{is_at}
 use Rattle.cmh_run.specs.CheckState.{pair_cmp, of_kind}
 
--- two numbers compare as equal where they are tested to be
-is_eq_nat : (x y : ℕ) → is_eq (nat_cmp x y) ≡ eqb x y
-is_eq_nat x y =
-    by_test (ltb x y) (λ b. is_eq (cond b Less (cond (eqb x y) Equal Greater)) ≡ eqb x y)
-    (λ h. let l = ltb-true x y h in sym (ne_eqb x y (λ e. omega arith)))
-    (λ h. by_test (eqb x y) (λ b. is_eq (cond b Equal Greater) ≡ b) (λ e. refl) (λ e. refl))
-
 -- two pairs compare as equal where both parts are tested to be equal
 is_at_pair : (a b : ℕ × ℕ) → is_at (pair_cmp a) b ≡ (eqb a.0 b.0 && eqb a.1 b.1)
-is_at_pair a b = sym (tied_then (nat_cmp a.0 b.0) (nat_cmp a.1 b.1)) ∙ rw (is_eq_nat a.0 b.0, is_eq_nat a.1 b.1) refl
+is_at_pair a b =
+    sym (tied_then (nat_cmp a.0 b.0) (nat_cmp a.1 b.1)) ∙ rw (unsigned_tied a.0 b.0, unsigned_tied a.1 b.1) refl
 
 -- a set in which k is now as b says, and all else is as before
-abbrev pub Updated : List (ℕ × ℕ) → List (ℕ × ℕ) → ℕ × ℕ → Bool → Type 0
+abbrev Updated : List (ℕ × ℕ) → List (ℕ × ℕ) → ℕ × ℕ → Bool → Type 0
 Updated old new k b =
     (q : ℕ × ℕ) → list_any (is_at (pair_cmp q)) new ≡ cond (is_at (pair_cmp k) q) b (list_any (is_at (pair_cmp q)) old)
 
--- true where a is, and else b, is that a or b holds
-chosen_or : (a b : Bool) → cond a true b ≡ (a || b)
-chosen_or true b = refl
-chosen_or false b = refl
+-- the undelivered messages of this kind, and those of the other
+abbrev both_kinds : Kind → List (ℕ × ℕ) → List (ℕ × ℕ) → UndeliveredState
+both_kinds k these others = record { queries = of_kind k these others; replies = of_kind k others these }
 
--- false where a is true, and else b, is that b holds without a
-chosen_and : (a b : Bool) → cond a false b ≡ (not a && b)
-chosen_and true b = refl
-chosen_and false b = refl
+module _ (k : Kind) (old new others : List (ℕ × ℕ)) (x : Message) (w : UndeliveredState)
+    (view_is : both_kinds k old others ≡ w) (is : x.kind ≡ k) where
+  -- once the set of a message's kind was updated, what goes like it waits as b says, and all else as before
+  updated : (b : Bool) → Updated old new (x.from, x.to) b → (m : Message)
+      → is_waiting (both_kinds k new others) m ≡ cond (goes_like x m) b (is_waiting w m)
+  updated b h m = rw (← view_is) (rw is (by_kinds k m.kind))
+    where
+      same_kind : list_any (is_at (pair_cmp (m.from, m.to))) new
+          ≡ cond (eqb x.from m.from && eqb x.to m.to) b (list_any (is_at (pair_cmp (m.from, m.to))) old)
+      same_kind = rw (← is_at_pair (x.from, x.to) (m.from, m.to)) (h (m.from, m.to))
 
--- in the changed set a message's ends are as b says where they are those of x, and else as before
-same_set : (o n : List (ℕ × ℕ)) (x m : Message) (b : Bool) → Updated o n (x.from, x.to) b
-    → list_any (is_at (pair_cmp (m.from, m.to))) n
-    ≡ cond (eqb x.from m.from && eqb x.to m.to) b (list_any (is_at (pair_cmp (m.from, m.to))) o)
-same_set o n x m b h = rw (← is_at_pair (x.from, x.to) (m.from, m.to)) (h (m.from, m.to))
+      by_kinds : (k l : Kind)
+          → list_any (is_at (pair_cmp (m.from, m.to))) (of_kind l (of_kind k new others) (of_kind k others new))
+          ≡ cond (is_same_kind k l && (eqb x.from m.from && eqb x.to m.to)) b
+          (list_any (is_at (pair_cmp (m.from, m.to))) (of_kind l (of_kind k old others) (of_kind k others old)))
+      by_kinds Query Query = same_kind
+      by_kinds Query Reply = refl
+      by_kinds Reply Query = refl
+      by_kinds Reply Reply = same_kind
 
--- once a query was added, those messages wait that waited before or go like it
-pub query_added : (o n r : List (ℕ × ℕ)) (x : Message) → x.kind ≡ Query → Updated o n (x.from, x.to) true
-    → (m : Message)
-    → is_waiting (record { queries = n; replies = r }) m
-    ≡ (goes_like x m || is_waiting (record { queries = o; replies = r }) m)
-query_added o n r x is h m = rw is (by_kind m.kind)
-  where
-    by_kind : (k : Kind) → list_any (is_at (pair_cmp (m.from, m.to))) (of_kind k n r)
-        ≡ ((is_same_kind Query k && (eqb x.from m.from && eqb x.to m.to))
-        || list_any (is_at (pair_cmp (m.from, m.to))) (of_kind k o r))
-    by_kind Query = same_set o n x m true h
-        ∙ chosen_or (eqb x.from m.from && eqb x.to m.to) (list_any (is_at (pair_cmp (m.from, m.to))) o)
-    by_kind Reply = refl
+  -- once a message was added, those wait that waited before or go like it
+  pub added : Updated old new (x.from, x.to) true → (m : Message)
+      → is_waiting (both_kinds k new others) m ≡ (goes_like x m || is_waiting w m)
+  added h m = updated true h m
+      ∙ by_test (goes_like x m) (λ t. cond t true (is_waiting w m) ≡ (t || is_waiting w m)) (λ e. refl) (λ e. refl)
 
--- once a reply was added, those messages wait that waited before or go like it
-pub reply_added : (o n q : List (ℕ × ℕ)) (x : Message) → x.kind ≡ Reply → Updated o n (x.from, x.to) true
-    → (m : Message)
-    → is_waiting (record { queries = q; replies = n }) m
-    ≡ (goes_like x m || is_waiting (record { queries = q; replies = o }) m)
-reply_added o n q x is h m = rw is (by_kind m.kind)
-  where
-    by_kind : (k : Kind) → list_any (is_at (pair_cmp (m.from, m.to))) (of_kind k q n)
-        ≡ ((is_same_kind Reply k && (eqb x.from m.from && eqb x.to m.to))
-        || list_any (is_at (pair_cmp (m.from, m.to))) (of_kind k q o))
-    by_kind Query = refl
-    by_kind Reply = same_set o n x m true h
-        ∙ chosen_or (eqb x.from m.from && eqb x.to m.to) (list_any (is_at (pair_cmp (m.from, m.to))) o)
-
--- once a query was taken, those messages wait that waited before and don't go like it
-pub query_taken : (o n r : List (ℕ × ℕ)) (x : Message) → x.kind ≡ Query → Updated o n (x.from, x.to) false
-    → (m : Message)
-    → is_waiting (record { queries = n; replies = r }) m
-    ≡ (not (goes_like x m) && is_waiting (record { queries = o; replies = r }) m)
-query_taken o n r x is h m = rw is (by_kind m.kind)
-  where
-    by_kind : (k : Kind) → list_any (is_at (pair_cmp (m.from, m.to))) (of_kind k n r)
-        ≡ (not (is_same_kind Query k && (eqb x.from m.from && eqb x.to m.to))
-        && list_any (is_at (pair_cmp (m.from, m.to))) (of_kind k o r))
-    by_kind Query = same_set o n x m false h
-        ∙ chosen_and (eqb x.from m.from && eqb x.to m.to) (list_any (is_at (pair_cmp (m.from, m.to))) o)
-    by_kind Reply = refl
-
--- once a reply was taken, those messages wait that waited before and don't go like it
-pub reply_taken : (o n q : List (ℕ × ℕ)) (x : Message) → x.kind ≡ Reply → Updated o n (x.from, x.to) false
-    → (m : Message)
-    → is_waiting (record { queries = q; replies = n }) m
-    ≡ (not (goes_like x m) && is_waiting (record { queries = q; replies = o }) m)
-reply_taken o n q x is h m = rw is (by_kind m.kind)
-  where
-    by_kind : (k : Kind) → list_any (is_at (pair_cmp (m.from, m.to))) (of_kind k q n)
-        ≡ (not (is_same_kind Reply k && (eqb x.from m.from && eqb x.to m.to))
-        && list_any (is_at (pair_cmp (m.from, m.to))) (of_kind k q o))
-    by_kind Query = refl
-    by_kind Reply = same_set o n x m false h
-        ∙ chosen_and (eqb x.from m.from && eqb x.to m.to) (list_any (is_at (pair_cmp (m.from, m.to))) o)
-
--- ---- none
+  -- once a message was taken, those wait that waited before and don't go like it
+  pub taken : Updated old new (x.from, x.to) false → (m : Message)
+      → is_waiting (both_kinds k new others) m ≡ (not (goes_like x m) && is_waiting w m)
+  taken h m = updated false h m
+      ∙ by_test (goes_like x m) (λ t. cond t false (is_waiting w m) ≡ (not t && is_waiting w m)) (λ e. refl) (λ e. refl)
 
 -- a message of a kind between two processes
 abbrev message : Kind → ℕ × ℕ → Message
 message k e = record { kind = k; initiator = 0; number = 0; from = e.0; to = e.1 }
 
--- the first of a set is in it
-first_in : (e : ℕ × ℕ) (es : List (ℕ × ℕ)) → list_any (is_at (pair_cmp (e.0, e.1))) (e ∷ es) ≡ true
-first_in e es = rw (is_at_pair (e.0, e.1) e, eq-eqb e.0 e.0 refl, eq-eqb e.1 e.1 refl) refl
-
 -- a set in which no ends are is empty
-no_ends : (es : List (ℕ × ℕ)) → ((e : ℕ × ℕ) → list_any (is_at (pair_cmp (e.0, e.1))) es ≡ false) → es ≡ []
+no_ends : (es : List (ℕ × ℕ)) → ((e : ℕ × ℕ) → list_any (is_at (pair_cmp (e.0, e.1))) es ≡ false) → length es ≡ 0
 no_ends [] h = refl
-no_ends (e ∷ es) h = absurd (true≢false (sym (first_in e es) ∙ h e))
+no_ends (e ∷ es) h =
+    let first : list_any (is_at (pair_cmp (e.0, e.1))) (e ∷ es) ≡ true =
+    rw (is_at_pair (e.0, e.1) e, eq-eqb e.0 e.0 refl, eq-eqb e.1 e.1 refl) refl in
+    absurd (true≢false (sym first ∙ h e))
 
--- where no message is waiting, there are no queries
-pub no_queries : (w : UndeliveredState) → ((m : Message) → is_waiting w m ≡ false) → length w.queries ≡ 0
-no_queries w h = ap length (no_ends w.queries (λ e. h (message Query e)))
-
--- where no message is waiting, there are no replies
-pub no_replies : (w : UndeliveredState) → ((m : Message) → is_waiting w m ≡ false) → length w.replies ≡ 0
-no_replies w h = ap length (no_ends w.replies (λ e. h (message Reply e)))
-
--- where the sets are empty, no message is waiting
-pub none_waiting : (w : UndeliveredState) → length w.queries ≡ 0 → length w.replies ≡ 0 → (m : Message)
-    → is_waiting w m ≡ false
-none_waiting w q r m = by_kind m.kind
+-- both sets are empty just where no message is waiting
+pub empty_means : (v w : UndeliveredState) → v ≡ w
+    → (length v.queries ≡ 0) × (length v.replies ≡ 0) ↔ ((m : Message) → is_waiting w m ≡ false)
+empty_means v w view_is =
+    rw (← view_is) (
+      λ none m. rw (nil_from_length v.queries none.0, nil_from_length v.replies none.1) (nowhere m m.kind),
+      λ h. (no_ends v.queries (λ e. h (message Query e)), no_ends v.replies (λ e. h (message Reply e))),
+    )
   where
-    empty : (es : List (ℕ × ℕ)) → length es ≡ 0 → list_any (is_at (pair_cmp (m.from, m.to))) es ≡ false
-    empty [] h = refl
-    empty (e ∷ es) h = absurd (omega arith)
-
-    by_kind : (k : Kind) → list_any (is_at (pair_cmp (m.from, m.to))) (of_kind k w.queries w.replies) ≡ false
-    by_kind Query = empty w.queries q
-    by_kind Reply = empty w.replies r
+    nowhere : (m : Message) (k : Kind) → list_any (is_at (pair_cmp (m.from, m.to))) (of_kind k [] []) ≡ false
+    nowhere m Query = refl
+    nowhere m Reply = refl

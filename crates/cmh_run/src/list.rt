@@ -4,7 +4,7 @@ ghost use Rattle.std.specs.Prelude.{◌≡◌, ◌<◌, ℕ, List, Some, length,
 ghost use Rattle.cmh_graph.specs.ChosenPath.{chosen_path, distance_of};
 ghost use Rattle.cmh_graph.specs.Graph.{indices, process_count};
 
-use crate::tape::ListTape;
+use crate::tape::Tape;
 use cmh_graph::WaitGraph;
 use cmh_graph::laws::law_built_graph;
 use std::alloc::{AllocError, Global};
@@ -71,19 +71,19 @@ impl ProcessList for Vec<u32> {
 pub struct BriefList {
     next: Option<u32>,
     count: usize,
-    tape: ListTape,
-    ghost second: { next ≡ slice_get tape.processes 1 },
-    ghost size: { count ≡ length tape.processes },
+    tape: Tape<u32>,
+    ghost second: { next ≡ slice_get tape.items 1 },
+    ghost size: { count ≡ length tape.items },
 }
 
 impl ProcessList for BriefList {
-    ghost processes = { λ list. list.tape.processes };
+    ghost processes = { λ list. list.tape.items };
 
     fn of(list: Vec<u32>) -> BriefList {
         BriefList {
             next: list.get(1).copied(),
             count: list.len(),
-            tape: ListTape::of(&list),
+            tape: Tape::of(&list),
         }
     }
 
@@ -98,7 +98,7 @@ impl ProcessList for BriefList {
         Ok(BriefList {
             next: next_by(graph, distances, p, distance),
             count: distance as usize + 1,
-            tape: ListTape::chosen_path(graph, &p),
+            tape: Tape::chosen_path(graph, &p),
         })
     }
 

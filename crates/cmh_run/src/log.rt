@@ -44,13 +44,13 @@ impl Log for Vec<Delivery> {
 /// Keeps no delivery. Which ones were added is known in proofs alone.
 #[derive(Drop)]
 pub struct NoLog {
-    tape: Tape,
+    tape: Tape<Delivery>,
 }
 
 impl Log for NoLog {
     ghost use Rattle.cmh_run.specs.declared.delivery.Delivery.{Delivery};
 
-    ghost deliveries = { λ log. log.tape.deliveries };
+    ghost deliveries = { λ log. log.tape.items };
 
     fn empty(_alloc: Global) -> NoLog {
         NoLog { tape: Tape::new() }

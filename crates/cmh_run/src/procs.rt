@@ -58,7 +58,6 @@ impl Procs {
     }
 
     /// The process, which has `size` dependents, starts.
-    #[tactic(auto, using(crate::proofs::TouchedProcesses::one_touched))]
     pub(crate) fn start(&mut self, k: u32, size: u32) -> Result<Action, AllocError>
         requires within { k < length self.old }
         requires next { (proc_at self.old k).latest + 1 < 2 ^ 32 }
@@ -71,7 +70,6 @@ impl Procs {
     }
 
     /// A query with this number has come to the process, which has `size` dependents.
-    #[tactic(auto, using(crate::proofs::TouchedProcesses::one_touched))]
     pub(crate) fn engage(
         &mut self,
         k: u32,

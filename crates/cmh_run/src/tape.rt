@@ -1,62 +1,64 @@
-//! The deliveries that were made, and processes that were named. They exist only in proofs.
+//! Lists that exist only in proofs: the deliveries that were made, and processes that were named.
 
-ghost use Rattle.std.specs.Prelude.{◌≡◌, ℕ, List, [], ◌∷◌, ◌++◌, unwrap_or};
+ghost use Rattle.std.specs.Prelude.{◌≡◌, List, [], ◌∷◌, ◌++◌, unwrap_or};
 ghost use Rattle.std.specs.Borrow.{ftrue};
 ghost use Rattle.cmh_graph.specs.ChosenPath.{chosen_path};
-ghost use Rattle.cmh_run.specs.declared.delivery.Delivery.{Delivery};
 
 use crate::Delivery;
 use cmh_graph::WaitGraph;
-use std::marker::Model;
+use std::marker::{Model, PhantomData};
 
-/// The deliveries that were made, in their order. It has no bytes of its own, and its methods do nothing when they run.
+/// A list that only proofs read. It has no bytes of its own, and its methods do nothing when they run.
 #[derive(Drop)]
-pub(crate) struct Tape {
-    ghost deliveries: { List Delivery },
+pub(crate) struct Tape<T> {
+    of: PhantomData<T>,
+    ghost items: { List T },
 }
 
-impl Model for Tape {
+impl<T> Model for Tape<T> {
     ghost also_owns = { λ _. ftrue };
 }
 
-impl Tape {
-    /// The tape before the first delivery.
-    pub(crate) fn new() -> Tape
-        ensures { result.deliveries ≡ [] }
+impl<T> Tape<T> {
+    /// The tape of the list that the caller's proof picks by what is passed.
+    fn picked<A>(_by: &A) -> Tape<T>
+        ghost list: { List T }
+        ensures { result.items ≡ list }
     {
-        Tape {}
+        Tape { of: PhantomData }
+    }
+}
+
+/// The deliveries that were made, in their order.
+impl Tape<Delivery> {
+    /// The tape before the first delivery.
+    pub(crate) fn new() -> Tape<Delivery>
+        ensures { result.items ≡ [] }
+    {
+        Tape::picked(&())
     }
 
     /// The tape with this delivery as the last. The old tape stays as it is.
-    pub(crate) fn append(&self, _delivery: &Delivery) -> Tape
-        ensures { result.deliveries ≡ self.now.deliveries ++ _delivery.now ∷ [] }
+    pub(crate) fn append(&self, delivery: &Delivery) -> Tape<Delivery>
+        ensures { result.items ≡ self.now.items ++ delivery.now ∷ [] }
     {
-        Tape {}
+        Tape::picked(&(self, delivery))
     }
 }
 
-/// The processes that were named, in their order. It has no bytes either.
-#[derive(Drop)]
-pub(crate) struct ListTape {
-    ghost processes: { List ℕ },
-}
-
-impl Model for ListTape {
-    ghost also_owns = { λ _. ftrue };
-}
-
-impl ListTape {
+/// The processes that were named, in their order.
+impl Tape<u32> {
     /// The tape that names each of these.
-    pub(crate) fn of(_processes: &[u32]) -> ListTape
-        ensures { result.processes ≡ _processes.now }
+    pub(crate) fn of(processes: &[u32]) -> Tape<u32>
+        ensures { result.items ≡ processes.now }
     {
-        ListTape {}
+        Tape::picked(&processes)
     }
 
     /// The tape of the chosen path of a process, empty for a process without one.
-    pub(crate) fn chosen_path(_graph: &WaitGraph, _p: &u32) -> ListTape
-        ensures { result.processes ≡ unwrap_or (chosen_path _graph.now _p.now) [] }
+    pub(crate) fn chosen_path(graph: &WaitGraph, p: &u32) -> Tape<u32>
+        ensures { result.items ≡ unwrap_or (chosen_path graph.now p.now) [] }
     {
-        ListTape {}
+        Tape::picked(&(graph, p))
     }
 }
