@@ -1,5 +1,5 @@
 -- What stays true of a configuration, by its processes as a function, its bag and the engaged processes.
-use Rattle.cmh_run.proofs.Common.{◌≡◌, ℕ, suc, ◌+◌, ◌-◌, ◌<◌, ◌≤◌, Bool, true, false, cond, List, [], ◌∷◌, ◌++◌, remove, length, slice_get, Contains, Some, None, refl, ◌∙◌, arith, ◌⊎◌, append-nil, sum_by-append, eq-eqb, cases_eq, inl, inr, ne_eqb, Query, Reply, Message, Proc, Action, Nothing, Engage, ReplyTo, Declare, proc_engaged, engage_action, last_action, start_action, Graph, process_count, dependents_of, is_awake, Depends, IsWithinGraph, Reaches, IsDeadlocked, asleep_is_idle, reaches_more, reply, messages_of}
+use Rattle.cmh_run.proofs.Common.{◌≡◌, ℕ, ◌+◌, ◌-◌, ◌<◌, ◌≤◌, Bool, true, false, cond, List, [], ◌∷◌, ◌++◌, remove, length, slice_get, Contains, Some, None, refl, ◌∙◌, arith, ◌⊎◌, append-nil, sum_by-append, eq-eqb, cases_eq, inl, inr, ne_eqb, Query, Reply, Message, Proc, Action, Nothing, Engage, ReplyTo, Declare, proc_engaged, engage_action, last_action, start_action, Graph, process_count, dependents_of, is_awake, Depends, IsWithinGraph, Reaches, IsDeadlocked, asleep_is_idle, reaches_more, reply, messages_of}
 use Rattle.std.proofs.Common.{if◌then◌else◌, ◌==◌}
 use Rattle.std.proofs.lemmas.Bool.Decides.{nat_tests}
 use Rattle.cmh_graph.proofs.PathLemmas.{depends_within}
@@ -74,10 +74,6 @@ module _ (g : Graph) (i n : ℕ) (F : ℕ → Proc) (l k : ℕ) (ok : IsWithinGr
       )
   sent_fine ds (ReplyTo to) known told = (grind (arith, told to refl), tt)
   sent_fine ds Declare known told = tt
-
--- a process with dependents doesn't reply at once
-pub some_engage : (from n : ℕ) → engage_action from (suc n) ≡ Engage
-some_engage from n = rw (ne_eqb (suc n) 0 (λ e. omega arith)) refl
 
 module _ (g : Graph) (i n : ℕ) (F : ℕ → Proc) (bag : List Message) (engaged : List ℕ) (ok : IsWithinGraph g)
     (L : IsSoundRun g i n F bag engaged) (x : ℕ) (m : Message) (there : slice_get bag x ≡ Some m) where
