@@ -2,7 +2,7 @@
 use Rattle.std.specs.Prelude.{◌≡◌, ◌≢◌, ℕ, ◌+◌, ◌<◌, Bool, true, nat_eq, ◌&&◌, ◌==◌, if◌then◌else◌, List, [], ◌∷◌, slice_get, Contains, Option, Some, None, is_none, IsTrue, ⊤}
 use Rattle.std.specs.List.{IsDistinct}
 use Rattle.cmh_graph.specs.declared.verdict.Verdict.{Verdict}
-use Rattle.cmh_graph.specs.Graph.{Graph, process_count, is_awake}
+use Rattle.cmh_graph.specs.Graph.{Graph, IsWithinGraph, process_count, is_awake, is_idle}
 use Rattle.cmh_graph.specs.Verdict.{IsDeadlocked, IsVerdict}
 use Rattle.cmh_process.specs.declared.message.Message.{Message}
 use Rattle.cmh_run.specs.declared.delivery.Delivery.{Delivery}
@@ -92,6 +92,13 @@ pub record IsRun (rule : Rule) (g : Graph) (i : ℕ) (restarts : List ℕ)
     (log : List Delivery) (ending : Ending) (end : Going) : Type 0 where
   pub leads : DeliveriesLead rule g i (going_at_start g i restarts) log end
   pub ends : EndsAs end.config ending
+
+-- this is true of every legal run of an idle process of a graph
+abbrev pub OfEveryRun : (Graph → ℕ → List ℕ → List Delivery → Ending → Going → Type 0) → Type 0
+OfEveryRun P = (rule : Rule) (g : Graph) (i : ℕ) (restarts : List ℕ)
+    (log : List Delivery) (ending : Ending) (end : Going)
+    → IsWithinGraph g → IsTrue (is_idle g i) → IsRun rule g i restarts log ending end
+    → P g i restarts log ending end
 
 -- a run that has ended is right about the graph
 pub record IsRight (g : Graph) (i : ℕ) (restarts : List ℕ)

@@ -1,5 +1,5 @@
 -- What is kept of a run that has ended, which runs are refused, and what the answer is.
-use Rattle.std.specs.Prelude.{◌≡◌, ℕ, nat_eq, ◌+◌, ◌*◌, Contains, ◌<◌, ◌≤◌, IsTrue, IsFalse, List, [], length, slice_get, Some}
+use Rattle.std.specs.Prelude.{◌≡◌, ◌⊎◌, ℕ, nat_eq, ◌+◌, ◌*◌, Contains, ◌<◌, ◌≤◌, IsTrue, IsFalse, List, [], length, slice_get, Some}
 use Rattle.std.specs.List.{IsDistinct}
 use Rattle.std.specs.List.Sorted.{IsStrictlyIncreasing}
 use Rattle.cmh_graph.specs.Graph.{Graph, is_idle, is_awake, dependency_count}
@@ -51,6 +51,10 @@ IsFirstRunFault g i choices restarts TooManyChoices =
 IsFirstRunFault g i choices restarts BadRestarts =
     IsTrue (is_idle g i) × (length choices ≤ MAX_CHOICES) × ¬ (AreRestarts restarts)
 IsFirstRunFault g i choices restarts Memory = ⊥
+
+-- why there is no run: memory was refused, or this is the first reason of all
+abbrev pub IsRunFault : Graph → ℕ → List ℕ → List ℕ → RunFault → Type 0
+IsRunFault g i choices restarts e = (e ≡ Memory) ⊎ IsFirstRunFault g i choices restarts e
 
 -- what an ending says of the initiator
 abbrev pub verdict_of : Ending → Verdict

@@ -2,13 +2,13 @@
 
 ghost use Rattle.std.specs.Prelude.{ℕ, List, ◌≡◌, ◌↔◌, IsTrue, IsFalse, ◌+◌, ◌*◌, ◌<◌, ◌≤◌, length, All, Option, None};
 ghost use Rattle.cmh_graph.specs.Build.{IsWellFormed};
-ghost use Rattle.cmh_graph.specs.Graph.{Graph, is_idle, IsWithinGraph, is_awake, dependency_count};
+ghost use Rattle.cmh_graph.specs.Graph.{Graph, is_awake, dependency_count};
 ghost use Rattle.cmh_run.specs.Check.{IsLegalRun, IsFirstCheckFault};
 ghost use Rattle.cmh_run.specs.Choices.{HasNoHints, chosen_place};
 ghost use Rattle.cmh_run.specs.Engaged.{AreEngaged, IsEmptyRun};
 ghost use Rattle.cmh_run.specs.Last.{LastIsRun};
 ghost use Rattle.cmh_run.specs.Config.{Config, start, after_delivery, without_message, asks_hint, proc_at};
-ghost use Rattle.cmh_run.specs.Legal.{Going, IsRun, Rule, IsRight, IsBetween, MayCome};
+ghost use Rattle.cmh_run.specs.Legal.{Going, IsRun, OfEveryRun, Rule, IsRight, IsBetween, MayCome};
 ghost use Rattle.cmh_run.specs.Step.{IsStart, IsStep, IsRunOfSteps};
 ghost use Rattle.cmh_graph.specs.declared.verdict.Verdict.{Verdict};
 ghost use Rattle.cmh_process.specs.declared.message.Message.{Message};
@@ -53,19 +53,13 @@ pub fn law_stale()
 /// A run that has ended says whether its initiator is deadlocked. Where it is declared, each process that is engaged is
 /// deadlocked too, and no message of the last start is undelivered.
 pub fn law_runs_sound()
-    ensures { (rule : Rule) (g : Graph) (i : ℕ) (restarts : List ℕ)
-        (log : List Delivery) (ending : Ending) (end : Going)
-        → IsWithinGraph g → IsTrue (is_idle g i) → IsRun rule g i restarts log ending end
-        → IsRight g i restarts ending end }
+    ensures { OfEveryRun (λ g i restarts log ending end. IsRight g i restarts ending end) }
 {}
 
 /// Whatever the ending, the initiator engaged first, unless it is awake. No process engaged twice. The initiator
 /// reaches each that engaged, and none of them is awake. A run is cut at a free process that didn't engage.
 pub fn law_who_engages()
-    ensures { (rule : Rule) (g : Graph) (i : ℕ) (restarts : List ℕ)
-        (log : List Delivery) (ending : Ending) (end : Going)
-        → IsWithinGraph g → IsTrue (is_idle g i) → IsRun rule g i restarts log ending end
-        → AreEngaged g i ending end.config.engaged }
+    ensures { OfEveryRun (λ g i restarts log ending end. AreEngaged g i ending end.config.engaged) }
 {}
 
 /// An awake initiator has the empty run: it comes to rest at once, with none engaged, and doesn't start again.
@@ -78,18 +72,13 @@ pub fn law_awake_ones_start_nothing()
 
 /// A run has at most two deliveries for each dependency and start.
 pub fn law_delivery_bound()
-    ensures { (rule : Rule) (g : Graph) (i : ℕ) (restarts : List ℕ)
-        (log : List Delivery) (ending : Ending) (end : Going)
-        → IsWithinGraph g → IsTrue (is_idle g i) → IsRun rule g i restarts log ending end
-        → length log ≤ 2 * dependency_count g * (end.restarted + 1) }
+    ensures { OfEveryRun (λ g i restarts log ending end.
+        length log ≤ 2 * dependency_count g * (end.restarted + 1)) }
 {}
 
 /// The messages of a run of an idle process of a graph go between the graph's processes.
 pub fn law_messages_between()
-    ensures { (rule : Rule) (g : Graph) (i : ℕ) (restarts : List ℕ)
-        (log : List Delivery) (ending : Ending) (end : Going)
-        → IsWithinGraph g → IsTrue (is_idle g i) → IsRun rule g i restarts log ending end
-        → All (λ d. IsBetween g d.message) log }
+    ensures { OfEveryRun (λ g i restarts log ending end. All (λ d. IsBetween g d.message) log) }
 {}
 
 /// Without hints a list of choices leaves one run, with one ending.
@@ -112,10 +101,7 @@ pub fn law_one_run()
 /// The deliveries of a run's last number, taken alone and numbered 1, begin a run without restarts. Where the run was
 /// declared or came to rest, they are all of such a run, with the same ending and the same engaged processes.
 pub fn law_last_computation_is_a_run()
-    ensures { (rule : Rule) (g : Graph) (i : ℕ) (restarts : List ℕ)
-        (log : List Delivery) (ending : Ending) (end : Going)
-        → IsWithinGraph g → IsTrue (is_idle g i) → IsRun rule g i restarts log ending end
-        → LastIsRun g i log ending end }
+    ensures { OfEveryRun (λ g i restarts log ending end. LastIsRun g i log ending end) }
 {}
 
 /// A log is legal with one ending, or has one first fault: so `check_run` has no choice.

@@ -1,12 +1,12 @@
 //! Runs one after another, in memory that is kept from one to the next.
 
-ghost use Rattle.std.specs.Prelude.{◌≡◌, ◌⊎◌, [], Some, ◌*◌, ◌≤◌, ◌↔◌, length, IfOk, IfErr, IsTrue, OnOk, List, ℕ};
+ghost use Rattle.std.specs.Prelude.{◌≡◌, [], Some, ◌*◌, ◌≤◌, ◌↔◌, length, IfOk, IfErr, IsTrue, OnOk, List, ℕ};
 ghost use Rattle.cmh_graph.specs.Graph.{dependency_count};
 ghost use Rattle.cmh_run.specs.Choices.{HasNoHints};
 ghost use Rattle.cmh_run.specs.Config.{nothing_yet};
-ghost use Rattle.std.specs.List.Sorted.{IsStrictlyIncreasing};
 ghost use Rattle.cmh_run.specs.Progress.{IsOver, IsRunState, IsUnderWay};
-ghost use Rattle.cmh_run.specs.Run.{IsAccepted, IsFirstRunFault, IsRunAnswer};
+ghost use Rattle.cmh_run.specs.Run.{IsAccepted, IsFirstRunFault, IsRunFault, IsRunAnswer};
+ghost use Rattle.std.specs.List.Sorted.{IsStrictlyIncreasing};
 
 use crate::network::Network;
 use crate::progress::Progress;
@@ -59,8 +59,7 @@ impl<'a> Runner<'a> {
         ensures run { IfOk result (IsRunAnswer self.old initiator choices.now []) }
         ensures once { IfOk result (λ r. r.restarted ≡ 0) }
         ensures short { IfOk result (λ r. length r.log ≤ 2 * dependency_count self.old) }
-        ensures fault { IfErr result (λ e. (e ≡ RunFault.Memory)
-            ⊎ IsFirstRunFault self.old initiator choices.now [] e) }
+        ensures fault { IfErr result (IsRunFault self.old initiator choices.now []) }
         ensures silent { H.is_silent hints.old → IfOk result (λ r. HasNoHints r.log) }
         ensures kept { H.keeps hints.old hints.new }
     {
@@ -79,8 +78,7 @@ impl<'a> Runner<'a> {
         requires { H.speaks_of hints.old self.old }
         ensures same { self.new ≡ self.old }
         ensures run { IfOk result (IsRunAnswer self.old initiator choices.now restarts.now) }
-        ensures fault { IfErr result (λ e. (e ≡ RunFault.Memory)
-            ⊎ IsFirstRunFault self.old initiator choices.now restarts.now e) }
+        ensures fault { IfErr result (IsRunFault self.old initiator choices.now restarts.now) }
         ensures silent { H.is_silent hints.old → IfOk result (λ r. HasNoHints r.log) }
         ensures kept { H.keeps hints.old hints.new }
     {

@@ -1,9 +1,9 @@
 //! A run alone: each call makes a `Runner` and a network of its own.
 
-ghost use Rattle.std.specs.Prelude.{◌≡◌, ◌⊎◌, [], ◌*◌, ◌≤◌, length, IfOk, IfErr};
+ghost use Rattle.std.specs.Prelude.{◌≡◌, [], ◌*◌, ◌≤◌, length, IfOk, IfErr};
 ghost use Rattle.cmh_graph.specs.Graph.{dependency_count};
 ghost use Rattle.cmh_run.specs.Choices.{HasNoHints};
-ghost use Rattle.cmh_run.specs.Run.{IsFirstRunFault, IsRunAnswer};
+ghost use Rattle.cmh_run.specs.Run.{IsRunFault, IsRunAnswer};
 
 use crate::runner::Runner;
 use crate::{Hints, RunFault, RunLog};
@@ -29,8 +29,7 @@ pub fn run_again<H: Hints>(
 ) -> Result<RunLog, RunFault>
     requires { H.speaks_of hints.old graph.now }
     ensures run { IfOk result (IsRunAnswer graph.now initiator choices.now restarts.now) }
-    ensures fault { IfErr result (λ e. (e ≡ RunFault.Memory)
-        ⊎ IsFirstRunFault graph.now initiator choices.now restarts.now e) }
+    ensures fault { IfErr result (IsRunFault graph.now initiator choices.now restarts.now) }
     ensures silent { H.is_silent hints.old → IfOk result (λ r. HasNoHints r.log) }
     ensures kept { H.keeps hints.old hints.new }
 {
@@ -49,8 +48,7 @@ pub fn run<H: Hints>(
     ensures run { IfOk result (IsRunAnswer graph.now initiator choices.now []) }
     ensures once { IfOk result (λ r. r.restarted ≡ 0) }
     ensures short { IfOk result (λ r. length r.log ≤ 2 * dependency_count graph.now) }
-    ensures fault { IfErr result (λ e. (e ≡ RunFault.Memory)
-        ⊎ IsFirstRunFault graph.now initiator choices.now [] e) }
+    ensures fault { IfErr result (IsRunFault graph.now initiator choices.now []) }
     ensures silent { H.is_silent hints.old → IfOk result (λ r. HasNoHints r.log) }
     ensures kept { H.keeps hints.old hints.new }
 {
