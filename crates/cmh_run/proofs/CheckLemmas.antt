@@ -7,7 +7,7 @@ use Rattle.cmh_graph.proofs.Verdicts.{verdict_listed}
 use Rattle.cmh_run.proofs.Scripts.{verdict_decides}
 pub use Rattle.cmh_run.proofs.Scripts.{truth_at}
 use Rattle.cmh_run.specs.Check.{ComesAt, HasEnded}
-use Rattle.cmh_run.specs.Progress.{HasProcess}
+use Rattle.cmh_run.specs.Progress.{MayAct}
 use Rattle.cmh_run.proofs.Soundness.{runs_are_sound}
 use Rattle.cmh_run.proofs.Tokens.{each_at}
 use Rattle.cmh_run.proofs.LiveInvariant.{IsSoundMessage}
@@ -105,7 +105,7 @@ module _ (g : Graph) (i : ℕ) (log : List Delivery) (s : Going) (a : CheckState
       is_there.1).to_in
 
   -- a network like the one that is kept has the receiver, and hasn't ended
-  pub has_receiver : (c : Config) → c ≡ a.network → HasProcess g c d.message.to
+  pub has_receiver : (c : Config) → c ≡ a.network → MayAct g c d.message.to
   has_receiver c same = rw same (record {
     size = network_size g i log s a h;
     within = delivery_within;

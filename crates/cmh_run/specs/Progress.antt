@@ -10,15 +10,15 @@ use Rattle.cmh_run.specs.Legal.{Going, going_at_start, DeliveriesLead}
 use Rattle.cmh_run.specs.Choices.{chosen_place}
 use Rattle.cmh_run.specs.Run.{IsAccepted}
 
--- the run hasn't ended, its configuration has as many processes as the graph, and p is one of them
-pub record HasProcess (g : Graph) (c : Config) (p : ℕ) : Type 0 where
+-- p may act: the run hasn't ended, its configuration has as many processes as the graph, and p is one of them
+pub record MayAct (g : Graph) (c : Config) (p : ℕ) : Type 0 where
   pub size : length c.procs ≡ process_count g
   pub within : p < process_count g
   pub going : c.ended ≡ None
 
 -- the message may be delivered: to a process, which has heard of no such number if it is awake
 pub record MayReceive (g : Graph) (c : Config) (m : Message) : Type 0 where
-  pub process : HasProcess g c m.to
+  pub process : MayAct g c m.to
   pub unheard : IsTrue (is_awake g m.to) → IsTrue (engages (proc_at c.procs m.to) m.number)
 
 -- the initiator may start again: its next number and the number of restarts are less than 2 ^ 32

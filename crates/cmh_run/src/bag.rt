@@ -10,6 +10,7 @@ ghost use Rattle.cmh_process.specs.contracts.message.MessageEq.TheImpl.Laws as m
 ghost use Rattle.cmh_process.specs.contracts.message.MessagePartialEq.TheImpl as message;
 
 use crate::RunFault;
+use crate::send::Sender;
 use cmh_graph::MAX_DEPENDENCIES;
 use cmh_process::{Kind, Message};
 use std::alloc::{AllocError, Global};
@@ -87,28 +88,20 @@ impl Bag {
         Ok(())
     }
 
-    /// Adds the query of `from` to each of these, in their order.
+    /// Adds the sender's query to each of these, in their order.
     #[inline(never)]
     pub(crate) fn add_queries(
         &mut self,
-        initiator: u32,
-        number: u32,
-        from: u32,
+        sender: Sender,
         receivers: &[u32],
     ) -> Result<(), AllocError>
-        ensures ok { OnOk result (self.new
-            ≡ self.old ++ map (λ (r : ℕ). query initiator number from r) receivers.now) }
+        ensures ok { OnOk result (self.new ≡ self.old
+            ++ map (λ (r : ℕ). query sender.initiator sender.number sender.process r) receivers.now) }
     {
         if self.messages.len() >= FEW && self.messages.capacity() < MAX_DEPENDENCIES {
             self.messages.reserve(MAX_DEPENDENCIES)?;
         }
-        let queries = receivers.iter().map(|to| Message {
-            kind: Kind::Query,
-            initiator,
-            number,
-            from,
-            to: *to,
-        });
+        let queries = receivers.iter().map(|to| sender.message(Kind::Query, *to));
         self.messages.extend(queries)?;
         Ok(())
     }

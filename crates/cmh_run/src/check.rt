@@ -2,8 +2,8 @@
 
 ghost use Rattle.std.specs.Prelude.{◌≡◌, ◌⊎◌, ◌↔◌, IfOk, IfErr};
 ghost use Rattle.cmh_graph.specs.Verdict.{IsDeadlocked};
-ghost use Rattle.cmh_run.specs.declared.delivery.Ending.TheVariants.{Declared};
 ghost use Rattle.cmh_run.specs.Check.{IsLegalRun, IsFirstCheckFault};
+ghost use Rattle.cmh_run.specs.declared.delivery.Ending.TheVariants.{Declared};
 
 use crate::checker::Checker;
 use crate::truth::truth_of;

@@ -6,7 +6,7 @@ ghost use Rattle.cmh_graph.specs.Verdict.{verdicts};
 ghost use Rattle.cmh_process.specs.declared.message.Message.{Message};
 ghost use Rattle.cmh_run.specs.declared.delivery.Delivery.{Delivery};
 ghost use Rattle.cmh_run.specs.Legal.{Going, HintIsFit, EndsAs};
-ghost use Rattle.cmh_run.specs.Progress.{HasProcess};
+ghost use Rattle.cmh_run.specs.Progress.{MayAct};
 ghost use Rattle.cmh_run.specs.Check.{HasEnded, IsFlaw};
 ghost use Rattle.cmh_run.specs.CheckState.{is_waiting, goes_like, Agrees, IsChecked, IsSettled};
 
@@ -119,7 +119,7 @@ impl Checker {
 
     /// Whether the delivery has no hint, or one that is asked for and true.
     fn is_fit(&self, graph: &WaitGraph, truth: &[Verdict], delivery: Delivery) -> bool
-        requires process { HasProcess graph.now self.now.network delivery.message.to }
+        requires process { MayAct graph.now self.now.network delivery.message.to }
         requires truth { truth.now ≡ verdicts graph.now }
         ensures { IsTrue result
             ↔ HintIsFit graph.now self.now.network delivery.message delivery.hint }

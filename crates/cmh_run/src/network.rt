@@ -3,7 +3,7 @@
 ghost use Rattle.std.specs.Prelude.{◌≡◌, ℕ, List, ◌+◌, ◌<◌, ◌^◌, ◌%◌, ◌↔◌, [], None, Option, Some, length, slice_get, IfSome, IfNone, IsNone, IsFalse, IfOk, OnOk, if◌then◌else◌};
 ghost use Rattle.cmh_graph.specs.Graph.{process_count, is_awake};
 ghost use Rattle.cmh_run.specs.Legal.{going_at_start, HintIsFit};
-ghost use Rattle.cmh_run.specs.Progress.{HasProcess, MayReceive};
+ghost use Rattle.cmh_run.specs.Progress.{MayAct, MayReceive};
 ghost use Rattle.cmh_run.specs.Config.{blank_config, proc_at, nothing_yet, start, after_action, after_engagement, after_hint, after_message, asks_hint, query, without_message};
 
 use crate::procs::Procs;
@@ -68,21 +68,20 @@ impl Network {
 
     /// The initiator starts with its next number.
     pub(crate) fn start(&mut self, graph: &WaitGraph, initiator: u32) -> Result<(), AllocError>
-        requires process { HasProcess graph.now self.old initiator }
+        requires process { MayAct graph.now self.old initiator }
         requires next { (proc_at self.old.procs initiator).latest + 1 < 2 ^ 32 }
         ensures ok { OnOk result (self.new ≡ start graph.now initiator self.old) }
     {
         law_built_graph(graph);
         let dependents = graph.dependents(initiator);
         let action = self.procs.start(initiator, dependents.len() as u32)?;
-        let number = self.procs.latest(initiator);
-        self.number = number;
+        self.number = self.procs.latest(initiator);
         self.engaged.clear();
         self.engaged.push(initiator)?;
         let sender = Sender {
             initiator,
-            number,
-            from: initiator,
+            number: self.number,
+            process: initiator,
         };
         self.act(sender, dependents, action)
     }
@@ -115,7 +114,7 @@ impl Network {
     /// Whether hints are asked about the receiver before the message is delivered.
     #[inline(always)]
     pub(crate) fn asks(&self, graph: &WaitGraph, message: Message) -> bool
-        requires { HasProcess graph.now self.now message.to }
+        requires { MayAct graph.now self.now message.to }
         ensures { result ≡ asks_hint graph.now self.now message }
     {
         message.kind == Kind::Query
@@ -133,22 +132,17 @@ impl Network {
         message: Message,
         hint: Option<Verdict>,
     ) -> Result<(), AllocError>
-        requires { HasProcess graph.now self.old message.to }
+        requires { MayAct graph.now self.old message.to }
         ensures ok { OnOk result (self.new ≡ (if is_awake graph.now message.to
             then self.old
             else after_message graph.now initiator self.old message message.kind hint)) }
     {
-        let Message {
-            number,
-            from,
-            to,
-            ..
-        } = message;
-        if graph.is_awake(to) {
+        if graph.is_awake(message.to) {
             return Ok(());
         }
         if self.asks(graph, message) {
-            return self.engage_by_hint(graph, initiator, number, from, to, hint);
+            let (number, to, from) = (message.number, message.to, message.from);
+            return self.engage_by_hint(graph, initiator, number, to, from, hint);
         }
         self.receive(graph, initiator, message)
     }
@@ -172,15 +166,10 @@ impl Network {
         ensures silent { H.is_silent hints.old → IfOk result (λ hint. hint ≡ None) }
         ensures kept { H.keeps hints.old hints.new }
     {
-        let Message {
-            number,
-            from,
-            to,
-            ..
-        } = message;
         if self.asks(graph, message) {
-            let hint = hints.hint(to);
-            self.engage_by_hint(graph, initiator, number, from, to, hint)?;
+            let hint = hints.hint(message.to);
+            let (number, to, from) = (message.number, message.to, message.from);
+            self.engage_by_hint(graph, initiator, number, to, from, hint)?;
             return Ok(hint);
         }
         self.receive(graph, initiator, message)?;
@@ -204,77 +193,70 @@ impl Network {
             then self.old
             else after_message graph.now initiator self.old message message.kind hint)) }
     {
-        let Message {
-            kind,
-            number,
-            from,
-            to,
-            ..
-        } = message;
-        let action = match kind {
-            Kind::Query => self.procs.answer(to, number, from),
-            Kind::Reply => self.procs.reply(to, number),
+        let action = match message.kind {
+            Kind::Query => self.procs.answer(message.to, message.number, message.from),
+            Kind::Reply => self.procs.reply(message.to, message.number),
         };
         let receiver = Sender {
             initiator,
-            number,
-            from: to,
+            number: message.number,
+            process: message.to,
         };
         self.act(receiver, &[], action)
     }
 
-    /// The delivery of a query of `from` that engages `to`, unless `to` is known to be free. It is a function of its
-    /// own, so that the loop of a run is short.
+    /// The delivery of a query of `engager` that engages `process`, unless that is known to be free. It is a function of
+    /// its own, so that the loop of a run is short, and takes numbers, so that nothing is stored for it in that loop.
     #[inline(never)]
     fn engage_by_hint(
         &mut self,
         graph: &WaitGraph,
         initiator: u32,
         number: u32,
-        from: u32,
-        to: u32,
+        process: u32,
+        engager: u32,
         hint: Option<Verdict>,
     ) -> Result<(), AllocError>
-        requires { HasProcess graph.now self.old to }
+        requires { MayAct graph.now self.old process }
         ensures ok { OnOk result (self.new ≡
-            after_hint graph.now initiator self.old (query initiator number from to) hint) }
+            after_hint graph.now initiator self.old (query initiator number engager process) hint) }
     {
         law_built_graph(graph);
+        let receiver = Sender {
+            initiator,
+            number,
+            process,
+        };
         match hint {
-            None => self.engage(initiator, number, from, to, graph.dependents(to)),
-            Some(Verdict::Deadlocked) => self.engage(initiator, number, from, to, &[]),
+            None => self.engage(receiver, engager, graph.dependents(process)),
+            Some(Verdict::Deadlocked) => self.engage(receiver, engager, &[]),
             Some(Verdict::Free) => {
-                self.ended = Some(Ending::CutFree(to));
+                self.ended = Some(Ending::CutFree(process));
                 Ok(())
             }
         }
     }
 
-    /// A query of `from` engages `to`, which asks these.
+    /// A query of `engager` engages its receiver, which asks these.
     fn engage(
         &mut self,
-        initiator: u32,
-        number: u32,
-        from: u32,
-        to: u32,
+        receiver: Sender,
+        engager: u32,
         dependents: &[u32],
     ) -> Result<(), AllocError>
-        requires within { to < length self.old.procs }
+        requires within { receiver.process < length self.old.procs }
         requires going { self.old.ended ≡ None }
         requires few { length dependents.now < 2 ^ 32 }
-        ensures ok { OnOk result (self.new ≡
-            after_engagement initiator self.old (query initiator number from to) dependents.now) }
+        ensures ok { OnOk result (self.new ≡ after_engagement receiver.initiator self.old
+            (query receiver.initiator receiver.number engager receiver.process) dependents.now) }
     {
         let size = dependents.len() as u32;
-        let action = self.procs.engage(to, number, from, size)?;
-        if number == self.number {
-            self.engaged.push(to)?;
+        let action = self
+            .procs
+            .engage(receiver.process, receiver.number, engager, size)?;
+        if receiver.number == self.number {
+            self.engaged.push(receiver.process)?;
         }
-        let receiver = Sender {
-            initiator,
-            number,
-            from: to,
-        };
         self.act(receiver, dependents, action)
     }
 
@@ -283,7 +265,7 @@ impl Network {
     fn act(&mut self, sender: Sender, dependents: &[u32], action: Action) -> Result<(), AllocError>
         requires { self.old.ended ≡ None }
         ensures ok { OnOk result (self.new ≡
-            after_action sender.initiator self.old sender.number sender.from dependents.now action) }
+            after_action sender.initiator self.old sender.number sender.process dependents.now action) }
     {
         if let Action::Declare = action {
             self.ended = Some(Ending::Declared);

@@ -168,8 +168,5 @@ impl<'a, L: Log> Progress<'a, L> {
 fn choice_at(choices: &[u64], made: usize) -> u64
     ensures { result ≡ slice_index choices.now made }
 {
-    match choices.get(made) {
-        Some(choice) => *choice,
-        None => 0,
-    }
+    choices.get(made).copied().unwrap_or(0)
 }

@@ -4,12 +4,12 @@ ghost use Rattle.std.specs.Prelude.{◌≡◌, ◌==◌};
 ghost use Rattle.std.specs.Cmp.Lexicographic.{pointwise};
 ghost use Rattle.std.specs.Cmp.Rules.{comparing};
 ghost use Rattle.std.specs.Ordering.{on, eq_of_both};
+ghost use Rattle.cmh_run.specs.Run.{verdict_of};
 ghost use Rattle.std.proofs.Common.{rules};
 ghost use Rattle.cmh_run.specs.contracts.delivery.DeliveryPartialEq.TheImpl as delivery;
 ghost use Rattle.cmh_run.specs.contracts.delivery.DeliveryEq.TheImpl.Laws as delivery_laws;
 ghost use Rattle.cmh_run.specs.contracts.delivery.EndingPartialEq.TheImpl as ending;
 ghost use Rattle.cmh_run.specs.contracts.delivery.EndingEq.TheImpl.Laws as ending_laws;
-ghost use Rattle.cmh_run.specs.Run.{verdict_of};
 
 use crate::{Delivery, Ending, Log, ProcessList};
 use cmh_graph::Verdict;
@@ -85,19 +85,12 @@ impl<L: Log> RunLog<L> {
     pub fn with_list<E: ProcessList>(self) -> RunLog<L, E>
         ensures { result ≡ self }
     {
-        let RunLog {
-            initiator,
-            log,
-            ending,
-            engaged,
-            restarted,
-        } = self;
         RunLog {
-            initiator,
-            log,
-            ending,
-            engaged: E::of(engaged),
-            restarted,
+            initiator: self.initiator,
+            log: self.log,
+            ending: self.ending,
+            engaged: E::of(self.engaged),
+            restarted: self.restarted,
         }
     }
 }

@@ -1,17 +1,17 @@
 //! Hints that are written down before the run, each with the number of the ask that it answers.
 
 ghost use Rattle.std.specs.Prelude.{◌==◌, ◌≡◌, ◌⊎◌, ◌<◌, [], None, IfOk, IfErr, IfSome, nat_le, not, position, refl, ◌+◌, nat_lt, if◌then◌else◌, ℕ};
-ghost use Rattle.std.proofs.Common.{◌∙◌};
-ghost use Rattle.std.proofs.Common.{rules};
 ghost use Rattle.std.specs.Cmp.Lexicographic.{pointwise};
 ghost use Rattle.std.specs.Cmp.Rules.{comparing};
 ghost use Rattle.std.specs.Ordering.{on, eq_of_both};
-ghost use Rattle.cmh_graph.specs.contracts.verdict.VerdictEq.TheImpl.Laws as verdict_laws;
-ghost use Rattle.cmh_graph.specs.contracts.verdict.VerdictPartialEq.TheImpl as verdict;
 ghost use Rattle.cmh_graph.specs.Graph.{Graph, process_count};
 ghost use Rattle.cmh_graph.specs.Verdict.{IsVerdict};
 ghost use Rattle.cmh_run.specs.Script.{AreTrueOf, IsLineOutOfRange, IsFirstScriptFault, is_listed as is_listed_lem, answer_at};
 ghost use Rattle.cmh_run.specs.ScriptProofs.{scripts_keep_graphs, scripts_keep_silent};
+ghost use Rattle.std.proofs.Common.{◌∙◌};
+ghost use Rattle.std.proofs.Common.{rules};
+ghost use Rattle.cmh_graph.specs.contracts.verdict.VerdictEq.TheImpl.Laws as verdict_laws;
+ghost use Rattle.cmh_graph.specs.contracts.verdict.VerdictPartialEq.TheImpl as verdict;
 
 use crate::truth::truth_of;
 use crate::{Hints, ScriptFault};

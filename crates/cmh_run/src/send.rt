@@ -12,7 +12,7 @@ use std::alloc::AllocError;
 pub(crate) struct Sender {
     pub(crate) initiator: u32,
     pub(crate) number: u32,
-    pub(crate) from: u32,
+    pub(crate) process: u32,
 }
 
 impl Sender {
@@ -24,19 +24,13 @@ impl Sender {
         dependents: &[u32],
         action: Action,
     ) -> Result<(), AllocError>
-        ensures ok { OnOk result (bag.new ≡
-            bag.old ++ messages_of self.initiator self.number self.from dependents.now action) }
+        ensures ok { OnOk result (bag.new ≡ bag.old
+            ++ messages_of self.initiator self.number self.process dependents.now action) }
     {
-        let Sender {
-            initiator,
-            number,
-            from,
-        } = self;
         match action {
-            Action::Nothing => Ok(()),
-            Action::Engage => bag.add_queries(initiator, number, from, dependents),
+            Action::Engage => bag.add_queries(self, dependents),
             Action::ReplyTo(to) => bag.add(self.message(Kind::Reply, to)),
-            Action::Declare => Ok(()),
+            Action::Nothing | Action::Declare => Ok(()),
         }
     }
 
@@ -46,7 +40,7 @@ impl Sender {
           kind = kind;
           initiator = self.initiator;
           number = self.number;
-          from = self.from;
+          from = self.process;
           to = to;
         } }
     {
@@ -54,7 +48,7 @@ impl Sender {
             kind,
             initiator: self.initiator,
             number: self.number,
-            from: self.from,
+            from: self.process,
             to,
         }
     }

@@ -6,7 +6,7 @@ use Rattle.cmh_run.proofs.bag.Bag.add_queries.Goals as goal
 pub returns : goal.returns
 returns c =
     let h = items_from_extend c.extend.result c.extend.ensures.ran (
-    YieldsList-from_map _ (λ (r : ℕ). query c.args.initiator c.args.number c.args.from r)
+    YieldsList-from_map _ (λ (r : ℕ). query c.args.sender.initiator c.args.sender.number c.args.sender.process r)
     (YieldsList-from_slice c.args.receivers.now cc)
     c.map-queries.ensures.closure (λ x r q k. search rules)
     ) in
