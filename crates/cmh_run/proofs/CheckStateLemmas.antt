@@ -6,8 +6,8 @@ use Rattle.std.proofs.lemmas.Bool.Decides.{Decides-and, Decides-eqb}
 use Rattle.cmh_run.proofs.Tokens.{Each, each_append, each_remove, each_at}
 use Rattle.cmh_run.proofs.LiveInvariant.{IsSoundRun}
 use Rattle.cmh_run.proofs.Soundness.{number_kept}
-use Rattle.cmh_run.proofs.Configurations.{first_start, leads_stands, status_none, fresh_at}
-use Rattle.cmh_run.proofs.ProgressLemmas.{leads_on, nothing_comes}
+use Rattle.cmh_run.proofs.Configurations.{first_start, leads_stands, status_none, fresh_at, nothing_led}
+use Rattle.cmh_run.proofs.ProgressLemmas.{leads_on}
 use Rattle.cmh_run.proofs.Places.{IsIn, in_nothing, in_first, in_last, in_either, left_was, was_left, one_place}
 
 -- ---- messages of one initiator
@@ -109,7 +109,7 @@ module _ (g : Graph) (i : ℕ) (w : IsWellFormed g) (idle : is_idle g i ≡ true
   -- wherever the deliveries of a log lead, what a checker may count on is true
   pub firm : (log : List Delivery) (s : Going) → LeadTo g i log s → Firm g i s
   firm log s l = elim (cases_Bool (is_awake g i)) [
-    | inl e ↦ firm_awake s (nothing_comes any_place g i log s (rw e at l))
+    | inl e ↦ firm_awake s (nothing_led any_place g i log s (rw e at l)).1
     | inr e ↦ firm_asleep e log s (rw e at l)
   ]
 

@@ -7,7 +7,7 @@ use Rattle.cmh_run.specs.Progress.{IsOver, IsRunState, MayReceive, MayStart}
 use Rattle.cmh_run.proofs.LiveInvariant.{IsSoundMessage, IsSoundRun}
 use Rattle.cmh_run.proofs.Tokens.{each_at}
 use Rattle.cmh_run.proofs.Soundness.{number_kept, runs_are_sound}
-use Rattle.cmh_run.proofs.Configurations.{is_none_true, Status, IsSoundConfig, first_start, status_none, fresh_at, stepped, ready_stands}
+use Rattle.cmh_run.proofs.Configurations.{is_none_true, Status, IsSoundConfig, first_start, status_none, fresh_at, delivered, nothing_led, ready_stands}
 use Rattle.cmh_run.proofs.LastComputation.{last_computation_is_a_run}
 use Rattle.cmh_run.proofs.Determinism.{same_run}
 use Rattle.cmh_run.proofs.EngagedLemmas.{who_engages, awake_ones_start_nothing}
@@ -35,12 +35,6 @@ leads_on rule g i [] s mid x d l may chosen = (
 )
 leads_on rule g i (e ∷ log) s mid x d l may chosen =
     (l.0, l.1, l.2, leads_on rule g i log (going_after g i (after_due_restart g i s) l.0 e) mid x d l.3 may chosen)
-
--- where nothing was started, nothing is to come
-pub nothing_comes : (rule : Rule) (g : Graph) (i : ℕ) (log : List Delivery) (s : Going)
-    → DeliveriesLead rule g i (going_from (nothing_yet g) []) log s → s ≡ going_from (nothing_yet g) []
-nothing_comes rule g i [] s l = sym l
-nothing_comes rule g i (d ∷ log) s l = absurd (none-some _ l.1.there)
 
 -- a run after its start, with at most this number of restarts that were made or are to come
 record Steady (g : Graph) (i most : ℕ) (s : Going) : Type 0 where
@@ -81,13 +75,12 @@ module _ (g : Graph) (i most : ℕ) (ok : IsWithinGraph g) (within : i < process
     -- a delivery that may come keeps it steady
     delivered_steady : (s : Going) (x : ℕ) (d : Delivery) → Steady g i most s → MayCome g s.config x d
         → Steady g i most (going_after g i s x d)
-    delivered_steady s x d h may =
-        let live = status_none g i s.config h.stands may.going in record {
-          rests = rests;
-          stands = stepped g i s.config ok h.stands.size may.going live.0 live.1 x d.message may.there d.hint may.hint;
-          numbered = number_kept g i s.config x d.message d.hint ∙ h.numbered;
-          few = h.few;
-        }
+    delivered_steady s x d h may = record {
+      rests = rests;
+      stands = delivered ok h.stands may;
+      numbered = number_kept g i s.config x d.message d.hint ∙ h.numbered;
+      few = h.few;
+    }
 
     -- deliveries keep it steady
     leads_steady : (rule : Rule) (log : List Delivery) (s end : Going) → Steady g i most s
@@ -146,7 +139,7 @@ module _ (restarts : List ℕ) (r : RunState) (way : IsUnderWay restarts r) wher
       (cond b (going_from (nothing_yet r.graph) [])
       (going_from (start r.graph r.initiator (nothing_yet r.graph)) restarts)) r.log r.going
       → (r.going ≡ going_from (nothing_yet r.graph) []) ⊎ Steady r.graph r.initiator (length restarts) r.going)
-      (λ e l. inl (nothing_comes (chosen_place r.choices) r.graph r.initiator r.log r.going l))
+      (λ e l. inl (nothing_led (chosen_place r.choices) r.graph r.initiator r.log r.going l).1)
       (λ e l. inr (leads_steady r.graph r.initiator (length restarts) way.well_formed.within within e
       (chosen_place r.choices) r.log (going_from (start r.graph r.initiator (nothing_yet r.graph)) restarts) r.going
       (steady_at_start r.graph r.initiator (length restarts) way.well_formed.within within e restarts (omega arith)) l))
