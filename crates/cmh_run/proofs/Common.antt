@@ -2,7 +2,7 @@
 -- function the prover would load what all of them cite.
 pub use Rattle.std.proofs.Common.{◌≡◌, ℕ, ◌<◌, true, false, cond, List, [], ◌∷◌, Some, None, Bool, not, ◌&&◌, ◌++◌, length, get_or, slice_get, Option, refl, sym, ◌∙◌, ap, subst, ◌⊎◌, inr, ⊎_elim, ◌+◌, ◌||◌, eqb, map, remove, replicate, inl, append-nil, zero, suc, ◌-◌, ◌≤◌, ltb, slice_set, Contains, is_none, arith, sum_by, mul-le-mul_left, ◌*◌, ◌%◌, take, length-append, ◌≢◌, ◌^◌, rules}
 pub use Rattle.std.proofs.Math.Bool.{and-false}
-pub use Rattle.std.proofs.lemmas.Bool.{true≢false, cases_Bool, eqb-true, eq-eqb, cases_eq, and_parts, and_from, eqb-false, ne_eqb, lt-ltb, ltb-true, ltb-false, le-ltb}
+pub use Rattle.std.proofs.lemmas.Bool.{true≢false, cases_Bool, eqb-true, eq-eqb, cases_eq, and_parts, and_from, eqb-false, ne_eqb, lt-ltb, ltb-true, le-ltb}
 pub use Rattle.std.proofs.lemmas.List.{length-replicate, set-get_or, get_or-set_same, get_or-set_other, length-set}
 pub use Rattle.std.proofs.lemmas.List.Sums.{get_or-le-sum_by, sum_by-remove, sum_by-append, sum_by-cons}
 pub use Rattle.std.proofs.lemmas.Option.{none-some, same_Some, slice_get_within, get_or_from_slice_get, slice_get-get_or}
