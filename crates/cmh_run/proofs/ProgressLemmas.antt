@@ -1,9 +1,9 @@
 -- A run that is led on by one delivery, and what its steps may count on.
-use Rattle.cmh_run.proofs.Common.{inl, inr, zero, suc, ◌%◌, lt-ltb, true≢false, ◌≡◌, ℕ, ◌+◌, ◌-◌, ◌*◌, ◌^◌, ◌<◌, ◌≤◌, ◌≢◌, true, false, ◌&&◌, cond, eqb, List, [], ◌∷◌, ◌++◌, length, slice_get, Option, Some, None, is_none, refl, sym, ◌∙◌, ap, subst, arith, ◌⊎◌, ⊎_elim, length-append, mul-le-mul_left, eq-eqb, and_parts, none-some, unwrap_or, length-replicate, Message, Verdict, Delivery, Ending, Declared, AtRest, CutFree, Graph, process_count, is_idle, is_awake, IsWithinGraph, dependency_count, idle_within, by_test, new_proc, Config, proc_at, nothing_yet, start, after_message, without_message, Going, going_from, going_at_start, after_restart, after_first_restart, after_due_restart, going_after, Rule, MayCome, DeliveriesLead, EndsAs, IsRun, HintIsFit, IsRight, chosen_place, HasNoHints, Run, IsRunAnswer, RunState, IsUnderWay, MAX_RESTARTS, IsVerdict}
+use Rattle.cmh_run.proofs.Common.{inl, inr, zero, suc, ◌%◌, lt-ltb, true≢false, ◌≡◌, ℕ, ◌+◌, ◌-◌, ◌*◌, ◌^◌, ◌<◌, ◌≤◌, ◌≢◌, length-set, true, false, ◌&&◌, cond, eqb, List, [], ◌∷◌, ◌++◌, length, slice_get, Option, Some, None, is_none, same_Some, refl, sym, ◌∙◌, ap, subst, arith, ◌⊎◌, ⊎_elim, length-append, mul-le-mul_left, eq-eqb, and_parts, none-some, unwrap_or, length-replicate, Message, Verdict, Delivery, Ending, Declared, AtRest, CutFree, Graph, process_count, is_awake, IsWithinGraph, dependency_count, idle_within, by_test, new_proc, Config, proc_at, nothing_yet, start, after_message, without_message, Going, going_from, going_at_start, after_restart, after_first_restart, after_due_restart, going_after, Rule, MayCome, DeliveriesLead, EndsAs, IsRun, HintIsFit, IsRight, chosen_place, HasNoHints, Run, IsRunAnswer, RunState, IsUnderWay, MAX_RESTARTS, IsVerdict}
 use Rattle.std.specs.Prelude.{slice_index}
 use Rattle.cmh_run.specs.Config.{blank_config}
 use Rattle.cmh_run.specs.Run.{TellsTruth, verdict_of}
-use Rattle.cmh_run.specs.Progress.{IsOver, IsRunState, MayReceive, MayStart}
+use Rattle.cmh_run.specs.Progress.{IsAtEnd, IsNextChoice, IsReady, IsRunState, MayReceive, MayStart}
 use Rattle.cmh_run.proofs.LiveInvariant.{IsSoundMessage, IsSoundRun}
 use Rattle.cmh_run.proofs.Tokens.{each_at}
 use Rattle.cmh_run.proofs.Soundness.{number_kept, runs_are_sound}
@@ -14,7 +14,7 @@ use Rattle.cmh_run.proofs.EngagedLemmas.{who_engages, awake_ones_start_nothing}
 use Rattle.cmh_run.proofs.DeliveryBound.{leads_are_short, few_dependencies}
 
 -- a restart leaves the number of deliveries as it was
-restart_keeps_count : (g : Graph) (i : ℕ) (s : Going) (ns : List ℕ) → (after_first_restart g i s ns).done ≡ s.done
+pub restart_keeps_count : (g : Graph) (i : ℕ) (s : Going) (ns : List ℕ) → (after_first_restart g i s ns).done ≡ s.done
 restart_keeps_count g i s [] = refl
 restart_keeps_count g i s (n ∷ ns) =
     by_test (is_none s.config.ended && eqb n s.done) (λ b. (cond b (after_restart g i s ns) s).done ≡ s.done)
@@ -90,43 +90,12 @@ module _ (g : Graph) (i most : ℕ) (ok : IsWithinGraph g) (within : i < process
         leads_steady rule log (going_after g i (after_due_restart g i s) l.0 d) end
         (delivered_steady (after_due_restart g i s) l.0 d (ready_steady s s.restarts refl h) l.1) l.3
 
-    -- the initiator may start again while the run hasn't ended
-    may_start : (s : Going) → Steady g i most s → most ≤ MAX_RESTARTS → s.config.ended ≡ None → MayStart g i s
-    may_start s h few going =
-        let live = status_none g i s.config h.stands going in record {
-          size = h.stands.size;
-          within = within;
-          next = omega (arith, live.0.sound.root_in, h.numbered, h.few);
-          count = omega (arith, h.few);
-        }
-
--- in the configuration at first the initiator may start again, whatever restarts are to come
-pub may_start_at : (g : Graph) (i : ℕ) (restarts rest : List ℕ) (c : Config) → IsWithinGraph g → is_idle g i ≡ true
-    → c ≡ (going_at_start g i restarts).config → c.ended ≡ None
-    → MayStart g i (record { config = c; done = 0; restarts = rest; restarted = 0 })
-may_start_at g i restarts rest c ok idle e =
-    subst (λ (x : Config). x.ended ≡ None
-    → MayStart g i (record { config = x; done = 0; restarts = rest; restarted = 0 })) (sym e)
-    (by_test (is_awake g i)
-    (λ b. let x = (cond b (going_from (nothing_yet g) []) (going_from (start g i (nothing_yet g)) restarts)).config in
-    x.ended ≡ None → MayStart g i (record { config = x; done = 0; restarts = rest; restarted = 0 }))
-    (λ awake going. record {
-      size = length-replicate (process_count g) new_proc;
-      within = idle_within g i idle;
-      next = rw (fresh_at (process_count g) i) (omega arith);
-      count = omega arith;
-    })
-    (λ asleep going. let may = may_start g i 0 ok (idle_within g i idle) asleep
-    (going_from (start g i (nothing_yet g)) [])
-    (steady_at_start g i 0 ok (idle_within g i idle) asleep [] (omega arith))
-    (omega arith) going in record { size = may.size; within = may.within; next = may.next; count = may.count }))
-
 -- a log without hints, with one delivery more that has none, is a log without hints
 pub no_hints_on : (log : List Delivery) (d : Delivery) → HasNoHints log → d.hint ≡ None → HasNoHints (log ++ d ∷ [])
 no_hints_on [] d h e = (e, tt)
 no_hints_on (x ∷ log) d h e = (h.0, no_hints_on log d h.1 e)
 
-module _ (restarts : List ℕ) (r : RunState) (way : IsUnderWay restarts r) where
+module _ (restarts : List ℕ) (r : RunState) (way : IsReady restarts r) where
   -- the initiator is a process of the graph
   within : r.initiator < process_count r.graph
   within = idle_within r.graph r.initiator way.accepted.idle
@@ -236,17 +205,9 @@ module _ (restarts : List ℕ) (r : RunState) (way : IsUnderWay restarts r) wher
       next_is : next ≡ going_after r.graph r.initiator r.going place d
       next_is = rw (moved, is) refl
 
-      -- once it is delivered the initiator may start again, if the run isn't over
-      pub next_may_start : config.ended ≡ None → MayStart r.graph r.initiator next
-      next_may_start =
-          may_start r.graph r.initiator (length restarts) way.well_formed.within within steady.rests next
-          (subst (λ (s : Going). Steady r.graph r.initiator (length restarts) s) (sym next_is)
-          (delivered_steady r.graph r.initiator (length restarts) way.well_formed.within within steady.rests r.going
-          place d steady may_come)) way.accepted.restarts_good.few
-
-      -- once it is delivered, and a restart has come if one is due, the run is under way
+      -- once it is delivered the run is under way
       pub next_under_way : (log : List Delivery) → log ≡ r.log ++ d ∷ [] → (v : RunState)
-          → v ≡ record r { going = after_due_restart r.graph r.initiator next; log = log } → IsUnderWay restarts v
+          → v ≡ record r { going = next; log = log } → IsUnderWay restarts v
       next_under_way log longer v e =
           subst (λ (x : RunState). IsUnderWay restarts x) (sym e) (record {
             accepted = way.accepted;
@@ -258,20 +219,62 @@ module _ (restarts : List ℕ) (r : RunState) (way : IsUnderWay restarts r) wher
                 ∙ rw (longer, length-append r.log (d ∷ []), way.count) refl;
           })
 
+-- where a restart is due in a run under way, the initiator may start again, and the restart can be counted
+pub may_start : (restarts : List ℕ) (r : RunState) (n : ℕ) → IsUnderWay restarts r
+    → slice_get r.going.restarts 0 ≡ Some n → n ≡ r.going.done → r.going.config.ended ≡ None
+    → MayStart r.graph r.going.config r.initiator × (r.going.restarted + 1 < 2 ^ 32)
+may_start restarts r n way first due going = by_restarts r.going.restarts refl
+  where
+    next : Going
+    next = after_due_restart r.graph r.initiator r.going
+
+    by_restarts : (ns : List ℕ) → r.going.restarts ≡ ns
+        → MayStart r.graph r.going.config r.initiator × (r.going.restarted + 1 < 2 ^ 32)
+    by_restarts [] e = absurd (none-some n (rw e at first))
+    by_restarts (m ∷ rest) e =
+        let same : m ≡ n = same_Some m n (rw e at first) in
+        let is : next ≡ after_restart r.graph r.initiator r.going rest =
+        rw (e, going, eq-eqb m r.going.done (same ∙ due)) refl in
+        ⊎_elim
+        (λ (none : next ≡ going_from (nothing_yet r.graph) []).
+        absurd (omega (arith, ap (λ (s : Going). s.restarted) (sym is ∙ none))))
+        (λ (h : Steady r.graph r.initiator (length restarts) next).
+        let steady = subst (λ (s : Going). Steady r.graph r.initiator (length restarts) s) is h in (
+          record {
+            process = record {
+              size = sym (length-set r.going.config.procs r.initiator _) ∙ steady.stands.size;
+              within = within restarts (record r { going = next }) way;
+              going = going;
+            };
+            next = omega (arith, steady.numbered, steady.few, way.accepted.restarts_good.few);
+          },
+          omega (arith, steady.few, way.accepted.restarts_good.few),
+        ))
+        (started restarts (record r { going = next }) way)
+
+-- once the next choice of a run under way is known, it is ready for its delivery
+pub ready_by_choice : (restarts : List ℕ) (before after r : RunState) (choice : ℕ) → IsUnderWay restarts before
+    → IsNextChoice before after choice → r ≡ after
+    → IsReady restarts r × (choice ≡ slice_index r.choices r.going.done)
+ready_by_choice restarts before after r choice way next e =
+    rw e (subst (λ (t : RunState). IsReady restarts t) (sym next.ready) way, next.chosen)
+
 -- a run under way has made fewer deliveries than it may make, and one more leaves fewer to come
 pub log_falls : (restarts : List ℕ) (g : Graph) (r v : RunState) → IsUnderWay restarts v → v.graph ≡ g
     → length v.log ≡ length r.log + 1
     → 2 * dependency_count g * (MAX_RESTARTS + 1) + 1 - length v.log
     < 2 * dependency_count g * (MAX_RESTARTS + 1) + 1 - length r.log
 log_falls restarts g r v way same longer =
-    let bound = rw same at (log_bound restarts v way) in omega (arith, bound, longer)
+    let ready : RunState = record v { going = after_due_restart v.graph v.initiator v.going } in
+    let bound = rw same at (log_bound restarts ready way) in
+    omega (arith, bound, longer)
 
 -- ---- the end
 
 -- a network that is cleared at the end is as at first
-pub cleared : (restarts : List ℕ) (r : RunState) (c : Config) → IsUnderWay restarts r
+pub cleared : (restarts : List ℕ) (r : RunState) (c : Config) → IsAtEnd restarts r
     → c ≡ blank_config (length r.going.config.procs) → c ≡ nothing_yet r.graph
-cleared restarts r c way e = e ∙ ap blank_config (all_there restarts r way)
+cleared restarts r c at_end e = e ∙ ap blank_config (all_there restarts r at_end.0)
 
 -- what a legal run says of its initiator is true
 verdict_right : (g : Graph) (i : ℕ) (restarts : List ℕ) (ending : Ending) (end : Going)
@@ -280,11 +283,15 @@ verdict_right g i restarts Declared end h = h.declared refl
 verdict_right g i restarts AtRest end h = h.free (λ e. cc)
 verdict_right g i restarts (CutFree k) end h = h.free (λ e. cc)
 
-module _ (restarts : List ℕ) (r : RunState) (way : IsUnderWay restarts r) (over : IsOver r.going.config) where
+module _ (restarts : List ℕ) (r : RunState) (at_end : IsAtEnd restarts r) where
+  -- the deliveries have led to it
+  way : IsReady restarts r
+  way = at_end.0
+
   -- a run that is over has ended as it says
   ends_as : (o : Option Ending) → r.going.config.ended ≡ o → EndsAs r.going.config (unwrap_or o AtRest)
   ends_as None e =
-      (e, ⊎_elim (λ (n : r.going.config.ended ≢ None). absurd (n e)) (λ (b : r.going.config.bag ≡ []). b) over)
+      (e, ⊎_elim (λ (n : r.going.config.ended ≢ None). absurd (n e)) (λ (b : r.going.config.bag ≡ []). b) at_end.1)
   ends_as (Some Declared) e = e
   ends_as (Some (CutFree k)) e = e
   ends_as (Some AtRest) e =

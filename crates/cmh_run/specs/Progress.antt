@@ -1,12 +1,12 @@
 -- A run on its way, and the deliveries that led there.
-use Rattle.std.specs.Prelude.{◌≡◌, ◌≢◌, ◌⊎◌, ℕ, ◌+◌, ◌<◌, ◌^◌, List, [], length, None, IsTrue}
+use Rattle.std.specs.Prelude.{◌≡◌, ◌≢◌, ◌⊎◌, ℕ, ◌+◌, ◌<◌, ◌^◌, List, [], length, slice_index, None, IsTrue}
 use Rattle.cmh_graph.specs.Graph.{Graph, process_count, is_awake}
 use Rattle.cmh_graph.specs.Build.{IsWellFormed}
 use Rattle.cmh_process.specs.declared.message.Message.{Message}
 use Rattle.cmh_process.specs.Process.{engages}
 use Rattle.cmh_run.specs.declared.delivery.Delivery.{Delivery}
 use Rattle.cmh_run.specs.Config.{Config, proc_at}
-use Rattle.cmh_run.specs.Legal.{Going, going_at_start, DeliveriesLead}
+use Rattle.cmh_run.specs.Legal.{Going, going_at_start, after_due_restart, DeliveriesLead}
 use Rattle.cmh_run.specs.Choices.{chosen_place}
 use Rattle.cmh_run.specs.Run.{IsAccepted}
 
@@ -16,17 +16,15 @@ pub record MayAct (g : Graph) (c : Config) (p : ℕ) : Type 0 where
   pub within : p < process_count g
   pub going : c.ended ≡ None
 
+-- the initiator may start, since its next number is less than 2 ^ 32
+pub record MayStart (g : Graph) (c : Config) (i : ℕ) : Type 0 where
+  pub process : MayAct g c i
+  pub next : (proc_at c.procs i).latest + 1 < 2 ^ 32
+
 -- the message may be delivered: to a process, which has heard of no such number if it is awake
 pub record MayReceive (g : Graph) (c : Config) (m : Message) : Type 0 where
   pub process : MayAct g c m.to
   pub unheard : IsTrue (is_awake g m.to) → IsTrue (engages (proc_at c.procs m.to) m.number)
-
--- the initiator may start again: its next number and the number of restarts are less than 2 ^ 32
-pub record MayStart (g : Graph) (i : ℕ) (s : Going) : Type 0 where
-  pub size : length s.config.procs ≡ process_count g
-  pub within : i < process_count g
-  pub next : (proc_at s.config.procs i).latest + 1 < 2 ^ 32
-  pub count : s.restarted + 1 < 2 ^ 32
 
 -- a run on its way: what was fixed at its start, where it is, and the deliveries that led there
 pub record RunState : Type 0 where
@@ -37,12 +35,21 @@ pub record RunState : Type 0 where
   pub log : List Delivery
 
 -- the initiator was accepted, and the deliveries of the log have led from its start to where its run is, by the choices
-pub record IsUnderWay (restarts : List ℕ) (r : RunState) : Type 0 where
+pub record IsReady (restarts : List ℕ) (r : RunState) : Type 0 where
   pub accepted : IsAccepted r.graph r.initiator r.choices restarts
   pub well_formed : IsWellFormed r.graph
   pub leads : DeliveriesLead (chosen_place r.choices) r.graph r.initiator (going_at_start r.graph r.initiator restarts)
       r.log r.going
   pub count : r.going.done ≡ length r.log
+
+-- so it is once a restart has come, if one is due
+abbrev pub IsUnderWay : List ℕ → RunState → Type 0
+IsUnderWay restarts r = IsReady restarts (record r { going = after_due_restart r.graph r.initiator r.going })
+
+-- the next choice of a run on its way: a restart has come, if one was due
+pub record IsNextChoice (before after : RunState) (choice : ℕ) : Type 0 where
+  pub ready : after ≡ record before { going = after_due_restart before.graph before.initiator before.going }
+  pub chosen : choice ≡ slice_index after.choices after.going.done
 
 -- the run has this graph, this initiator and these choices
 pub record IsRunState (g : Graph) (i : ℕ) (given : List ℕ) (r : RunState) : Type 0 where
@@ -53,3 +60,7 @@ pub record IsRunState (g : Graph) (i : ℕ) (given : List ℕ) (r : RunState) : 
 -- nothing more is delivered: a declaration or a hint has ended the run, or no message is undelivered
 abbrev pub IsOver : Config → Type 0
 IsOver c = c.ended ≢ None ⊎ (c.bag ≡ [])
+
+-- no restart is to come in it, and nothing more is delivered
+abbrev pub IsAtEnd : List ℕ → RunState → Type 0
+IsAtEnd restarts r = IsReady restarts r × IsOver r.going.config

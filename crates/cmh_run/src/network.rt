@@ -1,10 +1,10 @@
 //! One configuration of an initiator's computations, and its steps.
 
-ghost use Rattle.std.specs.Prelude.{◌≡◌, ℕ, List, ◌+◌, ◌<◌, ◌^◌, ◌%◌, ◌↔◌, [], None, Option, Some, length, slice_get, IfSome, IfNone, IsNone, IsFalse, IfOk, OnOk, if◌then◌else◌};
+ghost use Rattle.std.specs.Prelude.{◌≡◌, ℕ, List, ◌<◌, ◌^◌, ◌%◌, ◌↔◌, [], None, Option, Some, length, slice_get, IfSome, IfNone, IsNone, IsFalse, IfOk, OnOk, if◌then◌else◌};
 ghost use Rattle.cmh_graph.specs.Graph.{process_count, is_awake};
 ghost use Rattle.cmh_run.specs.Legal.{going_at_start, HintIsFit};
-ghost use Rattle.cmh_run.specs.Progress.{MayAct, MayReceive};
-ghost use Rattle.cmh_run.specs.Config.{blank_config, proc_at, nothing_yet, start, after_action, after_engagement, after_hint, after_message, asks_hint, query, without_message};
+ghost use Rattle.cmh_run.specs.Progress.{MayAct, MayReceive, MayStart};
+ghost use Rattle.cmh_run.specs.Config.{blank_config, nothing_yet, start, after_action, after_engagement, after_hint, after_message, asks_hint, query, without_message};
 
 use crate::procs::Procs;
 use crate::send::Sender;
@@ -68,8 +68,7 @@ impl Network {
 
     /// The initiator starts with its next number.
     pub(crate) fn start(&mut self, graph: &WaitGraph, initiator: u32) -> Result<(), AllocError>
-        requires process { MayAct graph.now self.old initiator }
-        requires next { (proc_at self.old.procs initiator).latest + 1 < 2 ^ 32 }
+        requires { MayStart graph.now self.old initiator }
         ensures ok { OnOk result (self.new ≡ start graph.now initiator self.old) }
     {
         law_built_graph(graph);

@@ -1,11 +1,10 @@
 //! A run on its way.
 
-ghost use Rattle.std.specs.Prelude.{◌≡◌, ℕ, List, ◌+◌, ◌<◌, [], None, length, slice_index, IfOk, OnOk, IsTrue, IsFalse, unwrap_or};
+ghost use Rattle.std.specs.Prelude.{◌≡◌, ℕ, List, ◌+◌, ◌<◌, [], length, IfOk, OnOk, IsTrue, IsFalse, unwrap_or};
 ghost use Rattle.cmh_run.specs.Choices.{HasNoHints};
 ghost use Rattle.cmh_run.specs.Config.{blank_config, nothing_yet};
-ghost use Rattle.cmh_run.specs.Legal.{after_due_restart};
 ghost use Rattle.cmh_run.specs.Run.{IsAccepted};
-ghost use Rattle.cmh_run.specs.Progress.{RunState, IsUnderWay, IsOver, IsRunState, MayStart};
+ghost use Rattle.cmh_run.specs.Progress.{RunState, IsUnderWay, IsAtEnd, IsNextChoice, IsRunState};
 
 use crate::network::Network;
 use crate::{Delivery, Ending, Hints, Log, RunLog};
@@ -49,8 +48,7 @@ impl<'a, L: Log> Model for Progress<'a, L> {
 }
 
 impl<'a, L: Log> Progress<'a, L> {
-    /// The start of an accepted initiator, and its first restart, if that is due at once. An awake one sends nothing,
-    /// and never starts again.
+    /// The start of an accepted initiator. An awake one sends nothing, and never starts again.
     pub(crate) fn begin(
         alloc: Global,
         graph: &'a WaitGraph,
@@ -68,7 +66,7 @@ impl<'a, L: Log> Progress<'a, L> {
         law_built_graph(graph);
         network.begin(graph, initiator)?;
         let is_awake = graph.is_awake(initiator);
-        let mut progress = Progress {
+        Ok(Progress {
             graph,
             initiator,
             choices,
@@ -77,54 +75,64 @@ impl<'a, L: Log> Progress<'a, L> {
             made: 0,
             restarts: if is_awake { &[] } else { restarts },
             restarted: 0,
-        };
-        progress.restart_if_due()?;
-        Ok(progress)
+        })
     }
 
-    /// The initiator starts again, if that is due now.
+    /// The choice of the next delivery, which is 0 past the last one. The initiator starts again before it, if that is
+    /// due.
     #[inline(always)]
-    fn restart_if_due(&mut self) -> Result<(), AllocError>
-        requires may { self.old.going.config.ended ≡ None
-            → MayStart self.old.graph self.old.initiator self.old.going }
-        ensures ok { OnOk result (self.new ≡ record self.old {
-          going = after_due_restart self.old.graph self.old.initiator self.old.going;
-        }) }
+    fn next_choice(&mut self) -> Result<u64, AllocError>
+        requires { (restarts : List ℕ) × IsUnderWay restarts self.old }
+        ensures { IfOk result (IsNextChoice self.old self.new) }
     {
+        if self.choices.is_empty() && self.restarts.is_empty() {
+            return Ok(0);
+        }
+        self.planned_choice()
+    }
+
+    /// `next_choice` by the choices and restarts. It stands apart, so that the loop of a run without them is short.
+    #[inline(never)]
+    fn planned_choice(&mut self) -> Result<u64, AllocError>
+        requires { (restarts : List ℕ) × IsUnderWay restarts self.old }
+        ensures { IfOk result (IsNextChoice self.old self.new) }
+    {
+        let choice = self.choices.get(self.made).copied().unwrap_or(0);
         let Some(next) = self.restarts.first() else {
-            return Ok(());
+            return Ok(choice);
         };
         if *next as usize != self.made || self.network.has_ended() {
-            return Ok(());
+            return Ok(choice);
         }
         self.network.start(self.graph, self.initiator)?;
         self.restarts = &self.restarts[1..];
         self.restarted += 1;
-        Ok(())
+        Ok(choice)
     }
 
     /// Delivers the message that the next choice names, with what hints say of its receiver, if that is about to
-    /// engage. Then the initiator starts again, if that is due. It answers false where the run has ended or nothing is
-    /// undelivered.
+    /// engage. Before that the initiator starts again, if that is due. It answers false where the run has ended or
+    /// nothing is undelivered.
     #[inline(always)]
     pub(crate) fn deliver_next<H: Hints>(&mut self, hints: &mut H) -> Result<bool, AllocError>
         requires under_way { (restarts : List ℕ) × IsUnderWay restarts self.old }
         requires speaks { H.speaks_of hints.old self.old.graph }
         ensures same { OnOk result
             (IsRunState self.old.graph self.old.initiator self.old.choices self.new) }
-        ensures under_way { IfOk result (λ more. (restarts : List ℕ)
+        ensures under_way { IfOk result (λ more. IsTrue more → (restarts : List ℕ)
             → IsUnderWay restarts self.old → IsUnderWay restarts self.new) }
         ensures more { IfOk result (λ more. IsTrue more
             → length self.new.log ≡ length self.old.log + 1) }
-        ensures over { IfOk result (λ more. IsFalse more → IsOver self.new.going.config) }
+        ensures at_end { IfOk result (λ more. IsFalse more → (restarts : List ℕ)
+            → IsUnderWay restarts self.old → IsAtEnd restarts self.new) }
         ensures silent { IfOk result (λ more. H.is_silent hints.old
             → HasNoHints self.old.log → HasNoHints self.new.log) }
         ensures kept { H.keeps hints.old hints.new }
     {
+        let choice = self.next_choice()?;
         if self.network.has_ended() {
             return Ok(false);
         }
-        let choice = choice_at(self.choices, self.made);
         let Some(message) = self.network.take(choice) else {
             return Ok(false);
         };
@@ -133,7 +141,6 @@ impl<'a, L: Log> Progress<'a, L> {
             .deliver_asking(self.graph, self.initiator, message, hints)?;
         self.log.add(Delivery { message, hint })?;
         self.made += 1;
-        self.restart_if_due()?;
         Ok(true)
     }
 
@@ -161,12 +168,4 @@ impl<'a, L: Log> Progress<'a, L> {
         };
         (log, network)
     }
-}
-
-/// The choice of a delivery, which is 0 past the last one.
-#[inline(always)]
-fn choice_at(choices: &[u64], made: usize) -> u64
-    ensures { result ≡ slice_index choices.now made }
-{
-    choices.get(made).copied().unwrap_or(0)
 }

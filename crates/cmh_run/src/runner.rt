@@ -4,7 +4,7 @@ ghost use Rattle.std.specs.Prelude.{◌≡◌, [], Some, ◌*◌, ◌≤◌, ◌
 ghost use Rattle.cmh_graph.specs.Graph.{dependency_count};
 ghost use Rattle.cmh_run.specs.Choices.{HasNoHints};
 ghost use Rattle.cmh_run.specs.Config.{nothing_yet};
-ghost use Rattle.cmh_run.specs.Progress.{IsOver, IsRunState, IsUnderWay};
+ghost use Rattle.cmh_run.specs.Progress.{IsAtEnd, IsRunState, IsUnderWay};
 ghost use Rattle.cmh_run.specs.Run.{IsAccepted, IsFirstRunFault, IsRunFault, IsRunAnswer};
 ghost use Rattle.std.specs.List.Sorted.{IsStrictlyIncreasing};
 
@@ -171,9 +171,8 @@ fn deliver_all<L: Log, H: Hints>(
     requires speaks { H.speaks_of hints.old progress.old.graph }
     ensures same { OnOk result
         (IsRunState progress.old.graph progress.old.initiator progress.old.choices progress.new) }
-    ensures under_way { OnOk result ((restarts : List ℕ)
-        → IsUnderWay restarts progress.old → IsUnderWay restarts progress.new) }
-    ensures over { OnOk result (IsOver progress.new.going.config) }
+    ensures at_end { OnOk result ((restarts : List ℕ)
+        → IsUnderWay restarts progress.old → IsAtEnd restarts progress.new) }
     ensures silent { OnOk result (H.is_silent hints.old
         → HasNoHints progress.old.log → HasNoHints progress.new.log) }
     ensures kept { H.keeps hints.old hints.new }

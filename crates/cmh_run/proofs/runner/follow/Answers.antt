@@ -6,8 +6,8 @@ use Rattle.cmh_run.proofs.runner.follow.Goals as goal
 pub returns-clause-run : goal.returns-clause-run
 returns-clause-run g c =
     answer_of c.args.restarts.now c.deliver_all.new.progress
-    (c.in_ok-deliver_all.ensures.under_way c.args.restarts.now c.in_ok-progress.ensures.under_way)
-    c.in_ok-deliver_all.ensures.over c.args.graph.now c.args.initiator c.args.choices.now
+    (c.in_ok-deliver_all.ensures.at_end c.args.restarts.now c.in_ok-progress.ensures.under_way) c.args.graph.now
+    c.args.initiator c.args.choices.now
     (record {
       graph = c.in_ok-deliver_all.ensures.same.graph ∙ c.in_ok-progress.ensures.same.graph;
       initiator = c.in_ok-deliver_all.ensures.same.initiator ∙ c.in_ok-progress.ensures.same.initiator;
@@ -18,6 +18,6 @@ returns-clause-run g c =
 pub returns-clause-blank : goal.returns-clause-blank
 returns-clause-blank g c =
     cleared c.args.restarts.now c.deliver_all.new.progress c.finish.result.1
-    (c.in_ok-deliver_all.ensures.under_way c.args.restarts.now c.in_ok-progress.ensures.under_way)
+    (c.in_ok-deliver_all.ensures.at_end c.args.restarts.now c.in_ok-progress.ensures.under_way)
     c.finish.ensures.network
     ∙ ap nothing_yet (c.in_ok-deliver_all.ensures.same.graph ∙ c.in_ok-progress.ensures.same.graph)
