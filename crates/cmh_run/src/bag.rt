@@ -1,6 +1,6 @@
 //! The undelivered messages of a run, or of a caller that delivers them by itself.
 
-ghost use Rattle.std.specs.Prelude.{◌≡◌, ℕ, ◌<◌, ◌↔◌, ◌%◌, ◌++◌, [], ◌∷◌, Some, length, map, remove, slice_get, IsNone, IsSome, IfSome, IfNone, IfErr, IsTrue, OnOk, OnErr};
+ghost use Rattle.std.specs.Prelude.{◌≡◌, ℕ, List, ◌<◌, ◌↔◌, ◌%◌, ◌++◌, [], ◌∷◌, Some, length, map, remove, slice_get, IsNone, IsSome, IfSome, IfNone, IfErr, IsTrue, OnOk, OnErr};
 ghost use Rattle.cmh_process.specs.declared.message.Message.{Message};
 ghost use Rattle.cmh_run.specs.Config.{query};
 ghost use Rattle.std.specs.Cmp.Lexicographic.{pointwise};
@@ -28,9 +28,6 @@ pub struct Bag {
 }
 
 impl Model for Bag {
-    ghost use Rattle.std.specs.Prelude.{List};
-    ghost use Rattle.cmh_process.specs.declared.message.Message.{Message};
-
     ghost Value = { List Message };
 
     ghost view = { λ bag. bag.messages.items };

@@ -8,7 +8,7 @@ ghost use Rattle.cmh_run.specs.declared.delivery.Delivery.{Delivery};
 ghost use Rattle.cmh_run.specs.Legal.{Going, HintIsFit, EndsAs};
 ghost use Rattle.cmh_run.specs.Progress.{MayAct};
 ghost use Rattle.cmh_run.specs.Check.{HasEnded, IsFlaw};
-ghost use Rattle.cmh_run.specs.CheckState.{is_waiting, goes_like, Agrees, IsChecked, IsSettled};
+ghost use Rattle.cmh_run.specs.CheckState.{CheckState, is_waiting, goes_like, Agrees, IsChecked, IsSettled};
 
 use crate::network::Network;
 use crate::undelivered::Undelivered;
@@ -28,8 +28,6 @@ pub(crate) struct Checker {
 }
 
 impl Model for Checker {
-    ghost use Rattle.cmh_run.specs.CheckState.{CheckState};
-
     ghost Value = { CheckState };
 
     ghost view = { λ a. record { network = a.network; undelivered = a.undelivered } };

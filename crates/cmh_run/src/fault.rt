@@ -1,6 +1,7 @@
 //! Why there is no run, why lines make no script, and why a log is no run.
 
-ghost use Rattle.std.specs.Prelude.{◌≡◌};
+ghost use Rattle.std.specs.Prelude.{◌≡◌, Some};
+ghost use Rattle.cmh_run.specs.Fault.{run_fault_text, script_fault_text, check_fault_text};
 ghost use Rattle.cmh_run.specs.declared.fault.RunFault.TheVariants.{Memory};
 ghost use Rattle.cmh_run.specs.declared.fault.ScriptFault.TheVariants as script;
 ghost use Rattle.cmh_run.specs.declared.fault.CheckFault.TheVariants as check;
@@ -23,9 +24,6 @@ pub enum RunFault {
 }
 
 impl fmt::Display for RunFault {
-    ghost use Rattle.std.specs.Prelude.{Some};
-    ghost use Rattle.cmh_run.specs.Fault.{run_fault_text};
-
     ghost output = { λ e. Some (run_fault_text e) };
 
     fn fmt<W: fmt::Write>(&self, f: &mut fmt::Formatter<W>) -> fmt::Result {
@@ -68,9 +66,6 @@ pub enum ScriptFault {
 }
 
 impl fmt::Display for ScriptFault {
-    ghost use Rattle.std.specs.Prelude.{Some};
-    ghost use Rattle.cmh_run.specs.Fault.{script_fault_text};
-
     ghost output = { λ e. Some (script_fault_text e) };
 
     fn fmt<W: fmt::Write>(&self, f: &mut fmt::Formatter<W>) -> fmt::Result {
@@ -110,9 +105,6 @@ pub enum CheckFault {
 }
 
 impl fmt::Display for CheckFault {
-    ghost use Rattle.std.specs.Prelude.{Some};
-    ghost use Rattle.cmh_run.specs.Fault.{check_fault_text};
-
     ghost output = { λ e. Some (check_fault_text e) };
 
     fn fmt<W: fmt::Write>(&self, f: &mut fmt::Formatter<W>) -> fmt::Result {

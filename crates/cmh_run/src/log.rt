@@ -12,8 +12,6 @@ use std::alloc::{AllocError, Global};
 /// Code that serves any log can make one speak of deliveries only by adding each of them. So what is proved of it is
 /// proved of a run that was made, whether or not anything is left to read.
 pub trait Log: Drop + Sized {
-    ghost use Rattle.cmh_run.specs.declared.delivery.Delivery.{Delivery};
-
     /// The deliveries of which it speaks, in their order.
     ghost deliveries: { Self → List Delivery };
 
@@ -27,8 +25,6 @@ pub trait Log: Drop + Sized {
 }
 
 impl Log for Vec<Delivery> {
-    ghost use Rattle.cmh_run.specs.declared.delivery.Delivery.{Delivery};
-
     ghost deliveries = { λ log. log.items };
 
     fn empty(alloc: Global) -> Vec<Delivery> {
@@ -48,8 +44,6 @@ pub struct NoLog {
 }
 
 impl Log for NoLog {
-    ghost use Rattle.cmh_run.specs.declared.delivery.Delivery.{Delivery};
-
     ghost deliveries = { λ log. log.tape.items };
 
     fn empty(_alloc: Global) -> NoLog {

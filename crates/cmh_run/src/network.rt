@@ -4,7 +4,7 @@ ghost use Rattle.std.specs.Prelude.{◌≡◌, ℕ, List, ◌<◌, ◌^◌, ◌%
 ghost use Rattle.cmh_graph.specs.Graph.{process_count, is_awake};
 ghost use Rattle.cmh_run.specs.Legal.{going_at_start, HintIsFit};
 ghost use Rattle.cmh_run.specs.Progress.{MayAct, MayReceive, MayStart};
-ghost use Rattle.cmh_run.specs.Config.{blank_config, nothing_yet, start, after_action, after_engagement, after_hint, after_message, asks_hint, query, without_message};
+ghost use Rattle.cmh_run.specs.Config.{Config, blank_config, nothing_yet, start, after_action, after_engagement, after_hint, after_message, asks_hint, query, without_message};
 
 use crate::procs::Procs;
 use crate::send::Sender;
@@ -26,8 +26,6 @@ pub(crate) struct Network {
 }
 
 impl Model for Network {
-    ghost use Rattle.cmh_run.specs.Config.{Config};
-
     ghost Value = { Config };
 
     ghost view = { λ n. record {

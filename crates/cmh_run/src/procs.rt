@@ -2,9 +2,11 @@
 //!
 //! Marks that are numbered by run wouldn't have to be cleared, but each look would compare numbers, and these run out.
 
-ghost use Rattle.std.specs.Prelude.{◌≡◌, ◌+◌, ◌<◌, ◌^◌, length, replicate, slice_set, IfOk, OnOk};
+ghost use Rattle.std.specs.Prelude.{◌≡◌, List, ◌+◌, ◌<◌, ◌^◌, length, replicate, slice_set, IfOk, OnOk};
 ghost use Rattle.cmh_process.specs.Process.{new_proc, proc_started, start_action, engages, proc_queried, query_action, repeat_action, proc_replied, reply_action};
+ghost use Rattle.cmh_process.specs.declared.process.Proc.{Proc};
 ghost use Rattle.cmh_run.specs.Config.{proc_at};
+ghost use Rattle.cmh_run.specs.Procs.{AreTouched};
 
 use cmh_process::{Action, Proc};
 use std::alloc::{AllocError, Global};
@@ -18,10 +20,6 @@ pub(crate) struct Procs {
 }
 
 impl Model for Procs {
-    ghost use Rattle.std.specs.Prelude.{List};
-    ghost use Rattle.cmh_process.specs.declared.process.Proc.{Proc};
-    ghost use Rattle.cmh_run.specs.Procs.{AreTouched};
-
     ghost Value = { List Proc };
 
     ghost view = { λ p. p.all.items };

@@ -28,9 +28,6 @@ pub(crate) struct Progress<'a, L: Log> {
 }
 
 impl<'a, L: Log> Model for Progress<'a, L> {
-    ghost use Rattle.std.specs.Prelude.{length};
-    ghost use Rattle.cmh_run.specs.Progress.{RunState};
-
     ghost Value = { RunState };
 
     ghost view = { λ p. record {

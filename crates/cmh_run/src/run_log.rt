@@ -4,7 +4,7 @@ ghost use Rattle.std.specs.Prelude.{◌≡◌, ◌==◌};
 ghost use Rattle.std.specs.Cmp.Lexicographic.{pointwise};
 ghost use Rattle.std.specs.Cmp.Rules.{comparing};
 ghost use Rattle.std.specs.Ordering.{on, eq_of_both};
-ghost use Rattle.cmh_run.specs.Run.{verdict_of};
+ghost use Rattle.cmh_run.specs.Run.{Run, verdict_of};
 ghost use Rattle.std.proofs.Common.{rules};
 ghost use Rattle.cmh_run.specs.contracts.delivery.DeliveryPartialEq.TheImpl as delivery;
 ghost use Rattle.cmh_run.specs.contracts.delivery.DeliveryEq.TheImpl.Laws as delivery_laws;
@@ -26,8 +26,6 @@ pub struct RunLog<L: Log = Vec<Delivery>, E: ProcessList = Vec<u32>> {
 }
 
 impl<L: Log, E: ProcessList> Model for RunLog<L, E> {
-    ghost use Rattle.cmh_run.specs.Run.{Run};
-
     ghost Value = { Run };
 
     ghost view = { λ r. record {

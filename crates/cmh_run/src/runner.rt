@@ -1,9 +1,9 @@
 //! Runs one after another, in memory that is kept from one to the next.
 
 ghost use Rattle.std.specs.Prelude.{◌≡◌, [], Some, ◌*◌, ◌≤◌, ◌↔◌, length, IfOk, IfErr, IsTrue, OnOk, List, ℕ};
-ghost use Rattle.cmh_graph.specs.Graph.{dependency_count};
+ghost use Rattle.cmh_graph.specs.Graph.{Graph, dependency_count};
 ghost use Rattle.cmh_run.specs.Choices.{HasNoHints};
-ghost use Rattle.cmh_run.specs.Config.{nothing_yet};
+ghost use Rattle.cmh_run.specs.Config.{Config, nothing_yet};
 ghost use Rattle.cmh_run.specs.Progress.{IsAtEnd, IsRunState, IsUnderWay};
 ghost use Rattle.cmh_run.specs.Run.{IsAccepted, IsFirstRunFault, IsRunFault, IsRunAnswer};
 ghost use Rattle.std.specs.List.Sorted.{IsStrictlyIncreasing};
@@ -24,10 +24,6 @@ pub struct Runner<'a> {
 }
 
 impl<'a> Model for Runner<'a> {
-    ghost use Rattle.std.specs.Prelude.{◌≡◌, Some};
-    ghost use Rattle.cmh_graph.specs.Graph.{Graph};
-    ghost use Rattle.cmh_run.specs.Config.{Config, nothing_yet};
-
     ghost Value = { Graph };
 
     ghost view = { λ r. r.graph.now };

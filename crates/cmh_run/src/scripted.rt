@@ -6,7 +6,7 @@ ghost use Rattle.std.specs.Cmp.Rules.{comparing};
 ghost use Rattle.std.specs.Ordering.{on, eq_of_both};
 ghost use Rattle.cmh_graph.specs.Graph.{Graph, process_count};
 ghost use Rattle.cmh_graph.specs.Verdict.{IsVerdict};
-ghost use Rattle.cmh_run.specs.Script.{AreTrueOf, IsLineOutOfRange, IsFirstScriptFault, is_listed as is_listed_lem, answer_at};
+ghost use Rattle.cmh_run.specs.Script.{Script, AreTrueOf, IsLineOutOfRange, IsFirstScriptFault, is_listed as is_listed_lem, answer_at};
 ghost use Rattle.cmh_run.specs.ScriptProofs.{scripts_keep_graphs, scripts_keep_silent};
 ghost use Rattle.std.proofs.Common.{◌∙◌};
 ghost use Rattle.std.proofs.Common.{rules};
@@ -27,8 +27,6 @@ pub struct Scripted {
 }
 
 impl Model for Scripted {
-    ghost use Rattle.cmh_run.specs.Script.{Script};
-
     ghost Value = { Script };
 
     ghost view = { λ s. record { lines = s.lines.items; asked = s.asked } };

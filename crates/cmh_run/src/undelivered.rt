@@ -4,7 +4,7 @@
 
 ghost use Rattle.std.specs.Prelude.{◌≡◌, ◌↔◌, false, not, ◌&&◌, ◌||◌, IsTrue, OnOk};
 ghost use Rattle.cmh_process.specs.declared.message.Message.{Message};
-ghost use Rattle.cmh_run.specs.CheckState.{goes_like, is_waiting};
+ghost use Rattle.cmh_run.specs.CheckState.{UndeliveredState, goes_like, is_waiting};
 
 use cmh_process::{Kind, Message};
 use std::alloc::{AllocError, Global};
@@ -19,8 +19,6 @@ pub(crate) struct Undelivered {
 }
 
 impl Model for Undelivered {
-    ghost use Rattle.cmh_run.specs.CheckState.{UndeliveredState};
-
     ghost Value = { UndeliveredState };
 
     ghost view = { λ u. record { queries = u.queries.keys; replies = u.replies.keys } };
