@@ -1,11 +1,11 @@
 -- The texts of faults.
 use Rattle.std.specs.Prelude.{ℕ, List, ◌++◌, codes}
 use Rattle.std.specs.Fmt.{decimal}
-use Rattle.cmh_run.specs.declared.fault.RunFault.{RunFault}
+pub use Rattle.cmh_run.specs.declared.fault.RunFault.{RunFault}
 use Rattle.cmh_run.specs.declared.fault.RunFault.TheVariants as run
-use Rattle.cmh_run.specs.declared.fault.ScriptFault.{ScriptFault}
+pub use Rattle.cmh_run.specs.declared.fault.ScriptFault.{ScriptFault}
 use Rattle.cmh_run.specs.declared.fault.ScriptFault.TheVariants as script
-use Rattle.cmh_run.specs.declared.fault.CheckFault.{CheckFault}
+pub use Rattle.cmh_run.specs.declared.fault.CheckFault.{CheckFault}
 use Rattle.cmh_run.specs.declared.fault.CheckFault.TheVariants as check
 
 -- the text of a fault of a run

@@ -14,3 +14,5 @@ pub mod Step
 pub mod CheckState
 pub mod Procs
 pub mod Progress
+-- what passes on words that are from elsewhere
+pub mod Comparisons

@@ -3,11 +3,7 @@
 ghost use Rattle.std.specs.Prelude.{◌≡◌, ℕ, List, ◌<◌, ◌↔◌, ◌%◌, ◌++◌, [], ◌∷◌, Some, length, map, remove, slice_get, IsNone, IsSome, IfSome, IfNone, IfErr, IsTrue, OnOk, OnErr};
 ghost use Rattle.cmh_process.specs.declared.message.Message.{Message};
 ghost use Rattle.cmh_run.specs.Config.{query};
-ghost use Rattle.std.specs.Cmp.Lexicographic.{pointwise};
-ghost use Rattle.std.specs.Cmp.Rules.{comparing};
-ghost use Rattle.std.proofs.Common.{rules};
-ghost use Rattle.cmh_process.specs.contracts.message.MessageEq.TheImpl.Laws as message_laws;
-ghost use Rattle.cmh_process.specs.contracts.message.MessagePartialEq.TheImpl as message;
+ghost use Rattle.cmh_run.specs.Comparisons.{comparing, laws_of_message, of_message, pointwise, rules};
 
 use crate::RunFault;
 use crate::send::Sender;
@@ -146,9 +142,9 @@ impl Bag {
 }
 
 impl PartialEq for Bag {
-    ghost eq = { pointwise message.ghosts.eq };
+    ghost eq = { pointwise of_message.eq };
 
-    ghost laws = { Prim.search (comparing, rules, message_laws.laws-law) };
+    ghost laws = { Prim.search (comparing, rules, laws_of_message) };
 
     fn eq(&self, other: &Bag) -> bool {
         self.messages == other.messages
@@ -156,5 +152,5 @@ impl PartialEq for Bag {
 }
 
 impl Eq for Bag {
-    ghost laws = { Prim.search (comparing, rules, message_laws.laws-law) };
+    ghost laws = { Prim.search (comparing, rules, laws_of_message) };
 }

@@ -1,10 +1,7 @@
 //! Why there is no run, why lines make no script, and why a log is no run.
 
 ghost use Rattle.std.specs.Prelude.{◌≡◌, Some};
-ghost use Rattle.cmh_run.specs.Fault.{run_fault_text, script_fault_text, check_fault_text};
-ghost use Rattle.cmh_run.specs.declared.fault.RunFault.TheVariants.{Memory};
-ghost use Rattle.cmh_run.specs.declared.fault.ScriptFault.TheVariants as script;
-ghost use Rattle.cmh_run.specs.declared.fault.CheckFault.TheVariants as check;
+ghost use Rattle.cmh_run.specs.Fault.{RunFault, ScriptFault, CheckFault, run_fault_text, script_fault_text, check_fault_text};
 
 use std::alloc::{AllocError, AllocFailed};
 use std::error::Error;
@@ -39,7 +36,7 @@ impl fmt::Display for RunFault {
 impl Error for RunFault {}
 
 impl From<AllocError> for RunFault {
-    ghost from_gives = { λ _ e. e ≡ Memory };
+    ghost from_gives = { λ _ e. e ≡ RunFault.Memory };
 
     fn from(_e: AllocError) -> RunFault {
         RunFault::Memory
@@ -47,7 +44,7 @@ impl From<AllocError> for RunFault {
 }
 
 impl<T: Drop> From<AllocFailed<T>> for RunFault {
-    ghost from_gives = { λ _ e. e ≡ Memory };
+    ghost from_gives = { λ _ e. e ≡ RunFault.Memory };
 
     fn from(_e: AllocFailed<T>) -> RunFault {
         RunFault::Memory
@@ -80,7 +77,7 @@ impl fmt::Display for ScriptFault {
 impl Error for ScriptFault {}
 
 impl From<AllocError> for ScriptFault {
-    ghost from_gives = { λ _ e. e ≡ script.Memory };
+    ghost from_gives = { λ _ e. e ≡ ScriptFault.Memory };
 
     fn from(_e: AllocError) -> ScriptFault {
         ScriptFault::Memory
@@ -122,7 +119,7 @@ impl fmt::Display for CheckFault {
 impl Error for CheckFault {}
 
 impl From<AllocError> for CheckFault {
-    ghost from_gives = { λ _ e. e ≡ check.Memory };
+    ghost from_gives = { λ _ e. e ≡ CheckFault.Memory };
 
     fn from(_e: AllocError) -> CheckFault {
         CheckFault::Memory

@@ -1,15 +1,8 @@
 //! What is kept of a run that has ended.
 
 ghost use Rattle.std.specs.Prelude.{◌≡◌, ◌==◌};
-ghost use Rattle.std.specs.Cmp.Lexicographic.{pointwise};
-ghost use Rattle.std.specs.Cmp.Rules.{comparing};
-ghost use Rattle.std.specs.Ordering.{on, eq_of_both};
+ghost use Rattle.cmh_run.specs.Comparisons.{comparing, eq_of_both, laws_of_delivery, laws_of_ending, of_delivery, of_ending, on, pointwise, rules};
 ghost use Rattle.cmh_run.specs.Run.{Run, verdict_of};
-ghost use Rattle.std.proofs.Common.{rules};
-ghost use Rattle.cmh_run.specs.contracts.delivery.DeliveryPartialEq.TheImpl as delivery;
-ghost use Rattle.cmh_run.specs.contracts.delivery.DeliveryEq.TheImpl.Laws as delivery_laws;
-ghost use Rattle.cmh_run.specs.contracts.delivery.EndingPartialEq.TheImpl as ending;
-ghost use Rattle.cmh_run.specs.contracts.delivery.EndingEq.TheImpl.Laws as ending_laws;
 
 use crate::{Delivery, Ending, Log, ProcessList};
 use cmh_graph::Verdict;
@@ -104,11 +97,11 @@ impl RunLog {
 
 impl PartialEq for RunLog {
     ghost eq = { eq_of_both (on (λ r. r.initiator) ◌==◌)
-        (eq_of_both (on (λ r. r.log) (pointwise delivery.ghosts.eq))
-        (eq_of_both (on (λ r. r.ending) ending.ghosts.eq)
+        (eq_of_both (on (λ r. r.log) (pointwise of_delivery.eq))
+        (eq_of_both (on (λ r. r.ending) of_ending.eq)
         (eq_of_both (on (λ r. r.engaged) (pointwise ◌==◌)) (on (λ r. r.restarted) ◌==◌)))) };
 
-    ghost laws = { Prim.search (comparing, rules, delivery_laws.laws-law, ending_laws.laws-law) depth 9 };
+    ghost laws = { Prim.search (comparing, rules, laws_of_delivery, laws_of_ending) depth 9 };
 
     fn eq(&self, other: &RunLog) -> bool {
         self.initiator == other.initiator
@@ -120,5 +113,5 @@ impl PartialEq for RunLog {
 }
 
 impl Eq for RunLog {
-    ghost laws = { Prim.search (comparing, rules, delivery_laws.laws-law, ending_laws.laws-law) depth 9 };
+    ghost laws = { Prim.search (comparing, rules, laws_of_delivery, laws_of_ending) depth 9 };
 }

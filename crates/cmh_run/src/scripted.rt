@@ -1,17 +1,12 @@
 //! Hints that are written down before the run, each with the number of the ask that it answers.
 
 ghost use Rattle.std.specs.Prelude.{◌==◌, ◌≡◌, ◌⊎◌, ◌<◌, [], None, IfOk, IfErr, IfSome, nat_le, not, position, refl, ◌+◌, nat_lt, if◌then◌else◌, ℕ};
-ghost use Rattle.std.specs.Cmp.Lexicographic.{pointwise};
-ghost use Rattle.std.specs.Cmp.Rules.{comparing};
-ghost use Rattle.std.specs.Ordering.{on, eq_of_both};
 ghost use Rattle.cmh_graph.specs.Graph.{Graph, process_count};
 ghost use Rattle.cmh_graph.specs.Verdict.{IsVerdict};
+ghost use Rattle.cmh_run.specs.Comparisons.{comparing, eq_of_both, laws_of_verdict, of_verdict, on, pointwise, rules};
 ghost use Rattle.cmh_run.specs.Script.{Script, AreTrueOf, IsLineOutOfRange, IsFirstScriptFault, is_listed as is_listed_lem, answer_at};
 ghost use Rattle.cmh_run.specs.ScriptProofs.{scripts_keep_graphs, scripts_keep_silent};
 ghost use Rattle.std.proofs.Common.{◌∙◌};
-ghost use Rattle.std.proofs.Common.{rules};
-ghost use Rattle.cmh_graph.specs.contracts.verdict.VerdictEq.TheImpl.Laws as verdict_laws;
-ghost use Rattle.cmh_graph.specs.contracts.verdict.VerdictPartialEq.TheImpl as verdict;
 
 use crate::truth::truth_of;
 use crate::{Hints, ScriptFault};
@@ -97,10 +92,10 @@ impl Hints for Scripted {
 impl PartialEq for Scripted {
     ghost eq = { eq_of_both (on (λ s. s.lines)
         (pointwise (eq_of_both (on (λ e. e.0) ◌==◌)
-        (eq_of_both (on (λ e. e.1) ◌==◌) (on (λ e. e.2) verdict.ghosts.eq)))))
+        (eq_of_both (on (λ e. e.1) ◌==◌) (on (λ e. e.2) of_verdict.eq)))))
         (on (λ s. s.asked) ◌==◌) };
 
-    ghost laws = { Prim.search (comparing, rules, verdict_laws.laws-law) depth 9 };
+    ghost laws = { Prim.search (comparing, rules, laws_of_verdict) depth 9 };
 
     fn eq(&self, other: &Scripted) -> bool {
         self.lines == other.lines && self.asked == other.asked
@@ -108,7 +103,7 @@ impl PartialEq for Scripted {
 }
 
 impl Eq for Scripted {
-    ghost laws = { Prim.search (comparing, rules, verdict_laws.laws-law) depth 9 };
+    ghost laws = { Prim.search (comparing, rules, laws_of_verdict) depth 9 };
 }
 
 /// What the lines answer at that ask about `p`.
