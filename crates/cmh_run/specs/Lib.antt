@@ -16,3 +16,4 @@ pub mod Procs
 pub mod Progress
 -- what passes on words that are from elsewhere
 pub mod Comparisons
+pub mod Prelude

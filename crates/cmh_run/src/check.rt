@@ -1,9 +1,7 @@
 //! Whether a log from anywhere is that of a legal run, and if not, what is wrong with it first.
 
 ghost use Rattle.std.specs.Prelude.{◌≡◌, ◌⊎◌, ◌↔◌, IfOk, IfErr};
-ghost use Rattle.cmh_graph.specs.Verdict.{IsDeadlocked};
-ghost use Rattle.cmh_run.specs.Check.{IsLegalRun, IsFirstCheckFault};
-ghost use Rattle.cmh_run.specs.declared.delivery.Ending.TheVariants.{Declared};
+ghost use Rattle.cmh_run.specs.Prelude.{Declared, IsDeadlocked, IsFirstCheckFault, IsLegalRun};
 
 use crate::checker::Checker;
 use crate::truth::truth_of;

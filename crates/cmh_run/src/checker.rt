@@ -1,14 +1,7 @@
 //! A log that is checked: the run that its deliveries make, from one to the next.
 
 ghost use Rattle.std.specs.Prelude.{◌≡◌, ◌⊎◌, ◌<◌, ◌↔◌, ℕ, List, [], ◌∷◌, ◌++◌, None, IfOk, IfErr, IfSome, IfNone, IsTrue, not, ◌&&◌, OnOk};
-ghost use Rattle.cmh_graph.specs.Graph.{Graph, process_count, is_idle};
-ghost use Rattle.cmh_graph.specs.Verdict.{verdicts};
-ghost use Rattle.cmh_process.specs.declared.message.Message.{Message};
-ghost use Rattle.cmh_run.specs.declared.delivery.Delivery.{Delivery};
-ghost use Rattle.cmh_run.specs.Legal.{Going, HintIsFit, EndsAs};
-ghost use Rattle.cmh_run.specs.Progress.{MayAct};
-ghost use Rattle.cmh_run.specs.Check.{HasEnded, IsFlaw};
-ghost use Rattle.cmh_run.specs.CheckState.{CheckState, is_waiting, goes_like, Agrees, IsChecked, IsSettled};
+ghost use Rattle.cmh_run.specs.Prelude.{Agrees, CheckState, Delivery, EndsAs, goes_like, Going, Graph, HasEnded, HintIsFit, is_idle, is_waiting, IsChecked, IsFlaw, IsSettled, MayAct, Message, process_count, verdicts};
 
 use crate::network::Network;
 use crate::undelivered::Undelivered;

@@ -1,21 +1,7 @@
 //! Laws of all legal runs, over the definitions alone. Each function here has an empty body; its contract is the law.
 
 ghost use Rattle.std.specs.Prelude.{ℕ, List, ◌≡◌, ◌↔◌, IsTrue, IsFalse, ◌+◌, ◌*◌, ◌<◌, ◌≤◌, length, All, Option, None};
-ghost use Rattle.cmh_graph.specs.Build.{IsWellFormed};
-ghost use Rattle.cmh_graph.specs.Graph.{Graph, is_awake, dependency_count};
-ghost use Rattle.cmh_run.specs.Check.{IsLegalRun, IsFirstCheckFault};
-ghost use Rattle.cmh_run.specs.Choices.{HasNoHints, chosen_place};
-ghost use Rattle.cmh_run.specs.Engaged.{AreEngaged, IsEmptyRun};
-ghost use Rattle.cmh_run.specs.Last.{LastIsRun};
-ghost use Rattle.cmh_run.specs.Config.{Config, start, after_delivery, without_message, asks_hint, proc_at};
-ghost use Rattle.cmh_run.specs.Legal.{Going, IsRun, OfEveryRun, Rule, IsRight, IsBetween, MayCome};
-ghost use Rattle.cmh_run.specs.Step.{IsStart, IsStep, IsRunOfSteps};
-ghost use Rattle.cmh_graph.specs.declared.verdict.Verdict.{Verdict};
-ghost use Rattle.cmh_process.specs.declared.message.Message.{Message};
-ghost use Rattle.cmh_run.specs.Run.{IsRunOf, Run};
-ghost use Rattle.cmh_run.specs.declared.delivery.Ending.{Ending};
-ghost use Rattle.cmh_run.specs.declared.fault.CheckFault.{CheckFault};
-ghost use Rattle.cmh_run.specs.declared.delivery.Delivery.{Delivery};
+ghost use Rattle.cmh_run.specs.Prelude.{after_delivery, AreEngaged, asks_hint, CheckFault, chosen_place, Config, Delivery, dependency_count, Ending, Going, Graph, HasNoHints, is_awake, IsBetween, IsEmptyRun, IsFirstCheckFault, IsLegalRun, IsRight, IsRun, IsRunOf, IsRunOfSteps, IsStart, IsStep, IsWellFormed, LastIsRun, MayCome, Message, OfEveryRun, proc_at, Rule, Run, start, Verdict, without_message};
 
 /// The rule of a start allows the computed start and nothing else, where the initiator isn't awake and the run hasn't
 /// ended.

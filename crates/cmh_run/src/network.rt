@@ -1,10 +1,7 @@
 //! One configuration of an initiator's computations, and its steps.
 
 ghost use Rattle.std.specs.Prelude.{◌≡◌, ℕ, List, ◌<◌, ◌^◌, ◌%◌, ◌↔◌, [], None, Option, Some, length, slice_get, IfSome, IfNone, IsNone, IsFalse, IfOk, OnOk, if◌then◌else◌};
-ghost use Rattle.cmh_graph.specs.Graph.{process_count, is_awake};
-ghost use Rattle.cmh_run.specs.Legal.{going_at_start, HintIsFit};
-ghost use Rattle.cmh_run.specs.Progress.{MayAct, MayReceive, MayStart};
-ghost use Rattle.cmh_run.specs.Config.{Config, blank_config, nothing_yet, start, after_action, after_engagement, after_hint, after_message, asks_hint, query, without_message};
+ghost use Rattle.cmh_run.specs.Prelude.{after_action, after_engagement, after_hint, after_message, asks_hint, blank_config, Config, going_at_start, HintIsFit, is_awake, MayAct, MayReceive, MayStart, nothing_yet, process_count, query, start, without_message};
 
 use crate::procs::Procs;
 use crate::send::Sender;

@@ -1,10 +1,7 @@
 //! A run on its way.
 
 ghost use Rattle.std.specs.Prelude.{◌≡◌, ℕ, List, ◌+◌, ◌<◌, [], length, IfOk, OnOk, IsTrue, IsFalse, unwrap_or};
-ghost use Rattle.cmh_run.specs.Choices.{HasNoHints};
-ghost use Rattle.cmh_run.specs.Config.{blank_config, nothing_yet};
-ghost use Rattle.cmh_run.specs.Run.{IsAccepted};
-ghost use Rattle.cmh_run.specs.Progress.{RunState, IsUnderWay, IsAtEnd, IsNextChoice, IsRunState};
+ghost use Rattle.cmh_run.specs.Prelude.{blank_config, HasNoHints, IsAccepted, IsAtEnd, IsNextChoice, IsRunState, IsUnderWay, nothing_yet, RunState};
 
 use crate::network::Network;
 use crate::{Delivery, Ending, Hints, Log, RunLog};

@@ -1,12 +1,7 @@
 //! Runs one after another, in memory that is kept from one to the next.
 
 ghost use Rattle.std.specs.Prelude.{◌≡◌, [], Some, ◌*◌, ◌≤◌, ◌↔◌, length, IfOk, IfErr, IsTrue, OnOk, List, ℕ};
-ghost use Rattle.cmh_graph.specs.Graph.{Graph, dependency_count};
-ghost use Rattle.cmh_run.specs.Choices.{HasNoHints};
-ghost use Rattle.cmh_run.specs.Config.{Config, nothing_yet};
-ghost use Rattle.cmh_run.specs.Progress.{IsAtEnd, IsRunState, IsUnderWay};
-ghost use Rattle.cmh_run.specs.Run.{IsAccepted, IsFirstRunFault, IsRunFault, IsRunAnswer};
-ghost use Rattle.std.specs.List.Sorted.{IsStrictlyIncreasing};
+ghost use Rattle.cmh_run.specs.Prelude.{Config, dependency_count, Graph, HasNoHints, IsAccepted, IsAtEnd, IsFirstRunFault, IsRunAnswer, IsRunFault, IsRunState, IsStrictlyIncreasing, IsUnderWay, nothing_yet};
 
 use crate::network::Network;
 use crate::progress::Progress;

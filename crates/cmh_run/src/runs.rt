@@ -1,9 +1,7 @@
 //! A run alone: each call makes a `Runner` and a network of its own.
 
 ghost use Rattle.std.specs.Prelude.{◌≡◌, [], ◌*◌, ◌≤◌, length, IfOk, IfErr};
-ghost use Rattle.cmh_graph.specs.Graph.{dependency_count};
-ghost use Rattle.cmh_run.specs.Choices.{HasNoHints};
-ghost use Rattle.cmh_run.specs.Run.{IsRunFault, IsRunAnswer};
+ghost use Rattle.cmh_run.specs.Prelude.{dependency_count, HasNoHints, IsRunAnswer, IsRunFault};
 
 use crate::runner::Runner;
 use crate::{Hints, RunFault, RunLog};
