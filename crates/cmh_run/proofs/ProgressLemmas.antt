@@ -14,7 +14,7 @@ use Rattle.cmh_run.proofs.EngagedLemmas.{who_engages, awake_ones_start_nothing}
 use Rattle.cmh_run.proofs.DeliveryBound.{leads_are_short, few_dependencies}
 
 -- a restart leaves the number of deliveries as it was
-pub restart_keeps_count : (g : Graph) (i : ℕ) (s : Going) (ns : List ℕ) → (after_first_restart g i s ns).done ≡ s.done
+restart_keeps_count : (g : Graph) (i : ℕ) (s : Going) (ns : List ℕ) → (after_first_restart g i s ns).done ≡ s.done
 restart_keeps_count g i s [] = refl
 restart_keeps_count g i s (n ∷ ns) =
     by_test (is_none s.config.ended && eqb n s.done) (λ b. (cond b (after_restart g i s ns) s).done ≡ s.done)
@@ -252,7 +252,7 @@ may_start restarts r n way first due going = by_restarts r.going.restarts refl
         ))
         (started restarts (record r { going = next }) way)
 
--- once the next choice of a run under way is known, it is ready for its delivery
+-- once the next choice of a run under way is known, the run is ready for its delivery, by the choice of the list
 pub ready_by_choice : (restarts : List ℕ) (before after r : RunState) (choice : ℕ) → IsUnderWay restarts before
     → IsNextChoice before after choice → r ≡ after
     → IsReady restarts r × (choice ≡ slice_index r.choices r.going.done)
@@ -274,7 +274,7 @@ log_falls restarts g r v way same longer =
 -- a network that is cleared at the end is as at first
 pub cleared : (restarts : List ℕ) (r : RunState) (c : Config) → IsAtEnd restarts r
     → c ≡ blank_config (length r.going.config.procs) → c ≡ nothing_yet r.graph
-cleared restarts r c at_end e = e ∙ ap blank_config (all_there restarts r at_end.0)
+cleared restarts r c at_end e = e ∙ ap blank_config (all_there restarts r at_end.ready)
 
 -- what a legal run says of its initiator is true
 verdict_right : (g : Graph) (i : ℕ) (restarts : List ℕ) (ending : Ending) (end : Going)
@@ -286,12 +286,12 @@ verdict_right g i restarts (CutFree k) end h = h.free (λ e. cc)
 module _ (restarts : List ℕ) (r : RunState) (at_end : IsAtEnd restarts r) where
   -- the deliveries have led to it
   way : IsReady restarts r
-  way = at_end.0
+  way = at_end.ready
 
   -- a run that is over has ended as it says
   ends_as : (o : Option Ending) → r.going.config.ended ≡ o → EndsAs r.going.config (unwrap_or o AtRest)
   ends_as None e =
-      (e, ⊎_elim (λ (n : r.going.config.ended ≢ None). absurd (n e)) (λ (b : r.going.config.bag ≡ []). b) at_end.1)
+      (e, ⊎_elim (λ (n : r.going.config.ended ≢ None). absurd (n e)) (λ (b : r.going.config.bag ≡ []). b) at_end.over)
   ends_as (Some Declared) e = e
   ends_as (Some (CutFree k)) e = e
   ends_as (Some AtRest) e =

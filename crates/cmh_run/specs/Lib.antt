@@ -14,6 +14,6 @@ pub mod Step
 pub mod CheckState
 pub mod Procs
 pub mod Progress
--- what passes on words that are from elsewhere
+-- what passes on words of other files
 pub mod Comparisons
 pub mod Prelude

@@ -1,4 +1,4 @@
--- The words that the contracts of runs import, passed on from one place. Declares nothing.
+-- Words that many contracts of runs cite, passed on from one place. Declares nothing.
 pub use Rattle.std.specs.List.Sorted.{IsStrictlyIncreasing}
 pub use Rattle.cmh_graph.specs.Build.{IsWellFormed}
 pub use Rattle.cmh_graph.specs.Graph.{Graph, process_count, is_idle, is_awake, dependency_count}

@@ -16,7 +16,7 @@ pub record MayAct (g : Graph) (c : Config) (p : ℕ) : Type 0 where
   pub within : p < process_count g
   pub going : c.ended ≡ None
 
--- the initiator may start, since its next number is less than 2 ^ 32
+-- the initiator may start: it may act, and its next number is less than 2 ^ 32
 pub record MayStart (g : Graph) (c : Config) (i : ℕ) : Type 0 where
   pub process : MayAct g c i
   pub next : (proc_at c.procs i).latest + 1 < 2 ^ 32
@@ -42,11 +42,11 @@ pub record IsReady (restarts : List ℕ) (r : RunState) : Type 0 where
       r.log r.going
   pub count : r.going.done ≡ length r.log
 
--- so it is once a restart has come, if one is due
+-- the run is ready once a restart has come, if one is due
 abbrev pub IsUnderWay : List ℕ → RunState → Type 0
 IsUnderWay restarts r = IsReady restarts (record r { going = after_due_restart r.graph r.initiator r.going })
 
--- the next choice of a run on its way: a restart has come, if one was due
+-- the next choice of a run on its way, once a restart has come, if one was due
 pub record IsNextChoice (before after : RunState) (choice : ℕ) : Type 0 where
   pub ready : after ≡ record before { going = after_due_restart before.graph before.initiator before.going }
   pub chosen : choice ≡ slice_index after.choices after.going.done
@@ -57,10 +57,7 @@ pub record IsRunState (g : Graph) (i : ℕ) (given : List ℕ) (r : RunState) : 
   pub initiator : r.initiator ≡ i
   pub choices : r.choices ≡ given
 
--- nothing more is delivered: a declaration or a hint has ended the run, or no message is undelivered
-abbrev pub IsOver : Config → Type 0
-IsOver c = c.ended ≢ None ⊎ (c.bag ≡ [])
-
--- no restart is to come in it, and nothing more is delivered
-abbrev pub IsAtEnd : List ℕ → RunState → Type 0
-IsAtEnd restarts r = IsReady restarts r × IsOver r.going.config
+-- the run is ready, but nothing more is delivered: a declaration or a hint has ended it, or no message is undelivered
+pub record IsAtEnd (restarts : List ℕ) (r : RunState) : Type 0 where
+  pub ready : IsReady restarts r
+  pub over : r.going.config.ended ≢ None ⊎ (r.going.config.bag ≡ [])

@@ -67,16 +67,16 @@ impl Network {
         ensures ok { OnOk result (self.new ≡ start graph.now initiator self.old) }
     {
         law_built_graph(graph);
-        let dependents = graph.dependents(initiator);
-        let action = self.procs.start(initiator, dependents.len() as u32)?;
-        self.number = self.procs.latest(initiator);
         self.engaged.clear();
         self.engaged.push(initiator)?;
+        let dependents = graph.dependents(initiator);
+        let action = self.procs.start(initiator, dependents.len() as u32)?;
         let sender = Sender {
             initiator,
-            number: self.number,
+            number: self.procs.latest(initiator),
             process: initiator,
         };
+        self.number = sender.number;
         self.act(sender, dependents, action)
     }
 

@@ -1,6 +1,6 @@
 //! A run on its way.
 
-ghost use Rattle.std.specs.Prelude.{◌≡◌, ℕ, List, ◌+◌, ◌<◌, [], length, IfOk, OnOk, IsTrue, IsFalse, unwrap_or};
+ghost use Rattle.std.specs.Prelude.{◌≡◌, ℕ, List, ◌+◌, ◌<◌, ◌≤◌, [], length, IfOk, OnOk, IsTrue, IsFalse, unwrap_or};
 ghost use Rattle.cmh_run.specs.Prelude.{blank_config, HasNoHints, IsAccepted, IsAtEnd, IsNextChoice, IsRunState, IsUnderWay, nothing_yet, RunState};
 
 use crate::network::Network;
@@ -16,12 +16,14 @@ use std::marker::Model;
 pub(crate) struct Progress<'a, L: Log> {
     graph: &'a WaitGraph,
     initiator: u32,
+    /// Whether neither a choice nor a restart is still to come.
+    is_plain: bool,
     choices: &'a [u64],
-    network: Network,
-    log: L,
-    made: usize,
     restarts: &'a [u32],
     restarted: u32,
+    made: usize,
+    network: Network,
+    log: L,
 }
 
 impl<'a, L: Log> Model for Progress<'a, L> {
@@ -39,6 +41,9 @@ impl<'a, L: Log> Model for Progress<'a, L> {
       };
       log = L.deliveries p.log;
     } };
+
+    ghost invariant = { λ p. IsTrue p.is_plain
+        → (length p.choices.now ≤ p.made) × (p.restarts.now ≡ []) };
 }
 
 impl<'a, L: Log> Progress<'a, L> {
@@ -63,12 +68,13 @@ impl<'a, L: Log> Progress<'a, L> {
         Ok(Progress {
             graph,
             initiator,
+            is_plain: choices.is_empty() && restarts.is_empty(),
             choices,
-            network,
-            log: L::empty(alloc),
-            made: 0,
             restarts: if is_awake { &[] } else { restarts },
             restarted: 0,
+            made: 0,
+            network,
+            log: L::empty(alloc),
         })
     }
 
@@ -79,20 +85,21 @@ impl<'a, L: Log> Progress<'a, L> {
         requires { (restarts : List ℕ) × IsUnderWay restarts self.old }
         ensures { IfOk result (IsNextChoice self.old self.new) }
     {
-        if self.choices.is_empty() && self.restarts.is_empty() {
+        if self.is_plain {
             return Ok(0);
         }
-        self.planned_choice()
+        self.given_choice()
     }
 
-    /// `next_choice` by the choices and restarts. It stands apart, so that the loop of a run without them is short.
-    #[inline(never)]
-    fn planned_choice(&mut self) -> Result<u64, AllocError>
+    /// `next_choice` while choices or restarts are still to come. It stands apart, so that the loop after them is short.
+    #[cold]
+    fn given_choice(&mut self) -> Result<u64, AllocError>
         requires { (restarts : List ℕ) × IsUnderWay restarts self.old }
         ensures { IfOk result (IsNextChoice self.old self.new) }
     {
         let choice = self.choices.get(self.made).copied().unwrap_or(0);
         let Some(next) = self.restarts.first() else {
+            self.is_plain = self.choices.len() <= self.made;
             return Ok(choice);
         };
         if *next as usize != self.made || self.network.has_ended() {

@@ -1,6 +1,6 @@
 use Rattle.cmh_run.proofs.Common.{subst, sym, RunState, IsUnderWay, arith}
 use Rattle.cmh_run.proofs.ProgressLemmas.{may_start}
-use Rattle.cmh_run.proofs.progress.Progress.planned_choice.Goals as goal
+use Rattle.cmh_run.proofs.progress.Progress.given_choice.Goals as goal
 
 -- the initiator may start again
 pub start-requires : goal.start-requires
