@@ -83,7 +83,7 @@ fn top_command<'a>(alloc: Global) -> Command<'a>
     ensures local { (out-Command result).has_globals ≡ false }
 {
     Command::new(alloc, "cmh")
-        .version("1.0.1")
+        .version("1.0.2")
         .subcommand_required(true)
         .disable_help_subcommand(true)
 }
