@@ -1,6 +1,6 @@
 -- Lines that several threads made, and the text that they are joined to.
 use Rattle.std.proofs.Common.{◌≡◌, ℕ, zero, suc, ◌+◌, ◌<◌, List, add-one, [], ◌∷◌, ◌++◌, map, drop, get_or, reverse, take, append_assoc, length, refl, sym, ◌∙◌, ap, subst}
-use Rattle.std.specs.Prelude.{All, Contains, Result, Ok, Err, IfOk, IsTrue, MatchResult, Option, flat_map}
+use Rattle.std.specs.Prelude.{All, Contains, Result, Ok, Err, IfOk, IsTrue, MatchResult, flat_map}
 use Rattle.std.specs.Borrow.{Bor}
 use Rattle.std.specs.Global.{Vec}
 use Rattle.std.specs.List.{AllZip}
@@ -11,14 +11,10 @@ use Rattle.std.proofs.lemmas.List.Folds.{flat_map-map}
 use Rattle.std.proofs.lemmas.List.{get_or_default, reverse-append}
 use Rattle.rayon.specs.Lists.{chunks_from, chunks_of}
 use Rattle.rayon.proofs.ToStd.{chunks_of-concat}
-use Rattle.cmh_graph.specs.Graph.{is_idle, Graph, indices, process_count, idle_list}
-use Rattle.cmh_graph.specs.Core.{leaders, group_leader}
-use Rattle.cmh_graph.proofs.PathLemmas.{index_within}
+use Rattle.cmh_graph.specs.Graph.{is_idle, Graph, indices, idle_list}
+use Rattle.cmh_graph.specs.Core.{leaders}
 use Rattle.cmh_graph.proofs.Verdicts.{filter_contains}
-use Rattle.cmh_graph.proofs.Groups.{leads_itself}
-use Rattle.cmh_text.specs.Group.{is_led_by}
 use Rattle.cmh_text.specs.Report.{line, report_text, totals_line, process_line, group_line}
-use Rattle.cmh_text.proofs.Numbers.{led_test}
 use Rattle.cmh_text.proofs.LineLemmas.{whole_text}
 
 -- the text of each item stands at its place
@@ -81,19 +77,6 @@ idle_each g list is =
     let there : Contains (idle_list g) (get_or (idle_list g) k d) =
     (k, l, get_or_default (idle_list g) k (get_or (idle_list g) k d) d l) in
     (filter_contains (is_idle g) (indices g) (get_or (idle_list g) k d) there).1)
-
--- each leader of the list is a process that leads itself
-pub leaders_lead : (g : Graph) (table : List (Option ℕ)) (list : List ℕ) → table ≡ map (group_leader g) (indices g)
-    → list ≡ leaders g
-    → All (λ p. (p < process_count g) × IsTrue (is_led_by table p p)) list
-leaders_lead g table list are is =
-    subst (All (λ p. (p < process_count g) × IsTrue (is_led_by table p p))) (sym is)
-    (λ k d l.
-    let there : Contains (leaders g) (get_or (leaders g) k d) =
-    (k, l, get_or_default (leaders g) k (get_or (leaders g) k d) d l) in
-    let kept = filter_contains (leads_itself g) (indices g) (get_or (leaders g) k d) there in
-    let i = index_within (process_count g) (get_or (leaders g) k d) kept.0 in
-    (i, led_test g table (get_or (leaders g) k d) (get_or (leaders g) k d) are i ∙ kept.1))
 
 -- the totals and all lines are the report
 pub whole_report : (g : Graph) (first text : List ℕ) (processes groups : List (List ℕ))

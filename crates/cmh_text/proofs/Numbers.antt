@@ -9,7 +9,7 @@ use Rattle.std.proofs.lemmas.List.FromFn.{length-range_with_len}
 use Rattle.cmh_graph.specs.Graph.{Graph, process_count, indices, IsWithinGraph}
 use Rattle.cmh_graph.specs.Path.{reaches, reach_of}
 use Rattle.cmh_graph.specs.Verdict.{is_deadlocked}
-use Rattle.cmh_graph.specs.Core.{core_of, rest_of, leader_of, group_number, group_leader}
+use Rattle.cmh_graph.specs.Core.{core_of, rest_of, leader_of, leaders, group_number, group_leader}
 use Rattle.cmh_graph.proofs.Cores.{core_law}
 use Rattle.cmh_graph.proofs.Groups.{leader_in_core, leads_itself, reached_deadlocked, same_leader, same_test}
 use Rattle.cmh_graph.proofs.IndexLists.{by_index, filter_agree_on, filter_indices_kept, filter_indices_passed}
@@ -115,28 +115,22 @@ unfolding group_leader
 led_test g list l p are i = ap (λ o. option_eq eqb o (Some l)) (by_index g (group_leader g) list p None are i)
     ∙ led_by (is_deadlocked g p) (leader_of g p) l
 
+-- a leader is a process of the graph
+pub leader_within : (g : Graph) (l : ℕ) → Contains (leaders g) l → l < process_count g
+leader_within g l c = index_within (process_count g) l (filter_contains (leads_itself g) (indices g) l c).0
+
+-- a leader leads itself
+pub leader_leads : (g : Graph) (list : List (Option ℕ)) (l : ℕ) → list ≡ map (group_leader g) (indices g)
+    → Contains (leaders g) l → is_led_by list l l ≡ true
+leader_leads g list l are c =
+    led_test g list l l are (leader_within g l c) ∙ (filter_contains (leads_itself g) (indices g) l c).1
+
 -- a leader's number is that of its group
 pub own_number : (g : Graph) (list : List (Option ℕ)) (l : ℕ) → list ≡ map (group_leader g) (indices g)
     → l < process_count g → is_led_by list l l ≡ true → leaders_up_to g l ≡ group_number g l
 own_number g list l are i leads =
     let itself = and_parts (is_deadlocked g l) (eqb (leader_of g l) l) (sym (led_test g list l l are i) ∙ leads) in
     ap (leaders_up_to g) (sym (eqb-true (leader_of g l) l itself.1)) ∙ number_is g l
-
--- where p leads itself, there is one leader more below p + 1 than below p
-pub leaders_one_more : (g : Graph) (list : List (Option ℕ)) (p count : ℕ) → list ≡ map (group_leader g) (indices g)
-    → p < process_count g → count ≡ length (leaders_below g p) → is_led_by list p p ≡ true
-    → count + 1 ≡ length (leaders_below g (p + 1))
-leaders_one_more g list p count are i is so =
-    let itself : leads_itself g p ≡ true = sym (led_test g list p p are i) ∙ so in
-    omega (arith, length_more (leads_itself g) p true itself)
-
--- where p doesn't lead itself, there are as many leaders below p + 1 as below p
-pub leaders_no_more : (g : Graph) (list : List (Option ℕ)) (p count : ℕ) → list ≡ map (group_leader g) (indices g)
-    → p < process_count g → count ≡ length (leaders_below g p) → is_led_by list p p ≡ false
-    → count ≡ length (leaders_below g (p + 1))
-leaders_no_more g list p count are i is not_so =
-    let itself : leads_itself g p ≡ false = sym (led_test g list p p are i) ∙ not_so in
-    omega (arith, length_more (leads_itself g) p false itself)
 
 -- ---- core and rest by the table of leaders
 

@@ -1,9 +1,8 @@
 -- What a group that waits for another one reaches.
 use Rattle.std.proofs.Common.{◌≡◌, ℕ, ◌<◌, ◌&&◌, Bool, true, false, List, [], ◌∷◌, map, eqb, eqb-true, refl, sym, ◌∙◌, subst}
-use Rattle.std.specs.Prelude.{Contains, IfSome, IsTrue, None, Option, Some}
-use Rattle.std.proofs.lemmas.List.Elements.{All-contains}
+use Rattle.std.specs.Prelude.{Contains, Option}
 use Rattle.cmh_graph.specs.Build.{IsWellFormed}
-use Rattle.cmh_graph.specs.Core.{leader_of, leaders, group_leader}
+use Rattle.cmh_graph.specs.Core.{leader_of, group_leader}
 use Rattle.cmh_graph.specs.Graph.{Graph, dependents_of, indices, process_count}
 use Rattle.cmh_graph.specs.Path.{Reaches}
 use Rattle.cmh_graph.specs.Verdict.{is_deadlocked}
@@ -12,7 +11,6 @@ use Rattle.cmh_graph.proofs.Groups.{leader_in_core, reaches_on}
 use Rattle.cmh_graph.proofs.PathLemmas.{depends_within}
 use Rattle.cmh_graph.proofs.PositionLemmas.{waits}
 use Rattle.cmh_text.specs.Group.{is_led_by}
-use Rattle.cmh_text.proofs.JoinedTexts.{leaders_lead}
 use Rattle.cmh_text.proofs.Numbers.{led_test}
 
 -- where two tests both hold, the second does
@@ -34,12 +32,3 @@ leads_to g list p q l w are i c led =
     reaches_on g p q l step
     (subst (λ z. Reaches g q z) leader
     ((core_law g q (leader_of g q) w.within j).0 (leader_in_core g q w.within j)).0)
-
--- a leader of the list is one of the graph
-pub leader_within : (g : Graph) (table : List (Option ℕ)) (list : List ℕ) (o : Option ℕ)
-    → table ≡ map (group_leader g) (indices g) → list ≡ leaders g → IfSome o (Contains list)
-    → IfSome o (λ l. l < process_count g)
-leader_within g table list None are is h = h
-leader_within g table list (Some l) are is h =
-    (All-contains (λ p. (p < process_count g) × IsTrue (is_led_by table p p)) list l
-    (leaders_lead g table list are is) h).0

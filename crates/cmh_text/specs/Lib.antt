@@ -4,7 +4,9 @@ pub mod Report
 pub mod Summary
 -- the words of private functions
 pub mod Group
+pub mod GroupLines
 pub mod LeaderReach
 pub mod Names
-pub mod SharedReach
+pub mod Processes
+pub mod ProcessLines
 pub mod Sites

@@ -4,14 +4,11 @@
 //! A comparison of marks shows that a group is one process and its rest all that the other one reaches. So no process
 //! is picked out by itself.
 
-ghost use Rattle.std.specs.Prelude.{◌≡◌, ◌<◌, length, map, slice_index, IfOk, IsTrue};
+ghost use Rattle.std.specs.Prelude.{◌≡◌, ◌<◌, map, slice_index, IfOk, IsTrue};
 ghost use Rattle.cmh_graph.specs.Graph.{indices, process_count};
-ghost use Rattle.cmh_graph.specs.Path.{reach_of, reaches, Reaches};
-ghost use Rattle.cmh_text.specs.Group.{is_led_by, AreGroupsOf};
-ghost use Rattle.cmh_text.specs.LeaderReach.{AreGroupPartsOf, HasOneMore, IsLeaderReachOf};
-ghost use Rattle.cmh_text.specs.Summary.{leaders_in};
+ghost use Rattle.cmh_graph.specs.Path.{reach_of, reaches};
+ghost use Rattle.cmh_text.specs.LeaderReach.{AreGroupPartsOf, HasOneMore, IsLeaderReachOf, IsOneBeyond};
 
-use crate::groups::{Groups, core_and_rest};
 use cmh_graph::laws::law_built_graph;
 use cmh_graph::{WaitGraph, marked_indices, out_of_memory};
 use std::alloc::{AllocError, Global};
@@ -52,69 +49,16 @@ pub(crate) fn leader_reach_of(
     })
 }
 
-/// The parts of a leader that reaches another one. The search continues from what that one reaches.
-pub(crate) fn parts_from(
-    alloc: Global,
-    graph: &WaitGraph,
-    groups: &Groups,
-    leader: u32,
-    base: &LeaderReach,
-) -> Result<GroupParts, AllocError>
-    requires within { leader < process_count graph.now }
-    requires groups { AreGroupsOf graph.now groups.now }
-    requires leads { IsTrue (is_led_by (leaders_in groups.now.summaries.items) leader leader) }
-    requires base { IsLeaderReachOf graph.now base.now }
-    requires beyond { Reaches graph.now leader base.now.leader }
-    ensures { IfOk result (AreGroupPartsOf graph.now leader) }
-{
-    let marks = graph.reach_marks_by(alloc, leader, base.leader, &base.marks)?;
-    if has_one_more(leader, &base.marks, &marks) {
-        return parts_beyond(alloc, graph, leader, base, marks);
-    }
-    parts_of(alloc, graph, groups, leader, marks)
-}
-
-/// The parts of a leader with these marks.
-pub(crate) fn parts_of(
-    alloc: Global,
-    graph: &WaitGraph,
-    groups: &Groups,
-    leader: u32,
-    marks: Vec<bool>,
-) -> Result<GroupParts, AllocError>
-    requires within { leader < process_count graph.now }
-    requires groups { AreGroupsOf graph.now groups.now }
-    requires leads { IsTrue (is_led_by (leaders_in groups.now.summaries.items) leader leader) }
-    requires marks { marks.items ≡ map (reaches graph.now leader) (indices graph.now) }
-    ensures { IfOk result (AreGroupPartsOf graph.now leader) }
-{
-    let reach = reach_of(alloc, graph, leader, &marks)?;
-    let (core, rest) = core_and_rest(alloc, &groups.summaries, leader, &reach)?;
-    Ok(GroupParts {
-        leader_reach: LeaderReach {
-            leader,
-            marks,
-            reach,
-        },
-        core,
-        rest,
-    })
-}
-
 /// The parts of a leader that reaches itself and what the base does. It is a group by itself, and its rest is all that
 /// the base reaches.
-fn parts_beyond(
+pub(crate) fn parts_beyond(
     alloc: Global,
     graph: &WaitGraph,
     leader: u32,
     base: &LeaderReach,
     marks: Vec<bool>,
 ) -> Result<GroupParts, AllocError>
-    requires within { leader < process_count graph.now }
-    requires base { IsLeaderReachOf graph.now base.now }
-    requires beyond { Reaches graph.now leader base.now.leader }
-    requires marks { marks.items ≡ map (reaches graph.now leader) (indices graph.now) }
-    requires more { HasOneMore leader base.now.marks.items marks.items }
+    requires { IsOneBeyond graph.now leader base.now marks.items }
     ensures { IfOk result (AreGroupPartsOf graph.now leader) }
 {
     law_built_graph(graph);
@@ -141,11 +85,7 @@ fn reach_beyond(
     base: &LeaderReach,
     marks: &[bool],
 ) -> Result<Vec<u32>, AllocError>
-    requires within { leader < process_count graph.now }
-    requires base { IsLeaderReachOf graph.now base.now }
-    requires beyond { Reaches graph.now leader base.now.leader }
-    requires marks { marks.now ≡ map (reaches graph.now leader) (indices graph.now) }
-    requires more { HasOneMore leader base.now.marks.items marks.now }
+    requires { IsOneBeyond graph.now leader base.now marks.now }
     ensures { IfOk result (λ reach. reach.items ≡ reach_of graph.now leader) }
 {
     law_built_graph(graph);
@@ -166,11 +106,13 @@ fn is_before(p: u32, list: &[u32]) -> bool
 }
 
 /// Whether the new marks are the old ones and that of `p`.
-fn has_one_more(p: u32, old: &[bool], new: &[bool]) -> bool
-    requires { (p < length old.now) × (length new.now ≡ length old.now) }
+pub(crate) fn has_one_more(p: u32, old: &[bool], new: &[bool]) -> bool
     ensures { IsTrue result → HasOneMore p old.now new.now }
 {
     let at = p as usize;
+    if at >= old.len() || old.len() != new.len() {
+        return false;
+    }
     if old[at] {
         return false;
     }
@@ -189,7 +131,7 @@ fn are_same(old: &[bool], new: &[bool]) -> bool
 
 /// The marked processes, which a leader reaches, by rising index. One without dependents reaches itself alone, so it
 /// needs no look at all marks.
-fn reach_of(
+pub(crate) fn reach_of(
     alloc: Global,
     graph: &WaitGraph,
     leader: u32,

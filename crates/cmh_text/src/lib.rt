@@ -3,6 +3,7 @@
 
 mod backward_text;
 mod chunks;
+mod group_lines;
 mod groups;
 mod leader_reach;
 mod lines;
@@ -10,6 +11,7 @@ mod names;
 mod outline;
 mod parallel;
 mod paths;
+mod process_lines;
 mod shared_reach;
 mod sites;
 mod summary;

@@ -3,54 +3,80 @@
 //!
 //! A comparison shows what two lists share at their ends, so no proof here speaks of paths or rests.
 
-ghost use Rattle.std.specs.Prelude.{◌≡◌, ◌++◌, ◌-◌, ◌<◌, ◌≤◌, ◌^◌, drop, length, min, All, IfOk, OnOk, string_bytes};
+ghost use Rattle.std.specs.Prelude.{◌≡◌, [], ◌++◌, ◌-◌, ◌<◌, ◌≤◌, ◌^◌, drop, length, min, All, IfOk, OnOk, string_bytes};
 ghost use Rattle.cmh_graph.specs.Graph.{process_count};
 ghost use Rattle.cmh_text.specs.Report.{names_of, spaced_words};
 
 use cmh_graph::WaitGraph;
 use std::alloc::{AllocError, Global};
+use std::marker::Model;
+use std::mem;
 
 /// A list of processes, and the text of their names.
 #[derive(Drop)]
-pub(crate) struct LastNames {
+pub(crate) struct LastNames<'a> {
+    pub(crate) graph: &'a WaitGraph,
     list: Vec<u32>,
     /// Each name after a space.
-    pub(crate) text: String,
+    text: String,
 }
 
-impl LastNames {
-    ghost use Rattle.std.specs.Prelude.{◌≡◌};
-    ghost use Rattle.cmh_graph.specs.Graph.{Graph};
-    ghost use Rattle.cmh_text.specs.Names.{AreNamesOf};
+impl<'a> Model for LastNames<'a> {
+    ghost use Rattle.cmh_text.specs.Processes.{Processes};
 
+    ghost Value = { Processes };
+
+    ghost use Rattle.cmh_text.specs.Names.{AreNamed};
+
+    ghost view = { λ l. record { graph = l.graph.now; list = l.list.items } };
+
+    ghost invariant = { AreNamed };
+}
+
+impl<'a> LastNames<'a> {
     /// The names of no processes.
-    pub(crate) fn new(alloc: Global) -> LastNames
-        ensures { (g : Graph) → AreNamesOf g result }
+    pub(crate) fn new(alloc: Global, graph: &'a WaitGraph) -> LastNames<'a>
+        ensures { result ≡ record { graph = graph.now; list = [] } }
     {
         LastNames {
+            graph,
             list: Vec::new(alloc),
             text: String::new(alloc),
         }
     }
 
-    /// Goes over to another list. Names that both lists end with stay in the text.
-    pub(crate) fn renew(
-        &mut self,
-        alloc: Global,
-        graph: &WaitGraph,
-        list: &[u32],
-    ) -> Result<(), AllocError>
-        requires known { AreNamesOf graph.now self.old }
-        requires within { All (λ p. p < process_count graph.now) list.now }
-        ensures known { OnOk result (AreNamesOf graph.now self.new) }
-        ensures text { OnOk result (string_bytes self.new.text ≡ spaced_words (names_of graph.now list.now)) }
+    /// Goes over to another list. Names that both lists end with stay in the text. Where memory is refused, no names are
+    /// left.
+    pub(crate) fn renew(&mut self, alloc: Global, list: &[u32]) -> Result<(), AllocError>
+        requires { All (λ p. p < process_count self.old.graph) list.now }
+        ensures graph { self.new.graph ≡ self.old.graph }
+        ensures list { OnOk result (self.new.list ≡ list.now) }
     {
-        let kept = kept_count(&self.list, list);
+        let none = LastNames::new(alloc, self.graph);
+        let LastNames {
+            graph,
+            list: mut old,
+            mut text,
+        } = mem::replace(self, none);
+        let kept = kept_count(&old, list);
         let front = names_text(alloc, graph, &list[..list.len() - kept])?;
-        let cut = names_room(graph, &self.list[..self.list.len() - kept]);
-        self.text.replace_range(..cut, &front)?;
-        self.list.clear();
-        self.list.extend_from_slice(list)
+        let cut = names_room(graph, &old[..old.len() - kept]);
+        text.replace_range(..cut, &front)?;
+        old.clear();
+        old.extend_from_slice(list)?;
+        *self = LastNames {
+            graph,
+            list: old,
+            text,
+        };
+        Ok(())
+    }
+
+    /// The text of the names.
+    pub(crate) fn text(&self) -> &str
+        ensures { result.now ≡ spaced_words (names_of self.now.graph self.now.list) }
+    {
+        &self.text
     }
 }
 

@@ -2,7 +2,7 @@
 
 ghost use Rattle.std.specs.Prelude.{◌≡◌, length, IfOk, string_bytes};
 ghost use Rattle.cmh_graph.specs.Graph.{idle_list};
-ghost use Rattle.cmh_text.specs.Report.{line, counts_line, totals_line, deadlocked_count};
+ghost use Rattle.cmh_text.specs.Report.{line, counts_line, deadlocked_count};
 ghost use Rattle.cmh_text.specs.Summary.{AreSummariesOf};
 
 use crate::groups::Groups;
@@ -29,6 +29,7 @@ impl Outline {
     /// # Errors
     ///
     /// Where memory is refused.
+    #[tactic(auto, using(crate::proofs::Counts::active_and_idle))]
     pub fn new(
         alloc: Global,
         graph: &WaitGraph,
@@ -41,7 +42,8 @@ impl Outline {
         requires deadlocked { deadlocked ≡ deadlocked_count graph.now }
         ensures { IfOk result (IsOutlineOf graph.now) }
     {
-        let totals = totals(alloc, graph, idle, deadlocked)?;
+        let all = graph.len();
+        let totals = counts(alloc, all, all - idle, idle, deadlocked)?;
         let groups = Groups::of_summaries(alloc, graph, summaries)?;
         Ok(Outline {
             totals,
@@ -70,20 +72,4 @@ fn counts(
         string_bytes text ≡ line (counts_line all active idle deadlocked)) }
 {
     format!(in alloc; "processes {all} active {active} idle {idle} deadlocked {deadlocked}\n")
-}
-
-/// The first line, with these numbers of idle and of deadlocked processes.
-#[tactic(auto, using(crate::proofs::Counts::active_and_idle))]
-fn totals(
-    alloc: Global,
-    graph: &WaitGraph,
-    idle: u32,
-    deadlocked: u32,
-) -> Result<String, AllocError>
-    requires idle { idle ≡ length (idle_list graph.now) }
-    requires deadlocked { deadlocked ≡ deadlocked_count graph.now }
-    ensures { IfOk result (λ text. string_bytes text ≡ line (totals_line graph.now)) }
-{
-    let all = graph.len();
-    counts(alloc, all, all - idle, idle, deadlocked)
 }

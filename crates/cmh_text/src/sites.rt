@@ -1,17 +1,90 @@
 //! How many sites processes are on.
 
-ghost use Rattle.std.specs.Prelude.{◌≡◌, ◌<◌, map, nat_eq, All, IfOk};
-ghost use Rattle.std.specs.HashSet.{IsFromIterResult};
-ghost use Rattle.cmh_graph.specs.Graph.{process_count, site_of};
+ghost use Rattle.std.specs.Prelude.{◌≡◌, ◌<◌, All, IfOk};
+ghost use Rattle.cmh_graph.specs.Graph.{process_count};
 ghost use Rattle.cmh_text.specs.Report.{site_count};
 ghost use Rattle.cmh_text.specs.Sites.{AreSitesBelow};
 
 use cmh_graph::{MAX_PROCESSES, WaitGraph};
 use std::alloc::{AllocError, Global};
 use std::collections::HashSet;
+use std::marker::Model;
+
+/// The sites of a wait graph.
+#[derive(Drop)]
+pub(crate) struct Sites<'a> {
+    graph: &'a WaitGraph,
+    /// One more than the greatest site.
+    bound: usize,
+}
+
+impl<'a> Model for Sites<'a> {
+    ghost use Rattle.cmh_graph.specs.Graph.{Graph};
+    ghost use Rattle.cmh_text.specs.Sites.{AreSitesBelow};
+
+    ghost Value = { Graph };
+
+    ghost view = { λ s. s.graph.now };
+
+    ghost invariant = { λ s. AreSitesBelow s.graph.now s.bound };
+}
+
+impl<'a> Sites<'a> {
+    /// Looks at the site of each process.
+    pub(crate) fn new(graph: &'a WaitGraph) -> Sites<'a>
+        ensures { result ≡ graph.now }
+    {
+        Sites {
+            graph,
+            bound: site_bound(graph),
+        }
+    }
+
+    /// How many different sites the processes are on.
+    pub(crate) fn count(&self, alloc: Global, list: &[u32]) -> Result<usize, AllocError>
+        requires { All (λ p. p < process_count self.now) list.now }
+        ensures { IfOk result (λ count. count ≡ site_count self.now list.now) }
+    {
+        if self.bound <= MAX_PROCESSES {
+            self.count_marked(alloc, list)
+        } else {
+            self.count_hashed(alloc, list)
+        }
+    }
+
+    /// The same by a mark for each site below the bound, which costs least. Where all of them are marked it stops.
+    fn count_marked(&self, alloc: Global, list: &[u32]) -> Result<usize, AllocError>
+        requires { All (λ p. p < process_count self.now) list.now }
+        ensures { IfOk result (λ count. count ≡ site_count self.now list.now) }
+    {
+        let mut seen = vec![in alloc; false; self.bound]?;
+        let mut sites = Vec::new(alloc);
+        for p in list {
+            if sites.len() == self.bound {
+                return Ok(self.bound);
+            }
+            let site = self.graph.site(*p);
+            if !seen[site as usize] {
+                seen[site as usize] = true;
+                sites.push(site)?;
+            }
+        }
+        Ok(sites.len())
+    }
+
+    /// The same by a set, where the numbers of sites are great.
+    fn count_hashed(&self, alloc: Global, list: &[u32]) -> Result<usize, AllocError>
+        requires { All (λ p. p < process_count self.now) list.now }
+        ensures { IfOk result (λ count. count ≡ site_count self.now list.now) }
+    {
+        let graph = self.graph;
+        let sites: HashSet<u32> = list.iter().map(|p| graph.site(*p)).collect(alloc)?;
+        Ok(sites.len())
+    }
+}
 
 /// One more than the greatest site of all processes.
-pub(crate) fn site_bound(graph: &WaitGraph) -> usize
+fn site_bound(graph: &WaitGraph) -> usize
     ensures { AreSitesBelow graph.now result }
 {
     let mut bound = 0usize;
@@ -19,64 +92,4 @@ pub(crate) fn site_bound(graph: &WaitGraph) -> usize
         bound = bound.max(graph.site(p) as usize + 1);
     }
     bound
-}
-
-/// How many different sites the processes are on, where all sites are below the bound.
-pub(crate) fn count_sites(
-    alloc: Global,
-    graph: &WaitGraph,
-    bound: usize,
-    list: &[u32],
-) -> Result<usize, AllocError>
-    requires within { All (λ p. p < process_count graph.now) list.now }
-    requires below { AreSitesBelow graph.now bound }
-    ensures { IfOk result (λ count. count ≡ site_count graph.now list.now) }
-{
-    if bound <= MAX_PROCESSES {
-        count_marked(alloc, graph, bound, list)
-    } else {
-        count_hashed(alloc, graph, list)
-    }
-}
-
-/// The same by a mark for each site below the bound, which costs least. Where all of them are marked it stops.
-fn count_marked(
-    alloc: Global,
-    graph: &WaitGraph,
-    bound: usize,
-    list: &[u32],
-) -> Result<usize, AllocError>
-    requires within { All (λ p. p < process_count graph.now) list.now }
-    requires below { AreSitesBelow graph.now bound }
-    ensures { IfOk result (λ count. count ≡ site_count graph.now list.now) }
-{
-    let mut seen = vec![in alloc; false; bound]?;
-    let mut sites = Vec::new(alloc);
-    for p in list {
-        if sites.len() == bound {
-            return Ok(bound);
-        }
-        let site = graph.site(*p);
-        if !seen[site as usize] {
-            seen[site as usize] = true;
-            sites.push(site)?;
-        }
-    }
-    Ok(sites.len())
-}
-
-/// The same by a set, where the numbers of sites are great.
-fn count_hashed(alloc: Global, graph: &WaitGraph, list: &[u32]) -> Result<usize, AllocError>
-    requires { All (λ p. p < process_count graph.now) list.now }
-    ensures { IfOk result (λ count. count ≡ site_count graph.now list.now) }
-{
-    Ok(sites_of(alloc, graph, list)?.len())
-}
-
-/// The sites at which the listed processes are, each once.
-fn sites_of(alloc: Global, graph: &WaitGraph, list: &[u32]) -> Result<HashSet<u32>, AllocError>
-    requires { All (λ p. p < process_count graph.now) list.now }
-    ensures { IfOk result (IsFromIterResult nat_eq (map (site_of graph.now) list.now)) }
-{
-    list.iter().map(|p| graph.site(*p)).collect(alloc)
 }

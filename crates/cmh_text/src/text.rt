@@ -6,8 +6,7 @@ ghost use Rattle.cmh_text.specs.Report.{report_text};
 
 use crate::outline::Outline;
 use crate::parallel::{group_lines, process_lines};
-use crate::shared_reach::SharedReach;
-use cmh_graph::{WaitGraph, out_of_memory};
+use cmh_graph::WaitGraph;
 use cmh_stream::Pieces;
 use std::alloc::{AllocError, Global};
 use std::thread::Threads;
@@ -34,12 +33,8 @@ pub fn text_of<R: Threads + Sync>(
     requires { IsOutlineOf graph.now outline.now }
     ensures { IfOk result (λ text. text ≡ report_text graph.now) }
 {
-    let idle = graph
-        .idle_list(alloc)
-        .map_err(|fault| out_of_memory(fault))?;
-    let of_processes = process_lines(rt, alloc, graph, &outline.groups, &idle)?;
-    let shared = SharedReach::of_groups(alloc, graph, &outline.groups)?;
-    let of_groups = group_lines(rt, alloc, graph, &outline.groups, &shared)?;
+    let of_processes = process_lines(rt, alloc, graph, &outline.groups)?;
+    let of_groups = group_lines(rt, alloc, graph, &outline.groups)?;
     concat_lines(alloc, &outline.totals, of_processes, of_groups)
 }
 

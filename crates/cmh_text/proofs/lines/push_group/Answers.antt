@@ -1,14 +1,16 @@
 use Rattle.std.proofs.Common.{◌≡◌, ◌∙◌, ◌++◌, ◌∷◌, [], ap}
 use Rattle.std.specs.Prelude.{codes, decimal, string_bytes}
 use Rattle.cmh_text.specs.Report.{names_of, names_or_dash, spaced_words}
+use Rattle.cmh_text.specs.Processes.{Processes}
 use Rattle.cmh_text.proofs.LineLemmas.{group_pieces}
 use Rattle.cmh_text.proofs.lines.push_group.Goals as goal
 
 pub returns-clause-text : goal.returns-clause-text
 returns-clause-text c =
-    let g = c.args.graph.now in
+    let g = c.args.last.now.graph in
+    let shown = ap (λ (w : Processes). w.graph) c.last.view_is in
     let core = c.in_ok-push_names.ensures
-    ∙ ap (λ ps. string_bytes c.write.new.self ++ spaced_words (names_of g ps)) c.deref-2.ensures.value in
+    ∙ (λ i. string_bytes c.write.new.self ++ spaced_words (names_of (shown i) (c.deref-2.ensures.value i))) in
     let rest = c.in_ok-push_names_or_dash.ensures.text
     ∙ ap (λ ps. string_bytes c.push_str.new.self ++ spaced_words (names_or_dash g ps)) c.deref-3.ensures.value in
     let front = codes "group " ++ (decimal c.args.group.now.number ++ codes " |") in

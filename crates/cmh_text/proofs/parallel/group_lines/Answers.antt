@@ -1,26 +1,24 @@
-use Rattle.std.proofs.Common.{ℕ, ◌<◌, ◌∙◌, ap, arith, max, subst, sym}
-use Rattle.std.specs.Prelude.{All, IsTrue, flat_map}
+use Rattle.std.proofs.Common.{ℕ, ◌∙◌, ap, arith, max, subst, sym}
+use Rattle.std.specs.Prelude.{All, Contains, flat_map}
 use Rattle.std.specs.declared.alloc.AllocError.{AllocError}
+use Rattle.std.proofs.lemmas.List.Elements.{All-contains_itself}
 use Rattle.std.proofs.lemmas.List.Folds.{flat_map-map}
 use Rattle.rayon.specs.Lists.{chunks_of}
 use Rattle.rayon.proofs.ListFacts.{IfOk-then}
 use Rattle.cmh_graph.specs.Core.{leaders}
-use Rattle.cmh_graph.specs.Graph.{process_count}
-use Rattle.cmh_text.specs.Group.{is_led_by}
-use Rattle.cmh_text.specs.Summary.{leaders_in}
 use Rattle.cmh_text.specs.Report.{line, group_line}
-use Rattle.cmh_text.proofs.JoinedTexts.{all_pieces, collected, leaders_lead, pieces_joined}
+use Rattle.cmh_text.proofs.JoinedTexts.{all_pieces, collected, pieces_joined}
 use Rattle.cmh_text.proofs.parallel.group_lines.Goals as goal
 
 -- each piece has leaders alone
 pub collect-requires-clause-ready : goal.collect-requires-clause-ready
 collect-requires-clause-ready g c κs within =
     let graph = c.args.graph.now in
-    let table = leaders_in c.args.groups.now.summaries.items in
     let list = c.as_slice.result.now in
-    let at : ℕ → Type 0 = λ p. (p < process_count graph) × IsTrue (is_led_by table p p) in
+    let at : ℕ → Type 0 = Contains (leaders graph) in
+    let same = c.as_slice.ensures.value ∙ c.requires.list in
     let pieces = all_pieces at (max c.group_chunk.result 1) list
-    (leaders_lead graph table list c.requires.groups.leaders (c.as_slice.ensures.value ∙ c.requires.groups.list)) in
+    (subst (λ xs. All (Contains xs) list) same (All-contains_itself list)) in
     rw (
       c.map.ensures.base,
       c.map.ensures.f,
@@ -28,7 +26,7 @@ collect-requires-clause-ready g c κs within =
       c.par_chunks.ensures.slice,
       c.par_chunks.ensures.size,
     ) (λ k d lt x same.
-    ((c.requires.groups, c.requires.shared, subst (All at) (sym same) (pieces k d lt)), λ y p. tt))
+    ((c.requires, c.in_ok-greatest.ensures, subst (All at) (sym same) (pieces k d lt)), λ y p. tt))
 
 pub returns : goal.returns
 returns g c =
@@ -50,5 +48,5 @@ returns g c =
     chain.0 h.0 c.in_ok-collect.field-0 chain.1 chain.2 h.2)
     (λ texts same.
     pieces_joined text list size texts.items (omega arith) same
-    ∙ ap (flat_map text) (c.as_slice.ensures.value ∙ c.requires.groups.list)
+    ∙ ap (flat_map text) (c.as_slice.ensures.value ∙ c.requires.list)
     ∙ sym (flat_map-map line (group_line graph) (leaders graph)))

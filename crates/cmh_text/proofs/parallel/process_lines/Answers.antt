@@ -1,4 +1,4 @@
-use Rattle.std.proofs.Common.{ℕ, ◌∙◌, ap, arith, max, subst, sym}
+use Rattle.std.proofs.Common.{◌≡◌, ℕ, ◌∙◌, ap, arith, max, rules, subst, sym}
 use Rattle.std.specs.Prelude.{All, IsTrue, flat_map}
 use Rattle.std.specs.declared.alloc.AllocError.{AllocError}
 use Rattle.std.proofs.lemmas.List.Folds.{flat_map-map}
@@ -14,8 +14,10 @@ pub collect-requires-clause-ready : goal.collect-requires-clause-ready
 collect-requires-clause-ready g c κs within =
     let graph = c.args.graph.now in
     let at : ℕ → Type 0 = λ p. IsTrue (is_idle graph p) in
-    let pieces = all_pieces at (max c.process_chunk.result 1) c.args.idle.now
-    (idle_each graph c.args.idle.now c.requires.idle) in
+    let list = c.as_slice.result.now in
+    let idle : c.in_ok-idle.idle.items ≡ idle_list graph = search rules in
+    let pieces = all_pieces at (max c.process_chunk.result 1) list
+    (idle_each graph list (c.as_slice.ensures.value ∙ idle)) in
     rw (
       c.map.ensures.base,
       c.map.ensures.f,
@@ -23,14 +25,15 @@ collect-requires-clause-ready g c κs within =
       c.par_chunks.ensures.slice,
       c.par_chunks.ensures.size,
     ) (λ k d lt x same.
-    ((c.requires.groups, subst (All at) (sym same) (pieces k d lt)), λ y p. tt))
+    ((c.requires, subst (All at) (sym same) (pieces k d lt)), λ y p. tt))
 
 pub returns : goal.returns
 returns g c =
     let graph = c.args.graph.now in
     let text = λ (p : ℕ). line (process_line graph p) in
     let size = max c.process_chunk.result 1 in
-    let list = c.args.idle.now in
+    let list = c.as_slice.result.now in
+    let idle : c.in_ok-idle.idle.items ≡ idle_list graph = search rules in
     let h = c.in_ok-collect.ensures in
     let chain =
     rw (
@@ -45,5 +48,5 @@ returns g c =
     chain.0 h.0 c.in_ok-collect.field-0 chain.1 chain.2 h.2)
     (λ texts same.
     pieces_joined text list size texts.items (omega arith) same
-    ∙ ap (flat_map text) c.requires.idle
+    ∙ ap (flat_map text) (c.as_slice.ensures.value ∙ idle)
     ∙ sym (flat_map-map line (process_line graph) (idle_list graph)))

@@ -5,7 +5,7 @@ use Rattle.rayon.proofs.ListFacts.{IfOk-then}
 
 pub returns : goal.returns
 returns g c =
-    let first = c.deref-2.ensures ∙ c.requires.totals in
+    let first = c.deref.ensures ∙ c.requires.totals in
     let processes = c.in_ok-of_processes in
     let groups = c.in_ok-of_groups in
     IfOk-then c.concat_lines.result _ _ c.concat_lines.ensures (λ text is.
