@@ -9,3 +9,4 @@ pub mod LentSeats
 pub mod RecordLemmas
 pub mod RisingLists
 pub mod Rows
+pub mod WorkerLemmas

@@ -47,6 +47,15 @@ pub record IsSound {L : Type 0} (listed : L → List ℕ) (g : Graph) (choices :
   pub run : IfSome f.run (IsRunFor g choices f.initiator f.verdict)
   pub stands : fold_at seen f.initiator ≡ Some f.verdict
 
+-- what a seat that knew v before and w after has found of p: it is sound, and a posting that the seat added is that of
+-- its run
+pub record IsFound {L : Type 0} (listed : L → List ℕ) (g : Graph) (choices : List ℕ) (p : ℕ) (v w : View)
+    (f : Finding Run L) : Type 0 where
+  pub initiator : f.initiator ≡ p
+  pub sees : StartsWith w.seen v.seen
+  pub sound : IsSound listed g choices w.seen f
+  pub mine : AddsOneOf v w f.run
+
 -- the posting is of the run of something that was found
 abbrev pub IsExplained : {L : Type 0} → List Row → List (Finding Run L) → List Row → Type 0
 IsExplained {L = L} seen found posting = (f : Finding Run L) × Contains found f

@@ -8,4 +8,5 @@ pub mod Shape
 pub mod Finding
 pub mod Leaders
 pub mod Numbering
+pub mod Worker
 pub mod Working
