@@ -99,12 +99,10 @@ impl Proc {
         ensures proc { self.new ≡ proc_engaged number from size }
         ensures action { result ≡ engage_action from size }
     {
-        *self = Proc {
-            latest: number,
-            engager: Some(from),
-            num: size,
-            wait: true,
-        };
+        self.latest = number;
+        self.engager = Some(from);
+        self.num = size;
+        self.wait = true;
         if size == 0 {
             Action::ReplyTo(from)
         } else {

@@ -1,4 +1,4 @@
--- The names that most proofs cite, passed on from one place. Declares nothing.
+-- The names that most proofs cite. All of proofs takes them from here. Declares nothing.
 pub use Rattle.std.proofs.Common.{◌≡◌, ℕ, ◌<◌, true, false, cond, List, [], ◌∷◌, Some, None, Bool, not, ◌&&◌, ◌++◌, length, get_or, slice_get, Option, refl, sym, ◌∙◌, ap, subst, ◌⊎◌, inr, ⊎_elim, ◌+◌, ◌||◌, eqb, map, remove, replicate, inl, append-nil, zero, suc, ◌-◌, ◌≤◌, ltb, slice_set, Contains, is_none, arith, sum_by, mul-le-mul_left, ◌*◌, ◌%◌, take, length-append, ◌≢◌, ◌^◌, rules}
 pub use Rattle.std.proofs.Math.Bool.{and-false}
 pub use Rattle.std.proofs.lemmas.Bool.{true≢false, cases_Bool, eqb-true, eq-eqb, cases_eq, and_parts, and_from, eqb-false, ne_eqb, lt-ltb, ltb-true, le-ltb}

@@ -1,6 +1,5 @@
 -- What a query does: hints are asked about a receiver that is about to engage, and no other process is changed.
-use Rattle.cmh_run.proofs.Common.{by_test, ltb-true, ne_eqb, arith, append-nil, ap, eqb, Ending, Nothing, ◌≡◌, ℕ, [], true, false, not, ◌&&◌, cond, Option, Some, None, refl, sym, ◌∙◌, true≢false, and_parts, IfSome, IsTrue, set-get_or, Verdict, Deadlocked, Free, Kind, Query, Reply, Message, Graph, is_awake, engages, new_proc, repeat_action, Config, after_hint, after_message, asks_hint, proc_at, query, IsVerdict, HintIsFit}
-use Rattle.std.proofs.Math.Bool.{and-false}
+use Rattle.cmh_run.proofs.Common.{by_test, ltb-true, ne_eqb, arith, append-nil, ap, eqb, Ending, Nothing, ◌≡◌, ℕ, [], true, false, not, ◌&&◌, cond, Option, Some, None, refl, sym, ◌∙◌, true≢false, and_parts, IfSome, IsTrue, set-get_or, Verdict, Deadlocked, Free, Kind, Query, Reply, Message, Graph, is_awake, engages, new_proc, repeat_action, Config, after_hint, after_message, asks_hint, proc_at, query, IsVerdict, HintIsFit, and-false}
 use Rattle.std.proofs.lemmas.Bool.{not-true}
 use Rattle.cmh_run.specs.Config.{after_action, after_reply}
 use Rattle.cmh_run.specs.Progress.{MayReceive}

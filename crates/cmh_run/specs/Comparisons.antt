@@ -1,4 +1,4 @@
--- What a comparison by hand cites, passed on from one place. Declares nothing.
+-- What a comparison by hand cites. All of src takes it from here. Declares nothing.
 pub use Rattle.std.specs.Cmp.Lexicographic.{pointwise}
 pub use Rattle.std.specs.Cmp.Rules.{comparing}
 pub use Rattle.std.specs.Ordering.{on, eq_of_both}

@@ -1,4 +1,4 @@
--- Words that many contracts of runs cite, passed on from one place. Declares nothing.
+-- Words that many contracts of runs cite. All of src takes them from here. Declares nothing.
 pub use Rattle.std.specs.List.Sorted.{IsStrictlyIncreasing}
 pub use Rattle.cmh_graph.specs.Build.{IsWellFormed}
 pub use Rattle.cmh_graph.specs.Graph.{Graph, process_count, is_idle, is_awake, dependency_count}

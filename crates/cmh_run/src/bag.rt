@@ -1,9 +1,8 @@
 //! The undelivered messages of a run, or of a caller that delivers them by itself.
 
 ghost use Rattle.std.specs.Prelude.{◌≡◌, ℕ, List, ◌<◌, ◌↔◌, ◌%◌, ◌++◌, [], ◌∷◌, Some, length, map, remove, slice_get, IsNone, IsSome, IfSome, IfNone, IfErr, IsTrue, OnOk, OnErr};
-ghost use Rattle.cmh_process.specs.declared.message.Message.{Message};
-ghost use Rattle.cmh_run.specs.Config.{query};
 ghost use Rattle.cmh_run.specs.Comparisons.{comparing, laws_of_message, of_message, pointwise, rules};
+ghost use Rattle.cmh_run.specs.Prelude.{Message, query};
 
 use crate::RunFault;
 use crate::send::Sender;
@@ -77,20 +76,89 @@ impl Bag {
         ensures ok { OnOk result (self.new ≡ self.old ++ message ∷ []) }
         ensures err { OnErr result (self.new ≡ self.old) }
     {
+        if self.messages.len() < self.messages.capacity() {
+            self.messages.push_back_reserved(message);
+            return Ok(());
+        }
+        let Message {
+            kind,
+            initiator,
+            number,
+            from,
+            to,
+        } = message;
+        self.add_growing(kind, initiator, number, from, to)
+    }
+
+    /// `add` to a bag without room. It stands apart, and takes the message in its parts, so that its callers needn't store
+    /// anything for it.
+    #[cold]
+    #[inline(never)]
+    fn add_growing(
+        &mut self,
+        kind: Kind,
+        initiator: u32,
+        number: u32,
+        from: u32,
+        to: u32,
+    ) -> Result<(), AllocError>
+        ensures ok { OnOk result (self.new ≡ self.old
+            ++ record {
+              kind = kind;
+              initiator = initiator;
+              number = number;
+              from = from;
+              to = to;
+            } ∷ []) }
+        ensures err { OnErr result (self.new ≡ self.old) }
+    {
+        let message = Message {
+            kind,
+            initiator,
+            number,
+            from,
+            to,
+        };
         self.messages.push_back(message)?;
         Ok(())
     }
 
-    /// Adds the sender's query to each of these, in their order.
-    #[inline(never)]
+    /// Adds the sender's query to each of these, in their order. A lone one, as most processes send, goes in by itself: to
+    /// begin an extension takes longer than that.
+    #[inline(always)]
     pub(crate) fn add_queries(
         &mut self,
         sender: Sender,
         receivers: &[u32],
     ) -> Result<(), AllocError>
         ensures ok { OnOk result (self.new ≡ self.old
-            ++ map (λ (r : ℕ). query sender.initiator sender.number sender.process r) receivers.now) }
+            ++ map (λ (r : ℕ). query sender.initiator sender.number sender.process r)
+            receivers.now) }
     {
+        match receivers {
+            [receiver] => self.add(sender.message(Kind::Query, *receiver)),
+            _ => self.extend(sender.initiator, sender.number, sender.process, receivers),
+        }
+    }
+
+    /// `add_queries` of any number, by an extension of the queue. It takes the sender in its parts, as `add_growing` does
+    /// the message.
+    #[inline(never)]
+    fn extend(
+        &mut self,
+        initiator: u32,
+        number: u32,
+        process: u32,
+        receivers: &[u32],
+    ) -> Result<(), AllocError>
+        ensures ok { OnOk result (self.new ≡ self.old
+            ++ map (λ (r : ℕ). query initiator number process r) receivers.now) }
+    {
+        let sender = Sender {
+            initiator,
+            number,
+            process,
+        };
         if self.messages.len() >= FEW && self.messages.capacity() < MAX_DEPENDENCIES {
             self.messages.reserve(MAX_DEPENDENCIES)?;
         }

@@ -1,8 +1,8 @@
 //! What may be asked about a process just before it engages.
 
 ghost use Rattle.std.specs.Prelude.{◌≡◌, ◌<◌, ◌↔◌, ⊤, None, IfSome};
-ghost use Rattle.cmh_graph.specs.Graph.{Graph, process_count};
 ghost use Rattle.cmh_graph.specs.Verdict.{IsVerdict};
+ghost use Rattle.cmh_run.specs.Prelude.{Graph, process_count};
 
 use cmh_graph::Verdict;
 

@@ -29,8 +29,8 @@ pub fn law_runs_are_steps()
 /// A message numbered below its receiver's `latest` is taken, and nothing else changes: no process changes, nothing is
 /// sent, none engages, and the run hasn't ended. No hint is asked about it.
 pub fn law_stale()
-    ensures untouched { (g : Graph) (i : ℕ) (c : Config) (x : ℕ) (m : Message) (hint : Option Verdict)
-        → c.ended ≡ None → m.number < (proc_at c.procs m.to).latest
+    ensures untouched { (g : Graph) (i : ℕ) (c : Config) (x : ℕ) (m : Message)
+        (hint : Option Verdict) → c.ended ≡ None → m.number < (proc_at c.procs m.to).latest
         → after_delivery g i c x m hint ≡ without_message c x }
     ensures unasked { (g : Graph) (c : Config) (m : Message)
         → m.number < (proc_at c.procs m.to).latest → IsFalse (asks_hint g c m) }

@@ -2,7 +2,8 @@
 
 ghost use Rattle.std.specs.Prelude.{◌≡◌, ◌<◌, ℕ, List, Some, length, map, slice_get, IsSome, IfOk};
 ghost use Rattle.cmh_graph.specs.ChosenPath.{chosen_path, distance_of};
-ghost use Rattle.cmh_graph.specs.Graph.{indices, process_count};
+ghost use Rattle.cmh_graph.specs.Graph.{indices};
+ghost use Rattle.cmh_run.specs.Prelude.{process_count};
 
 use crate::tape::Tape;
 use cmh_graph::WaitGraph;

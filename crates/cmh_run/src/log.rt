@@ -1,7 +1,7 @@
 //! Where the deliveries of a run are kept, if anywhere.
 
 ghost use Rattle.std.specs.Prelude.{◌≡◌, [], ◌∷◌, ◌++◌, List, OnOk};
-ghost use Rattle.cmh_run.specs.declared.delivery.Delivery.{Delivery};
+ghost use Rattle.cmh_run.specs.Prelude.{Delivery};
 
 use crate::Delivery;
 use crate::tape::Tape;

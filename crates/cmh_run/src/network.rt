@@ -1,6 +1,7 @@
 //! One configuration of an initiator's computations, and its steps.
 
 ghost use Rattle.std.specs.Prelude.{◌≡◌, ℕ, List, ◌<◌, ◌^◌, ◌%◌, ◌↔◌, [], None, Option, Some, length, slice_get, IfSome, IfNone, IsNone, IsFalse, IfOk, OnOk, if◌then◌else◌};
+ghost use Rattle.cmh_graph.specs.Graph.{dependents_of};
 ghost use Rattle.cmh_run.specs.Prelude.{after_action, after_engagement, after_hint, after_message, asks_hint, blank_config, Config, going_at_start, HintIsFit, is_awake, MayAct, MayReceive, MayStart, nothing_yet, process_count, query, start, without_message};
 
 use crate::procs::Procs;
@@ -18,7 +19,6 @@ pub(crate) struct Network {
     bag: Bag,
     procs: Procs,
     number: u32,
-    engaged: Vec<u32>,
     ended: Option<Ending>,
 }
 
@@ -27,9 +27,9 @@ impl Model for Network {
 
     ghost view = { λ n. record {
       bag = n.bag;
-      procs = n.procs;
+      procs = n.procs.procs;
       number = n.number;
-      engaged = n.engaged.items;
+      engaged = n.procs.engaged;
       ended = n.ended;
     } };
 }
@@ -43,7 +43,6 @@ impl Network {
             bag: Bag::new(alloc),
             procs: Procs::new(alloc, graph.len() as usize)?,
             number: 0,
-            engaged: Vec::new(alloc),
             ended: None,
         })
     }
@@ -67,8 +66,6 @@ impl Network {
         ensures ok { OnOk result (self.new ≡ start graph.now initiator self.old) }
     {
         law_built_graph(graph);
-        self.engaged.clear();
-        self.engaged.push(initiator)?;
         let dependents = graph.dependents(initiator);
         let action = self.procs.start(initiator, dependents.len() as u32)?;
         let sender = Sender {
@@ -199,9 +196,8 @@ impl Network {
         self.act(receiver, &[], action)
     }
 
-    /// The delivery of a query of `engager` that engages `process`, unless that is known to be free. It is a function of
-    /// its own, so that the loop of a run is short, and takes numbers, so that nothing is stored for it in that loop.
-    #[inline(never)]
+    /// The delivery of a query of `engager` that engages `process`, unless that is known to be free.
+    #[inline(always)]
     fn engage_by_hint(
         &mut self,
         graph: &WaitGraph,
@@ -215,15 +211,11 @@ impl Network {
         ensures ok { OnOk result (self.new ≡
             after_hint graph.now initiator self.old (query initiator number engager process) hint) }
     {
-        law_built_graph(graph);
-        let receiver = Sender {
-            initiator,
-            number,
-            process,
-        };
         match hint {
-            None => self.engage(receiver, engager, graph.dependents(process)),
-            Some(Verdict::Deadlocked) => self.engage(receiver, engager, &[]),
+            None => self.engage(graph, initiator, number, process, engager),
+            Some(Verdict::Deadlocked) => {
+                self.engage_with_nothing(initiator, number, process, engager)
+            }
             Some(Verdict::Free) => {
                 self.ended = Some(Ending::CutFree(process));
                 Ok(())
@@ -231,27 +223,92 @@ impl Network {
         }
     }
 
-    /// A query of `engager` engages its receiver, which asks these.
+    /// A query of `engager` engages `process`. It is a function of its own, so that the loop of a run is short, and takes
+    /// numbers, so that nothing is stored for it in that loop. What it calls, it calls last.
+    #[inline(never)]
     fn engage(
         &mut self,
-        receiver: Sender,
+        graph: &WaitGraph,
+        initiator: u32,
+        number: u32,
+        process: u32,
         engager: u32,
-        dependents: &[u32],
     ) -> Result<(), AllocError>
-        requires within { receiver.process < length self.old.procs }
-        requires going { self.old.ended ≡ None }
-        requires few { length dependents.now < 2 ^ 32 }
-        ensures ok { OnOk result (self.new ≡ after_engagement receiver.initiator self.old
-            (query receiver.initiator receiver.number engager receiver.process) dependents.now) }
+        requires { MayAct graph.now self.old process }
+        ensures ok { OnOk result (self.new ≡ after_engagement initiator self.old
+            (query initiator number engager process) (dependents_of graph.now process)) }
     {
-        let size = dependents.len() as u32;
-        let action = self
-            .procs
-            .engage(receiver.process, receiver.number, engager, size)?;
-        if receiver.number == self.number {
-            self.engaged.push(receiver.process)?;
+        if number != self.number || self.procs.is_full() {
+            return self.engage_apart(graph, initiator, number, process, engager);
         }
-        self.act(receiver, dependents, action)
+        law_built_graph(graph);
+        let asked = graph.dependents(process);
+        self.engage_asking(initiator, number, process, engager, asked)
+    }
+
+    /// `engage` where the list of those that are engaged has to grow, or the computation is an older one. It stands apart,
+    /// since for a call in its midst `engage` would save registers each time.
+    #[cold]
+    #[inline(never)]
+    fn engage_apart(
+        &mut self,
+        graph: &WaitGraph,
+        initiator: u32,
+        number: u32,
+        process: u32,
+        engager: u32,
+    ) -> Result<(), AllocError>
+        requires { MayAct graph.now self.old process }
+        ensures ok { OnOk result (self.new ≡ after_engagement initiator self.old
+            (query initiator number engager process) (dependents_of graph.now process)) }
+    {
+        law_built_graph(graph);
+        let asked = graph.dependents(process);
+        self.engage_asking(initiator, number, process, engager, asked)
+    }
+
+    /// A query of `engager` engages `process`, which asks nobody, since it is known to be deadlocked.
+    #[inline(never)]
+    fn engage_with_nothing(
+        &mut self,
+        initiator: u32,
+        number: u32,
+        process: u32,
+        engager: u32,
+    ) -> Result<(), AllocError>
+        requires within { process < length self.old.procs }
+        requires going { self.old.ended ≡ None }
+        ensures ok { OnOk result (self.new ≡ after_engagement initiator self.old
+            (query initiator number engager process) []) }
+    {
+        self.engage_asking(initiator, number, process, engager, &[])
+    }
+
+    /// A query of `engager` engages `process`, which asks these.
+    #[inline(always)]
+    fn engage_asking(
+        &mut self,
+        initiator: u32,
+        number: u32,
+        process: u32,
+        engager: u32,
+        asked: &[u32],
+    ) -> Result<(), AllocError>
+        requires within { process < length self.old.procs }
+        requires going { self.old.ended ≡ None }
+        requires few { length asked.now < 2 ^ 32 }
+        ensures ok { OnOk result (self.new ≡ after_engagement initiator self.old
+            (query initiator number engager process) asked.now) }
+    {
+        let size = asked.len() as u32;
+        let is_last = number == self.number;
+        let action = self.procs.engage(process, number, engager, size, is_last)?;
+        let receiver = Sender {
+            initiator,
+            number,
+            process,
+        };
+        self.act(receiver, asked, action)
     }
 
     /// A process sends, ends the run, or does nothing.
@@ -259,7 +316,8 @@ impl Network {
     fn act(&mut self, sender: Sender, dependents: &[u32], action: Action) -> Result<(), AllocError>
         requires { self.old.ended ≡ None }
         ensures ok { OnOk result (self.new ≡
-            after_action sender.initiator self.old sender.number sender.process dependents.now action) }
+            after_action sender.initiator self.old sender.number sender.process dependents.now
+            action) }
     {
         if let Action::Declare = action {
             self.ended = Some(Ending::Declared);
@@ -267,22 +325,14 @@ impl Network {
         sender.send(&mut self.bag, dependents, action)
     }
 
-    /// The engaged processes. From then on none is engaged.
-    pub(crate) fn take_engaged(&mut self, alloc: Global) -> Vec<u32>
+    /// Makes the network as at first, in time linear in the processes that took part, and returns those that were engaged.
+    pub(crate) fn clear(&mut self, alloc: Global) -> Vec<u32>
         ensures engaged { result.items ≡ self.old.engaged }
-        ensures procs { self.new.procs ≡ self.old.procs }
-    {
-        std::mem::replace(&mut self.engaged, Vec::new(alloc))
-    }
-
-    /// Makes the network as at first, in time linear in the processes that took part.
-    pub(crate) fn clear(&mut self)
-        ensures { self.new ≡ blank_config (length self.old.procs) }
+        ensures cleared { self.new ≡ blank_config (length self.old.procs) }
     {
         self.bag.clear();
-        self.procs.clear();
         self.number = 0;
-        self.engaged.clear();
         self.ended = None;
+        self.procs.clear(alloc)
     }
 }

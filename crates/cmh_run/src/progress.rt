@@ -158,8 +158,7 @@ impl<'a, L: Log> Progress<'a, L> {
     {
         let mut network = self.network;
         let ending = network.ending().unwrap_or(Ending::AtRest);
-        let engaged = network.take_engaged(alloc);
-        network.clear();
+        let engaged = network.clear(alloc);
         let log = RunLog {
             initiator: self.initiator,
             log: self.log,

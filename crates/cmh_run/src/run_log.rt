@@ -2,7 +2,8 @@
 
 ghost use Rattle.std.specs.Prelude.{◌≡◌, ◌==◌};
 ghost use Rattle.cmh_run.specs.Comparisons.{comparing, eq_of_both, laws_of_delivery, laws_of_ending, of_delivery, of_ending, on, pointwise, rules};
-ghost use Rattle.cmh_run.specs.Run.{Run, verdict_of};
+ghost use Rattle.cmh_run.specs.Prelude.{Run};
+ghost use Rattle.cmh_run.specs.Run.{verdict_of};
 
 use crate::{Delivery, Ending, Log, ProcessList};
 use cmh_graph::Verdict;

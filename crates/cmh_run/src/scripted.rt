@@ -1,12 +1,12 @@
 //! Hints that are written down before the run, each with the number of the ask that it answers.
 
-ghost use Rattle.std.specs.Prelude.{◌==◌, ◌≡◌, ◌⊎◌, ◌<◌, [], None, IfOk, IfErr, IfSome, nat_le, not, position, refl, ◌+◌, nat_lt, if◌then◌else◌, ℕ};
-ghost use Rattle.cmh_graph.specs.Graph.{Graph, process_count};
+ghost use Rattle.std.specs.Prelude.{◌==◌, ◌≡◌, ◌⊎◌, ◌<◌, ◌^◌, ◌-◌, [], None, IfOk, IfErr, IfSome, nat_le, not, position, refl, ◌+◌, nat_lt, if◌then◌else◌, ℕ};
 ghost use Rattle.cmh_graph.specs.Verdict.{IsVerdict};
-ghost use Rattle.cmh_run.specs.Comparisons.{comparing, eq_of_both, laws_of_verdict, of_verdict, on, pointwise, rules};
-ghost use Rattle.cmh_run.specs.Script.{Script, AreTrueOf, IsLineOutOfRange, IsFirstScriptFault, is_listed as is_listed_lem, answer_at};
+ghost use Rattle.cmh_run.specs.Script.{Script, AreTrueOf, IsLineOutOfRange, IsFirstScriptFault, is_listed, answer_at};
 ghost use Rattle.cmh_run.specs.ScriptProofs.{scripts_keep_graphs, scripts_keep_silent};
 ghost use Rattle.std.proofs.Common.{◌∙◌};
+ghost use Rattle.cmh_run.specs.Comparisons.{comparing, eq_of_both, laws_of_verdict, of_verdict, on, pointwise, rules};
+ghost use Rattle.cmh_run.specs.Prelude.{Graph, process_count};
 
 use crate::truth::truth_of;
 use crate::{Hints, ScriptFault};
@@ -63,9 +63,10 @@ impl Hints for Scripted {
 
     fn hint(&mut self, p: u32) -> Option<Verdict>
         ensures answer { result
-            ≡ (if nat_lt self.old.asked 4294967295 then answer_at self.old.lines self.old.asked p else None) }
+            ≡ (if nat_lt self.old.asked (2 ^ 32 - 1)
+            then answer_at self.old.lines self.old.asked p else None) }
         ensures asked { self.new ≡ record self.old {
-          asked = if nat_lt self.old.asked 4294967295 then self.old.asked + 1 else self.old.asked;
+          asked = if nat_lt self.old.asked (2 ^ 32 - 1) then self.old.asked + 1 else self.old.asked;
         } }
         ensures true_verdict { (g : Graph) → AreTrueOf g self.old.lines → p < process_count g
             → IfSome result (λ v. IsVerdict g p v) }
@@ -125,14 +126,14 @@ fn first_out_of_range(count: u32, lines: &[(u32, u32, Verdict)]) -> Option<usize
 
 /// The first line with a verdict other than that of its process. `truth` has the verdicts of all processes.
 fn first_difference(truth: &[Verdict], lines: &[(u32, u32, Verdict)]) -> Option<usize>
-    ensures { result ≡ position (λ line. not (is_listed_lem truth.now line)) lines.now }
+    ensures { result ≡ position (λ line. not (is_listed truth.now line)) lines.now }
 {
     lines.iter().position(|line| !is_listed(truth, *line))
 }
 
 /// Whether the list has the line's verdict at the line's process.
 fn is_listed(truth: &[Verdict], line: (u32, u32, Verdict)) -> bool
-    ensures { result ≡ is_listed_lem truth.now line }
+    ensures { result ≡ is_listed truth.now line }
 {
     match truth.get(line.1 as usize) {
         Some(verdict) => *verdict == line.2,

@@ -1,7 +1,7 @@
 //! The verdicts by which hints are checked.
 
 ghost use Rattle.std.specs.Prelude.{◌≡◌, IfOk};
-ghost use Rattle.cmh_graph.specs.Verdict.{verdicts};
+ghost use Rattle.cmh_run.specs.Prelude.{verdicts};
 
 use cmh_graph::{GraphFault, Verdict, WaitGraph};
 use std::alloc::{AllocError, Global};

@@ -3,8 +3,8 @@
 //! It is an ordered set, not a hashed one: logs come from anywhere, and could be made to collide.
 
 ghost use Rattle.std.specs.Prelude.{◌≡◌, ◌↔◌, false, not, ◌&&◌, ◌||◌, IsTrue, OnOk};
-ghost use Rattle.cmh_process.specs.declared.message.Message.{Message};
-ghost use Rattle.cmh_run.specs.CheckState.{UndeliveredState, goes_like, is_waiting};
+ghost use Rattle.cmh_run.specs.CheckState.{UndeliveredState};
+ghost use Rattle.cmh_run.specs.Prelude.{Message, goes_like, is_waiting};
 
 use cmh_process::{Kind, Message};
 use std::alloc::{AllocError, Global};

@@ -1,5 +1,5 @@
-use Rattle.cmh_run.proofs.Common.{◌≡◌, ◌↔◌, ℕ, ◌%◌, ◌<◌, List, [], ◌∷◌, ◌++◌, length, remove, slice_get, Option, Some, None, refl, sym, ◌∙◌, arith, none-some, slice_get-get_or, Message}
-use Rattle.std.specs.Prelude.{IsNone, IsSome, IfNone, IfSome, option_to_list}
+use Rattle.cmh_run.proofs.Common.{◌≡◌, ◌↔◌, ℕ, ◌%◌, ◌<◌, List, [], ◌∷◌, ◌++◌, length, remove, slice_get, Option, Some, None, refl, sym, ◌∙◌, arith, none-some, slice_get-get_or, Message, IfSome}
+use Rattle.std.specs.Prelude.{IsNone, IsSome, IfNone, option_to_list}
 use Rattle.cmh_run.proofs.bag.Bag.take.Goals as goal
 use Rattle.cmh_run.proofs.bag.Bag.take.Goals.{then-choice-ne0, else-choice-ne0}
 
