@@ -1,7 +1,7 @@
 //! The statuses with which the program ends.
 
 ghost use Rattle.std.specs.Prelude.{◌≡◌};
-ghost use Rattle.cmh.specs.Status.{status_of as status_of_lem, status_of_list as status_of_list_lem, status_of_plan as status_of_plan_lem};
+ghost use Rattle.cmh.specs.Status.{status_of, status_of_list, status_of_plan};
 
 use cmh_command::ListFault;
 use cmh_dump::DumpFault;
@@ -26,7 +26,7 @@ pub(crate) const FAILED: u8 = 4;
 
 /// The status after a fault.
 pub(crate) fn status_of(fault: &AppFault) -> u8
-    ensures { result ≡ status_of_lem fault.now }
+    ensures { result ≡ status_of fault.now }
 {
     match fault {
         AppFault::Dump(DumpFault::Memory | DumpFault::ReadFault) => FAILED,
@@ -39,7 +39,7 @@ pub(crate) fn status_of(fault: &AppFault) -> u8
 
 /// The status after a fault of a list.
 pub(crate) fn status_of_list(fault: &ListFault) -> u8
-    ensures { result ≡ status_of_list_lem fault.now }
+    ensures { result ≡ status_of_list fault.now }
 {
     match fault {
         ListFault::Memory => FAILED,
@@ -49,7 +49,7 @@ pub(crate) fn status_of_list(fault: &ListFault) -> u8
 
 /// The status after a fault of a plan.
 pub(crate) fn status_of_plan(fault: &PlanFault) -> u8
-    ensures { result ≡ status_of_plan_lem fault.now }
+    ensures { result ≡ status_of_plan fault.now }
 {
     match fault {
         PlanFault::Memory => FAILED,

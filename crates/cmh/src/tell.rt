@@ -2,7 +2,7 @@
 //! of another fault.
 
 ghost use Rattle.std.specs.Prelude.{◌≡◌};
-ghost use Rattle.cmh.specs.Status.{status_of as status_of_lem, status_of_list as status_of_list_lem, status_of_plan as status_of_plan_lem};
+ghost use Rattle.cmh.specs.Status.{status_of, status_of_list, status_of_plan};
 
 use crate::status::{FAILED, MISUSED, status_of, status_of_list, status_of_plan};
 use cmh_command::ListFault;
@@ -58,7 +58,7 @@ pub(crate) fn refuse_args<E: Sink>(error: &io::Error, err: &mut E) -> u8 {
 
 /// Reports a fault, and answers the status.
 pub(crate) fn fail<E: Sink>(fault: &AppFault, err: &mut E) -> u8
-    ensures { result ≡ status_of_lem fault.now }
+    ensures { result ≡ status_of fault.now }
 {
     tell_fault(fault, err);
     status_of(fault)
@@ -66,7 +66,7 @@ pub(crate) fn fail<E: Sink>(fault: &AppFault, err: &mut E) -> u8
 
 /// Reports a fault of the list of this option, and answers the status.
 pub(crate) fn refuse_list<E: Sink>(option: &str, fault: &ListFault, err: &mut E) -> u8
-    ensures { result ≡ status_of_list_lem fault.now }
+    ensures { result ≡ status_of_list fault.now }
 {
     let mut line = Pieces { sink: err };
     let _ = write!(line, "cmh: {option}: {fault}\n");
@@ -75,7 +75,7 @@ pub(crate) fn refuse_list<E: Sink>(option: &str, fault: &ListFault, err: &mut E)
 
 /// Reports a fault of the plan, and answers the status.
 pub(crate) fn refuse_plan<E: Sink>(fault: &PlanFault, err: &mut E) -> u8
-    ensures { result ≡ status_of_plan_lem fault.now }
+    ensures { result ≡ status_of_plan fault.now }
 {
     let mut line = Pieces { sink: err };
     let _ = write!(line, "cmh: plan: {fault}\n");

@@ -2,7 +2,7 @@
 
 ghost use Rattle.std.specs.Prelude.{◌≡◌, ◌≢◌, ◌<◌, ◌^◌, ◌++◌, length, map, Ok, Err, IfOk, IfErr};
 ghost use Rattle.cmh_dump.specs.Dump.{in_order, name_faults, entry_faults, transit_faults, dump, dump_of_tree};
-ghost use Rattle.cmh_dump.specs.Entry.{sites as sites_lem, entries as entries_lem, names as names_lem};
+ghost use Rattle.cmh_dump.specs.Entry.{sites as tree_sites, entries as tree_entries, names as tree_names};
 ghost use Rattle.cmh_dump.specs.Read.{Builds, entry_view};
 ghost use Rattle.cmh_dump.specs.Texts.{texts};
 ghost use Rattle.serde_json.specs.View.{view};
@@ -31,9 +31,9 @@ fn read_linked(
 ) -> Result<GraphParts, DumpFault>
     requires few_sites { length (texts sites.now.keys) < 2 ^ 32 }
     requires few_names { length (texts names.now.keys) < 2 ^ 32 }
-    ensures { map entry_view entries.now ≡ entries_lem (view tree.now)
-        → texts sites.now.keys ≡ sites_lem (view tree.now)
-        → texts names.now.keys ≡ names_lem (view tree.now)
+    ensures { map entry_view entries.now ≡ tree_entries (view tree.now)
+        → texts sites.now.keys ≡ tree_sites (view tree.now)
+        → texts names.now.keys ≡ tree_names (view tree.now)
         → Builds (view tree.now) (entry_faults (view tree.now)
         ++ transit_faults (view tree.now)) result }
 {
@@ -51,8 +51,8 @@ fn read_named(
 ) -> Result<GraphParts, DumpFault>
     requires few_sites { length (texts sites.now.keys) < 2 ^ 32 }
     requires few_processes { length entries.now < 2 ^ 32 }
-    ensures { map entry_view entries.now ≡ entries_lem (view tree.now)
-        → texts sites.now.keys ≡ sites_lem (view tree.now)
+    ensures { map entry_view entries.now ≡ tree_entries (view tree.now)
+        → texts sites.now.keys ≡ tree_sites (view tree.now)
         → Builds (view tree.now) (name_faults (view tree.now)
         ++ (entry_faults (view tree.now) ++ transit_faults (view tree.now))) result }
 {

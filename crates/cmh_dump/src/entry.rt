@@ -4,8 +4,8 @@ ghost use Rattle.std.specs.Prelude.{◌≡◌, ◌&&◌, codes, map, option_map,
 ghost use Rattle.std.specs.List.{list_all};
 ghost use Rattle.serde_json.specs.View.{view};
 ghost use Rattle.cmh_graph.specs.declared.part.State.TheVariants.{Idle, Active};
-ghost use Rattle.cmh_dump.specs.Entry.{has_state as has_state_lem, is_process, has_dependents, entry_of as entry_of_lem};
-ghost use Rattle.cmh_dump.specs.Name.{is_name as is_name_lem};
+ghost use Rattle.cmh_dump.specs.Entry.{has_state, is_process, has_dependents, entry_of};
+ghost use Rattle.cmh_dump.specs.Name.{is_name};
 ghost use Rattle.cmh_dump.specs.Read.{entry_view};
 ghost use Rattle.cmh_dump.specs.Texts.{texts};
 ghost use Rattle.cmh_dump.specs.Tree.{text_of, elements_of, at_key};
@@ -26,15 +26,15 @@ pub(crate) struct Entry<'v> {
 }
 
 fn has_state(process: &Value, word: &str) -> bool
-    ensures { result ≡ has_state_lem word.now (view process.now) }
+    ensures { result ≡ has_state word.now (view process.now) }
 {
     text_at(process, "state") == word
 }
 
 /// The state, where it is one.
 fn state_of(process: &Value) -> Option<State>
-    ensures { result ≡ (if has_state_lem (codes "active") (view process.now) then Some Active
-        else (if has_state_lem (codes "idle") (view process.now) then Some Idle else None)) }
+    ensures { result ≡ (if has_state (codes "active") (view process.now) then Some Active
+        else (if has_state (codes "idle") (view process.now) then Some Idle else None)) }
 {
     if has_state(process, "active") {
         Some(State::Active)
@@ -62,8 +62,8 @@ fn dependents_of(process: &Value) -> Option<&[Value]>
 
 /// All that is written by name is a name.
 fn has_names(entry: &Entry<'_>) -> bool
-    ensures { result ≡ (is_name_lem entry.now.name.now && is_name_lem entry.now.site.now
-        && list_all (λ v. is_name_lem (text_of (view v))) entry.now.dependents.now) }
+    ensures { result ≡ (is_name entry.now.name.now && is_name entry.now.site.now
+        && list_all (λ v. is_name (text_of (view v))) entry.now.dependents.now) }
 {
     is_name(entry.name) && is_name(entry.site) && are_names_in(entry.dependents)
 }
@@ -71,7 +71,7 @@ fn has_names(entry: &Entry<'_>) -> bool
 /// The process as it is written, where it is written as it has to be, whatever the others are.
 pub(crate) fn entry_of(process: &Value) -> Option<Entry<'_>>
     ensures { option_map entry_view result ≡ (if is_process (view process.now)
-        then Some (entry_of_lem (view process.now)) else None) }
+        then Some (entry_of (view process.now)) else None) }
 {
     let members = process.as_object()?;
     let state = state_of(process)?;

@@ -5,12 +5,12 @@ ghost use Rattle.serde_json.specs.Data.{Data};
 ghost use Rattle.serde_json.specs.View.{view};
 ghost use Rattle.cmh_graph.specs.Build.{process_of};
 ghost use Rattle.cmh_graph.specs.Graph.{is_idle_state};
-ghost use Rattle.cmh_dump.specs.Dump.{is_top as is_top_lem, process_by, top_keys, top_faults, site_faults, process_faults, name_faults, entry_faults};
-ghost use Rattle.cmh_dump.specs.Entry.{is_version as is_version_lem, sites as sites_lem, entries as entries_lem, names as names_lem};
+ghost use Rattle.cmh_dump.specs.Dump.{is_top, process_by, top_keys, top_faults, site_faults, process_faults, name_faults, entry_faults};
+ghost use Rattle.cmh_dump.specs.Entry.{is_version, sites as tree_sites, entries as tree_entries, names as tree_names};
 ghost use Rattle.cmh_dump.specs.Name.{is_among};
 ghost use Rattle.cmh_dump.specs.Read.{Judges, entry_view, without_name};
 ghost use Rattle.cmh_dump.specs.Texts.{texts};
-ghost use Rattle.cmh_dump.specs.Tree.{has_keys as has_keys_lem};
+ghost use Rattle.cmh_dump.specs.Tree.{has_keys};
 
 use crate::entry::{Entry, entry_of, names_of};
 use crate::index::{IndexFault, index_of, is_known};
@@ -25,14 +25,14 @@ use serde_json::Value;
 use std::alloc::Global;
 
 fn is_version(tree: &Value, number: u64) -> bool
-    ensures { result ≡ is_version_lem number (view tree.now) }
+    ensures { result ≡ is_version number (view tree.now) }
 {
     is_number_at(tree, "version", number)
 }
 
 /// Version 2 has one key more.
 fn has_top_keys(tree: &Value) -> bool
-    ensures { result ≡ has_keys_lem (top_keys (view tree.now)) [] (view tree.now) }
+    ensures { result ≡ has_keys (top_keys (view tree.now)) [] (view tree.now) }
 {
     if is_version(tree, 2) {
         has_keys(tree, &["version", "sites", "processes", "in_transit"], &[])
@@ -42,7 +42,7 @@ fn has_top_keys(tree: &Value) -> bool
 }
 
 fn is_top(tree: &Value) -> bool
-    ensures { result ≡ is_top_lem (view tree.now) }
+    ensures { result ≡ is_top (view tree.now) }
 {
     has_top_keys(tree)
         && has_array(tree, "sites")
@@ -66,7 +66,7 @@ pub(crate) fn judge_top(tree: &Value) -> Result<(), DumpFault>
 /// The sites by their places. All are judged before they are counted.
 pub(crate) fn read_sites<'v>(alloc: Global, tree: &'v Value) -> Result<IndexSet<&'v str>, DumpFault>
     ensures judges { Judges (view tree.now) (site_faults (view tree.now)) result }
-    ensures read { IfOk result (λ index. texts index.keys ≡ sites_lem (view tree.now)) }
+    ensures read { IfOk result (λ index. texts index.keys ≡ tree_sites (view tree.now)) }
     ensures few { IfOk result (λ index. length (texts index.keys) ≤ MAX_SITES) }
 {
     let sites = texts_at(alloc, tree, "sites")?;
@@ -90,7 +90,7 @@ pub(crate) fn read_processes<'v>(
     tree: &'v Value,
 ) -> Result<Vec<Entry<'v>>, DumpFault>
     ensures judges { Judges (view tree.now) (process_faults (view tree.now)) result }
-    ensures read { IfOk result (λ v. map entry_view v.items ≡ entries_lem (view tree.now)) }
+    ensures read { IfOk result (λ v. map entry_view v.items ≡ tree_entries (view tree.now)) }
     ensures few { IfOk result (λ v. vec_len v ≤ MAX_PROCESSES) }
 {
     let processes = elements_at(tree, "processes");
@@ -112,7 +112,7 @@ pub(crate) fn read_names<'v>(
     alloc: Global,
     entries: &[Entry<'v>],
 ) -> Result<IndexSet<&'v str>, DumpFault>
-    ensures judges { (d : Data) → map entry_view entries.now ≡ entries_lem d
+    ensures judges { (d : Data) → map entry_view entries.now ≡ tree_entries d
         → Judges d (name_faults d) result }
     ensures read { IfOk result (λ index.
         texts index.keys ≡ map (λ e. (entry_view e).name) entries.now) }
@@ -167,8 +167,8 @@ pub(crate) fn link_entries(
 ) -> Result<Vec<Part>, DumpFault>
     requires few_sites { length (texts sites.now.keys) < 2 ^ 32 }
     requires few_names { length (texts names.now.keys) < 2 ^ 32 }
-    ensures judges { (d : Data) → map entry_view entries.now ≡ entries_lem d
-        → texts sites.now.keys ≡ sites_lem d → texts names.now.keys ≡ names_lem d
+    ensures judges { (d : Data) → map entry_view entries.now ≡ tree_entries d
+        → texts sites.now.keys ≡ tree_sites d → texts names.now.keys ≡ tree_names d
         → Judges d (entry_faults d) result }
     ensures made { IfOk result (λ parts. map process_of parts.items
         ≡ map (λ e. without_name (process_by (texts sites.now.keys) (texts names.now.keys)

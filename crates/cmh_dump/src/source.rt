@@ -8,6 +8,9 @@ use crate::{DumpFault, MAX_BYTES};
 use cmh_stream::Source;
 use std::alloc::Global;
 
+/// The most bytes that a source is asked for at once.
+const CHUNK: usize = 65_536;
+
 /// The bytes that the source gives up to its end. At most one byte more than a dump may have is taken, and what was
 /// taken stays taken, whatever the answer is.
 ///
@@ -34,7 +37,7 @@ pub fn read_all<S: Source>(alloc: Global, source: &mut S) -> Result<Vec<u8>, Dum
     ensures at_end { OnOk result (IsAtEnd (S.remaining source.new)) }
 {
     let mut bytes = Vec::new(alloc);
-    let mut chunk = [0u8; 65_536];
+    let mut chunk = [0u8; CHUNK];
     while bytes.len() <= MAX_BYTES {
         let room = (MAX_BYTES + 1 - bytes.len()).min(chunk.len());
         let Ok(count) = source.fill(&mut chunk[..room]) else {

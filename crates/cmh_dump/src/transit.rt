@@ -5,7 +5,7 @@ ghost use Rattle.std.specs.List.{list_all};
 ghost use Rattle.serde_json.specs.Find.{as_str};
 ghost use Rattle.serde_json.specs.View.{view};
 ghost use Rattle.cmh_dump.specs.Dump.{places_in_pair, transit_faults};
-ghost use Rattle.cmh_dump.specs.Entry.{is_pair as is_pair_lem, transits, names as names_lem};
+ghost use Rattle.cmh_dump.specs.Entry.{is_pair, transits, names as tree_names};
 ghost use Rattle.cmh_dump.specs.Name.{is_among};
 ghost use Rattle.cmh_dump.specs.Read.{Judges};
 ghost use Rattle.cmh_dump.specs.Texts.{texts};
@@ -27,7 +27,7 @@ fn are_texts(values: &[Value]) -> bool
 
 /// The sender and the receiver, by their names.
 fn is_pair(message: &Value) -> bool
-    ensures { result ≡ is_pair_lem (view message.now) }
+    ensures { result ≡ is_pair (view message.now) }
 {
     let elements = elements_in(message);
     elements.len() == 2 && are_texts(elements)
@@ -35,7 +35,7 @@ fn is_pair(message: &Value) -> bool
 
 /// The place of the first message that is no pair of names.
 fn first_bad_pair(messages: &[Value]) -> Option<usize>
-    ensures { result ≡ position (λ m. not (is_pair_lem (view m))) messages.now }
+    ensures { result ≡ position (λ m. not (is_pair (view m))) messages.now }
 {
     messages.iter().position(|message| !is_pair(message))
 }
@@ -43,7 +43,7 @@ fn first_bad_pair(messages: &[Value]) -> Option<usize>
 /// The places of the sender and the receiver of a pair, where both are processes.
 fn places_of(names: &IndexSet<&str>, message: &Value) -> Option<(u32, u32)>
     requires few { length (texts names.now.keys) < 2 ^ 32 }
-    requires pair { is_pair_lem (view message.now) ≡ true }
+    requires pair { is_pair (view message.now) ≡ true }
     ensures { result ≡ (if list_all (is_among (texts names.now.keys)) (texts_of (view message.now))
         then Some (places_in_pair (texts names.now.keys) (view message.now)) else None) }
 {
@@ -60,11 +60,11 @@ pub(crate) fn read_in_transit(
     names: &IndexSet<&str>,
 ) -> Result<Vec<(u32, u32)>, DumpFault>
     requires { length (texts names.now.keys) < 2 ^ 32 }
-    ensures judges { texts names.now.keys ≡ names_lem (view tree.now)
+    ensures judges { texts names.now.keys ≡ tree_names (view tree.now)
         → Judges (view tree.now) (transit_faults (view tree.now)) result }
-    ensures read { texts names.now.keys ≡ names_lem (view tree.now)
+    ensures read { texts names.now.keys ≡ tree_names (view tree.now)
         → IfOk result (λ v.
-        v.items ≡ map (places_in_pair (names_lem (view tree.now))) (transits (view tree.now))) }
+        v.items ≡ map (places_in_pair (tree_names (view tree.now))) (transits (view tree.now))) }
 {
     let messages = elements_at(tree, "in_transit");
     if messages.len() > MAX_IN_TRANSIT {

@@ -6,9 +6,9 @@ ghost use Rattle.std.specs.Option.{option_map_or};
 ghost use Rattle.std.specs.BTreeMap.{keys};
 ghost use Rattle.serde_json.specs.Find.{get, as_array, as_number, as_u64};
 ghost use Rattle.serde_json.specs.View.{view, items_of};
-ghost use Rattle.cmh_dump.specs.Dump.{tree_of as tree_of_lem};
+ghost use Rattle.cmh_dump.specs.Dump.{tree_of};
 ghost use Rattle.cmh_dump.specs.Name.{is_among};
-ghost use Rattle.cmh_dump.specs.Tree.{text_of, texts_of, elements_of, at_key, has_array as has_array_lem, has_keys as has_keys_lem};
+ghost use Rattle.cmh_dump.specs.Tree.{text_of, texts_of, elements_of, at_key, has_array, has_keys};
 ghost use Rattle.cmh_dump.specs.Texts.{texts};
 
 use crate::DumpFault;
@@ -18,9 +18,9 @@ use std::alloc::{AllocError, Global};
 /// The tree of the bytes.
 #[tactic(auto, using(crate::proofs::Trees::tree_is, crate::proofs::Trees::no_tree))]
 pub(crate) fn tree_of(alloc: Global, bytes: &[u8]) -> Result<Value, DumpFault>
-    ensures ok { IfOk result (λ v. tree_of_lem bytes.now ≡ Some (view v)) }
+    ensures ok { IfOk result (λ v. tree_of bytes.now ≡ Some (view v)) }
     ensures err { IfErr result (λ e. e ≢ DumpFault.Memory
-        → (e ≡ DumpFault.NotJson) × (tree_of_lem bytes.now ≡ None)) }
+        → (e ≡ DumpFault.NotJson) × (tree_of bytes.now ≡ None)) }
 {
     match Value::from_slice(alloc, bytes) {
         Ok(value) => Ok(value),
@@ -101,7 +101,7 @@ pub(crate) fn texts_at<'v>(
 
 /// An array stands at the key.
 pub(crate) fn has_array(value: &Value, key: &str) -> bool
-    ensures { result ≡ has_array_lem key.now (view value.now) }
+    ensures { result ≡ has_array key.now (view value.now) }
 {
     match value.get(key) {
         Some(member) => member.is_array(),
@@ -158,7 +158,7 @@ pub(crate) fn has_allowed(members: &Map<String, Value>, needed: &[&str], allowed
 /// It is an object that has each of the first keys, maybe some of the second, and no others.
 #[tactic(auto, using(crate::proofs::Keys::not_object))]
 pub(crate) fn has_keys(value: &Value, needed: &[&str], allowed: &[&str]) -> bool
-    ensures { result ≡ has_keys_lem (texts needed.now) (texts allowed.now) (view value.now) }
+    ensures { result ≡ has_keys (texts needed.now) (texts allowed.now) (view value.now) }
 {
     let Some(members) = value.as_object() else {
         return false;

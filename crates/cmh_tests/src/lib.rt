@@ -27,4 +27,6 @@ mod shortage;
 #[cfg(test)]
 mod stream;
 #[cfg(test)]
+mod text;
+#[cfg(test)]
 mod work;

@@ -2,7 +2,7 @@
 
 mod devices;
 mod ends;
-mod large;
+pub(crate) mod large;
 mod memory;
 mod tracing;
 
@@ -65,7 +65,7 @@ fn graph(alloc: Global, rows: &[Row]) -> Result<WaitGraph, GraphFault> {
 }
 
 /// The report on a graph that this many workers analyse.
-fn report_of<R: AllocGlobal + Threads + Wait + Sync>(
+pub(crate) fn report_of<R: AllocGlobal + Threads + Wait + Sync>(
     rt: &R,
     graph: &WaitGraph,
     workers: u32,

@@ -11,14 +11,16 @@ use std::test::Fail;
 use std::thread::Threads;
 
 /// Idle processes on one site, and which of them each waits for.
-#[derive(Clone, Copy)]
-enum Family {
+#[derive(Clone, Copy, PartialEq)]
+pub(crate) enum Family {
     /// No process waits for any.
     Alone,
     /// Each waits for all.
     Knot,
     /// Each waits for the next, and the last for none.
     Chain,
+    /// Each waits for the next, and the last is active.
+    Path,
 }
 
 /// The places from the first number on and below the second.
@@ -29,7 +31,7 @@ fn dependents(family: Family, count: u32, p: u32) -> Span {
     match family {
         Family::Alone => (0, 0),
         Family::Knot => (0, count),
-        Family::Chain => (next, next.saturating_add(1).min(count)),
+        Family::Chain | Family::Path => (next, next.saturating_add(1).min(count)),
     }
 }
 
@@ -39,22 +41,23 @@ fn members(family: Family, count: u32, number: u32) -> (Span, Span) {
     match family {
         Family::Alone => ((number, next), (0, 0)),
         Family::Knot => ((0, count), (0, 0)),
-        Family::Chain => ((number, next), (next, count)),
+        Family::Chain | Family::Path => ((number, next), (next, count)),
     }
 }
 
 /// A dump of this many processes.
-fn dump_of(alloc: Global, family: Family, count: u32) -> Result<String, AllocError> {
+pub(crate) fn dump_of(alloc: Global, family: Family, count: u32) -> Result<String, AllocError> {
     let mut dump = String::from_str(alloc, "{\"version\":1,\"sites\":[\"a\"],\"processes\":[")?;
     for p in 0..count {
         let comma = if p == 0 { "" } else { "," };
-        write!(
-            dump,
-            "{comma}{{\"name\":\"process-{p}\",\"site\":\"a\",\"state\":\"idle\","
-        )?;
-        dump.push_str("\"dependents\":[")?;
-        push_quoted(&mut dump, dependents(family, count, p))?;
-        dump.push_str("]}")?;
+        write!(dump, "{comma}{{\"name\":\"process-{p}\",\"site\":\"a\",")?;
+        if family == Family::Path && p.saturating_add(1) == count {
+            dump.push_str("\"state\":\"active\"}")?;
+        } else {
+            dump.push_str("\"state\":\"idle\",\"dependents\":[")?;
+            push_quoted(&mut dump, dependents(family, count, p))?;
+            dump.push_str("]}")?;
+        }
     }
     dump.push_str("]}")?;
     Ok(dump)
@@ -69,14 +72,17 @@ fn push_quoted(dump: &mut String, span: Span) -> Result<(), AllocError> {
 }
 
 /// The report on that dump.
-fn text_of(alloc: Global, family: Family, count: u32) -> Result<String, AllocError> {
+pub(crate) fn text_of(alloc: Global, family: Family, count: u32) -> Result<String, AllocError> {
+    if family == Family::Path {
+        return path_text(alloc, count);
+    }
     let mut text = format!(in alloc;
         "processes {count} active 0 idle {count} deadlocked {count}\n"
     )?;
     for p in 0..count {
         let number = match family {
             Family::Knot => 1,
-            Family::Alone | Family::Chain => p.saturating_add(1),
+            Family::Alone | Family::Chain | Family::Path => p.saturating_add(1),
         };
         write!(text, "deadlocked process-{p} group {number}\n")?;
     }
@@ -84,10 +90,22 @@ fn text_of(alloc: Global, family: Family, count: u32) -> Result<String, AllocErr
     Ok(text)
 }
 
+/// The report on a path.
+fn path_text(alloc: Global, count: u32) -> Result<String, AllocError> {
+    let idle = count.saturating_sub(1);
+    let mut text = format!(in alloc; "processes {count} active 1 idle {idle} deadlocked 0\n")?;
+    for p in 0..idle {
+        write!(text, "free process-{p} path")?;
+        push_names(&mut text, (p, count))?;
+        text.push_str("\n")?;
+    }
+    Ok(text)
+}
+
 fn push_groups(text: &mut String, family: Family, count: u32) -> Result<(), AllocError> {
     let groups = match family {
         Family::Knot => 1,
-        Family::Alone | Family::Chain => count,
+        Family::Alone | Family::Chain | Family::Path => count,
     };
     for number in 0..groups {
         let (core, rest) = members(family, count, number);

@@ -4,7 +4,10 @@ ghost use Rattle.std.specs.Prelude.{◌≡◌, ◌<◌, ⊤, None, IfSome};
 ghost use Rattle.cmh_graph.specs.Graph.{Graph, process_count};
 ghost use Rattle.cmh_graph.specs.Verdict.{IsVerdict};
 
-use super::{FREE_BY_TWO, KNOT_OF_THREE, ONE_FREE_ONE_STUCK, TWO_IN_A_CYCLE, Waits, graph_of};
+use super::{
+    FREE_BY_TWO, KNOT_OF_THREE, ONE_FREE_ONE_STUCK, TWO_IN_A_CYCLE, WAITS_FOR_ITSELF, Waits,
+    graph_of,
+};
 use cmh_graph::Verdict;
 use cmh_run::{Hints, RunFault, run_again};
 use std::alloc::Global;
@@ -48,6 +51,7 @@ struct Asking<'a> {
     waits: Waits<'a>,
     in_transit: &'a [(u32, u32)],
     initiator: u32,
+    choices: &'a [u64],
     restarts: &'a [u32],
     asked: &'a [u32],
 }
@@ -56,12 +60,23 @@ const OF_TWO: Asking = Asking {
     waits: &TWO_IN_A_CYCLE,
     in_transit: &[],
     initiator: 0,
+    choices: &[],
     restarts: &[],
     asked: &[1],
 };
 
-const ASKING: [Asking; 6] = [
+const ASKING: [Asking; 9] = [
     OF_TWO,
+    // One that waits for nobody is asked about, and the initiator never.
+    Asking {
+        waits: &[Some(&[1]), Some(&[])],
+        ..OF_TWO
+    },
+    Asking {
+        waits: &WAITS_FOR_ITSELF,
+        asked: &[],
+        ..OF_TWO
+    },
     // No hint is asked about an active process, nor about one that is awake, nor again about one that is engaged.
     Asking {
         waits: &ONE_FREE_ONE_STUCK,
@@ -75,6 +90,13 @@ const ASKING: [Asking; 6] = [
     Asking {
         waits: &KNOT_OF_THREE,
         asked: &[1, 2],
+        ..OF_TWO
+    },
+    // Choices change the order alone.
+    Asking {
+        waits: &KNOT_OF_THREE,
+        choices: &[1; 9],
+        asked: &[2, 1],
         ..OF_TWO
     },
     // Each start asks anew. A query of an older number engages and asks where it comes first.
@@ -103,7 +125,7 @@ fn asks_in_order(alloc: Global, asking: &Asking) -> Result<Vec<u32>, RunFault> {
         alloc,
         &graph,
         asking.initiator,
-        &[],
+        asking.choices,
         &mut hints,
         asking.restarts,
     )?;

@@ -1,7 +1,7 @@
 //! Runs with hints, and checks of their logs.
 
 use super::Step::{self, Query, Reply};
-use super::{FREE_BY_TWO, TWO_IN_A_CYCLE, Waits, delivery, graph_of};
+use super::{FREE_BY_TWO, KNOT_OF_THREE, TWO_IN_A_CYCLE, Waits, delivery, graph_of};
 use cmh_graph::Verdict::{self, Deadlocked, Free};
 use cmh_graph::WaitGraph;
 use cmh_run::CheckFault::{AfterEnd, NotUndelivered};
@@ -13,6 +13,7 @@ use std::alloc::Global;
 struct Hinted<'a> {
     waits: Waits<'a>,
     initiator: u32,
+    choices: &'a [u64],
     restarts: &'a [u32],
     script: &'a [(u32, u32, Verdict)],
     log: &'a [(Step, Option<Verdict>)],
@@ -24,6 +25,7 @@ struct Hinted<'a> {
 const KNOWN_DEADLOCKED: Hinted = Hinted {
     waits: &TWO_IN_A_CYCLE,
     initiator: 0,
+    choices: &[],
     restarts: &[],
     script: &[(0, 1, Deadlocked)],
     log: &[(Query(1, 0, 1), Some(Deadlocked)), (Reply(1, 1, 0), None)],
@@ -35,6 +37,7 @@ const KNOWN_DEADLOCKED: Hinted = Hinted {
 const KNOWN_FREE: Hinted = Hinted {
     waits: &FREE_BY_TWO,
     initiator: 4,
+    choices: &[],
     restarts: &[],
     script: &[(0, 3, Free)],
     log: &[(Query(1, 4, 3), Some(Free))],
@@ -43,9 +46,36 @@ const KNOWN_FREE: Hinted = Hinted {
     checked: Ok(Ending::CutFree(3)),
 };
 
-const HINTED: [Hinted; 4] = [
+const HINTED: [Hinted; 6] = [
     KNOWN_DEADLOCKED,
     KNOWN_FREE,
+    // The second process on the way is known.
+    Hinted {
+        waits: &[Some(&[1]), Some(&[2]), Some(&[3]), None],
+        initiator: 0,
+        script: &[(1, 2, Free)],
+        log: &[(Query(1, 0, 1), None), (Query(1, 1, 2), Some(Free))],
+        ending: Ending::CutFree(2),
+        engaged: &[0, 1],
+        checked: Ok(Ending::CutFree(2)),
+        ..KNOWN_FREE
+    },
+    // So is the one to which the first choice leads.
+    Hinted {
+        waits: &KNOT_OF_THREE,
+        choices: &[1],
+        script: &[(0, 2, Deadlocked)],
+        log: &[
+            (Query(1, 0, 2), Some(Deadlocked)),
+            (Query(1, 0, 1), None),
+            (Reply(1, 2, 0), None),
+            (Query(1, 1, 2), None),
+            (Reply(1, 2, 1), None),
+            (Reply(1, 1, 0), None),
+        ],
+        engaged: &[0, 2, 1],
+        ..KNOWN_DEADLOCKED
+    },
     // The second start asks again.
     Hinted {
         restarts: &[2],
@@ -87,7 +117,7 @@ fn run_hinted(alloc: Global, graph: &WaitGraph, hinted: &Hinted) -> Result<RunLo
         alloc,
         graph,
         hinted.initiator,
-        &[],
+        hinted.choices,
         &mut hints,
         hinted.restarts,
     )
