@@ -5,9 +5,10 @@
 
 Makes the dumps, runs the programs on each in turn, and prints a table: the least time of N rounds, from the start of a
 process to its end, and the peak memory of one more run. BEFORE is the program of an earlier commit. The plain search
-(benches/plain_search) is built by cargo from Debian's packages; it always has one processor. All programs have to print
-the same bytes. Run it while nothing else runs. With --instructions it counts these by valgrind, with one worker, and no
-time.
+(benches/plain_search) is built by cargo from Debian's packages; it always has one processor. It runs twice: once it
+borrows names from the text of a dump, and once from the tree that serde_json makes of it, which is what the program
+reads. All programs have to print the same bytes. Run it while nothing else runs. With --instructions it counts these by
+valgrind, with one worker, and no time.
 """
 
 import argparse
@@ -19,7 +20,8 @@ import subprocess
 import sys
 import tempfile
 
-from measure import MIB, SEVERAL, dump, heading, instructions, least, milliseconds, peak, processors, table, write
+from measure import MIB, SEVERAL, dump, heading, instructions, least, milliseconds, peak, processors, table
+from harness import write
 
 HERE = os.path.dirname(os.path.realpath(__file__))
 REGISTRY = "/usr/share/cargo/registry"
@@ -107,7 +109,8 @@ def options(family, size):
 
 
 def build(room):
-    """Builds the plain search in the folder `room`, from a copy, so that nothing is left beside its source."""
+    """Builds the plain search in the folder `room`, from a copy, so that nothing is left beside its source. Returns the
+    words that start it over a dump's text, and over its tree."""
     missing = [crate for crate in CRATES if not glob.glob(f"{REGISTRY}/{crate}-[0-9]*")]
     packages = [f"librust-{crate.replace('_', '-')}-dev" for crate in missing]
     packages += [] if shutil.which("cargo") else ["cargo"]
@@ -121,52 +124,63 @@ def build(room):
     words = ["cargo", "build", "--release", "--offline", "--quiet", "--target-dir", f"{room}/target"]
     if subprocess.run(words, cwd=copy, check=False).returncode != 0:
         sys.exit("the plain search hasn't been built")
-    return f"{room}/target/release/plain_search"
+    built = f"{room}/target/release/plain_search"
+    return [[built], [built, "tree"]]
 
 
 # Measuring
 
 
-def measured(family, size, peer, programs, room, times):
-    """For each program the cells of its row: the peer's time, its own with one processor and with several, memory."""
+def measured(family, size, peers, programs, room, times):
+    """For each program the cells of its row: the peers' times, its own with one processor and with several, memory."""
     source = f"{room}/{family} {size}"
     write(source, dump(FAMILIES[family](size), SITES))
     commands = [[program, "analyse", *options(family, size)] for program in programs]
-    columns = [([peer], 1)] + [(words, count) for words in commands for count in (1, SEVERAL)]
-    (plain, *ours), text = least(columns, source, room, times)
+    columns = [(peer, 1) for peer in peers] + [(words, count) for words in commands for count in (1, SEVERAL)]
+    best, text = least(columns, source, room, times)
+    plain, ours = best[: len(peers)], best[len(peers) :]
     held = os.path.getsize(source) + text
-    beyond = [(peak(words, source) - held) / MIB for words in ([peer], *commands)]
+    beyond = [(peak(words, source) - held) / MIB for words in (*peers, *commands)]
     os.remove(source)
+    shown = [milliseconds(took) for took in plain]
     for place in range(len(programs)):
-        shown = [milliseconds(plain)]
-        for took in ours[2 * place : 2 * place + 2]:
-            shown += [milliseconds(took), f"{took / plain:.1f}"]
-        yield [*shown, f"{beyond[place + 1]:.1f}", f"{beyond[0]:.1f}"]
+        one, several = ours[2 * place : 2 * place + 2]
+        times_of = [milliseconds(one), *ratios(one, plain, 1), milliseconds(several), *ratios(several, plain, 1)]
+        yield [*shown, *times_of, *(f"{it:.1f}" for it in (beyond[len(peers) + place], *beyond[: len(peers)]))]
 
 
-def counted(family, size, peer, programs, room, _times):
-    """For each program the cells of its row: the millions of instructions of the peer and its own, with one worker."""
+def counted(family, size, peers, programs, room, _times):
+    """For each program the cells of its row: the millions of instructions of the peers and its own, with one worker."""
     source = f"{room}/{family} {size}"
     write(source, dump(FAMILIES[family](size), SITES))
     plan = ["--workers", "1", *options(family, size)[2:]]
-    plain, *ours = [instructions(words, source) for words in ([peer], *([it, "analyse", *plan] for it in programs))]
+    commands = [*peers, *([program, "analyse", *plan] for program in programs)]
+    found = [instructions(words, source) for words in commands]
     os.remove(source)
-    if None in (plain, *ours):
+    if None in found:
         sys.exit("valgrind isn't there")
-    for own in ours:
-        yield [f"{plain / 1e6:.1f}", f"{own / 1e6:.1f}", f"{own / plain:.2f}"]
+    plain = found[: len(peers)]
+    for own in found[len(peers) :]:
+        yield [*(f"{count / 1e6:.1f}" for count in (*plain, own)), *ratios(own, plain, 2)]
 
 
-TIMES = ["Plain search, ms", "1 processor, ms", "Ratio", f"{len(processors(SEVERAL))} processors, ms", "Ratio"]
-TIMES += ["Memory beyond dump and text, MiB", "that of the plain search"]
-COUNTS = ["Millions of instructions of the plain search", "of the program, one worker", "Ratio"]
+def ratios(own, plain, digits):
+    """How often the program takes what each of the peers takes."""
+    return [f"{own / it:.{digits}f}" for it in plain]
 
 
-def rows(named, shown, at, figures, peer, room, times):
+OVER = ["Over text", "Over tree"]
+TIMES = ["Plain search over text, ms", "Over a tree, ms", "1 processor, ms", *OVER]
+TIMES += [f"{len(processors(SEVERAL))} processors, ms", *OVER]
+TIMES += ["Memory beyond dump and text, MiB", "over text", "over a tree"]
+COUNTS = ["Millions of instructions of the plain search over text", "Over a tree", "The program, one worker", *OVER]
+
+
+def rows(named, shown, at, figures, peers, room, times):
     """A row for each family that is shown, each size and each of the programs, which `named` has by their names."""
     for family in shown:
         for size in at:
-            found = figures(family, size, peer, list(named.values()), room, times)
+            found = figures(family, size, peers, list(named.values()), room, times)
             yield from ([family, f"{size:,}", name, *cells] for name, cells in zip(named, found))
 
 
@@ -203,9 +217,9 @@ def main():
     named = {"before": given.before, "now": given.program} if given.before else {"now": given.program}
     figures, head = (counted, COUNTS) if given.instructions else (measured, TIMES)
     with tempfile.TemporaryDirectory() as room:
-        peer = build(room)
+        peers = build(room)
         print(f"{heading(0 if given.instructions else given.times)}\n", flush=True)
-        found = rows(named, given.families, given.sizes, figures, peer, room, given.times)
+        found = rows(named, given.families, given.sizes, figures, peers, room, given.times)
         for line in table(["Family", "Size", "Program", *head], found):
             print(line, flush=True)
 

@@ -10,12 +10,18 @@ import re
 import subprocess
 import sys
 import time
+from typing import Iterable, Iterator, Sequence
 
-TOP = os.path.dirname(os.path.dirname(os.path.realpath(__file__)))
+sys.dont_write_bytecode = True
+sys.path.insert(0, os.path.join(os.path.dirname(os.path.dirname(os.path.realpath(__file__))), "tests"))
+from harness import TOP, run_bytes  # noqa: E402
+
 MIB = 1024 * 1024
 SEVERAL = 4  # processors
 ALLOWED = os.sched_getaffinity(0)
 SUBREAPER = 36  # PR_SET_CHILD_SUBREAPER of Linux
+# glibc fills and copies more than 2 KiB by one instruction, of which valgrind counts each byte. Here it takes loops.
+LOOPS = ":".join(f"glibc.cpu.x86_rep_{it}_threshold=0x40000000" for it in ("stosb", "movsb"))
 
 
 def dump(waiting, sites=1):
@@ -28,11 +34,6 @@ def state(dependents):
     if dependents is None:
         return {"state": "active"}
     return {"state": "idle", "dependents": [f"p{d}" for d in dependents]}
-
-
-def write(path, what):
-    with open(path, "wb") as file:
-        file.write(what)
 
 
 def run(words, source, out):
@@ -95,7 +96,7 @@ def peak(words, source):
     with open(writing, "wb") as pipe, open(source, "rb") as file:
         pipe.write(file.read())
     _, status, used = os.wait4(int(started.stdout), 0)
-    judge(words, os.waitstatus_to_exitcode(status))
+    judge(words, -os.WTERMSIG(status) if os.WIFSIGNALED(status) else os.WEXITSTATUS(status))
     return used.ru_maxrss * 1024
 
 
@@ -104,10 +105,10 @@ def instructions(words, source):
     counter = ["valgrind", "--tool=callgrind", "--callgrind-out-file=/dev/null"]
     try:
         with open(source, "rb") as file:
-            ran = subprocess.run([*counter, *words], stdin=file, capture_output=True, check=False)
+            ran = run_bytes([*counter, *words], file, env={**os.environ, "GLIBC_TUNABLES": LOOPS})
     except FileNotFoundError:
         return None
-    found = re.search(r"Collected : (\d+)", ran.stderr.decode())
+    found = re.search(rb"Collected : (\d+)", ran.err)
     return int(found[1]) if found else None
 
 
@@ -120,12 +121,10 @@ def machine():
 
 def commit():
     """The commit of the checkout, or nothing where it has no history."""
-    command = ["git", "-C", TOP, "rev-parse", "--short", "HEAD"]
     try:
-        ran = subprocess.run(command, capture_output=True, check=False)
+        return run_bytes(["git", "-C", TOP, "rev-parse", "--short", "HEAD"]).out.decode().strip()
     except FileNotFoundError:
         return ""
-    return ran.stdout.decode().strip()
 
 
 def heading(times):
@@ -135,11 +134,11 @@ def heading(times):
     return f"{datetime.date.today().isoformat()}, {machine()}{rounds}{at}."
 
 
-def line(cells):
+def line(cells: Iterable[str]) -> str:
     return "| " + " | ".join(cells) + " |"
 
 
-def table(head, rows):
+def table(head: Sequence[str], rows: Iterable[Iterable[str]]) -> Iterator[str]:
     """The lines of a table, each as it is there."""
     yield line(head)
     yield "|" + "---|" * len(head)

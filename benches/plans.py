@@ -13,7 +13,8 @@ import os
 import tempfile
 
 from families import FAMILIES, SITES, options, size_in_range
-from measure import SEVERAL, dump, heading, least, milliseconds, processors, table, write
+from measure import SEVERAL, dump, heading, least, milliseconds, processors, table
+from harness import write
 
 SHOWN = ["path", "up", "chain", "random"]
 

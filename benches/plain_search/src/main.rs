@@ -3,9 +3,13 @@
 //! It reads a dump of version 1 from standard input and takes it as valid: it looks for no fault but those
 //! that stop it. Nobody runs a computation and nothing is proved: verdicts and paths are found by one search
 //! backwards from the active processes, groups by the strongly connected components.
+//!
+//! Names are borrowed from the text of the dump. With the word `tree` they are borrowed from the tree of values
+//! that `serde_json` reads the text into, which is what a dump is to the program.
 
 use std::borrow::Cow;
 use std::collections::{HashMap, VecDeque};
+use std::env;
 use std::error::Error;
 use std::fs::File;
 use std::io::{self, BufWriter, Read, Write};
@@ -17,6 +21,7 @@ use petgraph::algo::tarjan_scc;
 use petgraph::graph::{DiGraph, NodeIndex};
 use petgraph::Direction::Incoming;
 use serde::Deserialize;
+use serde_json::Value;
 
 #[derive(Deserialize)]
 struct Dump<'a> {
@@ -248,17 +253,24 @@ impl<'a> Report<'a> {
     }
 }
 
-fn main() -> Result<(), Box<dyn Error>> {
-    let mut text = Vec::new();
-    io::stdin().lock().read_to_end(&mut text)?;
-    let dump: Dump = serde_json::from_slice(&text)?;
+fn print(dump: &Dump) -> Result<(), Box<dyn Error>> {
     if dump.version != 1 {
         return Err("not a dump of version 1".into());
     }
     // (a file, since the standard library's own standard output looks for ends of lines)
     let stdout = File::from(io::stdout().as_fd().try_clone_to_owned()?);
     let mut out = BufWriter::with_capacity(1 << 16, stdout);
-    Report::of(&dump)?.write(&mut out)?;
+    Report::of(dump)?.write(&mut out)?;
     out.flush()?;
     Ok(())
+}
+
+fn main() -> Result<(), Box<dyn Error>> {
+    let mut text = Vec::new();
+    io::stdin().lock().read_to_end(&mut text)?;
+    if env::args().any(|word| word == "tree") {
+        let tree: Value = serde_json::from_slice(&text)?;
+        return print(&Dump::deserialize(&tree)?);
+    }
+    print(&serde_json::from_slice(&text)?)
 }
