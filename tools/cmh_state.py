@@ -4,19 +4,25 @@ Import it first of all, in each process of the job:
 
     import cmh_state
 
-From then on `kill -USR2 PID` prints a state of that process, also while its main thread or its event loop is blocked,
-for it is printed by a thread of its own. Three variables of the environment change that: CMH_STATE_SIGNAL, which is
-read at the import, names another signal, such as SIGUSR1; CMH_STATE_FILE names a file that states are added to, in
-place of standard error, where `%p` stands for the process id; CMH_STATE_SECONDS is the time between two looks, which
-show who has moved.
+From then on `kill -USR2 PID` prints a state of that process, and five seconds later a second one, also while its main
+thread or its event loop is blocked, for they are printed by a thread of its own. Four variables of the environment
+change that: CMH_STATE_SIGNAL, which is read at the import, names another signal, such as SIGUSR1; CMH_STATE_FILE names
+a file that states are added to, in place of standard error, where `%p` stands for the process id; CMH_STATE_PAUSE is
+the time from the first state to the second, or 0 for one alone; CMH_STATE_SECONDS is the time between the two looks
+that are taken for a state, which show who has moved.
 
-A state is lines of JSON, each behind `cmh-state `. It has names of files, functions, threads, tasks and locks, limits
-of waits, and no other values. It needs CPython 3.8 or later on a system with signals, so not Windows.
+A signal that no handler takes ends a program. So a process that answers has a file in memory of the name `cmh_state`
+open, with the signal's name in it, where Linux has such files. /proc/PID/fd shows it: send a signal to no other.
+
+A state is lines of JSON, each behind `cmh-state `. It has names of the machine, files, functions, threads, tasks and
+locks, limits of waits, and no other values. It needs CPython 3.8 or later on a system with signals, so not Windows.
 """
 import contextlib
 import dis
 import faulthandler
+import functools
 import gc
+import itertools
 import json
 import os
 import queue
@@ -37,12 +43,32 @@ LIBRARIES = re.compile(r"(threading|queue|concurrent\.futures|multiprocessing|su
                        r"|logging|importlib\._bootstrap|_frozen_importlib)($|\.)")
 LOCALS = ("self", "timeout", "fs", "fut", "future", "return_when", "work_queue", "executor_reference")
 WORDS = ("ALL_COMPLETED", "FIRST_COMPLETED", "FIRST_EXCEPTION")
+CANCELS = {"cancel", "all_tasks", "set_result", "set_exception"}
+FINAL = (signal.SIGINT, signal.SIGTERM)  # signals that end a program
+FATAL = ("_exit", "abort", "kill", "killpg", "interrupt_main", "pthread_kill", "raise_signal")
 OTHER_TASKS = ("gevent", "eventlet", "trio", "curio", "twisted.internet")
-RLOCKS = (type(threading.RLock()), threading._PyRLock)
+CALLED = (types.FunctionType, types.BuiltinFunctionType, types.MethodType)
+PYTHON_RLOCK = getattr(threading, "_PyRLock")
+RLOCKS = (type(threading.RLock()), PYTHON_RLOCK)
+LOCK = type(threading.Lock())
+BLOCKS = ("SETUP_WITH", "SETUP_ASYNC_WITH", "SETUP_FINALLY")  # before Python 3.11
+BEGIN = ("BEFORE_WITH", "SETUP_WITH", "BEFORE_ASYNC_WITH", "SETUP_ASYNC_WITH")
+WITH = {dis.opmap[name] for name in BEGIN if name in dis.opmap}
+LEAVES = ("JUMP_ABSOLUTE", "RERAISE")  # and these, of steps after which the next isn't made
 ENDS = ("JUMP_FORWARD", "RETURN_VALUE", "RETURN_CONST", "RAISE_VARARGS")  # steps after which the next isn't made
 STUCK = 5  # seconds
 DEEP = 2000  # frames of a stack at most
-INHERITED = weakref.WeakSet()  # tasks that were there before the fork
+WIDE = 200000  # values that are looked at for tasks and children in all
+CODES = 50000  # functions that are looked at for names in one state; more count as having them
+LEFT = {"codes": CODES}
+NEAR = 3  # steps from a name to a task, future or child that it is taken to reach
+MOST = 50  # of these that are printed for one thread or task
+INHERITED: "weakref.WeakSet" = weakref.WeakSet()  # tasks that were there before the fork
+SIGNALS = 0x7ffbfeff  # of the mask of blocked ones, but SIGKILL and SIGSTOP
+SETTLE = 0.05  # seconds from the signal to the first look: the signal wakes the main thread, which then waits again
+# What tells one object from a later one at its place: by place, a weak reference and a number.
+NUMBERS: "dict[int, tuple[weakref.ref, int]]" = {}
+NEXT = itertools.count(1)
 
 
 # What stands in a state of one value.
@@ -56,7 +82,7 @@ def is_a(value, module, name):
 
 def owner_of(lock):
     """The thread that has a lock that knows it, 0 if none has, None if that can't be seen."""
-    if type(lock) is threading._PyRLock:
+    if type(lock) is PYTHON_RLOCK:
         return lock._owner or 0
     if type(lock) in RLOCKS:
         found = re.search(r" owner=(\d+) ", type(lock).__repr__(lock))
@@ -70,7 +96,8 @@ def describe_future(value, row):
     if is_a(value, "asyncio.tasks", "Task"):
         return {**row, "type": "Task", "name": value.get_name(), "done": value.done()}
     if is_a(value, "asyncio.tasks", "_GatheringFuture"):
-        return {**row, "type": "gather", "all": [describe(each) for each in value._children if not each.done()]}
+        left = [each for each in value._children if not each.done()]
+        return {**row, "type": "gather", "all": [describe(each) for each in left], **raises(left)}
     if is_a(value, "asyncio.futures", "Future"):
         return {**row, "type": "asyncio.Future", "done": value.done(), **links_of(value)}
     return None
@@ -79,7 +106,8 @@ def describe_future(value, row):
 def describe_known(value, row):
     """What is seen of an object of the standard library, or None."""
     if isinstance(value, threading.Thread):
-        return {**row, "type": "Thread", "ident": value.ident, "name": value.name}
+        calls = {"calls": callback_name(value.function)} if isinstance(value, threading.Timer) else {}
+        return {**row, "type": "Thread", "ident": value.ident, "name": value.name, **calls}
     if type(value) in RLOCKS or type(value).__name__ == "_ModuleLock":
         return {**row, "owner": owner_of(value)}
     if type(value) is queue.Queue or issubclass(type(value), queue.Queue):
@@ -96,6 +124,10 @@ def describe_known(value, row):
         return {**row, "limit": value.gettimeout()}
     if is_a(value, "threading", "Condition"):
         return {**row, "lock": describe(value._lock)}
+    if type(value) is LOCK or is_a(value, "asyncio.locks", "Lock"):
+        return {**row, "locked": value.locked()}
+    if is_a(value, "asyncio.locks", "Semaphore"):
+        return {**row, "left": value._value, "most": getattr(value, "_bound_value", None)}
     if is_a(value, "asyncio.taskgroups", "TaskGroup"):
         return {**row, "all": [describe(task) for task in value._tasks if not task.done()]}
     return None
@@ -121,6 +153,16 @@ def cells_of(callback, function):
     return dict(zip(code.co_freevars, [cell.cell_contents for cell in callback.__closure__]))
 
 
+def raises(children):
+    """Whether a gather goes on once one of these fails."""
+    for child in children:
+        for callback, _ in getattr(child, "_callbacks", None) or ():
+            cells = cells_of(callback, "gather.<locals>._done_callback")
+            if "return_exceptions" in cells:
+                return {"raises": not cells["return_exceptions"]}
+    return {}
+
+
 def links_of(future):
     """What an asyncio future stands for: the work of an executor, or what shield() keeps."""
     for callback, _ in getattr(future, "_callbacks", None) or ():
@@ -133,11 +175,16 @@ def links_of(future):
     return {}
 
 
+def items_in(work):
+    """The work that lies in the queue of a pool."""
+    inside = gc.get_referents(work) if type(work) is queue.SimpleQueue else []
+    items = [item for each in inside for item in (each if type(each) is list else [each])]
+    return [item for item in items if is_a(item, "concurrent.futures.thread", "_WorkItem")]
+
+
 def futures_in(work):
     """The futures whose work lies in the queue of a pool."""
-    inside = gc.get_referents(work)
-    items = [item for each in inside for item in (each if type(each) is list else [each])]
-    return [hex(id(item.future)) for item in items if is_a(item, "concurrent.futures.thread", "_WorkItem")]
+    return [hex(id(item.future)) for item in items_in(work)]
 
 
 # Which call of no Python frame a frame stands in, read from its code.
@@ -256,6 +303,13 @@ def arguments_of(steps):
     return None
 
 
+def names_of(steps, constants):
+    """The names of the arguments that a call is given by name, and the steps for its arguments without these."""
+    last = next((step for step in reversed(steps) if step.opname in ("KW_NAMES", "LOAD_CONST")), None)
+    names = constants[last.arg] if last is not None else None
+    return (list(names), [step for step in steps if step is not last]) if type(names) is tuple else ([], steps)
+
+
 def call_of(frame):
     """The call of no Python frame that a frame is in, or None: its words, its object, its number of arguments."""
     steps = list(dis.get_instructions(frame.f_code))
@@ -274,7 +328,10 @@ def call_of(frame):
     row = {"words": ".".join(words), "how": "call", "on": describe(owner), **function_names(value)}
     if steps[at].opname == "CALL_FUNCTION_EX":
         return {**row, **bound_of(value), "arguments": None}
-    return {**row, "arguments": arguments_of(steps[middle:at])}
+    has_names = steps[at].opname.endswith("_KW") or any(step.opname == "KW_NAMES" for step in steps[middle:at])
+    loads = steps[middle:at]
+    names, loads = names_of(loads, frame.f_code.co_consts) if has_names else ([], loads)
+    return {**row, "arguments": arguments_of(loads), **({"named": names} if names else {})}
 
 
 def bound_of(value):
@@ -289,6 +346,192 @@ def function_names(value):
     if issubclass(type(value), (types.BuiltinFunctionType, types.FunctionType)):
         return {"module": value.__module__, "function": value.__name__}
     return {}
+
+
+# Which locks a frame has taken by `with`, and not given back. Of a frame that runs its code says so, where the name
+# that it had for a lock still stands for it; one that is suspended has the lock's method for the end of the block.
+
+
+def handler_of(table, offset):
+    """Where an error at a step goes to, or None."""
+    return next((entry.target for entry in table if entry.start <= offset < entry.end), None)
+
+
+def blocks_by_table(code, steps, at):
+    """The places of the steps that began the blocks of `with` around a step, from Python 3.11 on: an error in one goes
+    to the block's own end, and one there to that of the block around it."""
+    table = list(dis.Bytecode(code).exception_entries)
+    places = {step.offset: place for place, step in enumerate(steps)}
+    found, seen = [], set()
+    target = handler_of(table, steps[at].offset)
+    while target is not None and target not in seen:
+        seen.add(target)
+        place = places[target]
+        if steps[place + 1].opname == "WITH_EXCEPT_START":
+            start = places[min(entry.start for entry in table if entry.target == target)]
+            found += [place for place in range(start - 1, -1, -1) if steps[place].opname.startswith("BEFORE_")][:1]
+        target = handler_of(table, target)
+    return found
+
+
+def blocks_by_steps(steps, at):
+    """The same of Python 3.9 and 3.10, where steps begin blocks and end them: those that are open on a way there."""
+    places = {step.offset: place for place, step in enumerate(steps)}
+    left, seen = [(0, ())], {}
+    while left:
+        place, blocks = left.pop()
+        if place in seen or place >= len(steps):
+            continue
+        seen[place] = blocks
+        step = steps[place]
+        is_jump = step.opcode in (*dis.hasjrel, *dis.hasjabs)
+        if step.opname in BLOCKS:
+            left.append((places[step.argval], (*blocks, None)))
+            blocks = (*blocks, place)
+        elif step.opname in ("POP_BLOCK", "POP_EXCEPT"):
+            blocks = blocks[:-1]
+        elif is_jump:
+            left.append((places[step.argval], blocks))
+        if step.opname not in (*ENDS, *LEAVES):
+            left.append((place + 1, blocks))
+    return [place for place in reversed(seen.get(at, ())) if place is not None and "WITH" in steps[place].opname]
+
+
+@functools.lru_cache(maxsize=1000)
+def blocks_at(code, last):
+    """The steps that load what each block of `with` around a step has taken, from the innermost on, and the names that
+    may stand for something else since: those that are stored at a later step, or in a function that the code makes. No
+    steps stand for those that aren't known. Many threads stand at one place."""
+    if sys.version_info < (3, 9) or WITH.isdisjoint(code.co_code[::2]):
+        return []
+    steps = list(dis.get_instructions(code))
+    at = max((place for place, step in enumerate(steps) if step.offset <= last), default=None)
+    if at is None:  # (in a call of Python code the last step may be within its own cache)
+        return []
+    places = blocks_by_table(code, steps, at) if sys.version_info >= (3, 11) else blocks_by_steps(steps, at)
+    starts = [(first_of(steps, place, 1), place) for place in places if steps[place].opname in BEGIN]
+    return [(steps[start:place] if start is not None and "ASYNC" not in steps[place].opname else [],
+             stored_in(code, steps[place].offset)) for start, place in starts]
+
+
+@functools.lru_cache(maxsize=10000)
+def stored_in(code, start=-1, is_elsewhere=False):
+    """The names that a code stores or deletes from a step on, and the functions in it. What it stores as variables of
+    its own doesn't count for code elsewhere."""
+    steps = [step for step in dis.get_instructions(code)
+             if step.offset >= start and step.opname.startswith(("STORE_", "DELETE_"))]
+    steps = [step for step in steps if not is_elsewhere or step.opname.endswith(("_ATTR", "_GLOBAL"))
+             or step.opname.endswith("_DEREF") and step.argval in code.co_freevars]
+    names = [name for step in steps for name in (step.argval if type(step.argval) is tuple else (step.argval,))]
+    return frozenset(names).union(
+        *(stored_in(each, -1, is_elsewhere) for each in code.co_consts if type(each) is types.CodeType))
+
+
+def stored_elsewhere(names, functions):
+    """Whether one of some functions but `__init__` stores another one's variable or an attribute of such a name."""
+    return any(not names.isdisjoint(stored_in(each.__code__, -1, True)) for each in functions
+               if type(each) is types.FunctionType and each.__name__ != "__init__")
+
+
+def functions_of(values):
+    """The functions among values, and those of the classes among them."""
+    kinds = {kind for value in values if issubclass(type(value), type)
+             for kind in type.__dict__["__mro__"].__get__(value)}
+    inner = [each for kind in kinds for each in list(kind.__dict__.values())]
+    return [each.__func__ if type(each) in (staticmethod, classmethod) else each for each in [*values, *inner]]
+
+
+def taken_in(frame):
+    """What a frame that runs has taken by `with`, from the innermost block on, as far as its code names it. None stands
+    for a block of which that isn't known, and the mark for a method for one that may give back what others have."""
+    return [taken_by(frame, *block) for block in blocks_at(frame.f_code, frame.f_lasti)]
+
+
+def taken_by(frame, steps, stored):
+    value, owner = called_at(frame, steps)[:0:-1] if steps else (Method, None)
+    if value is Method or not is_lock(lock_in(value)):
+        return None if is_harmless(first_in(frame, steps) if value is Method else value) else Method
+    loads = [each for each in steps if each.opname.startswith("LOAD_") and type(each.argval) is str]
+    names = {each.argval for each in loads}
+    shared = {each.argval for each in loads if not each.opname.startswith("LOAD_FAST")}
+    module = frame.f_globals.get("__name__")
+    others = [each for each in list(frame.f_globals.values())
+              if issubclass(type(each), (type, types.FunctionType)) and each.__module__ == module]
+    others = functions_of([*others, type(owner)]) if is_own(frame) else []
+    is_same = names.isdisjoint(stored) and not stored_elsewhere(shared, others)
+    return value if is_same else None
+
+
+def first_in(frame, steps):
+    """What the first name of some steps stands for, or a mark."""
+    with contextlib.suppress(ValueError, KeyError, IndexError):
+        return variable_of(frame, [step for step in steps if step.opname.startswith("LOAD_")][0])
+    return Method
+
+
+def is_harmless(value):
+    """Whether a block of this, or of what it makes, gives back no lock that others have: if it is of the library, but
+    for what runs functions of the program."""
+    kind = value if issubclass(type(value), (type, *CALLED)) else type(value)
+    name = value.__name__ if type(value) is types.ModuleType else str(kind.__module__)
+    known = ("_thread", "_io", "io", "builtins", *getattr(sys, "stdlib_module_names", ()))
+    return value is not Method and name.split(".")[0] in known and not name.startswith(("contextlib", "__main__"))
+
+
+def kept_in(coroutine):
+    """What a coroutine that is suspended has taken by `with` or `async with`, once for each block, behind a mark if it
+    is in a block that may give back what others have."""
+    frame = getattr(coroutine, "cr_frame", None)
+    inside = gc.get_referents(coroutine if sys.version_info >= (3, 11) else frame) if frame is not None else []
+    found = [each.__self__ for each in inside
+             if type(each) is types.MethodType and each.__func__.__name__ in ("__aexit__", "__exit__")
+             or type(each) is types.BuiltinMethodType and each.__name__ == "__exit__"]
+    return [Method] * any(not is_lock(lock_in(each)) and not is_harmless(each) for each in found) + found
+
+
+def lock_in(value):
+    """The lock that a block takes by an object: of a condition its own."""
+    is_condition = is_a(value, "threading", "Condition") or is_a(value, "asyncio.locks", "Condition")
+    return value._lock if is_condition else value
+
+
+def is_lock(value):
+    return type(value) is LOCK or is_a(value, "asyncio.locks", "Lock") or is_a(value, "asyncio.locks", "Semaphore")
+
+
+def given_back(frame):
+    """The lock that a frame of the library has given back for a while, as a wait for a condition does, or that it is
+    about to take for a block around it; else None."""
+    module, name = frame.f_globals.get("__name__"), frame.f_code.co_name
+    if (module, name) in (("threading", "wait"), ("asyncio.locks", "wait"), ("asyncio.locks", "__aenter__")):
+        return lock_in(frame.f_locals.get("self"))
+    return None
+
+
+def inside(rows):
+    """The ids of the locks that are taken in a stack, of which each row has a frame and what that has taken. Those that
+    an inner frame has given back, or is about to take, don't count, nor those around a mark."""
+    back, found, marks = [], [], [Method in values for _, values in rows]
+    for frame, values in rows[:(marks + [True]).index(True) + 1]:
+        for value in map(lock_in, values[:(values + [Method]).index(Method)]):
+            given = next((place for place, each in enumerate(back) if each is value), None)
+            if given is not None:
+                del back[given]
+            elif is_lock(value):
+                found.append(hex(id(value)))
+        back += [value for value in [given_back(frame)] if value is not None]
+    return list(dict.fromkeys(found))
+
+
+def inside_thread(frames):
+    return {"taken": inside([(frame, taken_in(frame)) for frame, _ in frames]), "releases": may_release(frames)}
+
+
+def inside_task(coroutine):
+    chain = coroutines_of(coroutine)
+    rows = [(getattr(each, "cr_frame", None), kept_in(each)) for each in chain]
+    rows = [row for row in rows if row[0] is not None]
+    return {"taken": inside(rows), "releases": may_release(rows)}
 
 
 # Frames.
@@ -343,21 +586,245 @@ def stack_of(frame):
     return found
 
 
-def chain_of(coroutine):
-    """The frames of a chain of awaits from the innermost on."""
+def letters_of(coroutine):
+    """How the attributes of a coroutine, a generator or an asynchronous generator begin, or nothing of others."""
+    return next((letters for letters in ("cr", "gi", "ag") if hasattr(coroutine, f"{letters}_frame")), "")
+
+
+def coroutines_of(coroutine):
+    """A chain of awaits from the innermost on."""
     found = []
     while coroutine is not None and len(found) < DEEP:
-        for letters in ("cr", "gi", "ag"):
-            if hasattr(coroutine, f"{letters}_frame"):
-                frame = getattr(coroutine, f"{letters}_frame")
-                inner = getattr(coroutine, "gi_yieldfrom" if letters == "gi" else f"{letters}_await", None)
-                break
-        else:
+        letters = letters_of(coroutine)
+        if not letters:
             break
-        if frame is not None:
-            found.append((frame, frame.f_lineno))
-        coroutine = inner
+        found.append(coroutine)
+        coroutine = getattr(coroutine, "gi_yieldfrom" if letters == "gi" else f"{letters}_await", None)
     return found[::-1]
+
+
+def chain_of(coroutine):
+    """The frames of a chain of awaits from the innermost on."""
+    frames = [getattr(each, f"{letters_of(each)}_frame") for each in coroutines_of(coroutine)]
+    return [(frame, frame.f_lineno) for frame in frames if frame is not None]
+
+
+class Holders:
+    """Looks for the tasks, futures and children that the code of some frames can reach by its names, also within lists,
+    attributes and functions: who has one may cancel or kill it. It stops where there are too many."""
+
+    def __init__(self):
+        self.left = WIDE
+
+    def held(self, frames):
+        """Those that these frames can reach, or None if they are too many, or that took too long."""
+        found, seen = {}, {}
+        for frame, _ in frames:
+            for value in named_in(frame):
+                self.look(value, NEAR, found, seen)
+        return list(found) if self.left > 0 and len(found) <= MOST else None
+
+    def look(self, value, depth, found, seen):
+        self.left -= 1
+        if is_work(value) or is_child(value):
+            found[hex(id(value))] = None
+        elif is_a(value, "concurrent.futures.thread", "ThreadPoolExecutor"):
+            found.update(dict.fromkeys(futures_in(value._work_queue)))  # (its shutdown may cancel them)
+        elif depth > seen.get(id(value), 0) and self.left > 0 and len(found) <= MOST:
+            seen[id(value)] = depth
+            for each in insides(value):
+                self.look(each, depth - 1, found, seen)
+
+
+def named_in(frame):
+    """What the code of a frame has names for: variables, their methods, globals. Of the library's own, what a thread
+    will call."""
+    if LIBRARIES.match(frame.f_globals.get("__name__") or ""):
+        return called_by(frame)
+    found = list(frame.f_locals.values())
+    names = set(frame.f_code.co_names)
+    kinds = {kind for value in found for kind in type.__dict__["__mro__"].__get__(type(value))}
+    return [*found, *globals_of(frame.f_code, frame.f_globals),
+            *(each for kind in kinds for name, each in list(kind.__dict__.items()) if name in names)]
+
+
+def called_by(frame):
+    """What a frame of the library will call: the work of a thread, of a pool, the callbacks of a loop."""
+    own, work = frame.f_locals.get("self"), frame.f_locals.get("work_queue")
+    if issubclass(type(own), threading.Thread):
+        return [vars(own)]
+    if frame.f_code.co_name == "run_forever":
+        handles = [each for each in [*handles_of(own), *list(getattr(own, "_ready", ()))]
+                   if callback_name(getattr(each, "_callback", None))]
+        return [part for each in handles for part in (each._callback, each._args)]
+    return [part for each in items_in(work) for part in (each.fn, each.args, each.kwargs)]
+
+
+def globals_of(code, names):
+    return [names[name] for name in code.co_names if name in names]
+
+
+def is_work(value):
+    return is_a(value, "asyncio.tasks", "Task") or is_a(value, "asyncio.futures", "Future") or \
+        is_a(value, "concurrent.futures._base", "Future")
+
+
+def is_child(value):
+    return is_a(value, "multiprocessing.process", "BaseProcess") or is_a(value, "subprocess", "Popen")
+
+
+def insides(value):
+    """What a list or the like has, what a function sees, or the attributes of an object of the program."""
+    if type(value) in (list, tuple, set, frozenset):
+        return list(value)
+    if type(value) is dict:
+        return list(value.values())
+    if type(value) is types.FunctionType:
+        return inside_function(value)
+    if type(value) in (types.MethodType, types.BuiltinMethodType):
+        return [value.__self__, getattr(value, "__func__", None)]
+    if type(value) is functools.partial:
+        return [value.func, *value.args, *value.keywords.values()]
+    for kind, name in ((types.GeneratorType, "gi_frame"), (types.CoroutineType, "cr_frame")):
+        if type(value) is kind:
+            return named_in(getattr(value, name)) if getattr(value, name) is not None else []
+    return [] if isinstance(value, types.ModuleType) else attributes_in(value)
+
+
+def inside_function(value):
+    """The values that a function sees: of those around it, of its arguments, and globals."""
+    found = list(value.__defaults__ or ())
+    for cell in value.__closure__ or ():
+        with contextlib.suppress(ValueError):  # (that is empty)
+            found.append(cell.cell_contents)
+    is_own = not LIBRARIES.match(value.__module__ or "")
+    return found + (globals_of(value.__code__, value.__globals__) if is_own else [])
+
+
+def attributes_in(value):
+    """The attributes of an object or class, also those in slots, and the lists and the like of its class."""
+    kinds = type.__dict__["__mro__"].__get__(value if isinstance(value, type) else type(value))
+    found = []
+    with contextlib.suppress(AttributeError, TypeError):
+        found += [] if isinstance(value, type) else object.__getattribute__(value, "__dict__").values()
+    for each in [each for kind in kinds if kind is not object for each in list(kind.__dict__.values())]:
+        if type(each) in (list, dict, set, tuple):
+            found.append(each)
+        elif type(each) is types.MemberDescriptorType and not isinstance(value, type):
+            with contextlib.suppress(AttributeError):  # (that isn't set)
+                found.append(each.__get__(value))
+    return found
+
+
+def ends_of(frames):
+    """The calls that end a process, or a wait by a signal, which the code of these frames of the program names."""
+    own = [frame.f_code.co_names for frame, _ in frames
+           if not LIBRARIES.match(frame.f_globals.get("__name__") or "")]
+    return [name for name in FATAL if any(name in names for names in own)]
+
+
+# Whether what some frames may still come to names what cancels a task or a future, or sets one.
+
+
+@functools.lru_cache(maxsize=1000)
+def names_ahead(code, last):
+    """The names of the steps of a code from one on, or from the first one that these go back to, and those of the
+    functions that they make."""
+    steps, start = list(dis.get_instructions(code)), last
+    jumps = [(step.offset, step.argval) for step in steps if step.opcode in (*dis.hasjrel, *dis.hasjabs)]
+    while any(at >= start > target for at, target in jumps):
+        start = min(target for at, target in jumps if at >= start)
+    loads = [step.argval for step in steps if step.offset >= start and step.opname.startswith("LOAD_")]
+    values = [each for value in loads for each in (value if type(value) is tuple else (value,))]
+    inner = [names_ahead(value, 0) for value in values if type(value) is types.CodeType]
+    return frozenset(value for value in values if type(value) is str).union(*inner)
+
+
+def is_own(frame):
+    return not LIBRARIES.match(frame.f_globals.get("__name__") or "")
+
+
+def called_later(frames):
+    """What frames of the library will call, but for the work of a thread that has begun it."""
+    found = []
+    for place, (frame, _) in enumerate(frames):
+        is_thread = issubclass(type(frame.f_locals.get("self")), threading.Thread)
+        has_begun = frame.f_code.co_name != "run" or any(is_own(each) for each, _ in frames[:place])
+        if not is_own(frame) and not (is_thread and has_begun):
+            found += called_by(frame)
+    return spread(spread(found))
+
+
+def spread(values):
+    """Values, and what those have that are lists or the like."""
+    kinds = (list, tuple, dict, functools.partial, types.MethodType)
+    return [*values, *(each for value in values if type(value) in kinds for each in insides(value))]
+
+
+def kinds_of(values):
+    """The names of the classes of values, and of those that are classes."""
+    kinds = {type(value) for value in values} | {value for value in values if issubclass(type(value), type)}
+    return [each.__dict__ for each in {each for kind in kinds for each in type.__dict__["__mro__"].__get__(kind)}]
+
+
+def attributes_of(value):
+    """The attributes of a module or an object, if no code of the job has to run for it."""
+    try:
+        return object.__getattribute__(value, "__dict__")
+    except (AttributeError, TypeError):
+        return {}
+
+
+def named_by(names, places):
+    """What names stand for: in variables, as attributes and methods of these, and of what they stand for there."""
+    found = [place[name] for place in places for name in names if name in place]
+    found += [inner[name] for inner in map(attributes_of, found) for name in names if name in inner]
+    kinds = kinds_of([*found, *list(places[0].values())])
+    return spread(found + [each[name] for each in kinds for name in names if name in each])
+
+
+def reaches(words, frames, start_of, called=()):
+    """Whether the code of some frames of the program from a step on has one of some names, or functions have it that
+    this names, some steps far, or that will be called."""
+    ways = [(names_ahead(frame.f_code, start_of(frame)), (frame.f_locals, frame.f_globals))
+            for frame, _ in frames if is_own(frame)]
+    values, seen = [*called, *called_later(frames)], set()
+    for _ in range(NEAR + 1):
+        values += [value for names, places in ways for value in named_by(names, places)]
+        names = {value.__name__ for value in values if type(value) in CALLED}
+        if not words.isdisjoint(names.union(*(names for names, _ in ways))):
+            return True
+        new = {value for value in values if type(value) is types.FunctionType and is_foreign(value)} - seen
+        seen |= new
+        LEFT["codes"] -= len(new)
+        if LEFT["codes"] < 0:
+            return True
+        ways = [(names_ahead(each.__code__, 0), (cells_in(each), each.__globals__)) for each in new]
+        values = []
+    return False
+
+
+def may_cancel(frames, called=()):
+    """Whether these frames may still come to what ends the wait for a task or a future of others."""
+    return reaches(CANCELS, frames, lambda frame: frame.f_lasti, called)
+
+
+def may_release(frames):
+    """Whether these frames may give back a lock, or have done so: a module's code runs once alone."""
+    return reaches({"release"}, frames, lambda frame: frame.f_lasti if frame.f_code.co_name == "<module>" else 0)
+
+
+def is_foreign(function):
+    return not LIBRARIES.match(function.__module__ or "")
+
+
+def cells_in(function):
+    """What a function sees of those around it, by name."""
+    found = {}
+    for name, cell in zip(function.__code__.co_freevars, function.__closure__ or ()):
+        with contextlib.suppress(ValueError):  # (that is empty)
+            found[name] = cell.cell_contents
+    return found
 
 
 # Threads and tasks.
@@ -371,15 +838,26 @@ def places():
 
 
 def counts_of(native):
-    """The nanoseconds of processor time of a thread, and how often it has stopped to wait. None where not shown."""
+    """The nanoseconds of processor time of a thread, how often it has stopped to wait, and whether it sleeps in the
+    kernel now. None where not shown."""
     try:
         with open(f"/proc/self/task/{native}/schedstat") as file:
             spent = int(file.read().split()[0])
         with open(f"/proc/self/task/{native}/status") as file:
-            stops = int(re.search(r"^voluntary_ctxt_switches:\s*(\d+)", file.read(), re.M)[1])
-        return spent, stops
+            status = file.read()
+        stops = int(re.search(r"^voluntary_ctxt_switches:\s*(\d+)", status, re.M)[1])
+        return spent, stops, re.search(r"^State:\s*(\w)", status, re.M)[1] == "S"
     except (OSError, TypeError, ValueError, IndexError):
-        return None, None
+        return None, None, None
+
+
+def between(first, last):
+    """What a row has of the counts of a thread at two looks. They are taken before and after all else of the row: where
+    it slept at both and hasn't stopped anew, it was at one wait all the time."""
+    spent, stops, asleep = last
+    is_known = None not in (*first, *last)
+    return {"stops": stops, "spent": spent - first[0] if is_known else None,
+            "new_stops": stops - first[1] if is_known else None, "asleep": asleep and first[2] if is_known else None}
 
 
 def running_loop(frames):
@@ -390,7 +868,7 @@ def running_loop(frames):
     return None
 
 
-def thread_rows(before, spent):
+def thread_rows(before, spent, holders):
     """A row for each thread, and the loops that they run."""
     names, loops, rows = {each.ident: each for each in threading.enumerate()}, {}, []
     now = places()
@@ -399,18 +877,19 @@ def thread_rows(before, spent):
             continue
         frames, thread = stack_of(frame), names.get(ident)
         native = getattr(thread, "native_id", None)
-        time_spent, stops = counts_of(native) if native else (None, None)
-        first = spent.get(ident, (None, None))[0]
+        call, shown = guarded(call_of, frame), [guarded(frame_row, *each) for each in frames]
+        counts = between(spent.get(ident, (None,) * 3), counts_of(native) if native else (None,) * 3)
         loop = running_loop(frames)
         if loop is not None:
             loops[id(loop)] = (loop, ident)
         rows.append({
             "thread": ident, "name": thread.name if thread else f"foreign-{ident}", "native": native,
             "daemon": thread.daemon if thread else True, "main": thread is threading.main_thread(),
-            "moved": before.get(ident) != now.get(ident), "stops": stops,
-            "spent": None if None in (time_spent, first) else time_spent - first,
-            "loop": hex(id(loop)) if loop is not None else None, "call": guarded(call_of, frame),
-            "frames": [guarded(frame_row, *each) for each in frames]})
+            "moved": before.get(ident) != now.get(ident), **counts, "holds": guarded(holders.held, frames),
+            "ends": guarded(ends_of, frames), "cancels": guarded(may_cancel, frames),
+            "loop": hex(id(loop)) if loop is not None else None, "call": call,
+            **guarded(inside_thread, frames),
+            "frames": shown})
     return rows, loops
 
 
@@ -420,6 +899,11 @@ def guarded(function, *arguments):
         return function(*arguments)
     except Exception as error:  # whatever an object of the job raises while it is looked at
         return {"error": type(error).__name__}
+
+
+def space():
+    """The machine and the container in which the numbers of processes and threads are these."""
+    return f"{os.uname().nodename} {os.readlink('/proc/self/ns/pid')}"
 
 
 def tasks_of_all():
@@ -438,11 +922,89 @@ def tasks_of_all():
     return []
 
 
+def number_of(value):
+    """A number that no other object has, also none that is made later at the same place."""
+    reference, number = NUMBERS.get(id(value), (None, 0))
+    if reference is None or reference() is not value:
+        number = next(NEXT)
+        NUMBERS[id(value)] = weakref.ref(value), number
+    return number
+
+
+def forget_numbers():
+    """Drops the numbers of objects that are gone."""
+    for key in [key for key, (reference, _) in NUMBERS.items() if reference() is None]:
+        del NUMBERS[key]
+
+
+def timers_of(loop):
+    return [timer for timer in list(loop._scheduled) if not timer.cancelled()]
+
+
+def readers_of(loop):
+    """What a loop calls for sockets and pipes."""
+    found = [handle for key in list((loop._selector.get_map() or {}).values()) for handle in key.data or ()]
+    return [handle for handle in found if handle is not None]
+
+
+def signals_of(loop):
+    """What a loop calls for signals, but for those that end a program."""
+    return [handle for number, handle in list(loop._signal_handlers.items()) if number not in FINAL]
+
+
+def handles_of(loop):
+    """All that a loop calls by itself, as far as it shows it."""
+    found = []
+    for some in (timers_of, readers_of, signals_of):
+        with contextlib.suppress(AttributeError):  # (a loop that isn't asyncio's own)
+            found += some(loop)
+    return found
+
+
+def callbacks_of(loop):
+    """The names of what timers of a loop will call, or sockets, that may cancel a task."""
+    found = {foreign_name(each._callback, True) for each in timers_of(loop)}
+    return sorted(filter(None, found | {foreign_name(each._callback, False) for each in readers_of(loop)}))
+
+
+def handlers_of(loop):
+    """The names of what a loop will call for signals: the program has put all of it there."""
+    return sorted({foreign_name(each._callback, False) or "?" for each in signals_of(loop)})
+
+
+def foreign_name(callback, is_timer):
+    """The name of what a loop calls and that isn't known to cancel nobody: a function of the program, or one of asyncio
+    that the program has put there. Of a timer that wakes or cancels a task or a future the row of that says so."""
+    name = callback_name(callback)
+    on = getattr(callback, "__self__", None)
+    if name or callback is None or is_timer and is_work(on):
+        return name
+    if is_work(on):
+        return f"{type(on).__name__}.{callback.__name__}"
+    if type(callback) is functools.partial:
+        return "functools.partial"
+    own = getattr(callback, "__qualname__", "?")
+    return "" if own.split(".")[-1].startswith(("_", "<")) else f"{type(on).__module__}.{own}"
+
+
+def callback_name(callback):
+    """The name of a function of the program, or nothing for one of asyncio itself, whose purpose a state shows."""
+    while isinstance(callback, functools.partial):
+        callback = callback.func
+    on = getattr(callback, "__self__", None)
+    if callback is None or is_a(on, "asyncio.futures", "Future") or is_a(on, "asyncio.tasks", "Task"):
+        return ""
+    module = str(getattr(callback, "__module__", None) or type(on).__module__)
+    if module.startswith(("asyncio.", "async_timeout")) and not module.startswith(("asyncio.locks", "asyncio.queues")):
+        return ""
+    return f"{module}.{getattr(callback, '__qualname__', type(callback).__name__)}".replace(".<locals>", "")
+
+
 def timed(loop):
     """The ids of what the timers of a loop will wake or cancel: futures, tasks, limits of asyncio.timeout."""
     found = set()
     for timer in list(getattr(loop, "_scheduled", ())):
-        if not timer.cancelled():
+        if not timer.cancelled() and not callback_name(timer._callback):
             on = getattr(timer._callback, "__self__", None)
             found.update(id(each) for each in (*(timer._args or ()), on, getattr(on, "_task", None)))
     return found
@@ -457,18 +1019,21 @@ def parent_of(task):
     return {}
 
 
-def task_row(task, timers, before):
+def task_row(task, timers, before, holders):
     waiter = getattr(task, "_fut_waiter", None)
     coroutine = task.get_coro()
     chain = chain_of(coroutine)
-    place = [(id(frame), frame.f_lasti) for frame, _ in chain] + [id(waiter)]
+    place = [(id(frame), frame.f_lasti) for frame, _ in chain] + [number_of(waiter) if waiter is not None else 0]
     sets = [cells_of(callback, "_chain_future.<locals>._call_set_state").get("destination")
             for callback, _ in getattr(task, "_callbacks", None) or ()]
     return {
-        "task": hex(id(task)), "name": task.get_name(), "loop": hex(id(task.get_loop())),
-        "moved": id(task) in before and before[id(task)] != place,
+        "task": hex(id(task)), "number": number_of(task), "name": task.get_name(), "loop": hex(id(task.get_loop())),
+        "moved": id(task) in before and before[id(task)] != place, "wait": place[-1],
         "waits": describe(waiter), "limit": id(task) in timers or (waiter is not None and id(waiter) in timers),
         "sets": [hex(id(future)) for future in sets if future is not None], **parent_of(task),
+        "holds": guarded(holders.held, chain), "ends": guarded(ends_of, chain),
+        "cancels": guarded(may_cancel, chain, spread([each for each, _ in getattr(task, "_callbacks", None) or ()])),
+        **guarded(inside_task, coroutine),
         "frames": [guarded(frame_row, *each) for each in chain]}
 
 
@@ -476,7 +1041,9 @@ def task_places():
     found = {}
     for task in tasks_of_all():
         chain = chain_of(task.get_coro())
-        found[id(task)] = [(id(frame), frame.f_lasti) for frame, _ in chain] + [id(getattr(task, "_fut_waiter", None))]
+        waiter = getattr(task, "_fut_waiter", None)
+        found[id(task)] = [(id(frame), frame.f_lasti) for frame, _ in chain]
+        found[id(task)].append(number_of(waiter) if waiter is not None else 0)
     return found
 
 
@@ -491,18 +1058,20 @@ def asked_of(loop):
     return rows
 
 
-def task_rows(loops, before):
+def task_rows(loops, before, holders):
     """A row for each task, and for each loop with the task that has its thread."""
     tasks = [task for task in tasks_of_all() if not task.done()]
     tasks.sort(key=lambda it: (len(it.get_name()), it.get_name()))
     found = {id(task.get_loop()): (task.get_loop(), None) for task in tasks}
     found.update(loops)
     timers = {key: timed(loop) for key, (loop, _) in found.items()}
-    rows = [guarded(task_row, task, timers[id(task.get_loop())], before) for task in tasks]
+    rows = [guarded(task_row, task, timers[id(task.get_loop())], before, holders) for task in tasks]
     for loop, ident in found.values():
         ident = ident or getattr(loop, "_thread_id", None)
         task = sys.modules["asyncio"].current_task(loop) if "asyncio" in sys.modules else None
-        rows.append({"runs": hex(id(loop)), "thread": ident, "current": hex(id(task)) if task is not None else None})
+        rows.append({"runs": hex(id(loop)), "thread": ident, "current": hex(id(task)) if task is not None else None,
+                     "callbacks": guarded(callbacks_of, loop),
+                     "signals": guarded(handlers_of, loop)})
         rows += asked_of(loop)
     return rows
 
@@ -511,7 +1080,49 @@ def children_rows():
     """The processes that multiprocessing has started here, and that it has not seen end."""
     module = sys.modules.get("multiprocessing.process")
     children = list(getattr(module, "_children", ()))
-    return [{"child": getattr(child._popen, "pid", None), "name": child.name} for child in children]
+    return [{"child": getattr(child._popen, "pid", None), "name": child.name,
+             "ended": has_ended(getattr(child._popen, "pid", None))} for child in children]
+
+
+def has_ended(pid):
+    """Whether a child is there only until somebody asks for its status."""
+    try:
+        with open(f"/proc/{pid}/stat") as file:
+            return file.read().rpartition(")")[2].split()[0] in ("Z", "X")
+    except (OSError, IndexError):
+        return None
+
+
+def alarm_row():
+    """The seconds to the next alarm of this process with who gets it, and who is told of a child that ends."""
+    return {"alarm": signal.getitimer(signal.ITIMER_REAL)[0], "on_alarm": handler_name(signal.SIGALRM),
+            "on_child": handler_name(signal.SIGCHLD), "foreign_timer": has_foreign_timer()}
+
+
+def has_foreign_timer():
+    """Whether a thread that isn't Python's blocks all signals, as that of faulthandler.dump_traceback_later does. None
+    where that isn't shown."""
+    known = {str(each.native_id) for each in threading.enumerate()}
+    try:
+        return any(is_blocked(number) for number in os.listdir("/proc/self/task") if number not in known)
+    except OSError:
+        return None
+
+
+def is_blocked(number):
+    """Whether a thread blocks all signals that can be blocked."""
+    with contextlib.suppress(OSError), open(f"/proc/self/task/{number}/status") as file:
+        found = re.search(r"^SigBlk:\s*([0-9a-f]+)", file.read(), re.M)
+        return found is not None and int(found[1], 16) & SIGNALS == SIGNALS
+    return False
+
+
+def handler_name(number):
+    """The name of the function that a signal calls, 'default', or None if nothing comes of it."""
+    handler = signal.getsignal(number)
+    if handler in (signal.SIG_IGN, None):
+        return None
+    return getattr(handler, "__qualname__", "function") if handler is not signal.SIG_DFL else "default"
 
 
 def process_name():
@@ -519,18 +1130,25 @@ def process_name():
     return module.current_process().name if module else "MainProcess"
 
 
-def state():
-    """The lines of a state, of this moment. It takes two looks, between which it sleeps."""
+def state(number=0):
+    """The lines of a state, of this moment, which the signal of this number asked for. It takes two looks, between
+    which it sleeps."""
     seconds = float(os.environ.get("CMH_STATE_SECONDS", "0.25"))
+    began = time.time()
+    forget_numbers()
+    LEFT["codes"] = CODES
     before, tasks_before = places(), guarded(task_places)
     natives = {each.ident: each.native_id for each in threading.enumerate()}
     spent = {ident: counts_of(native) for ident, native in natives.items()}
     time.sleep(seconds)
-    threads, loops = thread_rows(before, spent)
-    tasks = guarded(task_rows, loops, {} if "error" in tasks_before else tasks_before)
+    holders = Holders()
+    threads, loops = thread_rows(before, spent, holders)
+    tasks = guarded(task_rows, loops, {} if "error" in tasks_before else tasks_before, holders)
     rows = threads + (tasks if isinstance(tasks, list) else [tasks]) + children_rows()
     head = {"version": VERSION, "process": process_name(), "pid": os.getpid(), "parent": os.getppid(),
+            "host": os.uname().nodename, "space": guarded(space), "reader": threading.get_native_id() if number else 0,
             "python": sys.version.split()[0], "time": time.strftime("%Y-%m-%dT%H:%M:%S"), "seconds": seconds,
+            "began": began, "ended": time.time(), "signal": number, **guarded(alarm_row),
             "unseen": [name for name in OTHER_TASKS if name in sys.modules]}
     rows = [{"of": os.getpid(), **row} for row in rows]
     return "".join(f"{MARK}{json.dumps(row)}\n" for row in [head, *rows, {"end": os.getpid(), "rows": len(rows)}])
@@ -539,8 +1157,8 @@ def state():
 # The thread that prints, and what wakes it.
 
 
-def write_state():
-    text = state().encode()
+def write_state(number=0):
+    text = state(number).encode()
     path = os.environ.get("CMH_STATE_FILE", "").replace("%p", str(os.getpid()))
     number = os.open(path, os.O_WRONLY | os.O_APPEND | os.O_CREAT | os.O_NOFOLLOW, 0o600) if path else 2
     try:
@@ -558,7 +1176,7 @@ class Printer:
     to run for it."""
 
     def __init__(self, number):
-        self.number, self.thread = number, None
+        self.number, self.thread, self.signals = number, None, 0
         self.open()
 
     def open(self):
@@ -574,11 +1192,19 @@ class Printer:
                 self.thread.start()
 
     def serve(self):
+        pause = float(os.environ.get("CMH_STATE_PAUSE", "5"))
         while b"stop" not in self.read():
-            try:
-                write_state()
-            except Exception as error:  # an error here must not end the thread that answers
-                os.write(2, f"cmh_state: no state: {type(error).__name__}: {error}\n".encode())
+            self.signals += 1
+            time.sleep(SETTLE)
+            self.answer()
+            if pause > 0 and not select.select([self.read_end], [], [], pause)[0]:
+                self.answer()
+
+    def answer(self):
+        try:
+            write_state(self.signals)
+        except Exception as error:  # an error here must not end the thread that answers
+            os.write(2, f"cmh_state: no state: {type(error).__name__}: {error}\n".encode())
 
     def read(self):
         """What the signal's handler wrote, all of it."""
@@ -602,6 +1228,13 @@ class Printer:
         self.open()
 
 
+def show(name):
+    """Keeps a file in memory open with the signal's name, by which others see that this process answers. A process that
+    is forked has it too, and answers; one that runs another program hasn't."""
+    number = os.memfd_create("cmh_state")
+    os.write(number, name.encode())
+
+
 def start():
     name = os.environ.get("CMH_STATE_SIGNAL", "SIGUSR2")
     number = getattr(signal, name, None)
@@ -610,6 +1243,9 @@ def start():
         return None
     printer = Printer(number)
     os.register_at_fork(before=printer.stop, after_in_parent=printer.start, after_in_child=printer.open_in_child)
+    if hasattr(os, "memfd_create"):
+        with contextlib.suppress(OSError):  # (an old kernel)
+            show(name)
     return printer
 
 

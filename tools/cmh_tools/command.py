@@ -1,61 +1,98 @@
-"""What both commands share: where notes lie, how a file becomes a sketch, and how faults end a command."""
+"""What both commands share: their words, where notes lie, how a file becomes a sketch, and how faults end a command."""
 from __future__ import annotations
 
+import argparse
+import gc
 import os
-import sys
+from typing import Any, Callable, Dict, NoReturn, Optional, Sequence, Tuple
 
-from .files import Failure, Refusal, read_text, shown
-from .sketch import read_json, sketch_of
+from . import VERSION
+from .dump import Dump
+from .files import Failure, Refusal, read_text, say, shown, write_out
+from .sketch import OLDER, Sketch, read_json, sketch_of
 
 
-def notes_path(path):
+class Parser(argparse.ArgumentParser):
+    """A parser of the words of a command. What it writes goes the way of all that a command writes."""
+
+    def __init__(self, prog: Optional[str] = None, **more: Any) -> None:
+        super().__init__(prog, formatter_class=argparse.RawDescriptionHelpFormatter, allow_abbrev=False, **more)
+
+    def add_version(self) -> None:
+        self.add_argument("--version", action=Version, nargs=0, help="print the version, which is that of cmh")
+
+    def print_help(self, file: Any = None) -> None:
+        write_out(self.format_help())
+
+    def error(self, message: str) -> NoReturn:
+        say(f"{self.format_usage()}{self.prog}: error: {message}")
+        raise SystemExit(2)
+
+
+class Version(argparse.Action):
+    """What --version does."""
+
+    def __call__(self, parser: argparse.ArgumentParser, *_: object) -> NoReturn:
+        write_out(f"{parser.prog} {VERSION}\n")
+        raise SystemExit(0)
+
+
+def notes_path(path: str) -> str:
     """Returns the path of the notes of a dump: dump.notes.json beside dump.json."""
     return f"{path[:-5] if path.endswith('.json') else path}.notes.json"
 
 
-def is_dump(tree):
+def is_dump(tree: Any) -> bool:
     return isinstance(tree, dict) and "sites" in tree
 
 
-def is_notes(tree):
+def is_notes(tree: Any) -> bool:
     return isinstance(tree, dict) and "sketch" in tree
 
 
-def sketch_of_dump(tree, where):
-    """Returns the sketch of a dump without notes: who is active runs, and who is idle waits for any."""
+NO_NOTES = "the dump has no notes, which would say whether it runs or is unknown"
+
+
+def sketch_of_dump(tree: Any, where: str, is_by_hand: bool) -> Sketch:
+    """Returns the sketch of a dump without notes: one that is idle waits for any. One that is active runs in a dump
+    that was written by hand; else it may be unknown, which a dump can't say."""
     rows = tree.get("processes")
     if not isinstance(rows, list) or not all(isinstance(row, dict) and "name" in row for row in rows):
         raise Refusal(f"{shown(where)}: it is no dump: 'processes' is no list of processes with names")
+    active: Dict[str, Any] = {"runs": True} if is_by_hand else {"unknown": NO_NOTES, "proposal": "none"}
     made = []
     for row in rows:
-        waits = {"waits_for_any": row.get("dependents", [])} if row.get("state") == "idle" else {"runs": True}
+        waits = {"waits_for_any": row.get("dependents", [])} if row.get("state") == "idle" else active
         made.append({"name": row["name"], "site": row.get("site"), **waits})
     return sketch_of({"processes": made, "in_transit": tree.get("in_transit") or []}, where)
 
 
-def read_any(path):
+def read_any(path: str) -> Sketch:
     """Returns the sketch of a file that has a sketch, a dump's notes, or a dump: then of its notes, if it has some."""
     tree = read_json(read_text(path), path)
     if is_notes(tree):
-        return sketch_of(tree["sketch"], path)
+        return sketch_of(tree["sketch"], path, OLDER)
     if not is_dump(tree):
         return sketch_of(tree, path)
     notes = notes_path(path)
-    return read_any(notes) if os.path.exists(notes) else sketch_of_dump(tree, path)
+    return dump_of_notes(tree, path, notes)[0].sketch if os.path.exists(notes) else sketch_of_dump(tree, path, False)
 
 
-def write_out(text):
-    """Writes a text to standard output. Raises Failure if that fails."""
-    try:
-        sys.stdout.buffer.write(text.encode("utf-8", "backslashreplace"))
-        sys.stdout.buffer.flush()
-    except OSError as error:
-        sys.stdout = open(os.devnull, "w", encoding="utf-8")  # so that nothing is written again at the end
-        raise Failure(f"standard output: {error.strerror}") from error
+def dump_of_notes(tree: Any, path: str, notes: str) -> Tuple[Dump, Any]:
+    """Returns a dump, made anew from its notes, and these. Raises Refusal if it is another one."""
+    noted = read_json(read_text(notes), notes)
+    if not is_notes(noted):
+        raise Refusal(f"{shown(notes)}: it has no 'sketch', so these are no notes of cmh-dump")
+    dump = Dump(sketch_of(noted["sketch"], notes, OLDER))
+    if tree != read_json(dump.text(dump.low), path):
+        raise Refusal(f"{shown(path)}: it isn't the dump of {shown(notes)}: one of them was changed. Make both "
+                      "again with cmh-dump, or move the notes away")
+    return dump, noted
 
 
-def run(name, main, words):
+def run(name: str, main: Callable[[Sequence[str]], int], words: Sequence[str]) -> int:
     """Runs a command, and returns its status. A fault is one line on standard error."""
+    gc.disable()  # what a command makes stays to its end, and to look through it again and again takes long
     try:
         return main(words)
     except Refusal as refusal:
@@ -64,10 +101,8 @@ def run(name, main, words):
         return fault(name, failure, failure.status)
     except MemoryError:
         return fault(name, "out of memory", 4)
-    except KeyboardInterrupt:
-        return 130
 
 
-def fault(name, text, status):
-    print(f"{name}: {text}".encode("utf-8", "backslashreplace").decode(), file=sys.stderr)
+def fault(name: str, text: object, status: int) -> int:
+    say(f"{name}: {text}")
     return status

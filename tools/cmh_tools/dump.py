@@ -1,28 +1,29 @@
 """Makes the two dumps of a sketch: low, with unknown ones active, and high, with unknown ones idle for good.
 
-Names that the program refuses are made acceptable and stay apart. A sketch above the program's limits loses first those
-that nobody waits for, as many as needed and with their messages: that changes no other verdict, root or path. Then
-twins are folded into one: they have the same site, wait and messages, and stand in just the same lists.
+Names that the program refuses are made acceptable and stay apart. A sketch above the program's limits is made to fit
+them (`reduction`). If one dump can't have it, it has several parts, each with its two dumps.
 """
 from __future__ import annotations
 
 import json
 import re
-from typing import Dict, List
+from typing import Any, Dict, List, Set
 
-from .files import Refusal
-from .sketch import ALL, ANY, ENDED, RUNS, UNKNOWN, text_of_sketch
-from .stuck import Waits
+from .reduction import Reduction
+from .sketch import Sketch, text_of_sketch
+from .stuck import Answer, Waits
 
-PROCESSES, DEPENDENTS, MESSAGES, LONGEST = 4096, 65536, 4096, 64
+MESSAGES, LONGEST = 4096, 64
 NAME = re.compile(r"[A-Za-z0-9][A-Za-z0-9_.:/-]{0,63}")
 NO_SITE = "no-site"
+HUB, STUCK, RUNNING = "list", "stuck-elsewhere", "runs-elsewhere"
 
 
-def program_names(names):
+def program_names(names: List[str]) -> Dict[str, str]:
     """Returns for each name, which stands once, a name that the program accepts: itself if it can be."""
     found = {name: name for name in names if NAME.fullmatch(name)}
-    taken, numbers = set(found), {}
+    taken = set(found)
+    numbers: Dict[str, int] = {}
     for name in names:
         if name in found:
             continue
@@ -38,10 +39,10 @@ def program_names(names):
 
 
 class Dump:
-    """The dumps of a sketch. `kept` are the indices of those in it, `left_out` and `folded` say what became of others:
-    a list, and who stands for each."""
+    """The dumps of a sketch. `parts` have the indices of those in each, the first of which is the dump that is written;
+    `left_out` and `folded` say what became of others: a list, and who stands for each."""
 
-    def __init__(self, sketch):
+    def __init__(self, sketch: Sketch) -> None:
         self.sketch, self.waits = sketch, Waits(sketch)
         self.names = program_names([process.name for process in sketch.processes])
         sites = dict.fromkeys(process.site for process in sketch.processes if process.site is not None)
@@ -49,127 +50,102 @@ class Dump:
         self.no_site = NO_SITE
         while self.no_site in self.sites.values():
             self.no_site += "-"
-        cut = Reduction(self.waits)
-        self.kept, self.left_out, self.folded = cut.rest(), cut.left_out, cut.folded
+        self.taken = set(self.names.values())
         self.low, self.high = self.waits.answer(False), self.waits.answer(True)
+        self.cut = Reduction(self.waits)
+        self.kept, self.left_out = self.cut.kept, self.cut.left_out
+        self.folded = {at: self.cut.stands_for(at) for at in self.cut.over if at < self.waits.number}
+        self.parts = self.cut.parts([self.low, self.high])
 
-    def name(self, at):
-        return self.names[self.waits.processes[at].name]
+    def name(self, at: int) -> str:
+        """Returns the name of one in the dump, also of a hub."""
+        if at < self.waits.number:
+            return self.names[self.waits.processes[at].name]
+        return self.added(f"{HUB}-{at - self.waits.number + 1}")
 
-    def site(self, at):
-        site = self.waits.processes[at].site
+    def added(self, name: str) -> str:
+        """Returns the name of an added process, which no other one has."""
+        while name in self.taken:
+            name += "-"
+        return name
+
+    def site(self, at: int) -> str:
+        """Returns the site of one in the dump. That of a hub is the site of one that waits for it."""
+        site = self.waits.processes[at if at < self.waits.number else self.waits.waiters[at][0]].site
         return self.no_site if site is None else self.sites[site]
 
-    def text(self, answer):
-        """Returns the dump with the picks of an answer, which is `low` or `high`, as a line for each process."""
-        there = set(self.kept)
-        lists = {at: answer.dependents(at) for at in self.kept}
-        rows = []
-        for at, others in lists.items():
-            row = {"name": self.name(at), "site": self.site(at), "state": "active" if others is None else "idle"}
-            if others is not None:
-                row["dependents"] = [self.name(other) for other in others if other in there]
-            rows.append(json.dumps(row))
-        pairs = self.pairs(lists, there)
-        sites = json.dumps(sorted({self.site(at) for at in self.kept}))
+    def text(self, answer: Answer, part: int = 0) -> str:
+        """Returns the dump of a part with the picks of an answer, which is `low` or `high`, as a line for each process.
+        """
+        rows, pairs = self.rows(answer, part), self.pairs(answer, part)
+        sites = json.dumps(sorted({row["site"] for row in rows}))
         more = f',\n"in_transit":{json.dumps(pairs)}' if pairs else ""
-        lines = ",\n  ".join(rows)
+        lines = ",\n  ".join(map(json.dumps, rows))
         return f'{{"version":{2 if pairs else 1},"sites":{sites},"processes":[\n  {lines}]{more}}}\n'
 
-    def pairs(self, lists, there):
+    def rows(self, answer: Answer, part: int) -> List[Dict[str, Any]]:
+        """Returns the rows of a part, with those that stand for other parts at the end."""
+        kept = self.parts[part]
+        there = set(kept)
+        rows = [self.row(at, answer, there) for at in kept]
+        known = {name for row in rows for name in row.get("dependents", ())}
+        added = {"site": self.site(kept[0])} if kept else {}
+        stuck, running = self.added(STUCK), self.added(RUNNING)
+        rows += [{"name": stuck, **added, "state": "idle", "dependents": []}] if stuck in known else []
+        return rows + ([{"name": running, **added, "state": "active"}] if running in known else [])
+
+    def row(self, at: int, answer: Answer, there: Set[int]) -> Dict[str, Any]:
+        """Returns the row of a process. One row stands for those of its list that are in other parts."""
+        row: Dict[str, Any] = {"name": self.name(at), "site": self.site(at)}
+        others = self.cut.dependents(at, answer)
+        if others is None:
+            return {**row, "state": "active"}
+        names = [self.name(other) for other in others if other in there]
+        elsewhere = [other for other in others if other not in there]
+        if elsewhere:
+            runs = not all(answer.inside[it] for it in elsewhere) or not there.issuperset(self.senders(at))
+            names.append(self.added(RUNNING if runs else STUCK))
+        return {**row, "state": "idle", "dependents": names}
+
+    def senders(self, at: int) -> Set[int]:
+        """Returns who stands for those whose message unblocks one."""
+        return {self.cut.stands_for(it) for it in self.waits.senders[at]}
+
+    def pairs(self, answer: Answer, part: int) -> List[List[str]]:
         """Returns the messages that unblock their receiver: all, or if that is too many one for each receiver."""
-        found = []
-        for at, others in lists.items():
-            senders = sorted(self.waits.senders[at].intersection(others or ()) & there)
-            found.append([[self.name(sender), self.name(at)] for sender in senders])
+        found, there = [], set(self.parts[part])
+        for at in self.parts[part]:
+            senders = self.senders(at) & there & set(self.cut.dependents(at, answer) or ())
+            found.append([[self.name(sender), self.name(at)] for sender in sorted(senders)])
         pairs = [pair for some in found for pair in some]
         return pairs if len(pairs) <= MESSAGES else [some[0] for some in found if some]
 
-    def notes(self):
-        """Returns the text of the notes: the sketch, and what became of its names and processes."""
+    def stuck_names(self, answer: Answer, part: int) -> Set[str]:
+        """Returns whom the program has to call deadlocked in the dump of a part."""
+        there = {row["name"] for row in self.rows(answer, part)}
+        return there & {self.added(STUCK), *(self.name(at) for at in self.parts[part] if answer.is_stuck(at))}
+
+    def cut_lines(self) -> List[str]:
+        """Returns in words what became of those that the dump hasn't as they are."""
+        alike, hubs = len(self.folded) - self.cut.twins, sum(at >= self.waits.number for at in self.kept)
+        rows = [(len(self.left_out), "process", "processes", "that nobody waits for {} not in it"),
+                (self.cut.twins, "process", "processes", "{} folded into a twin"),
+                (alike, "process", "processes", "{} folded into one that is stuck just if it is"),
+                (hubs, "list", "lists", "that several share {} a process of the dump")]
+        words = [f"{number:,} {one if number == 1 else many} {text.format('is' if number == 1 else 'are')}"
+                 for number, one, many, text in rows if number]
+        parts = len(self.parts)
+        return words + ([f"the rest is cut into {parts:,} dumps, where cmh confirms each"] if parts > 1 else [])
+
+    def notes(self, **about: object) -> str:
+        """Returns the text of the notes: the sketch, what became of its names and processes, and what `about` says."""
         named = [process.name for process in self.sketch.processes]
-        more = {
+        more: Dict[str, object] = {
             "names": {name: new for name, new in self.names.items() if name != new},
             "sites": {site: new for site, new in self.sites.items() if site != new},
             "left_out": [named[at] for at in self.left_out],
             "folded": {named[at]: named[one] for at, one in self.folded.items()},
+            **about,
         }
         lines = "".join(f",\n{json.dumps(key)}: {json.dumps(value)}" for key, value in more.items())
         return f'{{"sketch": {text_of_sketch(self.sketch)}{lines}}}\n'
-
-
-class Reduction:
-    """Leaves out and folds as many as the program's limits need. Raises Refusal if that isn't enough."""
-
-    def __init__(self, waits):
-        self.waits, self.left_out = waits, []
-        self.folded: Dict[int, int] = {}
-        self.there = [waits.kind(at) != ENDED for at in range(len(waits.processes))]
-        self.processes = sum(self.there)
-        self.dependents = sum(self.width(at) for at in range(len(self.there)))
-        self.leave_out()
-        self.fold()
-        self.refuse()
-
-    def rest(self):
-        return [at for at, there in enumerate(self.there) if there]
-
-    def width(self, at):
-        """Returns how many dependents it takes at most."""
-        return 1 if self.waits.kind(at) == ALL else len(self.waits.left[at])
-
-    def fits(self):
-        return self.processes <= PROCESSES and self.dependents <= DEPENDENTS
-
-    def leave_out(self):
-        """Leaves out those that nobody else waits for, again and again, first those that run."""
-        left = self.waits.left
-        counts = [sum(it != at for it in waiters) for at, waiters in enumerate(self.waits.waiters)]
-        alone = [at for at in self.rest() if counts[at] == 0]
-        alone.sort(key=lambda at: self.waits.kind(at) == RUNS)
-        while alone and not self.fits():
-            at = alone.pop()
-            self.drop(at)
-            self.left_out.append(at)
-            for other in left[at]:
-                counts[other] -= other != at
-                if counts[other] == 0 and self.there[other] and other != at:
-                    alone.append(other)
-        self.left_out.sort()
-
-    def drop(self, at):
-        self.there[at] = False
-        self.processes -= 1
-        self.dependents -= self.width(at)
-
-    def fold(self):
-        """Folds all twins, if there are too many processes still. Lists get shorter with it."""
-        if self.fits():
-            return
-        first: Dict[object, int] = {}
-        receivers: Dict[int, List[int]] = {}
-        for at, senders in enumerate(self.waits.senders):
-            for sender in senders:
-                receivers.setdefault(sender, []).append(at)
-        for at in self.rest():
-            one = first.setdefault(self.key(at, receivers.get(at, [])), at)
-            if one != at:
-                self.folded[at] = one
-                self.drop(at)
-        kept = self.rest()
-        lists = (sum(self.there[it] for it in self.waits.left[at]) for at in kept if self.waits.kind(at) == ANY)
-        self.dependents = sum(lists) + sum(self.waits.kind(at) == ALL for at in kept)
-
-    def key(self, at, receivers):
-        """What twins have in common."""
-        process, waits = self.waits.processes[at], self.waits
-        lists = tuple(it for it in waits.waiters[at] if it in self.folded or self.there[it])
-        whom = tuple(sorted(waits.left[at]))
-        return process.site, process.kind, whom, tuple(sorted(waits.senders[at])), tuple(sorted(receivers)), lists
-
-    def refuse(self):
-        which = "processes" if self.processes > PROCESSES else "dependents"
-        number, most = getattr(self, which), PROCESSES if which == "processes" else DEPENDENTS
-        if number > most:
-            raise Refusal(f"too many {which}: {number:,}, once {len(self.left_out):,} were left out that nobody waits "
-                          f"for and {len(self.folded):,} were folded into a twin; the program takes {most:,}")

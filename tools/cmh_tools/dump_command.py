@@ -1,99 +1,216 @@
 """The command `cmh-dump`: from the raw state of a system, or from a sketch, to a dump that `cmh` accepts."""
 from __future__ import annotations
 
-import argparse
-import sys
+import importlib
 from collections import Counter
+from typing import Any, Dict, Iterator, List, Sequence
 
-from .both import both
-from .command import notes_path, read_any, run, write_out
+from .check import describe_fault
+from .command import Parser, notes_path, run
 from .dump import Dump
-from .facts import Facts, proposals, read_facts
-from .files import Refusal, read_text, shown, write_texts
-from .recorders import MODULES, State, recorder
-from .recorders.idle import settle
-from .sketch import KINDS, UNKNOWN, read_sketch
+from .facts import Facts, read_facts
+from .files import Failure, Refusal, hindrance, read_bytes, read_text, say, shown, write_out, write_texts
+from .making import sketch_for
+from .program import identity, judge
+from .proposals import proposals
+from .recorders import MODULES
+from .sketch import KINDS, UNKNOWN, FactRow, Sketch, number_of_guess, reason_of
 
-SHOWN = 8  # as many unknown ones and lines of facts are shown; the notes have all
+SHOWN, NAMES = 8, 5  # as many unknown ones and lines of facts are shown, and names in one; the notes have all
+USAGE = """cmh-dump SYSTEM STATE.. [--facts FILE] [--guesses] -o DUMP
+       cmh-dump linux --pid PID.. [--seconds S] [--stacks] [--save STATE] [--facts FILE] [--guesses] -o DUMP
+       cmh-dump check FILE"""
 ABOUT = """Makes a dump for cmh, and beside it DUMP.notes.json with all that is known of it: cmh-explain reads both.
 A process that isn't understood is unknown, and active in this dump. Nothing is written if something is refused."""
+FACTS, OUTPUT = "a file of facts, which no state shows: see the man page", "the dump to write, usually DUMP.json"
+GUESSES = "take the facts that the state has filled in as they are, as guesses"
+MORE = f"""options after SYSTEM:
+  --facts FILE            {FACTS}
+  --guesses               {GUESSES}
+  -o DUMP, --output DUMP  {OUTPUT}
+
+DUMPS.md, in the documents of cmh, has the commands that print a state.
+
+status: 0 the dump is written or accepted, 1 the input is refused, 2 the command line is, 4 out of memory or an I/O
+error"""
+SKETCH = "a sketch, written by hand as JSON"
+LIVE = {"linux": "cmh_linux"}  # systems whose processes may be read at once, and what reads them
+BOTH = "two sketches, notes or dumps, one after the other: what has moved runs"
+JOIN = "notes of several systems of one machine, read at one time: what one knows counts where another doesn't"
+CHECK = "a dump: whether cmh accepts it, or where its fault is"
 
 
-def parser():
-    lines = [f"  {system:<10} {recorder(system).SUMMARY}" for system in MODULES]
-    lines += ["  sketch     a sketch, written by hand as JSON",
-              "  both       two sketches, notes or dumps, one after the other: what has moved runs"]
-    more = "SYSTEM is one of\n" + "\n".join(lines) + "\n\ndocs/DUMPS.md has the commands that print a state.\n\n" \
-        "status: 0 the dump is written, 1 the input is refused, 2 the command line is, 4 out of memory or an I/O error"
-    how = {"formatter_class": argparse.RawDescriptionHelpFormatter, "allow_abbrev": False}
-    it = argparse.ArgumentParser("cmh-dump", description=ABOUT, epilog=more, **how)
-    it.add_argument("system", metavar="SYSTEM", choices=[*MODULES, "sketch", "both"], help="see below")
-    it.add_argument("states", metavar="STATE", nargs="+", help="a file with the state; - is standard input")
-    it.add_argument("--facts", metavar="FILE", help="a file of facts, which no state shows: see the man page")
-    it.add_argument("-o", "--output", metavar="DUMP", required=True, help="the dump to write, usually DUMP.json")
+def parser(words: Sequence[str]) -> Parser:
+    """Returns the parser of a command line. What reads a live system is loaded only if its name stands there."""
+    it = Parser("cmh-dump", usage=USAGE, description=ABOUT, epilog=MORE)
+    it.add_version()
+    systems = it.add_subparsers(title="SYSTEM is one of", metavar="SYSTEM", dest="system", required=True, prog=it.prog)
+    states = {"metavar": "STATE", "nargs": "+", "help": "a file with the state; - is standard input"}
+    for system, (_, _, printed) in MODULES.items():
+        is_live = system in LIVE and system in words
+        more = add_system(systems, system, printed, {**states, "nargs": "*"} if is_live else states)
+        if is_live:
+            more.add_argument("--save", metavar="FILE", help="keep the state that is read, to be given as STATE")
+            collector(system).add_options(more, False)
+    add_system(systems, "sketch", SKETCH, {"metavar": "FILE", "nargs": 1, "help": "the sketch"})
+    add_system(systems, "both", BOTH, {"metavar": "FILE", "nargs": 2, "help": "the two, the earlier one first"})
+    add_system(systems, "join", JOIN, {"metavar": "NOTES", "nargs": "+", "help": "the notes of each, or its dump"})
+    checked = systems.add_parser("check", help=CHECK, description=f"Reads {CHECK}.")
+    checked.add_argument("dump", metavar="FILE", help="the dump; - is standard input")
     return it
 
 
-def sketch_for(system, states, facts):
-    """Returns the sketch of the states, with the facts."""
-    if system == "sketch":
-        sketch = read_sketch(read_text(states[0]), states[0])
-    elif system == "both":
-        sketch = both(*map(read_any, states))
+def collector(system: str) -> Any:
+    """Returns the module that reads the processes of a system, a file of its own that also serves without the tools."""
+    return importlib.import_module(LIVE[system])
+
+
+def add_system(systems: Any, name: str, summary: str, states: Dict[str, Any]) -> Any:
+    it = systems.add_parser(name, help=summary, description=f"Makes a dump of {summary}.")
+    it.add_argument("states", **states)
+    if name == "join":  # (facts are about the state of one system)
+        it.set_defaults(facts=None, guesses=False)
     else:
-        sketch = record(system, [State(path, read_text(path)) for path in states], facts)
-    facts.apply(sketch)
-    sketch.check()
-    settle(sketch)
-    return sketch
+        it.add_argument("--facts", metavar="FILE", help=FACTS)
+        it.add_argument("--guesses", action="store_true", help=GUESSES)
+    it.add_argument("-o", "--output", metavar="DUMP", required=True, help=OUTPUT)
+    return it
 
 
-def record(system, states, facts):
-    """Returns the sketch that a recorder makes. A text that takes it by surprise is refused too."""
-    try:
-        sketch = recorder(system).record(states, facts)
-    except (ValueError, LookupError, TypeError, AttributeError, RecursionError) as error:
-        where = ", ".join(shown(state.path) for state in states)
-        raise Refusal(f"{where}: this isn't understood as a state of {system} ({type(error).__name__}: "
-                      f"{shown(str(error))})") from error
-    sketch.system = sketch.system or system
-    return sketch
-
-
-def summary(dump, path):
-    """Returns the lines for people on what was written."""
+def summary(dump: Dump, path: str, asked: List[str]) -> Iterator[str]:
+    """Returns the lines for people on what was written. `asked` has the facts that are asked for."""
     kinds = Counter(process.kind for process in dump.sketch.processes)
     words = [f"{kinds[kind]:,} {kind.replace('_', ' ')}" for kind in KINDS if kinds[kind]]
     total = len(dump.sketch.processes)
-    yield f"{shown(path)}: {len(dump.kept):,} processes of {total:,} ({', '.join(words) or 'none'})"
-    if dump.left_out or dump.folded:
-        yield f"left out, as nobody waits for them: {len(dump.left_out):,}; folded into a twin: {len(dump.folded):,}"
+    yield f"{shown(path)}: {len(dump.parts[0]):,} processes of {total:,} ({', '.join(words) or 'none'})"
+    for line in dump.cut_lines():
+        yield f"cut to the program's limits: {line}"
+    if dump.parts[1:]:
+        yield f"this is the first of {len(dump.parts)} dumps, which cmh-explain makes of the notes: it says all"
     unknown = [process for process in dump.sketch.processes if process.kind == UNKNOWN]
     for process in unknown[:SHOWN]:
         yield f"unknown: {shown(process.name)}: {shown(process.reason)}"
     if unknown[SHOWN:]:
         yield f"unknown: {len(unknown) - SHOWN:,} more"
-    for line in proposals(dump.sketch)[:SHOWN]:
-        yield f"a fact would decide: {shown(line)}"
+    yield from fact_lines(dump.sketch, path)
+    if asked:
+        yield "Facts that would decide them, for you to complete:"
+        yield from (f"  {shown(line)}" for line in asked[:SHOWN])
+    if asked[SHOWN:]:
+        yield f"  # and {len(asked) - SHOWN:,} lines more, in {shown(notes_path(path))}"
 
 
-def main(words):
-    it = parser()
-    asked = it.parse_args(words)
-    if asked.output == "-":
-        it.error("the dump goes to a file, since its notes are put beside it")
-    if asked.system in ("sketch", "both") and len(asked.states) != (2 if asked.system == "both" else 1):
-        it.error("both takes two files" if asked.system == "both" else "sketch takes one file")
+def fact_lines(sketch: Sketch, path: str) -> Iterator[str]:
+    """Returns a line for each fact, and for the first few guesses."""
+    rows = [*zip(sketch.facts, number_decided(sketch))]
+    guessed = [it for it in rows if number_of_guess(it[0])]
+    yield from (fact_line(*it) for it in rows if not number_of_guess(it[0]))
+    yield from (fact_line(*it) for it in guessed[:SHOWN])
+    if guessed[SHOWN:]:
+        yield f"guesses: {len(guessed) - SHOWN:,} more, in {shown(notes_path(path))}"
+
+
+def number_decided(sketch: Sketch) -> List[int]:
+    """Returns how many processes each fact has decided."""
+    counts = Counter(reason for process in sketch.processes for reason in process.because)
+    return [counts[reason_of(row)] for row in sketch.facts]
+
+
+def fact_line(row: FactRow, number: int) -> str:
+    """Returns the line on what a fact did: how many it decided, and the names that each of its patterns took."""
+    did = "is held by" if " holds " in row["text"] else "took"
+    some = [f"; {shown(word)} {did} {some_names(names)}" for word, names in row["took"].items() if names != [word]]
+    return f"{shown(row['at'])}: {shown(row['text'])}: decided {number:,}{''.join(some)}"
+
+
+def some_names(names: List[str]) -> str:
+    more = f" and {len(names) - NAMES:,} more" if names[NAMES:] else ""
+    return (", ".join(map(shown, names[:NAMES])) or "nobody") + more
+
+
+def check_outputs(it: Parser, asked: Any) -> None:
+    """Ends the command where it would write to what is no file for that."""
+    taken = [*asked.states, *([asked.facts] if asked.facts else [])]
+    taken += map(notes_path, asked.states if asked.system in ("both", "join") else [])
+    kept = [asked.save] if getattr(asked, "save", None) else []
+    for path in (asked.output, notes_path(asked.output), *kept):
+        why = "the notes are put beside it" if path == "-" else hindrance(path, taken)
+        if why:
+            what = "the state" if path in kept else "the dump"
+            it.error(f"{what} goes to a file of its own, and the notes of the dump beside it; {path}: {why}")
+        taken.append(path)
+
+
+def program_notes() -> Dict[str, Any]:
+    """Returns what the notes say of the program, which a dump can be made without."""
+    try:
+        return {"program": identity()}
+    except Failure:
+        return {}
+
+
+def collected(asked: Any) -> str:
+    """Returns the state of live processes. Raises Refusal if one isn't there."""
+    try:
+        text: str = collector(asked.system).collect(asked.pid, asked.seconds, asked.stacks)
+    except LookupError as error:
+        raise Refusal(str(error.args[0])) from None
+    except OSError as error:
+        raise Failure(f"the processes can't be read: {error}") from error
+    return text
+
+
+def check_live(it: Parser, asked: Any) -> None:
+    """Ends the command where a state and processes are both named, or neither."""
+    is_live = bool(getattr(asked, "pid", None))
+    if is_live == bool(asked.states):
+        it.error("either STATE or --pid PID is needed")
+    if asked.system in LIVE and asked.save and not is_live:
+        it.error(f"--save keeps what --pid reads; {asked.save}: nothing is read")
+
+
+def make(asked: Any) -> int:
+    """Makes a dump and its notes."""
     facts = read_facts(read_text(asked.facts), asked.facts) if asked.facts else Facts()
-    sketch = sketch_for(asked.system, asked.states, facts)
-    dump = Dump(sketch)
-    write_texts([(asked.output, dump.text(dump.low)), (notes_path(asked.output), dump.notes())])
+    paths, read, kept = asked.states, read_text, []
+    if getattr(asked, "pid", None):
+        text = collected(asked)
+        paths, read = ["the processes"], lambda path: text
+        kept = [(asked.save, text)] if asked.save else []
+    sketch = sketch_for(asked.system, paths, facts, read, asked.guesses)
+    dump, lines = Dump(sketch), proposals(sketch)
+    notes = dump.notes(**({"proposals": lines} if lines else {}), **program_notes())
+    write_texts([*kept, (asked.output, dump.text(dump.low)), (notes_path(asked.output), notes)])
     for line in sketch.warnings:
-        print(f"warning: {shown(line)}", file=sys.stderr)
-    write_out("".join(f"{line}\n" for line in summary(dump, asked.output)))
+        say(f"warning: {line}")
+    said = [*summary(dump, asked.output, lines)]
+    if asked.guesses and not any(map(number_of_guess, sketch.facts)):
+        said.append("no guess is taken: the state fills in no whole line")
+    write_out("".join(f"{line}\n" for line in said))
     return 0
 
 
-def command(words):
+def check(path: str) -> int:
+    """Has the program judge a dump. Raises Refusal with the place of its fault if it refuses it."""
+    data = read_bytes(path)
+    try:
+        judge(data)
+    except Refusal as fault:
+        raise Refusal(describe_fault(path, str(fault), data)) from None
+    write_out(f"{shown(path)}: accepted\n")
+    return 0
+
+
+def main(words: Sequence[str]) -> int:
+    it = parser(words)
+    asked = it.parse_args(words)
+    if asked.system == "check":
+        return check(asked.dump)
+    check_live(it, asked)
+    check_outputs(it, asked)
+    return make(asked)
+
+
+def command(words: Sequence[str]) -> int:
     """Runs the command with its words, and returns its status."""
     return run("cmh-dump", main, words)

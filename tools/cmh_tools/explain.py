@@ -1,74 +1,49 @@
 """Says in words who is stuck, who isn't, and who is undecided; where it has to be broken; and what is known of that."""
 from __future__ import annotations
 
-import textwrap
 from collections import Counter
-from typing import Dict, List
+from typing import Callable, Dict, Iterable, Iterator, List, Optional, Sequence, Tuple
 
-from .facts import proposals
+from .dump import Dump
 from .files import shown
-from .roots import Roots, count_waiters, ends, way
-from .sketch import ALL, ANY, DONE, ENDED, RUNS, UNKNOWN
+from .findings import COME, MESSAGE, NOT_STUCK, STUCK, UNDECIDED, Findings, Waiters
+from .reasons import more_lines, rests_lines, rows
+from .sketch import ALL, ANY, DONE, ENDED, RUNS, UNKNOWN, Process
+from .terminal import PLAIN, AsItIs, Painted, Style, fill, laid_out, painted
 
-LINES, NAMES, WIDTH = 8, 5, 100  # as many lines and names are shown; the others are counted
-EXTRA, UNSAID = "  ", "it isn't said why"
+LINES, NAMES = 8, 5  # as many lines and names are shown; the others are counted
+UNSAID = "it isn't said why"
+IF_GUESSES = ", if guesses hold"
+ALL_IDLE = "All that was read is idle. Idle ones that wait for each other look so too, so it isn't known whether " \
+    "these are stuck. If one should have work, say by a fact whom it waits for."
+GOES_ON = {MESSAGE: "has a message in transit to it", COME: "no longer waits for any process"}
 
 
-def number_of(number, one="process", many="processes"):
+def number_of(number: int, one: str = "process", many: str = "processes") -> str:
     return f"{number:,} {one if number == 1 else many}"
 
 
-def be(number):
-    return "is" if number == 1 else "are"
-
-
-def fill(paragraphs):
-    """Returns the text of paragraphs, each a list of lines with leading spaces that say how far they are moved in."""
-    blocks = []
-    for lines in paragraphs:
-        block = []
-        for line in lines:
-            indent = line[:len(line) - len(line.lstrip())]
-            how = {"initial_indent": indent, "subsequent_indent": indent + EXTRA * bool(indent)}
-            block.append(textwrap.fill(line.strip(), WIDTH, break_on_hyphens=False, break_long_words=False, **how))
-        blocks.append("\n".join(block))
-    return "\n\n".join(blocks) + "\n"
-
-
-class Explanation:
+class Explanation(Findings):
     """What is said of a dump with both its answers. `everything` shows all lines and names."""
 
-    def __init__(self, dump, everything=False):
-        self.dump, self.waits, self.low, self.high = dump, dump.waits, dump.low, dump.high
-        self.everything = everything
-        self.stuck = self.low.members()
-        inside = set(self.stuck)
-        self.undecided = [at for at in self.high.members() if at not in inside]
-        self.open = set(self.undecided)
-        others = range(len(self.waits.processes))
-        self.ended = [at for at in others if self.waits.kind(at) == ENDED]
-        self.well = [at for at in others if not self.high.inside[at]]
-        self.roots = Roots(self.waits, self.stuck)
+    def __init__(self, dump: Dump, everything: bool = False, style: Style = PLAIN) -> None:
+        super().__init__(dump)
+        self.everything, self.style = everything, style
 
-    def status(self):
-        return 3 if self.stuck else 5 if self.undecided else 0
-
-    def name(self, at):
+    def name(self, at: int) -> str:
         return shown(self.waits.processes[at].name) or "''"
 
-    def note(self, at):
-        """Returns what is known of its place: the note, or else its topmost frame with the operation."""
-        process = self.waits.processes[at]
-        if process.note:
-            return shown(process.note)
-        return " ".join(shown(it) for it in [*process.frames[:1], process.operation] if it)
+    def note(self, at: int) -> str:
+        return shown(self.place(at))
 
-    def some(self, names):
-        """Returns the names, at most the first few and how many more there are."""
+    def some(self, names: Sequence[str], last: str = ", ") -> str:
+        """Returns the names, at most the first few and how many more there are. `last` stands before the last one."""
         most = len(names) if self.everything else NAMES
-        return ", ".join(names[:most]) + (f" and {len(names) - most:,} more" if names[most:] else "")
+        if names[most:]:
+            return f"{', '.join(names[:most])} and {len(names) - most:,} more"
+        return last.join(filter(None, [", ".join(names[:-1]), *names[-1:]]))
 
-    def first(self, lines, what):
+    def first(self, lines: List[str], what: Tuple[str, str]) -> List[str]:
         """Returns at most the first few lines, and how many more there are."""
         if self.everything or len(lines) <= LINES:
             return lines
@@ -76,8 +51,11 @@ class Explanation:
 
     # One process
 
-    def answer(self, at):
+    def answer(self, at: int) -> str:
         """Returns what is known of one, in a few words."""
+        return f"{self.verdict_words(at)}{IF_GUESSES if at in self.if_guesses else ''}"
+
+    def verdict_words(self, at: int) -> str:
         if at in self.roots.root_of:
             return f"stuck in root {self.roots.root_of[at] + 1}"
         if at in self.roots.above:
@@ -85,17 +63,19 @@ class Explanation:
         process = self.waits.processes[at]
         if process.kind == ENDED:
             return "has ended" if process.reason == DONE else "has ended and is still needed"
+        if at in self.quiet:
+            return shown(process.reason)
         if process.kind == UNKNOWN:
             return "unknown"
         if at in self.open:
             return "undecided"
         return "runs" if process.kind == RUNS else "not stuck"
 
-    def root_names(self, at):
+    def root_names(self, at: int) -> str:
         numbers = [str(root + 1) for root in self.roots.above[at]]
         return f"root {numbers[0]}" if len(numbers) == 1 else f"the roots {', '.join(numbers)}"
 
-    def wait(self, at, alone=True):
+    def wait(self, at: int, alone: bool = True) -> str:
         """Returns whom one waits for, in words; also of several that are alike."""
         process = self.waits.processes[at]
         if process.kind == ANY:
@@ -107,28 +87,28 @@ class Explanation:
         reason = f": {shown(process.reason)}" if process.reason else ""
         return f"{'runs' if process.kind == RUNS else 'is unknown'}{reason}"
 
-    def wait_for_any(self, process, alone):
+    def wait_for_any(self, process: Process, alone: bool) -> str:
         itself = process.name if alone else None
         names = [f"{shown(name)}{self.ended_word(name)}" for name in process.whom if name != itself]
         names += ["itself"] if itself in process.whom else []
         if not names:
-            return "waits, and nobody can end that"
+            return "can never be unblocked"
         return f"waits for {'any of ' if names[1:] else ''}{self.some(names)}"
 
-    def ended_word(self, name):
+    def ended_word(self, name: str) -> str:
         process = self.waits.processes[self.waits.index[name]]
         return " (has ended)" if process.kind == ENDED else ""
 
-    def wait_for_all(self, at):
+    def wait_for_all(self, at: int) -> str:
         """Returns whom one needs, of those that have not come, with what is known of each: stuck ones first."""
-        left = sorted(self.waits.left[at], key=lambda it: not self.low.inside[it])
+        left = sorted(self.waits.all_left(at), key=lambda it: not self.low.inside[it])
         groups: Dict[str, List[str]] = {}
         for it in left:
             groups.setdefault(self.answer(it), []).append(self.name(it))
         words = [f"{self.some(names)} ({answer})" for answer, names in groups.items()]
         return f"waits for all of {', '.join(words)}" if words else "waits for all of its list, and all have come"
 
-    def lines(self, at, more=()):
+    def lines(self, at: int, more: Sequence[int] = ()) -> List[str]:
         """Returns the line of one, or of it and more that are alike, and one of the note."""
         process, note = self.waits.processes[at], self.note(at)
         where = f" on {shown(process.site)}" if process.site is not None else ""
@@ -136,7 +116,7 @@ class Explanation:
         line = f"  {names}{where}{': each' if more else ''} {self.wait(at, not more)}"
         return [line] + ([f"      {note}"] if note else [])
 
-    def group(self, some, end=lambda row: ""):
+    def group(self, some: Iterable[int], end: Callable[[List[int]], str] = lambda row: "") -> List[str]:
         """Returns the lines of a list in which those that are alike share one. `end` gives what a line ends with."""
         groups: Dict[object, List[int]] = {}
         for at in some:
@@ -149,12 +129,12 @@ class Explanation:
         for row in rows[:most]:
             first, *rest = self.lines(row[0], row[1:])
             lines += [first + end(row), *rest]
-        rest = sum(map(len, rows[most:]))
-        return lines + ([f"  and {number_of(rest)} more (--all shows them)"] if rest else [])
+        left = sum(map(len, rows[most:]))
+        return lines + ([f"  and {number_of(left)} more (--all shows them)"] if left else [])
 
     # The paragraphs
 
-    def paragraphs(self):
+    def paragraphs(self) -> Iterator[List[str]]:
         yield self.head()
         yield from self.all_roots()
         if self.roots.shared:
@@ -167,21 +147,54 @@ class Explanation:
             yield self.other_lines()
         yield from filter(None, [self.cut_lines(), self.warnings()])
 
-    def head(self):
+    def if_words(self) -> str:
+        """Returns how an answer begins that rests on guesses, or nothing."""
+        if not self.guesses:
+            return ""
+        number = len(self.guesses)
+        return "If this guess holds:" if number == 1 else f"If these {number:,} guesses hold:"
+
+    def guess_lines(self) -> List[str]:
+        """Returns the lines of the guesses on which anybody rests, with how many do."""
+        if not self.guesses:
+            return []
+        most = len(self.guesses) if self.everything else LINES
+        lines = [self.if_words(), *rows(self.rests, self.guesses[:most], self.everything)]
+        left = len(self.guesses) - most
+        return lines + ([f"  and {number_of(left, 'guess', 'guesses')} more (--all shows them)"] if left > 0 else [])
+
+    def certain_lines(self) -> List[str]:
+        """Returns what is known without guesses."""
+        if not self.guesses:
+            return []
+        certain = self.certain
+        line = f"Without {'it' if len(self.guesses) == 1 else 'them'}: {len(certain.stuck):,} stuck, " \
+            f"{len(certain.undecided):,} undecided, {len(certain.well):,} not stuck."
+        is_open = certain.worst() == UNDECIDED
+        return [f"{line} So it isn't known whether a process is stuck." if is_open else line]
+
+    def counts_line(self, before: str = "") -> Painted:
+        """Returns the line of all counts, which stands behind some words."""
         total = len(self.waits.processes) - len(self.ended)
-        stuck, undecided, well = len(self.stuck), len(self.undecided), len(self.well)
+        counts = {STUCK: f"{len(self.stuck):,} stuck", UNDECIDED: f"{len(self.undecided):,} undecided",
+                  NOT_STUCK: f"{len(self.well):,} not stuck"}
         ended = f"; {number_of(len(self.ended))} more {'has' if len(self.ended) == 1 else 'have'} ended"
-        lines = [f"{number_of(total)}: {stuck:,} stuck, {undecided:,} undecided, {well:,} not stuck"
-                 f"{ended if self.ended else ''}."]
-        if self.status() == 0:
-            lines.append("Nobody is stuck.")
-        if self.status() == 5:
+        line = f"{before}{number_of(total)}: {', '.join(counts.values())}{ended if self.ended else ''}."
+        return painted(line, *((part, verdict) for verdict, part in counts.items() if part[:2] != "0 "))
+
+    def head(self) -> List[str]:
+        lines: List[str] = [*self.guess_lines(), self.counts_line()]
+        if self.worst() == NOT_STUCK and self.are_all_idle():
+            lines.append(ALL_IDLE)
+        elif self.worst() == NOT_STUCK:
+            lines.append(painted(f"Nobody is stuck{'' if self.status() == 0 else IF_GUESSES}.", NOT_STUCK))
+        if self.worst() == UNDECIDED:
             lines.append("It isn't known whether a process is stuck: that depends on the unknown ones.")
         if self.dump.sketch.as_of:
             lines.append(f"This is {shown(self.dump.sketch.as_of)}.")
-        return lines
+        return lines + self.certain_lines()
 
-    def all_roots(self):
+    def all_roots(self) -> Iterator[List[str]]:
         """A paragraph for each of the first few roots, and one on the others."""
         most = len(self.roots.roots) if self.everything else LINES
         yield from map(self.root, range(len(self.roots.roots[:most])))
@@ -192,19 +205,35 @@ class Explanation:
             yield [f"And {number_of(len(rest), 'root', 'roots')} more (--all shows them): {inside:,} in them, and "
                    f"{behind:,} stuck behind one of them alone"]
 
-    def root(self, number):
+    def root_head(self, number: int) -> List[str]:
+        members = len(self.roots.roots[number])
+        what = "process, and nobody can unblock it" if members == 1 else \
+            "processes wait for each other, and nobody else can unblock them"
+        guessed = IF_GUESSES if self.rests_on_guesses(self.roots.roots[number]) else ""
+        return [painted(f"Root {number + 1}{guessed}: {members:,} {what}", STUCK), *self.cycle_lines(number)]
+
+    def cycle_lines(self, number: int) -> List[str]:
+        """Returns the line that draws a root that is one cycle, with as many of its names as fit."""
+        names = [self.name(at) for at in self.cycle(number)]
+        for most in range(min(len(names), self.style.width // 4), 1, -1):
+            more = [f"{len(names) - most:,} more"] if names[most:] else []
+            line = "  " + f" {self.style.arrow} ".join([*names[:most], *more, names[0]])
+            if len(line) <= self.style.width:
+                return [AsItIs(line)]
+        return []
+
+    def root(self, number: int) -> List[str]:
         members, behind = self.roots.roots[number], self.roots.behind[number]
-        if len(members) > 1:
-            head = f"{len(members):,} processes wait for each other, and nobody else can unblock them"
-        else:
-            head = "1 process, and nobody can unblock it"
-        lines = [f"Root {number + 1}: {head}"] + self.group(members)
+        rests = self.rests.of(self.processes(members))
+        lines = self.root_head(number) + self.group(members) + rests_lines(self.rests, rests, self.everything)
         if behind:
-            lines += [f"Stuck behind root {number + 1} alone: {number_of(len(behind))}"] + self.group(behind)
+            head = f"Stuck behind root {number + 1} alone: {number_of(len(behind))}"
+            lines += [painted(head, STUCK), *self.group(behind)]
+            lines += more_lines(self.rests, self.rests.of(self.processes(behind), rests), self.everything)
         return lines
 
-    def behind_several(self):
-        lines = [f"Stuck behind more than one root: {number_of(len(self.roots.shared))}"]
+    def behind_several(self) -> List[str]:
+        lines: List[str] = [painted(f"Stuck behind more than one root: {number_of(len(self.roots.shared))}", STUCK)]
         most = len(self.roots.shared) if self.everything else LINES
         for at in self.roots.shared[:most]:
             first, *more = self.lines(at)
@@ -213,13 +242,16 @@ class Explanation:
             lines.append(f"  and {number_of(len(self.roots.shared) - most)} more (--all shows them)")
         return lines
 
-    def advice(self):
+    def advice(self) -> List[str]:
         roots = self.roots.roots
-        every = f"All {len(roots):,} roots have to be broken." if roots[1:] else "The root has to be broken."
         hidden = " There may be more roots among the undecided ones." if self.undecided else ""
-        lines = [f"What can be done. {every}{hidden} Restarting a process behind a root doesn't break it."]
-        lines += self.first([f"  Root {number + 1}: {self.sites(members)}" for number, members in enumerate(roots)],
-                            ("root", "roots"))
+        lines = [f"What can be done.{hidden} Restarting a process behind a root doesn't break it."]
+        lines += self.first([f"  Break root {number + 1}: {self.restart(members)}" for number, members in
+                             enumerate(roots)], ("root", "roots"))
+        if self.left_over:
+            names = self.some([self.name(at) for at in self.left_over])
+            lines.append(f"Once all roots run, {number_of(len(self.left_over), 'process is', 'processes are')} still "
+                         f"stuck, as each waits for all of several: {names}. Break a wait of these too.")
         lines += [
             "What can be restarted is an OS process, a node or a job: no thread, task or rank by itself. A supervisor "
             "that has to do it may itself be stuck, in this root or in another.",
@@ -231,101 +263,117 @@ class Explanation:
                          "may show a deadlock that never was: take another, and compare them with 'cmh-dump both'.")
         return lines
 
-    def sites(self, members):
-        """Returns where a root has to be broken."""
-        found = dict.fromkeys(self.waits.processes[at].site for at in members)
-        named = [shown(site) for site in found if site is not None]
-        if not named:
-            return f"the state doesn't say where it runs; it has {self.some([self.name(at) for at in members])}"
-        return f"it runs on {self.some(named)}" + (", and at a place that isn't said" if None in found else "")
+    def restart(self, members: List[int], called: Callable[[str], str] = shown) -> str:
+        """Returns where a root has to be broken. A site is `called` by its name alone, or with what it is."""
+        sites, is_some_unsaid = self.sites(members)
+        if not sites:
+            return f"restart what has {self.some([self.name(at) for at in members])}: the state doesn't say where"
+        elsewhere = ", or what runs at a place that isn't said" if is_some_unsaid else ""
+        return f"restart {self.some([called(site) for site in sites], ' or ')}{elsewhere}"
 
-    def undecided_lines(self):
+    def undecided_lines(self) -> List[str]:
         """The undecided ones, by the unknown ones that they depend on."""
-        starts = [at for at in self.undecided if self.waits.kind(at) == UNKNOWN]
-        others = len(self.undecided) - len(starts)
-        counts = count_waiters(self.waits, self.open, starts, len(self.open) if self.everything else NAMES)
-        starts.sort(key=lambda at: -counts[at][0])
+        counts = dict(self.unknown_ones(len(self.open) if self.everything else NAMES))
+        others = len(self.undecided) - len(counts)
         more = f", and {number_of(others, 'other that depends', 'others that depend')} on them" if others else ""
-        lines = [f"Undecided: {number_of(len(starts))} of which the state doesn't say enough{more}"]
-        lines += self.group(starts, lambda row: self.waiters_words(row, *counts[row[0]]))
-        facts = proposals(self.dump.sketch)
+        head = f"Undecided: {number_of(len(counts))} of which the state doesn't say enough{more}"
+        lines = [painted(head, UNDECIDED), *self.group(counts, lambda row: self.waiters_words(row, counts[row[0]]))]
+        facts = self.proposals()
         if facts:
             lines += ["Facts that would decide them, for you to complete:"]
-            lines += self.first([f"  {shown(line)}" for line in facts], ("line", "lines"))
+            lines += self.first([AsItIs(f"  {shown(it.text())}") for it in facts], ("line", "lines"))
         return lines
 
-    def waiters_words(self, row, number, whole, first):
+    def waiters_words(self, row: List[int], others: Waiters) -> str:
         """Returns how many depend on an unknown one, or on the first of several that are alike, which has most."""
-        if not number:
+        if not others.number:
             return ""
-        names = ", ".join(map(self.name, first)) + (f" and {number - len(first):,} more" if number > len(first) else "")
-        words = f"{'' if whole else 'at least '}{number_of(number, 'other depends', 'others depend')}"
+        left = others.number - len(others.nearest)
+        names = ", ".join(map(self.name, others.nearest)) + (f" and {left:,} more" if left else "")
+        words = number_of(others.number, "other depends", "others depend")
+        words = words if others.is_whole else f"at least {words}"
         return f" ({words} on {self.name(row[0]) if row[1:] else 'it'}: {names})"
 
-    def other_lines(self):
+    def other_lines(self) -> List[str]:
         """Those that aren't stuck, by who runs."""
-        running = [at for at in self.well if self.waits.kind(at) == RUNS]
-        total = number_of(len(self.well))
-        lines = [f"Not stuck: {total}, as far as the state shows. That doesn't mean that they make progress."]
+        running, total = self.running(), number_of(len(self.well))
+        head = f"Not stuck: {total}, as far as the state shows. That doesn't mean that they make progress."
+        lines: List[str] = [painted(head, ("Not stuck", NOT_STUCK))]
         why = Counter(shown(self.waits.processes[at].reason) or UNSAID for at in running)
         words = "; ".join(f"{number:,}: {reason}" for reason, number in why.most_common())
         if running:
             lines.append(f"  {number_of(len(running), 'runs', 'run')}" + (f" ({words})" if set(why) - {UNSAID} else ""))
-        followers = {}
-        for at, end in ends(self.high).items():
-            if at != end:
-                followers.setdefault(end, []).append(self.name(at))
+        return lines + self.followers() + self.supposed_lines() + self.limited_lines()
+
+    def followers(self) -> List[str]:
+        """Those that others hang on, with these, and others that go on by themselves."""
+        followers: Dict[int, List[str]] = {}
+        for at, end in self.ends().items():
+            followers.setdefault(end, []).append(self.name(at))
         rows = sorted(followers.items(), key=lambda row: -len(row[1]))
-        lines += self.first([f"  {self.name(end)}, which {self.goes_on(end)}, may unblock {self.some(names)}"
-                             for end, names in rows], ("process", "processes"))
+        lines = self.first([f"  {self.name(end)}, which {self.goes_on_words(end)}, may unblock {self.some(names)}"
+                            for end, names in rows], ("process", "processes"))
         alone = [at for at in self.well if self.waits.kind(at) != RUNS and self.waits.is_awake(at)]
-        lines += self.first([f"  {self.name(at)}: {self.goes_on(at)}" for at in alone if at not in followers],
-                            ("process", "processes"))
-        return lines
+        return lines + self.first([f"  {self.name(at)}: {self.goes_on_words(at)}" for at in alone
+                                   if at not in followers], ("process", "processes"))
 
-    def goes_on(self, at):
+    def supposed_lines(self) -> List[str]:
+        """Those that run on a premise alone, but for a limit of their wait."""
+        sentences = self.dump.sketch.premises
+        return self.first([f"  on the premise that {shown(sentences.get(name, name))}: "
+                           f"{self.some([self.name(at) for at in some])}" for name, some in self.supposed().items()],
+                          ("premise", "premises"))
+
+    def limited_lines(self) -> List[str]:
+        """Those that wait with a limit and stood at the same place in all states, with what would decide them."""
+        rows = self.limited()
+        if not rows:
+            return []
+        number = sum(len(some) for _, some in rows)
+        lines = [f"With a limit at the same place in all states: {number_of(number)}. One that only waits again and "
+                 "again needs a fact:"]
+        return lines + self.first([AsItIs(f"  {shown(text)}  # {self.some([shown(it.name) for it in some])}")
+                                   for text, some in rows], ("place", "places"))
+
+    def goes_on_words(self, at: int) -> str:
         """Returns why one goes on by itself."""
-        kind = self.waits.kind(at)
-        if kind == ANY:
-            return "has a message in transit to it"
-        return "no longer waits for any process" if kind == ALL else "runs"
+        return GOES_ON.get(self.goes_on(at) or "", "runs")
 
-    def cut_lines(self):
-        parts = []
-        left_out, folded = len(self.dump.left_out), len(self.dump.folded)
-        if left_out:
-            parts.append(f"{number_of(left_out)} that nobody waits for {be(left_out)} not in it")
-        if folded:
-            parts.append(f"{number_of(folded)} {be(folded)} folded into a twin")
-        return [f"The dump is cut to the program's limits: {', and '.join(parts)}. They are counted here, and what is "
-                "said of them follows from the others."] if parts else []
+    def cut_lines(self) -> List[str]:
+        words = ", and ".join(self.dump.cut_lines())
+        return [f"The dump is cut to the program's limits: {words}. All are counted here, and what is said of those "
+                "that it hasn't follows from the others."] if words else []
 
-    def warnings(self):
+    def warnings(self) -> List[str]:
         found = [f"  {shown(line)}" for line in self.dump.sketch.warnings]
         return ["Warnings:"] + self.first(found, ("warning", "warnings")) if found else []
 
-    def text(self):
-        return fill(self.paragraphs())
+    def text(self) -> str:
+        return fill(self.paragraphs(), self.style)
+
+    def summary(self, at: Optional[int] = None) -> str:
+        """Returns the first line, or that of the chain of one process."""
+        line = self.counts_line(f"{self.if_words()} ".lstrip()) if at is None else self.why_head(at)
+        return laid_out(line, self.style._replace(width=len(line) + 1)) + "\n"
 
     # One process and why
 
-    def why(self, at):
+    def why_head(self, at: int) -> Painted:
+        return painted(f"{self.name(at)}: {self.answer(at)}.", (self.answer(at), self.verdict(at)))
+
+    def why(self, at: int) -> str:
         """Returns the chain from one process to what its answer rests on."""
-        process = self.waits.processes[at]
-        lines = [f"{self.name(at)}: {self.answer(at)}."]
+        chain = self.chain(at)
+        lines: List[str] = [self.why_head(at)]
         if at in self.roots.above:
-            chain = self.roots.chain(at)
             lines += [line for it in chain[:-1] for line in self.lines(it)]
             number = self.roots.root_of[chain[-1]]
-            return fill([lines, self.root(number)[:1] + self.group(self.roots.roots[number])])
-        if at in self.open:
-            edges = {it: [other for other in self.waits.left[it] if other in self.open] for it in self.undecided}
-            chain = way(edges, at, {it for it in self.undecided if self.waits.kind(it) == UNKNOWN})
-            return fill([lines + [line for it in chain for line in self.lines(it)]])
-        chain = [at]
-        while process.kind != ENDED and self.high.cause[chain[-1]] is not None:
-            chain.append(self.high.cause[chain[-1]])
+            members = self.roots.roots[number]
+            rests = self.rests.of(self.processes(list(dict.fromkeys([*chain, *members]))))
+            root = self.root_head(number) + self.group(members)
+            return fill([lines, root + rests_lines(self.rests, rests, self.everything)], self.style)
         lines += [line for it in chain for line in self.lines(it)]
-        if self.waits.kind(chain[-1]) in (ANY, ALL):
-            lines.append(f"{self.name(chain[-1])}: {self.goes_on(chain[-1])}")
-        return fill([lines])
+        if at not in self.open and self.waits.kind(chain[-1]) in (ANY, ALL):
+            lines.append(f"{self.name(chain[-1])}: {self.goes_on_words(chain[-1])}")
+        rests = self.rests.of(self.processes(chain))
+        return fill([lines + rests_lines(self.rests, rests, self.everything)], self.style)

@@ -1,67 +1,116 @@
 """The command `cmh-explain`: who is stuck in a dump, who isn't, who is undecided, and where it has to be broken."""
 from __future__ import annotations
 
-import argparse
 import os
+from typing import Any, Optional, Sequence, Tuple
 
-from .command import is_dump, is_notes, notes_path, run, sketch_of_dump, write_out
+from .answer import Tree, answer, text_of_answer
+from .check import describe_fault
+from .command import Parser, dump_of_notes, is_dump, is_notes, notes_path, run, sketch_of_dump
 from .dot import dot
 from .dump import Dump
 from .explain import Explanation
-from .files import Failure, Refusal, read_text, shown
-from .program import confirm, deadlocked_names
-from .sketch import near_name, quote, read_json, sketch_of
+from .files import (Failure, Refusal, hindrance, read_bytes, read_text, say, shown, text_of_bytes, write_out,
+                    write_texts)
+from .guesses import without_guesses
+from .page import page
+from .picture import Picture
+from .program import compare, confirm, deadlocked_names, identity
+from .sketch import near_name, quote, read_json
+from .svg import svg
+from .terminal import show, style_of_output
 
-ABOUT = """Says in words what is known of a dump, from the notes that cmh-dump wrote beside it; of a dump without notes,
-from the dump alone. The program cmh has to confirm it on two dumps: with all unknown ones active, and with all unknown
-ones idle."""
+ASK_NOTES = "the dump has no notes, so its active processes may be unknown ones: put NAME.notes.json of cmh-dump " \
+    "beside NAME.json, or say --without-notes of a dump that was written by hand"
+ABOUT = """Says in words what is known of a dump, from the notes that cmh-dump wrote beside it. The program cmh has to
+confirm it on two dumps: with all unknown ones active, and with all unknown ones idle."""
 MORE = """status: 0 no process is stuck, 3 some process is stuck, 5 none is stuck for certain and some are undecided,
 1 the dump is refused, 2 the command line is, 4 out of memory, an I/O error, or the program doesn't confirm it"""
+MOST_OF_STATES = 2_000_000  # characters, in a page
 
 
-def parser():
-    how = {"formatter_class": argparse.RawDescriptionHelpFormatter, "allow_abbrev": False}
-    it = argparse.ArgumentParser("cmh-explain", description=ABOUT, epilog=MORE, **how)
+def parser() -> Parser:
+    it = Parser("cmh-explain", description=ABOUT, epilog=MORE)
     it.add_argument("dump", metavar="DUMP", help="a dump; its notes are read from DUMP.notes.json")
     it.add_argument("--all", action="store_true", help="show all names and lines")
     it.add_argument("--why", metavar="NAME", help="show the chain from one process to what its answer rests on")
-    it.add_argument("--dot", action="store_true", help="print a graph for Graphviz")
+    how = it.add_mutually_exclusive_group()
+    how.add_argument("--summary", action="store_true", help="print the first line alone")
+    how.add_argument("--quiet", action="store_true", help="print nothing: the status is the answer")
+    how.add_argument("--json", action="store_true", help="print all of it as JSON; with --why, that chain too")
+    how.add_argument("--dot", action="store_true", help="print a graph for Graphviz; with --why, of that chain alone")
+    how.add_argument("--svg", action="store_true", help="print that graph as SVG, laid out by Graphviz")
+    how.add_argument("--html", metavar="FILE", help="write all of it as a page, with that picture")
+    it.add_argument("--state", metavar="FILE", action="append", default=[],
+                    help="put the lines of a state into the page too")
+    it.add_argument("--color", choices=("auto", "always", "never"), default="auto", metavar="WHEN",
+                    help="always, never, or auto: on a terminal, unless NO_COLOR is set (auto)")
+    it.add_argument("--pager", action="store_true", help="show a long answer on a terminal through $PAGER (less)")
+    it.add_argument("--without-notes", action="store_true", help="the dump was written by hand: who is active runs")
+    it.add_version()
     return it
 
 
-def load(path):
-    """Returns the dump that a file has, made anew from its notes. Raises Refusal if it is another one."""
-    text = read_text(path)
-    notes = notes_path(path)
-    if os.path.exists(notes):
-        tree, noted = read_json(text, path), read_json(read_text(notes), notes)
-        if not is_notes(noted):
-            raise Refusal(f"{shown(notes)}: it has no 'sketch', so these are no notes of cmh-dump")
-        dump = Dump(sketch_of(noted["sketch"], notes))
-        if tree != read_json(dump.text(dump.low), path):
-            raise Refusal(f"{shown(path)}: it isn't the dump of {shown(notes)}: one of them was changed. Make both "
-                          "again with cmh-dump, or move the notes away")
-        return dump
-    return load_bare(text, path)
+def load(path: str, is_by_hand: bool) -> Tuple[Dump, Optional[str]]:
+    """Returns the dump that a file has, once the program has confirmed both its answers, and the SHA-256 of the program
+    that its notes name."""
+    data, notes = read_bytes(path), notes_path(path)
+    if is_by_hand or path == "-" or not os.path.exists(notes):
+        return load_bare(data, path, is_by_hand), None
+    return load_noted(data, path, notes)
 
 
-def load_bare(text, path):
-    """Returns the dump of a file without notes, once the program has accepted it."""
-    tree = read_json(text, path)
+def load_noted(data: bytes, path: str, notes: str) -> Tuple[Dump, Optional[str]]:
+    """Returns a dump with its notes."""
+    dump, noted = dump_of_notes(read_json(text_of_bytes(data, path), path), path, notes)
+    named = compare_programs(noted.get("program"))
+    confirm(dump)
+    if any(it.is_guessed() for it in dump.sketch.processes):
+        confirm(Dump(without_guesses(dump.sketch)))
+    return dump, named
+
+
+def compare_programs(noted: Any) -> Optional[str]:
+    """Says if the program isn't the one that the notes name, and returns the SHA-256 of that one."""
+    if not isinstance(noted, dict) or "sha256" not in noted:
+        return None
+    used, named = identity(), str(noted["sha256"])
+    if named != used["sha256"]:
+        say(f"warning: the notes name another program, {noted.get('path')} (SHA-256 {named}); "
+            f"{used['path']} (SHA-256 {used['sha256']}) confirms this answer")
+    return named
+
+
+def load_bare(data: bytes, path: str, is_by_hand: bool) -> Dump:
+    """Returns the dump of a file without notes."""
+    refuse_other(data, path)
+    try:
+        found = deadlocked_names(data)
+    except Refusal as fault:
+        raise Refusal(describe_fault(path, str(fault), data)) from None
+    dump = Dump(sketch_of_dump(read_json(data.decode(), path), path, is_by_hand))
+    compare(dump, dump.low, found, "low")
+    if is_by_hand:
+        compare(dump, dump.high, found, "high")
+    else:
+        compare(dump, dump.high, deadlocked_names(dump.text(dump.high).encode()), "high")
+        dump.sketch.warnings.append(ASK_NOTES)
+    return dump
+
+
+def refuse_other(data: bytes, path: str) -> None:
+    """Raises Refusal if a file has something else than a dump. What is no JSON is for the program to judge."""
+    try:
+        tree = read_json(text_of_bytes(data, path), path)
+    except Refusal:
+        return
     if is_notes(tree):
         raise Refusal(f"{shown(path)}: these are notes; name the dump beside them")
     if isinstance(tree, dict) and not is_dump(tree) and "version" not in tree:
         raise Refusal(f"{shown(path)}: this is no dump; for a sketch, 'cmh-dump sketch FILE -o DUMP' makes one")
-    try:
-        deadlocked_names(text.encode("utf-8", "surrogatepass"))
-    except Refusal as refusal:
-        raise Refusal(f"{shown(path)}: it is refused: {refusal} (docs/FORMATS.md says how to find the place)") from None
-    dump = Dump(sketch_of_dump(tree, path))
-    dump.sketch.warnings.append("the dump has no notes, so each active process in it is taken to run")
-    return dump
 
 
-def index_of(dump, name):
+def index_of(dump: Dump, name: str) -> int:
     """Returns the index of a name, or of a name as the dump has it. Raises Failure if nobody has it."""
     for at, process in enumerate(dump.sketch.processes):
         if name in (process.name, dump.names[process.name]):
@@ -69,22 +118,52 @@ def index_of(dump, name):
     raise Failure(f"nobody is called {quote(name)}{near_name(name, list(dump.waits.index))}", 2)
 
 
-def main(words):
+def check_page(asked: Any) -> None:
+    """Raises Failure if no page can be written where it is asked for, or there is none for a state."""
+    if asked.html is None:
+        if asked.state:
+            raise Failure("--state is for a page: it needs --html", 2)
+        return
+    why = hindrance(asked.html, [asked.dump, notes_path(asked.dump), *asked.state])
+    if why:
+        raise Failure(f"--html {shown(asked.html)}: the page goes to a file of its own: {why}", 2)
+
+
+def write_page(asked: Any, explanation: Explanation, tree: Tree, at: Optional[int]) -> None:
+    """Writes the page of an answer, and prints its first line."""
+    states = [(os.path.basename(path), read_text(path)) for path in asked.state]
+    if sum(len(lines) for _, lines in states) > MOST_OF_STATES:
+        raise Refusal(f"--state: a page takes states of at most {MOST_OF_STATES:,} characters")
+    picture = None
+    try:
+        picture = svg(Picture(explanation, at))
+    except Failure as failure:
+        say(f"cmh-explain: the page has no picture: {failure}")
+    write_texts([(asked.html, page(explanation, tree, picture, states))])
+    write_out(explanation.summary(at))
+
+
+def main(words: Sequence[str]) -> int:
     asked = parser().parse_args(words)
-    dump = load(asked.dump)
-    confirm(dump, dump.low, "low")
-    confirm(dump, dump.high, "high")
-    explanation = Explanation(dump, asked.all)
-    if asked.dot:
-        text = dot(explanation)
-    elif asked.why is not None:
-        text = explanation.why(index_of(dump, asked.why))
-    else:
-        text = explanation.text()
-    write_out(text)
+    check_page(asked)
+    dump, noted = load(asked.dump, asked.without_notes)
+    explanation = Explanation(dump, asked.all, style_of_output(asked.color))
+    at = None if asked.why is None else index_of(dump, asked.why)
+    if asked.json:
+        write_out(text_of_answer(answer(explanation, noted, at)))
+    elif asked.dot:
+        write_out(dot(Picture(explanation, at, asked.all)))
+    elif asked.svg:
+        write_out(svg(Picture(explanation, at, asked.all)))
+    elif asked.html is not None:
+        write_page(asked, explanation, answer(explanation, noted, at), at)
+    elif asked.summary:
+        write_out(explanation.summary(at))
+    elif not asked.quiet:
+        show(explanation.text() if at is None else explanation.why(at), asked.pager)
     return explanation.status()
 
 
-def command(words):
+def command(words: Sequence[str]) -> int:
     """Runs the command with its words, and returns its status."""
     return run("cmh-explain", main, words)

@@ -1,10 +1,20 @@
-"""Files that are read and written whole, and what stops a tool: a refusal of its input, or a failure."""
-import os
-import re
-import sys
-import tempfile
+"""Files that are read and written whole, what people are shown, and what stops a tool: a refusal of its input, or a
+failure."""
+from __future__ import annotations
 
-BAD = re.compile("[\x00-\x1f\x7f-\x9f\u2028\u2029\ud800-\udfff]")
+import contextlib
+import os
+import secrets
+import stat
+import sys
+import unicodedata
+from typing import Iterable, Iterator, List, Sequence, Tuple
+
+from .start import SIGNALS
+
+UNSEEN = {"Cc", "Cf", "Cs", "Zl", "Zp"}  # categories of characters that a terminal obeys, or that nobody sees
+STREAMS = ("standard input", "standard output", "standard error")
+TAKEN = "it is read too, or something else is written there"
 
 
 class Refusal(Exception):
@@ -14,27 +24,71 @@ class Refusal(Exception):
 class Failure(Exception):
     """What stops a tool for another reason than its input. It has the status."""
 
-    def __init__(self, text, status=4):
+    def __init__(self, text: str, status: int = 4) -> None:
         super().__init__(text)
         self.status = status
 
 
-def shown(text):
-    """Returns a text for people: what a terminal would obey, and lone surrogates, as escapes."""
-    return BAD.sub(lambda found: found[0].encode("unicode_escape").decode(), text)
+# What people are shown
 
 
-def read_text(path):
-    """Returns the text of a file of UTF-8, of standard input for `-`. Raises Failure if it can't be read, and Refusal
-    if it is empty, or no UTF-8."""
+def shown(text: str) -> str:
+    """Returns a text for people: what a terminal would obey, what nobody sees, and lone surrogates, as escapes."""
+    if text.isprintable():
+        return text
+    return "".join(it.encode("unicode_escape").decode() if unicodedata.category(it) in UNSEEN else it for it in text)
+
+
+def say(text: str) -> None:
+    """Writes lines to standard error. If that fails, nothing else changes."""
+    lines = "".join(f"{shown(line)}\n" for line in text.split("\n"))
+    try:
+        sys.stderr.write(lines)
+        sys.stderr.flush()
+    except (AttributeError, OSError, ValueError):  # (it is None if it was closed from the start)
+        sys.stderr = open(os.devnull, "w", encoding="utf-8")  # so that nothing is written again at the end
+
+
+def write_out(text: str) -> None:
+    """Writes a text to standard output. Raises Failure if that fails."""
+    if sys.stdout is None:
+        raise Failure("standard output: it is closed")
+    try:
+        sys.stdout.buffer.write(text.encode("utf-8", "backslashreplace"))
+        sys.stdout.buffer.flush()
+    except OSError as error:
+        sys.stdout = open(os.devnull, "w", encoding="utf-8")  # so that nothing is written again at the end
+        raise Failure(f"standard output: {error.strerror}") from error
+
+
+# Reading
+
+
+def read_bytes(path: str) -> bytes:
+    """Returns what a file has, standard input for `-`. Raises Failure if it can't be read."""
     try:
         if path == "-":
-            data = sys.stdin.buffer.read()
-        else:
-            with open(path, "rb") as file:
-                data = file.read()
+            return read_input()
+        with open(path, "rb") as file:
+            return file.read()
     except (OSError, ValueError) as error:
         raise Failure(f"{shown(path)}: {getattr(error, 'strerror', None) or error}") from error
+
+
+def read_input() -> bytes:
+    if sys.stdin is None:
+        raise Failure("standard input: it is closed")
+    if sys.stdin.isatty():
+        say(f"{os.path.basename(sys.argv[0])}: reading from the terminal, up to Ctrl-D")
+    return sys.stdin.buffer.read()
+
+
+def read_text(path: str) -> str:
+    """Returns the text of a file. Raises Failure if it can't be read, and Refusal if it is empty, or no UTF-8."""
+    return text_of_bytes(read_bytes(path), path)
+
+
+def text_of_bytes(data: bytes, path: str) -> str:
     if not data.strip():
         raise Refusal(f"{shown(path)}: it is empty")
     try:
@@ -43,29 +97,64 @@ def read_text(path):
         raise Refusal(f"{shown(path)}: it is no UTF-8, from byte {error.start} on") from error
 
 
-def write_texts(texts):
-    """Writes several files, each a pair of path and text. Nothing is in place before all of them are written whole.
-    Raises Failure if one can't be written."""
-    made, path = [], ""
+# Writing
+
+
+def hindrance(path: str, others: Sequence[str]) -> str:
+    """Returns why a file mustn't be written, or nothing. Only a new file or a regular one may be, and none of some
+    others, which are read or written too, or of the standard streams."""
+    if not os.path.basename(path):
+        return "it names no file"
+    if os.path.realpath(path) in [os.path.realpath(it) for it in others]:
+        return TAKEN
     try:
-        for path, text in texts:
-            handle, name = tempfile.mkstemp(dir=os.path.dirname(path) or ".", prefix=".cmh-")
-            made.append((name, path))
-            with os.fdopen(handle, "wb") as file:
-                file.write(text.encode())
-            os.chmod(name, 0o666 & ~mask())
-        for name, path in made:
-            os.replace(name, path)
-    except OSError as error:
-        raise Failure(f"{shown(path)}: {error.strerror}") from error
-    finally:
-        for name, _ in made:
-            if os.path.exists(name):
-                os.remove(name)
+        there = os.stat(path)
+    except OSError:
+        return ""  # (a new file; if it can't be made, that is said when it is written)
+    if not stat.S_ISREG(there.st_mode):
+        return "it is a folder" if stat.S_ISDIR(there.st_mode) else "it is no regular file"
+    for name, known in [*known_files(others), *known_files(range(len(STREAMS)))]:
+        if os.path.samestat(there, known):
+            return f"it is {STREAMS[name]}" if isinstance(name, int) else TAKEN
+    return ""
 
 
-def mask():
-    """Returns the mask of new files."""
-    value = os.umask(0)
-    os.umask(value)
-    return value
+def known_files(names: Iterable[int | str]) -> Iterator[Tuple[int | str, os.stat_result]]:
+    """Yields what is there of some files, each a path, or a number of an open one."""
+    for name in names:
+        with contextlib.suppress(OSError, ValueError):
+            yield name, os.stat(name)
+
+
+def write_texts(texts: Sequence[Tuple[str, str]]) -> None:
+    """Writes several files, each a pair of path and text. Nothing is in place before all of them are written whole, and
+    nothing else stays: a signal waits for that. Raises Failure if one can't be written."""
+    made: List[Tuple[str, str]] = []
+    path = ""
+    with SIGNALS.hold():
+        try:
+            for path, text in texts:
+                target = os.path.realpath(path)  # (a link stays one)
+                made.append((os.path.join(os.path.dirname(target), f".cmh-{secrets.token_hex(8)}"), target))
+                write_new(*made[-1], text.encode())
+            for name, target in made if not SIGNALS.number else ():
+                os.replace(name, target)
+        except (OSError, ValueError) as error:
+            raise Failure(f"{shown(path)}: {getattr(error, 'strerror', None) or error}") from error
+        finally:
+            for name, _ in made:
+                with contextlib.suppress(OSError, ValueError):
+                    os.remove(name)
+
+
+def write_new(name: str, target: str, data: bytes) -> None:
+    """Writes a new file, with the mode of the one that it will replace."""
+    try:
+        mode = stat.S_IMODE(os.stat(target).st_mode)
+    except FileNotFoundError:
+        mode = None
+    handle = os.open(name, os.O_WRONLY | os.O_CREAT | os.O_EXCL, 0o666 if mode is None else mode)
+    with open(handle, "wb") as file:
+        if mode is not None:
+            os.fchmod(handle, mode)
+        file.write(data)

@@ -1,53 +1,136 @@
 """Finds the program `cmh`, runs it on a dump, and compares what it calls deadlocked with what the search found."""
 from __future__ import annotations
 
+import hashlib
 import os
+import re
 import shutil
 import subprocess
 import sys
 import tempfile
+from typing import IO, Callable, Dict, List, Set, Tuple, TypeVar
 
+from .dump import Dump
 from .files import Failure, Refusal, shown
+from .start import SIGNALS
+from .stuck import Answer
+
+Output = TypeVar("Output")
+WORKERS = 64  # docs/PERFORMANCE.md advises as many, and as many even parts, for a dump that takes long
+LONGEST = 200  # bytes, more than the first line of a report has
+DEADLOCKED = re.compile(rb"deadlocked ([!-~]+) group \d+\n")
 
 
-def program():
+def program() -> str:
     """Returns the path of the program: $CMH, or beside the tools, or in bin of the checkout, or on PATH."""
     here = os.path.dirname(os.path.realpath(sys.argv[0]))
     named = os.environ.get("CMH")
-    for path in [named] if named else [f"{here}/cmh", f"{here}/../bin/cmh", shutil.which("cmh")]:
-        if path and os.access(path, os.X_OK) and os.path.isfile(path):
-            return path
+    for path in [named] if named else [f"{here}/cmh", f"{here}/../bin/cmh", shutil.which("cmh") or ""]:
+        if os.access(path, os.X_OK) and os.path.isfile(path):
+            return os.path.abspath(path)
     raise Failure(f"the program {shown(named) if named else 'cmh'} isn't there: CMH names it, or it is on PATH")
 
 
-def deadlocked_names(data):
-    """Returns the names that the program calls deadlocked in a dump, of bytes. Raises Refusal with what it says of one
-    that it refuses, and Failure if it fails. A report may have half a gigabyte, so it isn't kept."""
-    words = [program(), "analyse"]
-    with tempfile.TemporaryFile() as dump, tempfile.TemporaryFile() as errors:
-        dump.write(data)
-        dump.seek(0)
-        try:
-            with subprocess.Popen(words, stdin=dump, stdout=subprocess.PIPE, stderr=errors) as ran:
-                first = ran.stdout.readline().split()
-                found = {line.split()[1].decode() for line in ran.stdout if line.startswith(b"deadlocked ")}
-        except OSError as error:
-            raise Failure(f"{words[0]}: {error.strerror}") from error
-        errors.seek(0)
-        said = shown(errors.read().decode("utf-8", "replace").strip())
-    if ran.returncode == 1:
-        raise Refusal(said.replace("cmh: ", "", 1))
-    if ran.returncode not in (0, 3):
-        raise Failure(said or f"{words[0]} ended with status {ran.returncode}")
-    if first[:1] != [b"processes"] or first[-1] != b"%d" % len(found) or (ran.returncode == 3) != bool(found):
-        raise Failure(f"what {words[0]} prints is no report")
+def identity() -> Dict[str, str]:
+    """Returns what notes say of the program: its path, and the SHA-256 of its bytes."""
+    path = program()
+    try:
+        with open(path, "rb") as file:
+            return {"path": path, "sha256": hashlib.sha256(file.read()).hexdigest()}
+    except OSError as error:
+        raise Failure(f"{shown(path)}: {error.strerror}") from error
+
+
+def plan(data: bytes) -> List[str]:
+    """Returns the options that cut long runs short: as many even parts of the idle processes as there are workers, and
+    no more workers than such processes. No plan changes an answer, so to count the word is enough."""
+    idle = max(1, data.count(b'"idle"'))
+    workers = min(idle, WORKERS)
+    return ["--workers", str(workers), "--cuts", ",".join([str(-(-idle // workers))] * workers)]
+
+
+def ask(words: List[str], data: bytes, read: Callable[[IO[bytes]], Output]) -> Tuple[Output, int, str]:
+    """Runs the program on a dump, of bytes. Returns what `read` makes of its standard output, its status, and what it
+    says on standard error. The program ends with the tool."""
+    path = program()
+    try:
+        with tempfile.TemporaryFile() as dump, tempfile.TemporaryFile() as errors:
+            dump.write(data)
+            dump.seek(0)
+            answer, status = read_output([path, *words], read, stdin=dump, stderr=errors)
+            errors.seek(0)
+            return answer, status, errors.read(1 << 16).decode("utf-8", "replace").strip()
+    except OSError as error:
+        raise Failure(f"{shown(path)} can't be run: {error.strerror or error}") from error
+
+
+def read_output(words: List[str], read: Callable[[IO[bytes]], Output], stdin: IO[bytes],
+                stderr: IO[bytes]) -> Tuple[Output, int]:
+    """Runs a command, and returns what `read` makes of its standard output, and its status. It has ended by then."""
+    ran = None
+    try:
+        with SIGNALS.hold():
+            ran = subprocess.Popen(words, stdin=stdin, stdout=subprocess.PIPE, stderr=stderr)
+        with ran.stdout as out:  # type: ignore[union-attr]
+            answer = read(out)
+        return answer, ran.wait()
+    finally:
+        if ran:
+            ran.kill()
+            ran.wait()
+
+
+def deadlocked_names(data: bytes) -> Set[str]:
+    """Returns the names that the program calls deadlocked in a dump, of bytes. Raises Refusal with its fault if it
+    refuses the dump, and Failure if it fails. A report may have half a gigabyte, so it isn't kept."""
+    (first, found), status, said = ask(["analyse", *plan(data)], data, read_report)
+    refuse(status, said)
+    if status not in (0, 3):
+        raise Failure(shown(said) or f"{shown(program())} ended with status {status}")
+    if first[:1] != [b"processes"] or first[-1] != b"%d" % len(found) or (status == 3) != bool(found):
+        raise mismatch("report")
     return found
 
 
-def confirm(dump, answer, which):
-    """Runs the program on the dump of an answer. Raises Failure if it calls others deadlocked than the search found."""
-    found = deadlocked_names(dump.text(answer).encode())
-    wanted = {dump.name(at) for at in dump.kept if answer.is_stuck(at)}
+def read_report(out: IO[bytes]) -> Tuple[List[bytes], Set[str]]:
+    """Returns the words of the first line of a report, and the names that it calls deadlocked."""
+    line = out.readline(LONGEST)
+    if line and not line.startswith(b"processes "):
+        raise mismatch("report")
+    rows = (DEADLOCKED.fullmatch(line) for line in out if line.startswith(b"deadlocked "))
+    return line.split(), {row[1].decode() for row in rows if row}
+
+
+def judge(data: bytes) -> None:
+    """Has the program judge a dump, of bytes, without an analysis: it does so before it looks for the name of a trace,
+    and no process has this name. Raises Refusal with its fault if it refuses the dump, and Failure if it fails."""
+    _, status, said = ask(["trace", "-"], data, lambda out: out.read(LONGEST))
+    refuse(status, said)
+    if (status, said) != (2, "cmh: no such process"):
+        raise Failure(shown(said)) if said.startswith("cmh: ") else mismatch("answer of cmh")
+
+
+def refuse(status: int, said: str) -> None:
+    if status == 1:
+        raise Refusal(said.replace("cmh: ", "", 1))
+
+
+def mismatch(what: str) -> Failure:
+    return Failure(f"what {shown(program())} prints is no {what}")
+
+
+def confirm(dump: Dump) -> None:
+    """Has the program confirm both answers of a dump, part by part, once if they have the same dump. Raises Failure if
+    it calls others deadlocked than the search found."""
+    for part in range(len(dump.parts)):
+        low, high = (dump.text(answer, part).encode() for answer in (dump.low, dump.high))
+        found = deadlocked_names(low)
+        compare(dump, dump.low, found, "low", part)
+        compare(dump, dump.high, found if high == low else deadlocked_names(high), "high", part)
+
+
+def compare(dump: Dump, answer: Answer, found: Set[str], which: str, part: int = 0) -> None:
+    wanted = dump.stuck_names(answer, part)
     if found != wanted:
         some = ", ".join(sorted(found ^ wanted)[:5])
         raise Failure(f"the program doesn't confirm the {which} answer, on {some}: nothing is said")

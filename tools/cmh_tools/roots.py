@@ -1,14 +1,17 @@
 """The roots of a stall: the components of the stuck ones that no edge leaves, and who is stuck behind which of them.
 
-An edge leads from each stuck one to each stuck one of its list, for waits of both kinds. So a root isn't made by a
-pick: nobody outside of it can unblock it.
+An edge leads from each stuck one to each stuck one of its list, for waits of both kinds, or through a hub. So a root
+isn't made by a pick: nobody outside of it can unblock it.
 """
 from __future__ import annotations
 
-from typing import Dict, List, Set, Tuple
+from typing import Container, Dict, Iterable, Iterator, List, Optional, Set, Tuple
+
+from .stuck import Answer, Waits
 
 MOST_ROOTS = 4  # of those behind which one is stuck, as many are kept apart
 STEPS = 3_000_000  # as many steps, all together, count those behind unknown ones
+Edges = Dict[int, List[int]]  # from each one to others of its list
 
 
 class Roots:
@@ -16,9 +19,9 @@ class Roots:
     stuck behind root r alone, `shared` those behind more than one. `above[p]` are the roots of p, at most MOST_ROOTS,
     `root_of[p]` is the one that it is a member of, and `among` has who is looked at."""
 
-    def __init__(self, waits, among):
+    def __init__(self, waits: Waits, among: List[int]) -> None:
         self.waits, self.among = waits, set(among)
-        self.edges = {at: [it for it in waits.left[at] if it in self.among] for at in among}
+        self.edges = edges_among(waits, among)
         found = components(self.edges)
         of = {at: number for number, members in enumerate(found) for at in members}
         above: Dict[int, Tuple[int, ...]] = {}
@@ -28,12 +31,13 @@ class Roots:
             above[number] = tuple(over[:MOST_ROOTS])
         self.arrange(found, of, above)
 
-    def arrange(self, found, of, above):
+    def arrange(self, found: List[List[int]], of: Dict[int, int], above: Dict[int, Tuple[int, ...]]) -> None:
         """Numbers the roots, and sorts the others behind them."""
         tops = [number for number, over in above.items() if over == (number,)]
         behind: Dict[int, List[int]] = {number: [] for number in tops}
         self.shared: List[int] = []
-        for at in self.edges:
+        members = without_hubs(self.waits, self.edges)
+        for at in members:
             over = above[of[at]]
             if len(over) > 1:
                 self.shared.append(at)
@@ -41,19 +45,37 @@ class Roots:
                 behind[over[0]].append(at)
         tops.sort(key=lambda number: (-len(behind[number]), min(found[number])))
         place = {number: at for at, number in enumerate(tops)}
-        self.roots = [along(self.edges, found[number]) for number in tops]
+        self.roots = [without_hubs(self.waits, along(self.edges, found[number])) for number in tops]
         self.behind = [behind[number] for number in tops]
-        self.above = {at: sorted(place[root] for root in above[of[at]]) for at in self.edges}
-        self.root_of = {at: place[of[at]] for at in self.edges if of[at] in place}
+        self.above = {at: sorted(place[root] for root in above[of[at]]) for at in members}
+        self.root_of = {at: place[of[at]] for at in members if of[at] in place}
 
-    def chain(self, at):
+    def chain(self, at: int) -> List[int]:
         """Returns a shortest way from one who is stuck to the first member of a root, both included."""
-        return way(self.edges, at, self.root_of)
+        return without_hubs(self.waits, way(self.edges, at, self.root_of))
 
 
-def components(edges):
+def edges_among(waits: Waits, some: List[int]) -> Edges:
+    """Returns the edges from some to some, and through hubs. A hub that leads to none of them has no edge to it."""
+    among = set(some)
+    hubs = {at: [it for it in waits.left[at] if it in among] for at in range(waits.number, len(waits.left))}
+    among.update(at for at, others in hubs.items() if others)
+    edges = {at: [it for it in waits.left[at] if it in among] for at in some}
+    edges.update((at, others) for at, others in hubs.items() if others)
+    return edges
+
+
+def without_hubs(waits: Waits, some: Iterable[int]) -> List[int]:
+    return [at for at in some if at < waits.number]
+
+
+def components(edges: Edges) -> List[List[int]]:
     """Returns the strongly connected components, each after those that its edges lead to."""
-    found, order, low, stack, on = [], {}, {}, [], set()
+    found: List[List[int]] = []
+    order: Dict[int, int] = {}
+    low: Dict[int, int] = {}
+    stack: List[int] = []
+    on: Set[int] = set()
     for start in edges:
         work = [(start, iter(edges[start]))] if start not in order else []
         while work:
@@ -74,7 +96,7 @@ def components(edges):
     return found
 
 
-def step(rest, at, order, low, on):
+def step(rest: Iterator[int], at: int, order: Dict[int, int], low: Dict[int, int], on: Set[int]) -> Optional[int]:
     """Returns the next one that hasn't been seen, or None at the end of the list."""
     for other in rest:
         if other not in order:
@@ -84,7 +106,7 @@ def step(rest, at, order, low, on):
     return None
 
 
-def cut_off(stack, on, at):
+def cut_off(stack: List[int], on: Set[int], at: int) -> List[int]:
     """Takes a component off the stack, down to its first member."""
     cut = len(stack) - 1
     while stack[cut] != at:
@@ -95,9 +117,10 @@ def cut_off(stack, on, at):
     return sorted(members)
 
 
-def along(edges, members):
+def along(edges: Edges, members: List[int]) -> List[int]:
     """Returns members so that each next one is, as far as it goes, one that the last one waits for."""
-    inside, seen, todo = set(members), {}, [members[0]]
+    inside, todo = set(members), [members[0]]
+    seen: Dict[int, None] = {}
     while todo:
         at = todo.pop()
         if at not in seen:
@@ -106,16 +129,13 @@ def along(edges, members):
     return list(seen)
 
 
-def way(edges, start, ends):
+def way(edges: Edges, start: int, ends: Container[int]) -> List[int]:
     """Returns a shortest way from one to any of the ends, or only the start if there is none."""
-    before, todo = {start: None}, [start]
+    before: Dict[int, Optional[int]] = {start: None}
+    todo = [start]
     for at in todo:
         if at in ends:
-            found = []
-            while at is not None:
-                found.append(at)
-                at = before[at]
-            return found[::-1]
+            return way_back(before, at)
         for other in edges.get(at, ()):
             if other not in before:
                 before[other] = at
@@ -123,10 +143,22 @@ def way(edges, start, ends):
     return [start]
 
 
-def count_waiters(waits, among, starts, most):
+def way_back(before: Dict[int, Optional[int]], end: int) -> List[int]:
+    """Returns the way to an end, by who comes before each."""
+    found: List[int] = []
+    at: Optional[int] = end
+    while at is not None:
+        found.append(at)
+        at = before[at]
+    return found[::-1]
+
+
+def count_waiters(waits: Waits, among: Container[int], starts: List[int],
+                  most: int) -> Dict[int, Tuple[int, bool, List[int]]]:
     """Returns for each start how many of `among` reach it, whether that is the whole number, and at most `most` of
     them, the nearest first. After STEPS steps in all only those that wait for a start directly are counted."""
-    steps, found = 0, {}
+    steps = 0
+    found: Dict[int, Tuple[int, bool, List[int]]] = {}
     for start in starts:
         seen: Set[int] = {start}
         todo = [start]
@@ -134,23 +166,23 @@ def count_waiters(waits, among, starts, most):
             steps += len(waits.waiters[at])
             if steps > STEPS and at != start:
                 break
-            new = [it for it in waits.waiters[at] if it in among and it not in seen]
+            new = [it for it in waits.waiters[at] if (it in among or it >= waits.number) and it not in seen]
             seen.update(new)
             todo += new
-        found[start] = len(seen) - 1, steps <= STEPS, todo[1:most + 1]
+        others = without_hubs(waits, todo[1:])
+        found[start] = len(others), steps <= STEPS, others[:most]
     return found
 
 
-def ends(answer):
+def ends(answer: Answer) -> Dict[int, int]:
     """Returns for each one outside of a set that waits, the one at the end of the chain of causes: it goes on by
     itself."""
     found: Dict[int, int] = {}
-    for start, cause in enumerate(answer.cause):
-        chain = []
-        at = start
-        while answer.cause[at] is not None and at not in found:
+    for at, cause in enumerate(answer.cause[:answer.waits.number]):
+        chain: List[int] = []
+        while cause is not None and at not in found:
             chain.append(at)
-            at = answer.cause[at]
+            at, cause = cause, answer.cause[cause]
         end = found.get(at, at)
         found.update((it, end) for it in chain)
     return found

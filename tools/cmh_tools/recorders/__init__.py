@@ -1,33 +1,29 @@
 """The recorders: each makes a sketch of the raw state that a system's own tools print.
 
-A recorder is a module with
-
-    NAME = "erlang"                      the SYSTEM of `cmh-dump SYSTEM STATE..`
-    SUMMARY = "what state.erl prints"    a line for --help
-    def record(states, facts): ..        the Sketch of one or more states, each a State
-
-What it doesn't understand is `unknown` with a reason, never `runs`; what people should see goes to `warnings` of the
-sketch. A text that it can't read is refused: Refusal, with the path, the line, and what was expected there. No text may
-make it raise anything else, and it takes time linear in the length of the texts.
-
-The wait of each process gets its `frames`, `operation`, `objects` and `count` as Process says. The core applies the
-facts after `record`: a wait fact decides who is `unknown`, and `also answered by` adds to a list. So a recorder needs
-`facts` only for what its system has of its own. A recorder that gets two states of one moment after the other makes a
-sketch of each, and returns `both` of them (`cmh_tools.both`).
+`base` says what a recorder is. What it doesn't understand is `unknown` or `spoilt` with a reason, never `runs`; what
+people should see goes to `warnings` of the sketch. A text that it can't read is refused: Refusal, with the path, the
+line, and what was expected there. No text may make it raise anything else, and it takes time linear in the length of
+the texts. It knows nothing of facts: the core applies them afterwards, for all recorders alike.
 """
 from __future__ import annotations
 
 import importlib
 from dataclasses import dataclass
+from typing import TYPE_CHECKING
 
-# SYSTEM, and the module here that has it. A module is loaded only when it is needed.
+if TYPE_CHECKING:
+    from .base import Recorder
+
+# Each SYSTEM: the module here that has its recorder, with its class, and a line for --help. A module is loaded only
+# when it is needed.
 MODULES = {
-    "erlang": "erlang",
-    "go": "go",
-    "jvm": "jvm",
-    "mpi": "mpi",
-    "python": "python",
-    "rabbitmq": "rabbitmq",
+    "erlang": ("erlang", "ErlangRecorder", "what cmh_state_reader prints, twice"),
+    "go": ("go", "GoRecorder", "texts of pprof's goroutine?debug=2, seconds apart, or of SIGQUIT"),
+    "jvm": ("jvm", "JvmRecorder", "two texts of `jstack -l PID`, seconds apart (or of `jcmd PID Thread.dump_to_file`)"),
+    "linux": ("linux", "LinuxRecorder", "what cmh_linux.py reads of processes, twice: --pid PID, or a state of it"),
+    "mpi": ("mpi", "MpiRecorder", "what cmh_mpi_reader.py prints of the ranks, or what gdb does, twice"),
+    "python": ("python", "PythonRecorder", "what cmh_state.py prints on a signal, twice, or py-spy, gdb, faulthandler"),
+    "rabbitmq": ("rabbitmq", "RabbitmqRecorder", "what rabbitmqctl prints, twice"),
 }
 
 
@@ -39,6 +35,8 @@ class State:
     text: str
 
 
-def recorder(system):
-    """Returns the module of a system, which stands in MODULES."""
-    return importlib.import_module(f"{__name__}.{MODULES[system]}")
+def recorder(system: str) -> Recorder:
+    """Returns a new recorder of a system, which stands in MODULES."""
+    module, name, _ = MODULES[system]
+    made: Recorder = getattr(importlib.import_module(f"{__name__}.{module}"), name)()
+    return made

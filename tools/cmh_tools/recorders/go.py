@@ -1,286 +1,251 @@
-"""The recorder for Go: what SIGQUIT prints with GOTRACEBACK=all, or two texts of pprof's `goroutine?debug=2`.
+"""The recorder for Go: what SIGQUIT prints with GOTRACEBACK=all, or texts of pprof's `goroutine?debug=2`.
 
-Known by itself is which goroutine computes or sleeps, and which waits at a nil channel or in an empty `select`: nobody
-ends that wait. An empty `select` in which main.main ends is idle by intent, if nobody waits for it. The other ends of
-channels and the holders of locks stand in no dump, so all other waits are unknown until facts decide them. Goroutines
-of the runtime are left out, and so are those that wait for work, unless a fact names them. Addresses that stand in the
-frames of others are only proposed as facts: such a list may be too short, and that makes up deadlocks.
+Known by itself is which goroutine computes or sleeps, and which waits at a nil channel, in an empty `select`, or is
+`(leaked)`, as Go 1.26 finds once its profile `goroutineleak` is asked for: nobody ends that wait. The other ends of
+channels and the holders of locks stand in no dump, so all other waits are unknown until facts decide them. The
+program's world is stopped while its goroutines are read, and whoever is woken is runnable at once, so one state shows
+one moment. Not so where the operating system wakes: what has come to a socket or a child that has ended may wait to be
+seen.
+
+A name is FUNCTION/NUMBER, with the function that was started, wherever the goroutine stands in it. Facts may name
+`{self}`, `{creator}` and the group `children:NAME`, where the text says which goroutine created which.
 """
 from __future__ import annotations
 
-import re
-import zlib
 from collections import defaultdict
-from functools import lru_cache, partial, reduce
+from typing import DefaultDict, Dict, List, Optional, Set, Tuple
 
-from ..both import CUT, both
-from ..facts import place_name, word_of
 from ..files import Refusal
-from ..sketch import UNKNOWN, Sketch, frame, runs, unknown, waits_for_any
-from .go_text import ADDRESS, TAKER, read_dumps
-from .idle import leave_out
+from ..moments import APART, CUT, ONCE, Reading
+from ..sketch import COMPLETE, LIMIT, SYSTEM, UNKNOWN, Process, Sketch, premise, runs, spoilt, unknown, waits_for_any
+from . import State
+from .base import Moment, Premise, Recorder
+from .go_frames import (ACCEPTOR, CONNECTION, NEEDS_ALL, Place, entry_of, is_at_another, is_jobs, is_of_runtime,
+                        takes_state)
+from .go_text import ADDRESS, Dump, Goroutine, read_dumps
 
-NAME = "go"
 SITE = "the Go program"
-SUMMARY = "two texts of pprof's goroutine?debug=2, seconds apart, or one of SIGQUIT with GOTRACEBACK=all"
-
-STANDARD = frozenset(
-    "archive arena bufio bytes cmp compress container context crypto database debug embed encoding errors expvar flag "
-    "fmt go hash html image index internal io iter log maps math mime net os path plugin reflect regexp runtime slices "
-    "sort strconv strings structs sync syscall testing text time unicode unique unsafe vendor weak".split()
-)
-LIBRARY = re.compile(
-    r"golang\.org/x/|google\.golang\.org/|go\.(?:uber|opencensus|opentelemetry)\.(?:org|io)/|k8s\.io/(?:klog|client-go)"
-    r"|github\.com/(?:golang|gin-gonic|labstack|gorilla|lib/pq|go-sql-driver|jackc|redis|go-redis|sirupsen|prometheus)/"
-)
 # States in which a goroutine goes on by itself, or the runtime sees to it.
-RUNNING = frozenset(("running", "runnable", "preempted", "copystack", "sleep", "GC assist marking", "GC assist wait",
+RUNNING = frozenset(("running", "runnable", "preempted", "copystack", "GC assist marking", "GC assist wait",
                      "garbage collection", "garbage collection scan", "wait for GC cycle", "panicwait", "dumping heap",
                      "debug call", "stopping the world", "flushing proc caches", "GC mark termination"))
-# States of the runtime's own goroutines.
-OF_THE_RUNTIME = frozenset(("idle", "force gc (idle)", "GC sweep wait", "GC scavenge wait", "finalizer wait",
-                            "cleanup wait", "GC worker (idle)", "GC worker (active)", "timer goroutine (idle)",
-                            "trace reader (blocked)"))
-# The operation of a state or of a function, where that is another word.
-OPERATIONS = {
-    "chan receive (nil chan)": "chan receive", "chan send (nil chan)": "chan send", "select (no cases)": "select",
-    "sync.Mutex.lockSlow": "sync.Mutex.Lock", "sync.runtime_SemacquireMutex": "sync.Mutex.Lock",
-    "sync.runtime_Semacquire": "sync.WaitGroup.Wait"}
-METHOD = re.compile(r"[(*)]")
 NOBODY = frozenset(("chan receive (nil chan)", "chan send (nil chan)", "select (no cases)"))
+OF_THE_SYSTEM = frozenset(("IO wait", "syscall"))
 END_OF_MAIN = "waits in the empty select of main"
-# Idle frames: a goroutine with one of them before the first of the job's own waits for work, and tells of no stall.
-ACCEPTOR, CONNECTION, WATCHER = "waits for a connection", "waits on a connection", "waits for what it watches"
-IDLE = [(re.compile(pattern), label) for pattern, label in (
-    (r"net\.\(\*(?:TCP|Unix)Listener\)\.Accept\w*|internal/poll\.\(\*FD\)\.Accept", ACCEPTOR),
-    (r"net/http\.\(\*persistConn\)\.(?:read|write)Loop|net/http\.\(\*connReader\)\.\w*ackgroundRead.*", CONNECTION),
-    (r"net/http\.\(\*conn\)\.readRequest", CONNECTION),
-    (r"net/http\.\(\*http2(?:ClientConn|clientConnReadLoop|serverConn)\)\.\w+", CONNECTION),
-    (r"google\.golang\.org/grpc/internal/transport\.\(\*(?:http2\w+|loopyWriter|controlBuffer)\)\.\w+", CONNECTION),
-    (r"database/sql\.\(\*DB\)\.connection(?:Opener|Cleaner|Resetter)|os/signal\.(?:loop|signal_recv)", WATCHER),
-    (r"os/signal\.NotifyContext\.func\d+|context\.(?:\(\*cancelCtx\)\.)?propagateCancel\.func\d+", WATCHER),
-    (r"go\.opencensus\.io/stats/view\.\(\*worker\)\.start|k8s\.io/klog\S*flushDaemon|.*/glog\.\S*flushDaemon", WATCHER),
-)]
-WRAPPER = re.compile(r".*(?:\.gowrap\d+|·dwrap·\d+)")
-CLOSURE = re.compile(r".*\.func\d+(?:\.\d+)*")
-CHANNEL = re.compile(r"runtime\.chan(?:send|recv)")
-LOCK = re.compile(r"sync\.\(\*(?:Mutex|RWMutex|WaitGroup|Cond|Once)\)\.\w+|internal/sync\.\(\*Mutex\)\.\w+")
-NEEDS_ALL = frozenset(("sync.WaitGroup.Wait", "sync.RWMutex.Lock", "golang.org/x/sync/errgroup.Group.Wait"))
-PROPOSED = 5  # names in one proposal
-PROPOSAL = "a proposal for the facts, whose list may be too short"
-KEPT = 65536  # functions whose meaning is kept
+YIELD = "runtime.Gosched"
+READER, CHANNELS = "sync.RWMutex.RLock", ("chan ", "select")
+NAMED = 3  # names in a reason
+MANY, MOST = 8, 200  # more who have what stands in a frame of another, or what it waits at, tell nothing of that
+WRITERS = "a writer ends this wait, which holds the lock or waits in Lock, and no reader; the state doesn't show which"
+ANOTHER = "another wait"  # beside the objects of one that has left its place between two states
+INTENT, MAIN = "empty-select", "1"
 
 
-def record(states, facts):
-    """Returns the sketch of one or more states of one program, as of the first."""
-    dumps = [dump for state in states for dump in read_dumps(state.path, state.text)]
-    for earlier in dumps[:-1]:
-        if earlier.is_last:
-            raise Refusal(f"{earlier.path}: SIGQUIT ends the program, so no state of it comes after this one")
-    for later in dumps[1:]:
-        check_same(dumps[0], later)
-    names = names_of(dumps)
-    moments = [Moment(dump, names) for dump in dumps]
-    for later in moments[1:]:
-        settle(moments[0], later)
-    sketch = reduce(partial(both, states=CUT), [moment.sketch for moment in moments])
-    if dumps[0].is_last:
-        sketch.as_of = "as of SIGQUIT, which ended the program"
-    elif len(dumps) == 1:
-        sketch.warnings.append(f"{dumps[0].path}: one state alone: a wait that is about to end looks like any other; "
-                               "take two, seconds apart")
-    leave_out(sketch, moments[0].idle, facts, "goroutines")
-    sketch.warnings += moments[0].proposals(sketch)
-    return sketch
+class Goroutines(Moment):
+    """The goroutines at one time: where each one stands, by its number; by the name of each, those who may start more
+    like it; for each address, the names of those that have it in a frame and don't wait at it; and
+    whether all were stopped when they were read."""
+
+    places: Dict[str, Place]
+    starters: Dict[str, List[str]]
+    seen: DefaultDict[str, List[str]]
+    is_stopped: bool
 
 
-def names_of(dumps):
-    """Returns the name of each goroutine by its number: the outermost function of the job's own, and the number."""
-    names = {}
-    for dump in dumps:
-        for goroutine in dump.goroutines:
-            names.setdefault(goroutine.number, f"{entry_of(goroutine)}/{goroutine.number}")
-    return names
+class GoRecorder(Recorder):
+    """The goroutines of one program, but for those of the runtime."""
 
+    NAME, IDLE, MOMENT = "go", "goroutines", ONCE
+    MOMENT_CLASS = Goroutines
+    PREMISES = {INTENT: Premise("main waits in an empty select by intent, as that of a service does")}
 
-def entry_of(goroutine):
-    """Returns the outermost function of a goroutine: of the job's own, if there is one, and none that only wraps the
-    call of a `go` statement."""
-    frames = [it for it in goroutine.frames if it.function not in ("runtime.goexit", "runtime.main")]
-    if not frames or not goroutine.is_whole:
-        return goroutine.created_by or "goroutine"
-    own, creator = list(filter(is_own, frames)) or frames, goroutine.creator
-    last = own[-1]
-    is_at_go = CLOSURE.fullmatch(last.function) and (last.path, last.line) == (creator.path, creator.line)
-    if len(own) > 1 and (WRAPPER.fullmatch(last.function) or is_at_go):
-        return own[-2].function
-    return last.function
+    def __init__(self) -> None:
+        self.dumps: List[Dump] = []
+        self.warnings: List[str] = []
+        self.names: Dict[str, str] = {}
+        self.again: Dict[int, str] = {}
+        self.parents: Set[str] = set()
 
+    def read(self, state: State) -> List[Reading]:
+        found = read_dumps(state.path, state.text)
+        self.dumps += found
+        return [self.reading_of(dump) for dump in found]
 
-# Frames
-
-
-def is_jobs(it):
-    """Whether a frame is none of the standard library."""
-    return not is_standard(it.function, it.path)
-
-
-@lru_cache(maxsize=KEPT)
-def is_standard(function, path):
-    if package_of(function).split("/")[0] not in STANDARD:
-        return function == "panic"
-    return path in ("", "<autogenerated>") or path.rpartition("/src/")[2].split("/")[0] in STANDARD
-
-
-def package_of(function):
-    """'net/http.(*conn).serve' is of 'net/http'."""
-    head, slash, tail = function.rpartition("/")
-    return head + slash + tail.split(".")[0]
-
-
-def is_own(it):
-    """Whether a frame is the job's own: of no library that many jobs use."""
-    return is_jobs(it) and not is_of_library(it.function)
-
-
-@lru_cache(maxsize=KEPT)
-def is_of_library(function):
-    return LIBRARY.match(function) is not None
-
-
-@lru_cache(maxsize=KEPT)
-def label_of(function):
-    """Returns how a goroutine with this frame is idle, or nothing."""
-    return next((label for pattern, label in IDLE if pattern.fullmatch(function)), "")
-
-
-def is_of_runtime(goroutine):
-    """Whether a goroutine is of the runtime, and runs no code of the job."""
-    if any(map(is_jobs, goroutine.frames)) or goroutine.fault:
-        return False
-    if goroutine.number == "0" or goroutine.state in OF_THE_RUNTIME:
-        return True
-    return package_of(goroutine.created_by) == "runtime" or goroutine.number == "17" and not goroutine.created_by
-
-
-def takes_state(goroutine):
-    """Whether a goroutine answers the request for the state. One that takes it by the job's own code is of the job."""
-    functions = {it.function for it in goroutine.frames}
-    return TAKER in functions and "net/http.(*conn).serve" in functions
-
-
-def is_at_end_of_main(goroutine):
-    """Whether a goroutine waits in an empty `select` of main.main, as that of a service does for as long as it runs."""
-    functions = [it.function for it in goroutine.frames if is_jobs(it)]
-    return goroutine.state == "select (no cases)" and functions == ["main.main"]
-
-
-class Place:
-    """Where a goroutine stands: its frames as facts match them, what it calls there, and how it is idle, if it is."""
-
-    def __init__(self, goroutine):
-        frames = [it for it in goroutine.frames if it.function not in ("runtime.goexit", "runtime.main")]
-        start = next((at for at, it in enumerate(frames) if is_own(it)), None)
-        self.idle = next(filter(None, (label_of(it.function) for it in frames[:start])), "")
-        if start is None:
-            start = next((at for at, it in enumerate(frames) if is_jobs(it)), None)
-        if start is None:
-            start = next((at for at, it in enumerate(frames) if package_of(it.function) != "runtime"), 0)
-        own = [it for it in frames[start:] if is_jobs(it)]
-        if not own and goroutine.created_by and is_jobs(goroutine.creator):
-            own, start = [goroutine.creator], len(frames)
-        self.frames = [frame(it.function, it.file, it.line) for it in own or frames[start:]]
-        self.operation = operation_of(goroutine.state, frames[start - 1].function if start else "")
-        self.objects = objects_of(frames[:start])
-
-
-def operation_of(state, called):
-    """Returns what a goroutine does at its own topmost frame: the call of a library (sync.Mutex.Lock), or its state."""
-    if not called or package_of(called) == "runtime":
-        return OPERATIONS.get(state, state)
-    name = METHOD.sub("", called)
-    return OPERATIONS.get(name, name)
-
-
-def objects_of(frames):
-    """Returns the address of the channel or lock that the frames of a wait show, if they do for certain."""
-    for it in frames:
-        if CHANNEL.fullmatch(it.function) or LOCK.fullmatch(it.function):
-            first = it.arguments.split(",")[0]
-            if ADDRESS.fullmatch(first):
-                return [first]
-    return []
-
-
-# One state
-
-
-class Moment:
-    """One state. `sketch` has its goroutines but for those of the runtime, `idle` by name how each idle one is idle."""
-
-    def __init__(self, dump, names):
-        self.dump, self.names, self.idle, self.minutes = dump, names, {}, {}
+    def reading_of(self, dump: Dump) -> Reading:
+        """Returns the reading of a dump. A text may be cut off after any goroutine, and nothing shows that."""
+        for it in dump.goroutines:
+            if any(map(is_at_another, it.frames)):
+                it.doubt(f"{it.at}: lines are missing below this one, since a function and its file don't fit")
         shown = [it for it in dump.goroutines if not is_of_runtime(it)]
         taker = [it for it in shown if takes_state(it)]
-        self.goroutines = [it for it in shown if it not in taker] if taker else shown
-        warnings = [f"goroutine {it.number}, which takes the state, is left out" for it in taker]
-        if dump.is_last and len(shown) == 1:
-            warnings.append(f"{dump.path}: it has one goroutine alone: was GOTRACEBACK=all set?")
-        processes = [self.process(it) for it in self.goroutines]
-        self.sketch = Sketch(processes, system=NAME, warnings=[*dump.warnings, *warnings])
+        self.warnings += dump.warnings
+        self.warnings += [f"goroutine {it.number}, which takes the state, is left out" for it in taker]
+        rows = [it for it in shown if it not in taker] if taker else shown
+        return Reading(dump.path, self.NAME, rows, missing_of(dump, shown), CUT)
 
-    def process(self, goroutine):
-        """Returns the process of a goroutine."""
-        name, place = self.names[goroutine.number], Place(goroutine)
-        self.minutes[name] = goroutine.minutes
-        if goroutine.fault:  # (and nothing of its wait, so that it is unknown in two states too)
-            return unknown(name, goroutine.fault, site=SITE)
-        process = self.wait(goroutine, place, name)
+    def begin(self, readings: List[Reading]) -> None:
+        """Names the goroutines, and sees which have left their place between two states."""
+        for earlier in self.dumps[:-1]:
+            if earlier.is_last:
+                raise Refusal(f"{earlier.path}: SIGQUIT ends the program, so no state of it comes after this one")
+        for later in self.dumps[1:]:
+            check_same(self.dumps[0], later)
+        before: Dict[str, Goroutine] = {}
+        for dump in self.dumps:
+            for it in dump.goroutines:
+                self.names.setdefault(it.number, f"{entry_of(it)}/{it.number}")
+                earlier_one = before.get(it.number)
+                if earlier_one is not None and has_left(earlier_one, it):
+                    self.again[id(it)] = ANOTHER
+                before[it.number] = it
+        self.parents = {it.parent for dump in self.dumps for it in dump.goroutines if it.parent}
+
+    def prepare(self, moment: Goroutines) -> None:
+        """Finds in whose frames each address stands, and whether all goroutines were stopped when they were read."""
+        moment.places = {it.number: Place(it) for it in moment.rows()}
+        moment.seen = defaultdict(list)
+        moment.is_stopped = not any(it.is_elsewhere for it in moment.rows())
+        moment.starters = self.starters_of(moment)
+        for it in moment.rows():
+            here = moment.places[it.number].objects
+            for address in dict.fromkeys(ADDRESS.findall(" ".join(each.arguments for each in it.frames))):
+                if address not in here:
+                    moment.seen[address].append(self.names[it.number])
+
+    def starters_of(self, moment: Goroutines) -> Dict[str, List[str]]:
+        """Returns who may start more like a goroutine, by its name: those in the function that started it, or, if
+        nobody is in that, whoever may call it again."""
+        standing = defaultdict(list)
+        for it in moment.rows():
+            for function in dict.fromkeys(frame.function for frame in it.frames):
+                standing[function].append(self.names[it.number])
+        others = self.callers(moment)
+        return {self.names[it.number]: standing.get(it.created_by, others) for it in moment.rows()
+                if it.created_by and is_jobs(it.creator)}
+
+    def callers(self, moment: Goroutines) -> List[str]:
+        """Returns who may call any function of the job: those that run code of it, and those at which a request may
+        come that it answers. Of many at one place two are enough."""
+        found: DefaultDict[Tuple[str, ...], List[str]] = defaultdict(list)
+        for it in moment.rows():
+            place = moment.places[it.number]
+            if place.idle in ("", ACCEPTOR, CONNECTION):
+                found[(it.state, *place.frames[:1])].append(self.names[it.number])
+        return [name for names in found.values() for name in names[:2]]
+
+    def wait_of(self, subject: Goroutine, moment: Goroutines) -> Process:
+        goroutine, name = subject, self.names[subject.number]
+        if goroutine.fault:
+            return spoilt(name, goroutine.fault, site=SITE)
+        place = moment.places[goroutine.number]
+        process = self.wait_at(goroutine, place, name, moment)
         process.site, process.proposal = SITE, "all" if place.operation in NEEDS_ALL else "any"
-        process.frames, process.operation, process.objects = place.frames, place.operation, place.objects
-        stack = "\n".join(f"{it.function}:{it.line}{it.offset}" for it in goroutine.frames)
-        process.count = f"stack {zlib.crc32(stack.encode(errors='replace')):08x}"
+        process.frames, process.operation = place.frames, process.operation or place.operation
+        process.meeting = next(iter(place.objects), name) if place.operation in NEEDS_ALL else ""
+        process.objects = [*place.objects, *self.values(goroutine), *filter(None, [self.again.get(id(goroutine))])]
         since = f", for {goroutine.minutes} minutes" if goroutine.minutes else ""
         where = f" at {place.frames[0]}" if place.frames else ""
         process.note = f"{place.operation}{where}{since}"
+        if process.kind == UNKNOWN and not place.operation.endswith("Lock"):
+            process.starters = moment.starters
+        if process.kind == UNKNOWN and (goroutine.state in OF_THE_SYSTEM or not moment.is_stopped):
+            process.moment = APART
         return process
 
-    def wait(self, goroutine, place, name):
+    def values(self, goroutine: Goroutine) -> List[str]:
+        """What facts may name of a goroutine, the same in all states."""
+        itself = [f"self={self.names[goroutine.number]}"] if goroutine.number in self.parents else []
+        return itself + ([f"creator={self.names[goroutine.parent]}"] if goroutine.parent in self.names else [])
+
+    def wait_at(self, goroutine: Goroutine, place: Place, name: str, moment: Goroutines) -> Process:
         """Returns what a goroutine waits for, as a process with its kind alone."""
         state = goroutine.state
-        if place.idle:
-            self.idle[name] = place.idle
-            return runs(name, place.idle) if state in RUNNING else unknown(name, place.idle)
+        if state in RUNNING and place.called == YIELD:
+            return runs(name, "yields", [premise(LIMIT)], operation=f"timed {YIELD}")
         if state in RUNNING:
-            return runs(name, "sleeps" if state == "sleep" else "computes" if state.startswith("run") else state)
-        if state in NOBODY:
-            if is_at_end_of_main(goroutine):
-                self.idle[name] = END_OF_MAIN
-            return waits_for_any(name, [], reason=self.idle.get(name, ""))
-        if state in ("IO wait", "syscall"):
+            why = place.idle or ("computes" if state.startswith("run") else state)
+            return runs(name, why, [SYSTEM], is_idle=bool(place.idle))
+        if state == "sleep":
+            why = place.idle or "sleeps"
+            return runs(name, why, [premise(LIMIT)], operation="timed sleep", is_idle=bool(place.idle))
+        if place.idle:
+            return unknown(name, place.idle, is_idle=True)
+        if state in NOBODY or goroutine.is_leaked:
+            return wait_for_nobody(goroutine, name)
+        if state in OF_THE_SYSTEM:
             return unknown(name, f"{state}: the other end may be in the dump, and the state doesn't show it")
-        return unknown(name, f"{state}: the state doesn't show what ends this wait" if state else "it has no state")
+        if not state:
+            return unknown(name, "it has no state")
+        others = [name for at in place.objects for name in moment.seen[at]]
+        who = WRITERS if place.operation == READER else "the state doesn't show what ends this wait"
+        return unknown(name, f"{state}: {who}{also_at(others)}", candidates=self.guess(goroutine, place, moment))
 
-    def proposals(self, sketch):
-        """Returns lines of facts for waits whose object stands in the frames of others that don't wait at it alike."""
-        waiting = {it.name: it for it in sketch.processes if it.kind == UNKNOWN and it.objects}
-        wanted = {it.objects[0] for it in waiting.values()}
-        seen = defaultdict(list)
-        there = {process.name for process in sketch.processes}
-        for goroutine in self.goroutines:
-            name, arguments = self.names[goroutine.number], " ".join(it.arguments for it in goroutine.frames)
-            for address in wanted.intersection(ADDRESS.findall(arguments) if name in there else ()):
-                seen[address].append((name, waiting[name].operation if name in waiting else ""))
-        places = {}
-        for process in waiting.values():
-            words = " ".join(map(word_of, filter(None, [place_name(process.frames[0]), process.operation])))
-            some = [name for name, what in seen[process.objects[0]] if what != process.operation][:PROPOSED]
-            places.setdefault(words, {}).update(dict.fromkeys(some))
-        return [f"{PROPOSAL}: {words} -> any {' '.join(map(word_of, list(some)[:PROPOSED]))}"
-                for words, some in places.items() if some]
+    def guess(self, goroutine: Goroutine, place: Place, moment: Goroutines) -> List[str]:
+        """Returns who may end a wait, as words of facts for people to complete: its children, if it waits for all of
+        them; who has what it waits at in a frame; and for a channel, which most texts don't show, who has what stands
+        in its own frame, unless these are many, as with what all of a program share."""
+        if place.operation in NEEDS_ALL and goroutine.number in self.parents:
+            return ["children"]
+        at = place.objects or (place.given if place.operation.startswith(CHANNELS) else [])
+        if sum(len(moment.seen[address]) for address in at) > (MOST if place.objects else MANY + 1):
+            return []
+        found = dict.fromkeys(name for address in at for name in moment.seen[address])
+        found.pop(self.names[goroutine.number], None)
+        return [*found, COMPLETE] if found and (place.objects or len(found) <= MANY) else []
+
+    def finish(self, sketch: Sketch, moments: List[Goroutines]) -> None:
+        """Adds the warnings, and for each creator the group of those that it has created."""
+        sketch.warnings = list(dict.fromkeys([*self.warnings, *sketch.warnings]))
+        if self.dumps[0].is_last:
+            sketch.as_of = "as of SIGQUIT, which ended the program"
+        for it in moments[0].rows():
+            if it.parent in self.names:
+                sketch.groups.setdefault(f"children:{self.names[it.parent]}", []).append(self.names[it.number])
 
 
-def check_same(first, later):
+def missing_of(dump: Dump, shown: List[Goroutine]) -> str:
+    """Returns why goroutines, or frames of them that facts may ask for, aren't in a dump, if they may not be."""
+    if dump.is_last and len(shown) == 1:
+        return f"{dump.path} has one goroutine alone, as without GOTRACEBACK=all"
+    odd = next((it.fault for it in shown if it.fault), dump.lost)
+    if odd:
+        return f"{odd}, so one may be missing, or what it holds"
+    elided = [it for it in shown if not it.is_whole]
+    if elided:
+        return f"{elided[0].at}: frames of goroutine {elided[0].number} are elided, which may hold what others wait for"
+    return ""
+
+
+def also_at(names: List[str]) -> str:
+    """Returns in whose frames stands too what a goroutine waits at, for a reader who looks for a fact."""
+    if not names:
+        return ""
+    more = f" and {len(names) - NAMED} more" if names[NAMED:] else ""
+    return f"; it stands in the frames of {', '.join(names[:NAMED])}{more} too, and others may have it"
+
+
+def wait_for_nobody(goroutine: Goroutine, name: str) -> Process:
+    """One at a nil channel or in an empty `select`. That of main, or of what main calls, is as idle as a service is."""
+    if goroutine.state == "select (no cases)" and goroutine.number == MAIN:
+        return waits_for_any(name, [], [SYSTEM, premise(INTENT)], reason=END_OF_MAIN, is_idle=True)
+    return waits_for_any(name, [], [SYSTEM])
+
+
+# Two states
+
+
+def has_left(first: Goroutine, later: Goroutine) -> bool:
+    """Whether a goroutine has begun another wait, or stands elsewhere in the same line. The minutes of a wait only
+    grow; one that sleeps in a loop comes back to the same sleep."""
+    is_new = later.minutes < first.minutes and later.state != "sleep"
+    return is_new or stack_of(first) != stack_of(later)
+
+
+def stack_of(goroutine: Goroutine) -> List[Tuple[str, Optional[int], str]]:
+    return [(it.function, it.line, it.offset) for it in goroutine.frames]
+
+
+def check_same(first: Dump, later: Dump) -> None:
     """Raises Refusal if a goroutine has another origin in the later of two dumps, so that they are of two programs: a
     program gives no number twice."""
     before = {it.number: origin_of(it) for it in first.goroutines}
@@ -291,7 +256,7 @@ def check_same(first, later):
                           "states of one program are expected")
 
 
-def origin_of(goroutine):
+def origin_of(goroutine: Goroutine) -> str:
     """Returns where a goroutine was created, or for main where main.main is, as text, or nothing."""
     creator, last = goroutine.creator, next(filter(is_jobs, reversed(goroutine.frames)), None)
     if goroutine.fault:
@@ -299,11 +264,4 @@ def origin_of(goroutine):
     if creator.function and creator.path:
         return f"{creator.function} ({creator.path}:{creator.line})"
     is_main = goroutine.number == "1" and last is not None and last.function == "main.main"
-    return f"main.main ({last.path})" if is_main else ""
-
-
-def settle(first, later):
-    """Marks who has begun another wait between two states, by the minutes that it has waited."""
-    for process in later.sketch.processes:
-        if later.minutes[process.name] < first.minutes.get(process.name, 0):
-            process.count = f"{process.count}, another wait"
+    return f"main.main ({last.path})" if is_main and last is not None else ""

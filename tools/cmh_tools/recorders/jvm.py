@@ -1,58 +1,378 @@
-"""The recorder for the JVM: two or more texts of `jstack -l PID`, or of `jcmd PID Thread.dump_to_file`.
+"""The recorder for the JVM: texts of `jstack -l PID`, or of `jcmd PID Thread.dump_to_file`.
 
-Known by itself is who holds a monitor, unless `Object.wait()` has given it back, and who owns a ReentrantLock or one of
-its kin; who initialises a class; waits with a limit, timers, and who computes. All other waits are unknown until facts
-decide them. Threads of the JVM itself are left out, and so is who waits for work, unless another waits for it or a fact
-names it.
+Known by itself is who holds a monitor, unless `Object.wait()` has given it back, who owns a ReentrantLock or one of its
+kin, and who initialises a class. `jstack` stops all threads, and nobody but its owner gives such a lock back, so one
+state shows such a wait. All other waits are unknown until facts decide them. One that has been woken may still stand at
+its wait, so they need two states, and the same processor time in both. `Thread.dump_to_file` stops nobody and counts
+nothing. A wait that any thread may end by an interrupt or a cancel lasts only if all of the job are stuck or idle.
 
 A wait with a limit has the operation 'timed put' in place of 'put'. It goes on by itself, unless a fact with that
-operation says for whom it only waits again and again: then its processor time, which grows, doesn't say that it has
-moved.
+operation says for whom it only waits again and again.
 """
 from __future__ import annotations
 
-import zlib
 from collections import defaultdict
-from dataclasses import replace
-from functools import partial, reduce
+from typing import Dict, Iterable, List, Optional, Set, Tuple
 
-from ..both import WHOLE, both
 from ..files import Refusal
-from ..sketch import ANY, RUNS, UNKNOWN, Sketch, runs, unknown, waits_for_any
-from .idle import leave_out
-from .jvm_frames import AGAIN, COMPUTES, HAS_TIMER, LIMITED, NEEDS_ALL, SLEEP, is_of_jvm, place_of, short
-from .jvm_text import CLASS_INIT, read_dumps
+from ..moments import APART, ONCE, WHOLE, WOKEN, Reading
+from ..sketch import (COMPLETE, LIMIT, REST, RUNS, SYSTEM, Process, Sketch, premise, runs, spoilt, unknown,
+                      waits_for_any)
+from . import State
+from .base import Moment, Premise, Recorder
+from .jvm_dumps import read_dumps
+from .jvm_frames import (AGAIN, BARRIER, CLEANER, COMPUTES, CONDITION, FUTURE, HAS_TIMER, INTERRUPTIBLY, INTERRUPTS,
+                         LIMITED, LIMITS_FUTURES, MEETS, NEEDS_ALL, OF_QUEUES, POOLED, POOLS_OWN, READS, SLEEP, SOCKETS,
+                         TASK, WORKER, YIELDS, Place, caller_of, is_in, is_like, is_of_jvm, place_of, short)
+from .jvm_heap import PREMISES as OF_HEAPS
+from .jvm_heap import Heap, Heaps, is_between, read_heap
+from .jvm_locks import Locks, monitors_of, objects_of
+from .jvm_text import PARKED, Dump, Thread, stack_of
+from .jvm_whole import add_disturbers, add_inner, count_owned, kernel_thread
 
-NAME = "jvm"
-SUMMARY = "two texts of `jstack -l PID`, seconds apart (or of `jcmd PID Thread.dump_to_file`)"
-
-NAMED = 5  # in a warning
-NO_OBJECT = "no object reference available"
-RELOCK = "waiting to re-lock in wait()"
-WAITS = ("java.lang.Object.wait", "java.lang.Object.wait0")
+NATIVE, UNDISTURBED, INITIALISER = "native", "undisturbed", "initialiser"
+QUEUED, TIMED = "queued", "processor-time"
+# On what waits rest that any thread of the job may end: by an interrupt, a cancel, a value, or a larger pool.
+DISTURBED = {premise(name) for name in (UNDISTURBED, *OF_HEAPS)}
+TICKS = (10, 15.625)  # milliseconds in which some operating systems count processor time
+OF_THE_JDK = "java.util.concurrent.locks."
 VIRTUAL = "jstack shows no virtual threads: take `jcmd PID Thread.dump_to_file -format=json FILE` twice instead"
 
 
-def record(states, facts):
-    """Returns the sketch of two or more states of one JVM, as of the first."""
-    dumps = [dump for state in states for dump in read_dumps(state.path, state.text)]
-    if len(dumps) == 1:
-        raise Refusal(f"{dumps[0].path}: it is one state, in which a thread that has just been woken looks as if it "
-                      "waited: two are needed, seconds apart. If there is just one, of a JVM that was stalled, name it "
-                      "twice")
-    names = names_of(dumps)
-    moments = [Moment(dump, names, facts) for dump in dumps]
-    for later in moments[1:]:
-        check_same(moments[0], later)
-        settle(moments[0], later)
-    sketch = reduce(partial(both, states=WHOLE), [moment.sketch for moment in moments])
-    leave_out(sketch, moments[0].idle, facts, "threads")
-    return sketch
+class Threads(Moment):
+    """The dump of one time: its threads, their names by key, their locks, who is in which method that interrupts, and
+    the names of the threads of pools (`workers`), with `?` if one of them may have begun what another one waits for.
+    `owners` have a lock of the JDK, `timers` are those of the JDK with something to do for futures, `meetings` has by
+    key at which barrier one waits, if the state shows that of all who wait at one, `limited` are the keys of those
+    whose wait has a limit, and `breakers` of those at a barrier; `counts` says that processor times tell one wait from
+    the next, `lacks` that threads may be missing, and `heaps` has what a heap dump shows."""
+
+    dump: Dump
+    threads: List[Thread]
+    names: Dict[str, str]
+    locks: Locks
+    interrupters: List[Tuple[str, str]]
+    workers: List[str]
+    owners: List[Thread]
+    timers: List[Thread]
+    meetings: Dict[str, str]
+    limited: Set[str]
+    breakers: List[str]
+    counts: bool
+    lacks: bool
+    heaps: Heaps
 
 
-def names_of(dumps):
-    """Returns the name of each thread by its key: its own, with the number where two are called alike."""
-    given = {thread.key: thread.name for dump in dumps for thread in dump.threads}
+def has_stood(thread: Thread, moment: Threads) -> str:
+    return "it used no processor time between the states" if thread.has_stood else ""
+
+
+def interrupter(thread: Thread, moment: Threads) -> str:
+    """Returns what shows that a thread interrupts others, or nothing."""
+    found = next(((key, method) for key, method in moment.interrupters if key != thread.key), None)
+    return f"{moment.names[found[0]]} is in {short(found[1])}, which may interrupt it" if found else ""
+
+
+def other_initialiser(thread: Thread, moment: Threads) -> str:
+    """Returns what shows that a class of this name of another loader may be meant, or nothing. Whoever initialises that
+    may still be in the initialiser of a class from which it derives, or wait for another class: in the end somebody
+    runs an initialiser and waits for no class."""
+    name = moment.locks.class_of(thread)
+    found = set(moment.locks.initialisers.get(name, []))
+    if len(found) > 1:
+        return f"several threads initialise a class {name}"
+    other = next((key for key in moment.locks.beginners if key not in found and key != thread.key), None)
+    return (f"{moment.names[other]} initialises a class too, from which a {name} of another class loader may derive"
+            if other else "")
+
+
+class JvmRecorder(Recorder):
+    """The threads of one JVM, but for its own."""
+
+    NAME, IDLE, MOMENT = "jvm", "threads", WOKEN
+    MOMENT_CLASS = Threads
+    PREMISES = {
+        NATIVE: Premise("a native method of the JDK that is known to compute returns", has_stood),
+        UNDISTURBED: Premise("no thread interrupts one that waits for a lock", interrupter),
+        INITIALISER: Premise("a class that is waited for is the one of its name whose initialiser runs",
+                             other_initialiser),
+        QUEUED: Premise("one that waits to read with a lock that nobody owns is behind one that waits to write"),
+        TIMED: Premise("a thread that was woken has used 0.01 ms of processor time or more"),
+        **{name: Premise(sentence, interrupter) for name, sentence in OF_HEAPS.items()},
+    }
+
+    def __init__(self) -> None:
+        self.dumps: List[Dump] = []
+        self.names: Dict[str, str] = {}
+        self.heap: Optional[Heap] = None
+
+    def read(self, state: State) -> List[Reading]:
+        found = read_dumps(state.path, state.text)
+        self.heap = read_heap(state.path, state.text) or self.heap
+        self.dumps += found
+        return [Reading(dump.path, self.NAME, [dump], missing_of(dump), WHOLE, machine=dump.machine, time=dump.time)
+                for dump in found]
+
+    def begin(self, readings: List[Reading]) -> None:
+        """Checks that all states are of one JVM, names its threads, and sees through the collector."""
+        for at, later in enumerate(self.dumps[1:], 1):
+            check_same(self.dumps[0], later)
+            check_different(self.dumps[at - 1], later)
+            check_order(self.dumps[at - 1], later)
+            follow(self.dumps[0], later)
+        self.names = names_of(self.dumps)
+        if self.heap and not is_between(self.heap, self.dumps):
+            self.dumps[0].warnings.append(f"{self.heap.at}: the heap wasn't dumped between the two states, so nothing "
+                                          "is taken from it: take-jvm --heap does that")
+            self.heap = None
+
+    def prepare(self, moment: Threads) -> None:
+        moment.dump, = moment.rows()
+        moment.threads, moment.names = moment.dump.threads, self.names
+        moment.locks = Locks(moment.threads, moment.dump.found)
+        moment.interrupters = [(it.key, frame.method) for it in moment.threads if is_in(INTERRUPTS, stack_of(it))
+                               for frame in it.frames if is_like(INTERRUPTS, frame.method)]
+        workers = list(filter(may_run_task, moment.threads))
+        moment.workers = [self.names[it.key] for it in workers] + [COMPLETE] * any(map(is_at_work, workers))
+        moment.owners = list(filter(has_lock, moment.threads))
+        moment.timers = [it for it in moment.threads if LIMITS_FUTURES.fullmatch(it.name) and it.state != "WAITING"]
+        moment.meetings = meetings_of(moment)
+        moment.limited = {it.key for it in moment.threads if it.state == "TIMED_WAITING"}
+        moment.breakers = [it.key for it in moment.threads if it.key in moment.limited
+                           and is_in(BARRIER, stack_of(it))]
+        moment.counts = not is_coarse(moment.dump)
+        moment.lacks = any(reading.missing for reading in moment.readings)
+        moment.heaps = Heaps(self.heap, moment.threads, self.names, moment.locks)
+
+    def processes(self, moment: Threads) -> Iterable[Thread]:
+        held: Set[str] = moment.locks.wanted_holders()
+        return [it for it in moment.threads if it.key in held or not is_of_jvm(it)]
+
+    def wait_of(self, subject: Thread, moment: Threads) -> Process:
+        thread, name, site = subject, self.names[subject.key], site_of(moment.dump)
+        if thread.fault:
+            return spoilt(name, thread.fault, site=site)
+        place = place_of(thread)
+        process = self.wait_at(thread, place, name, moment)
+        own = {"BLOCKED": "synchronized", "RUNNABLE": "<clinit>" if process.whom else ""}.get(thread.state, "")
+        process.site, process.thread, process.frames = site, kernel_thread(thread, moment.dump), place.frames
+        process.operation = process.operation or place.call or own
+        here = moment.locks.objects.get(thread.key, [])
+        process.objects = here if thread.same_as is None else thread.same_as
+        process.proposal = "all" if NEEDS_ALL.fullmatch(place.call) else "any"
+        process.is_collective = MEETS.fullmatch(place.call) is not None
+        process.meeting = moment.meetings.get(thread.key, "")
+        if process.proposal == "all" and not process.is_collective:
+            process.meeting = next(iter(here), name)
+        process.besides = [*process.besides, *self.besides_of(thread, place, moment)]
+        process.note = " at ".join(filter(None, [place.call or own, *place.frames[:1]]))
+        process.moment = APART if moment.dump.is_file else process.moment
+        self.set_count(process, thread, place, moment)
+        return process
+
+    def set_count(self, process: Process, thread: Thread, place: Place, moment: Threads) -> None:
+        """Sets the processor time as its count. Who is blocked at a monitor, or waits with a limit, wakes up by itself
+        and uses some, so that it counts nothing there."""
+        is_again = place.has(AGAIN) or thread.state == "BLOCKED"
+        if process.kind == RUNS or process.moment == ONCE or is_again or not thread.cpu or not moment.counts:
+            return
+        process.count = f"cpu {thread.cpu}"
+        process.because.append(premise(TIMED))
+
+    def wait_at(self, thread: Thread, place: Place, name: str, moment: Threads) -> Process:
+        """Returns what a thread waits for, as a process with its kind alone."""
+        has_limit = thread.state == "TIMED_WAITING" or not thread.state and place.has(LIMITED)
+        if place.idle and not (has_limit and place.has(HAS_TIMER)):
+            return unknown(name, place.idle, is_idle=True)
+        if thread.state == "BLOCKED":
+            return self.wait_for_monitor(thread, name, moment)
+        if has_limit:
+            return wait_with_limit(place, name)
+        if thread.state == "WAITING":
+            return self.wait_without_limit(thread, place, name, moment)
+        if thread.state == "RUNNABLE":
+            return self.run_or_wait(thread, name, moment)
+        return unknown(name, f"its state is {thread.state}" if thread.state else "the text has no state of it")
+
+    def wait_for_monitor(self, thread: Thread, name: str, moment: Threads) -> Process:
+        wanted = moment.locks.wanted.get(thread.key)
+        if wanted is None:
+            return unknown(name, "it waits for a monitor, and the state doesn't show which")
+        holders = moment.locks.monitor_holders(wanted, thread.key)
+        if len(holders) == 1:
+            return self.wait_for_owner(name, holders[0], [SYSTEM], moment)
+        perhaps = [self.names[it] for it in moment.locks.perhaps.get(wanted, []) if it != thread.key]
+        shows = "shows several holders of it" if holders else "shows no holder of it"
+        more = f": {perhaps[0]} may have given it back in Object.wait()" if perhaps and not holders else ""
+        return unknown(name, f"it waits for the monitor {wanted}, and the state {shows}{more}")
+
+    def wait_for_owner(self, name: str, key: str, because: List[str], moment: Threads) -> Process:
+        """One that waits for what another owns, which alone gives it back: one moment shows that."""
+        return waits_for_any(name, [self.names[key]], because, is_open=moment.lacks, moment=ONCE)
+
+    def wait_without_limit(self, thread: Thread, place: Place, name: str, moment: Threads) -> Process:
+        owner, what = moment.locks.owner(thread), place.call or "its wait"
+        parked = next((at for it in thread.frames[:1] for kind, at in it.marks if kind == PARKED), "")
+        is_jdks = (thread.parked_class or parked).startswith(OF_THE_JDK)
+        frail = [premise(UNDISTURBED)] if place.has(INTERRUPTIBLY) else []
+        if owner is not None and is_jdks:
+            return self.wait_for_owner(name, owner, frail or [SYSTEM], moment)
+        if owner is not None:
+            return unknown(name, f"{self.names[owner]} owns {parked}, which is no lock of the JDK: others may open it")
+        if parked and moment.dump.has_owners and READS.fullmatch(place.call) and moment.locks.writers[parked]:
+            return self.wait_to_read(parked, what, name, frail, moment)
+        found = moment.heaps.process_of(thread, name)
+        if found is not None:
+            return found
+        if parked and place.call.lower().endswith("lock"):
+            is_plain = not moment.dump.has_owners and not moment.dump.is_file
+            more = ": `jstack -l` shows owners, plain `jstack` doesn't" if is_plain else ""
+            return unknown(name, f"{what}: the state shows no owner of {parked}{more}")
+        if CONDITION in (thread.parked_class or parked) and not inside_of(thread) and not moment.dump.has_owners:
+            return spoilt(name, f"{what}: it may have been signalled, and wait for whoever has the lock: only `jstack "
+                          "-l` shows that")
+        workers = moment.workers if TASK.fullmatch(place.call) else []
+        return unknown(name, f"{what}: the state doesn't show what ends this wait", candidates=workers)
+
+    def wait_to_read(self, lock: str, what: str, name: str, frail: List[str], moment: Threads) -> Process:
+        """One that waits to read with a lock that nobody owns stands in its queue behind one that waits to write. One
+        that came later doesn't end its wait. Where that one has a limit, it may be another who never gives the lock
+        back: one who has ended."""
+        keys = moment.locks.writers[lock]
+        writers = [self.names[key] for key in keys]
+        if moment.limited.issuperset(keys):
+            why = f"{what}: who waits to write with this lock has a limit, and may have come later"
+            return unknown(name, why, candidates=[*writers, COMPLETE])
+        if len(writers) > 1:
+            why = f"{what}: {len(writers)} wait to write with this lock, and the state doesn't show behind which"
+            return unknown(name, why, candidates=[*writers, COMPLETE])
+        return waits_for_any(name, writers, [premise(QUEUED), *frail], is_open=moment.lacks)
+
+    def besides_of(self, thread: Thread, place: Place, moment: Threads) -> List[str]:
+        """Returns who may end a wait besides those that facts name: a timer of the JDK that of a future. One at a
+        condition that was signalled still stands there until it gets the lock, and waits for whoever has that. The
+        JDK's own queues give their locks back at once, unless code of the job runs within. A thread that is missing may
+        be one of these."""
+        missing = [REST] if moment.lacks else []
+        if MEETS.fullmatch(place.call):  # (one whose limit ends breaks the barrier for all)
+            return [*(self.names[key] for key in moment.breakers), *missing]
+        if FUTURE.fullmatch(place.call):
+            return [*(self.names[it.key] for it in moment.timers), *missing]
+        if CONDITION not in thread.parked_class:
+            return []
+        inside = inside_of(thread)
+        return [*(self.names[it.key] for it in moment.owners if it is not thread
+                  and any(frame.method.startswith(inside) for frame in it.frames)), *missing]
+
+    def run_or_wait(self, thread: Thread, name: str, moment: Threads) -> Process:
+        if moment.locks.class_of(thread) or "in Object.wait" in thread.status:
+            return self.wait_for_class(thread, name, moment)
+        if not thread.frames:
+            return unknown(name, "it has no frames")
+        top = thread.frames[0]
+        if YIELDS.fullmatch(top.method):
+            return runs(name, "yields", [premise(LIMIT)], operation=f"timed {short(top.method)}")
+        if top.native and not COMPUTES.fullmatch(top.method):
+            return unknown(name, f"it is in {short(top.method)}, and the state doesn't show whether that waits, and "
+                           "what for: the other end may be in the dump")
+        if thread.status not in ("", "runnable"):
+            return unknown(name, f"it is RUNNABLE and yet '{thread.status}'")
+        if not top.native and thread.has_stood:
+            return unknown(name, "it is RUNNABLE, and yet used no processor time between the states")
+        return runs(name, "computes", [premise(NATIVE) if top.native else SYSTEM])
+
+    def wait_for_class(self, thread: Thread, name: str, moment: Threads) -> Process:
+        """One that waits until another has initialised a class."""
+        found = moment.locks.initialisers.get(moment.locks.class_of(thread), [])
+        keys = [key for key in dict.fromkeys(found) if key != thread.key]
+        if not keys:
+            return unknown(name, "it waits until a class is initialised, and the state doesn't show by which thread")
+        return self.wait_for_owner(name, keys[0], [premise(INITIALISER)], moment)
+
+    def finish(self, sketch: Sketch, moments: List[Threads]) -> None:
+        count_owned(sketch.processes)
+        add_disturbers(sketch, DISTURBED, moments)
+        add_inner(sketch, moments)
+        warnings = [line for dump in self.dumps for line in dump.warnings]
+        sketch.warnings = list(dict.fromkeys([*warnings, *sketch.warnings]))
+        outside = any(place_of(it).idle not in ("", WORKER, CLEANER) for it in moments[0].threads)
+        if not outside and all(it.is_idle and it.reason == WORKER for it in sketch.processes):
+            for process in sketch.processes:
+                process.is_idle, process.reason = False, "it waits for work, and no thread is there to give it any"
+
+
+def has_lock(thread: Thread) -> bool:
+    """Whether a thread owns a lock besides that of its pool, and that of the socket at which it is in a call."""
+    locks = [each for each in thread.owned.values() if each != POOLS_OWN]
+    return len(locks) > is_in(SOCKETS, stack_of(thread))
+
+
+def may_run_task(thread: Thread) -> bool:
+    """Whether a thread is one of a pool that may run a task for which another one waits: at work, or idle for a time.
+    If one is idle without a limit, no task waits in the queue of its pool."""
+    return is_in(POOLED, stack_of(thread)) and not (thread.state == "WAITING" and place_of(thread).idle)
+
+
+def is_at_work(thread: Thread) -> bool:
+    """Whether a thread of a pool does something else than to wait for tasks: once it has begun a task, nobody else ends
+    the wait for that."""
+    place = place_of(thread)
+    return not place.idle and not TASK.fullmatch(place.call)
+
+
+def inside_of(thread: Thread) -> str:
+    """Returns the class of the JDK within which a thread waits, with a dot, or nothing."""
+    caller = caller_of(thread)
+    return caller.rpartition(".")[0] + "." if caller.startswith(OF_QUEUES) else ""
+
+
+def wait_with_limit(place: Place, name: str) -> Process:
+    """A wait with a limit, or with one that only waits again."""
+    if place.has(AGAIN):
+        why = f"{place.call} waits with a limit, again and again, and the state doesn't show what for"
+        return unknown(name, why, operation=place.call)
+    why = "sleeps" if place.has(SLEEP) else "waits for a timer" if place.has(HAS_TIMER) else "waits with a limit"
+    return runs(name, why, [premise(LIMIT)], operation=f"timed {place.call}" if place.call else "")
+
+
+def meetings_of(moment: Threads) -> Dict[str, str]:
+    """Returns at which barrier each thread waits, by key, if the state shows that of all. A Phaser has no such object:
+    each thread is parked at one of its own."""
+    here = {it.key: moment.locks.objects.get(it.key, []) for it in moment.threads
+            if (CONDITION in it.parked_class or not it.parked_class) and is_in(BARRIER, stack_of(it))}
+    return {key: some[0] for key, some in here.items()} if all(here.values()) else {}
+
+
+def is_coarse(dump: Dump) -> bool:
+    """Whether the processor times are those of ticks alone, in which a thread may be woken many times."""
+    times = [float(it.cpu) for it in dump.threads if it.cpu and float(it.cpu)]
+    return any(all(abs(it / tick - round(it / tick)) * tick < 0.01 for it in times) for tick in TICKS)
+
+
+def site_of(dump: Dump) -> str:
+    return f"JVM {dump.pid}" if dump.pid else "the JVM"
+
+
+def missing_of(dump: Dump) -> str:
+    """Returns why threads aren't in a dump, if they may not be."""
+    odd = next((it.fault for it in dump.threads if it.fault), dump.lost)
+    if odd:
+        return f"{odd}, so a thread may be missing, or what it holds"
+    shown = sum(thread.number is not None for thread in dump.threads)
+    if shown < dump.listed:
+        return f"{dump.path}: the JVM lists {dump.listed} threads, and {shown} are shown"
+    if not dump.is_file and any(it.name.startswith("VirtualThread-un") for it in dump.threads):
+        return f"{dump.path}: {VIRTUAL}"
+    return ""
+
+
+# Several states
+
+
+def names_of(dumps: List[Dump]) -> Dict[str, str]:
+    """Returns the name of each thread by its key: its own, the first if it has several, with a number if it isn't the
+    only one of that name."""
+    given = {thread.key: thread.name for dump in reversed(dumps) for thread in dump.threads}
     keys = defaultdict(set)
     for dump in dumps:
         for thread in dump.threads:
@@ -69,242 +389,37 @@ def names_of(dumps):
     return own
 
 
-class Moment:
-    """One state. `sketch` has its threads but for those of the JVM itself. By name, `idle` says how an idle one is
-    idle, `cpu` has its processor time, if that counts, `again` that of one that waits again and again, and `stacks`
-    tells its whole stack from others."""
-
-    def __init__(self, dump, names, facts):
-        self.dump, self.names, self.facts = dump, names, facts
-        self.locks, self.site = Locks(dump.threads, dump.found), f"JVM {dump.pid}" if dump.pid else "the JVM"
-        self.idle, self.cpu, self.again, self.stacks, self.free = {}, {}, {}, {}, set()
-        self.is_whole = not any(thread.fault for thread in dump.threads)
-        held = self.locks.wanted_holders()
-        threads = [it for it in dump.threads if it.key in held or not is_of_jvm(it)]
-        self.sketch = Sketch([self.process(it) for it in threads], system=NAME, warnings=list(dump.warnings))
-        if not dump.is_file and any(it.name.startswith("VirtualThread-un") for it in dump.threads):
-            self.sketch.warnings.append(f"{dump.path}: {VIRTUAL}")
-
-    def process(self, thread):
-        """Returns the process of a thread."""
-        name, place = self.names[thread.key], place_of(thread)
-        if thread.fault:  # (and nothing of its wait, so that it is unknown in two states too)
-            return unknown(name, thread.fault, site=self.site)
-        kind = self.wait(thread, place, name)
-        stack = "\n".join(f"{it.method}:{it.line}" for it in thread.frames)
-        self.stacks[name] = f"{zlib.crc32(stack.encode(errors='replace')):08x}"
-        if kind.kind == UNKNOWN and is_timed(thread, place) and name not in self.idle:
-            self.again[name] = thread.cpu
-        self.cpu[name] = None if thread.state == "BLOCKED" or name in self.again else thread.cpu
-        kind.site = self.site
-        own = {"BLOCKED": "synchronized", "RUNNABLE": "<clinit>" if kind.kind == ANY else ""}.get(thread.state, "")
-        kind.frames, kind.operation = place.frames, kind.operation or place.call or own
-        kind.objects = self.locks.objects.get(thread.key, [])
-        kind.count = f"cpu {self.cpu[name]} stack {self.stacks[name]}"
-        kind.proposal = "all" if NEEDS_ALL.fullmatch(place.call) else "any"
-        kind.note = " at ".join(filter(None, [place.call or own, *place.frames[:1]]))
-        return kind
-
-    def wait(self, thread, place, name):
-        """Returns what a thread waits for, as a process with its kind alone."""
-        has_limit = is_timed(thread, place)
-        if place.idle and not (has_limit and place.has(HAS_TIMER)):
-            self.idle[name] = place.idle
-            return unknown(name, place.idle)
-        if thread.state == "BLOCKED":
-            return self.wait_for_monitor(thread, name)
-        if has_limit:
-            return self.wait_with_limit(place, name)
-        if thread.state == "WAITING":
-            return self.wait_without_limit(thread, place, name)
-        if thread.state == "RUNNABLE":
-            return self.run_or_wait(thread, place, name)
-        reason = f"its state is {thread.state}" if thread.state else "the text has no state of it"
-        return unknown(name, reason)
-
-    def wait_for_monitor(self, thread, name):
-        wanted = self.locks.wanted.get(thread.key)
-        if wanted is None:
-            return unknown(name, "it waits for a monitor, and the state doesn't show which")
-        holders = self.locks.monitor_holders(wanted, thread.key)
-        if not holders:
-            self.free.add(name)
-        if len(holders) != 1:
-            shows = "shows several holders of it" if holders else "shows no holder of it"
-            return unknown(name, f"it waits for the monitor {wanted}, and the state {shows}")
-        return waits_for_any(name, [self.names[holders[0]]])
-
-    def wait_with_limit(self, place, name):
-        """A wait with a limit, or with one that only waits again."""
-        operation = f"timed {place.call}" if place.call else ""
-        why = "sleeps" if place.has(SLEEP) else "waits for a timer" if place.has(HAS_TIMER) else "waits with a limit"
-        process = runs(name, why, operation=operation)
-        fact = self.facts.wait(replace(process, frames=place.frames)) if operation and not place.has(SLEEP) else None
-        if fact is not None and fact.operation:
-            return unknown(name, "it waits with a limit, again and again", operation=operation)
-        if place.has(AGAIN):
-            reason = f"{place.call} waits with a limit, again and again, and the state doesn't show what for"
-            return unknown(name, reason, operation=place.call)
-        return process
-
-    def wait_without_limit(self, thread, place, name):
-        owner = self.owner(thread)
-        what = place.call or "its wait"
-        if owner is not None:
-            return waits_for_any(name, [self.names[owner]])
-        kinds = {kind: object_ for it in thread.frames[:1] for kind, object_ in it.marks}
-        if "parking to wait for" in kinds and place.call.lower().endswith("lock"):
-            is_plain = not self.dump.has_owners and not self.dump.is_file
-            more = ": `jstack -l` shows owners, plain `jstack` doesn't" if is_plain else ""
-            return unknown(name, f"{what}: the state shows no owner of {kinds['parking to wait for']}{more}")
-        return unknown(name, f"{what}: the state doesn't show what ends this wait")
-
-    def owner(self, thread):
-        """Returns the key of the one who owns what a thread is parked at, where the state shows it."""
-        key = f"#{thread.waits_for_owner}"
-        if key in self.locks.named:
-            return key
-        at = self.locks.objects.get(thread.key, [])
-        keys = [key for it in at for key in self.locks.owners.get(it, [])[:2]]
-        return keys[0] if len(keys) == 1 else None
-
-    def run_or_wait(self, thread, place, name):
-        initialised = [object_ for it in thread.frames for kind, object_ in it.marks if kind == CLASS_INIT]
-        if initialised or "in Object.wait" in thread.status:
-            return self.wait_for_class(thread, initialised, name)
-        if not thread.frames:
-            return unknown(name, "it has no frames")
-        top = thread.frames[0]
-        if top.native and not COMPUTES.fullmatch(top.method):
-            return unknown(name, f"it is in {short(top.method)}, and the state doesn't show whether that waits, and "
-                           "what for: the other end may be in the dump")
-        if thread.status not in ("", "runnable"):
-            return unknown(name, f"it is RUNNABLE and yet '{thread.status}'")
-        return runs(name, "computes")
-
-    def wait_for_class(self, thread, initialised, name):
-        """One that waits until another has initialised a class."""
-        by = [key for it in initialised[:1] for key in self.locks.initialisers.get(it, [])[:3]]
-        keys = [key for key in dict.fromkeys(by) if key != thread.key]
-        if len(keys) != 1:
-            return unknown(name, "it waits until a class is initialised, and the state doesn't show by which thread")
-        return waits_for_any(name, [self.names[keys[0]]])
-
-
-def is_timed(thread, place):
-    """Whether a thread waits with a limit."""
-    return thread.state == "TIMED_WAITING" or not thread.state and place.has(LIMITED)
-
-
-class Locks:
-    """Who holds, wants and waits at what in one state. All is by the keys of threads.
-
-    `holders` has for each monitor who surely holds it, `perhaps` who holds it or has given back another one of several,
-    `owners` who owns a lock of `java.util.concurrent`, `wanted` the monitor that a thread waits to enter, `objects`
-    what it waits at, and `initialisers` who runs the initialiser of a class. `found` is as in Dump.
-    """
-
-    def __init__(self, threads, found):
-        self.holders, self.perhaps, self.owners = defaultdict(list), defaultdict(list), defaultdict(list)
-        self.initialisers, self.wanted, self.objects = defaultdict(list), {}, {}
-        self.named = {f"#{thread.waits_for_owner}" for thread in threads}.intersection(it.key for it in threads)
-        for thread in threads:
-            self.add(thread)
-        called = defaultdict(list)
-        for thread in threads:
-            called[thread.name].append(thread.key)
-        for lock, owner in found.items():
-            if len(called[owner]) == 1:
-                for held in (self.holders, self.owners):
-                    held[lock] = held.get(lock) or called[owner]
-
-    def add(self, thread):
-        marks = [mark for it in thread.frames for mark in it.marks]
-        given = [it for kind, it in marks if kind in (RELOCK, "waiting on") and it != NO_OBJECT]
-        locked = list(dict.fromkeys(it for kind, it in marks if kind == "locked" and it not in given))
-        is_in_wait = bool(thread.frames) and thread.frames[0].method in WAITS
-        if is_in_wait and not given:
-            given, locked, some = (locked, [], []) if len(locked) == 1 else ([], [], locked)
-            for it in some:
-                self.perhaps[it].append(thread.key)
-        for it in locked:
-            self.holders[it].append(thread.key)
-        for it in dict.fromkeys(thread.owned):
-            self.owners[it].append(thread.key)
-        for it in thread.frames:
-            if it.method.endswith(".<clinit>"):
-                self.initialisers[it.method[:-len(".<clinit>")]].append(thread.key)
-        self.set_objects(thread, marks, given)
-
-    def set_objects(self, thread, marks, given):
-        """Sets what a thread waits at, and which monitor it wants."""
-        parked = [it for kind, it in marks if kind == "parking to wait for"]
-        wanted = [it for kind, it in marks if kind == "waiting to lock"] or given
-        if thread.state == "BLOCKED" and wanted:
-            self.wanted[thread.key] = wanted[0]
-            self.objects[thread.key] = wanted[:1]
-        else:
-            self.objects[thread.key] = parked[:1] or given[:1] or [it for kind, it in marks if kind == CLASS_INIT][:1]
-
-    def monitor_holders(self, monitor, key):
-        """Returns who holds a monitor that a thread wants, or the first two if the state contradicts itself: those that
-        surely do, or else those that may."""
-        sure = [it for it in self.holders.get(monitor, [])[:3] if it != key]
-        return sure[:2] or [it for it in self.perhaps.get(monitor, [])[:3] if it != key][:2]
-
-    def wanted_holders(self):
-        """Returns all who hold what others want."""
-        wanted = {*self.wanted.values(), *(it for at in self.objects.values() for it in at)}
-        maps = (self.holders, self.perhaps, self.owners, self.initialisers)
-        return {key for it in wanted for some in maps for key in some.get(it, [])} | self.named
-
-
-# Two states
-
-
-def check_same(first, later):
+def check_same(first: Dump, later: Dump) -> None:
     """Raises Refusal if two states have no thread in common, so that they are of two JVMs."""
-    before = {thread.identity for thread in first.dump.threads if thread.identity}
-    if before and not any(thread.identity in before for thread in later.dump.threads):
-        raise Refusal(f"{later.dump.path}: it has no thread of {first.dump.path}: two states of one JVM are expected")
+    before = {thread.identity for thread in first.threads if thread.identity}
+    if before and not any(thread.identity in before for thread in later.threads):
+        raise Refusal(f"{later.path}: it has no thread of {first.path}: two states of one JVM are expected")
 
 
-def settle(first, later):
-    """Sees through the collector, which moves objects: who has the same frames at another object is at the same wait if
-    its processor time is the same, and if there is none, whether it has moved isn't known. Warns of those that only
-    their processor time tells to have moved."""
-    before, busy, again = {process.name: process for process in first.sketch.processes}, [], []
-    for process in later.sketch.processes:
-        name, old = process.name, before.get(process.name)
-        if old is None or RUNS in (old.kind, process.kind) or old.operation != process.operation:
+def check_different(first: Dump, later: Dump) -> None:
+    """Raises Refusal if one state is there twice: two that are alike would show waits that it alone doesn't."""
+    if first.taken and first.taken == later.taken:
+        raise Refusal(f"{later.path}: it is the same state as {first.path}, which was taken once: name it once, and "
+                      "say 'still' in the facts if you know that nothing moves")
+
+
+def check_order(first: Dump, later: Dump) -> None:
+    """Raises Refusal if a state was taken before the first: then who has come since would have ended."""
+    before = {it.key: float(it.elapsed) for it in first.threads if it.elapsed}
+    if any(float(it.elapsed) < before.get(it.key, 0) for it in later.threads if it.elapsed):
+        raise Refusal(f"{later.path}: it was taken before {first.path}: the states are expected in the order of time")
+
+
+def follow(first: Dump, later: Dump) -> None:
+    """Sees through the collector, which moves objects: who has the same frames in two states is at the same place,
+    also if the address there is another one. Whether it has been there all the time, its processor time says."""
+    before = {thread.key: thread for thread in first.threads}
+    for thread in later.threads:
+        old = before.get(thread.key)
+        if old is None or old.state != thread.state or stack_of(old) != stack_of(thread):
             continue
-        if first.stacks.get(name) != later.stacks.get(name):
-            continue
-        if first.again.get(name) != later.again.get(name) and first.facts.wait(old):
-            again.append(name)
-        if (name in first.free) != (name in later.free) and first.is_whole and later.is_whole:
-            process.count = f"{process.count}, and its monitor has changed hands"
-        elif old.objects and old.count != process.count:
-            busy.append(name)
-        elif old.objects != process.objects:
-            process.objects = old.objects
-            if first.cpu[name] is None and old.kind == UNKNOWN:
-                forget(old)
-                forget(process)
-    if busy:
-        later.sketch.warnings.append(f"only their processor time says that these have moved: {some(busy)}. A profiler "
-                                     "that sends signals to threads does the same")
-    if again:
-        later.sketch.warnings.append("these have used processor time, and are at the same wait since a fact says that "
-                                     f"they wait again and again: {some(again)}")
-
-
-def some(names):
-    """Returns the first few names, and how many more there are."""
-    return f"{', '.join(names[:NAMED])}{f' and {len(names) - NAMED} more' if names[NAMED:] else ''}"
-
-
-def forget(process):
-    """Makes a process unknown, so that no fact decides it."""
-    process.kind, process.whom, process.frames, process.operation = UNKNOWN, [], [], ""
-    process.reason = "it is at the same place, at another object: the collector has moved that, or it is another wait"
+        if old.same_as is None:
+            old.same_as = objects_of(old, monitors_of(old))
+        thread.same_as = old.same_as
+        if thread.cpu is not None and thread.cpu == old.cpu:
+            thread.has_stood = old.has_stood = True

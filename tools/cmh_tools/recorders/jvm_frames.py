@@ -5,9 +5,10 @@ from __future__ import annotations
 import re
 from dataclasses import dataclass
 from functools import lru_cache
-from typing import List
+from typing import Callable, List, Optional
 
 from ..sketch import WORK, frame
+from .jvm_text import Stack, Thread, stack_of
 
 JDK = re.compile(r"(?:java|javax|jdk|sun|com\.sun)\.")
 # Frames that nobody has written.
@@ -49,7 +50,15 @@ IDLE = [(re.compile(pattern), label) for pattern, label in (
 RUN_WORKER = "java.util.concurrent.ForkJoinPool.runWorker"  # in which workers of JDK 9 to 16 wait for work
 # Waits for a timer rather than for work, if they have a limit.
 HAS_TIMER = re.compile(r"java\.util\.TimerThread\.mainLoop|java\.util\.concurrent\.DelayScheduler\.loop"
-                       r"|java\.util\.concurrent\.ScheduledThreadPoolExecutor\$DelayedWorkQueue\.take")
+                       r"|java\.util\.concurrent\.ScheduledThreadPoolExecutor\$DelayedWorkQueue\.(?:take|poll)")
+# The JDK's own timers, which complete a CompletableFuture once its limit is over.
+LIMITS_FUTURES = re.compile(r"CompletableFutureDelayScheduler|.*-delayScheduler")
+FUTURE = re.compile(r"CompletableFuture\.\w+")
+CONDITION, OF_QUEUES = "ConditionObject", "java.util.concurrent."
+POOLS_OWN = "java.util.concurrent.ThreadPoolExecutor$Worker"  # a lock of each worker at work
+# Calls within which a socket has a lock of its own.
+SOCKETS = re.compile(r"sun\.nio\.ch\.(?:NioSocketImpl|(?:Server)?SocketChannelImpl)"
+                     r"\.(?:accept|read|write|implRead|implWrite)")
 # Waits with a limit that only wait again.
 AGAIN = re.compile(r"java\.io\.Piped(?:InputStream|Reader)\.(?:read|receive|awaitSpace)"
                    r"|java\.util\.concurrent\.\w+\.close")
@@ -58,6 +67,20 @@ LIMITED = re.compile(r"java\.(?:lang\.\w+|util\.concurrent\.locks\.LockSupport)\
 # Calls that end once all of several have come, or have released a lock.
 NEEDS_ALL = re.compile(r"(?:CountDownLatch|CyclicBarrier|Phaser)\.\w+|\w+\.(?:invokeAll|awaitTermination|close)"
                        r"|StructuredTaskScope\w*\.join\w*|.*WriteLock\.lock\w*")
+READS = re.compile(r"ReentrantReadWriteLock\$ReadLock\.lock\w*")
+# Operations that need all of a group to come to them.
+MEETS = re.compile(r"CyclicBarrier\.await|Phaser\.arriveAndAwaitAdvance")
+# Calls that end once a task has run, and the frames of threads of pools, which run tasks.
+TASK = re.compile(r"(?:FutureTask|CompletableFuture|ForkJoinTask)\.(?:get|join)")
+POOLED = re.compile(r"java\.util\.concurrent\.(?:ThreadPoolExecutor\$Worker|ForkJoinWorkerThread)\.run")
+BARRIER = re.compile(r"java\.util\.concurrent\.CyclicBarrier\.await")
+# Calls that interrupt other threads.
+INTERRUPTS = re.compile(r"java\.lang\.Thread\.interrupt0?|java\.util\.concurrent\.FutureTask\.cancel"
+                        r"|java\.util\.concurrent\.\w+\.shutdownNow|java\.lang\.ThreadGroup\.interrupt")
+# Waits for a lock that an interrupt ends, also within the JDK's own queues.
+INTERRUPTIBLY = re.compile(r"java\.util\.concurrent\.locks\..*Interruptibly")
+# Calls that only let others go first: who waits by them looks again and again.
+YIELDS = re.compile(r"java\.lang\.Thread\.(?:yield0?|onSpinWait)")
 # Natives that compute, or that the JVM ends by itself.
 COMPUTES = re.compile(
     r"java\.lang\.(?:Thread|Object|Class|ClassLoader|System|Throwable|String|StringCoding|StringUTF16|StrictMath"
@@ -72,35 +95,49 @@ OF_THE_JVM = re.compile(
     r"|Surrogate Locker Thread.*|VirtualThread-un\w+|MasterPoller|(?:Read|Write|Sub)-?Poller.*|JVMCI.*|JFR .*"
     r"|RMI .*|GC Daemon|Secondary finalizer|Keep-Alive-Timer|JDWP .*|Java2D .*|AWT-Shutdown"
 )
+# Those of them that run no code of the job at any time, and so end nobody's wait.
+INSIDE = re.compile(r"Signal Dispatcher|Service Thread|Monitor Deflation Thread|Attach Listener|Sweeper thread"
+                    r"|C[12] CompilerThread\d+")
 KEPT = 65536  # methods whose meaning is kept
 
 
 @lru_cache(maxsize=KEPT)
-def is_jobs(method):
+def is_jobs(method: str) -> bool:
     """Whether a frame is neither of the JDK nor made."""
     return not JDK.match(method) and not MADE.match(method)
 
 
 @lru_cache(maxsize=KEPT)
-def is_own(method):
+def is_own(method: str) -> bool:
     """Whether a frame is the job's own: of no library that many jobs use."""
     return is_jobs(method) and not LIBRARY.match(method)
 
 
 @lru_cache(maxsize=KEPT)
-def is_like(pattern, method):
+def is_like(pattern: "re.Pattern[str]", method: str) -> bool:
     return pattern.fullmatch(method) is not None
 
 
-def is_of_jvm(thread):
+@lru_cache(maxsize=4096)
+def has_jobs(stack: Stack) -> bool:
+    """Whether a frame is of the job. Many threads have the same frames."""
+    return any(is_jobs(method) for method, _, _ in stack)
+
+
+def is_of_jvm(thread: Thread) -> bool:
     """Whether a thread is of the JVM itself, and runs no code of the job."""
-    if any(is_jobs(it.method) for it in thread.frames):
+    if has_jobs(stack_of(thread)):
         return False
     inside = thread.number is None and not thread.state and not thread.frames
     return inside or OF_THE_JVM.fullmatch(thread.name) is not None
 
 
-def short(method):
+def is_inside(thread: Thread) -> bool:
+    """Whether a thread of the JVM itself runs no code of the job at any time: it collects, compiles, prints."""
+    return not thread.number or INSIDE.fullmatch(thread.name) is not None
+
+
+def short(method: str) -> str:
     """'java.util.concurrent.ArrayBlockingQueue.put' as 'ArrayBlockingQueue.put'."""
     return ".".join(method.split(".")[-2:]).replace("AbstractQueuedSynchronizer$ConditionObject", "Condition")
 
@@ -115,32 +152,49 @@ class Place:
     above: List[str]
     idle: str = ""
 
-    def has(self, pattern):
+    def has(self, pattern: "re.Pattern[str]") -> bool:
         """Whether a frame of the call matches a pattern."""
         return any(is_like(pattern, method) for method in self.above)
 
 
-def place_of(thread):
+def place_of(thread: Thread) -> Place:
     """Returns where a thread stands."""
-    methods = [it.method for it in thread.frames]
+    return place_at(stack_of(thread))
+
+
+@lru_cache(maxsize=4096)
+def place_at(stack: Stack) -> Place:
+    """Returns where a thread with some frames stands. The threads of a pool share one, which isn't changed."""
+    methods = [method for method, _, _ in stack]
     own = first_of(methods, is_own)
     start = first_of(methods, is_jobs) if own is None else own
     above = methods if start is None else methods[:start]
     if start is None:
         start = first_of(methods, lambda method: not is_like(MACHINERY, method)) or 0
-        wanted = thread.frames[start:]
+        wanted = stack[start:]
     else:
-        wanted = [it for it in thread.frames[start:] if is_jobs(it.method)]
-    frames = [frame(it.method, it.file, it.line) for it in wanted]
+        wanted = tuple(it for it in stack[start:] if is_jobs(it[0]))
+    frames = [frame(*it) for it in wanted]
     called = [method for method in methods[:start] if not MADE.match(method)]
     return Place(frames, short(called[-1]) if called else "", above, idle_label(methods[:own]))
 
 
-def first_of(methods, holds):
+@lru_cache(maxsize=4096)
+def is_in(pattern: "re.Pattern[str]", stack: Stack) -> bool:
+    """Whether a frame matches a pattern, be it of the JDK or the job's."""
+    return any(pattern.fullmatch(method) for method, _, _ in stack)
+
+
+def first_of(methods: List[str], holds: Callable[[str], bool]) -> Optional[int]:
     return next((at for at, method in enumerate(methods) if holds(method)), None)
 
 
-def idle_label(methods):
+def caller_of(thread: Thread) -> str:
+    """The method that waits: the first that isn't between a wait and whoever called it."""
+    return next((it.method for it in thread.frames if not is_like(MACHINERY, it.method)), "")
+
+
+def idle_label(methods: List[str]) -> str:
     """Returns how a thread with these frames, before those of the job's own, is idle, or nothing."""
     parked = next((method for method in methods if not is_like(MACHINERY, method)), "")
     if parked == RUN_WORKER and len(methods) > 1:
@@ -149,6 +203,6 @@ def idle_label(methods):
 
 
 @lru_cache(maxsize=KEPT)
-def label_of(method):
+def label_of(method: str) -> str:
     """Returns how a thread with this frame is idle, or nothing."""
     return next((label for pattern, label in IDLE if pattern.fullmatch(method)), "")

@@ -1,40 +1,46 @@
-"""The texts in which a JVM tells of its threads: `jstack -l`, `jcmd PID Thread.print -l`, what SIGQUIT prints, and
-`jcmd PID Thread.dump_to_file`, as text and as JSON. Each is read into threads; what they wait for stands in `jvm`.
+"""What a JVM prints of its threads: `jstack -l`, `jcmd PID Thread.print -l`, SIGQUIT. Each thread is read line by line,
+as `jvm_dumps` does too; what it waits for stands in `jvm`.
 
 Read from real texts of JDK 17 and 25. JDK 8, 11 and 21 are written by hand, from the sources of HotSpot.
 """
 from __future__ import annotations
 
-import json
+import functools
+import hashlib
+import itertools
 import re
 from dataclasses import dataclass, field
-from typing import Dict, List, Optional, Tuple
+from typing import Any, Dict, List, Optional, Tuple
 
 from ..files import Refusal, shown
 
 START, OWNERS = "Full thread dump ", "Locked ownable"
 HEADER = re.compile(
     r'"(?P<name>.*)"(?: #(?P<number>\d+))?(?: \[\d+\])?(?: daemon)?(?: prio=\d+)?(?: os_prio=-?\d+)?'
-    r"(?: cpu=(?P<cpu>[\d.]+)ms)?(?: elapsed=[\d.]+s)?(?: allocated=\S+)?(?: defined_classes=\d+)?"
-    r" tid=(?P<tid>\w+)(?: nid=\w+)?(?P<status> [^\[]*)?(?:\[\w+\])?\s*"
+    r"(?: cpu=(?P<cpu>\d+(?:\.\d+)?)ms)?(?: elapsed=(?P<elapsed>\d+(?:\.\d+)?)s)?(?: allocated=\S+)?"
+    r"(?: defined_classes=\d+)? tid=(?P<tid>\w+)(?: nid=(?:(?P<nid>0x[0-9a-f]{1,8}|\d{1,10})|\w+))?"
+    r"(?P<status> [^\[]*)?(?:\[\w+\])?\s*"
 )
 STATE = re.compile(r"\s+java\.lang\.Thread\.State: (\w+)(?: \((.*)\))?\s*")
 FRAME = re.compile(r"\s+at (?:[\w.@$-]*/{1,2}(?!0x))?(?P<method>[^()]*)\((?P<place>.*)\)\s*")
 MARK = re.compile(
     r"\s+- (?P<kind>waiting on|waiting to lock|waiting to re-lock in wait\(\)|locked|parking to wait for|eliminated)"
-    r" +<(?P<object>[^>]*)>(?: \(a .*\))?(?:, owned by #(?P<owner>\d+))?\s*"
+    r" +<(?P<object>[^>]*)>(?: \(a (?P<class>.*)\))?(?:, owned by #(?P<owner>\d+))?\s*"
 )
 CLASS_WAIT = re.compile(r"\s+- waiting on the Class initialization monitor for (?P<object>\S+)\s*")
-OWNED = re.compile(r"\s+- <(0x[0-9a-f]+)> \(a .*\)\s*")
-FILE_THREAD = re.compile(
-    r'#(?P<number>\d+) "(?P<name>.*)"(?P<virtual> virtual)?(?: (?P<state>[A-Z_]+))?(?: \d{4}-\S+)?'
-)
-LOCATION = re.compile(r"(?:.*/)?(?P<file>[^/:]*)(?::(?P<line>\d+))?")
+OWNED = re.compile(r"\s+- <(0x[0-9a-f]+)> \(a (.*)\)\s*")
+OBJECT, SOME = re.compile(r"<(0x[0-9a-f]+)>"), "<object>"  # in marks and among what is owned
+LOCATION = re.compile(r"(?:.*/)?(?P<file>[^/:]*)(?::(?P<line>\d{1,9}))?")
+# The first frame of one that waits, by what its state says besides.
+TOPS = {"parking": re.compile(r".*\.Unsafe\.park"), "on object monitor": re.compile(r"java\.lang\.Object\.wait0?"),
+        "sleeping": re.compile(r"java\.lang\.Thread\.sleep\w*")}
 # In the deadlocks that jstack itself finds: two lines that say who owns what.
 WANTED = re.compile(r"\s+waiting (?:for ownable synchronizer (0x\w+)|to lock monitor \w+ \(object (0x\w+)), .*")
 HELD = re.compile(r'\s+(?:in JNI, )?which is held by "(.*)"\s*')
-UNMARKED = re.compile(r" {6}(?=[^\s-]\S*\()(?!at )")  # before a frame of JDK 21, which has no 'at'
 PID = re.compile(r"(\d+):\s*")
+# What take-jvm prints before and after a dump.
+BEGAN = re.compile(r"# cmh began (?P<time>\d{1,12}\.\d+) on (?P<machine>\S+ pid:\[\d+\]) by (?P<program>.*)")
+ENDED = re.compile(r"# cmh ended (?P<time>\d{1,12}\.\d+)\s*")
 MOUNTED = re.compile(r"\s+Mounted virtual thread #(\d+)\s*")
 # Lines of a thread that tell nothing of what it waits for.
 PLAIN = re.compile(
@@ -46,7 +52,9 @@ BETWEEN = re.compile(
 )
 END = "JNI global ref"
 SHOWN = 5  # lines that aren't understood; the others are counted
-CLASS_INIT = "class"
+CLASS_INIT, PARKED = "class", "parking to wait for"
+# Marks of what a thread waits for: they stand under its first frame.
+OF_WAITS = ("waiting on", "waiting to lock", "waiting to re-lock in wait()", PARKED, CLASS_INIT)
 
 
 @dataclass
@@ -59,72 +67,88 @@ class Frame:
     native: bool = False
     marks: List[Tuple[str, str]] = field(default_factory=list)
 
+    def with_marks(self, marks: List[Tuple[str, str]]) -> Frame:
+        return Frame(self.method, self.file, self.line, self.native, marks)
+
+
+# The frames of a thread, topmost first: method, file and line of each.
+Stack = Tuple[Tuple[str, str, Optional[int]], ...]
+
 
 @dataclass
 class Thread:
     """A thread of one state. `key` tells it from others of its JVM, `identity`, if it isn't empty, from those of other
-    JVMs too; `at` is where it was read."""
+    JVMs too, and `native` is its number in the kernel; `at` is where it was read. `parked_class` is the class of what
+    it is parked at, and `owned` has the class of each lock that it owns. By another state, if its frames are the same
+    there, `same_as` has the objects that it waited at in the first one, and `has_stood` says that it has used no
+    processor time. `is_closed` says that no more frames may follow in its text, and `stack` is what `stack_of` has
+    found."""
 
     name: str
     key: str
     at: str
     number: Optional[str] = None
     identity: str = ""
+    native: str = ""
     state: str = ""
+    detail: str = ""
     status: str = ""
     cpu: Optional[str] = None
+    elapsed: str = ""
     is_virtual: bool = False
     frames: List[Frame] = field(default_factory=list)
-    owned: List[str] = field(default_factory=list)
+    stack: Stack = ()
+    owned: Dict[str, str] = field(default_factory=dict)
     waits_for_owner: Optional[str] = None
+    parked_class: str = ""
+    same_as: Optional[List[str]] = None
+    has_stood: bool = False
+    is_closed: bool = False
     fault: str = ""
+
+
+def stack_of(thread: Thread) -> Stack:
+    if len(thread.stack) != len(thread.frames):
+        thread.stack = tuple((it.method, it.file, it.line) for it in thread.frames)
+    return thread.stack
 
 
 @dataclass
 class Dump:
-    """The threads of a state. `pid` is that of the JVM, if the text has it, `found` has the name of the owner of each
-    lock in the deadlocks that the JVM itself has found, `has_owners` says whether owners of all locks were printed,
-    `is_file` whether the text is of `Thread.dump_to_file`, and `listed` how many threads the JVM lists.
+    """The threads of a state. `pid` is that of the JVM, `machine` and `time` where it was read, and from when to when,
+    and `launcher` the first thread of a program `java`, which only waits for main, if the text has them. `found` has
+    the name of the owner of each lock in the deadlocks that the JVM itself has found, `has_owners` says whether owners
+    of all locks were printed, `is_file` whether the text is of `Thread.dump_to_file`, and `listed` how many threads the
+    JVM lists. `taken` tells one state from another, and `lost` is what shows that lines of it are missing.
     """
 
     path: str
     threads: List[Thread] = field(default_factory=list)
     warnings: List[str] = field(default_factory=list)
     pid: str = ""
+    machine: str = ""
+    time: Optional[Tuple[float, float]] = None
+    launcher: str = ""
     found: Dict[str, str] = field(default_factory=dict)
     has_owners: bool = False
     is_file: bool = False
     listed: int = 0
+    taken: str = ""
+    lost: str = ""
     odd: int = 0
 
-    def warn(self, at, line):
+    def warn(self, at: str, line: str) -> None:
         """Adds a line that isn't understood to the warnings."""
         self.odd += 1
         if self.odd <= SHOWN:
             self.warnings.append(f"{at}: this line isn't understood: {shown(line.strip())[:200]}")
 
-    def close(self):
+    def close(self) -> None:
         if self.odd > SHOWN:
             self.warnings.append(f"{self.path}: {self.odd - SHOWN} more lines aren't understood")
 
 
-def read_dumps(path, text):
-    """Returns the dumps of a text, in their order. Raises Refusal if it has none, or one that isn't whole."""
-    name = shown(path)
-    if text.lstrip().startswith("{"):
-        return [read_file_json(name, text)]
-    lines = text.replace("\r\n", "\n").split("\n")
-    starts = [at for at, line in enumerate(lines) if line.startswith(START)]
-    if starts:
-        ends = [*starts[1:], len(lines)]
-        return [PrintReader(name, lines, start, end).read() for start, end in zip(starts, ends)]
-    if any(FILE_THREAD.fullmatch(line) for line in lines[:50]):
-        return [read_file_text(name, lines)]
-    raise Refusal(f"{name}:1: this is no thread dump: a line 'Full thread dump ..' of `jstack -l`, or the text of "
-                  "`jcmd PID Thread.dump_to_file`, is expected")
-
-
-def frame_of(found):
+def frame_of(found: "re.Match[str]") -> Frame:
     """Returns the frame of a line that FRAME matches."""
     place = found["place"]
     at = LOCATION.fullmatch(place)
@@ -134,73 +158,166 @@ def frame_of(found):
     return frame
 
 
-def add_line(thread, line):
-    """Adds a line of the block of a thread to it. Returns whether it is understood."""
+@functools.lru_cache(maxsize=4096)
+def frame_of_line(line: str) -> Optional[Frame]:
+    """Returns the frame of a line, or None. Many threads have the same ones, so it is kept, and isn't changed."""
+    found = FRAME.fullmatch(line)
+    return frame_of(found) if found else None
+
+
+@functools.lru_cache(maxsize=4096)
+def is_plain(line: str) -> bool:
+    return PLAIN.fullmatch(line) is not None
+
+
+def add_line(thread: Thread, line: str) -> bool:
+    """Adds a line of the block of a thread to it. Returns whether it is understood. Its state and its frames stand
+    before the first empty line: after that, they are those of a thread whose first line is missing."""
     text = line.lstrip()
-    if text.startswith("at ") and (found := FRAME.fullmatch(line)):
-        thread.frames.append(frame_of(found))
+    if not text:
+        thread.is_closed = True
+    elif text.startswith("at ") and (frame := frame_of_line(line)):
+        thread.frames.append(frame)
+        return not thread.is_closed
     elif text.startswith("- ") and (found := MARK.fullmatch(line) or CLASS_WAIT.fullmatch(line)):
-        if not thread.frames:
-            return False
-        marks = found.groupdict()
-        thread.frames[-1].marks.append((marks.get("kind") or CLASS_INIT, marks["object"]))
-        thread.waits_for_owner = marks.get("owner") or thread.waits_for_owner
+        return add_mark(thread, found.groupdict())
     elif text.startswith("java.lang.Thread.State") and (found := STATE.fullmatch(line)):
-        thread.state = found[1]
+        is_first = not thread.state and not thread.frames and not thread.is_closed
+        thread.state, thread.detail = found[1], found[2] or ""
+        return is_first
     elif text.startswith("- <") and (found := OWNED.fullmatch(line)):
-        thread.owned.append(found[1])
+        thread.owned[found[1]] = found[2]
     else:
-        return not text or PLAIN.fullmatch(line) is not None
+        return is_plain(line)
     return True
 
 
+def add_mark(thread: Thread, marks: Dict[str, Any]) -> bool:
+    """Adds a mark to the last frame. Returns whether it may stand there: what a thread waits for is under its first."""
+    kind = marks.get("kind") or CLASS_INIT
+    if not thread.frames or thread.is_closed or kind in OF_WAITS and thread.frames[1:]:
+        return False
+    last = thread.frames[-1]
+    thread.frames[-1] = last.with_marks([*last.marks, (kind, marks["object"])])
+    thread.waits_for_owner = marks.get("owner") or thread.waits_for_owner
+    if kind == PARKED:
+        thread.parked_class = marks.get("class") or ""
+    return True
+
+
+def misfit(thread: Thread) -> str:
+    """Returns what of the text of a thread doesn't fit the rest, so that lines may be missing, or nothing."""
+    top = thread.frames[0] if thread.frames else None
+    if thread.number and not thread.state and not thread.is_virtual:
+        return f"{thread.at}: no state follows this line"
+    wanted = TOPS.get(thread.detail) if thread.state in ("WAITING", "TIMED_WAITING") else None
+    if wanted and (top is None or not wanted.fullmatch(top.method)):
+        return f"{thread.at}: its state is '{thread.state} ({thread.detail})', and its first frame is another"
+    if top is not None and thread.state != "BLOCKED" and any(kind == "waiting to lock" for kind, _ in top.marks):
+        return f"{thread.at}: it waits to lock a monitor, and its state is {thread.state or 'missing'}"
+    return ""
+
+
+@functools.lru_cache(maxsize=4096)
+def pattern_of(text: str) -> Optional[Thread]:
+    """Returns a thread by what stands under its first line, with numbers in place of objects. Threads of a pool differ
+    in these alone. Returns None if a line isn't understood, or tells of another thread."""
+    numbers = itertools.count()
+    pattern = Thread("", "", "")
+    for line in text.replace(SOME, "<{:#x}>").split("\n"):
+        line = re.sub("<{:#x}>", lambda _: f"<{next(numbers):#x}>", line)
+        if MOUNTED.fullmatch(line) or not add_line(pattern, line):
+            return None
+    return pattern
+
+
+def fill(thread: Thread, pattern: Thread, objects: List[str]) -> None:
+    """Gives a thread what its pattern has, with its own objects."""
+    names = {f"{at:#x}": it for at, it in enumerate(objects)}
+    thread.state, thread.detail, thread.is_closed = pattern.state, pattern.detail, pattern.is_closed
+    thread.waits_for_owner, thread.parked_class = pattern.waits_for_owner, pattern.parked_class
+    thread.owned = {names[it]: name for it, name in pattern.owned.items()}
+    thread.frames = [it.with_marks([(kind, names.get(object_, object_)) for kind, object_ in it.marks])
+                     if it.marks else it for it in pattern.frames]
+    thread.stack = stack_of(pattern)
+
+
 class PrintReader:
-    """Reads one dump of `jstack`, from its line 'Full thread dump' on."""
+    """Reads one dump of `jstack`: the text from a line 'Full thread dump' to the next one."""
 
-    def __init__(self, path, lines, start, end):
-        self.path, self.lines, self.range = path, lines, range(start + 1, end)
-        self.dump, self.thread, self.is_over = Dump(path), None, False
-        before = [PID.fullmatch(line) for line in lines[max(start - 2, 0):start]]
-        self.dump.pid = next((found[1] for found in before if found), "")
+    def __init__(self, path: str, text: str, start: int, end: int) -> None:
+        self.path, self.text, self.dump = path, text[start:end], Dump(path)
+        self.first = text.count("\n", 0, start) + 1
+        self.last = text.count("\n", 0, end) + (end == len(text))
+        self.thread: Optional[Thread] = None
+        before = text[max(start - 400, 0):start].split("\n")[-4:-1]
+        self.dump.pid = next((found[1] for found in map(PID.fullmatch, before) if found), "")
+        self.began = next(filter(None, map(BEGAN.fullmatch, before)), None)
 
-    def read(self):
-        for number in self.range:
-            if self.lines[number].startswith(END):
-                self.is_over, self.thread = True, None
-            elif not self.is_over:
-                self.take(number)
-            elif (held := HELD.fullmatch(self.lines[number])) and (it := WANTED.fullmatch(self.lines[number - 1])):
-                self.dump.found[it[1] or it[2]] = held[1]
-        if not self.is_over:
-            raise Refusal(f"{self.path}:{self.range.stop}: the dump is cut off: it ends before the line 'JNI global "
+    def read(self) -> Dump:
+        body, found, tail = self.text.partition("\n" + END)
+        if not found:
+            raise Refusal(f"{self.path}:{self.last}: the dump is cut off: it ends before the line 'JNI global "
                           "refs', so threads are missing")
-        shown_threads = sum(thread.number is not None for thread in self.dump.threads)
-        if shown_threads < self.dump.listed:
-            self.dump.warnings.append(f"{self.path}: the JVM lists {self.dump.listed} threads, and {shown_threads} are "
-                                      "shown: a NAME of the facts may fit too few")
+        head, *blocks = body.split('\n"')
+        number = self.first
+        for number, line in enumerate(head.split("\n")[1:], self.first + 1):
+            self.take(line, number)
+        for block in blocks:
+            self.take_block(f'"{block}', number + 1)
+            number += block.count("\n") + 1
+        self.take_found(tail.split("\n"))
+        ended = next(filter(None, map(ENDED.fullmatch, tail.split("\n"))), None)
+        if self.began and ended:
+            self.dump.machine = self.began["machine"]
+            self.dump.time = float(self.began["time"]), float(ended["time"])
+            self.dump.launcher = f"{self.dump.pid}/{self.dump.pid}" if self.began["program"] == "java" else ""
+        if any("." in it.elapsed for it in self.dump.threads):  # (so that two states of a JVM differ)
+            self.dump.taken = hashlib.sha256(body.encode("utf-8", "surrogatepass")).hexdigest()
+        for thread in self.dump.threads:
+            thread.fault = thread.fault or misfit(thread)
         self.dump.close()
         return self.dump
 
-    def take(self, number):
-        """Reads a line, with its number from 0 on."""
-        line, at = self.lines[number], f"{self.path}:{number + 1}"
-        if line.startswith('"'):
-            self.begin(line, at)
-        elif self.thread is None:
-            found = re.search(r"length=(\d+)", line)
+    def take_found(self, lines: List[str]) -> None:
+        """Reads who owns what in the deadlocks that the JVM itself has found."""
+        for before, line in zip(lines, lines[1:]):
+            if (held := HELD.fullmatch(line)) and (it := WANTED.fullmatch(before)):
+                self.dump.found[it[1] or it[2]] = held[1]
+
+    def take_block(self, block: str, number: int) -> None:
+        """Reads a thread, with the number of its first line."""
+        header, _, rest = block.partition("\n")
+        objects = OBJECT.findall(rest)
+        self.thread = thread = self.begin(header, f"{self.path}:{number}")
+        pattern = pattern_of(OBJECT.sub(SOME, rest))
+        if pattern is None or SOME in rest:
+            for at, line in enumerate(rest.split("\n"), number + 1):
+                self.take(line, at)
+            return
+        fill(thread, pattern, objects)
+        self.dump.has_owners = self.dump.has_owners or OWNERS in rest
+
+    def take(self, line: str, number: int) -> None:
+        """Reads a line under the first one of a thread, or before all of them."""
+        at = f"{self.path}:{number}"
+        if self.thread is None:
+            found = re.search(r"length=(\d{1,9})\b", line)
             self.dump.listed = int(found[1]) if found and line.startswith("_java") else self.dump.listed
             if line.strip() and not BETWEEN.fullmatch(line):
                 self.dump.warn(at, line)
-        elif "Mounted" in line and (found := MOUNTED.fullmatch(line)):
+                self.dump.lost = self.dump.lost or f"{at} belongs to no thread"
+        elif found := MOUNTED.fullmatch(line):
             self.thread = Thread("", f"#{found[1]}", at, found[1], is_virtual=True)
             self.dump.threads.append(self.thread)
         elif not add_line(self.thread, line):
             self.dump.warn(at, line)
             self.thread.fault = self.thread.fault or f"{at} isn't understood"
+            self.dump.lost = self.dump.lost or f"{at} doesn't fit"
         elif OWNERS in line:
             self.dump.has_owners = True
 
-    def begin(self, line, at):
+    def begin(self, line: str, at: str) -> Thread:
         """Begins the block of a thread."""
         found = HEADER.fullmatch(line)
         if found is None:
@@ -209,74 +326,9 @@ class PrintReader:
         number = found["number"]
         key = f"#{number}" if number else found["tid"]
         status = (found["status"] or "").strip()
-        self.thread = Thread(found["name"], key, at, number, found["tid"], status=status, cpu=found["cpu"])
-        self.dump.threads.append(self.thread)
-
-
-# `jcmd PID Thread.dump_to_file`
-
-
-def read_file_text(path, lines):
-    """Returns the dump of a text of `Thread.dump_to_file -format=text`."""
-    if lines[-1].strip() or len(lines) < 2 or lines[-2].strip():
-        raise Refusal(f"{path}:{len(lines)}: the dump is cut off: it ends within a thread")
-    process = lines[0].strip()
-    dump, thread = Dump(path, is_file=True, pid=process if process.isdigit() else ""), None
-    for number, line in enumerate(lines, 1):
-        line = UNMARKED.sub("    at ", line, 1) if UNMARKED.match(line) else line
-        if found := FILE_THREAD.fullmatch(line):
-            key = f"#{found['number']}"
-            thread = Thread(found["name"], key, f"{path}:{number}", found["number"], f"{process} {key}")
-            thread.is_virtual, thread.state = bool(found["virtual"]), found["state"] or ""
-            dump.threads.append(thread)
-        elif line.strip() and (thread is None or not add_line(thread, line)):
-            if thread is not None or not BETWEEN.fullmatch(line):
-                dump.warn(f"{path}:{number}", line)
-            if thread is not None:
-                thread.fault = thread.fault or f"{path}:{number} isn't understood"
-    dump.close()
-    return dump
-
-
-def read_file_json(path, text):
-    """Returns the dump of a text of `Thread.dump_to_file -format=json`."""
-    try:
-        tree = json.loads(text)
-        rows = [row for it in tree["threadDump"]["threadContainers"] for row in it["threads"]]
-        process = str(tree["threadDump"].get("processId") or "")
-        threads = [thread_of_row(path, row, process) for row in rows]
-    except (ValueError, KeyError, TypeError, AttributeError, RecursionError) as error:
-        line = getattr(error, "lineno", 1)
-        raise Refusal(f"{path}:{line}: this is no whole JSON of `jcmd PID Thread.dump_to_file -format=json`: "
-                      f"{type(error).__name__}: {shown(str(error))}") from error
-    return Dump(path, threads, is_file=True, pid=process if process.isdigit() else "")
-
-
-def thread_of_row(path, row, process):
-    """Returns the thread of a row of JSON, with its marks as the text has them."""
-    number = str(row["tid"])
-    thread = Thread(str(row["name"]), f"#{number}", f"{path}, tid {number}", number, f"{process} #{number}")
-    thread.is_virtual, thread.state = row.get("virtual") is True, str(row.get("state") or "")
-    for line in row["stack"]:
-        found = FRAME.fullmatch(f" at {line}")
-        if found is None:
-            thread.fault = thread.fault or f"{thread.at}: the frame {shown(str(line))[:200]} isn't understood"
-        else:
-            thread.frames.append(frame_of(found))
-    add_marks(thread, row)
-    return thread
-
-
-def add_marks(thread, row):
-    """Adds what a row of JSON says of monitors and blockers to the frames of its thread."""
-    blocker = row.get("parkBlocker") or {}
-    tops = [("parking to wait for", blocker.get("object")), ("waiting to lock", row.get("blockedOn")),
-            ("waiting on", row.get("waitingOn"))]
-    if thread.frames:
-        thread.frames[0].marks += [(kind, str(object_)) for kind, object_ in tops if object_]
-    owner = blocker.get("owner") or blocker.get("exclusiveOwnerThreadId")
-    thread.waits_for_owner = str(owner) if owner else None
-    for owned in row.get("monitorsOwned") or []:
-        marks = [("locked", str(lock)) for lock in owned["locks"] if lock]
-        if thread.frames:
-            thread.frames[min(int(owned["depth"]), len(thread.frames) - 1)].marks += marks
+        native = found["nid"] or ""
+        native = str(int(native, 16)) if native.startswith("0x") else native
+        thread = Thread(found["name"], key, at, number, found["tid"], native, status=status,
+                        cpu=found["cpu"], elapsed=found["elapsed"] or "")
+        self.dump.threads.append(thread)
+        return thread

@@ -1,311 +1,313 @@
-"""Python: what the module cmh_state.py prints on a signal, or faulthandler.
+"""Python: what the module cmh_state.py prints on a signal, or other tools: py-spy, gdb, faulthandler.
 
 Threads, asyncio tasks and OS processes are all processes of the sketch. Known by itself are joins of threads, tasks and
 children that are in the state, locks that show their owner, work that a pool has begun or keeps, limits, sleeps, and
 that all tasks of a blocked event loop wait for the one that has its thread. Locks without an owner, queues, asyncio's
-primitives, pipes and sockets are for facts. faulthandler shows where each thread stands, and decides nothing.
+primitives, pipes and sockets are for facts. The other tools show where each thread stands, and decide nothing.
+
+A state has two looks at a process. A thread that slept at both and hasn't stopped anew between them was at one wait
+from the first to the second, and so was a task that awaited one future: these were all at their waits at one moment.
+Several OS processes are read one after the other, and need two states each.
 """
 from __future__ import annotations
 
 import re
-from collections import Counter
-from dataclasses import dataclass, field
-from typing import List
+from collections import defaultdict
+from dataclasses import dataclass
+from typing import Any, Dict, Iterator, List, Optional, Set
 
-from ..both import PARTS, WHOLE, both
-from ..sketch import ALL, ANY, REST, RUNS, UNKNOWN, Process, Sketch, frame, unknown
-from .idle import leave_out
-from .python_cancel import cancellers_of, with_cancellers
-from .python_text import BEGINS, looks_of
-from .python_waits import NEED_ALL, Wait, last_word, operation_of, resolve_all, resolve_wait, thread_wait
+from ..files import shown
+from ..moments import APART, GROWN, ONCE, PARTS, WHOLE, Reading
+from ..sketch import ANY, REST, RUNS, Process, Sketch, premise
+from . import State
+from .base import Moment, Premise, Recorder
+from .python_frames import is_of_frames, looks_of_frames
+from .python_names import MOST, NEED_ALL, Names, Standing, lasting_objects, operation_of, own_frames
+from .python_tasks import CANCEL, TASKS, Job, foreign_callbacks
+from .python_text import Frame, Look, Row, is_number, looks_of
+from .python_waits import BLOCK, CHILD, FUTURE, Wait, unsure
 
-NAME = "python"
-SUMMARY = "what cmh_state.py prints on a signal, or faulthandler"
-
-WORK, EVENTS = "waits for work", "waits for events"  # how one is idle
-STEP = re.compile(r"asyncio\.(events\.Handle\._run$|runners\.)")
-UNNAMED = re.compile(r"Task-\d+$")
-
-
-def record(states, facts):
-    """Returns the sketch of one state of each OS process, or of two, one after the other."""
-    looks = {}
-    for look in [look for state in states for look in looks_of(state)]:
-        if look.by_faulthandler:  # it shows no process id, so each of its dumps counts as a process
-            look.pid = len(looks) + 1
-            look.process = f"dump-{look.pid}"
-        looks.setdefault((look.by_faulthandler, look.pid), []).append(look)
-    names = Names([look for group in looks.values() for look in group])
-    made = sketch_of([group[0] for group in looks.values()], names)
-    idle = {process.name: process.reason for process in made.processes if process.reason in (WORK, EVENTS)}
-    if any(len(group) > 1 for group in looks.values()):
-        last = [group[-1] for group in looks.values()]
-        made = both(made, sketch_of(last, names), WHOLE if all(look.is_whole for look in last) else PARTS)
-    leave_out(made, idle, facts, "threads")
-    made.processes += rest_of(looks, names)
-    return made
-
-
-def rest_of(looks, names):
-    """Returns one unknown process for those that a state of an OS process doesn't have, if it isn't whole."""
-    parts = [group[0] for group in looks.values() if not all(look.is_whole for look in group)]
-    return [unknown(f"{names.processes[look.pid]}/{REST}", "its state isn't whole, so processes may be missing",
-                    site=f"{look.process}-{look.pid}", frames=[REST]) for look in parts]
-
-
-class Names:
-    """The name of each thread and task, PROCESS/NAME, the same in all looks."""
-
-    def __init__(self, looks):
-        self.names, self.used = {}, Counter()
-        pids = {look.pid: look.process for look in looks}
-        alike = Counter(pids.values())
-        self.processes = {pid: f"{name}-{pid}" if alike[name] > 1 else name for pid, name in pids.items()}
-        for look in looks:
-            for rows in (look.threads, look.tasks):
-                for row in rows.values():
-                    self.add(look, row.key, label(row))
-            for key, row in look.asked.items():
-                self.add(look, key, f"coroutine {row.get('name')}")
-
-    def add(self, look, key, name):
-        full = f"{self.processes[look.pid]}/{name}"
-        if (look.pid, key, full) not in self.names:
-            self.used[full] += 1
-            unique = full if self.used[full] == 1 else f"{full} ({self.used[full]})"
-            self.names[look.pid, key, full] = self.names[look.pid, key] = unique
-
-    def of(self, look, key):
-        """The name of a thread, a task or a coroutine that is handed over, or None if it isn't in the state."""
-        there = key in look.threads or key in look.tasks or key in look.asked
-        return self.names.get((look.pid, key)) if there else None
-
-
-def label(row):
-    """The name that a thread or task has, and of a task without one its function too."""
-    if row.more.get("main") is True:
-        return "MainThread"
-    if UNNAMED.match(row.name) and row.frames:
-        return f"{row.name} ({row.frames[-1].at.split('.')[-1]})"
-    return row.name
-
-
-def sketch_of(looks, names):
-    """Returns the sketch of the looks at several OS processes."""
-    mains = {look.pid: names.of(look, row.key) for look in looks for row in look.threads.values()
-             if row.more.get("main") is True}
-    made = Sketch([], system=NAME)
-    for look in looks:
-        made.processes += Job(look, names, mains).processes()
-        made.warnings += look.warnings
-    known = {process.name for process in made.processes}
-    for process in made.processes:
-        if not known.issuperset(process.whom):
-            process.kind, process.whom, process.reason = UNKNOWN, [], "what it waits for isn't in the state"
-    return made
+ALARM = "alarm"
+NOT_UNDERSTOOD = (AttributeError, KeyError, TypeError, ValueError, IndexError, RecursionError)
+STATES = "the states"  # a path for all, as they say themselves when they were taken
 
 
 @dataclass
-class Standing:
-    """Where a thread or a task stands: what the rules for waits look at."""
+class Subject:
+    """A thread, a task or a coroutine that a loop has been handed, with the look that it is in."""
 
-    look: object
-    row: object
-    frames: list
-    call: dict
-    name_of: object
-    mains: dict
-    tasks_on: dict = field(default_factory=dict)
+    job: Job
+    what: str  # "thread", "task" or "asked"
+    key: Any
+    row: Any
 
     @property
-    def standard(self):
-        """The frames of the standard library from the innermost on, up to the first of other code."""
-        found: List[object] = []
-        for each in self.frames:
-            if each.kind != "standard" or found and BEGINS.match(each.at):
-                break
-            found.append(each)
-        return found
+    def name(self) -> Any:
+        return self.job.name_of(self.key)
+
+    def thread(self) -> Optional[Row]:
+        """The row of the thread that it needs."""
+        row: Optional[Row] = self.row if self.what == "thread" else None
+        return self.job.thread_of(self.loop()) if self.what == "task" else row
+
+    def kernel_thread(self) -> str:
+        """Which thread of the kernel a thread is, as PID/TID, or nothing."""
+        native = self.row.more.get("native") if self.what == "thread" else None
+        return f"{self.job.look.pid}/{native}" if native else ""
+
+    def loop(self) -> Optional[Dict[str, Any]]:
+        return self.job.loop_of(self.row) if self.what == "task" else self.job.loop_of_asked(self.row)
 
 
-class Job:
-    """One look at an OS process, with the processes of the sketch that it has."""
+class Jobs(Moment):
+    """The looks of one time, each with the waits in it. `enders` has those whose code may end an OS process, or a wait
+    by a signal: by the place of that process, and by None those that may do so to any."""
 
-    def __init__(self, look, names, mains):
-        self.look, self.mains = look, mains
-        self.name_of = lambda key: names.of(look, key)
-        self.site = f"{look.process}-{look.pid}"
-        self.cancellers = cancellers_of(look)
-        tasks = {}
-        for row in look.tasks.values():
-            tasks.setdefault(str(row.more.get("loop")), []).append(row.key)
-        self.tasks_on = {loop.get("thread"): (tasks.get(str(key), []), loop.get("current"))
-                         for key, loop in look.loops.items()}
+    jobs: List[Job]
+    enders: Dict[Any, List[Any]]
 
-    def processes(self):
-        """Returns a process for each thread, each task, and each coroutine that a loop has been handed."""
-        found = [self.process_of(row, self.wait_of_thread, row.frames) for row in self.look.threads.values()]
-        found += [self.process_of(row, self.wait_of_task, self.frames_of_task(row))
-                  for row in self.look.tasks.values()]
-        for key, row in self.look.asked.items():
-            wait = self.behind_loop(row.get("loop"), Wait(RUNS, reason="it is about to begin"))
-            found.append(Process(self.name_of(key), wait.kind, wait.whom, wait.reason, self.site,
-                                 "handed to the event loop, and not begun"))
-        return found
 
-    def process_of(self, row, wait_of, frames):
+KILLS = {"kill", "killpg"}  # calls that end any process, by its number
+ENDS = re.compile(r"(_thread\.interrupt_main|_signal\.(raise_signal|pthread_kill)|posix\.(kill|killpg|_exit|abort))$")
+
+
+def timer_of(look: Look) -> str:
+    """Returns what a timer's thread will call that interrupts the main thread or ends the process, or nothing."""
+    own = [each.has.get("self") for row in look.threads.values() for each in row.frames
+           if each.at == "threading.Timer.run"]
+    calls = [str(it.get("calls")) for it in own if isinstance(it, dict)]
+    return next(filter(ENDS.match, calls), "")
+
+
+def enders_of(jobs: List[Job]) -> Dict[Any, List[Any]]:
+    """Returns those whose code may end an OS process: their own one, or any if it kills by number."""
+    found: Dict[Any, List[Any]] = defaultdict(list)
+    for job in jobs:
+        for row in (*job.look.threads.values(), *job.look.tasks.values()):
+            ends = row.more.get("ends")
+            if isinstance(ends, list) and ends:
+                found[None if KILLS.intersection(map(str, ends)) else job.look.place()].append(job.name_of(row.key))
+    return found
+
+
+def add_enders(process: Process, enders: List[Any]) -> None:
+    """Says of a process that these may end its wait besides, or that they are too many to name."""
+    others = [name for name in enders if name != process.name]
+    if len(others) > MOST and process.kind != RUNS:
+        process.become_unknown("more may end its process than can be named")
+    elif len(others) <= MOST:
+        process.besides = list(dict.fromkeys([*process.besides, *others]))
+
+
+def alarm_of(subject: Subject, moment: Jobs) -> str:
+    """Returns which alarm or signal under way ends the wait of a process, or nothing."""
+    head, thread = subject.job.look.head, subject.thread()
+    is_main = thread is not None and thread.more.get("main") is True
+    left: Any
+    left, action = head.get("alarm"), head.get("on_alarm")
+    if is_number(left) and left > 0 and action == "default":
+        return f"an alarm ends its OS process within {left:.0f} s"
+    if is_number(left) and left > 0 and action is not None and is_main:
+        return f"an alarm is under way, within {left:.0f} s, and its handler may end this wait"
+    if head.get("foreign_timer") is True:
+        return ("a thread that isn't Python's blocks all signals, as that of faulthandler.dump_traceback_later does, "
+                "which may end its OS process")
+    timer = subject.job.timer
+    if timer and (is_main or timer.startswith("posix.")):
+        return f"a timer will call {timer}, which may end this wait"
+    if is_main and head.get("on_child") not in (None, "default") and subject.job.look.children:
+        return "a signal comes once a child ends, and its handler may end this wait"
+    return ""
+
+
+def callback_of(subject: Subject, moment: Jobs) -> str:
+    """Returns which function of the program may cancel a task, or nothing."""
+    if subject.what == "task" and subject.loop() is None:
+        return "its event loop isn't in the state"
+    found = foreign_callbacks(subject.loop()) if subject.what != "thread" else ""
+    return f"its event loop will call {found}, which may end its wait" if found else ""
+
+
+def tasks_of(subject: Subject, moment: Jobs) -> str:
+    """Returns why tasks of a loop aren't in the state: some of them may be stuck, whatever its thread does. Who rests
+    on this premise runs a loop in a state that shows places alone."""
+    tool = subject.job.look.shown_by or "faulthandler"
+    return f"it runs an event loop, and {tool} doesn't show the loop's tasks: cmh_state does"
+
+
+def release_of(subject: Subject, moment: Jobs) -> str:
+    """Returns who may give back a lock that another one has taken, by its code, or nothing."""
+    look = subject.job.look
+    rows = [*look.threads.values(), *look.tasks.values()]
+    found = next((row.key for row in rows if row.more.get("releases") is not False), None)
+    return f"the code of {shown(subject.job.name_of(found))} names release, and may give it back" if found else ""
+
+
+class PythonRecorder(Recorder):
+    """Each OS process by itself is read at one moment, several one after the other."""
+
+    NAME, IDLE, MOMENT = "python", "threads", APART
+    MOMENT_CLASS = Jobs
+    PREMISES = {
+        ALARM: Premise("no alarm and no other signal ends it", alarm_of, True),
+        CANCEL: Premise("nobody cancels a task but whom the state shows: no timer and no callback of its loop",
+                        callback_of, True),
+        TASKS: Premise("whoever runs an event loop has its tasks in the state", tasks_of, True),
+        CHILD: Premise("a child ends with its main thread, and nobody kills it"),
+        BLOCK: Premise("a block that has taken a lock gives it back itself, and the name that it had for it is still "
+                       "that of this lock", release_of),
+        FUTURE: Premise("who has begun or keeps the work of a future ends it, and nobody else does"),
+    }
+
+    def __init__(self) -> None:
+        self.dumps = 0
+        self.names = Names([])
+        self.is_alone = True
+        self.signals: Dict[Any, Set[Any]] = {}
+
+    def read(self, state: State) -> List[Reading]:
+        has_frames = is_of_frames(state.text)
+        looks = looks_of_frames(state.path, state.text) if has_frames else looks_of(state)
+        for look in looks:
+            if look.by_faulthandler:  # it shows no process id, so each of its dumps counts as a process
+                self.dumps += 1
+                look.pid, look.process = self.dumps, f"dump-{self.dumps}"
+        return [Reading(state.path, (look.by_faulthandler, look.place()), [look],
+                        extent=WHOLE if look.is_whole else PARTS, machine=look.machine(), time=look.time())
+                for look in looks]
+
+    def begin(self, readings: List[Reading]) -> None:
+        """Names all that there is, puts the readings in the order of time where they print it, and says what is
+        missing."""
+        looks = [it.rows[0] for it in readings]
+        self.names = Names(looks)
+        places = {look.place() for look in looks}
+        self.is_alone = len(places) == 1
+        for look in looks:
+            self.signals.setdefault(look.place(), set()).add(look.head.get("signal"))
+        for reading, look in zip(readings, looks):
+            reading.site = self.names.processes[look.place()]
+            lost = [it for it in look.children if look.place(it) not in places]
+            if not look.is_whole:
+                reading.missing = "its state isn't whole, so processes may be missing"
+            elif lost:
+                reading.missing = f"it has begun process {lost[0]}, which isn't in the states"
+        if all(is_number(look.head.get("began")) for look in looks):
+            readings.sort(key=lambda it: float(it.rows[0].head["began"]))
+            for reading in readings:
+                reading.path = STATES
+
+    def prepare(self, moment: Jobs) -> None:
+        looks = moment.rows()
+        mains = {look.place(): self.names.of(look, row.key) for look in looks for row in look.threads.values()
+                 if row.more.get("main") is True}
+        moment.jobs = [Job(look, self.names, mains, timer_of(look)) for look in looks]
+        moment.enders = enders_of(moment.jobs)
+
+    def processes(self, moment: Jobs) -> Iterator[Subject]:
+        for job in moment.jobs:
+            kinds: Dict[str, Dict[Any, Any]] = {
+                "thread": job.look.threads, "task": job.look.tasks, "asked": job.look.asked}
+            for what, rows in kinds.items():
+                for key, row in rows.items():
+                    yield Subject(job, what, key, row)
+
+    def wait_of(self, subject: Subject, moment: Jobs) -> Process:
         """Returns the process of a row. A row that is odd makes it unknown, whatever is odd in it."""
-        standing = Standing(self.look, row, frames, self.call_of(row, frames), self.name_of, self.mains, self.tasks_on)
+        wait_of = {"thread": wait_of_thread, "task": wait_of_task, "asked": wait_of_asked}[subject.what]
         try:
-            wait = wait_of(row, standing)
-            operation, objects = operation_of(standing)
-        except (AttributeError, KeyError, TypeError, ValueError, IndexError, RecursionError):
-            wait, operation, objects = Wait(UNKNOWN, reason="its row in the state isn't understood"), "", []
-        own = own_frames(frames)
-        note = f"{operation} in {own[0]}" if operation and own else own[0] if own else operation
-        stops = row.more.get("stops")
-        count = str(stops) if isinstance(stops, int) and row.more.get("main") is not True else None
-        return Process(self.name_of(row.key), wait.kind, wait.whom, wait.reason, self.site, note, own, operation,
-                       objects, count, "all" if operation in NEED_ALL else "any")
+            process = wait_of(subject)
+        except NOT_UNDERSTOOD:
+            process = process_of(subject, [], unsure("its row in the state isn't understood"))
+        if None in process.whom:
+            process.become_unknown("what it waits for isn't in the state")
+        if process.kind != RUNS:
+            process.because.append(premise(ALARM))
+        look = subject.job.look
+        lost = [] if look.is_whole else [f"{self.names.processes[look.place()]}/{REST}"]
+        add_enders(process, moment.enders[None] + moment.enders[look.place()] + lost)
+        if process.count is None:
+            self.count(process, subject)
+        elif self.is_alone:
+            process.moment = ONCE
+        return process
 
-    def call_of(self, row, frames):
-        """The call in which the innermost frame stands."""
-        call = frames[0].call if frames else None
-        return call if isinstance(call, dict) else {}
+    def count(self, process: Process, subject: Subject) -> None:
+        """Gives a process the count of its waits, and says of it how it was read. The main thread is woken by each
+        signal that asks for states, so its count holds only for the states of one signal."""
+        thread = subject.thread() if subject.what != "asked" else subject.job.thread_of(subject.loop())
+        number = subject.row.more.get("wait") if subject.what == "task" else None
+        is_held = subject.what == "asked" or subject.what == "task" and held(subject)
+        counts = [number] if subject.what == "task" else []
+        if subject.what == "thread" or is_held:
+            counts.append(stops_of(thread, len(self.signals[subject.job.look.place()]) == 1))
+            if thread is not None and has_stopped(thread):
+                process.doubt = GROWN
+        process.count = ", ".join(map(str, counts)) if counts and None not in counts else None
+        if self.is_alone and not process.doubt and is_vouched(thread, is_held, subject):
+            process.moment = ONCE
 
-    # Threads
-
-    def wait_of_thread(self, row, standing):
-        if self.look.by_faulthandler:
-            return Wait(UNKNOWN, reason="faulthandler shows neither limits nor what it waits for")
-        loop = self.look.loops.get(row.more.get("loop")) if row.more.get("loop") else None
-        if loop is None or row.more.get("moved") is True:
-            return idle_wait(standing) or thread_wait(standing)
-        if loop.get("current") in self.look.tasks:
-            return Wait(ANY, [self.name_of(loop["current"])])
-        return self.wait_of_loop(standing) if is_idle_loop(row.frames) else thread_wait(standing)
-
-    def wait_of_loop(self, standing):
-        """A loop that waits for events ends with what it runs for, if it runs for something."""
-        for each in standing.frames:
-            if each.at.endswith(".run_until_complete") and isinstance(each.has.get("future"), dict):
-                return resolve_all(standing, [each.has["future"]]) or Wait(UNKNOWN, reason=EVENTS)
-        return Wait(UNKNOWN, reason=EVENTS)
-
-    # Tasks
-
-    def frames_of_task(self, row):
-        """The frames of the task that has its loop's thread are that thread's."""
-        loop = self.look.loops.get(row.more.get("loop")) or {}
-        thread = self.look.threads.get(loop.get("thread"))
-        if loop.get("current") != row.key or thread is None:
-            return row.frames
-        ends = [at for at, each in enumerate(thread.frames) if STEP.match(each.at)]
-        return thread.frames[:ends[0]] if ends else thread.frames
-
-    def wait_of_task(self, row, standing):
-        loop = self.look.loops.get(row.more.get("loop"))
-        if loop is None:
-            return Wait(UNKNOWN, reason="its event loop isn't in the state")
-        thread = self.look.threads.get(loop.get("thread"))
-        if thread is None:
-            return Wait(UNKNOWN, reason="no thread runs its event loop")
-        if loop.get("current") == row.key:
-            own = Standing(self.look, thread, standing.frames, standing.call, self.name_of, self.mains, self.tasks_on)
-            return thread_wait(own)
-        keys = self.cancellers.get(row.key, [])
-        names = None if keys is None else [name for name in map(self.name_of, keys) if name]
-        return self.behind_loop(row.more.get("loop"), with_cancellers(task_wait(row, standing), names))
-
-    def behind_loop(self, key, own):
-        """The wait of one who needs its loop's thread too, which somebody may have."""
-        loop = self.look.loops.get(key) or {}
-        thread = self.look.threads.get(loop.get("thread"))
-        if thread is None or thread.more.get("moved") is True:
-            return own
-        row = self.look.tasks.get(loop.get("current")) or thread
-        if row is thread and is_idle_loop(thread.frames):
-            return own
-        frames = self.frames_of_task(row) if row is not thread else thread.frames
-        holder = thread_wait(Standing(self.look, thread, frames, self.call_of(thread, frames), self.name_of, self.mains,
-                                      self.tasks_on))
-        return join_waits(self.name_of(row.key), holder, own)
+    def finish(self, sketch: Sketch, moments: List[Jobs]) -> None:
+        readers = [look.reader() for moment in moments for look in moment.rows()]
+        sketch.readers = list(dict.fromkeys(filter(None, readers)))
+        lines = [line for moment in moments for look in moment.rows() for line in look.warnings]
+        sketch.warnings += dict.fromkeys(lines)
 
 
-def join_waits(holder, its_wait, own):
-    """The wait of a task for the one that has its loop's thread, and for what it awaits itself."""
-    if own.kind == RUNS:
-        return Wait(ANY, [holder])
-    if its_wait.kind == RUNS:
-        return own
-    if own.kind == ALL or own.kind == ANY and len(own.whom) == 1:
-        return Wait(ALL, list(dict.fromkeys([holder, *own.whom])))
-    return Wait(ANY, [holder])
+def held(subject: Subject) -> bool:
+    """Whether a task has its loop's thread, or waits for one that has it."""
+    return subject.job.holder(subject.loop() or {}) is not None
 
 
-def task_wait(row, standing):
-    """What a task awaits, apart from its loop's thread."""
-    awaited = row.more.get("waits")
-    if row.more.get("moved") is True:
-        return Wait(RUNS, reason="it moved between two looks")
-    if awaited is None or isinstance(awaited, dict) and awaited.get("done") is True:
-        return Wait(RUNS, reason="it is ready to continue")
-    if row.more.get("limit") is True:
-        return Wait(RUNS, reason="it sleeps, or waits with a limit")
-    found = resolve_all(standing, [awaited])
-    if found is not None:
-        return found
-    for each in standing.standard:
-        if each.at in ("asyncio.tasks.sleep", "asyncio.tasks.wait_for") and each.has.get("timeout", 0) is not None:
-            return Wait(RUNS, reason="it sleeps, or waits with a limit")
-        if each.at == "asyncio.tasks._wait":
-            found = resolve_wait(standing, each)
-        if each.at == "asyncio.taskgroups.TaskGroup.__aexit__":
-            found = resolve_all(standing, each.has["self"]["all"])
-    return found or Wait(UNKNOWN, reason=f"no state shows what ends its {operation_of(standing)[0] or 'await'}")
+def stops_of(thread: Optional[Row], is_one_signal: bool) -> Optional[int]:
+    """How often a thread has stopped to wait, or None if that isn't known, or isn't the same for the same wait."""
+    more = thread.more if thread is not None else {}
+    stops = more.get("stops")
+    holds = more.get("main") is not True or is_one_signal and "new_stops" in more
+    return stops if isinstance(stops, int) and holds else None
 
 
-# Idle ones
-
-WORKERS = re.compile(r"concurrent\.futures\.(thread\._worker|process\.(_process_worker|_ExecutorManagerThread\.run))$"
-                     r"|multiprocessing\.pool\.(worker|(Thread)?Pool\._handle_(tasks|results|workers))$"
-                     r"|multiprocessing\.queues\.Queue\._feed$|logging\.handlers\.QueueListener\._monitor$")
-GETS = re.compile(r"(multiprocessing\.)?queues?\.\w+\.get$|threading\.Condition\.wait$|selectors\."
-                  r"|multiprocessing\.connection\.(wait$|.*\.(recv|recv_bytes|_recv|_recv_bytes|poll|_poll)$)"
-                  r"|multiprocessing\.synchronize\.\w+\.__enter__$|multiprocessing\.pool\.\w+\._wait_for_updates$"
-                  r"|concurrent\.futures\.process\._ExecutorManagerThread\.wait_result_broken_or_wakeup$"
-                  r"|logging\.handlers\.QueueListener\.dequeue$|multiprocessing\.process\.")
+def has_stopped(thread: Row) -> bool:
+    """Whether a thread has stopped anew between the two looks of a state, or didn't sleep at each."""
+    new, asleep = thread.more.get("new_stops"), thread.more.get("asleep")
+    return isinstance(new, int) and (new != 0 or asleep is not True)
 
 
-def idle_wait(standing):
-    """The wait of a worker of a pool, or of a feeder of a queue, that has nothing to do; else None."""
-    inner = []
-    for each in standing.frames:
-        if WORKERS.match(each.at):
-            words = standing.call.get("words")
-            return Wait(UNKNOWN, reason=WORK) if inner or words is None or last_word(standing.call) == "get" else None
-        if not GETS.match(each.at):
-            return None
-        inner.append(each)
-    return None
+def is_vouched(thread: Optional[Row], is_held: bool, subject: Subject) -> bool:
+    """Whether the two looks of a state show one wait."""
+    if subject.what == "task" and subject.row.more.get("wait") is None:
+        return False
+    if subject.what == "task" and not is_held:
+        return True  # (it awaits the same future at both, else it has moved)
+    return thread is not None and thread.more.get("new_stops") == 0 and thread.more.get("asleep") is True
 
 
-def is_idle_loop(frames):
-    """Whether the thread of an event loop waits for events."""
-    return len(frames) > 1 and frames[0].at.startswith("selectors.") and frames[1].at.endswith("._run_once")
+def wait_of_thread(subject: Subject) -> Process:
+    standing = subject.job.standing(subject.row, subject.row.frames)
+    return process_of(subject, subject.row.frames, subject.job.wait_of_thread(subject.row, standing), standing)
 
 
-# Frames
+def wait_of_task(subject: Subject) -> Process:
+    frames = subject.job.frames_of_task(subject.row)
+    standing = subject.job.standing(subject.row, frames)
+    return process_of(subject, frames, subject.job.wait_of_task(subject.row, standing), standing)
 
 
-def own_frames(frames):
-    """The texts of the job's own frames from the topmost on. Where it has none, those of packages, else of the library
-    that began the thread."""
-    own = [each for each in frames if each.kind == "own"]
-    if all(each.at.endswith(".<module>") for each in own):
-        own = [each for each in frames if each.kind != "standard"]
-    if not own:
-        ends = [at for at, each in enumerate(frames) if at and BEGINS.match(each.at)]
-        last = ends[0] if ends else len(frames)
-        own = frames[last:last + 1] if frames[last:] and frames[last].at.endswith("_feed") else frames[last - 1:last]
-    return [frame(each.at, each.file.split("/")[-1], each.line) for each in own]
+def wait_of_asked(subject: Subject) -> Process:
+    wait = subject.job.wait_of_asked(subject.row)
+    return Process(subject.name, wait.kind, wait.whom, wait.reason, subject.job.site,
+                   "handed to the event loop, and not begun", because=wait.because)
+
+
+def process_of(subject: Subject, frames: List[Frame], wait: Wait, standing: Optional[Standing] = None) -> Process:
+    """Returns the process of a wait, with what tells it from the next."""
+    operation, objects = operation_of(standing) if standing else ("", [])
+    if wait.has_limit():
+        operation, objects = f"timed {operation or 'wait'}", lasting_objects(standing) if standing else []
+    own = own_frames(frames)
+    note = f"{operation} in {own[0]}" if operation and own else own[0] if own else operation
+    return Process(subject.name, wait.kind, wait.whom, wait.reason, subject.job.site, note, own, operation, objects,
+                   proposal="all" if operation in NEED_ALL else "any", because=list(wait.because),
+                   is_idle=wait.is_idle, count=wait.count, besides=list(dict.fromkeys(wait.besides)),
+                   is_collective=operation in NEED_ALL, thread=subject.kernel_thread(),
+                   is_open=wait.is_open or subject.what == "task" and wait.kind == ANY)

@@ -3,56 +3,88 @@
 A task that is cancelled, by a limit or since another one of its group has failed, cancels in turn what it awaits. So
 each such task counts among those that may end the wait. What `asyncio.wait` or `shield` awaits isn't cancelled with it,
 and an outside `task.cancel()` stands in no state.
+
+A group is that of a TaskGroup, or the tasks of a gather that ends with the first error: whoever awaits it goes on then,
+and may cancel the others. Whether a task will fail isn't known, so the others of its group are apart.
 """
 from __future__ import annotations
 
 from collections import defaultdict
+from typing import Any, Callable, Dict, List, Optional, Set
 
-from ..sketch import ALL, ANY, UNKNOWN
-from .python_waits import Wait
+from ..sketch import ALL, ANY
+from .python_text import Frame, Look, Row
+from .python_waits import Wait, unsure
 
 MOST = 50  # of one group; each is named in the list of each other one
 MANY = "another one of its group that fails may cancel it, and these are too many to name"
 NOT_ONE_LIST = "it waits for all of several, and besides may be cancelled"
 
 
-def cancellers_of(look):
-    """Returns, by key of a task, the keys of those that may cancel it, or None if they are too many."""
-    groups, targets = groups_of(look), {row.key: targets_of(row) for row in look.tasks.values()}
-    found = defaultdict(dict)
-    crowded = set()
-    for parent, members in groups.items():
-        targets[parent] = [*targets.get(parent, ()), *members]
+class Cancellers:
+    """Who may cancel the tasks of a look: `sure` has, by key of a task, the keys of those that do so by a limit or when
+    they are cancelled themselves, `failing` those that do so once they fail, `crowded` whose group is too large."""
+
+    def __init__(self, look: Look) -> None:
+        self.look = look
+        self.targets: Dict[str, List[str]] = {row.key: targets_of(row) for row in look.tasks.values()}
+        self.sure: Dict[str, Dict[str, None]] = defaultdict(dict)
+        self.failing: Dict[str, Dict[str, None]] = defaultdict(dict)
+        self.crowded: Set[Any] = set()
+        for parent, members in groups_of(look, "group").items():
+            self.targets[parent] = [*self.targets.get(parent, ()), *members]
+            self.add_group(parent, members)
+            if parent in look.tasks and not stands_at_end(look.tasks[parent]):
+                self.failing[parent].update(dict.fromkeys(members))
+        for parent, members in groups_of(look, "gather").items():
+            self.add_group(parent, [*members, parent])
+        self.spread()
+
+    def add_group(self, parent: Any, members: List[Any]) -> None:
         if len(members) > MOST:
-            crowded.update(members)
-            continue
+            self.crowded.update(it for it in members if it != parent)
+            return
         for each in members:
-            found[each].update(dict.fromkeys(it for it in members if it != each))
-    for parent, members in groups.items():
-        if parent in look.tasks and not stands_at_end(look.tasks[parent]):
-            found[parent].update(dict.fromkeys(members))
-    spread(look, targets, found, crowded)
-    return {key: None if key in crowded else list(found.get(key, ())) for key in {*found, *crowded}}
+            if each != parent:
+                self.failing[each].update(dict.fromkeys(it for it in members if it != each))
+
+    def spread(self) -> None:
+        """Adds whoever may be cancelled to those that may cancel what it awaits."""
+        ready = [row.key for row in self.look.tasks.values() if row.more.get("limit") is True
+                 or self.failing.get(row.key) or row.key in self.crowded]
+        seen = set(ready)
+        while ready:
+            key = ready.pop()
+            for target in self.targets.get(key, ()):
+                self.sure[target][key] = None
+                if target not in seen:
+                    seen.add(target)
+                    ready.append(target)
+
+    def add_to(self, wait: Wait, key: Any, name_of: Callable[[Any], Optional[str]]) -> Wait:
+        """Returns the wait of a task as whoever cancels it surely may end it too, and who may by failing."""
+        if key in self.crowded:
+            return unsure(MANY)
+        sure, failing = ([name for name in map(name_of, some.get(key, ())) if name]
+                         for some in (self.sure, self.failing))
+        wait.besides = [*wait.besides, *failing]
+        if wait.kind not in (ANY, ALL):
+            wait.besides = [*sure, *failing]
+        elif sure and wait.kind == ALL and len(wait.whom) > 1:
+            wait = unsure(NOT_ONE_LIST)
+        elif sure:
+            wait.kind, wait.whom, wait.is_open = ANY, list(dict.fromkeys([*wait.whom, *sure])), True
+        return wait
 
 
-def spread(look, targets, found, crowded):
-    """Adds whoever may be cancelled to those that may cancel what it awaits."""
-    ready = [row.key for row in look.tasks.values() if row.more.get("limit") is True or found.get(row.key)
-             or row.key in crowded]
-    seen = set(ready)
-    while ready:
-        key = ready.pop()
-        for target in targets.get(key, ()):
-            found[target][key] = None
-            if target not in seen:
-                seen.add(target)
-                ready.append(target)
-
-
-def groups_of(look):
-    """Returns the tasks of each TaskGroup that aren't done, by the task whose group it is."""
-    groups = defaultdict(dict)
+def groups_of(look: Look, what: str) -> Dict[Any, List[Any]]:
+    """Returns the tasks of each group that aren't done, by the task whose group it is."""
+    groups: Dict[Any, Dict[str, None]] = defaultdict(dict)
     for row in look.tasks.values():
+        if what == "gather":
+            for members in gathers_in(row.more.get("waits")):
+                groups[row.key].update(dict.fromkeys(members))
+            continue
         parent = row.more.get("parent")
         if isinstance(parent, str):
             groups[parent][row.key] = None
@@ -63,16 +95,24 @@ def groups_of(look):
     return {parent: list(members) for parent, members in groups.items()}
 
 
-def stands_at(each):
+def gathers_in(value: Any) -> List[List[str]]:
+    """Returns the tasks of each gather in what a state describes that ends with the first error."""
+    if not isinstance(value, dict) or not isinstance(value.get("all"), list):
+        return []
+    own = [tasks_in(value)] if value.get("raises") is not False else []
+    return own + [members for each in value["all"] for members in gathers_in(each)]
+
+
+def stands_at(each: Frame) -> bool:
     return each.at == "asyncio.taskgroups.TaskGroup.__aexit__"
 
 
-def stands_at_end(row):
+def stands_at_end(row: "Row") -> bool:
     """Whether a task is at the end of its group, where it waits for all of it whatever comes."""
     return any(map(stands_at, row.frames))
 
 
-def targets_of(row):
+def targets_of(row: "Row") -> List[str]:
     """Returns the keys of the tasks that are cancelled with a task, since it awaits them."""
     found = tasks_in(row.more.get("waits"))
     for each in row.frames:
@@ -81,9 +121,10 @@ def targets_of(row):
     return found
 
 
-def tasks_in(value):
+def tasks_in(value: Any) -> List[str]:
     """Returns the keys of the tasks in what a state describes: a task, or a gather."""
-    found, left = [], [value]
+    found: List[str] = []
+    left: List[Optional[Any]] = [value]
     while left:
         each = left.pop()
         if not isinstance(each, dict) or each.get("done") is True:
@@ -93,14 +134,3 @@ def tasks_in(value):
         elif isinstance(each.get("all"), list):
             left += each["all"]
     return found
-
-
-def with_cancellers(wait, names):
-    """Returns a wait that these may end too. `names` is None if they are too many."""
-    if wait.kind not in (ANY, ALL) or names == []:
-        return wait
-    if names is None:
-        return Wait(UNKNOWN, reason=MANY)
-    if wait.kind == ALL and len(wait.whom) > 1:
-        return Wait(UNKNOWN, reason=NOT_ONE_LIST)
-    return Wait(ANY, list(dict.fromkeys([*wait.whom, *names])))

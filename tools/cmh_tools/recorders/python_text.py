@@ -9,12 +9,15 @@ import json
 import os
 import re
 from dataclasses import dataclass, field
-from typing import Dict, List, Optional
+from typing import Any, Dict, List, Optional, Tuple
 
 from ..files import Refusal, shown
+from . import State
+from .base import fits
 
 MARK = "cmh-state "
 VERSION = 1
+HEAD = {"process": str, "pid": int, "seconds": (int, float), "unseen?": [str], "signal?": (int, type(None))}
 STANDARD = re.compile(r"/lib(?:64)?/python3(?:\.\d+)?/(?!(?:site|dist)-packages/)(.*)$|^<frozen (.*)>$")
 PACKAGE = re.compile(r"/(?:site|dist)-packages/(.*)$")
 # Frames of the library that begin the work of a thread, a task or a worker.
@@ -34,54 +37,93 @@ class Frame:
     at: str
     file: str
     line: int
-    has: Dict[str, object]
+    has: Dict[str, Any]
     kind: str  # "own", "package" or "standard"
-    call: Optional[dict] = None
+    call: Optional[Dict[str, Any]] = None
 
 
 @dataclass
 class Row:
     """A thread or a task. `key` tells it from the others of its process, `more` is the row of the state."""
 
-    key: object
+    key: Any
     name: str
     frames: List[Frame]
-    more: dict
+    more: Dict[str, Any]
 
 
 @dataclass
 class Look:
-    """A state of one OS process. `seconds` is the time between the two looks that cmh_state.py takes."""
+    """A state of one OS process. `seconds` is the time between the two looks that cmh_state.py takes, `head` its first
+    row, `children` the OS processes that it has begun and not seen end. `pools` and `holders` keep what is looked up in
+    it again and again: who does the work of each future, and who has each task or child in a variable. `cancelling` has
+    those whose code may cancel any task or future, or set one."""
 
     where: str
     process: str
     pid: int
     seconds: float = 0
-    threads: Dict[object, Row] = field(default_factory=dict)
-    tasks: Dict[object, Row] = field(default_factory=dict)
-    loops: Dict[object, dict] = field(default_factory=dict)
-    asked: Dict[object, dict] = field(default_factory=dict)
+    head: Dict[str, Any] = field(default_factory=dict)
+    children: List[Any] = field(default_factory=list)
+    threads: Dict[Any, Row] = field(default_factory=dict)
+    tasks: Dict[Any, Row] = field(default_factory=dict)
+    loops: Dict[Any, Dict[str, Any]] = field(default_factory=dict)
+    asked: Dict[Any, Dict[str, Any]] = field(default_factory=dict)
     is_whole: bool = True
     by_faulthandler: bool = False
+    shown_by: str = ""  # another tool, which shows places alone
     warnings: List[str] = field(default_factory=list)
+    pools: Optional[Tuple[Dict[Any, Any], Dict[Any, List[Any]]]] = None
+    holders: Optional[Dict[Any, List[Any]]] = None
+    cancelling: Optional[List[Any]] = None
+
+    def place(self, pid: Any = None) -> Tuple[Any, Any]:
+        """What tells its OS process, or another one of its machine, from those of all machines."""
+        return str(self.head.get("host")), self.pid if pid is None else pid
+
+    def machine(self) -> str:
+        """The machine and the container in which its numbers stand, or nothing."""
+        space = self.head.get("space")
+        return space if isinstance(space, str) else ""
+
+    def reader(self) -> str:
+        """The thread that printed it, as PID/TID, or nothing."""
+        native = self.head.get("reader")
+        return f"{self.pid}/{native}" if native and isinstance(native, int) else ""
+
+    def time(self) -> Optional[Tuple[float, float]]:
+        """When the state began and ended, or None."""
+        began: Any = self.head.get("began")
+        ended: Any = self.head.get("ended")
+        return (began, ended) if is_number(began) and is_number(ended) else None
 
 
-def looks_of(state):
+def is_number(value: Any) -> bool:
+    return isinstance(value, (int, float)) and not isinstance(value, bool) and abs(value) < 1e18
+
+
+def last_word(call: Dict[str, Any]) -> str:
+    return (call.get("words") or "").split(".")[-1]
+
+
+def looks_of(state: State) -> List[Look]:
     """Returns the looks of a text in their order. Raises Refusal if it has none."""
     lines = state.text.split("\n")
     found = looks_of_module(state.path, lines) if MARK in state.text else looks_of_faulthandler(state.path, lines)
     if not found:
-        raise Refusal(f"{shown(state.path)}: it has no line of cmh_state.py and none of faulthandler, such as "
-                      "'Thread 0x.. (most recent call first):'")
+        raise Refusal(f"{shown(state.path)}: it has no line of cmh_state.py, none of py-spy, and none of faulthandler, "
+                      "such as 'Thread 0x.. (most recent call first):'")
     return found
 
 
 # What cmh_state.py prints
 
 
-def looks_of_module(path, lines):
+def looks_of_module(path: str, lines: List[str]) -> List[Look]:
     """Each row says of which process it is, so that the lines of several may stand between each other."""
-    looks, open_looks, rows = [], {}, {}
+    looks: List[Look] = []
+    open_looks: Dict[Any, Look] = {}
+    rows: Dict[Any, int] = {}
     for at, line in enumerate(lines, 1):
         text = line.partition(MARK)[2]
         if not text:
@@ -107,7 +149,7 @@ def looks_of_module(path, lines):
     return looks
 
 
-def note_missing(open_looks, path, at):
+def note_missing(open_looks: Dict[Any, Look], path: str, at: int) -> None:
     """A line that can't be read may be of any state that is open. Raises Refusal if none is."""
     where = f"{shown(path)}:{at}: this line of a state isn't understood"
     if not open_looks:
@@ -117,7 +159,7 @@ def note_missing(open_looks, path, at):
         look.warnings.append(f"{where}, so what it shows is missing")
 
 
-def row_of(text):
+def row_of(text: str) -> Optional[Dict[str, Any]]:
     """The object of a line, or None."""
     try:
         row = json.loads(text)
@@ -126,19 +168,18 @@ def row_of(text):
     return row if isinstance(row, dict) else None
 
 
-def head_of(row, path, at):
+def head_of(row: Dict[str, Any], path: str, at: int) -> Look:
     if row["version"] != VERSION:
         raise Refusal(f"{shown(path)}:{at}: a state of version {shown(str(row['version']))}, and {VERSION} is read")
-    name, pid, seconds = row.get("process"), row.get("pid"), row.get("seconds")
-    if not isinstance(name, str) or type(pid) is not int or not isinstance(seconds, (int, float)):
+    if not fits(row, HEAD) or not is_number(row["seconds"]):
         raise Refusal(f"{shown(path)}:{at}: the first line of a state without 'process', 'pid' or 'seconds'")
-    look = Look(f"{path}:{at}", name, pid, seconds)
-    for word in row.get("unseen") or ():
-        look.warnings.append(f"process {pid} has loaded {shown(str(word))}: what waits in it is not seen")
+    look = Look(f"{path}:{at}", row["process"], row["pid"], row["seconds"], row)
+    for word in row.get("unseen", ()):
+        look.warnings.append(f"process {look.pid} has loaded {shown(word)}: what waits in it is not seen")
     return look
 
 
-def close(look, path, ended=False):
+def close(look: Optional[Look], path: str, ended: bool = False) -> None:
     """Says what a state lacks that has no last line, or other rows than that counts."""
     if look is None:
         return
@@ -147,7 +188,7 @@ def close(look, path, ended=False):
         look.warnings.append(f"{shown(path)}: the state of process {look.pid} is not whole: what is missing is unknown")
 
 
-def add_row(look, row, path, at):
+def add_row(look: Look, row: Dict[str, Any], path: str, at: int) -> None:
     """Adds a row to its look. One that is of no known form, as with a list for a key, counts as missing."""
     try:
         hash((row.get("loop"), row.get("thread"), row.get("current"), tuple(row.get("sets") or ())))
@@ -161,13 +202,15 @@ def add_row(look, row, path, at):
             look.asked[str(row["asked"])] = row
         elif "child" not in row:
             raise TypeError
-    except (TypeError, KeyError, ValueError, AttributeError):
+        elif row.get("ended") is not True:
+            look.children.append(row["child"])
+    except (TypeError, KeyError, ValueError, AttributeError, OverflowError):
         look.is_whole = False
         look.warnings.append(f"{shown(path)}:{at}: this line of a state isn't understood, so what it shows is "
                              "missing")
 
 
-def add_one(rows, key, row):
+def add_one(rows: Dict[Any, Row], key: Any, row: Dict[str, Any]) -> None:
     frames = [frame_of(each) for each in row["frames"] if "in" in each]
     ends = [at for at, each in enumerate(frames) if at and each.at == FORKED]
     frames = frames[:ends[0]] if ends else frames
@@ -176,13 +219,13 @@ def add_one(rows, key, row):
     rows[key] = Row(key, str(row["name"]), frames, row)
 
 
-def frame_of(row):
+def frame_of(row: Dict[str, Any]) -> Frame:
     has = row.get("has")
     return Frame(str(row["in"]), str(row["file"]), int(row["line"]), has if isinstance(has, dict) else {},
                  kind_of(str(row["file"])))
 
 
-def kind_of(path):
+def kind_of(path: str) -> str:
     if STANDARD.search(path):
         return "standard"
     return "package" if PACKAGE.search(path) else "own"
@@ -191,9 +234,10 @@ def kind_of(path):
 # What faulthandler prints
 
 
-def looks_of_faulthandler(path, lines):
+def looks_of_faulthandler(path: str, lines: List[str]) -> List[Look]:
     """A thread that stands again begins another dump."""
-    looks, row = [], None
+    looks: List[Look] = []
+    row: Optional[Row] = None
     for line in lines:
         line = line.rstrip("\r")
         head, step = FAULT_HEAD.search(line), FAULT_FRAME.search(line)
@@ -213,14 +257,14 @@ def looks_of_faulthandler(path, lines):
     return looks
 
 
-def fault_frame(file, line, function):
+def fault_frame(file: str, line: str, function: Optional[str]) -> Frame:
     found = STANDARD.search(file) or PACKAGE.search(file)
     inner = (found[1] or "") if found else os.path.basename(file)
     module = re.sub(r"\.py$|/__init__\.py$", "", inner).replace("/", ".")
     return Frame(f"{module}.{function or '?'}", file, int(line) if line.isdigit() else 0, {}, kind_of(file))
 
 
-def thread_name(row):
+def thread_name(row: Row) -> str:
     """faulthandler shows no names: the function that a thread began in, and its number."""
     inner = [frame for frame in row.frames if not re.match(r"threading\.(_bootstrap|_bootstrap_inner|run)$", frame.at)]
     last = inner[-1].at.split(".")[-1] if inner else "thread"

@@ -3,77 +3,109 @@ from __future__ import annotations
 
 import re
 from dataclasses import dataclass, field
-from typing import List
+from typing import Any, Dict, List, Optional
 
-from ..sketch import ALL, ANY, RUNS, UNKNOWN
+from ..sketch import ALL, ANY, LIMIT, RUNS, SYSTEM, UNKNOWN, premise
+from .python_names import Standing, pools_of
+from .python_text import Frame, is_number, last_word
 
 BUSY = 0.2  # the part of the time between two looks that one who computes has used at least
-PLAIN = re.compile(r"(JUMP|POP_JUMP|RESUME|LOAD_FAST|LOAD_CONST|STORE_FAST|NOP)")
-NEED_ALL = ("Barrier.wait", "Queue.join", "JoinableQueue.join")  # operations that need all of several
 FINISHED = ("FINISHED", "CANCELLED", "CANCELLED_AND_NOTIFIED")
+CHILD, FUTURE, BLOCK = "child", "future", "block"  # premises, beside LIMIT
 
 
 @dataclass
 class Wait:
-    """How one waits, as a process of a sketch has it."""
+    """How one waits, as a process of a sketch has it. `is_open` says that its list was found by a search, `count` is
+    its own, where what it waits for comes once and for all, and `besides` has those that may end its wait in another
+    way."""
 
     kind: str
     whom: List[str] = field(default_factory=list)
     reason: str = ""
+    because: List[str] = field(default_factory=lambda: [SYSTEM])
+    is_open: bool = False
+    is_idle: bool = False
+    count: Optional[str] = None
+    besides: List[str] = field(default_factory=list)
+
+    def has_limit(self) -> bool:
+        return self.kind == RUNS and premise(LIMIT) in self.because
 
 
-LIMIT = "it waits with a limit"
+def limited(reason: str) -> Wait:
+    return Wait(RUNS, reason=reason, because=[premise(LIMIT)])
 
 
-def thread_wait(standing):
+def unsure(reason: str, *because: str) -> Wait:
+    return Wait(UNKNOWN, reason=reason, because=list(because))
+
+
+def besides_of(wait: Wait, others: Optional[List[str]]) -> Wait:
+    """Returns a wait that these may end too. None stands for more than can be named."""
+    if others is None:
+        return unsure("more may end its wait, since they have it in a variable, than can be named")
+    wait.besides = [*wait.besides, *others]
+    return wait
+
+
+def thread_wait(standing: Standing) -> Wait:
     """Returns the wait of a thread, or of the task that has it: by the first rule that applies."""
-    if standing.row.more.get("moved") is True:
-        return Wait(RUNS, reason="it moved between two looks")
-    for rule in (by_sleep, by_limit, by_lock, by_join, by_end, by_child, by_future, by_futures, by_work):
+    for rule in (by_work, by_sleep, by_limit, by_step, by_lock, by_join, by_end, by_child, by_future, by_futures):
         found = rule(standing)
         if found is not None:
             return found
-    operation = operation_of(standing)[0]
-    return Wait(UNKNOWN, reason=f"no state shows what ends its {operation}" if operation else
-                "its call isn't known: it may wait or compute")
+    operation = standing.operation[0]
+    return unsure(f"no state shows what ends its {operation}" if operation else
+                  "its call isn't known: it may wait or compute")
 
 
-def is_number(value):
-    return isinstance(value, (int, float)) and not isinstance(value, bool)
-
-
-def last_word(call):
-    return (call.get("words") or "").split(".")[-1]
-
-
-def by_sleep(standing):
+def by_sleep(standing: Standing) -> Optional[Wait]:
     if standing.call.get("module") == "time" and standing.call.get("function") == "sleep":
-        return Wait(RUNS, reason="it sleeps")
+        return limited("it sleeps")
     return None
 
 
-def by_limit(standing):
+def by_step(standing: Standing) -> Optional[Wait]:
+    return Wait(RUNS, reason="it moved between two looks") if standing.row.more.get("moved") is True else None
+
+
+def limit_of(call: Dict[str, Any]) -> Any:
+    """The limit that a call of `acquire` is given, by its name or as the second argument, or None."""
+    arguments, named = call.get("arguments"), call.get("named") or []
+    if not isinstance(arguments, list):
+        return None
+    if "timeout" in named:
+        return arguments[len(arguments) - len(named) + named.index("timeout")]
+    return arguments[1] if len(arguments) == 2 and arguments[0] is True else None
+
+
+def by_limit(standing: Standing) -> Optional[Wait]:
     """A limit of the innermost wait. That of an outer call doesn't count: it may be over, or not begun."""
     top = standing.frames[0] if standing.frames else None
     if top is None:
         return None
-    timeout, own = top.has.get("timeout"), top.has.get("self")
+    limit = limit_of(standing.call) if last_word(standing.call) == "acquire" else None
+    if is_number(limit) and limit >= 0:
+        return limited("it waits with a limit")
+    timeout: Any = top.has.get("timeout")
+    own = top.has.get("self")
     if top.at == "threading.Condition.wait" and last_word(standing.call) not in ("acquire", ""):
         return None
     is_wait = top.at in ("threading.Condition.wait", "threading.Thread.join") or top.at.startswith("selectors.")
     if top.at == "threading.Thread._wait_for_tstate_lock":
         is_wait, timeout = True, timeout if is_number(timeout) and timeout >= 0 else None
     if is_wait and is_number(timeout) and timeout >= 0:
-        return Wait(RUNS, reason=LIMIT)
+        return limited("it waits with a limit")
     on = standing.call.get("on")
     limits = [each.get("limit") for each in (on, own) if isinstance(each, dict)]
-    return Wait(RUNS, reason=LIMIT) if any(map(is_number, limits)) else None
+    return limited("it waits with a limit") if any(map(is_number, limits)) else None
 
 
 # Locks that show their owner
 
 
-def lock_of(standing):
+def lock_of(standing: Standing) -> Any:
     """The lock that the innermost frame waits for without a limit, or None."""
     call, top = standing.call, standing.frames[0]
     if top.at in ("importlib._bootstrap._ModuleLock.acquire", "threading._RLock.acquire"):
@@ -82,27 +114,44 @@ def lock_of(standing):
         return top.has["self"]["lock"]
     if call.get("how") == "with":
         return call.get("on")
-    is_acquire = last_word(call) in ("acquire", "__enter__") and call.get("arguments") in ([], [True])
+    is_acquire = last_word(call) in ("acquire", "__enter__") and call.get("arguments") in ([], [True]) \
+        and not call.get("named")
     return call.get("on") if is_acquire else None
 
 
-def by_lock(standing):
+def by_lock(standing: Standing) -> Optional[Wait]:
     if not standing.frames:
         return None
-    call = standing.call
-    arguments = call.get("arguments")
-    if last_word(call) == "acquire" and isinstance(arguments, list) and len(arguments) == 2 and arguments[0] is True:
-        return Wait(RUNS, reason=LIMIT) if is_number(arguments[1]) and arguments[1] >= 0 else None
     lock = lock_of(standing)
+    if isinstance(lock, dict) and "locked" in lock:
+        return by_block(standing, lock)
     if not isinstance(lock, dict) or "owner" not in lock:
         return None
     owner = lock["owner"]
     if owner == standing.row.key or owner not in standing.look.threads:
-        return Wait(UNKNOWN, reason="its lock had no owner that is in the state")
-    return Wait(ANY, holders(standing, owner))
+        return unsure("its lock had no owner that is in the state")
+    whom = holders(standing, owner)
+    return Wait(ANY, whom, is_open=len(whom) > 1)
 
 
-def holders(standing, owner):
+def by_block(standing: Standing, lock: Dict[str, Any], most: int = 1) -> Optional[Wait]:
+    """The wait for a lock that doesn't show its owner: for the one whose code has taken it for a block, or for the most
+    that may have it so. None if they are fewer."""
+    look = standing.look
+    keys = [row.key for row in (*look.threads.values(), *look.tasks.values())
+            if isinstance(row.more.get("taken"), list) and lock.get("id") in row.more["taken"]]
+    if lock.get("locked") is False:
+        return unsure("its lock is free, so it is about to go on")
+    if len(keys) > most:
+        return unsure("more have taken it than may have it, by their code")
+    if len(keys) < most:
+        return None
+    some = [holders(standing, key) if key in look.threads else [standing.name_of(key)] for key in keys]
+    names = [name for each in some for name in each]
+    return Wait(ANY, list(dict.fromkeys(names)), because=[premise(BLOCK)], is_open=len(names) > most)
+
+
+def holders(standing: Standing, owner: Any) -> List[str]:
     """Who may give back what a thread has: if it runs an event loop, the task that has it, or else any of its tasks."""
     tasks, current = standing.tasks_on.get(owner, ([], None))
     if not tasks:
@@ -115,47 +164,49 @@ def holders(standing, owner):
 # Joins
 
 
-def by_join(standing):
+def by_join(standing: Standing) -> Optional[Wait]:
     for each in standing.standard:
         if each.at == "threading.Thread.join" and isinstance(each.has.get("self"), dict):
             if each is not standing.frames[0] and standing.frames[0].at != "threading.Thread._wait_for_tstate_lock":
                 return None
             name = standing.name_of(each.has["self"].get("ident"))
-            return Wait(ANY, [name]) if name else Wait(UNKNOWN, reason="the thread that it joins isn't in the state")
+            return Wait(ANY, [name]) if name else unsure("the thread that it joins isn't in the state")
     return None
 
 
-def by_end(standing):
+def by_end(standing: Standing) -> Optional[Wait]:
     """The main thread ends when all others have that aren't daemons."""
     if not standing.frames or standing.frames[0].at != "threading._shutdown":
         return None
     rows = standing.look.threads.values()
     left = [row.key for row in rows if row is not standing.row and row.more.get("daemon") is False]
-    return Wait(ALL, [standing.name_of(key) for key in left]) if left else None
+    return Wait(ALL, [standing.name_of(key) for key in left], is_open=True) if left else None
 
 
-def by_child(standing):
+def by_child(standing: Standing) -> Optional[Wait]:
     """A child that is in the state ends with its main thread."""
     for each in standing.standard:
         if each.at in ("multiprocessing.process.BaseProcess.join", "subprocess.Popen.wait"):
-            child = each.has.get("self")
-            name = standing.mains.get(child.get("pid")) if isinstance(child, dict) else None
+            child: Any = each.has.get("self")
+            pid = child.get("pid") if isinstance(child, dict) else None
+            name = standing.mains.get(standing.look.place(pid)) if pid is not None else None
             if name and each.has.get("timeout") is None:
-                return Wait(ANY, [name])
+                made = Wait(ANY, [name], because=[premise(CHILD)], is_open=True)
+                return besides_of(made, standing.others_with(child.get("id"), False))
     return None
 
 
 # Futures
 
 
-def by_future(standing):
+def by_future(standing: Standing) -> Optional[Wait]:
     for each in standing.standard:
         if re.match(r"concurrent\.futures\._base\.Future\.(result|exception)$", each.at):
             return resolve_all(standing, [each.has.get("self")])
     return None
 
 
-def by_futures(standing):
+def by_futures(standing: Standing) -> Optional[Wait]:
     for each in standing.standard:
         if each.at == "concurrent.futures._base.wait":
             return resolve_wait(standing, each)
@@ -164,7 +215,7 @@ def by_futures(standing):
     return None
 
 
-def resolve_wait(standing, each):
+def resolve_wait(standing: Standing, each: Frame) -> Optional[Wait]:
     """The wait of a frame of `wait`: for all, for any, or for all unless one fails, which any may do."""
     values, when = each.has["fs"], each.has["return_when"]
     if when == "FIRST_EXCEPTION":
@@ -173,26 +224,34 @@ def resolve_wait(standing, each):
     return resolve_all(standing, values, when != "ALL_COMPLETED")
 
 
-def resolve_all(standing, values, is_any=False):
+def resolve_all(standing: Standing, values: List[Any], is_any: bool = False) -> Optional[Wait]:
     """The wait for all of these, or for any: None if one of them isn't known. Those that are done don't count."""
-    waits = [resolve(standing, value) for value in values]
-    if None in waits:
+    found = [resolve(standing, value) for value in values]
+    waits = [wait for wait in found if wait is not None]
+    if len(waits) < len(found):
         return None
     left = [wait for wait in waits if wait.kind != RUNS]
     if not left or is_any and len(left) < len(waits):
         return Wait(RUNS, reason="what it waited for is done")
+    odd = next((wait for wait in left if wait.kind == UNKNOWN), None)
+    if odd is not None:
+        return odd
     whom = list(dict.fromkeys(name for wait in left for name in wait.whom))
+    more: Dict[str, Any] = {
+        "because": list(dict.fromkeys(reason for wait in left for reason in wait.because)),
+        "is_open": any(wait.is_open for wait in left), "besides": [name for wait in left for name in wait.besides]}
     if is_any or len(left) == 1:
-        return Wait(ANY if is_any else left[0].kind, whom) if is_any_safe(left, is_any) else None
-    return Wait(ALL, whom) if all(wait.kind == ALL or len(wait.whom) == 1 for wait in left) else None
+        made = Wait(ANY if is_any else left[0].kind, whom, **more)
+        return made if is_any_safe(left, is_any) else None
+    return Wait(ALL, whom, **more) if all(wait.kind == ALL or len(wait.whom) == 1 for wait in left) else None
 
 
-def is_any_safe(waits, is_any):
+def is_any_safe(waits: List[Wait], is_any: bool) -> bool:
     """Whether a wait for any of these can be written as one list."""
     return not is_any or all(wait.kind == ANY or len(wait.whom) == 1 for wait in waits)
 
 
-def resolve(standing, value):
+def resolve(standing: Standing, value: Any) -> Optional[Wait]:
     """The wait for a future, a task or the like that a state describes; RUNS if it is done, None if not known."""
     if not isinstance(value, dict):
         return None
@@ -201,107 +260,41 @@ def resolve(standing, value):
     if value.get("type") == "Task":
         name = standing.name_of(value.get("id"))
         return Wait(ANY, [name]) if name else None
-    if value.get("type") == "gather":
-        return resolve_all(standing, value["all"])
+    if value.get("type") == "gather":  # (the first that fails ends it, unless it gathers errors too)
+        return with_holders(standing, value, resolve_all(standing, value["all"], value.get("raises") is not False))
     if value.get("type") == "Future":
-        whom = workers_of(standing, value)
-        return Wait(ANY, whom) if whom else None
+        return wait_for_work(standing, value.get("id"))
     inner = value.get("inner") or value.get("source")
-    return resolve(standing, inner) if inner else None
+    return with_holders(standing, value, resolve(standing, inner)) if inner else None
 
 
-def workers_of(standing, value):
-    """Who sets a future: the task or coroutine behind it, the thread that has begun its work, or any of its pool."""
-    key, look = value.get("id"), standing.look
-    if key in look.asked:
-        return [standing.name_of(key)]
-    begun, kept = pools_of(look)
-    pool = [begun[key]] if key in begun else kept.get(key, [])
-    return [standing.name_of(each) for each in pool]
+def with_holders(standing: Standing, value: Dict[str, Any], wait: Optional[Wait]) -> Optional[Wait]:
+    """The wait for a future of asyncio, which whoever has it may cancel."""
+    return wait if wait is None or wait.kind == RUNS else besides_of(wait, standing.others_with(value.get("id")))
 
 
-def pools_of(look):
-    """The task that sets each future, or the thread that has begun its work, and the threads of the pool that keeps
-    it."""
-    if not hasattr(look, "pools"):
-        begun = {future: row.key for row in look.tasks.values() for future in row.more.get("sets") or ()}
-        kept, pools = {}, {}
-        for row in look.threads.values():
-            for each in row.frames:
-                if each.at == "concurrent.futures.thread._WorkItem.run" and isinstance(each.has.get("self"), dict):
-                    begun.setdefault(each.has["self"].get("future"), row.key)
-                if each.at == "concurrent.futures.thread._worker" and isinstance(each.has.get("work_queue"), dict):
-                    pools.setdefault(each.has["work_queue"].get("id"), []).append((row.key, each.has))
-        for rows in pools.values():
-            add_kept(kept, rows)
-        look.pools = begun, kept
-    return look.pools
-
-
-def add_kept(kept, rows):
-    """The work that lies in a pool's queue, for any of its threads, if the pool has as many as it may have."""
-    there, most = (rows[0][1].get("executor_reference") or [0, None])[:2]
-    if is_number(most) and there >= most and len(rows) == there:
-        for future in rows[0][1]["work_queue"].get("futures") or ():
-            kept[future] = [key for key, _ in rows]
+def wait_for_work(standing: Standing, key: Any) -> Optional[Wait]:
+    """The wait for who sets a future: the task or coroutine behind it, the thread that has begun its work, or any of
+    the pool that keeps it. Whoever has its future may cancel work, but for that which a thread has begun."""
+    begun, kept = pools_of(standing.look)
+    if begun.get(key) in standing.look.threads:
+        return Wait(ANY, [standing.name_of(begun[key])], because=[premise(FUTURE)])
+    if key in standing.look.asked or key in begun:
+        made = Wait(ANY, [standing.name_of(begun.get(key, key))], because=[premise(FUTURE)])
+        return besides_of(made, standing.others_with(key))
+    whom = [standing.name_of(each) for each in kept.get(key, [])]
+    made = Wait(ANY, whom, because=[premise(FUTURE)], is_open=True)
+    return besides_of(made, standing.others_with(key)) if whom else None
 
 
 # Work
 
 
-def by_work(standing):
-    """It computes if it has used the processor, or stands at a step that waits for nothing."""
-    spent, seconds = standing.row.more.get("spent"), standing.look.seconds
+def by_work(standing: Standing) -> Optional[Wait]:
+    """It computes if it has used the processor. One that hasn't may stand anywhere in a call of the interpreter's own,
+    as where the last name of a file goes and its end is written into a full pipe."""
+    spent: Any = standing.row.more.get("spent")
+    seconds = standing.look.seconds
     if is_number(spent) and seconds > 0 and spent >= BUSY * seconds * 1e9:
         return Wait(RUNS, reason="it computes")
-    if PLAIN.match(standing.call.get("step") or ""):
-        return Wait(RUNS, reason="it computes")
     return None
-
-
-# Names of waits
-
-
-def operation_of(standing):
-    """The name of the call of the library that one waits in, such as Queue.get, and what it waits at."""
-    call, run = standing.call, standing.standard
-    run = [] if run and re.search(r"\.(Thread|_WorkItem)\.run$", run[0].at) else run
-    on = call.get("on") if isinstance(call.get("on"), dict) else {}
-    objects = [on["id"]] if on.get("type") not in (None, "module") and on.get("id") else []
-    objects += [words_of(standing, call)] if objects and not run else []
-    awaited = standing.row.more.get("waits")
-    if isinstance(awaited, dict) and awaited.get("id"):
-        objects.append(awaited["id"])
-    if run:
-        own = run[-1].has.get("self")
-        objects = [str(own[key]) for key in ("id", "pid") if isinstance(own, dict) and own.get(key)] + objects
-        return public_name(run[-1]), [each for each in dict.fromkeys(objects) if each]
-    if not call.get("words"):
-        return "await" if awaited else "", objects
-    if not on or on.get("type") == "module":
-        return call["words"].replace("?.", ""), objects
-    kind = {"lock": "Lock"}.get(on["type"], on["type"])
-    return f"{kind}.{'acquire' if call.get('how') == 'with' else last_word(call)}", [each for each in objects if each]
-
-
-def words_of(standing, call):
-    """The words that stand for a lock or the like in the source, with the class for self: Store.lock."""
-    words = (call.get("words") or "").split(".")
-    words = words if call.get("how") == "with" else words[:-1]
-    if words[:1] == ["self"] and standing.frames:
-        parts = standing.frames[0].at.split(".")
-        words = [parts[-2] if len(parts) > 1 else "self", *words[1:]]
-    return ".".join(words)
-
-
-def public_name(each):
-    """CLASS.METHOD of a frame of the library, or MODULE.FUNCTION."""
-    parts = each.at.split(".")
-    own = each.has.get("self")
-    name = {"__enter__": "acquire", "__aenter__": "acquire"}.get(parts[-1], parts[-1])
-    if len(parts) > 1 and re.match(r"_?[A-Z]", parts[-2]):
-        is_general = parts[-2].startswith("_") or parts[-2] == "BaseProcess"
-        kind = own["type"] if is_general and isinstance(own, dict) else parts[-2]
-        return f"{kind}.{name}"
-    modules = [part for part in parts[:-1] if not part.startswith("_")]
-    return f"{'asyncio' if modules[:1] == ['asyncio'] else (modules or ['?'])[-1]}.{name.lstrip('_')}"

@@ -1,113 +1,366 @@
-"""What rabbitmqctl prints of a broker: connections, channels, consumers, queues and bindings.
+"""What rabbitmqctl prints of a broker: connections, channels, consumers, queues, exchanges, policies and bindings.
 
 A process is a service, known by the name that it gave its connection, as SERVICE@SITE. A queue is none. Facts say who
-publishes: FRAME is SERVICE, and `SERVICE holds KEY` says that it publishes with that routing key, on a message that it
-has consumed. Who acts on its own account, `runs`.
+publishes: FRAME is SERVICE, and `SERVICE holds KEY` says that it publishes with that routing key. Who acts on its own
+account, `runs`.
+
+The lists are printed one after the other, while the services go on. What counts the waits of a service is what its
+connection has carried, without heartbeats: each of these is a packet of eight bytes, and nothing else is so short.
 """
 from __future__ import annotations
 
 import functools
 import re
+from typing import Any, Dict, List, Optional, Set, Tuple
 
-from ..both import both
 from ..files import Refusal, shown
-from ..sketch import Sketch, read_json, runs, unknown, waits_for_any
+from ..moments import APART, Reading
+from ..sketch import Process, Sketch, premise, quote, read_json, runs, spoilt, unknown, waits_for_any
+from . import State
+from .base import Moment, Premise, Recorder, fits, misfits
+from .rabbitmq_routes import Routes
 
-NAME = "rabbitmq"
-SUMMARY = "what rabbitmqctl prints, as examples/rabbitmq/record does"
-
-PARTS = ("list_connections", "list_channels", "list_consumers", "list_queues", "list_bindings")
-
-
-def record(states, facts):
-    """Returns the sketch of one state, or of several taken one after the other."""
-    return functools.reduce(both, [Broker(state).sketch(facts) for state in states])
+NEEDED = ("list_connections", "list_channels", "list_consumers", "list_queues", "list_bindings")
+HEADING = re.compile(r"^# rabbitmqctl (\w+).*\n", re.M)
+TABLE = [[str, object, object]]  # rows of a name, a type and a value
+ARGUMENTS = (TABLE, re.compile(""))
+CONNECTION = {"pid": str, "client_properties": TABLE}  # one that isn't so has no name
+SHAPES = {
+    "list_connections": [object],
+    "list_channels": [{"pid": str, "connection": str, "messages_unacknowledged": int}],
+    "list_consumers": [{"queue_name": str, "channel_pid": str, "ack_required": bool, "active?": bool}],
+    "list_queues": [{"name": str, "messages_ready": object, "arguments": ARGUMENTS}],
+    "list_bindings": [{"source_name": str, "routing_key": str, "destination_name": str}],
+    "list_exchanges": [{"name": str, "type": str, "arguments?": ARGUMENTS}],
+    "list_policies": [{"name": str, "definition?": (str, {str: object})}],
+    "eval": ([], {"value": {"statistics": str, "published": [{"channel": str, "queue": str, "number": int}],
+                            "taken?": [{"channel": str, "number": int}]}}),
+}
+HEARTBEAT = 8  # bytes of the frame, a packet of its own
+READY, MOVES, ROUTED, ACTS, KEEPS, EXPIRES = "ready", "moves", "routed", "acts", "keeps", "expires"
+FINE = "fine"  # the statistics that count who publishes to which queue
+TO_COME, UNSEEN, TIMEOUT = "other-publishers", "unseen-work", "consumer-timeout"
+STAND_INS = {  # who stands for what no state shows, and for what
+    TO_COME: "stands for whoever will publish to a queue to which it hasn't published since it connected, as a mailer "
+             "that hasn't published to 'receipts' yet",
+    UNSEEN: "stands for what a service that waits at its queues does besides: by a timer, at a request from outside, "
+            "or on a message that it has acknowledged already",
+    TIMEOUT: "stands for the broker's limit, 30 minutes if nobody has set another one, after which a message that "
+             "isn't acknowledged goes to another consumer of its queue",
+}
 
 
 class Broker:
-    """A state of the broker. `clients` are the names of the services by connection."""
+    """A state of the broker. `services` are its rows by the name of the process."""
 
-    def __init__(self, state):
-        parts = re.split(r"^# rabbitmqctl (\w+).*\n", state.text, flags=re.M)[1:]
-        where = shown(state.path)
-        raw = {part: read_json(text, f"{where}, {part}") for part, text in zip(parts[::2], parts[1::2])}
-        for part in PARTS:
-            if part not in raw:
-                raise Refusal(f"{where}: no line begins with '# rabbitmqctl {part}'")
-        try:
-            self.read(raw)
-        except (LookupError, TypeError, ValueError, AttributeError) as error:
-            raise Refusal(f"{where}: a row isn't as rabbitmqctl prints it ({type(error).__name__}: {error})") from error
+    def __init__(self, raw: Dict[str, Any]) -> None:
+        self.routes = Routes(raw)
+        self.warnings: List[str] = []
+        self.missing = ""
+        self.services: Dict[str, Service] = {}
+        self.by_pid: Dict[str, Service] = {}
+        for row in raw["list_connections"]:
+            self.add_connection(row)
+        self.add_channels(raw["list_channels"])
+        owners = {row["pid"]: self.by_pid.get(row["connection"]) for row in raw["list_channels"]}
+        for row in raw["list_consumers"]:
+            self.add_consumer(row, owners.get(row["channel_pid"]))
+        counts = raw["eval"]["value"] if raw["eval"] else {}
+        published = counts.get("published", [])
+        self.counts = (counts.get("statistics") == FINE and "taken" in counts
+                       and any(row["channel"] in owners for row in published))
+        self.senders: Dict[str, Dict[str, bool]] = {}  # who has published to a queue, by name
+        for row in published:
+            service = owners.get(row["channel"])
+            if service is not None and row["number"]:
+                self.senders.setdefault(row["queue"], {})[process_name(service.name)] = True
+                service.sent.append(row["queue"])
+        for row in counts.get("taken", []):
+            service = owners.get(row["channel"])
+            if service is not None:
+                service.taken += row["number"]
 
-    def read(self, raw):
-        self.clients = {}
-        for connection in raw["list_connections"]:
-            properties = {key: value for key, _, value in connection["client_properties"]}
-            self.clients[connection["pid"]] = str(properties["connection_name"])
-        owners = {channel["pid"]: channel["connection"] for channel in raw["list_channels"]}
-        channels = raw["list_channels"]
-        self.at_work = {channel["connection"] for channel in channels if channel["messages_unacknowledged"]}
-        self.ready = {queue["name"]: queue["messages_ready"] for queue in raw["list_queues"]}
-        self.consumers = {pid: [] for pid in self.clients}
-        for consumer in raw["list_consumers"]:
-            queue, acknowledges = str(consumer["queue_name"]), consumer["ack_required"]
-            of_service = self.consumers.get(owners[consumer["channel_pid"]], [])  # (one that has ended has no row)
-            of_service.append((queue, acknowledges, self.ready[queue]))
-        self.bound = {queue: [] for queue in self.ready}
-        for binding in raw["list_bindings"]:
-            self.bound.setdefault(str(binding["destination_name"]), []).append(str(binding["routing_key"]))
+    def add_connection(self, row: Dict[str, Any]) -> None:
+        """Adds a connection to the services. Two of one name are one service, of which little is known."""
+        properties = row["client_properties"] if fits(row, CONNECTION) else []
+        name = {key: value for key, _, value in properties}.get("connection_name")
+        if not isinstance(name, str) or not name:
+            which = shown(str(row.get("pid") if isinstance(row, dict) else row)[:100])
+            self.miss(f"connection {which} has no name, so facts can't tell which service it is")
+            return
+        key = process_name(name)
+        here = self.services.get(key)
+        if here is not None:
+            self.warnings.append(f"two connections are called {shown(name)}: what they wait for isn't told apart")
+            here.is_double = True
+        self.services[key] = self.by_pid[row["pid"]] = here = here or Service(name, self)
+        here.count, here.state = count_of(row), str(row.get("state", ""))
 
-    def sketch(self, facts):
-        rows = sorted(self.clients.items(), key=lambda client: client[1])
-        processes = {pid: self.process(pid, name) for pid, name in rows}
-        holders = {}
-        for process in processes.values():
-            for key in facts.holdings(process):
-                holders.setdefault(key, set()).add(process.name)
-        for process in processes.values():
-            if process.kind == "unknown" and process.operation == "consume" and facts.wait(process) is None:
-                self.wait(process, holders)
-        return Sketch(list(processes.values()))
+    def add_channels(self, rows: List[Dict[str, Any]]) -> None:
+        for row in rows:
+            service = self.by_pid.get(row["connection"])
+            if service is not None:
+                service.unacknowledged += row["messages_unacknowledged"]
 
-    def process(self, pid, name):
-        """Returns a service as the broker alone shows it. Who consumes is unknown so far."""
-        service, _, site = name.partition("@")
-        queues = [queue for queue, _, _ in self.consumers[pid]]
-        more = {"site": site or None, "frames": [service], "operation": "consume", "objects": queues}
-        more["note"] = f"consumes {', '.join(queues)}" if queues else "consumes nothing"
-        name = name.replace("@", "/")
-        if not queues:
-            more["operation"] = ""
-            return unknown(name, "it consumes nothing, so the broker can't tell what it waits for", **more)
-        if pid in self.at_work:
-            more["operation"] = "handle"
-            reason = "it has a message that isn't acknowledged, and the broker can't tell what it does"
-            return unknown(name, reason, **more)
-        if not all(acknowledges for _, acknowledges, _ in self.consumers[pid]):
-            more["operation"] = "handle"
-            return unknown(name, "it needn't acknowledge, so the broker can't tell whether it is at work", **more)
-        if any(ready for _, _, ready in self.consumers[pid]):
-            return runs(name, "a message is ready for it", **more)
-        return unknown(name, "no service is known to publish to a queue that it consumes", **more)
+    def add_consumer(self, row: Dict[str, Any], service: Optional[Service]) -> None:
+        """Adds a consumer to its service. That of a connection that isn't listed has ended, or came meanwhile."""
+        queue = str(row["queue_name"])
+        if service is None:
+            self.miss(f"a consumer of {shown(queue)} is of no service that is listed")
+            return
+        service.queues.append(queue)
+        service.acknowledges = service.acknowledges and bool(row["ack_required"])
+        if row.get("active", True) is False:
+            service.standby.append(queue)
+        else:
+            self.routes.active.setdefault(queue, []).append(process_name(service.name))
 
-    def wait(self, process, holders):
-        """Decides a consumer where facts say of each of its queues who publishes to it."""
-        lists = [self.publishers(queue, holders) for queue in process.objects]
-        if all(lists):
-            process.kind, process.reason = "waits_for_any", ""
-            process.whom = sorted(set().union(*lists))
+    def miss(self, why: str) -> None:
+        self.warnings.append(why)
+        self.missing = self.missing or why
 
-    def publishers(self, queue, holders):
-        """Returns the services with a routing key that is bound to the queue."""
-        found = set()
-        for bound in self.bound[queue]:
-            keys = [bound] if not {*bound} & {*"*#"} else filter(pattern(bound).fullmatch, holders)
-            found.update(*(holders.get(key, ()) for key in keys))
+    @functools.cached_property
+    def asked(self) -> Dict[str, Set[str]]:
+        """By the name of each that has a message at work, or may have one, from whom that may have come."""
+        return {name: self.askers(it) for name, it in self.services.items() if it.is_at_work or not it.acknowledges}
+
+    def askers(self, service: Service) -> Set[str]:
+        """Returns the names of those from whom a message may have come to a service, also through others."""
+        found: Set[str] = set()
+        new = set(service.senders)
+        while new:
+            found |= new
+            new = {name for it in new for name in self.services[it].senders} - found
+        return found
+
+    @functools.cached_property
+    def behind_work(self) -> Set[str]:
+        """The names of those that have a message at work, and of those that wait for one of them, also by others, as
+        far as the broker has counted who publishes."""
+        found: Set[str] = set()
+        new = {name for name, it in self.services.items() if it.is_at_work}
+        whom = {name: {*it.senders, *it.may_reply()} for name, it in self.services.items()}
+        while new:
+            found |= new
+            new = {name for name in whom.keys() - found if not found.isdisjoint(whom[name])}
         return found
 
 
-@functools.lru_cache(maxsize=None)
-def pattern(routing_key):
-    """Returns the pattern of a binding; `*` stands for a word, `#` for any words."""
-    text = re.escape(routing_key).replace(r"\.\#", r"(\..*)?").replace(r"\#", ".*").replace(r"\*", r"[^.]+")
-    return re.compile(text)
+class Service:
+    """A service, as one state shows it."""
+
+    def __init__(self, name: str, broker: Broker) -> None:
+        self.name, self.broker = name, broker
+        self.queues: List[str] = []
+        self.sent: List[str] = []  # those to which it has published, as far as the broker counts that
+        self.standby: List[str] = []  # those of which another consumer is the active one
+        self.is_double, self.acknowledges = False, True
+        self.unacknowledged, self.taken = 0, 0  # messages that it has, and those that it got since it connected
+        self.count: Optional[str] = None
+        self.state = ""
+
+    def more(self) -> Dict[str, Any]:
+        """What tells its wait from the next, and the note."""
+        service, _, site = self.name.partition("@")
+        note = f"consumes {', '.join(self.queues)}" if self.queues else "consumes nothing"
+        return {"site": site or None, "frames": [service], "operation": "consume" if self.queues else "publish",
+                "objects": self.queues, "note": note, "count": None if self.is_double else self.count}
+
+    def places(self) -> List[str]:
+        """Returns what tells its place from others where it may be at work: whoever publishes to a queue doesn't end
+        that, so these aren't what facts say to be held."""
+        return [f"queue={queue}" for queue in self.queues]
+
+    @property
+    def is_at_work(self) -> bool:
+        return self.unacknowledged > 0
+
+    @functools.cached_property
+    def may_begin(self) -> bool:
+        """Whether the state shows that it may publish to a queue for the first time: it has done nothing so far, it has
+        its first message at work, or it gets dead messages, with which it may do what it has done with none before."""
+        routes, has_finished = self.broker.routes, self.taken > self.unacknowledged
+        return not has_finished and (self.is_at_work or not self.sent) \
+            or any(routes.comes(queue) or routes.mover(queue) for queue in self.queues)
+
+    @functools.cached_property
+    def sources(self) -> List[str]:
+        """The queues that it reads, and those that may hand on messages to them."""
+        feeders = self.broker.routes.feeders
+        return list(dict.fromkeys(it for queue in self.queues for it in (queue, *feeders(queue))))
+
+    @functools.cached_property
+    def senders(self) -> List[str]:
+        """The names of those that have published to a queue of which it gets messages."""
+        return list(dict.fromkeys(it for queue in self.sources for it in self.broker.senders.get(queue, {})))
+
+    def may_reply(self) -> List[str]:
+        """Returns the names of those that may have a message at work that has come of one of its own: one may reply,
+        also directly, at a consumer that the broker doesn't list."""
+        return [name for name, askers in self.broker.asked.items() if process_name(self.name) in askers]
+
+    def by_limit(self) -> List[str]:
+        """Returns who stands for the limit of the broker, if that may give it a message. It has none itself."""
+        return [TIMEOUT] if any(map(self.broker.routes.taken.get, self.sources)) else []
+
+
+def process_name(name: str) -> str:
+    return name.replace("@", "/")
+
+
+def movers_of(service: Service, moment: Moment) -> str:
+    """Returns what shows that a message may come to a queue of a service by itself, or nothing."""
+    return next(filter(None, map(service.broker.routes.mover, service.queues)), "")
+
+
+class RabbitmqRecorder(Recorder):
+    """One list is printed after the other."""
+
+    NAME, IDLE, MOMENT = "rabbitmq", "services", APART
+    PREMISES = {
+        READY: Premise("the broker delivers a message that is ready to a consumer that has none"),
+        EXPIRES: Premise("a message whose time in its queue is over is handed on to the next one"),
+        MOVES: Premise("no message moves by itself: no queue expires, drops or hands on messages to one that is read",
+                       movers_of, True),
+        ROUTED: Premise("nobody publishes to a queue but by the keys that facts name, or as the broker has counted, "
+                        "nor by its name"),
+        ACTS: Premise("a service acknowledges a message only once it is done with it, does nothing by itself, as by a "
+                      "timer, and waits for no direct reply but of one to which its messages may have come"),
+        KEEPS: Premise("a consumer that stands by gets no message while the channel of the active one is there"),
+    }
+
+    def read(self, state: State) -> List[Reading]:
+        heads = list(HEADING.finditer(state.text))
+        ends = [head.start() for head in heads[1:]] + [len(state.text)]
+        lists = [(head[1], "\n" * state.text.count("\n", 0, head.end()) + state.text[head.end():end])
+                 for head, end in zip(heads, ends)]  # (each in its own lines of the text)
+        starts = [at for at, (name, _) in enumerate(lists) if name == NEEDED[0]]
+        if not starts:
+            raise Refusal(f"{shown(state.path)}: no line begins with '# rabbitmqctl {NEEDED[0]}'")
+        ends = [*starts[1:], len(lists)]
+        return [reading_of(state.path, lists[start:end]) for start, end in zip(starts, ends)]
+
+    def wait_of(self, subject: Service, moment: Moment) -> Process:
+        service, name, more = subject, process_name(subject.name), subject.more()
+        if service.is_double:
+            return unknown(name, "two connections have this name, so it isn't known which does what", **more)
+        if service.state in ("blocked", "blocking"):
+            return unknown(name, "the broker blocks it, since its memory or its disk is full", **more)
+        if not service.queues:
+            return unknown(name, "it consumes nothing, so the broker can't tell what it waits for", **more)
+        if service.is_at_work:
+            return at_work(service, name, more)
+        if not service.acknowledges:
+            more.update(operation="take", objects=service.places())
+            return unknown(name, "it needn't acknowledge, so the broker can't tell whether it is at work",
+                           besides=service.by_limit(), **more)
+        return wait_of_consumer(service, name, more)
+
+    def finish(self, sketch: Sketch, moments: List[Moment]) -> None:
+        """Says what wasn't understood, and takes back that one runs whose message was ready in all states."""
+        broker = moments[0].rows()[0].broker if moments[0].rows() else None
+        sketch.warnings += broker.warnings if broker else []
+        here = {process.name for process in sketch.processes}.difference(STAND_INS)
+        named = dict.fromkeys(name for it in sketch.processes for name in (*it.whom, *it.likely, *it.besides))
+        sketch.processes += [stand_in(name) for name in named if name not in here]
+        for process in sketch.processes:
+            if process.stays and premise(READY) in process.because:
+                process.stays = False
+                process.become_unknown("a message was ready for it in all states, and it took none")
+
+
+def stand_in(name: str) -> Process:
+    """Returns one whom others name, and who isn't in the first state: one who stands for what no state shows, or one
+    who has come since."""
+    if name in STAND_INS:
+        return unknown(name, STAND_INS[name], frames=[name], is_idle=True, proposal="ended")
+    return spoilt(name, "it came after the first state")
+
+
+def at_work(service: Service, name: str, more: Dict[str, Any]) -> Process:
+    """Returns one that has a message. If it also reads a queue that is bound by its name alone, it may wait for a reply
+    there: that is another place, for other facts."""
+    replies = [queue for queue in service.queues if service.broker.routes.is_by_name(queue)]
+    has_replies = 0 < len(replies) < len(service.queues)
+    more.update(operation="reply" if has_replies else "handle", objects=service.places())
+    does = f"may wait for a reply in {shown(replies[0])}" if has_replies else "the broker can't tell what it does"
+    return unknown(name, f"it has a message that isn't acknowledged, and {does}", **more)
+
+
+def wait_of_consumer(service: Service, name: str, more: Dict[str, Any]) -> Process:
+    """Returns one that is at no message: a message is ready for it, or others have to publish one."""
+    routes = service.broker.routes
+    lost = next((queue for queue in service.queues if queue not in routes.ready), None)
+    if lost is not None:
+        return unknown(name, f"the state doesn't say how many messages are in queue {shown(lost)}", **more)
+    if any(routes.ready[queue] for queue in service.queues if queue not in service.standby):
+        return runs(name, "a message is ready for it", [premise(READY)], **more)
+    active = [other for queue in service.standby for other in routes.active.get(queue, []) if other != name]
+    if service.standby and not active:
+        return unknown(name, f"the state doesn't show who is active for queue {shown(service.standby[0])}", **more)
+    if service.standby and len(service.standby) == len(service.queues):
+        more["note"] = f"stands by for {', '.join(service.queues)}"
+        whom = [*active, *service.by_limit()]
+        return waits_for_any(name, whom, [premise(KEEPS)], is_open=True, **more)
+    if service.standby:
+        return unknown(name, "it stands by for one queue, and reads another", **more)
+    if any(map(routes.comes, service.queues)):
+        return runs(name, "a dead message will come to it", [premise(EXPIRES)], **more)
+    return published(service, name, more)
+
+
+def published(service: Service, name: str, more: Dict[str, Any]) -> Process:
+    """Returns one that waits for whoever publishes to its queues, by facts."""
+    broker, routes = service.broker, service.broker.routes
+    found: Dict[str, str] = {}
+    for queue in service.sources:
+        ends, fault = routes.ends(queue)
+        if fault:
+            return unknown(name, fault, **more)
+        found.update(ends)
+    taken = next((queue for queue in service.sources if routes.taken[queue]), None)
+    others = [other for other, it in broker.services.items() if it.is_at_work]
+    if taken is not None and not others:
+        return unknown(name, f"a message of queue {shown(taken)} may come back, and the state doesn't show who has it",
+                       is_spoilt=True, **more)
+    besides = [*(others if taken is not None else []), *service.by_limit(), *service.may_reply()]
+    reason = "no service is known to publish to a queue that it consumes"
+    return unknown(name, reason, ends=found, because=[premise(MOVES), premise(ROUTED), premise(ACTS)],
+                   besides=besides, likely=likely_of(service, name) if broker.counts else {}, **more)
+
+
+def likely_of(service: Service, name: str) -> Dict[str, bool]:
+    """Returns those that may end the wait of a service by what the broker has counted. It may act by itself, unless
+    somebody is at work for whom it waits: without that it is like one that has nothing to do."""
+    broker = service.broker
+    likely = {other: False for other, it in broker.services.items() if it.may_begin and it is not service}
+    unseen = [] if name in broker.behind_work else [UNSEEN]
+    likely.update(dict.fromkeys([*service.senders, TO_COME, *unseen, *service.by_limit()], True))
+    return likely
+
+
+def reading_of(path: str, lists: List[Tuple[str, str]]) -> Reading:
+    """Returns the reading of the lists of one time."""
+    where = shown(path)
+    raw: Dict[str, Any] = {name: read_json(text, path) for name, text in lists}
+    for part in NEEDED:
+        if part not in raw:
+            raise Refusal(f"{where}: no line begins with '# rabbitmqctl {part}'")
+    for part, shape in SHAPES.items():
+        odd = next(misfits(raw.setdefault(part, []), shape), None)
+        if odd is not None:
+            raise Refusal(f"{where}, {part}: {quote(odd[1:] or 'the list')} isn't as rabbitmqctl prints it; rows count "
+                          "from 0. Take the state again, or leave that row out by hand")
+    broker = Broker(raw)
+    rows = sorted(broker.services.values(), key=lambda service: service.name)
+    return Reading(path, "broker", rows, broker.missing)
+
+
+def count_of(row: Dict[str, Any]) -> Optional[str]:
+    """What a connection has carried in both directions, without heartbeats, with what tells it from a later one. None
+    if the state doesn't print it."""
+    numbers: List[Any] = [row.get(key) for key in ("recv_oct", "recv_cnt", "send_oct", "send_cnt")]
+    if not all(isinstance(it, int) for it in numbers) or row.get("ssl"):
+        return None
+    carried = f"{numbers[0] - HEARTBEAT * numbers[1]} in, {numbers[2] - HEARTBEAT * numbers[3]} out"
+    return f"{carried} by {row['pid']}"

@@ -1,0 +1,804 @@
+#!/usr/bin/env python3
+"""Reads what the Linux kernel keeps of the waits of some processes, twice, and prints it as a state for cmh-dump.
+
+    cmh_linux.py --pid PID.. [--seconds 5] [--stacks] > STATE
+
+It reads each PID with all its children and theirs, and follows the other ends of what they wait at through all
+processes of the machine. It needs Python 3.8, and `ss` of iproute2 for Unix sockets. The processes have to be of the
+same user, or it has to have CAP_SYS_PTRACE, as root has: what it can't read is named.
+
+Nothing is stopped, no signal is sent, nothing is written, and nothing under /proc/PID/fd is ever opened: to open the
+end of a pipe may end the wait of another process. Only `--stacks` holds each process for a moment, after all is read.
+
+The state is a line of JSON for each process, with its threads, descriptors and command line. Look at it before you mail
+it: descriptors have names of files, and command lines may have passwords.
+"""
+from __future__ import annotations
+
+import argparse
+import contextlib
+import ctypes
+import functools
+import json
+import os
+import platform
+import queue
+import re
+import shutil
+import socket
+import stat
+import struct
+import subprocess
+import sys
+import threading
+import time
+from collections import Counter
+from typing import Any, Dict, Iterable, Iterator, List, Optional, Sequence, Set, Tuple
+
+Row = Dict[str, Any]
+
+PATIENCE = 2.0  # seconds for one process: then it counts as one that can't be read
+MOST = 65536  # bytes of memory, or descriptors of a set, that are read at most
+KERNEL_THREAD = 0x00200000
+KCMP_FILE, KCMP_FILES, KCMP_EPOLL = 0, 2, 7
+LIBC = ctypes.CDLL(None, use_errno=True)
+MAY_NOT = "it is of another user, or may not be traced" if os.geteuid() else "not even root may trace it"
+STACKS = [["eu-stack", "-i", "-s", "-p", "{}"], ["gdb", "-p", "{}", "-batch", "-ex", "thread apply all bt"]]
+
+# The numbers of the calls that may wait, by architecture.
+X86_64 = """read 0 write 1 open 2 poll 7 pread64 17 pwrite64 18 readv 19 writev 20 select 23 pause 34 nanosleep 35
+    sendfile 40 connect 42 accept 43 sendto 44 recvfrom 45 sendmsg 46 recvmsg 47 clone 56 fork 57 vfork 58 exit 60
+    wait4 61 semop 65 msgsnd 69 msgrcv 70 fcntl 72 flock 73 fsync 74 fdatasync 75 ptrace 101 rt_sigtimedwait 128
+    rt_sigsuspend 130 futex 202 io_getevents 208 restart_syscall 219 semtimedop 220 clock_nanosleep 230 exit_group 231
+    epoll_wait 232 mq_timedsend 242 mq_timedreceive 243 waitid 247 openat 257 pselect6 270 ppoll 271 splice 275 tee 276
+    vmsplice 278 epoll_pwait 281 accept4 288 preadv 295 pwritev 296 recvmmsg 299 sendmmsg 307"""
+AARCH64 = """io_getevents 4 epoll_pwait 22 fcntl 25 flock 32 openat 56 read 63 write 64 readv 65 writev 66 pread64 67
+    pwrite64 68 preadv 69 pwritev 70 sendfile 71 pselect6 72 ppoll 73 vmsplice 75 splice 76 tee 77 fsync 82 fdatasync 83
+    exit 93 exit_group 94 waitid 95 futex 98 nanosleep 101 clock_nanosleep 115 ptrace 117 restart_syscall 128
+    rt_sigsuspend 133 rt_sigtimedwait 137 mq_timedsend 182 mq_timedreceive 183 msgrcv 188 msgsnd 189 semtimedop 192
+    semop 193 accept 202 connect 203 sendto 206 recvfrom 207 sendmsg 211 recvmsg 212 clone 220 accept4 242 recvmmsg 243
+    wait4 260 sendmmsg 269"""
+SHARED = " io_uring_enter 426 clone3 435 openat2 437 epoll_pwait2 441 futex_waitv 449"
+READS, WRITES = 1, 4  # POLLIN and POLLOUT
+ONESHOT = 1 << 30  # of epoll: a file that is seen once
+CARRIES, RING = "scm_fds:", "UserFiles:"  # how many files are on their way through a socket, or kept by an io_uring
+PRIVATE, TID = 128, 0x3FFFFFFF  # the flag of a futex of one process alone; the bits of an owner in its word
+MAPPED = "0" * 16 + "FFFF0000"  # how an address of IPv4 begins among those of IPv6
+AT_FIRST = ("read", "write", "pread64", "pwrite64", "readv", "writev", "preadv", "pwritev", "recvfrom", "recvmsg",
+            "recvmmsg", "sendto", "sendmsg", "sendmmsg", "vmsplice", "accept", "accept4", "connect", "flock", "fcntl")
+PAIRS = {"sendfile": (1, 0), "splice": (0, 2), "tee": (0, 1)}  # which arguments are descriptors: from, to
+EPOLLS = ("epoll_wait", "epoll_pwait", "epoll_pwait2")
+
+
+def calls_of(machine: str) -> Dict[int, str]:
+    """Returns the names of the calls by their numbers."""
+    words = ((X86_64 if machine == "x86_64" else AARCH64) + SHARED).split()
+    return {int(number): name for name, number in zip(words[::2], words[1::2])}
+
+
+# Files of /proc
+
+
+def slurp(path: str, size: int = MOST) -> str:
+    """Returns what one read of a file of /proc gives."""
+    handle = os.open(path, os.O_RDONLY | os.O_CLOEXEC)
+    try:
+        return os.read(handle, size).decode("utf-8", "backslashreplace")
+    finally:
+        os.close(handle)
+
+
+def whole(path: str) -> str:
+    """Returns all of a file of /proc."""
+    with open(path, encoding="utf-8", errors="backslashreplace") as file:
+        return file.read()
+
+
+def try_slurp(path: str) -> str:
+    """Returns what one read of a file gives, or nothing."""
+    try:
+        return slurp(path)
+    except OSError:
+        return ""
+
+
+def try_link(path: str) -> str:
+    """Returns what a link says, or nothing where that isn't there (any more)."""
+    try:
+        return os.readlink(path)
+    except FileNotFoundError:
+        return ""
+
+
+def field(status: str, name: str) -> str:
+    """Returns a field of a file `status`, or nothing."""
+    at = status.find(f"\n{name}:\t")
+    return status[at + len(name) + 3:status.find("\n", at + 1)] if at >= 0 else ""
+
+
+def lines_of(path: str, beginnings: Tuple[str, ...]) -> List[str]:
+    """Returns the lines of a file of /proc that begin so."""
+    return [" ".join(line.split()) for line in whole(path).split("\n") if line.startswith(beginnings)]
+
+
+class Memory:
+    """The memory of a process, which is read and never written."""
+
+    def __init__(self, folder: str) -> None:
+        self.folder, self.handle = folder, -1
+
+    def read(self, address: int, size: int) -> bytes:
+        """Returns as many bytes, or fewer where no more can be read."""
+        if self.handle < 0:
+            self.handle = os.open(f"{self.folder}/mem", os.O_RDONLY | os.O_CLOEXEC)
+        try:
+            return os.pread(self.handle, min(size, MOST * 8), address)
+        except (OSError, OverflowError):
+            return b""
+
+    def text(self, address: int) -> str:
+        """Returns the text up to a zero byte, of 4,096 bytes at most, page by page."""
+        found = self.read(address, 4096 - address % 4096)
+        if b"\0" not in found:
+            found += self.read(address + len(found), 4096)
+        return found.partition(b"\0")[0].decode("utf-8", "backslashreplace")
+
+    def close(self) -> None:
+        if self.handle >= 0:
+            os.close(self.handle)
+
+
+# The descriptors that a call waits at
+
+
+def int32(value: int) -> int:
+    return ctypes.c_int32(value & 0xFFFFFFFF).value
+
+
+def set_of(call: str, args: List[int], memory: Memory) -> Optional[List[List[int]]]:
+    """Returns each descriptor of a call with the events that it waits for, or None if its set can't be read."""
+    if call in ("poll", "ppoll"):
+        return polled(memory.read(args[0], 8 * args[1]), args[1])
+    if call in ("select", "pselect6"):
+        return selected(args, memory)
+    if call in EPOLLS:
+        return epolled(memory.folder, int32(args[0]))
+    if call in PAIRS:
+        source, target = PAIRS[call]
+        return [[int32(args[source]), READS], [int32(args[target]), WRITES]]
+    way = WRITES if call.startswith(("write", "pwrite", "send")) else READS
+    return [[int32(args[0]), way]] if call in AT_FIRST else None
+
+
+def polled(data: bytes, number: int) -> Optional[List[List[int]]]:
+    if len(data) != 8 * number:
+        return None
+    return [[fd, events & 0xFFFF] for fd, events, _ in struct.iter_unpack("=ihh", data) if fd >= 0]
+
+
+def selected(args: List[int], memory: Memory) -> Optional[List[List[int]]]:
+    number = int32(args[0])
+    size = (number + 63) // 64 * 8
+    events: Dict[int, int] = {}
+    for way, address in zip((READS, WRITES, READS), args[1:4]):
+        data = memory.read(address, size) if address else b"\0" * size
+        if len(data) != size:
+            return None
+        for fd in range(number):
+            if data[fd // 8] >> fd % 8 & 1:
+                events[fd] = events.get(fd, 0) | way
+    return [[fd, way] for fd, way in events.items()]
+
+
+def epolled(folder: str, fd: int) -> Optional[List[List[int]]]:
+    """Returns the set of an epoll, each with the number of its file, which tells if the descriptor is another by now,
+    or -1 if the kernel says that it is.
+    """
+    try:
+        text = whole(f"{folder}/fdinfo/{fd}")
+    except OSError:
+        return None
+    rows = re.findall(r"^tfd: +(\d+) events: +([0-9a-f]+) .*?(?:ino:([0-9a-f]+))?(?: sdev:.*)?$", text, re.M)
+    pid, times = pid_of(folder), Counter[str]()
+    found = []
+    for it, events, number in rows:
+        slot = (ctypes.c_uint32 * 3)(fd, int(it), times[it])  # (a number stands there twice if it is of two files)
+        is_other = kcmp(pid, pid, KCMP_EPOLL, int(it), ctypes.byref(slot)) > 0
+        found.append([int(it), int(events, 16) & (0xFFFF | ONESHOT), -1 if is_other else int(number or "0", 16)])
+        times[it] += 1
+    return found
+
+
+def besides(call: str, args: List[int], memory: Memory) -> Row:
+    """Returns what else of a call stands in memory: the words of a futex, and the path of a file or a socket."""
+    if call == "futex":
+        data = memory.read(args[0], 32)
+        return {"words": data.hex()} if data else {}
+    if call == "fcntl":
+        data = memory.read(args[2], 24)
+        return {"range": list(struct.unpack("=hhxxxxqq", data))} if len(data) == 24 else {}
+    if call in ("sendmsg", "sendmmsg"):
+        return {"addressed": call == "sendmmsg" or memory.read(args[1], 8) != bytes(8)}
+    if call in ("open", "openat", "openat2"):
+        return {"path": memory.text(args[0] if call == "open" else args[1])}
+    if call == "connect":
+        family = int.from_bytes(memory.read(args[1], 2), sys.byteorder)
+        is_unix = family == socket.AF_UNIX
+        path = {"path": memory.text(args[1] + 2) or "@" + memory.text(args[1] + 3)} if is_unix else {}
+        return {"family": family, **path}
+    return {}
+
+
+# A process
+
+
+class Machine:
+    """Reads the processes of a machine, as its kernel shows them at one time."""
+
+    def __init__(self) -> None:
+        self.calls = calls_of(platform.machine())
+        self.files: Dict[Tuple[int, int], List[Descriptor]] = {}  # who has which file open
+        self.epolls: List[Descriptor] = []
+        self.steps = 0  # how much was read, by which one that is read shows that it goes on
+
+    def process(self, pid: int) -> Optional[Row]:
+        """Returns a process, or None if it has ended or is a thread of the kernel."""
+        row = self.base(pid)
+        if row is None:
+            return row
+        if row["state"] in "ZX" and len(os.listdir(f"/proc/{pid}/task")) == 1:
+            return {**row, "fds": {}, "threads": [{"tid": pid, "state": row["state"]}]}
+        living = f"/proc/{pid}" if row["state"] not in "ZX" else f"/proc/{pid}/task/{living_thread(pid)}"
+        memory = Memory(living)
+        try:
+            row["net"], row["exe"] = try_link(f"{living}/ns/net")[5:-1], try_link(f"{living}/exe")
+            row["fds"] = dict(self.descriptors(living))
+            row["timers"] = bool(try_slurp(f"/proc/{pid}/timers"))
+            row["threads"] = list(self.threads(pid, memory))
+            row.update(runtime_of(living, row))
+            row.update(aio_of(living, row))
+            if any(has_own_files(living, it["tid"]) for it in row["threads"] if it["state"] not in "ZX"):
+                row["unreadable"] = "a thread of it has descriptors of its own"
+        except PermissionError:
+            row["unreadable"] = MAY_NOT
+        finally:
+            memory.close()
+        return row
+
+    def base(self, pid: int) -> Optional[Row]:
+        """Returns what everybody may know of a process."""
+        head, _, rest = slurp(f"/proc/{pid}/stat").rpartition(")")
+        words = rest.split()
+        if int(words[6]) & KERNEL_THREAD:
+            return None
+        command = try_slurp(f"/proc/{pid}/cmdline").rstrip("\0").replace("\0", " ")
+        row: Row = {"pid": pid, "ppid": int(words[1]), "group": int(words[2]), "start": int(words[19]),
+                    "state": words[0], "comm": head.partition("(")[2], "command": command[:500]}
+        status = slurp(f"/proc/{pid}/status")
+        row.update({name: field(status, name) for name in ("TracerPid", "SigCgt", "SigIgn")})
+        row.update({name: field(status, name) for name in ("NSpid", "NSpgid") if "\t" in field(status, name)})
+        return row
+
+    def itself(self) -> Row:
+        """Returns the collector, which runs. Of its descriptors only those count that it uses: it may have inherited
+        others, which it closes unused."""
+        row = self.base(os.getpid())
+        assert row is not None
+        files = {fd: it for fd, it in self.descriptors("/proc/self") if fd in "012"}
+        return {**row, "fds": files, "threads": [{"tid": os.getpid(), "state": "R"}]}
+
+    def descriptors(self, folder: str) -> Iterator[Tuple[str, List[str]]]:
+        """Yields each descriptor: what it is, how it is open, and what more tells its file from others."""
+        for fd in os.listdir(f"{folder}/fd"):
+            self.steps += 1
+            with contextlib.suppress(FileNotFoundError):
+                path = f"{folder}/fd/{fd}"
+                target, mode = os.readlink(path), os.lstat(path).st_mode
+                it = [target, "r" * bool(mode & 0o400) + "w" * bool(mode & 0o200)]
+                if target == "anon_inode:[eventpoll]":
+                    self.epolls.append(Descriptor(folder, int(fd), it))
+                elif target.startswith(("anon_inode:[", "pidfd:[")):
+                    more = lines_of(f"{folder}/fdinfo/{fd}", ("eventfd-id:", "Pid:", "it_value:", RING))
+                    it += [line for line in more if line != f"{RING} 0"]
+                elif target.startswith("socket:["):
+                    it += [line for line in lines_of(f"{folder}/fdinfo/{fd}", (CARRIES,)) if line != f"{CARRIES} 0"]
+                elif target.startswith("/") and not target.startswith(("/dev/", "/proc/", "/sys/")):
+                    self.add_file(Descriptor(folder, int(fd), it), os.stat(path))
+                yield fd, it
+
+    def add_file(self, it: "Descriptor", status: os.stat_result) -> None:
+        """Notes who has a file open. A FIFO is told by its number."""
+        if stat.S_ISFIFO(status.st_mode):
+            it.words.append(f"fifo {status.st_dev:x}:{status.st_ino}")
+        elif stat.S_ISREG(status.st_mode) or stat.S_ISDIR(status.st_mode):
+            self.files.setdefault((status.st_dev, status.st_ino), []).append(it)
+
+    def add_locks(self, rows: List[Row]) -> None:
+        """Adds the locks of each file at whose lock a thread waits, to all that have it open."""
+        waited = {id(row["fds"].get(str(fd))) for row in rows for thread in row.get("threads", ())
+                  if thread.get("call") in ("flock", "fcntl") for fd, _ in thread["set"]}
+        for (device, number), them in self.files.items():
+            if any(id(it.words) in waited for it in them):
+                for it in them:
+                    it.words.append(f"file {device:x}:{number}")
+                    with contextlib.suppress(OSError):
+                        it.words += lines_of(f"{it.folder}/fdinfo/{it.fd}", ("lock:",))
+                name_open_files(them)
+
+    def threads(self, pid: int, memory: Memory) -> Iterator[Row]:
+        for tid in os.listdir(f"/proc/{pid}/task"):
+            self.steps += 1
+            with contextlib.suppress(FileNotFoundError, ProcessLookupError):
+                yield self.thread(f"/proc/{pid}/task/{tid}", int(tid), memory)
+
+    def thread(self, folder: str, tid: int, memory: Memory) -> Row:
+        """Returns a thread. Its count is read before and after the call that it is to vouch for."""
+        status = slurp(f"{folder}/status")
+        row: Row = {"tid": tid, "state": field(status, "State")[:1]}
+        pending = int(field(status, "SigPnd"), 16) | int(field(status, "ShdPnd"), 16)
+        row["pending"] = bool(pending & ~int(field(status, "SigBlk"), 16))
+        numbers = field(status, "NSpid").split()
+        if numbers[1:]:
+            row["inner"] = int(numbers[-1])  # its number in its own container
+        if row["state"] in "ZXR":
+            return row
+        words = slurp(f"{folder}/syscall").split()
+        if words[0] in ("running", "-1"):
+            row["call"] = words[0]
+            return row
+        args = [int(it, 16) for it in words[1:]]
+        row["call"] = call = self.calls.get(int(words[0]), words[0]) if args[6] >> 32 else f"32-bit {words[0]}"
+        row["args"] = [f"{it:#x}" for it in args[:6]]
+        row.update(besides(call, args, memory))
+        found_set = set_of(call, args, memory)
+        if found_set is not None:
+            row["set"] = found_set
+        row["wchan"] = try_slurp(f"{folder}/wchan")
+        row["counts"] = [int(field(it, "voluntary_ctxt_switches")) for it in (status, slurp(f"{folder}/status"))]
+        return row
+
+
+def living_thread(pid: int) -> int:
+    """Returns a thread of a process whose first thread has ended."""
+    tids = [int(it) for it in os.listdir(f"/proc/{pid}/task")]
+    states = {tid: field(try_slurp(f"/proc/{pid}/task/{tid}/status"), "State")[:1] for tid in tids}
+    return next((tid for tid, it in states.items() if it and it not in "ZX"), pid)
+
+
+class Descriptor:
+    """A descriptor of a process. `words` say what it is."""
+
+    def __init__(self, folder: str, fd: int, words: List[str]) -> None:
+        self.folder, self.fd, self.words, self.pid = folder, fd, words, pid_of(folder)
+
+
+def pid_of(folder: str) -> int:
+    it = folder.rpartition("/")[2]
+    return os.getpid() if it == "self" else int(it)
+
+
+def kcmp(one: int, other: int, kind: int, *more: Any) -> int:
+    """Returns 0 if two processes share something, more if they don't, how they are ordered by it, and -1 if the kernel
+    doesn't say."""
+    call = {"x86_64": 312, "aarch64": 272}.get(platform.machine(), -1)
+    return int(LIBC.syscall(call, one, other, kind, *more))
+
+
+def has_own_files(folder: str, tid: int) -> bool:
+    """Whether a thread has other descriptors than its process, if the kernel says so."""
+    return kcmp(pid_of(folder), tid, KCMP_FILES, 0, 0) > 0
+
+
+def compare_open(one: Descriptor, other: Descriptor) -> int:
+    """Returns the order of two descriptors by their open files, 0 if that is the same one."""
+    return {0: 0, 1: -1}.get(kcmp(one.pid, other.pid, KCMP_FILE, one.fd, other.fd), 1)
+
+
+def name_open_files(them: List[Descriptor]) -> None:
+    """Gives all descriptors of one open file the same name: those that a child inherits, but not those of who opened
+    the same file again."""
+    there = [it for it in them if kcmp(it.pid, it.pid, KCMP_FILE, it.fd, it.fd) == 0]
+    first: Optional[Descriptor] = None
+    for it in sorted(there, key=functools.cmp_to_key(compare_open)):
+        first = it if first is None or compare_open(first, it) else first
+        it.words.append(f"open {first.pid}:{first.fd}")
+
+
+def aio_of(folder: str, row: Row) -> Row:
+    """Returns whether requests of a process (io_submit) may make the kernel write to an eventfd at which it waits."""
+    waited = {str(fd) for thread in row["threads"] for fd, *_ in thread.get("set", ())}
+    if not any(it[0] == "anon_inode:[eventfd]" for fd, it in row["fds"].items() if fd in waited):
+        return {}
+    return {"aio": True} if "/[aio]" in whole(f"{folder}/maps") else {}
+
+
+def runtime_of(folder: str, row: Row) -> Row:
+    """Returns the runtime that a process shows by its program, as a Go program does, or a rank of MPI that doesn't
+    sleep by its libraries."""
+    if any(it["state"] == "R" or it.get("call") == "running" or "poll" in it.get("call", "") for it in row["threads"]):
+        if re.search(r"/libmpi\w*\.so", whole(f"{folder}/maps")):
+            return {"runtime": "mpi"}
+    if len(row["threads"]) == 1 or not any(it.get("call") == "futex" for it in row["threads"]):
+        return {}
+    with contextlib.suppress(OSError):
+        with open(f"{folder}/exe", "rb") as file:
+            return {"runtime": "go"} if b"\0Go\0\0" in file.read(8192) else {}
+    return {}
+
+
+class Reader:
+    """Reads one process after the other in a thread of its own, which can be left behind."""
+
+    def __init__(self, machine: Machine, left: List[int]) -> None:
+        self.machine, self.left, self.at, self.is_left = machine, left, 0, False
+        self.answers: "queue.Queue[Optional[Row]]" = queue.Queue()
+        threading.Thread(target=self.work, daemon=True).start()
+
+    def work(self) -> None:
+        while self.left and not self.is_left:
+            self.at, row = self.left.pop(), None
+            try:
+                row = self.machine.process(self.at)
+            except (FileNotFoundError, ProcessLookupError):
+                pass  # (it has ended)
+            except OSError:
+                row = unread_row(self.at, MAY_NOT)
+            self.answers.put(row)
+
+    def answer(self) -> Optional[Row]:
+        """Returns the next process. Raises queue.Empty if nothing more is read for some time."""
+        steps = -1
+        while True:
+            try:
+                return self.answers.get(timeout=PATIENCE)
+            except queue.Empty:
+                if self.machine.steps == steps:
+                    raise
+                steps = self.machine.steps
+
+
+def unread_row(pid: int, why: str) -> Row:
+    """Returns a process of which nothing is known but that it is there."""
+    return {"pid": pid, "ppid": 0, "comm": try_slurp(f"/proc/{pid}/comm").strip() or "process", "unreadable": why}
+
+
+def read_all(machine: Machine, pids: List[int]) -> List[Row]:
+    """Returns some processes. One that takes too long is left behind, and counts as one that can't be read."""
+    rows, reader = [], Reader(machine, list(pids))
+    for _ in pids:
+        try:
+            row = reader.answer()
+        except queue.Empty:
+            reader.is_left = True
+            row = unread_row(reader.at, f"it wasn't read within {PATIENCE:.0f} seconds")
+            reader = Reader(machine, list(reader.left))
+        if row is not None:
+            rows.append(row)
+    return rows
+
+
+# Sockets
+
+
+class Sockets:
+    """The sockets of all network namespaces: each with its other ends. A number of a file is that of one socket."""
+
+    def __init__(self, processes: List[Row]) -> None:
+        self.rows: Dict[int, Row] = {}
+        self.warnings: List[str] = []
+        self.names: Dict[Tuple[str, str], List[int]] = {}
+        spaces: Dict[str, List[int]] = {}
+        for row in processes:
+            if row.get("net"):
+                spaces.setdefault(row["net"], []).append(row["pid"])
+        own = os.readlink("/proc/self/ns/net")[5:-1]
+        for net, pids in spaces.items():
+            # One of the processes may have ended by now.
+            there = ["self"] if net == own else [f"{it}" for it in pids if os.path.exists(f"/proc/{it}/ns/net")]
+            for pid in there[:1]:
+                prefix = [] if net == own else ["nsenter", f"--net=/proc/{pid}/ns/net"]
+                self.add_unix(net, unix_rows(prefix, self.warnings))
+                lines = [line for name in ("tcp", "tcp6") for line in try_lines(f"/proc/{pid}/net/{name}")[1:]]
+                self.add_tcp([TcpRow(line) for line in lines])
+
+    def add_unix(self, net: str, rows: List[List[str]]) -> None:
+        busy: List[int] = []
+        for words in rows:
+            kind, state, pending, inode = words[0], words[1], words[2], int(words[-3])
+            path, peer = " ".join(words[4:-3]), int(words[-1])
+            self.rows[inode] = {"kind": kind, "state": state, "at": path, "to": "", "peers": [peer] if peer else []}
+            if state == "LISTEN":
+                self.names.setdefault((net, path), []).append(inode)
+                busy += [inode] if pending != "0" else []
+        for words in rows:  # (one whose connection isn't accepted yet belongs to all that listen and have such a one)
+            it = self.rows[int(words[-3])]
+            if it["state"] == "ESTAB" and not it["peers"]:
+                it["peers"] = busy
+
+    def add_tcp(self, rows: List["TcpRow"]) -> None:
+        ends = {(row.at, row.to): row.inode for row in rows}
+        listeners = [row for row in rows if row.state == "LISTEN"]
+        local = {row.at[0] for row in rows}
+        for row in rows:
+            other = ends.get((row.to, row.at))
+            peers = [other] if other else [] if other is None else [it.inode for it in listeners if it.takes(row.to)]
+            here = row.to[0] in local or is_loopback(row.to[0])
+            if row.inode:
+                self.rows[row.inode] = {"kind": "tcp", "state": row.state, "at": address(row.at),
+                                        "to": address(row.to), "peers": peers, "away": not here}
+
+
+def unix_rows(prefix: List[str], warnings: List[str]) -> List[List[str]]:
+    """Returns the words of each line that `ss` has on Unix sockets."""
+    try:
+        ran = subprocess.run([*prefix, "ss", "-xnaH"], stdin=subprocess.DEVNULL, capture_output=True, timeout=30,
+                             check=False)
+    except (OSError, subprocess.TimeoutExpired) as error:
+        warnings.append(f"Unix sockets can't be read: {error}")
+        return []
+    if ran.returncode:
+        warnings.append(f"Unix sockets can't be read: {ran.stderr.decode(errors='replace').strip()[:200]}")
+    rows = [line.split() for line in ran.stdout.decode("utf-8", "backslashreplace").split("\n") if line]
+    return [words for words in rows if len(words) > 6 and words[-1].isdigit() and words[-3].isdigit()]
+
+
+class TcpRow:
+    """A line of /proc/net/tcp. Its two ends are pairs of address and port, as the kernel writes them."""
+
+    def __init__(self, line: str) -> None:
+        words = line.split()
+        self.at, self.to = end_of(words[1]), end_of(words[2])
+        self.state, self.inode = "LISTEN" if words[3] == "0A" else words[3], int(words[9])
+
+    def takes(self, to: Tuple[str, str]) -> bool:
+        """Whether one that listens takes connections to an end. One of all addresses of IPv6 takes those of IPv4 too.
+        """
+        return self.at[1] == to[1] and (self.at[0] == to[0] or not self.at[0].strip("0"))
+
+
+def end_of(text: str) -> Tuple[str, str]:
+    """Returns the address and the port of an end. An address of IPv4 within IPv6 is that of IPv4."""
+    it, _, port = text.partition(":")
+    return it[24:] if len(it) == 32 and it.startswith(MAPPED) else it, port
+
+
+def is_loopback(it: str) -> bool:
+    return len(it) == 8 and it.endswith("7F") or it == "0" * 24 + "01000000"
+
+
+def address(end: Tuple[str, str]) -> str:
+    """Returns '127.0.0.1:80' of the kernel's '0100007F' and '0050'."""
+    it, port = end[0], int(end[1], 16)
+    numbers = [byte for at in range(0, len(it), 8) for byte in reversed(bytes.fromhex(it[at:at + 8]))]
+    if len(numbers) == 4:
+        return f"{'.'.join(map(str, numbers))}:{port}"
+    return f"[{socket.inet_ntop(socket.AF_INET6, bytes(numbers))}]:{port}"
+
+
+def try_lines(path: str) -> List[str]:
+    try:
+        return whole(path).rstrip("\n").split("\n")
+    except OSError:
+        return []
+
+
+# A reading
+
+
+class Reading:
+    """All processes of the machine, as they were read one after the other."""
+
+    def __init__(self) -> None:
+        self.began, start = time.time(), time.monotonic()
+        pids = [int(it) for it in os.listdir("/proc") if it.isdigit() and int(it) != os.getpid()]
+        machine = Machine()
+        rows = [*read_all(machine, pids), machine.itself()]
+        machine.add_locks(rows)
+        name_open_files(machine.epolls)
+        self.rows = {row["pid"]: row for row in rows}
+        self.sockets = Sockets(rows)
+        self.seconds = time.monotonic() - start
+        self.holders: Dict[str, Set[int]] = {}
+        self.children: Dict[int, Set[int]] = {}
+        self.threads: Dict[int, Set[int]] = {}  # the processes of a thread, by its number as it sees itself
+        for row in rows:
+            for it in row.get("threads", ()):
+                self.threads.setdefault(it.get("inner", it["tid"]), set()).add(row["pid"])
+            for key in keys_of(row):
+                self.holders.setdefault(key, set()).add(row["pid"])
+            for parent in (row["ppid"], int(row.get("TracerPid", "0"))):
+                self.children.setdefault(parent, set()).add(row["pid"])
+
+    def tree(self, pids: Iterable[int]) -> Set[int]:
+        """Returns some processes, with all their children and theirs."""
+        found: Set[int] = set()
+        left = list(pids)
+        while left:
+            pid = left.pop()
+            if pid not in found:
+                found.add(pid)
+                left += self.children.get(pid, ())
+        return found
+
+    def carriers(self) -> Set[int]:
+        """Returns the processes that may have a file which no descriptor shows: on its way, or used by an io_uring."""
+        return {row["pid"] for row in self.rows.values() if any(map(may_carry, row.get("fds", {}).values()))}
+
+    def around(self, pid: int) -> Set[int]:
+        """Returns the processes that may end a wait of one: that have another end of it, or are its children."""
+        row = self.rows.get(pid)
+        if row is None:
+            return set()
+        found = self.children.get(pid, set()) | {int(row.get("TracerPid", "0"))}
+        for thread in row.get("threads", ()):
+            found = found | self.threads.get(owner_of(thread), set())
+            for key in self.keys_of_wait(row, thread):
+                found = found | self.holders.get(key, set())
+        return found
+
+    def keys_of_wait(self, row: Row, thread: Row) -> Iterator[str]:
+        """Yields what tells the ends of the files that a thread waits at."""
+        for fd, *_ in thread.get("set", ()):
+            it = row["fds"].get(str(fd))
+            if it is None:
+                continue
+            number = inode_of(it[0])
+            if number:
+                yield from (f"socket:[{peer}]" for peer in self.sockets.rows.get(number, {}).get("peers", ()))
+            yield from keys_of_file(it)
+        if thread.get("call") in EPOLLS:
+            yield from keys_of_file(row["fds"].get(str(int32(int(thread["args"][0], 16))), ()))
+        if thread.get("call") == "connect":
+            for inode in self.sockets.names.get((row["net"], thread.get("path", "")), ()):
+                yield f"socket:[{inode}]"
+
+    def text(self, number: int, kept: Set[int]) -> Iterator[Row]:
+        """Yields the rows of the state for some processes."""
+        rows = [self.rows[pid] for pid in sorted(kept) if pid in self.rows]
+        missing = [row for pid, row in sorted(self.rows.items()) if pid not in kept and "unreadable" in row]
+        numbers = {inode_of(it[0]) for row in rows for it in row.get("fds", {}).values()} - {0}
+        yield {"reading": number, "began": self.began, "seconds": round(self.seconds, 2),
+               "warnings": self.sockets.warnings}
+        yield from ({**row, "command": "", "apart": True} for row in missing)
+        for row in rows:
+            wanted = {fd for thread in row.get("threads", ()) for fd, *_ in thread.get("set", ())}
+            files = {fd: it for fd, it in row.get("fds", {}).items() if int(fd) in wanted or is_shared(it)}
+            yield {**row, "fds": files} if "fds" in row else row
+        for inode in sorted(numbers & self.sockets.rows.keys()):
+            yield {"socket": inode, **self.sockets.rows[inode]}
+        listening = {f"{net} {path}": them for (net, path), them in self.sockets.names.items() if numbers & {*them}}
+        yield {"listening": listening}
+        yield {"end": number, "processes": len(rows) + len(missing)}
+
+
+def keys_of(row: Row) -> Iterator[str]:
+    """Yields what tells the files of a process from others."""
+    for it in row.get("fds", {}).values():
+        yield from keys_of_file(it)
+
+
+def keys_of_file(it: Sequence[str]) -> Iterator[str]:
+    yield from (more for more in it[2:] if not more.startswith(("lock:", CARRIES, RING)))
+    if it and it[0].startswith(("pipe:[", "socket:[")):
+        yield it[0]
+
+
+def owner_of(thread: Row) -> int:
+    """Returns the number of the thread that has the mutex of several processes at which a thread waits, or 0."""
+    words = bytes.fromhex(thread.get("words", ""))
+    if thread.get("call") != "futex" or int(thread["args"][1], 16) & PRIVATE or len(words) < 12:
+        return 0
+    word, owner = (int.from_bytes(words[at:at + 4], sys.byteorder) for at in (0, 8))
+    return owner if word == 2 else word & TID if word >> 31 else 0
+
+
+def may_carry(it: Sequence[str]) -> bool:
+    """Whether a descriptor may have or use files that none shows."""
+    return "io_uring" in it[0] or any(more.startswith((CARRIES, RING)) for more in it[2:])
+
+
+def is_shared(it: Sequence[str]) -> bool:
+    """Whether a descriptor may be an end of somebody's wait."""
+    return it[0].startswith(("pipe:[", "socket:[", "anon_inode:[")) or len(it) > 2
+
+
+def inode_of(target: str) -> int:
+    return int(target[8:-1]) if target.startswith("socket:[") else 0
+
+
+# Both readings
+
+
+def stacks_of(pids: Iterable[int], reading: Reading) -> Iterator[Row]:
+    """Yields the stacks of the processes that stand at a futex, each with the calls before and after. That holds a
+    process for a moment."""
+    found = [words for words in STACKS if shutil.which(words[0])]
+    for pid in pids:
+        threads = reading.rows.get(pid, {}).get("threads", ())
+        if not found or not any(it.get("call") == "futex" for it in threads):
+            continue
+        calls = []
+        text = ""
+        for at in range(2):
+            calls.append({it["tid"]: try_slurp(f"/proc/{pid}/task/{it['tid']}/syscall").split()[:7] for it in threads})
+            if at == 0:
+                with contextlib.suppress(OSError, subprocess.TimeoutExpired):
+                    text = subprocess.run([it.format(pid) for it in found[0]], stdin=subprocess.DEVNULL, timeout=30,
+                                          capture_output=True, check=False).stdout.decode(errors="backslashreplace")
+        still = {tid: call for tid, call in calls[0].items() if call and call == calls[1][tid]}
+        yield {"stacks": pid, "by": found[0][0], "still": still, "text": text}
+
+
+def collect(pids: Sequence[int], seconds: float = 5.0, stacks: bool = False) -> str:
+    """Returns the state of some processes as a text. Raises LookupError if one isn't there, OSError if /proc isn't."""
+    if platform.machine() not in ("x86_64", "aarch64"):
+        raise OSError(f"the numbers of calls aren't known on {platform.machine()}")
+    readings = [Reading()]
+    for pid in pids:
+        if pid not in readings[0].rows:
+            raise LookupError(f"there is no process {pid}")
+    time.sleep(seconds)
+    readings.append(Reading())
+    kept: Set[int] = set()
+    left = [pid for reading in readings for pid in reading.tree(pids) | reading.carriers()]
+    while left:
+        pid = left.pop()
+        if pid > 0 and pid not in kept:
+            kept.add(pid)
+            left += [it for reading in readings for it in reading.around(pid)]
+    rows: List[Row] = [{"version": 1, "machine": platform.machine(), "release": platform.release(),
+                        "asked": list(pids), "seconds": seconds, "outside": outside(), "space": space()}]
+    for number, reading in enumerate(readings, 1):
+        rows += reading.text(number, kept)
+    rows += stacks_of(sorted(kept), readings[1]) if stacks else []
+    rows.append({"end": "state"})
+    return "".join(f"cmh-linux {json.dumps(row)}\n" for row in rows)
+
+
+def outside() -> str:
+    """Returns why processes may be there that /proc doesn't show, or nothing."""
+    mounts = [line.split() for line in try_lines("/proc/self/mounts")]
+    hidden = any(words[1:3] == ["/proc", "proc"] and re.search(r"hidepid=(?!0|off)", words[3]) for words in mounts)
+    if hidden and os.geteuid():
+        return "hidepid"
+    return "container" if os.readlink("/proc/self/ns/pid") != "pid:[4026531836]" else ""
+
+
+def space() -> str:
+    """Returns the machine and the container in which the numbers of processes are these."""
+    return f"{platform.node()} {os.readlink('/proc/self/ns/pid')}"
+
+
+def seconds(text: str) -> float:
+    """Returns a time in seconds. Raises ValueError if a text is none, or of more than an hour."""
+    found = float(text)
+    if not 0 <= found <= 3600:
+        raise ValueError
+    return found
+
+
+def add_options(it: argparse.ArgumentParser, is_needed: bool) -> None:
+    """Adds the options of a reading to a command."""
+    it.add_argument("--pid", metavar="PID", nargs="+", type=int, required=is_needed, action="extend",
+                    help="the processes to read, with all their children and theirs")
+    it.add_argument("--seconds", type=seconds, default=5.0, help="the time from the first reading to the second (5)")
+    it.add_argument("--stacks", action="store_true",
+                    help="add the stacks of those at a futex, by eu-stack or gdb, which holds them for a moment")
+
+
+def main() -> int:
+    it = argparse.ArgumentParser(description="Prints what the kernel keeps of the waits of some processes.")
+    add_options(it, True)
+    asked = it.parse_args()
+    try:
+        sys.stdout.write(collect(asked.pid, asked.seconds, asked.stacks))
+        sys.stdout.flush()
+    except (LookupError, OSError) as error:
+        print(f"cmh_linux.py: {error.args[0] if isinstance(error, LookupError) else error}", file=sys.stderr)
+        sys.stdout = open(os.devnull, "w", encoding="utf-8")  # so that nothing is written again at the end
+        return 1
+    return 0
+
+
+if __name__ == "__main__":
+    sys.exit(main())

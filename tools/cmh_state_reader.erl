@@ -1,0 +1,543 @@
+%% Prints what process_info says of the processes of some modules on several nodes, and again some seconds later. It
+%% holds and changes nothing, and leaves nothing behind: a node that doesn't know this module has it while it is read.
+-module(cmh_state_reader).
+-export([print/2, print/3, read/4]).
+
+%% Messages are copied to be read. So a mailbox of as many isn't read, nor one of a process with as many bytes.
+-define(MESSAGES, 1000).
+-define(MEMORY, 128 * 1024 * 1024).
+%% So many characters of a message are printed, references before anything long.
+-define(CHARACTERS, 2000).
+%% A process stands still while its stack is printed. Each word of it may print as many terms, and ten million of these
+%% take a second. A stack that has or may print as many isn't printed.
+-define(WORDS, 1000).
+-define(TERMS_OF_WORD, 100000).
+-define(TERMS, 10000000).
+%% So many terms of a mailbox and a dictionary are searched for references, and so many references and pids are printed.
+-define(SEARCHED, 100000).
+-define(FOUND, 1000).
+%% Of so many modules the code is looked at for the limits of their receives, and of none with as many bytes.
+-define(MODULES, 100).
+-define(BYTES, 1024 * 1024).
+%% What begins processes of an Elixir program that have none of its modules on their stacks.
+-define(OF_ELIXIR, ['Elixir.Agent.Server', 'Elixir.DynamicSupervisor', 'Elixir.Registry.Partition',
+                    'Elixir.Task.Supervised', supervisor]).
+
+print(Modules, Nodes) -> print(Modules, Nodes, 5).
+
+%% All nodes are read before one is read again. Returns a status for halt: 0, or 1 after a line on standard error.
+print(Modules, Nodes, Seconds) ->
+    Missing = [Node || Node <- Nodes, Node =/= node(), net_kernel:connect_node(Node) =/= true],
+    Wanted = {full_names(Modules), [node() | Nodes]},
+    Visits = [visit(Wanted, Node) || Node <- Nodes, Missing =:= []],
+    Encoding = proplists:get_value(encoding, io:getopts(), unicode),
+    io:setopts([{encoding, latin1}]), % (so that bytes are written as they are)
+    try
+        Missing =:= [] orelse throw({hd(Missing), noconnection}),
+        Readers = [{Visit, next(Visit)} || Visit <- Visits],
+        [write(Visit, Reader, first) || {Visit, Reader} <- Readers],
+        timer:sleep(round(1000 * Seconds)),
+        [write(Visit, Reader, second) || {Visit, Reader} <- Readers],
+        0
+    catch
+        throw:{Node, Why} -> io:put_chars(standard_error, refusal(Node, Why)), 1
+    after
+        [leave(Visit) || Visit <- Visits],
+        io:setopts([{encoding, Encoding}])
+    end.
+
+%% A module Shop of Elixir is called 'Elixir.Shop'.
+full_names(Modules) ->
+    Own = ["Elixir." ++ Name || [First | _] = Name <- lists:map(fun atom_to_list/1, Modules), First >= $A, First =< $Z,
+                                not lists:prefix("Elixir.", Name)],
+    Full = Modules ++ lists:map(fun list_to_atom/1, Own),
+    case [Module || Module <- Full, lists:prefix("Elixir.", atom_to_list(Module))] of
+        [] -> Full;
+        _ -> lists:usort(Full ++ ?OF_ELIXIR)
+    end.
+
+refusal(Node, noconnection) ->
+    io_lib:format("cmh_state_reader: no connection to ~p: is it up, and is ~~/.erlang.cookie the same?~n", [Node]);
+refusal(Node, other_module) ->
+    io_lib:format("cmh_state_reader: ~p has another module of this name, and is left as it is~n", [Node]);
+refusal(Node, Why) -> io_lib:format("cmh_state_reader: ~p wasn't read: ~0p~n", [Node, Why]).
+
+%% What a node does by its own erl_eval, as nothing of this module is there before and after. It outlives the reader,
+%% and hears when the caller ends, or its node.
+-define(VISIT, "
+    monitor(process, Caller),
+    receive begin_now -> ok; {'DOWN', _, _, _, _} -> exit(normal) end,
+    Path = code:where_is_file(File),
+    Known = case erlang:module_loaded(Name) of
+        true -> Name:module_info(md5);
+        false when Path =:= non_existing -> none;
+        false -> case beam_lib:md5(Path) of {ok, {_, Found}} -> Found; _ -> other end
+    end,
+    Known =:= none orelse Known =:= Sum orelse exit(other_module),
+    Known =:= none andalso begin
+        code:soft_purge(Name),
+        {module, Name} =:= code:load_binary(Name, File, Code) orelse exit(not_loaded)
+    end,
+    {Reader, Monitor} = spawn_monitor(Name, read, [Wanted, Caller, self(), Tag]),
+    Reason = receive
+        {'DOWN', Monitor, _, _, Why} -> Why;
+        _ -> exit(Reader, kill), receive {'DOWN', Monitor, _, _, _} -> normal end
+    end,
+    Path =:= non_existing andalso begin code:delete(Name), code:soft_purge(Name) end,
+    exit(Reason).").
+
+visit(Wanted, Node) ->
+    {ok, Tokens, _} = erl_scan:string(?VISIT),
+    {ok, Expressions} = erl_parse:parse_exprs(Tokens),
+    {Name, Code, _} = code:get_object_code(?MODULE),
+    Tag = make_ref(),
+    Given = [{'Wanted', Wanted}, {'Caller', self()}, {'Tag', Tag}, {'Name', Name}, {'Code', Code},
+             {'File', atom_to_list(Name) ++ ".beam"}, {'Sum', Name:module_info(md5)}],
+    Host = spawn(Node, erl_eval, exprs, [Expressions, orddict:from_list(Given)]),
+    Monitor = monitor(process, Host),
+    Host ! begin_now, % (so that the monitor is there before the host can end)
+    {Node, Host, Monitor, Tag}.
+
+%% What the reader says next. It sends a text once the one before is written, so that they don't pile up.
+next({Node, _, Monitor, Tag}) ->
+    receive
+        {Tag, Word} -> Word;
+        {'DOWN', Monitor, process, _, Why} -> throw({Node, Why})
+    end.
+
+write(Visit, Reader, Which) ->
+    Reader ! Which,
+    case next(Visit) of
+        done -> ok;
+        {code, Codes} ->
+            ok = file:write(group_leader(), receives(Codes, element(1, Visit))),
+            write(Visit, Reader, more);
+        Text -> ok = file:write(group_leader(), Text), write(Visit, Reader, more)
+    end.
+
+%% The limits of the receives of some functions, as their code has them: a number, `infinity` if it has none, or `any`
+%% if it is computed.
+receives(Codes, Node) ->
+    Rows = [Row || {Module, Functions, Code} <- Codes, Row <- rows(Module, Functions, Code)],
+    [io_lib:format("=receives ~b ~ts~n", [length(Rows), Node]) | [io_lib:format("~0tp~n", [Row]) || Row <- Rows]].
+
+rows(Module, Functions, Code) ->
+    case catch beam_disasm:file(Code) of
+        {beam_file, Module, _, _, _, Parts} ->
+            [list_to_tuple([Module, Name, Arity, lists:usort(lists:flatmap(fun limit/1, Instructions))
+                            | register(Instructions)])
+             || {function, Name, Arity, _, Instructions} <- Parts, lists:member({Name, Arity}, Functions)];
+        _ -> []
+    end.
+
+%% Where a function of one receive has the reference that each message has to have which that takes, as the compiler has
+%% found out, or nothing.
+register(Instructions) ->
+    Waits = [wait || Each <- Instructions, is_tuple(Each), lists:member(element(1, Each), [wait, wait_timeout])],
+    case {Waits, [Number || {recv_marker_use, {y, Number}} <- Instructions]} of
+        {[wait], [Number]} -> [Number];
+        _ -> []
+    end.
+
+limit({wait, _}) -> [infinity];
+limit({wait_timeout, _, {integer, Limit}}) -> [Limit];
+limit({wait_timeout, _, _}) -> [any];
+limit(_) -> [].
+
+leave({_, Host, Monitor, _}) ->
+    Host ! leave,
+    Again = monitor(process, Host), % (the first one may have told already)
+    receive {'DOWN', Again, process, _, _} -> demonitor(Monitor, [flush]) end.
+
+%% The reader on a node. Its host ends it.
+read({Modules, Nodes}, Caller, Host, Tag) ->
+    process_flag(priority, low),
+    Apart = [self(), Host, Caller],
+    Caller ! {Tag, self()},
+    receive first -> ok end,
+    {Taken, Left} = chosen(Modules, Apart),
+    tell(Caller, Tag, counts(Left, Modules, Nodes), fun first/1, Taken),
+    receive second -> ok end,
+    Counts = maps:from_list([{P, count(P)} || P <- Taken]),
+    {Again, LeftNow} = chosen(Modules, Apart),
+    tell(Caller, Tag, counts(LeftNow, Modules, Nodes), fun(P) -> second(P, Counts) end, Again),
+    receive never -> ok end.
+
+%% How many modules may keep a term where no process has it, how many processes are left out, how many nodes are
+%% connected that aren't read, and how many of the modules that are asked for use tables.
+counts(Left, Modules, Nodes) ->
+    Tables = [Module || Module <- Modules, lists:member(tables, calls_of_module(Module))],
+    [{"keeps", keeps(Modules)}, {"left out", Left}, {"nodes", length(nodes() -- Nodes)}, {"tables", length(Tables)}].
+
+%% How many of the modules that are asked for or loaded use tables, begin timers or make terms of bytes: by these the
+%% reference of a caller may come back that no process has meanwhile.
+keeps(Modules) ->
+    Loaded = [Module || {Module, _} <- code:all_loaded(), Module =/= ?MODULE, not is_tool(Module)],
+    Kinds = [calls_of_module(Module) || Module <- lists:usort(Modules ++ Loaded)],
+    length([Some || Some <- Kinds, [] =/= [Kind || Kind <- Some, lists:member(Kind, [bytes, tables, timers])]]).
+
+%% Sends the text of each process, how many are left out that aren't of the system, and how many are printed.
+tell(Caller, Tag, Others, Text, Taken) ->
+    Printed = [Call || P <- Taken, {Call, Lines} <- [Text(P)], is_sent(Caller, Tag, Lines)],
+    is_sent(Caller, Tag, {code, codes(lists:usort(Printed))}),
+    Last = Others ++ [{"timers", timers()}, {"end", length(Printed)}],
+    is_sent(Caller, Tag, [io_lib:format("=~s ~b ~ts~n", [Word, Number, node()]) || {Word, Number} <- Last]),
+    Caller ! {Tag, done}.
+
+%% The code of the functions in which processes are, by module, if it is the one that is loaded.
+codes(Calls) ->
+    Modules = lists:usort([Module || {Module, _, _} <- Calls, not is_of_otp(Module)]),
+    [{Module, [{Name, Arity} || {Of, Name, Arity} <- Calls, Of =:= Module], Code}
+     || Module <- lists:sublist(Modules, ?MODULES), {_, Code, _} <- [code:get_object_code(Module)],
+        byte_size(Code) < ?BYTES, is_loaded(Module, Code), not erlang:check_old_code(Module)].
+
+is_loaded(Module, Code) ->
+    case beam_lib:md5(Code) of
+        {ok, {_, Sum}} -> Module:module_info(md5) =:= Sum;
+        _ -> false
+    end.
+
+is_sent(Caller, Tag, {code, _} = Word) ->
+    Caller ! {Tag, Word},
+    receive more -> true end;
+is_sent(Caller, Tag, Text) ->
+    Caller ! {Tag, unicode:characters_to_binary(Text)},
+    receive more -> true end.
+
+%% Reading a stack, monitors, messages or memory adds a reduction, and reading the reductions adds none. So they are
+%% read after all else at first, and before anything else later. If both are equal, the process has done nothing between.
+first(P) ->
+    Info = info(P),
+    text(P, Info, "", settled(P, count(P), 9)).
+
+%% The process answers before its reduction for that is added, so that one that still runs has it only later.
+settled(_, Count, 0) -> Count;
+settled(P, Count, Tries) ->
+    case count(P) of
+        Count -> Count;
+        Other -> settled(P, Other, Tries - 1)
+    end.
+
+second(P, Counts) ->
+    Count = maps:get(P, Counts, ""),
+    text(P, info(P), Count, "").
+
+count(P) ->
+    case process_info(P, reductions) of
+        {_, Number} -> io_lib:format("{reductions,~b}~n", [Number]);
+        undefined -> ""
+    end.
+
+%% How many calls the module timer will make once, each of which may answer or end anybody. Whom isn't shown.
+timers() ->
+    Server = whereis(timer_server),
+    Tables = [Table || Server =/= undefined, Table <- ets:all(), ets:info(Table, owner) =:= Server],
+    lists:sum([calls_of(Table, ets:info(Table, size)) || Table <- Tables]).
+
+%% One that is made again and again has two references.
+calls_of(Table, Size) when is_integer(Size), Size =< ?FOUND ->
+    try ets:tab2list(Table) of Rows -> length([Row || Row <- Rows, not is_repeated(Row)]) catch error:_ -> 0 end;
+calls_of(_, Size) when is_integer(Size) -> Size;
+calls_of(_, _) -> 0.
+
+is_repeated({Reference, Other}) -> Reference =/= Other;
+is_repeated(_) -> false.
+
+%% The stack comes last, as it has lines of its own.
+-define(ITEMS, [registered_name, initial_call, dictionary, monitors, links, trap_exit, current_stacktrace,
+                message_queue_len, messages, status, backtrace]).
+
+info(P) ->
+    case process_info(P, [message_queue_len, memory, stack_size]) of
+        undefined -> undefined;
+        [{_, Messages}, {_, Memory}, {_, Words}] ->
+            Long = [dictionary || Memory >= ?MEMORY]
+                ++ [messages || Memory >= ?MEMORY orelse Messages >= ?MESSAGES]
+                ++ [backtrace || not is_short(Words, Memory)],
+            process_info(P, ?ITEMS -- Long)
+    end.
+
+%% A server that waits for requests has its state alone on its stack. Of that the references and pids are printed.
+is_loop({Module, Function, _}) ->
+    lists:member({Module, Function}, [{gen_server, loop}, {gen_statem, loop_receive}, {gen_event, fetch_msg}]).
+
+is_short(Words, Memory) -> Words < ?WORDS andalso Words * min(Memory div 8, ?TERMS_OF_WORD) < ?TERMS.
+
+text(_, undefined, _, _) -> gone;
+text(P, Info, Before, After) ->
+    Lines = [line(Key, lists:keyfind(Key, 1, Info), Info) || Key <- ?ITEMS],
+    More = io_lib:format("{references,~ts}~n{may_end,~ts}~n{closures,~p}~n{code,~0p}~n{strategies,~ts}~n",
+                         [list(references(Info)), list(may_end(Info)), closures(Info), code_of(Info),
+                          list(strategies(Info))]),
+    {call_of(Info), [io_lib:format("=process ~p ~ts~n", [P, node()]), Before, More, Lines, After]}.
+
+%% The function in which it is.
+call_of(Info) ->
+    case lists:keyfind(current_stacktrace, 1, Info) of
+        {_, [{Module, Name, Arity, _} | _]} -> {Module, Name, Arity};
+        _ -> {none, none, 0}
+    end.
+
+list(cut) -> "cut";
+list(Terms) -> ["[", lists:join(",", Terms), "]"].
+
+%% The references that it has in its mailbox, its dictionary, and as an idle server in its state: it may answer a caller.
+references(Info) ->
+    Terms = [Value || Key <- [messages, dictionary], {_, Value} <- [lists:keyfind(Key, 1, Info)]],
+    Found = search(Terms, ?SEARCHED, #{}),
+    case is_idle(Info) of
+        _ when Found =:= cut; length(Terms) < 2 -> cut;
+        true -> both(Found, on_stack(Info, "#Ref<[0-9.]+>"));
+        false -> [io_lib:format("~p", [Reference]) || Reference <- Found]
+    end.
+
+both(_, cut) -> cut;
+both(Found, Texts) -> [io_lib:format("~p", [Reference]) || Reference <- Found] ++ Texts.
+
+%% The processes that it knows, if the code of a module that it runs may send an exit signal.
+may_end(Info) ->
+    case lists:member(exits, code_of(Info)) of
+        true -> on_stack(Info, "<0[.][0-9]+[.][0-9]+>");
+        false -> []
+    end.
+
+%% The words on the stack of a supervisor that may be its strategy.
+strategies(Info) ->
+    case start_of(Info) of
+        [supervisor] -> on_stack(Info, "\\b(simple_)?one_for_(one|all)\\b|\\brest_for_one\\b");
+        _ -> []
+    end.
+
+start_of(Info) ->
+    {_, Words} = case lists:keyfind(dictionary, 1, Info) of false -> {none, []}; Found -> Found end,
+    [Module || {'$initial_call', {Module, _, _}} <- Words].
+
+%% What the modules that it runs call, as their files say: `exits` if they may end a process, `stops` if they may have
+%% a supervisor end one, or stop a supervisor, `replies`, `tables` if they may keep a term in one, `timers` if they may
+%% begin one, or if a server in its loop has a limit, `bytes` if they make terms of these.
+code_of(Info) ->
+    {_, Stack} = lists:keyfind(current_stacktrace, 1, Info),
+    Own = start_of(Info) ++ [Module || {Module, _, _, _} <- Stack],
+    Limits = [timers || is_idle(Info), [] =/= on_top(Info, "^y[(][0-9]+[)] +[0-9]+$")],
+    lists:usort(Limits ++ lists:flatmap(fun calls_of_module/1, lists:usort(Own))).
+
+on_top(Info, Form) ->
+    case lists:keyfind(backtrace, 1, Info) of
+        {_, Stack} ->
+            [Top | _] = binary:split(Stack, <<"\n\n">>),
+            case re:run(Top, Form, [multiline, {capture, first, binary}]) of {match, Some} -> Some; nomatch -> [] end;
+        false -> [cut]
+    end.
+
+%% One without a file may call anything, if it is loaded.
+-define(ANY, [bytes, exits, replies, stops, tables, timers]).
+-define(STOP, [application, gen_server, proc_lib, 'Elixir.Application', 'Elixir.DynamicSupervisor', 'Elixir.GenServer',
+               'Elixir.PartitionSupervisor', 'Elixir.Supervisor']).
+
+calls_of_module(Module) ->
+    Key = {?MODULE, Module},
+    case get(Key) of
+        undefined ->
+            IsOwn = erlang:module_loaded(Module) andalso not is_of_otp(Module),
+            put(Key, case IsOwn of true -> imports_of(Module); false -> [] end),
+            get(Key);
+        Known -> Known
+    end.
+
+imports_of(Module) ->
+    case code:get_object_code(Module) of
+        {_, Code, _} ->
+            case beam_lib:chunks(Code, [imports]) of
+                {ok, {_, [{imports, Imports}]}} -> lists:usort(lists:flatmap(fun kind_of/1, Imports));
+                _ -> ?ANY
+            end;
+        error -> ?ANY
+    end.
+
+kind_of({erlang, exit, Arity}) when Arity > 1 -> [exits];
+kind_of({'Elixir.Process', exit, _}) -> [exits];
+kind_of({'Elixir.Task', shutdown, _}) -> [exits];
+kind_of({_, terminate_child, _}) -> [stops];
+kind_of({Module, stop, _}) -> [stops || lists:member(Module, ?STOP)];
+kind_of({erlang, Name, _}) when Name =:= binary_to_term; Name =:= list_to_ref -> [bytes];
+kind_of({application, set_env, _}) -> [tables];
+kind_of({'Elixir.Application', put_env, _}) -> [tables];
+kind_of({Module, _, _}) when Module =:= ets; Module =:= dets; Module =:= mnesia; Module =:= persistent_term;
+                             Module =:= disk_log; Module =:= 'Elixir.Registry' -> [tables];
+kind_of({timer, Name, _}) -> [timers || not lists:member(Name, [sleep, tc, seconds, minutes, hours, now_diff])];
+kind_of({Module, Name, _}) when Module =:= erlang; Module =:= 'Elixir.Process' ->
+    [timers || lists:member(Name, [send_after, start_timer])];
+kind_of(Call) -> [replies || is_reply(Call)].
+
+%% Whether its stack has a fun that may answer a caller: with terms of its own, which aren't printed, and of a module
+%% that calls a reply.
+closures(Info) ->
+    case on_stack(Info, "#Fun<[^<>]+[.][0-9]+[.][0-9]+>") of
+        cut -> cut;
+        Funs -> lists:any(fun may_reply/1, Funs)
+    end.
+
+may_reply(Text) ->
+    {match, [Module, Index]} = re:run(Text, "<'?(.+?)'?[.]([0-9]+)[.][0-9]+>$", [{capture, all_but_first, binary}]),
+    case with_terms(Module) of
+        any -> true;
+        Indices -> lists:member(binary_to_integer(Index), Indices)
+    end.
+
+%% The numbers of the funs of a module that have terms of their own, if it calls a reply; `any` if its code isn't there.
+with_terms(Module) ->
+    Key = {?MODULE, funs, Module},
+    case get(Key) of
+        undefined -> put(Key, funs_of(catch binary_to_existing_atom(Module))), get(Key);
+        Known -> Known
+    end.
+
+funs_of(Module) when is_atom(Module) ->
+    case code:get_object_code(Module) of
+        {_, Code, _} ->
+            case beam_lib:chunks(Code, [imports, "FunT"]) of
+                {ok, {_, [{imports, Imports}, {_, <<_:32, Table/binary>>}]}} ->
+                    [Index || <<_:96, Index:32, Free:32, _:32>> <= Table, Free > 0, lists:any(fun is_reply/1, Imports)];
+                _ -> any
+            end;
+        error -> any
+    end;
+funs_of(_) -> any.
+
+is_reply({Module, reply, _}) -> lists:member(Module, [gen, gen_server, gen_statem, 'Elixir.GenServer']);
+is_reply(_) -> false.
+
+%% What its stack has of a form, or cut if that isn't read, or is too much.
+on_stack(Info, Form) ->
+    case lists:keyfind(backtrace, 1, Info) of
+        {_, Stack} ->
+            Found = case re:run(Stack, Form, [global, {capture, first, binary}]) of
+                {match, Some} -> lists:usort(lists:append(Some));
+                nomatch -> []
+            end,
+            case length(Found) =< ?FOUND of true -> Found; false -> cut end;
+        false -> cut
+    end.
+
+%% The references in some terms, or cut if they are too large or too many.
+search([], _, Found) when map_size(Found) =< ?FOUND -> maps:keys(Found);
+search(Terms, Left, _) when Terms =:= []; Left =< 0 -> cut;
+search([Term | Terms], Left, Found) when is_reference(Term) -> search(Terms, Left - 1, Found#{Term => true});
+search([[Head | Tail] | Terms], Left, Found) -> search([Head, Tail | Terms], Left - 1, Found);
+search([Term | Terms], Left, Found) when is_tuple(Term), tuple_size(Term) =< Left ->
+    search([tuple_to_list(Term) | Terms], Left - 1, Found);
+search([Term | Terms], Left, Found) when is_map(Term), map_size(Term) =< Left ->
+    search([maps:to_list(Term) | Terms], Left - 1, Found);
+search([Term | _], _, _) when is_tuple(Term); is_map(Term) -> cut;
+search([Term | Terms], Left, Found) when is_function(Term) ->
+    {env, Inside} = erlang:fun_info(Term, env),
+    search([Inside | Terms], Left - 1, Found);
+search([_ | Terms], Left, Found) -> search(Terms, Left - 1, Found).
+
+is_idle(Info) ->
+    case lists:keyfind(current_stacktrace, 1, Info) of
+        {_, [{Module, Function, Arity, _} | _]} -> is_loop({Module, Function, Arity});
+        _ -> false
+    end.
+
+line(backtrace, {_, Stack}, Info) -> [characters(Stack) || not is_idle(Info)];
+line(messages, {_, Messages}, _) ->
+    ["{messages,[", lists:join(",", [shortened(Message) || Message <- Messages]), "]}\n"];
+line(dictionary, {_, Words}, _) ->
+    Start = [Word || {Key, _} = Word <- Words, lists:member(Key, ['$initial_call', '$ancestors'])],
+    io_lib:format("{dictionary,~0tp}~n", [Start]);
+line(_, {Key, Value}, _) -> io_lib:format("{~p,~0tp}~n", [Key, Value]);
+line(Key, false, Info) -> [io_lib:format("{~p,cut}~n", [Key]) || Key =/= backtrace orelse not is_idle(Info)].
+
+shortened(Message) -> io_lib:format("~0tp", [Message], [{chars_limit, ?CHARACTERS}]).
+
+%% The runtime prints atoms in UTF-8, and a list of bytes as these bytes.
+characters(Stack) ->
+    case unicode:characters_to_list(Stack) of
+        Characters when is_list(Characters) -> Stack;
+        _ -> unicode:characters_to_binary(Stack, latin1)
+    end.
+
+%% Which processes are taken, and how many others there are that aren't of the system.
+chosen(Modules, Apart) ->
+    Own = [Module || Module <- Modules, not is_of_otp(Module)],
+    {System, Others} = lists:partition(fun is_of_system/1, processes() -- Apart),
+    Found = [P || P <- System, is_of(Own, P)] ++ [P || P <- Others, is_of(Modules, P)],
+    Taken = with_callers(Found, Others -- Found),
+    Left = length([P || P <- Others -- Taken, is_process_alive(P)]),
+    {lists:sort(Taken), Left}.
+
+%% Whether a module is of an application of Erlang's or Elixir's own. A module of theirs, such as supervisor, chooses no
+%% process of the runtime or of kernel.
+-define(SYSTEM, [kernel, stdlib, elixir, logger, iex]).
+
+is_of_otp(Module) -> is_one_of(?SYSTEM, Module).
+
+%% What compiles programs keeps nothing of theirs.
+is_tool(Module) -> is_one_of([compiler, eex, mix], Module).
+
+is_one_of(Applications, Module) ->
+    case code:which(Module) of
+        Path when is_list(Path) -> lists:any(fun(Name) -> is_below(code:lib_dir(Name), Path) end, Applications);
+        Other -> Other =:= preloaded
+    end.
+
+is_below(Folder, Path) -> is_list(Folder) andalso lists:prefix(Folder ++ "/", Path).
+
+is_of_system(P) ->
+    P =< whereis(application_controller) orelse
+        lists:member(application:get_application(P), [{ok, Name} || Name <- ?SYSTEM]).
+
+%% Whether it began in one of the modules, is a server of one, or has a function of one on its stack.
+is_of(Modules, P) ->
+    case process_info(P, [initial_call, memory, stack_size, current_stacktrace]) of
+        undefined -> false;
+        [{_, {First, _, _} = Start}, {_, Memory}, {_, Words}, {_, Stack}] ->
+            Seen = [First, server(P, Memory) | [Module || {Module, _, _, _} <- Stack]],
+            lists:any(fun(Module) -> lists:member(Module, Modules) end, Seen) orelse
+                not is_whole(Stack, Start) andalso is_short(Words, Memory) andalso is_on_stack(Modules, P)
+    end.
+
+server(P, Memory) when Memory < ?MEMORY ->
+    case process_info(P, dictionary) of
+        {_, Words} -> case proplists:get_value('$initial_call', Words) of {Module, _, _} -> Module; _ -> none end;
+        undefined -> none
+    end;
+server(_, _) -> none.
+
+%% Whether a stack goes down to where the process began. It is no deeper than the node was told to print.
+is_whole([], _) -> false;
+is_whole(Stack, Start) ->
+    {Module, Function, Arity, _} = lists:last(Stack),
+    {Module, Function, Arity} =:= Start orelse Module =:= proc_lib andalso Function =:= init_p_do_apply.
+
+is_on_stack(Modules, P) ->
+    Calls = [unicode:characters_to_binary(io_lib:format("(~tp:", [Module])) || Module <- Modules],
+    case process_info(P, backtrace) of
+        {_, Stack} -> Calls =/= [] andalso binary:match(Stack, Calls) =/= nomatch;
+        undefined -> false
+    end.
+
+%% Adds those that monitor one that is taken, again and again. Who calls a server as the last thing that it does has no
+%% function of its own on its stack, and monitors the server.
+with_callers(Taken, Others) ->
+    Known = maps:from_list([{P, true} || P <- Taken]),
+    case [P || P <- Others, is_caller(Known, P)] of
+        [] -> Taken;
+        More -> with_callers(Taken ++ More, Others -- More)
+    end.
+
+is_caller(Known, P) ->
+    case process_info(P, [monitors, current_function]) of
+        [{_, Monitors}, {_, Function}] ->
+            lists:any(fun({process, Whom}) -> is_called(Known, Function, Whom); (_) -> false end, Monitors);
+        undefined -> false
+    end.
+
+%% Which processes of another node are taken isn't known here.
+is_called(Known, Function, Whom) ->
+    case Whom of
+        {Name, Node} when Node =:= node() -> is_map_key(whereis(Name), Known);
+        P when is_pid(P), node(P) =:= node() -> is_map_key(P, Known);
+        _ -> element(1, Function) =:= gen
+    end.

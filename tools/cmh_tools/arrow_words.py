@@ -1,0 +1,58 @@
+"""What an arrow between two boxes of a picture says of how many, where not all of one wait for all of the other."""
+from __future__ import annotations
+
+from typing import Collection, Dict, FrozenSet, Iterable, List, NamedTuple, Tuple
+
+Pair = Tuple[int, int]
+
+
+class Reach(NamedTuple):
+    """How many of a box have whom of another one, each set once, and whether all of them have all of it."""
+
+    number: int
+    sets: FrozenSet[FrozenSet[int]]
+    is_whole: bool
+
+
+def words_of(reach: Reach, start: int, end: int, needs_all: bool) -> str:
+    """Returns the words on an arrow between boxes of so many: how many have whom, if not all have all."""
+    some = "" if reach.number == start else f"{reach.number:,} of {start:,}"
+    if end == 1 or reach.is_whole:
+        return some if end == 1 or not some else f"{some} → {'all' if needs_all else 'any of'} {end:,}"
+    if len(reach.sets) == 1:
+        whom = f"{sum(map(len, reach.sets)):,} of {end:,}"
+        return whom if start == 1 else f"{some or 'all'} → {whom}"
+    return f"{some} → {each_words(reach)}".lstrip("→ ")
+
+
+def far_words(number: int, start: int) -> str:
+    """Returns the words on an arrow from so many to the root that they are behind: how many wait for it themselves."""
+    return f"{number:,} of {start:,} directly" if number else "through others"
+
+
+def each_words(reach: Reach) -> str:
+    """Returns whom each one has, if not all have the same."""
+    if any(len(some) > 1 for some in reach.sets):
+        return "each some of these"
+    return "each its own" if len(reach.sets) == reach.number else "each one of these"
+
+
+def reach_of(rows: Iterable[Tuple[List[int], Collection[int], bool]], end: Collection[int]) -> Reach:
+    """Returns the reach of some into a box. Each row has those that share a list, it, and whether it is of one alone,
+    who doesn't have to be in it."""
+    number, sets, is_whole, inside = 0, set(), True, frozenset(end)
+    for some, whom, is_own in rows:
+        found = inside.intersection(whom)
+        if found:
+            number += len(some)
+            sets.add(found)
+            is_whole = is_whole and len(found.union(inside.intersection(some) if is_own else ())) == len(inside)
+    return Reach(number, frozenset(sets), is_whole)
+
+
+def by_first(pairs: Iterable[Pair]) -> Dict[int, List[int]]:
+    """Returns for each first one of some pairs the others."""
+    found: Dict[int, List[int]] = {}
+    for first, other in pairs:
+        found.setdefault(first, []).append(other)
+    return found

@@ -1,0 +1,293 @@
+"""How the state of each live system is taken: what that needs, what the system feels of it, and the commands for it."""
+from __future__ import annotations
+
+import contextlib
+import glob
+import os
+import pwd
+import shutil
+import signal
+import subprocess
+import sys
+import time
+from dataclasses import dataclass, field
+from typing import Dict, Iterator, List, Optional, Sequence
+
+from .files import Failure, shown
+
+HOME = os.path.dirname(os.path.dirname(os.path.realpath(__file__)))
+PATIENCE = 10  # seconds in which a command that is ended puts away what it has begun
+REST = 1  # seconds in which a process goes on, or stands still, once its debugger has ended
+STOP = 1 << (signal.SIGSTOP - 1)  # in a mask of signals
+
+
+@dataclass(frozen=True)
+class System:
+    """A system, or one way to take it. `says` is what it stops, and for how long; `needs` has the commands that it
+    takes, each with Debian's package; `is_once` says that its recipe prints one state, so that it is run twice."""
+
+    says: str
+    needs: Dict[str, str] = field(default_factory=dict)
+    is_once: bool = False
+
+
+SYSTEMS = {
+    "linux": System("nothing is stopped, and no signal is sent"),
+    "jvm": System("the JVM stops at a safepoint while it prints its threads: twice, 0.6 s with 60 million objects",
+                  {"jstack": "default-jdk-headless"}),
+    "go": System("the program stops while it prints its goroutines: twice, 0.6 s with 100,000 of them"),
+    "python": System("nothing is stopped: a signal wakes the thread of cmh_state, and a system call of the main thread "
+                     "may return early"),
+    "erlang": System("no process is held, but each while its own stack is printed",
+                     {"erl": "erlang-nox", "erlc": "erlang-nox"}),
+    "mpi": System("gdb stops each rank in turn while it reads it: twice, some 0.6 s", {"gdb": "gdb"}),
+    "rabbitmq": System("nothing is stopped: rabbitmqctl asks the broker", {"rabbitmqctl": "rabbitmq-server"}, True),
+}
+
+HEAP = ("the JVM collects its garbage, and then stops while it dumps its heap: 10.5 s for 2.4 GB that live then, which "
+        "need as much room in $TMPDIR meanwhile; it also stops twice while it prints its threads")
+
+
+# The ways to Python processes that haven't loaded cmh_state.
+PYTHON_WAYS = {
+    "py-spy": "py-spy reads the memory of each process, and stops nothing: twice. It shows no locks",
+    "gdb": "gdb with python3-dbg stops each process while it reads it: twice, some 3 s. It shows no owners of locks",
+}
+
+
+@dataclass
+class Capture:
+    """A state that is to be taken: of a system, and of which of its processes, nodes or addresses."""
+
+    system: str
+    targets: List[str]
+    how: str = ""  # a way that isn't the system's first one, in words, whose commands are there
+    command: Sequence[str] = ()  # of such a way
+
+    def words(self, seconds: float) -> List[str]:
+        """Returns the command that prints it."""
+        if self.command:
+            return [*self.command, *self.targets]
+        if self.system == "linux":
+            collector = [sys.executable, f"{HOME}/cmh_linux.py", "--seconds", f"{seconds:g}"]
+            return [*collector, *(word for pid in self.targets for word in ("--pid", pid))]
+        targets = [",".join(self.targets)] if self.system == "erlang" else self.targets
+        return [recipe(self.system), *targets]
+
+    def held(self) -> List[str]:
+        """Returns the processes to which a debugger attaches, by their numbers."""
+        if "gdb" in self.command or (self.system == "mpi" and not self.command):
+            return [pid for it in self.targets for pid in pids_of(it)]
+        return []
+
+    def names(self) -> List[str]:
+        """Returns the names of the files that have its states."""
+        return [f"{self.system}.{at}.state" for at in range(1, 3 if SYSTEMS[self.system].is_once else 2)]
+
+
+def recipe(system: str) -> str:
+    """Returns the path of the script that prints a state. Raises Failure if it isn't there."""
+    for folder in (f"{HOME}/recipes", f"{HOME}/../../share/cmh"):
+        if os.path.exists(f"{folder}/take-{system}"):
+            return f"{folder}/take-{system}"
+    raise Failure(f"take-{system} isn't there: the tools aren't installed as a whole")
+
+
+def check_needs(capture: Capture) -> None:
+    """Raises Failure if a command is missing."""
+    system = capture.system
+    for command, package in SYSTEMS[system].needs.items() if not capture.how else ():
+        if shutil.which(command) is None:
+            raise Failure(f"{command} is needed for {system}, and isn't there (Debian: apt-get install {package})")
+    for pid in capture.targets if system == "jvm" and os.geteuid() else ():
+        with contextlib.suppress(FileNotFoundError):
+            check_user(pid, os.stat(f"/proc/{pid}").st_uid)
+
+
+def check_user(pid: str, owner: int) -> None:
+    """Raises Failure if a JVM is of another user: it answers its own and root alone."""
+    if owner != os.geteuid():
+        try:
+            user = pwd.getpwuid(owner).pw_name
+        except KeyError:
+            user = f"#{owner}"  # (as sudo has users by their numbers)
+        raise Failure(f"process {pid} is of another user, by whom a JVM has to be asked: sudo -u '{user}' cmh-stall "
+                      f"jvm {pid}")
+
+
+def captures_for(system: str, targets: List[str], may_kill: bool, may_dump: bool) -> List[Capture]:
+    """Returns what is to be taken. Of Python processes that don't answer a signal, a tool that is there shows the
+    places besides what Linux sees."""
+    made = capture_for(system, targets, may_kill, may_dump)
+    way = way_to_python(targets) if system == "python" and made.system == "linux" else ""
+    if not way:
+        return [made]
+    command = [sys.executable, f"{HOME}/cmh_python_reader.py", way]
+    frames = Capture("python", targets, PYTHON_WAYS[way], command)
+    return [frames, made] if way == "py-spy" else [frames]  # (gdb takes too long for both to be of one time)
+
+
+def way_to_python(targets: Sequence[str]) -> str:
+    """Returns the tool that shows where Python processes stand which haven't loaded cmh_state, or nothing."""
+    if shutil.which("py-spy"):
+        return "py-spy"
+    # (gdb loads no script that lies beside a program, where anybody may have put it.)
+    has_symbols = all(os.path.exists(f"/usr/share/gdb/auto-load{link_of(f'/proc/{pid}/exe')}-gdb.py")
+                      for pid in targets)
+    return "gdb" if has_symbols and shutil.which("gdb") else ""
+
+
+def capture_of_ranks(targets: List[str]) -> Capture:
+    """Returns how ranks are taken: by the records of their calls, where these are, or else by gdb or eu-stack."""
+    if any(map(has_record, targets)):
+        return Capture("mpi", targets, "nothing is stopped: the records of cmh_mpi.so are read, twice",
+                       [sys.executable, f"{HOME}/cmh_mpi_reader.py"])
+    if shutil.which("gdb") is None and shutil.which("eu-stack"):
+        return Capture("mpi", targets, "eu-stack stops each rank in turn while it reads it: twice, some 0.04 s. It "
+                       "shows no arguments, as gdb would (Debian: apt-get install gdb)")
+    return Capture("mpi", targets)
+
+
+def capture_for(system: str, targets: List[str], may_kill: bool, may_dump: bool) -> Capture:
+    """Returns what is to be taken, of a JVM with its heap if people ask for that. A Python process that doesn't answer
+    a signal, and a Go process that is named by its number, are taken as Linux sees them, since nothing is sent to a
+    process that may end by it: unless people ask."""
+    if may_kill:
+        return Capture(system, ["--kill", *targets], "the program is ended by SIGQUIT, and writes its goroutines then")
+    if system == "jvm" and may_dump:
+        return Capture(system, ["--heap", *targets], HEAP)
+    if system == "mpi":
+        return capture_of_ranks(targets)
+    if system == "python" and not all(map(answers, targets)):
+        return Capture("linux", targets, "a process hasn't loaded cmh_state, so it is read as the kernel sees it, "
+                       "which shows no locks of Python's")
+    if system == "go" and all(map(str.isdigit, targets)):
+        return Capture("linux", targets, "it is read as the kernel sees it, which shows no goroutines: name HOST:PORT "
+                       "of a program that serves net/http/pprof, or end it by --kill")
+    return Capture(system, targets)
+
+
+def answers(pid: str) -> bool:
+    """Whether a Python process has a file in memory by which it shows that it answers a signal."""
+    with contextlib.suppress(OSError):
+        folder = f"/proc/{pid}/fd"
+        return any(link_of(f"{folder}/{fd}").startswith("/memfd:cmh_state ") for fd in os.listdir(folder))
+    return False
+
+
+def has_record(target: str) -> bool:
+    """Whether a rank, named by its number or its executable file, has a record of cmh_mpi.so."""
+    return any(glob.glob(f"/proc/{pid}/root/dev/shm/cmh_mpi.*.{start_of(pid)}") for pid in pids_of(target))
+
+
+def pids_of(target: str) -> List[str]:
+    """The numbers of the processes that are named by one, or by their executable file."""
+    if target.isdigit():
+        return [target]
+    return [pid for pid in filter(str.isdigit, os.listdir("/proc"))
+            if os.path.basename(link_of(f"/proc/{pid}/exe")) == target]
+
+
+def start_of(pid: str) -> str:
+    """When a process began, as the kernel counts it."""
+    with contextlib.suppress(OSError, IndexError), open(f"/proc/{pid}/stat", "rb") as file:
+        return file.read().rpartition(b")")[2].split()[19].decode()
+    return "?"
+
+
+def link_of(path: str) -> str:
+    with contextlib.suppress(OSError):
+        return os.readlink(path)
+    return ""
+
+
+def standstill(pid: str) -> str:
+    """How a process stands still: "traced" if a debugger has a thread, "stopped" if a signal has stopped one or will,
+    or nothing."""
+    found = ""
+    for path in glob.glob(f"/proc/{pid}/task/*/status"):
+        with contextlib.suppress(OSError), open(path, encoding="utf-8", errors="replace") as file:
+            rows = dict(line.rstrip("\n").split(":\t", 1) for line in file if ":\t" in line)
+            if rows["TracerPid"] != "0":
+                return "traced"
+            if rows["State"].startswith("T") or int(rows["SigPnd"], 16) & STOP:
+                found = "stopped"
+    return found
+
+
+def let_go(pids: Sequence[str]) -> None:
+    """Has processes go on whose debugger has been ended. It stops a process by SIGSTOP, and where it ends before it has
+    seen that done, the process stays stopped."""
+    last = time.monotonic() + REST
+    left = set(pids)
+    while left and time.monotonic() < last:
+        for pid in [it for it in left if standstill(it) == "stopped"]:
+            left.remove(pid)
+            with contextlib.suppress(OSError):
+                os.kill(int(pid), signal.SIGCONT)
+        time.sleep(0.02)
+
+
+class Running:
+    """A command that takes a state. It is ended with all that it has begun, if this one is."""
+
+    def __init__(self, capture: Capture, seconds: float, env: Dict[str, str]) -> None:
+        self.capture = capture
+        self.held = [pid for pid in capture.held() if not standstill(pid)]
+        self.process = subprocess.Popen(
+            capture.words(seconds), stdin=subprocess.DEVNULL, stdout=subprocess.PIPE, stderr=subprocess.PIPE,
+            start_new_session=True, env={**os.environ, "CMH_SECONDS": f"{seconds:g}", **env})
+
+    def text(self, seconds: float) -> Optional[str]:
+        """Returns what it printed, or None if it hasn't ended within so many seconds. Raises Failure if it failed."""
+        try:
+            out, err = self.process.communicate(timeout=seconds)
+        except subprocess.TimeoutExpired:
+            return None
+        if self.process.returncode or not out:
+            said = err.decode(errors="backslashreplace").strip() or f"status {self.process.returncode}"
+            lines = "\n".join(shown(line) for line in said.split("\n"))
+            raise Failure(f"the state of {self.capture.system} couldn't be taken: {lines}")
+        return out.decode(errors="backslashreplace")
+
+    def end(self) -> None:
+        if self.process.poll() is None:
+            os.killpg(self.process.pid, signal.SIGTERM)
+            with contextlib.suppress(subprocess.TimeoutExpired):
+                self.process.communicate(timeout=PATIENCE)
+        with contextlib.suppress(ProcessLookupError):
+            os.killpg(self.process.pid, signal.SIGKILL)
+        if self.process.poll() != 0:
+            let_go(self.held)
+
+
+def take(captures: Sequence[Capture], seconds: float, env: Dict[str, str]) -> Iterator[Dict[str, str]]:
+    """Yields the texts of the states of each capture by the names of their files. All are begun at one time, so that
+    their first readings come before any second one."""
+    running: List[Running] = []
+    begun = time.monotonic()
+    try:
+        running += [Running(it, seconds, env) for it in captures]
+        for it in tuple(running):
+            texts = [wait(it, begun)]
+            for _ in it.capture.names()[1:]:
+                time.sleep(max(0.0, seconds - (time.monotonic() - begun)))
+                running.append(Running(it.capture, seconds, env))
+                texts.append(wait(running[-1], begun))
+            yield dict(zip(it.capture.names(), texts))
+    finally:
+        for it in running:
+            it.end()
+
+
+def wait(running: Running, begun: float) -> str:
+    """Returns the text of a state, and counts the seconds on a terminal meanwhile."""
+    text = running.text(1)
+    is_seen = sys.stderr is not None and sys.stderr.isatty()
+    while text is None:
+        if is_seen:
+            print(f"\r{running.capture.system}: {time.monotonic() - begun:.0f} s ", end="", file=sys.stderr, flush=True)
+        text = running.text(1)
+    if is_seen:
+        print("\r\033[K", end="", file=sys.stderr, flush=True)
+    return text

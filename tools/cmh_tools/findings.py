@@ -1,0 +1,193 @@
+"""What is known of a dump with both its answers, by index: the text, the JSON and the pictures are all made of this."""
+from __future__ import annotations
+
+from typing import Dict, Iterator, List, NamedTuple, Optional, Tuple
+
+from .dump import Dump
+from .idle import quiet
+from .guesses import without_guesses
+from .proposals import Line, Proposal, lines_of, propose
+from .reasons import Reason, Rests, counts_of
+from .roots import Roots, count_waiters, edges_among, ends, way, without_hubs
+from .sketch import ALL, ANY, ENDED, GUESS, LIMIT, RUNS, UNKNOWN, Process, premise
+from .stuck import Answer, Waits
+
+STUCK, UNDECIDED, NOT_STUCK = "stuck", "undecided", "not_stuck"  # verdicts, beside ENDED
+STATUSES = {STUCK: 3, UNDECIDED: 5, NOT_STUCK: 0}
+START = -1  # no process
+RUNNING, MESSAGE, COME = "runs", "message_in_transit", "all_have_come"  # why one goes on by itself
+
+
+class Waiters(NamedTuple):
+    """Who depends on an unknown one: how many, whether that is the whole number, and the nearest of them."""
+
+    number: int
+    is_whole: bool
+    nearest: List[int]
+
+
+class Verdicts:
+    """Who is stuck, who is undecided, and who is neither, by both answers. `quiet` are idle ones that tell of no stall.
+    """
+
+    def __init__(self, waits: Waits, low: Answer, high: Answer) -> None:
+        self.stuck = low.members()
+        inside = set(self.stuck)
+        self.quiet = quiet(waits, low, high)
+        self.undecided = [at for at in high.members() if at not in inside and at not in self.quiet]
+        self.well = [at for at in range(waits.number) if not high.inside[at] or at in self.quiet]
+
+    def worst(self) -> str:
+        """Returns the verdict on the whole."""
+        return STUCK if self.stuck else UNDECIDED if self.undecided else NOT_STUCK
+
+
+def is_limited_still(process: Process) -> bool:
+    """Whether one is taken to continue as its wait has a limit, and stood at it in all states."""
+    return process.stays and premise(LIMIT) in process.because
+
+
+class Findings(Verdicts):
+    """The verdicts on a dump, its roots, and what the undecided ones hang on. `certain` are the verdicts without
+    guesses, `guesses` those on which anybody rests."""
+
+    def __init__(self, dump: Dump) -> None:
+        super().__init__(dump.waits, dump.low, dump.high)
+        self.dump, self.waits, self.low, self.high = dump, dump.waits, dump.low, dump.high
+        self.open = set(self.undecided)
+        self.ended = [at for at in range(self.waits.number) if self.waits.kind(at) == ENDED]
+        self.roots = Roots(self.waits, self.stuck)
+        self.rests = Rests(dump.sketch)
+        self.left_over = self.waits.stuck_without(self.roots.root_of) if self.stuck else []
+        self.guesses = sorted((it for it in self.reasons() if it.kind == GUESS), key=lambda it: int(it.name))
+        self.certain = self.without_guesses() if self.guesses else self
+        self.if_guesses = {*self.stuck}.difference(self.certain.stuck) | {*self.well}.difference(self.certain.well)
+
+    # The whole
+
+    def without_guesses(self) -> Verdicts:
+        waits = Waits(without_guesses(self.dump.sketch))
+        return Verdicts(waits, waits.answer(False), waits.answer(True))
+
+    def status(self) -> int:
+        """Returns the status, which rests on no guess."""
+        return STATUSES[self.certain.worst()]
+
+    def reasons(self) -> List[Reason]:
+        """Returns the reasons on which any process rests."""
+        return [self.rests.reason(*row) for row in counts_of(self.waits.processes).items()]
+
+    def running(self) -> List[int]:
+        """Returns those that aren't stuck and wait for nobody, idle ones too."""
+        return [at for at in self.well if self.waits.kind(at) == RUNS or at in self.quiet]
+
+    def are_all_idle(self) -> bool:
+        """Whether each process that has not ended is idle. Idle ones may be left out, which a warning says."""
+        left = len(self.waits.processes) - len(self.ended)
+        is_left_out = any(line.startswith("idle ") for line in self.dump.sketch.warnings)
+        return len(self.quiet) == left and (left > 0 or is_left_out and not self.ended)
+
+    def rests_on_guesses(self, some: List[int]) -> bool:
+        """Whether the verdict on some of these is another one without guesses."""
+        return not self.if_guesses.isdisjoint(some)
+
+    # One process
+
+    def process(self, at: int) -> Process:
+        return self.waits.processes[at]
+
+    def processes(self, some: List[int]) -> List[Process]:
+        return [self.waits.processes[at] for at in some]
+
+    def verdict(self, at: int) -> str:
+        if at in self.roots.above:
+            return STUCK
+        if self.waits.kind(at) == ENDED:
+            return ENDED
+        return UNDECIDED if at in self.open else NOT_STUCK
+
+    def place(self, at: int) -> str:
+        """Returns what is known of its place: the note, or else its topmost frame with the operation."""
+        process = self.waits.processes[at]
+        return process.note or " ".join(filter(None, [*process.frames[:1], process.operation]))
+
+    def goes_on(self, at: int) -> Optional[str]:
+        """Returns why one goes on by itself, if it does whatever unknown ones do."""
+        if not self.waits.is_awake(at):
+            return None
+        return {ANY: MESSAGE, ALL: COME}.get(self.waits.kind(at), RUNNING)
+
+    def chain(self, at: int) -> List[int]:
+        """Returns the way from one process to what its answer rests on: one of its root, an unknown one, or one who
+        goes on by itself."""
+        if at in self.roots.above:
+            return self.roots.chain(at)
+        if at in self.open:
+            found = way(edges_among(self.waits, self.undecided), at,
+                        {it for it in self.undecided if self.waits.kind(it) == UNKNOWN})
+            return without_hubs(self.waits, found)
+        chain = [at]
+        cause = None if self.waits.kind(at) == ENDED else self.high.cause[at]
+        while cause is not None:
+            chain.append(cause)
+            cause = self.high.cause[cause]
+        return chain
+
+    # Roots
+
+    def cycle(self, number: int) -> List[int]:
+        """Returns the members of a root in the order in which each waits for the next, if it is just one cycle of
+        several: each waits for one member alone."""
+        members, edges = self.roots.roots[number], self.roots.edges
+        is_cycle = len(members) > 1 and all(len(edges[at]) == 1 and edges[at][0] < self.waits.number for at in members)
+        return members if is_cycle else []
+
+    def shortest_cycle(self, number: int) -> List[int]:
+        """Returns members of a root in the order in which each waits for the next, and the last for the first, of which
+        there are as few as may be with its first member; or nothing, if that waits for no member."""
+        first, edges = self.roots.roots[number][0], self.roots.edges
+        others = [it for it in edges[first] if it != first]
+        if not others:
+            return [first] * len(edges[first])
+        found = without_hubs(self.waits, way({**edges, START: others}, START, {first})[1:-1])
+        return [first, *(found or [it for it in edges[others[0]] if it != first][:1])]
+
+    def sites(self, members: List[int]) -> Tuple[List[str], bool]:
+        """Returns the sites of some, and whether some have none."""
+        found = dict.fromkeys(self.waits.processes[at].site for at in members)
+        return [site for site in found if site is not None], None in found
+
+    # Who is undecided, and who isn't stuck
+
+    def unknown_ones(self, most: int) -> Iterator[Tuple[int, Waiters]]:
+        """Yields the unknown ones that others hang on, with at most `most` of these. The first has most."""
+        starts = [at for at in self.undecided if self.waits.kind(at) == UNKNOWN]
+        counts = count_waiters(self.waits, self.open, starts, most)
+        starts.sort(key=lambda at: -counts[at][0])
+        for at in starts:
+            yield at, Waiters(*counts[at])
+
+    def proposals(self) -> List[Proposal]:
+        """Returns the facts that would decide the undecided ones."""
+        return propose(self.dump.sketch, {self.waits.processes[at].name for at in self.quiet})
+
+    def ends(self) -> Dict[int, int]:
+        """Returns for each that isn't stuck and waits, the one who may unblock it in the end."""
+        found = ends(self.high)
+        return {at: end for at, end in found.items() if at != end}
+
+    def supposed(self, with_limits: bool = False) -> Dict[str, List[int]]:
+        """Returns the premises on which some run, with these; also that a limit of their wait ends, if it is asked."""
+        found: Dict[str, List[int]] = {}
+        for at in self.running():
+            for reason in self.waits.processes[at].because if self.waits.kind(at) == RUNS else ():
+                name = reason.partition("premise ")[2]
+                if name and (with_limits or reason != premise(LIMIT)):
+                    found.setdefault(name, []).append(at)
+        return found
+
+    def limited(self) -> List[Line]:
+        """Returns the lines of facts that would decide those that stood with a limit at the same place in all states,
+        with these."""
+        some = [it for it in self.processes(self.running()) if is_limited_still(it)]
+        return lines_of(some, self.dump.sketch) if some else []

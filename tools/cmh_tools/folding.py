@@ -1,0 +1,140 @@
+"""Folds the processes of a stall into groups, each of which is a box of its picture, so that a picture of any size has
+at most MOST boxes, and whoever there is is counted in one.
+
+Each process is in one part: in a root, behind one, undecided and so on. A part is folded step by step: those that are
+alike, as they wait for the same ones at one place, and the same ones wait for them; those at one line of source on one
+site; on any; all but the largest groups; all. A small picture is only folded by the first step, and a whole one not.
+"""
+from __future__ import annotations
+
+from collections import Counter
+from typing import Collection, Dict, Iterable, List, NamedTuple, Optional, Tuple
+
+from .explain import Explanation
+from .files import shown
+from .sketch import ENDED, RUNS, UNKNOWN
+
+ALIKE, LINE_OF_SITE, LINE, LARGEST, ONE = range(5)  # the steps
+ROOT, BEHIND, SHARED, MORE, UNDECIDED, OPEN, FREE, RUNNING, OVER = SORTS = (
+    "root", "behind", "shared", "more", "undecided", "unknown", "free", "runs", "ended")
+SMALL, FEW, MOST = 16, 24, 40  # boxes: of a small picture, and of a large one without and with those of roots folded
+ROOTS = 6  # roots that are drawn apart
+ALIKE_ROOTS = 3  # of so many that are alike, one is drawn
+AMPLE = {ROOT: 8, BEHIND: 6, SHARED: 4, MORE: 1, UNDECIDED: 4, OPEN: 4, FREE: 3, RUNNING: 3, OVER: 2}  # of a part
+Row = List[int]  # of processes that share a box
+
+
+class Part(NamedTuple):
+    """What a process is in the answer, and in or behind which root, if it is one alone."""
+
+    sort: str
+    root: Optional[int] = None
+
+
+class Folding:
+    """The rows of each part. `alone` are those that share no box, as they are asked for; if `is_whole`, nobody does."""
+
+    def __init__(self, explanation: Explanation, some: Iterable[int], alone: Collection[int], is_whole: bool) -> None:
+        self.this, self.waits, self.alone, self.is_whole = explanation, explanation.waits, alone, is_whole
+        self.senders = {it for some in self.waits.senders for it in some}
+        self.apart = set(range(len(explanation.roots.roots)) if is_whole else roots_apart(explanation))
+        self.parts: Dict[Part, Row] = {}
+        some = list(some)
+        for at in some:
+            self.parts.setdefault(self.part_of(at), []).append(at)
+        self.whom, self.waiters = known_by(self.waits.left, some), known_by(self.waits.waiters, some)
+
+    def part_of(self, at: int) -> Part:
+        roots = self.this.roots
+        if at in roots.above:
+            number, *others = roots.above[at]
+            if others:
+                return Part(SHARED)
+            return Part(ROOT if at in roots.root_of else BEHIND, number) if number in self.apart else Part(MORE)
+        kind = self.waits.kind(at)
+        if kind == ENDED:
+            return Part(OVER)
+        if at in self.this.open:
+            return Part(OPEN if kind == UNKNOWN else UNDECIDED)
+        return Part(RUNNING if kind == RUNS or at in self.this.quiet else FREE)
+
+    def rows(self) -> List[Tuple[Part, Row]]:
+        """Returns the rows with their parts, those of roots first."""
+        found = self.folded()
+        order = sorted(found, key=lambda part: (SORTS.index(part.sort), part.root or 0))
+        return [(part, row) for part in order for row in found[part]]
+
+    def folded(self) -> Dict[Part, List[Row]]:
+        """Returns the rows of each part: if they are too many, as many as are ample for it, and then one for each part
+        that has most, those of roots last."""
+        if self.is_whole:
+            return {part: [[at] for at in some] for part, some in self.parts.items()}
+        rows = {part: self.groups(part, ONE if part.sort == MORE else ALIKE) for part in self.parts}
+        if count(rows) > SMALL:
+            rows = {part: self.groups(part, self.first_step(part)) for part in self.parts}
+        by_size = sorted(rows, key=lambda part: len(rows[part]))
+        for most, some in ((FEW, [part for part in by_size if part.sort != ROOT]), (MOST, by_size)):
+            while count(rows) > most and some:
+                part = some.pop()
+                rows[part] = self.groups(part, ONE)
+        return rows
+
+    def first_step(self, part: Part) -> int:
+        """Returns the first step after which a part has no more rows than are ample."""
+        if part.sort == MORE:
+            return ONE
+        fit = (step for step in (ALIKE, LINE_OF_SITE, LINE) if len(self.groups(part, step)) <= self.ample(part))
+        return next(fit, LARGEST)
+
+    def ample(self, part: Part) -> int:
+        """Returns how many rows are ample for a part. Where nobody is stuck, those that wait have more."""
+        return AMPLE[ROOT if part.sort == FREE and not self.this.stuck else part.sort]
+
+    def groups(self, part: Part, step: int) -> List[Row]:
+        """Returns the rows of a part after a step."""
+        found: Dict[object, Row] = {}
+        for at in self.parts[part]:
+            found.setdefault(at if at in self.alone else self.key(at, step), []).append(at)
+        rows = sorted(found.values(), key=lambda row: row[0] not in self.alone)
+        if step < LARGEST:
+            return rows
+        kept = sum(row[0] in self.alone for row in rows)
+        if step == LARGEST:
+            rows[kept:] = sorted(rows[kept:], key=lambda row: (-len(row), not self.is_next_to_root(row[0])))
+            kept = max(kept, self.ample(part) - 1)
+        rest = [at for row in rows[kept:] for at in row]
+        return rows[:kept] + ([rest] if rest else [])
+
+    def is_next_to_root(self, at: int) -> bool:
+        return any(it in self.this.roots.root_of for it in self.waits.left[at])
+
+    def key(self, at: int, step: int) -> object:
+        """Returns what those have in common that share a row after a step. One whose place isn't known shares none."""
+        process = self.waits.processes[at]
+        place, sort = self.this.note(at) or shown(process.reason), (process.kind, self.this.goes_on(at))
+        if step == ALIKE:
+            return sort, place, process.site, self.whom[at], self.waiters[at], at in self.senders
+        if process.frames:
+            place = f"{process.operation} {process.frames[0]}"
+        return (sort, place, process.site if step == LINE_OF_SITE else None) if place else at
+
+
+def roots_apart(this: Explanation) -> List[int]:
+    """Returns the roots that are drawn: one of those that are alike, and at most a few."""
+    found: Dict[object, List[int]] = {}
+    for number, members in enumerate(this.roots.roots):
+        found.setdefault(tuple(sorted(map(this.note, members))), []).append(number)
+    drawn = (number for some in found.values() for number in some[:1 if len(some) >= ALIKE_ROOTS else None])
+    return sorted(drawn)[:ROOTS]
+
+
+def known_by(lists: List[List[int]], some: Iterable[int]) -> Dict[int, Tuple[int, ...]]:
+    """Returns for some processes what those have in common whose lists are equal. Where three or more have each the
+    others in their lists, or all of them, these are equal too."""
+    closed = {at: tuple(sorted({*lists[at], at})) for at in some if len(lists[at]) > 1}
+    counts = Counter(closed.values())
+    return {at: closed[at] if at in closed and counts[closed[at]] > 2 else tuple(lists[at]) for at in some}
+
+
+def count(rows: Dict[Part, List[Row]]) -> int:
+    return sum(map(len, rows.values()))

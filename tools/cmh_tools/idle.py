@@ -1,0 +1,57 @@
+"""Idle processes, as workers that wait for work: left out where nobody waits for them, so that they don't drown the
+answer. That changes no verdict: nobody waits for one that is left out. One that may be waited for stays, unknown."""
+from __future__ import annotations
+
+from collections import Counter
+from typing import List, Set
+
+from .sketch import UNKNOWN, WORK, Process, Sketch, distinct_lists
+from .stuck import Answer, Waits
+
+
+def leave_out(sketch: Sketch, what: str) -> None:
+    """Leaves out the idle ones that nobody waits for and no fact decides. Says how many in one line, as `what` in the
+    plural."""
+    wanted = {name for whom in distinct_lists(sketch.processes) for name in whom}
+    wanted.update(name for process in sketch.processes for name in process.besides)
+    kept: List[Process] = []
+    out: Counter[str] = Counter()
+    for process in sketch.processes:
+        if is_stand_in(process) and process.name not in wanted:
+            continue
+        if process.is_idle and process.name not in wanted and not has_fact(process):
+            out[WORK if process.is_spoilt else process.reason or WORK] += 1
+            sketch.idle += [process.thread] if process.thread else []
+        else:
+            kept.append(process)
+    sketch.processes = kept
+    if out:
+        ways = ", ".join(f"{number} {way if number == 1 else plural(way)}" for way, number in out.most_common())
+        total = sum(out.values())
+        sketch.warnings.append(f"idle {what} that nobody waits for are left out, {total} in all: {ways}")
+
+
+def is_stand_in(process: Process) -> bool:
+    """Whether it is nobody of the system, but stands for others who may not be there."""
+    return process.is_idle and process.kind == UNKNOWN and process.proposal == "ended"
+
+
+def has_fact(process: Process) -> bool:
+    return any(reason.startswith("fact ") for reason in process.because)
+
+
+def plural(way: str) -> str:
+    """'waits for work' as 'wait for work'."""
+    verb, *rest = way.split(" ")
+    return " ".join([{"carries": "carry", "has": "have", "it": "they"}.get(verb, verb.rstrip("s")), *rest])
+
+
+def quiet(waits: Waits, low: Answer, high: Answer) -> Set[int]:
+    """Returns the idle unknown ones of a sketch that tell of no stall: those on which nobody undecided hangs, nor would
+    hang if they didn't end its wait besides."""
+    besides = {name for process in waits.processes if process.kind == UNKNOWN and not process.is_idle
+               for name in process.besides}
+    return {at for at, process in enumerate(waits.processes) if process.is_idle and process.kind == UNKNOWN
+            and process.name not in besides
+            and not any(high.inside[it] and not low.inside[it] for it in waits.waiters[at])}
+

@@ -1,0 +1,142 @@
+"""Joins the sketches of several systems of one machine, by the threads that they share: what one knows counts where
+another doesn't, and where two differ the process is unknown.
+
+Each was read twice. All first readings have ended before a second one begins, so that there is a time at which all
+waits lasted that were the same in both: a wait has to show by a count that it was.
+"""
+from __future__ import annotations
+
+import functools
+from dataclasses import replace
+from typing import Dict, List, Sequence
+
+from .files import Refusal, shown
+from .guesses import renumbered, without_guess
+from .moments import STOOD, UNCOUNTED
+from .sketch import ALL, ANY, DONE, ENDED, INNER, RUNS, SYSTEM, UNKNOWN, Process, Sketch, premise, quote
+
+
+def join_sketches(sketches: Sequence[Sketch], paths: Sequence[str]) -> Sketch:
+    """Returns one sketch of several. Raises Refusal if they are of no one time, or not of one machine."""
+    check_machine(sketches, paths)
+    check_times(sketches, paths)
+    joined = functools.reduce(join_two, sketches)
+    for process in joined.processes:
+        if process.kind in (ANY, ALL) and process.count is None and premise(STOOD) not in process.because:
+            process.become_unknown(UNCOUNTED)
+            process.proposal = "none"
+    return joined
+
+
+def check_machine(sketches: Sequence[Sketch], paths: Sequence[str]) -> None:
+    for sketch, path in zip(sketches, paths):
+        if not sketch.machine:
+            raise Refusal(f"{shown(path)}: its state doesn't say of which machine it is, so its threads can't be told "
+                          "from others: Linux, Python and the JVM, read by this version, do")
+        if sketch.machine != sketches[0].machine:
+            raise Refusal(f"{shown(path)} is of {quote(sketch.machine)}, and {shown(paths[0])} of "
+                          f"{quote(sketches[0].machine)}: only what is of one machine and one container is joined")
+
+
+def check_times(sketches: Sequence[Sketch], paths: Sequence[str]) -> None:
+    for sketch, path in zip(sketches, paths):
+        if len(sketch.times) < 2:
+            raise Refusal(f"{shown(path)}: two readings are needed, with the time of each")
+    last = max(range(len(paths)), key=lambda at: sketches[at].times[0][1])
+    early = min(range(len(paths)), key=lambda at: sketches[at].times[1][0])
+    if sketches[last].times[0][1] >= sketches[early].times[1][0]:
+        raise Refusal(f"the second reading of {shown(paths[early])} began before the first one of {shown(paths[last])} "
+                      "had ended, so they show no one time: take both at once, with more time between the readings")
+
+
+def join_two(first: Sketch, second: Sketch) -> Sketch:
+    """Returns the sketch of two, in which the threads of both have the names of the first."""
+    second = renumbered(rename(second, new_names(first, second), new_premises(first, second)), first)
+    check_facts(first, second)
+    others = {process.name: process for process in second.processes}
+    mine = {process.name for process in first.processes}
+    processes = [join_process(it, others[it.name]) if it.name in others else it for it in first.processes]
+    processes += [it for it in second.processes if it.name not in mine]
+    idle, readers = {*first.idle, *second.idle}, {*first.readers, *second.readers}
+    inner = {*first.inner, *second.inner}
+    for process in processes:
+        process.is_idle = process.is_idle or process.kind == UNKNOWN and process.thread in idle
+        if process.thread in readers or process.thread in inner and process.kind == UNKNOWN:
+            process.because = []
+            why = SYSTEM if process.thread in readers else premise(INNER)
+            process.decide(ENDED, [why], reason=DONE)  # (it ends nobody's wait)
+    pairs = list(dict.fromkeys([*first.in_transit, *second.in_transit]))
+    return Sketch(processes, pairs, f"{first.system} and {second.system}", first.as_of,
+                  list(dict.fromkeys([*first.warnings, *second.warnings])), {**first.premises, **second.premises},
+                  [*first.facts, *(row for row in second.facts if row not in first.facts)],
+                  min(first.readings, second.readings), {**first.groups, **second.groups}, first.machine,
+                  [[min(a[0], b[0]), max(a[1], b[1])] for a, b in zip(first.times, second.times)], sorted(idle),
+                  sorted(readers), sorted(inner))
+
+
+def new_names(first: Sketch, second: Sketch) -> Dict[str, str]:
+    """Returns for each process of the second sketch what it is called: as in the first if that has its thread, or else
+    by its own name, with its system where another one has that."""
+    by_thread = {process.thread: process.name for process in first.processes if process.thread}
+    taken = {process.name for process in first.processes}
+    return {it.name: by_thread[it.thread] if it.thread in by_thread else
+            it.name if it.name not in taken else f"{it.name} ({second.system})" for it in second.processes}
+
+
+def new_premises(first: Sketch, second: Sketch) -> Dict[str, str]:
+    """Returns what each premise of the second sketch is called, where the first has one of this name that says
+    something else."""
+    return {name: f"{second.system} {name}" for name, sentence in second.premises.items()
+            if first.premises.get(name, sentence) != sentence}
+
+
+def rename(sketch: Sketch, names: Dict[str, str], premises: Dict[str, str]) -> Sketch:
+    reasons = {premise(name): premise(new) for name, new in premises.items()}
+    processes = [replace(it, name=names[it.name], whom=[names[name] for name in it.whom],
+                         besides=[names[name] for name in it.besides if name in names],
+                         candidates=[names.get(word, word) for word in it.candidates],
+                         because=[reasons.get(reason, reason) for reason in it.because]) for it in sketch.processes]
+    return replace(sketch, processes=processes, in_transit=[(names[a], names[b]) for a, b in sketch.in_transit],
+                   premises={premises.get(name, name): text for name, text in sketch.premises.items()})
+
+
+def check_facts(first: Sketch, second: Sketch) -> None:
+    """Raises Refusal if two lines of facts that differ are called the same."""
+    texts = {row["at"]: row["text"] for row in first.facts}
+    for row in second.facts:
+        if texts.get(row["at"], row["text"]) != row["text"]:
+            raise Refusal(f"two lines of facts are called {quote(row['at'])}: give the two files different names")
+
+
+def join_process(one: Process, other: Process) -> Process:
+    """Returns a process by what both know of it. What one knows goes before what the other guesses."""
+    if one.is_guessed() != other.is_guessed() and UNKNOWN not in (one.kind, other.kind):
+        one, other = without_guess(one), without_guess(other)
+    kinds = (one.kind, other.kind)
+    spoilt = next((it for it in (one, other) if it.is_spoilt), None)
+    known, less = (one, other) if one.kind != UNKNOWN else (other, one)
+    counts = [reason for reason in less.because if reason.startswith("premise ")]  # (others may last as it does)
+    made = replace(known, name=one.name, site=one.site, thread=one.thread,
+                   because=list(dict.fromkeys([*known.because, *counts])),
+                   note="; ".join(dict.fromkeys(filter(None, [one.note, other.note]))),
+                   besides=list(dict.fromkeys([*one.besides, *other.besides])))
+    if spoilt is not None:
+        made.become_unknown(spoilt.reason)
+        made.is_spoilt, made.proposal = True, "none"
+    elif kinds == (UNKNOWN, UNKNOWN):
+        made.reason = "; ".join(dict.fromkeys([one.reason, other.reason]))
+    elif UNKNOWN not in kinds and (one.kind != other.kind or {*one.whom} != {*other.whom}):
+        made.become_unknown(f"the two differ: by one it {words_for(one)}, by the other it {words_for(other)}")
+        made.proposal = "none"
+    elif UNKNOWN not in kinds:
+        made.because = list(dict.fromkeys([*one.because, *other.because]))
+        made.stays = one.stays and other.stays
+    return made
+
+
+def words_for(process: Process) -> str:
+    """Returns in words what one does, with the first of those that it waits for."""
+    if process.kind not in (ANY, ALL):
+        return "runs" if process.kind == RUNS else "has ended"
+    names: List[str] = [quote(name) for name in process.whom[:3]] + (["others"] if process.whom[3:] else [])
+    return f"{process.kind.replace('_', ' ')} of {', '.join(names) or 'nobody'}"

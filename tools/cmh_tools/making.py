@@ -1,0 +1,128 @@
+"""From raw states or sketches to the sketch that a dump is made of: facts are applied here, once, for all."""
+from __future__ import annotations
+
+from typing import Callable, Dict, List, Sequence, Tuple
+
+from . import guesses
+from .application import add_left_out, apply
+from .command import read_any
+from .facts import Facts
+from .files import Refusal, read_text, shown
+from .idle import leave_out
+from .join import join_sketches
+from .moments import STOOD, UNCOUNTED, both
+from .proposals import shorten_candidates
+from .recorders import State, recorder
+from .roots import Roots
+from .sketch import ALL, ANY, ENDED, REST, RUNS, UNKNOWN, Sketch, premise, read_sketch
+from .stuck import Waits
+
+
+def sketch_for(system: str, paths: Sequence[str], facts: Facts, read: Callable[[str], str] = read_text,
+               with_guesses: bool = False) -> Sketch:
+    """Returns the sketch of the states in some files, with the facts. `read` returns the text of a path."""
+    what = "processes"
+    if system == "sketch":
+        sketch = read_sketch(read_text(paths[0]), paths[0])
+    elif system == "both":
+        first, second = map(read_any, paths)
+        sketch = both(first, guesses.renumbered(second, first))
+    elif system == "join":
+        sketch, what = join_sketches([read_any(path) for path in paths], paths), "threads"
+    else:
+        sketch, what = record(system, [State(path, read(path)) for path in paths]), recorder(system).IDLE
+    return decide(sketch, facts, what, with_guesses)
+
+
+def decide(sketch: Sketch, facts: Facts, what: str = "processes", with_guesses: bool = False) -> Sketch:
+    """Applies facts to a sketch, and all that comes after them. `what` is what its idle processes are called."""
+    apply(facts, sketch)
+    add_left_out(sketch)
+    shorten_candidates(sketch)
+    if with_guesses:
+        guesses.take(sketch, facts)
+        add_left_out(sketch)
+    add_starters(sketch)
+    leave_out(sketch, what)
+    sketch.check()
+    doubt_roots(sketch)
+    doubt_stuck(sketch)
+    doubt_without_guesses(sketch)
+    return sketch
+
+
+def doubt_roots(sketch: Sketch) -> None:
+    """Leaves the members of a root unknown that only stood at the same place: each member needs a count of its waits,
+    where processes are read one after the other. Who is behind a root may rest on that premise."""
+    stood = {process.name for process in sketch.processes if premise(STOOD) in process.because}
+    while stood:
+        waits = Waits(sketch)
+        found = Roots(waits, waits.answer(False).members()).root_of
+        weak = [process for at, process in enumerate(sketch.processes) if at in found and process.name in stood]
+        stood = stood if weak else set()
+        for process in weak:
+            process.become_unknown(UNCOUNTED)
+            process.proposal = "still"
+
+
+def add_starters(sketch: Sketch) -> None:
+    """Says of one that waits for any of those that a pattern took who may start more of them, but for those that never
+    do anything more by intent. Many processes share their list and their table of starters, so what comes of them is
+    kept."""
+    idle = {process.name for process in sketch.processes if process.is_idle and process.kind == ANY}
+    kept: Dict[Tuple[int, int], List[str]] = {}
+    for process in sketch.processes:
+        if process.kind == ANY and process.is_open and process.starters:
+            key = id(process.whom), id(process.starters)
+            if key not in kept:
+                lists = {id(some): some for some in map(process.starters.get, process.whom) if some}
+                kept[key] = list(dict.fromkeys(it for some in lists.values() for it in some if it not in idle))
+            process.besides = [*process.besides, *kept[key]] if process.besides else kept[key]
+
+
+def doubt_stuck(sketch: Sketch) -> None:
+    """Leaves one of the stuck unknown that another one may free besides, which isn't stuck itself. Those that the state
+    may lack free nobody if a fact says that they run, which is that none of them matters."""
+    there = {process.name for process in sketch.processes
+             if process.kind != ENDED and not (process.kind == RUNS and process.frames == [REST])}
+    kept: Dict[int, List[str]] = {}  # of lists that many share
+    for process in sketch.processes:
+        if id(process.besides) not in kept:
+            kept[id(process.besides)] = [name for name in process.besides if name in there]
+    for process in sketch.processes:
+        process.besides = kept[id(process.besides)]
+    risky = weak = [process for process in sketch.processes if process.besides and process.kind in (ANY, ALL)]
+    while weak:
+        waits = Waits(sketch)
+        inside = {waits.processes[at].name for at in waits.answer(False).members()}
+        weak = [process for process in risky if process.name in inside and not inside.issuperset(process.besides)]
+        for process in weak:
+            other = next(name for name in process.besides if name not in inside)
+            process.become_unknown(f"{shown(other)}, which isn't known to be stuck, may end its wait too")
+            process.proposal = "none"
+
+
+def doubt_without_guesses(sketch: Sketch) -> None:
+    """Lets those rest on the guesses too that would be unknown without them, since one who waits by a guess alone may
+    free them besides."""
+    reasons = guesses.reasons_of(sketch)
+    if not reasons:
+        return
+    bare = guesses.without_guesses(sketch)
+    bare.processes = [process.copy() for process in bare.processes]
+    doubt_stuck(bare)
+    for process, other in zip(sketch.processes, bare.processes):
+        if other.kind == UNKNOWN != process.kind and not process.is_guessed():
+            process.because = [*process.because, *reasons]
+
+
+def record(system: str, states: List[State]) -> Sketch:
+    """Returns the sketch that a recorder makes. A text that takes it by surprise is refused too."""
+    try:
+        sketch = recorder(system).record(states)
+    except (ValueError, LookupError, TypeError, AttributeError, RecursionError) as error:
+        where = ", ".join(shown(state.path) for state in states)
+        raise Refusal(f"{where}: this isn't understood as a state of {system} ({type(error).__name__}: "
+                      f"{shown(str(error))})") from error
+    sketch.system = sketch.system or system
+    return sketch

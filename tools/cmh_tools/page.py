@@ -1,0 +1,334 @@
+"""The answer as a page: one file of HTML that needs no network, and no script to be read. All that comes from a dump
+is a text there: it is escaped, and no link is made of it, since links lead to numbers."""
+from __future__ import annotations
+
+import base64
+import hashlib
+import html
+from typing import Dict, Iterable, Iterator, List, NamedTuple, Optional, Sequence, Tuple
+
+from . import VERSION
+from .answer import Tree
+from .explain import IF_GUESSES, Explanation, number_of
+from .files import shown
+from .page_look import PAGE, SCRIPT, STYLE
+from .picture import headline, restarts
+from .reasons import called
+from .sketch import ALL, ANY, ENDED, RUNS, UNKNOWN
+from .steps import next_steps, ways_of
+
+ROWS, ROOTS, NAMES, STEPS, LINES = 5_000, 50, 5, 3, 100  # as many are shown, unless all are asked for
+LONG, LONG_LINK = 400, 80  # characters of a text in the table, and of a link
+HEADS = ("Process", "Answer", "Site", "What it does", "What it waits for", "Chain", "Rests on")
+ANSWERS = (("", "all"), ("stuck", "stuck"), ("inroot", "stuck, in a root"), ("undecided", "undecided"),
+           ("not_stuck", "not stuck"), ("ended", "has ended"))
+WORDS = {"system": "what the system keeps", "by hand": "the sketch", "an older version": "an older version"}
+NO_PICTURE = "There is no picture here: where this page was made, Graphviz isn't installed, or couldn't draw it. " \
+    "The table has it all."
+MADE = "Made by cmh-explain {}. The program cmh, with the SHA-256 {}, has confirmed this answer. What cmh says of " \
+    "the dump is proved. What is said of the state is tested, not proved."
+States = Sequence[Tuple[str, str]]
+
+
+class Section(NamedTuple):
+    """A part of the page: its anchor, its heading, what the list of parts calls it, and what it has."""
+
+    name: str
+    head: str
+    word: str
+    parts: List[str]
+
+
+def text(value: object) -> str:
+    """Returns a text as it stands in a page."""
+    return html.escape(shown(str(value)))
+
+
+def digest(body: str) -> str:
+    return base64.b64encode(hashlib.sha256(body.encode()).digest()).decode()
+
+
+def listed(items: Iterable[str]) -> List[str]:
+    """Returns a list of items, or nothing."""
+    body = "\n".join(f"<li>{item}</li>" for item in items)
+    return [f"<ul>\n{body}\n</ul>"] if body else []
+
+
+class Page:
+    """The page of an answer, which is `tree`. `picture` is an SVG, and `states` are texts with their names."""
+
+    def __init__(self, this: Explanation, tree: Tree, picture: Optional[str], states: States) -> None:
+        self.this, self.tree, self.picture, self.states = this, tree, picture, states
+        self.rows: List[Tree] = tree["processes"]
+        self.index, self.restarts = this.waits.index, restarts(this)
+        self.steps = next_steps(this)
+        self.ways = ways_of(self.steps)
+        order = sorted(range(len(self.rows)), key=self.place)
+        self.order = order if this.everything else order[:ROWS]
+        self.in_table = {*self.order}
+        self.reasons = {f"{kind} {row[key]}": at for kind, key, row, at in self.all_reasons()}
+
+    def all_reasons(self) -> Iterator[Tuple[str, str, Tree, int]]:
+        rows = [("premise", "name", row) for row in self.tree["premises"]]
+        rows += [("fact", "at", row) for row in self.tree["facts"]]
+        rows += [("guess", "guess", row) for row in self.tree["guesses"]]
+        yield from ((*row, at) for at, row in enumerate(rows))
+
+    def place(self, at: int) -> Tuple[int, int]:
+        """Returns where a process stands in the table: in or behind which root, and then by its verdict."""
+        row = self.rows[at]
+        if row["verdict"] == "stuck":
+            return 0 if row["root"] else 1, row["root"] or row["behind"][0]
+        return {"undecided": 2, "not_stuck": 3}.get(row["verdict"], 4), row["kind"] != UNKNOWN
+
+    def html(self) -> str:
+        """Returns the text of the page."""
+        sections = [Section("guesses", text(self.this.if_words()[:-1]), "Guesses", self.guess_parts()),
+                    Section("roots", "Roots: where it has to be broken", "Roots", list(self.roots())),
+                    Section("picture", "Picture", "Picture", self.picture_parts()),
+                    Section("undecided", "Undecided", "Undecided", list(self.undecided())),
+                    Section("processes", "Processes", "Processes", self.table()),
+                    Section("well", "Not stuck", "Not stuck", self.well()),
+                    Section("reasons", "On what the answer rests", "Reasons", self.reason_parts()),
+                    Section("warnings", "Warnings", "Warnings", listed(map(text, self.tree["warnings"]))),
+                    Section("state", "The state", "State", list(self.state_parts()))]
+        there = [it for it in sections if it.parts]
+        return PAGE.format(
+            policy=f"style-src 'sha256-{digest(STYLE)}'; script-src 'sha256-{digest(SCRIPT)}'", style=STYLE,
+            script=SCRIPT, title=text(headline(self.this)), about=text(self.about()),
+            links="\n".join(f'<a href="#{it.name}">{it.word}</a>' for it in there),
+            sections="\n".join(map(section, there)),
+            made=MADE.format(VERSION, text(self.tree["program"]["sha256"])))
+
+    def about(self) -> str:
+        """Returns what stands below the headline."""
+        counts = self.tree["counts"]
+        ended = f"; {counts['ended']:,} more ended" if counts["ended"] else ""
+        words = f"{number_of(counts['processes'])}: {counts['stuck']:,} stuck, {counts['undecided']:,} undecided, " \
+            f"{counts['not_stuck']:,} not stuck{ended}."
+        words = " ".join([words, *self.this.certain_lines()])
+        return words + (f" This is {self.tree['as_of']}." if self.tree["as_of"] else "")
+
+    def guess_parts(self) -> List[str]:
+        return listed(f"{called('guess', str(row['guess']))}: <code>{text(row['text'])}</code> "
+                      f"({number_of(row['processes'])})" for row in self.tree["guesses"])
+
+    # Roots
+
+    def roots(self) -> Iterator[str]:
+        rows = self.tree["roots"]
+        most = len(rows) if self.this.everything else ROOTS
+        yield from map(self.root, rows[:most])
+        if rows[most:]:
+            yield f"<p>And {number_of(len(rows) - most, 'root', 'roots')} more, in the table below.</p>"
+        if rows:
+            yield from (f"<p>{text(line)}</p>" for line in self.this.advice() if not line.startswith(" "))
+
+    def root(self, row: Tree) -> str:
+        number, members = row["root"], row["members"]
+        words = f"{len(members):,} processes wait for each other" if members[1:] else "nobody can unblock it"
+        words += IF_GUESSES if row["if_guesses"] else ""
+        restart = self.restarts[number - 1]
+        several = self.links(members, " → ") + f" → {self.link(members[0])}" if row["is_cycle"] and \
+            len(members) <= NAMES else self.links(members)
+        behind = [f"<p>{number_of(len(row['behind']))} stuck behind it alone.</p>"] if row["behind"] else []
+        rests = [f"{text(it['text'])} ({self.reason_link(it)}{number_of(it['processes'])})" for it in row["rests_on"]]
+        rests = [f"<p>It rests on {rests[0]}.</p>"] if len(rests) == 1 else ["<p>It rests on:</p>", *listed(rests)]
+        return "\n".join([f'<div class="root" id="root{number}">', f"<h3>Root {number}: {words}</h3>",
+                          f'<p class="restart">{text(restart[:1].upper() + restart[1:])}</p>', f"<p>{several}</p>",
+                          *behind, *rests, "</div>"])
+
+    def reason_link(self, row: Tree) -> str:
+        """Returns the link to a fact or a premise, with a comma behind it, or nothing."""
+        at = self.reasons.get(f"{row['kind']} {row['name']}")
+        return "" if at is None else f'<a href="#r{at}">{text(called(row["kind"], row["name"]))}</a>, '
+
+    def link(self, name: str) -> str:
+        """Returns a name with the link to its row, if that is there."""
+        at = self.index[name]
+        words = self.short(self.this.name(at), LONG_LINK)
+        return f'<a href="#p{at}">{words}</a>' if at in self.in_table else words
+
+    def short(self, words: str, most: int = LONG) -> str:
+        """Returns a text, at most its beginning."""
+        return text(words) if len(words) <= most or self.this.everything else f"{text(words[:most])} …"
+
+    def links(self, names: Sequence[str], between: str = ", ") -> str:
+        """Returns the links of some names, at most the first few and how many more there are."""
+        most = len(names) if self.this.everything else NAMES
+        more = f" and {len(names) - most:,} more" if names[most:] else ""
+        return between.join(map(self.link, names[:most])) + more
+
+    # Undecided, and not stuck
+
+    def undecided(self) -> Iterator[str]:
+        rows = self.tree["unknown"]
+        if not self.this.undecided:
+            return
+        others = len(self.this.undecided) - len(rows)
+        yield f"<p>Of {number_of(len(rows))} the state doesn't say enough{hang(others, ', and ', ' on these')}.</p>"
+        yield from self.unknown_ones(rows)
+        facts = [it.text() for it in self.this.proposals()]
+        if facts:
+            yield "<p>Facts that would decide them, to be completed:</p>"
+            yield f"<pre>{text_of_lines(facts[:LINES])}</pre>"
+
+    def unknown_ones(self, rows: List[Tree]) -> List[str]:
+        """Returns the list of the unknown ones. Those of the same reason share an item."""
+        groups: Dict[str, List[Tree]] = {}
+        for row in rows:
+            groups.setdefault(self.wait(self.index[row["name"]]), []).append(row)
+        most = len(groups) if self.this.everything else LINES
+        items = []
+        for reason, (first, *others) in list(groups.items())[:most]:
+            names = self.links([row["name"] for row in (first, *others)])
+            whom = self.link(first["name"]) if others else "it"
+            items.append(f"{names}: {'each ' if others else ''}{reason}{hang(first['others'], ' (', f' on {whom})')}")
+        items += [f"{number_of(len(groups) - most, 'reason', 'reasons')} more"] if len(groups) > most else []
+        return listed(items)
+
+    def well(self) -> List[str]:
+        """Returns what is said of those that aren't stuck: on which premises some run, and who may wait in vain at the
+        end of a limit."""
+        supposed = list(self.supposed())[:LINES]
+        return [*(["<p>These run on a premise:</p>", *listed(supposed)] if supposed else []), *self.limits()]
+
+    def supposed(self) -> Iterator[str]:
+        """Yields those that run on a premise, and do the same."""
+        for name, some in self.this.supposed(with_limits=True).items():
+            groups: Dict[str, List[str]] = {}
+            for at in some:
+                groups.setdefault(self.rows[at]["reason"] or "runs", []).append(self.rows[at]["name"])
+            for reason, names in groups.items():
+                yield f"{self.links(names)}: {text(reason)}, on the {self.premise_link(name)}"
+
+    def premise_link(self, name: str) -> str:
+        at, sentence = self.reasons.get(f"premise {name}"), self.this.dump.sketch.premises.get(name, name)
+        words = f"premise that {text(sentence)}"
+        return words if at is None else f'<a href="#r{at}">{words}</a>'
+
+    def limits(self) -> List[str]:
+        limits = [f"{row['fact']}  # {', '.join(row['names'][:NAMES])}" for row in self.tree["limits"]]
+        if not limits:
+            return []
+        return ["<p>These waited with a limit, and stood at the same place in all states. One that only waits again "
+                f"and again needs a fact:</p>\n<pre>{text_of_lines(limits[:LINES])}</pre>"]
+
+    # Picture
+
+    def picture_parts(self) -> List[str]:
+        if self.picture is None:
+            return [f"<p>{NO_PICTURE}</p>"]
+        return [f'<figure>\n<div class="wide" role="region" aria-labelledby="picture" tabindex="0">\n{self.picture}'
+                "</div>\n<figcaption>Who waits for whom. Processes that are alike, or at one line of source, share a "
+                "box.</figcaption>\n</figure>"]
+
+    # The table
+
+    def table(self) -> List[str]:
+        counts = self.tree["counts"]
+        options = "".join(f'<option value="{value}">{words}</option>' for value, words in ANSWERS)
+        heads = "".join(f'<th scope="col">{head}</th>' for head in HEADS)
+        left = len(self.rows) - len(self.order)
+        total = number_of(counts["processes"] + counts["ended"])
+        caption = f"{total}: those of roots first, those behind them, the undecided ones, and the others."
+        caption += f" {number_of(left, 'more row is', 'more rows are')} left out here (--all)." if left else ""
+        return [f'<form id="filter" hidden>\n<label>Rows with these words <input id="text" type="search" '
+                f'autocomplete="off"></label>\n<label>Answer <select id="answer">{options}</select></label>\n'
+                '<output id="shown" for="text answer"></output>\n</form>',
+                '<div class="wide rows" role="region" aria-labelledby="processes" tabindex="0">\n<table>',
+                f"<caption>{caption}</caption>\n<thead><tr>{heads}</tr></thead>\n<tbody>",
+                *map(self.row, self.order), "</tbody>\n</table>\n</div>"]
+
+    def row(self, at: int) -> str:
+        row = self.rows[at]
+        sort = f"{row['verdict']} inroot" if row["root"] else row["verdict"]
+        cells = (self.answer(row, at), self.short(row["site"] or ""), self.short(row["note"]), self.wait(at),
+                 self.way(at), self.rests(row))
+        body = "".join(f"<td>{cell}</td>" for cell in cells)
+        return f'<tr id="p{at}" class="{sort}"><th scope="row">{self.short(self.this.name(at))}</th>{body}</tr>'
+
+    def answer(self, row: Tree, at: int) -> str:
+        words = text(self.this.answer(at))
+        root = row["root"] or next(iter(row["behind"]), None)
+        has_part = root is not None and (self.this.everything or root <= ROOTS)
+        return f'<a href="#root{root}">{words}</a>' if has_part else words
+
+    def wait(self, at: int) -> str:
+        """Returns whom one waits for, with links, or why it doesn't."""
+        row, lists = self.rows[at], self.tree["lists"]
+        names = row["waits_for"] or lists.get(row["waits_for_list"], [])
+        if row["kind"] not in (ANY, ALL):
+            return text(self.this.wait(at))
+        if not names:
+            return "can never be unblocked" if row["kind"] == ANY else "has all that it waited for"
+        several = {ANY: "any of ", ALL: "all of "}[row["kind"]] if names[1:] or row["kind"] == ALL else ""
+        sent = f"; a message is in transit from {self.links(row['in_transit_from'])}" if row["in_transit_from"] else ""
+        return f"{several}{self.links(names)}{sent}"
+
+    def way(self, at: int) -> str:
+        """Returns the way from one to what its answer rests on: the first few steps, and the last one."""
+        if at not in self.ways:
+            return text(self.end_words(at))
+        length, end = self.ways[at]
+        steps, last = [], at
+        for _ in range(min(length, STEPS)):
+            last = self.steps[last]
+            steps.append(last)
+        steps += [] if last == end else [end]
+        links = [self.link(self.rows[it]["name"]) for it in steps]
+        if length > len(steps):
+            links.insert(-1, f"{length - len(steps):,} more")
+        return f"→ {' → '.join(links)}, {text(self.end_words(end))}"
+
+    def end_words(self, at: int) -> str:
+        """Returns what is at the end of a way."""
+        row = self.rows[at]
+        if row["root"]:
+            return f"in root {row['root']}"
+        if row["kind"] in (UNKNOWN, RUNS, ENDED):
+            return self.this.answer(at)
+        return self.this.goes_on_words(at) if row["goes_on"] else ""
+
+    def rests(self, row: Tree) -> str:
+        return ", ".join(self.rest(it) for it in row["rests_on"]) or text(row["reason"])
+
+    def rest(self, reason: str) -> str:
+        at = self.reasons.get(reason)
+        kind, _, name = reason.partition(" ")
+        words = text(WORDS.get(reason) or called(kind, name))
+        return words if at is None else f'<a href="#r{at}">{words}</a>'
+
+    # Reasons, and the state
+
+    def reason_parts(self) -> List[str]:
+        items = []
+        for kind, key, row, at in self.all_reasons():
+            words = text(row["text"])
+            words = f"the premise that {words}" if kind == "premise" else f"<code>{words}</code>"
+            name = text(called(kind, str(row[key])))
+            items.append(f'<span id="r{at}">{name}</span>: {words} ({number_of(row["processes"])})')
+        return listed(items)
+
+    def state_parts(self) -> Iterator[str]:
+        for name, lines in self.states:
+            yield f"<h3>{text(name)}</h3>\n<pre>{text_of_lines(lines.splitlines())}</pre>"
+
+
+def hang(number: int, before: str, behind: str) -> str:
+    """Returns in words how many hang on others, if some do."""
+    return f"{before}{number_of(number, 'other hangs', 'others hang')}{behind}" if number else ""
+
+
+def section(it: Section) -> str:
+    body = "\n".join(it.parts)
+    return f'<section aria-labelledby="{it.name}">\n<h2 id="{it.name}">{it.head}</h2>\n{body}\n</section>\n'
+
+
+def text_of_lines(lines: Iterable[str]) -> str:
+    return "\n".join(map(text, lines))
+
+
+def page(this: Explanation, tree: Tree, picture: Optional[str], states: States = ()) -> str:
+    """Returns the text of the page of an answer."""
+    return Page(this, tree, picture, states).html()

@@ -1,0 +1,123 @@
+"""What an answer rests on: facts, premises, what the system keeps; as data, and in words for its reader."""
+from __future__ import annotations
+
+from typing import Collection, Dict, Iterable, List, NamedTuple, Tuple
+
+from .facts import is_variable
+from .files import shown
+from .sketch import (BY_HAND, ENDED, FACT, GUESS, OLDER, PREMISE, SYSTEM, Process, Sketch, distinct_lists, guess,
+                     number_of_guess, reason_of)
+
+SHOWN = 5
+WORDS = {SYSTEM: "what the system itself keeps", BY_HAND: "what stands in the sketch",
+         OLDER: "an older version of cmh-dump, whose notes don't say on what"}
+
+
+class Reason(NamedTuple):
+    """On what some processes rest: `name` is of a premise, or where a line of facts stands, or the number of a guess;
+    `text` is the sentence of the premise, or the line; `number` is how many rest on it."""
+
+    kind: str
+    name: str
+    text: str
+    number: int
+
+
+class Rests:
+    """On what the waits of a sketch rest."""
+
+    def __init__(self, sketch: Sketch) -> None:
+        self.sketch = sketch
+        self.took = {reason_of(row): row["took"] for row in sketch.facts}
+        self.facts = {reason_of(row): row["text"] for row in sketch.facts}
+        self.numbers = {guess(number): number for number in map(number_of_guess, sketch.facts)}
+        self.ended = {it.name: it for it in sketch.processes if it.kind == ENDED and it.because != [SYSTEM]}
+
+    def of(self, processes: Iterable[Process], known: Collection[Reason] = ()) -> List[Reason]:
+        """Returns on what some processes rest, facts first, but for what is known already. Those that they wait for and
+        that have ended by a fact count too."""
+        some = list(processes)
+        named = dict.fromkeys(name for whom in distinct_lists(some) for name in whom if name in self.ended)
+        counts = counts_of([*some, *(self.ended[name] for name in named)])
+        before = {(it.kind, it.name) for it in known}
+        order = sorted(counts, key=self.place)
+        found = [self.reason(it, counts[it]) for it in order]
+        return [it for it in found if (it.kind, it.name) not in before]
+
+    def place(self, reason: str) -> Tuple[int, int]:
+        """Returns where a reason stands among others: guesses first, by their numbers, then facts, and the system last.
+        """
+        number = self.numbers.get(reason, 0)
+        return 0 if number else 1 if reason.startswith(FACT) else 3 if reason == SYSTEM else 2, number
+
+    def reason(self, text: str, number: int) -> Reason:
+        """Returns a reason of a sketch, on which a number of processes rest."""
+        word, _, name = text.partition(" ")
+        if word in (FACT, GUESS):
+            return Reason(word, name, self.facts.get(text, ""), number)
+        if word == PREMISE:
+            return Reason(PREMISE, name, self.sketch.premises.get(name, name), number)
+        return Reason(text, "", WORDS[text], number)
+
+    def took_by(self, reason: Reason) -> Dict[str, List[str]]:
+        """Returns the names that each word of a line took, if the reason is one."""
+        return self.took.get(f"{reason.kind} {reason.name}", {})
+
+
+def counts_of(processes: Iterable[Process]) -> Dict[str, int]:
+    """Returns how many of some processes rest on each reason; what the system keeps counts where it is all."""
+    counts: Dict[str, int] = {}
+    for process in processes:
+        for reason in process.because:
+            if reason != SYSTEM or process.because == [SYSTEM]:
+                counts[reason] = counts.get(reason, 0) + 1
+    return counts
+
+
+# In words
+
+
+def rests_lines(rests: Rests, found: List[Reason], everything: bool) -> List[str]:
+    """Returns the paragraph on what is said of some processes: each fact, and each premise with the number of
+    processes that rest on it."""
+    if [it.kind for it in found] == [BY_HAND]:
+        return [f"Rests on {WORDS[BY_HAND]}."]
+    number = rests.sketch.readings
+    states = "one state" if number == 1 else f"{'two' if number == 2 else number} states"
+    return [f"Rests on: {states}, and on", *rows(rests, found, everything)] if found else []
+
+
+def more_lines(rests: Rests, found: List[Reason], everything: bool) -> List[str]:
+    """Returns the same of processes behind others, without what these rest on."""
+    return ["These rest on that, and on", *rows(rests, found, everything)] if found else []
+
+
+def rows(rests: Rests, found: List[Reason], everything: bool) -> List[str]:
+    lines = []
+    for reason in found:
+        lines += [f"  {words(reason)} ({reason.number:,})", *taken(rests, reason, everything)]
+    return lines
+
+
+def taken(rests: Rests, reason: Reason, everything: bool) -> List[str]:
+    """Returns a line for each pattern of a fact, with the processes that it took. Where it takes others for each that
+    waits, these stand in the line of that one."""
+    took = rests.took_by(reason)
+    return [f"      {shown(word)}: {some([shown(name) for name in names], everything)}" for word, names in took.items()
+            if names != [word] and not is_variable(word)]
+
+
+def some(names: List[str], everything: bool) -> str:
+    most = len(names) if everything else SHOWN
+    return ", ".join(names[:most]) + (f" and {len(names) - most:,} more" if names[most:] else "")
+
+
+def words(reason: Reason) -> str:
+    if reason.kind in (FACT, GUESS):
+        return f"{called(reason.kind, reason.name)}: {shown(reason.text)}"
+    return f"the premise that {shown(reason.text)}" if reason.kind == PREMISE else reason.text
+
+
+def called(kind: str, name: str) -> str:
+    """Returns what a reason with a name is called: where a line stands, or 'guess 1'."""
+    return f"{GUESS} {name}" if kind == GUESS else shown(name)

@@ -1,0 +1,166 @@
+"""Erlang: a process that has called others and waits for an answer. Whoever has the reference of the call may give it:
+on its stack, in its mailbox, its dictionary or its state, as the node shows them.
+"""
+from __future__ import annotations
+
+import re
+from typing import Any, Callable, Dict, Iterable, List, Optional, Set, Tuple
+
+from ..sketch import LIMIT, SYSTEM, Process, premise, runs, unknown, waits_for_any
+from .base import Moment
+from .erlang_text import Block, Call, Key, NodeReading, of_elixir
+
+NO_MAIL = "its mailbox is too long to be read, and may have what it waits for"
+ANSWERS, LETS_GO = "answers", "lets go"
+REGISTRY = "'Elixir.Registry.Partition'"
+
+
+class Nodes(Moment):
+    """The processes of all nodes at one time: by what others know them by, and by the tails of the references that they
+    have; their names in the sketch; each answer that is under way, as (sender, receiver); who may end a process, by
+    its node and pid; who has a fun that may have any reference; the limits of the receives in a function, by its node
+    and its name; where a reference may be that no process has, in words, or nothing; and the nodes whose states aren't
+    whole."""
+
+    by_key: Dict[Key, Block]
+    has_tail: Dict[str, List[Block]]
+    name: Callable[[Block], str]
+    answers: List[Tuple[str, str]]
+    enders: Dict[Key, List[Block]]
+    closures: List[Block]
+    limits: Dict[Tuple[str, ...], Tuple[List[str], str]]
+    elsewhere: str
+    cut: Set[str]
+
+    def names(self, blocks: Iterable[Block]) -> List[str]:
+        """Returns the names of some, each once."""
+        return list(dict.fromkeys(map(self.name, blocks)))
+
+
+def holders(block: Block, moment: Nodes, tails: Set[str]) -> List[Block]:
+    """Returns the others that have one of the references of a call."""
+    found = {id(it): it for tail in sorted(tails) for it in moment.has_tail[tail] if it is not block}
+    return list(found.values())
+
+
+def may_keep(server: Block, having: List[Block]) -> bool:
+    """Whether a server is in its loop, and may have a caller in its state: an older text doesn't show that."""
+    return server.hibernates or server.is_loop() and (server in having or server.extra("references") is None)
+
+
+def wait_for_reference(block: Block, moment: Nodes, register: str, more: Dict[str, Any]) -> Optional[Process]:
+    """Returns a process in a receive of its own that takes messages with one reference alone, or None if nobody is
+    known to have that. Whom it monitors may have it as that of the monitor, and so may a timer of its own."""
+    found = re.search(rf"^y\({register}\) +(#Ref<\d+\.([\d.]+)>)$", block.counter, re.M)
+    having = holders(block, moment, {found[2]}) if found else []
+    if not found or not having or block.is_mail_cut or found[2] in block.messages or "timers" in block.code():
+        return None
+    watched = [moment.by_key[key] for key in block.monitored() if key in moment.by_key]
+    if len(watched) < len(block.monitored()):
+        return None
+    more.update(objects=[*moment.names(having), found[1]], count=found[1],
+                note=f"receive in {block.frames()[0]}")
+    return waits_for_any(moment.name(block), moment.names(having), [SYSTEM, premise(ANSWERS)], is_open=True,
+                         besides=moment.names([*watched, *moment.closures]), **more)
+
+
+def place_elsewhere(reading: NodeReading) -> str:
+    """Returns in words where a node may have the reference of a call that no process has, or nothing. The reader counts
+    modules that use tables, begin timers or make terms of bytes; a driver makes terms too, and a registry keeps them.
+    """
+    if reading.numbers.get("tables") != 0:
+        return "code of its node uses tables"
+    if "keeps" not in reading.numbers:
+        return "the state doesn't count what of its node begins timers or makes terms of bytes"
+    if reading.numbers["keeps"]:
+        return "code of its node uses tables, begins timers or makes terms of bytes"
+    ports = [block.label for block in reading.rows if "#Port<" in (block.extra("links") or "")]
+    if ports:
+        return f"{ports[0]} has a port"
+    registries = [block.label for block in reading.rows if block.start[0] == REGISTRY]
+    return f"{registries[0]} keeps terms" if registries else ""
+
+
+def keeps_elsewhere(server: Block, moment: Nodes, is_held: bool) -> str:
+    """Returns where a server that no longer has a request may have put it, or nothing. If nobody else has it, any
+    module may have put it where no process has it."""
+    if server.extra("code") is None or server.extra("references") is None:
+        return "no longer has its request, and may have passed it on"
+    if "tables" in server.code():
+        return "no longer has its request, and code of its node uses tables"
+    return "" if is_held or not moment.elsewhere else f"no longer has its request, and {moment.elsewhere}"
+
+
+def may_fail(server: Block, moment: Nodes) -> List[Block]:
+    """Returns those by which a server may fail that has let go of a call: itself, if it is at work or may wake by
+    itself, and who may take it along."""
+    is_asleep = server.is_loop() and "timers" not in server.code() and server.messages == "[]"
+    return [*([] if is_asleep else [server]), *moment.enders[server.node, server.pid]]
+
+
+def callees(block: Block, moment: Nodes) -> Tuple[List[Optional[Block]], List[str]]:
+    """The processes that it has called, None for one that isn't in the state, and their names. A call monitors whom it
+    calls, and has the name on its stack; whom it monitors besides, it doesn't wait for."""
+    keys, term, by_key = block.monitored(), block.call.whom if block.call else "", moment.by_key
+    own = by_key.get((block.node, term)) or by_key.get(term) or by_key.get(f"{{{term},'{block.node}'}}")
+    if own and own in [by_key.get(key) for key in keys]:
+        return [own], [moment.name(own)]
+    found = [by_key.get(key) for key in keys]
+    return found, [moment.name(it) if it else str(key) for it, key in zip(found, keys)]
+
+
+def wait_of_call(block: Block, call: Call, moment: Nodes, more: Dict[str, Any]) -> Process:
+    """Returns a process that has called others and waits for an answer."""
+    called, more["objects"] = callees(block, moment)
+    more["operation"] = call.function
+    more["note"] = f"{call.function} {of_elixir(call.request) + ' ' if call.request else ''}in {block.frames()[0]}"
+    more["objects"] += block.references[:1]  # (of this call alone)
+    more["count"] = block.references[0] if block.references else more["count"]
+    if call.limit != "infinity":
+        more["operation"] = f"timed {call.function}"
+        return runs(moment.name(block), "it waits with a limit", [premise(LIMIT)], **more)
+    return wait_for_answer(block, moment, called, more)
+
+
+def wait_for_answer(block: Block, moment: Nodes, called: List[Optional[Block]], more: Dict[str, Any]) -> Process:
+    """Returns a process whose call has no limit. A 'DOWN' or an answer may be in its mailbox."""
+    name = moment.name(block)
+    if block.is_answered(block.references, "{{'DOWN',{0},"):
+        return runs(name, "a 'DOWN' is in its mailbox", [SYSTEM], **more)
+    if block.is_mail_cut:
+        return unknown(name, NO_MAIL, **more)
+    there = [it for it in called if it is not None]
+    if not there or len(there) < len(called):
+        return unknown(name, "it has called a process that isn't in the state", **more)
+    if any(block.is_answered(block.references, form) for form in ("{{{0},", "{{[alias|{0}],")):
+        if len(called) > 1:
+            return runs(name, "an answer is in its mailbox", [SYSTEM], **more)
+        moment.answers.append((moment.name(there[0]), name))
+        return waits_for_any(name, moment.names(there), [SYSTEM], **more)
+    return wait_for_holders(block, moment, there, more)
+
+
+def wait_for_holders(block: Block, moment: Nodes, called: List[Block], more: Dict[str, Any]) -> Process:
+    """Returns a process that waits for whoever has the reference of its call. Whom it has called and who hasn't it any
+    more gives no answer, but ends the call if it fails."""
+    name, tails = moment.name(block), set(block.awaited)
+    having = holders(block, moment, tails)
+    passed = [it for it in called if it not in having]
+    if len(tails) == 1 and len(passed) < len(called):
+        passed = []  # (the others are monitored for another call)
+    cut = next((it for it in passed if it.is_mail_cut), None)
+    if cut is not None:
+        return unknown(name, f"{moment.name(cut)} has too long a mailbox to be read, and may have its request", **more)
+    keepers = [it for it in called if may_keep(it, having) and not it.has_request(tails)]
+    if keepers:
+        words = [f"monitored:{moment.name(it)}" for it in keepers if it.monitored()]
+        others = [it for it in having if it not in keepers]
+        more["candidates"] = words if not others and len(words) == len(called) else moment.names([*called, *others])
+        return unknown(name, f"{moment.name(keepers[0])} keeps its call in its state, to answer it once something else "
+                       "has come", **more)
+    because = [SYSTEM, premise(ANSWERS), *([premise(LETS_GO)] if passed else [])]
+    besides = [*moment.closures, *(other for it in passed for other in may_fail(it, moment))]
+    fault = next(filter(None, (keeps_elsewhere(it, moment, bool(having)) for it in passed)), "")
+    if fault:
+        return unknown(name, f"{moment.name(passed[0])} {fault}, so it isn't known who answers", **more)
+    return waits_for_any(name, moment.names(having), because, is_open=True, besides=moment.names(besides), **more)

@@ -1,0 +1,100 @@
+"""Erlang: who may end a process, whatever it waits for: who fails and has a link to it, who kills it or has a
+supervisor end it, and who fails below a supervisor that then ends all its children.
+"""
+from __future__ import annotations
+
+import re
+from collections import defaultdict
+from typing import Any, Callable, DefaultDict, Dict, Iterable, List
+
+from .erlang_calls import REGISTRY, Nodes
+from .erlang_text import Block, Key
+
+MANY = 100  # kinds of processes that are told apart by whom they monitor too
+LINK = re.compile(r"<[\d.]+>")
+
+
+def place_of(block: Block) -> Any:
+    return block.start, tuple(block.stack[:1])
+
+
+def fate_of(block: Block) -> Any:
+    """What those have alike that are stuck or not together, as far as one sees at once."""
+    return block.start, tuple(block.stack), block.extra("status"), block.has_limit, block.call and block.call.limit, \
+        block.monitors
+
+
+def two_of_each(blocks: Iterable[Block], kind: Callable[[Block], Any] = place_of) -> List[Block]:
+    """Returns two of those of each kind, as thousands may be at one place, and one may be the very process that waits.
+    """
+    found: DefaultDict[Any, List[Block]] = defaultdict(list)
+    for block in blocks:
+        found[kind(block)].append(block)
+    return [block for some in found.values() for block in some[:2]]
+
+
+def two_of_each_fate(blocks: List[Block]) -> List[Block]:
+    found = two_of_each(blocks, fate_of)
+    return found if len(found) < MANY else two_of_each(found)
+
+
+def stoppers_of(blocks: List[Block]) -> Dict[Key, List[Block]]:
+    """Those that start or stop each process, by its node and pid: after their limit they kill it, whatever it waits
+    for."""
+    stoppers: Dict[Key, List[Block]] = defaultdict(list)
+    for block in blocks:
+        for pid in block.stopped:
+            stoppers[block.node, pid].append(block)
+    return stoppers
+
+
+def add_enders(moment: Nodes) -> None:
+    """Adds for each process who may end it, to those that start or stop it."""
+    above, below = supervised(moment)
+    ending, stopping = by_code(moment, "exits"), by_code(moment, "stops")
+    for block in moment.rows():
+        enders = moment.enders[block.node, block.pid]
+        enders += linked_to(block, moment) + failing_beside(block, above, below)
+        enders += ending[block.node] if block.role not in ("[]", "") else []
+        enders += stopping[block.node] if block in above else []
+    for block in moment.rows():
+        for pid in block.may_end():
+            moment.enders[block.node, pid].append(block)
+
+
+def by_code(moment: Nodes, word: str) -> DefaultDict[str, List[Block]]:
+    """Those whose code has a word, by their node."""
+    found: DefaultDict[str, List[Block]] = defaultdict(list)
+    for reading in moment.readings:
+        found[reading.source] = two_of_each_fate([block for block in reading.rows if word in block.code()])
+    return found
+
+
+def supervised(moment: Nodes) -> Any:
+    """Returns the supervisor of each process that has one, and some children of each supervisor."""
+    above: Dict[Block, Block] = {}
+    below: Dict[Block, List[Block]] = {}
+    for block in filter(Block.is_supervisor, moment.rows()):
+        links = [moment.by_key.get((block.node, pid)) for pid in LINK.findall(block.extra("links") or "")]
+        children = [it for it in links if it is not None and not {it.pid, it.role}.intersection(block.ancestors()[:1])]
+        above.update(dict.fromkeys(children, block))
+        below[block] = two_of_each_fate([it for it in children if it.start[0] != REGISTRY])
+    return above, below
+
+
+def failing_beside(block: Block, above: Dict[Block, Block], below: Dict[Block, List[Block]]) -> List[Block]:
+    """Those that may fail below a supervisor above a process, which isn't known to restart one alone."""
+    found: List[Block] = []
+    seen = set()
+    while block in above and block not in seen:
+        seen.add(block)
+        child, block = block, above[block]
+        found += [] if block.restarts_one() else [it for it in below[block] if it is not child]
+    return found
+
+
+def linked_to(block: Block, moment: Nodes) -> List[Block]:
+    """Those that take a process along if they fail: linked to it, no supervisors of it, and no registry."""
+    found = [moment.by_key.get((block.node, pid)) for pid in block.linked()]
+    return [it for it in found if it is not None and it.start[0] != REGISTRY
+            and not (it.is_supervisor() and {it.pid, it.role}.intersection(block.ancestors()))]

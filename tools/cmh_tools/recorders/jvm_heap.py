@@ -1,0 +1,170 @@
+"""What a heap dump shows of the waits of a JVM's threads: the rows that `cmh_heap.py` prints, beside those of `jstack`.
+
+A thread is known again by its number and its address in the JVM, and its wait by its frames. A heap that was dumped
+between two states shows what a thread waits for that has stood at one wait from the first to the second.
+"""
+from __future__ import annotations
+
+import json
+import re
+from dataclasses import dataclass, field
+from typing import Any, Dict, List, Optional, Tuple
+
+from ..files import Refusal, shown
+from ..sketch import COMPLETE, SYSTEM, Process, premise, unknown, waits_for_all, waits_for_any
+from .base import misfits
+from .jvm_locks import Locks
+from .jvm_text import Dump, Thread
+
+MARK = "# cmh heap "
+BUILT = re.compile(r"\$\$Lambda.*(?=\.)|[+/]0x[0-9a-f]+(?=\.)")  # what jstack and a heap dump write differently
+LABEL = [int, re.compile(r"0x[0-9a-f]{1,16}")]
+TASK, QUEUED, READERS, JOIN, FUTURE = KINDS = ("task", "queued", "readers", "join", "future")
+ROW = {"thread": LABEL, "frames": [str], "waits": re.compile("|".join(KINDS)), "for": [LABEL], "object?": str,
+       "is_full?": bool, "is_direct?": bool, "besides?": [LABEL]}
+Label = Tuple[int, int]
+CANCELS, POOLS, COMPLETES = "cancels", "pools", "completes"
+PREMISES = {
+    CANCELS: "nobody cancels a task for which a thread waits, nor interrupts a thread that waits for another one",
+    POOLS: "a task that stands in the queue of a pool is begun by a thread of that pool",
+    COMPLETES: "a CompletableFuture is completed by the thread that computes its value",
+}
+
+
+@dataclass
+class Wait:
+    """What a heap shows of the wait of a thread: of which of KINDS it is, whom it waits for, who else has at hand what
+    it waits at; whether the pool of a queued task takes no more threads, and whether who computes the first future of
+    a chain also does what follows."""
+
+    kind: str
+    frames: List[str]
+    whom: List[Label]
+    besides: List[Label] = field(default_factory=list)
+    is_full: bool = False
+    is_direct: bool = False
+
+
+@dataclass
+class Heap:
+    """The waits in a heap dump, and its time."""
+
+    at: str
+    time: float = 0.0
+    waits: Dict[Label, Wait] = field(default_factory=dict)
+
+    def wait_of(self, thread: Thread) -> Optional[Wait]:
+        """Returns what it shows of a thread, if that stood at the same place."""
+        label = label_of(thread)
+        wait = self.waits.get(label) if label else None
+        return wait if wait and wait.frames == frames_of(thread)[:len(wait.frames)] else None
+
+
+def read_heap(path: str, text: str) -> Optional[Heap]:
+    """Returns the heap of a text, or None if it has none. Raises Refusal if its rows aren't whole."""
+    rows = [(number, line[len(MARK):]) for number, line in enumerate(text.split("\n"), 1) if line.startswith(MARK)]
+    if not rows:
+        return None
+    heap = Heap(f"{shown(path)}:{rows[0][0]}")
+    trees = [tree_of(f"{shown(path)}:{number}", line) for number, line in rows]
+    head, end = trees[0], trees[-1]
+    if set(head) != {"version", "time"} or head["version"] != 1 or end != {"end": len(trees) - 2}:
+        raise Refusal(f"{heap.at}: rows of the heap are missing, or there are two heaps: take the state anew by "
+                      "take-jvm --heap")
+    heap.time = head["time"] if isinstance(head["time"], (int, float)) else 0.0
+    for (number, _), row in zip(rows[1:-1], trees[1:-1]):
+        odd = next(misfits(row, ROW), None)
+        if odd is not None:
+            raise Refusal(f"{shown(path)}:{number}: this row of the heap isn't understood at '{shown(odd)}'")
+        heap.waits[key_of(row["thread"])] = wait_of_row(row)
+    return heap
+
+
+def tree_of(at: str, line: str) -> Dict[str, Any]:
+    try:
+        tree = json.loads(line)
+    except (ValueError, RecursionError) as error:
+        raise Refusal(f"{at}: this row of the heap is no JSON: {shown(str(error))}") from error
+    return tree if isinstance(tree, dict) else {}
+
+
+def wait_of_row(row: Dict[str, Any]) -> Wait:
+    whom, besides = (list(map(key_of, row.get(key, []))) for key in ("for", "besides"))
+    frames = [BUILT.sub("", it) for it in row["frames"]]
+    return Wait(row["waits"], frames, whom, besides, row.get("is_full", False), row.get("is_direct", False))
+
+
+def key_of(label: List[Any]) -> Label:
+    return label[0], int(label[1], 16)
+
+
+def label_of(thread: Thread) -> Optional[Label]:
+    """Returns by what a heap knows a thread, or None if the text doesn't say it."""
+    is_known = thread.number and re.fullmatch(r"0x[0-9a-f]{1,16}", thread.identity)
+    return (int(thread.number or 0), int(thread.identity, 16)) if is_known else None
+
+
+def frames_of(thread: Thread) -> List[str]:
+    """Returns the frames of a thread as rows of a heap have them: those without a line have a negative number there."""
+    return [BUILT.sub("", f"{it.method}:{-3 if it.native else -1 if it.line is None else it.line}")
+            for it in thread.frames]
+
+
+def is_between(heap: Heap, dumps: List[Dump]) -> bool:
+    """Whether a heap was dumped after one of the states and before the next."""
+    times = [it.time for it in dumps if it.time]
+    return len(times) == len(dumps) == 2 and times[0][1] <= heap.time <= times[1][0]
+
+
+class Heaps:
+    """What a heap says of the threads of one state, with the locks there. `there` has these by their labels, `names`
+    their names by key."""
+
+    def __init__(self, heap: Optional[Heap], threads: List[Thread], names: Dict[str, str], locks: Locks) -> None:
+        self.heap, self.names, self.locks = heap, names, locks
+        self.threads = {it.key: it for it in threads}
+        labels = [(label_of(it), it) for it in threads] if heap else []
+        self.there: Dict[Label, Thread] = {label: it for label, it in labels if label}
+
+    def names_of(self, labels: List[Label]) -> List[str]:
+        return [self.names[self.there[it].key] for it in labels if it in self.there]
+
+    def process_of(self, thread: Thread, name: str) -> Optional[Process]:
+        """Returns what a thread waits for without a limit, as a process, or None if the heap doesn't say it."""
+        wait = self.heap.wait_of(thread) if self.heap else None
+        if wait is None or not wait.whom:
+            return None
+        if not all(it in self.there for it in [*wait.whom, *wait.besides]):
+            return unknown(name, "a thread that may end this wait by the heap dump isn't in this state")
+        if wait.kind == READERS:
+            return self.wait_for_readers(wait, name)
+        whom = self.names_of(wait.whom)
+        if wait.kind == QUEUED and not wait.is_full:
+            return unknown(name, "its task stands in the queue of a pool that may take more threads",
+                           candidates=[*whom, COMPLETE])
+        if wait.kind == FUTURE and not wait.is_direct and not all(self.stands(self.there[it]) for it in wait.whom):
+            return unknown(name, f"{whom[0]} computed what it waits for, and has moved since", candidates=whom)
+        because = {QUEUED: [POOLS, CANCELS], FUTURE: [COMPLETES]}.get(wait.kind, [CANCELS])
+        return waits_for_any(name, whom, [SYSTEM, *map(premise, because)], besides=self.names_of(wait.besides))
+
+    def stands(self, thread: Thread) -> bool:
+        """Whether a thread was at one wait all the time between the two states. One that is blocked at a monitor uses
+        some processor time: it was, if the owner was, or is blocked itself by a thread that it blocks."""
+        seen = set()
+        while not thread.has_stood and thread.key not in seen:
+            seen.add(thread.key)
+            wanted = self.locks.wanted.get(thread.key) if thread.same_as is not None else None
+            owners = self.locks.monitor_holders(wanted, thread.key) if wanted else []
+            if len(owners) != 1:
+                return False
+            thread = self.threads[owners[0]]
+        return True
+
+    def wait_for_readers(self, wait: Wait, name: str) -> Process:
+        """One that waits to write waits for those who read, and still stand where they did when the heap was dumped:
+        another one may have given the lock back since."""
+        standing = [it for it in wait.whom if self.stands(self.there[it])]
+        if not standing:
+            return unknown(name, "those who read under this lock have moved since the heap was dumped",
+                           candidates=self.names_of(wait.whom))
+        return waits_for_all(name, self.names_of(standing), [SYSTEM])

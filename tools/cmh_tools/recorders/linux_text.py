@@ -1,0 +1,212 @@
+"""The state that cmh_linux.py prints: lines of JSON, of two readings of a machine, and perhaps of stacks."""
+from __future__ import annotations
+
+import json
+import re
+from collections import Counter
+from dataclasses import dataclass, field
+from typing import Any, Dict, Iterable, Iterator, List, Tuple
+
+from ..files import Refusal, shown
+from ..sketch import quote
+from .base import misfits
+
+Row = Dict[str, Any]
+MARK = "cmh-linux "
+VERSION = 1
+EXPECTED = "lines of cmh_linux.py are expected, as `cmh-dump linux --pid PID --save STATE` keeps them"
+READS, WRITES = 1, 4  # the events of poll for what can be read and what can be written
+CARRIES, RING = "scm_fds:", "UserFiles:"  # a socket with descriptors on their way, an io_uring that keeps files
+OPEN = "open "  # how the name of an open file begins, which several descriptors may share
+ENDED = "ZX"  # the states of those that have ended
+HEX = re.compile(r"(0x)?[0-9a-f]{1,16}")
+THREAD = {"tid": int, "state": str, "inner?": int, "call?": str, "args?": [HEX] * 6, "counts?": [int, int],
+          "set?": [[int]], "words?": re.compile("([0-9a-f]{2})*"), "range?": [int] * 4, "path?": str, "wchan?": str}
+OWNER = {"pid": int, "ppid?": int, "comm": str, "group?": int, "TracerPid?": re.compile(r"\d{1,9}"), "SigCgt?": HEX,
+         "fds?": {str: [str]}, "threads?": [THREAD]}
+SOCKET = {"socket": int, "kind": str, "state": str, "at": str, "to": str, "peers": [int]}
+SHAPES = {"pid": OWNER, "socket": SOCKET, "listening": {"listening": {str: [int]}}, "warnings": {"warnings": [str]},
+          "stacks": {"stacks": int, "still": {str: [str]}, "text": str}, "unreadable": {"unreadable": str}}
+
+
+@dataclass(eq=False)
+class Owner:
+    """A process of the machine, as one reading shows it. `why` says why it couldn't be read, if it couldn't."""
+
+    row: Row
+    threads: List["Thread"] = field(default_factory=list)
+
+    def __post_init__(self) -> None:
+        self.pid, self.parent = (int(self.row.get(key, 0)) for key in ("pid", "ppid"))
+        # Its number and its group's in each namespace of processes: that of the collector first, its own last.
+        self.numbers = [int(it) for it in str(self.row.get("NSpid", self.pid)).split()]
+        self.groups = [int(it) for it in str(self.row.get("NSpgid", self.row.get("group", 0))).split()]
+        self.tracer = int(self.row.get("TracerPid", "0"))
+        self.command = str(self.row.get("comm", ""))
+        self.name = f"{self.command} {self.pid}"
+        self.why = str(self.row.get("unreadable", ""))
+        self.files: Dict[str, List[str]] = self.row.get("fds", {})
+        self.threads = [Thread(self, row) for row in self.row.get("threads", [])] if not self.why else []
+        self.living = [it for it in self.threads if it.state not in ENDED]
+
+    def catches(self, signal: int) -> bool:
+        """Whether it has a handler of a signal."""
+        return bool(int(self.row.get("SigCgt", "0"), 16) >> signal - 1 & 1)
+
+    def ignores(self, signal: int) -> bool:
+        return bool(int(self.row.get("SigIgn", "0"), 16) >> signal - 1 & 1)
+
+    def catches_others(self, signals: Iterable[int]) -> bool:
+        """Whether it has a handler of a signal besides some."""
+        return bool(int(self.row.get("SigCgt", "0"), 16) & ~sum(1 << it - 1 for it in signals))
+
+    def may_carry(self) -> bool:
+        """Whether it may have a file, or use one, that none of its descriptors shows: on its way through a socket, or
+        by what it has asked the kernel for."""
+        files = self.files.values()
+        return bool(self.row.get("aio")) or any(
+            "io_uring" in it[0] or more.startswith((CARRIES, RING)) for it in files for more in ("", *it[2:]))
+
+    def has_ended(self) -> bool:
+        return not self.why and not self.living
+
+
+@dataclass(eq=False)
+class Thread:
+    """A thread, as one reading shows it. `stack` has its frames, where they were asked for."""
+
+    owner: Owner
+    row: Row
+    stack: List[Tuple[str, str]] = field(default_factory=list)
+
+    def __post_init__(self) -> None:
+        self.tid, self.state = int(self.row["tid"]), str(self.row.get("state", "?"))
+        self.inner = int(self.row.get("inner", self.tid))  # its number as it sees itself, in a container
+        self.call = str(self.row.get("call", ""))
+        self.arguments = [int(it, 16) for it in self.row.get("args", [])]
+        self.counts: List[int] = self.row.get("counts", [])
+        self.events: List[List[int]] = self.row.get("set", [])
+        self.words = bytes.fromhex(self.row.get("words", ""))
+
+    @property
+    def name(self) -> str:
+        return self.owner.name if self.tid == self.owner.pid else f"{self.owner.name}/{self.tid}"
+
+    @property
+    def is_addressed(self) -> bool:
+        """Whether it sends a message with an address."""
+        return bool(self.row.get("addressed")) or self.call == "sendto" and self.arguments[4] != 0
+
+    def word(self, at: int) -> int:
+        """The number that stands in memory behind the word of its futex, or 0."""
+        return int.from_bytes(self.words[at:at + 4], "little") if len(self.words) >= at + 4 else 0
+
+
+class Machine:
+    """One reading of a machine: its processes, and who has which file. One that can't be read in any of the readings
+    counts so in all: `unread` has these, each with why."""
+
+    def __init__(self, rows: List[Row], unread: Dict[int, str]) -> None:
+        self.owners = [Owner({**row, "unreadable": unread[row["pid"]]} if row["pid"] in unread else row)
+                       for row in rows if "pid" in row]
+        self.by_pid = {it.pid: it for it in self.owners}
+        self.sockets: Dict[int, Row] = {row["socket"]: row for row in rows if "socket" in row}
+        self.warnings = [str(it) for row in rows for it in row.get("warnings", [])]
+        self.listening: Dict[str, List[int]] = next((row["listening"] for row in rows if "listening" in row), {})
+        self.holders: Dict[str, List[Tuple[Owner, str]]] = {}
+        for owner in self.owners:
+            for fd, it in owner.files.items() if not owner.why else ():
+                for key in keys_of(it):
+                    self.holders.setdefault(key, []).append((owner, fd))
+
+        self.carriers = [it for it in self.owners if not it.why and it.may_carry()]
+
+    def with_file(self, key: str, mode: str = "") -> List[Owner]:
+        """Returns the processes that have a file, open in a way."""
+        found = [owner for owner, fd in self.holders.get(key, []) if not mode or mode in owner.files[fd][1]]
+        return list(dict.fromkeys(found))
+
+    def threads(self, number: int) -> List[Thread]:
+        """Returns the threads that see themselves as a number: several, if they are of several namespaces."""
+        return [it for owner in self.owners for it in owner.threads if it.inner == number]
+
+    def below(self, owners: List[Owner]) -> List[Owner]:
+        """Returns the children of some processes, and theirs, and so on."""
+        found: List[Owner] = []
+        new = {it.pid for it in owners}
+        while new:
+            some = [it for it in self.owners if it.parent in new and it not in found]
+            found += some
+            new = {it.pid for it in some}
+        return found
+
+    def above(self, owner: Owner) -> List[Owner]:
+        """Returns the parent of a process, and its, and so on."""
+        found: List[Owner] = []
+        at = self.by_pid.get(owner.parent)
+        while at is not None and at not in found:
+            found.append(at)
+            at = self.by_pid.get(at.parent)
+        return found
+
+    def children(self, pid: int) -> List[Owner]:
+        """Returns the processes that a process waits for by `wait`: its children, and those that it traces."""
+        return [it for it in self.owners if pid in (it.parent, it.tracer)]
+
+
+def keys_of(it: List[str]) -> Iterator[str]:
+    """Yields what tells the file of a descriptor from others: the number of its pipe or socket, or what more is known.
+    """
+    if it[0].startswith(("pipe:[", "socket:[")):
+        yield it[0]
+    yield from (more for more in it[2:] if not more.startswith(("lock:", CARRIES, RING)))
+
+
+def rows_of(text: str, path: str) -> List[Row]:
+    """Returns the rows of a state. Raises Refusal if it isn't one, or isn't whole."""
+    rows = []
+    for at, line in enumerate(text.replace("\r\n", "\n").split("\n"), 1):
+        if not line:
+            continue
+        try:
+            row = json.loads(line[len(MARK):]) if line.startswith(MARK) else None
+        except (ValueError, RecursionError):
+            row = None
+        if not isinstance(row, dict):
+            raise Refusal(f"{shown(path)}:{at}: {EXPECTED}, and this line isn't one, or is cut off")
+        odd = next((it for key in row.keys() & SHAPES.keys() for it in misfits(row, SHAPES[key])), "")
+        if odd:
+            raise Refusal(f"{shown(path)}:{at}: {EXPECTED}, and in this line {quote(odd[1:])} isn't as these have it")
+        rows.append(row)
+    if not rows or rows[0].get("version") != VERSION:
+        raise Refusal(f"{shown(path)}:1: {EXPECTED}, of version {VERSION}")
+    if rows[-1].get("end") != "state":
+        raise Refusal(f"{shown(path)}: its last line is missing, so it is cut off")
+    return rows
+
+
+def readings_of(rows: List[Row], path: str) -> List[List[Row]]:
+    """Returns the rows of each reading. Raises Refusal if one isn't whole."""
+    readings: List[List[Row]] = []
+    for row in rows[1:-1]:
+        if "reading" in row:
+            readings.append([])
+        if not readings or "stacks" in row:
+            continue
+        readings[-1].append(row)
+    for number, some in enumerate(readings, 1):
+        end, pids = some[-1], [row["pid"] for row in some if "pid" in row]
+        if len(set(pids)) != len(pids):
+            (pid, _), = Counter(pids).most_common(1)
+            raise Refusal(f"{shown(path)}: process {pid} stands twice in reading {number}")
+        if end.get("end") != number or end.get("processes") != len(pids):
+            raise Refusal(f"{shown(path)}: reading {number} isn't whole: its count of processes doesn't fit")
+    if not readings:
+        raise Refusal(f"{shown(path)}: it has no reading")
+    return readings
+
+
+def some_names(owners: Iterable[Owner], most: int = 4) -> str:
+    """Returns the names of processes for people."""
+    names = list(dict.fromkeys(shown(it.name) for it in owners))
+    return ", ".join(names[:most]) + (f" and {len(names) - most:,} more" if names[most:] else "")

@@ -1,0 +1,314 @@
+"""What may end the wait of a thread, as the kernel keeps it: the other ends of its descriptors, and its children."""
+from __future__ import annotations
+
+import ctypes
+from dataclasses import dataclass, field
+from typing import List, Tuple
+
+from ..sketch import LIMIT
+from .linux_text import OPEN, READS, WRITES, Machine, Owner, Thread, some_names
+
+FILES, FIFO, REMOTE, UNTIMED, GROUP = "files", "fifo", "remote", "untimed", "group"
+READ = ("read", "readv", "pread64", "preadv", "recvfrom", "recvmsg", "recvmmsg")
+SEND = ("sendto", "sendmsg", "sendmmsg")
+WRITE = ("write", "writev", "pwrite64", "pwritev", "vmsplice", *SEND)
+ACCEPTS = ("accept", "accept4")
+SETS = ("poll", "ppoll", "select", "pselect6")
+EPOLLS = ("epoll_wait", "epoll_pwait", "epoll_pwait2")
+MOVES = ("sendfile", "splice", "tee")
+SLEEPS = ("nanosleep", "clock_nanosleep")
+OPENS = ("open", "openat", "openat2")
+FORKS = ("clone", "clone3", "fork", "vfork")
+SUSPENDS = ("pause", "rt_sigsuspend")
+LIMITS = {"poll": 2, "ppoll": 2, "select": 4, "pselect6": 4, "epoll_wait": 3, "epoll_pwait": 3, "epoll_pwait2": 3,
+          "futex": 3, "rt_sigtimedwait": 2, "semtimedop": 3, "mq_timedsend": 4, "mq_timedreceive": 4,
+          "io_getevents": 4}  # at which argument a call has its limit (that of recvmmsg ends no wait for the first)
+NUMBERS = ("poll", "epoll_wait", "epoll_pwait")  # whose limit is a number, and none is below 0
+FOREVER = 0x7FFFFFFF  # a limit of 24 days, which programs write for none
+ONESHOT, EVENTS = 1 << 30, 0xFFFF  # of epoll: a file that is seen once, and what it is seen for
+OWN_CHILDREN = 0x20000000  # __WNOTHREAD: those of the thread alone
+SIGCHLD = 17
+SHELLS = ("bash", "sh", "dash", "ksh", "zsh")
+OF_USERS = (10, 12, *range(34, 65))  # SIGUSR1, SIGUSR2 and those of real time, which do what a program likes
+INTERNET = (2, 10)  # the families of addresses of IPv4 and of IPv6
+
+
+@dataclass
+class Ends:
+    """What may end a wait. `whom` are the threads that can, `why` says why that isn't known, `runs` why it goes on by
+    itself; `premises` are what that rests on. `what` says what it waits at, and `others` who has the other ends.
+    `needs_all` says that each of `whom` has to let go, and `is_exact` that no process that can't be read is one.
+    `operation` is what it does, if that is another word than the call, and `besides` are those who may end the wait by
+    something new."""
+
+    whom: List[Thread] = field(default_factory=list)
+    why: str = ""
+    runs: str = ""
+    premises: List[str] = field(default_factory=list)
+    what: str = ""
+    others: List[Owner] = field(default_factory=list)
+    needs_all: bool = False
+    is_exact: bool = False
+    operation: str = ""
+    besides: List[Thread] = field(default_factory=list)
+
+
+def int32(value: int) -> int:
+    return ctypes.c_int32(value & 0xFFFFFFFF).value
+
+
+def has_limit(thread: Thread) -> bool:
+    """Whether the arguments of a call have a limit."""
+    if thread.call in SLEEPS:
+        return True
+    at = LIMITS.get(thread.call)
+    if at is None:
+        return False
+    value = thread.arguments[at]
+    return 0 <= int32(value) < FOREVER if thread.call in NUMBERS else value != 0
+
+
+def threads_of(owners: List[Owner], but: Thread, is_alone: bool = True) -> List[Thread]:
+    """Returns the threads of some processes that haven't ended. A process of one thread that waits at its own end is
+    one of them only where it alone has the other end, and then it waits for itself. Several threads have the same list,
+    whoever of them waits: so those at one wait can be shown as one."""
+    found = [thread for owner in owners for thread in owner.living]
+    others = [it for it in found if it is not but]
+    if is_alone:
+        return found if len(but.owner.living) > 1 or not others else others
+    return others
+
+
+# Descriptors
+
+
+def ends_of(machine: Machine, thread: Thread, fd: int, events: int) -> Ends:
+    """Returns what may bring an event to a descriptor of a thread."""
+    it = thread.owner.files.get(str(fd))
+    if it is None:
+        return Ends(why=f"its descriptor {fd} isn't known", what=f"descriptor {fd}")
+    ends = ends_of_file(machine, thread, it, events)
+    ends.what += f" (descriptor {fd})"
+    return ends
+
+
+def ends_of_file(machine: Machine, thread: Thread, it: List[str], events: int) -> Ends:
+    """Returns what may bring an event to an open file of a thread."""
+    target, more = it[0], it[2] if len(it) > 2 else ""
+    if target.startswith("pipe:["):
+        return ends_of_pipe(machine, thread, target, f"pipe {target[6:-1]}", it[1], events)
+    if more.startswith("fifo "):
+        found = ends_of_pipe(machine, thread, more, f"FIFO {target}", it[1], events)
+        found.premises.append(FIFO)
+        return found
+    if target.startswith("socket:["):
+        return ends_of_socket(machine, thread, target)
+    if target.startswith("anon_inode:[") or target.startswith("pidfd:["):
+        return ends_of_anonymous(machine, thread, it)
+    return Ends(why=f"what ends a wait at {target} isn't known", what=target)
+
+
+def ends_of_pipe(machine: Machine, thread: Thread, key: str, what: str, mode: str, events: int) -> Ends:
+    """Returns what may bring an event to an end of a pipe, open in a mode: to one that is only read or only written
+    nothing comes but from the other end, whatever is asked for."""
+    ways = [mode for way, mode in ((READS, "w"), (WRITES, "r")) if events & way] or ["w", "r"]
+    ways = {"r": ["w"], "w": ["r"]}.get(mode, ways)
+    others = list(dict.fromkeys(owner for mode in ways for owner in machine.with_file(key, mode)))
+    found = found_ends(thread, others, what, [FILES])
+    if others == [thread.owner] and any(map(thread.owner.catches, OF_USERS)):
+        found.why = "it has a handler for a signal, which may use its own pipe"
+    return found
+
+
+def found_ends(thread: Thread, others: List[Owner], what: str, premises: List[str]) -> Ends:
+    """Returns the ends that some processes have. If none has one, that isn't known: it may be on its way."""
+    whom = threads_of(others, thread)
+    why = "" if whom else f"no process that was read has the other end of {what}"
+    return Ends(whom, why, "", list(premises), what, others)
+
+
+def ends_of_socket(machine: Machine, thread: Thread, target: str) -> Ends:
+    row = machine.sockets.get(int(target[8:-1]))
+    if row is None:
+        return Ends(why=f"the other end of {target} isn't known", what=target)
+    kind = {"tcp": "TCP socket", "u_dgr": "Unix datagram socket"}.get(row["kind"], "Unix socket")
+    if row["state"] == "LISTEN":
+        return Ends(runs="somebody may connect", premises=[REMOTE], what=f"listening {kind} {row['at']}")
+    between = f"from {row['at']} to {row['to']}" if row["to"] else row["at"]
+    what = f"{kind} {target[8:-1] if between in ('', '*') else between}"
+    if row.get("away"):
+        return Ends(runs="who is on another machine may send", premises=[REMOTE], what=what)
+    if row["kind"] == "u_dgr" and row["at"] != "*":
+        return Ends(why=f"anybody may send to {what}", what=what)
+    if row["kind"] == "u_dgr" and "sock_alloc_send" in str(thread.row.get("wchan", "")):
+        return Ends(why="its own buffer is full of messages, and who has to take these isn't known", what=what)
+    if row["kind"] == "u_dgr" and thread.is_addressed:
+        return Ends(why="to whom it sends isn't known", what=what)
+    ends = [owner for peer in row["peers"] for owner in machine.with_file(f"socket:[{peer}]")]
+    others = list(dict.fromkeys(ends))
+    found = found_ends(thread, others, what, [FILES, UNTIMED])
+    # Whoever has the same end may shut it down.
+    same = threads_of(machine.with_file(target), thread, False)
+    found.whom += [it for it in same if found.whom and it not in found.whom]
+    return found
+
+
+def ends_of_anonymous(machine: Machine, thread: Thread, it: List[str]) -> Ends:
+    what, more = it[0].partition(":")[2].strip("[]"), it[2] if len(it) > 2 else ""
+    if more.startswith("eventfd-id:") and thread.owner.row.get("aio"):
+        return Ends(why="the kernel may write to its eventfd, as io_submit asks it to", what="eventfd")
+    if more.startswith("eventfd-id:"):
+        return found_ends(thread, machine.with_file(more), f"eventfd {more.split()[1]}", [FILES])
+    if more == "it_value: (0, 0)":
+        return Ends(why="its timer isn't armed, and whoever has it may do that", what="timer")
+    if more.startswith("it_value:"):
+        return Ends(runs="its timer comes", premises=[LIMIT], what="timer")
+    if more.startswith("Pid:"):
+        owner = machine.by_pid.get(int(more.split()[1]))
+        if owner is None:
+            return Ends(why="the process that it waits for isn't in the state", what="process")
+        return Ends(list(owner.living), "" if owner.living else "the process that it waits for has ended", "", [],
+                    f"the end of {owner.name}", [owner], is_exact=True)
+    return Ends(why=f"what ends a wait at {what} isn't known", what=what)
+
+
+def ends_of_set(machine: Machine, thread: Thread) -> Ends:
+    """Returns what may end a wait at several descriptors: what ends any of them."""
+    if "set" not in thread.row:
+        return Ends(why="the set of its descriptors couldn't be read", what="a set that can't be read")
+    rows = thread.events
+    epoll: List[Thread] = []
+    if thread.call in EPOLLS:
+        it = thread.owner.files.get(str(int32(thread.arguments[0])))
+        if it is None or "eventpoll" not in it[0]:
+            return Ends(why="its epoll isn't known", what="epoll")
+        names = [more for more in it[2:] if more.startswith(OPEN)]
+        owners = dict.fromkeys([thread.owner, *(owner for name in names for owner in machine.with_file(name))])
+        epoll = threads_of(list(owners), thread, False)  # who may add to it
+        stale = [fd for fd, _, number in rows if is_other_file(thread.owner, fd, number)]
+        if stale:
+            return Ends(why=f"its epoll has a file that descriptor {stale[0]} no longer is", what="epoll")
+        rows = [row for row in rows if not row[1] & ONESHOT or row[1] & EVENTS]  # (others were seen)
+    if thread.call in MOVES:  # (what it moves from or to a file on a disk doesn't wait)
+        rows = [row for row in rows if not is_plain(thread.owner.files.get(str(row[0]), [""]))]
+    return joined([ends_of(machine, thread, row[0], row[1]) for row in rows], epoll)
+
+
+def is_plain(it: List[str]) -> bool:
+    """Whether a descriptor is of a plain file."""
+    return it[0].startswith("/") and not it[0].startswith("/dev/") and not any(more.startswith("fifo ") for more in it)
+
+
+def is_other_file(owner: Owner, fd: int, number: int) -> bool:
+    """Whether a descriptor of an epoll is another file by now, or closed while somebody else keeps the file."""
+    it = owner.files.get(str(fd))
+    if it is None:
+        return True
+    inode = it[0].partition("[")[2].rstrip("]")
+    return number < 0 or inode.isdigit() and number != 0 and int(inode) != number
+
+
+def joined(parts: List[Ends], more: List[Thread]) -> Ends:
+    """Returns what ends a wait that any of some parts may end."""
+    some = [it.what for it in parts[:4]]
+    what = ", ".join(some) + (f" and {len(parts) - 4} more" if parts[4:] else "") or "nothing"
+    others = list(dict.fromkeys(owner for it in parts for owner in it.others))
+    going = next((it for it in parts if it.runs), None)
+    if going is not None:
+        return Ends(runs=going.runs, premises=going.premises, what=what, others=others)
+    why = next((it.why for it in parts if it.why), "" if parts else "it waits for no descriptor, but for a signal")
+    whom = list(dict.fromkeys([*(thread for it in parts for thread in it.whom), *more]))
+    premises = list(dict.fromkeys(name for it in parts for name in it.premises if name != UNTIMED))
+    return Ends(whom, why, "", premises, what, others, is_exact=all(it.is_exact for it in parts))
+
+
+# Children and connections
+
+
+def ends_of_wait(machine: Machine, thread: Thread) -> Ends:
+    """Returns what ends a wait for children."""
+    own = machine.children(thread.owner.pid)
+    what, children = awaited(thread, own)
+    why = doubt_of_wait(thread, children)
+    if why or not children:
+        return Ends(why=why or "the child that it waits for isn't in the state", what=what)
+    unread = [it for it in children if it.why]
+    ends = Ends(threads_of(children, thread, False), f"{unread[0].name} can't be read" if unread else "", "", [], what,
+                children, is_exact=True)
+    # Who ignores the end of children gets no word of any before all have ended.
+    is_traced = any(it.tracer == thread.owner.pid for it in children)
+    ends.needs_all = thread.owner.ignores(SIGCHLD) and bool(children[1:]) and not is_traced
+    if ends.needs_all and len(ends.whom) > len(children):
+        ends.why = ends.why or "it waits for the end of several, and of one it isn't known which thread ends it"
+    if what == "any child":
+        ends.besides = new_children(machine, thread, own)
+    elif "group" in what:
+        ends.premises.append(GROUP)
+    return ends
+
+
+def doubt_of_wait(thread: Thread, children: List[Owner]) -> str:
+    """Returns why it isn't known what ends a wait for children, or nothing."""
+    ended = [it for it in children if it.has_ended()]
+    options = thread.arguments[2 if thread.call == "wait4" else 3]
+    if ended:
+        return f"{ended[0].name} has ended, and it may be about to see that"
+    if options & OWN_CHILDREN and len(thread.owner.living) > 1:
+        return "it waits for the children of its own thread, and which these are isn't known"
+    if thread.owner.command in SHELLS and any(map(thread.owner.catches, OF_USERS)):
+        return "it has a trap for a signal, which may end its wait"
+    return ""
+
+
+def new_children(machine: Machine, thread: Thread, own: List[Owner]) -> List[Thread]:
+    """Returns who may give a process more children: its other threads, and those below, whose children it may inherit.
+    """
+    others = [it for it in thread.owner.living if it is not thread]
+    return others + [it for owner in machine.below(own) for it in owner.living]
+
+
+def awaited(thread: Thread, own: List[Owner]) -> Tuple[str, List[Owner]]:
+    """Returns which of its children a thread waits for, by their numbers in its own namespace."""
+    level = len(thread.owner.numbers) - 1
+    kind, number = int32(thread.arguments[0]), int32(thread.arguments[1])
+    if thread.call == "wait4":
+        kind, number = (0, 0) if kind == -1 else (1, kind) if kind > 0 else (2, -kind)
+    if kind == 0:
+        return "any child", own
+    if kind == 1:
+        return f"child {number}", [it for it in own if it.numbers[level:][:1] == [number]]
+    if kind == 2:
+        group = number or thread.owner.groups[-1]
+        return f"any child of group {group}", [it for it in own if it.groups[level:][:1] == [group]]
+    more = thread.owner.files.get(str(number), ["", "", ""])[2:]
+    pids = [int(it.split()[1]) for it in more if it.startswith("Pid:")]
+    return "a child", [it for it in own if it.pid in pids]
+
+
+def ends_of_connect(machine: Machine, thread: Thread) -> Ends:
+    path = thread.row.get("path", "")
+    if thread.row.get("family") in INTERNET:
+        return Ends(runs="it tries that for some minutes at most", premises=[LIMIT], what="connection")
+    if not path:
+        return Ends(why="to whom it connects isn't known", what="connection")
+    numbers = machine.listening.get(f"{thread.owner.row.get('net')} {path}", [])
+    others = [owner for number in numbers for owner in machine.with_file(f"socket:[{number}]")]
+    return found_ends(thread, list(dict.fromkeys(others)), f"Unix socket {path}", [FILES, UNTIMED])
+
+
+def note_of(thread: Thread, ends: Ends) -> str:
+    """Returns what a thread does, for people."""
+    at = f"{ends.operation or thread.call} {ends.what}".strip()
+    others = [it for it in ends.others if it is not thread.owner]
+    names, verb = some_names(others), "has" if len(others) == 1 else "have"
+    if thread.call in ("wait4", "waitid", *SUSPENDS, *FORKS):
+        return f"{at}: {names}" if others else at
+    if ends.operation == "lock of":
+        return f"{at}, which {some_names(ends.others)} {verb}" if ends.others else at
+    if thread.call == "futex":
+        return f"{at}, which {names} {verb}" if others else at
+    more = f"{at}; {names} {verb} another end" if others else at
+    # A pipe whose other end the waiter has itself never closes.
+    is_own = thread.owner in ends.others and ("pipe " in ends.what or "FIFO " in ends.what)
+    return f"{more}; it has the other end itself" if is_own else more
+

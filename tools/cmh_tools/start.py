@@ -1,0 +1,70 @@
+"""Starts a command, and ends it by a signal: what has to work before any module is loaded that a small Python, or one
+of old, may lack."""
+import contextlib
+import importlib
+import signal
+import sys
+from typing import Iterator, NoReturn, Optional
+
+PACKAGE = __name__.partition(".")[0]
+
+
+class Signals:
+    """The signals that end a command. It ends as by an exception, so that what was begun is put away."""
+
+    def __init__(self) -> None:
+        self.is_held, self.number = False, 0
+
+    def install(self) -> None:
+        for number in (signal.SIGTERM, signal.SIGHUP, signal.SIGINT):
+            if signal.getsignal(number) != signal.SIG_IGN:
+                signal.signal(number, self.leave)
+
+    def leave(self, number: int, _: object = None) -> None:
+        """Ends the command, unless this is held back. No second signal disturbs the end, whichever it is."""
+        self.number = number
+        if not self.is_held:
+            self.is_held = True
+            sys.exit(128 + number)
+
+    @contextlib.contextmanager
+    def hold(self) -> Iterator[None]:
+        """Holds signals back from what is done here as a whole."""
+        was_held, self.is_held = self.is_held, True
+        try:
+            yield
+        finally:
+            self.is_held = was_held
+            if self.number:
+                self.leave(self.number)
+
+
+SIGNALS = Signals()
+
+
+def start(name: str, module: str) -> NoReturn:
+    """Runs the command of a module with the words of the command line, and ends with its status."""
+    if sys.version_info < (3, 8):
+        end(f"{name}: Python 3.8 or later is needed")
+    SIGNALS.install()
+    try:
+        status: int = importlib.import_module(f"{PACKAGE}.{module}").command(sys.argv[1:])
+    except ModuleNotFoundError as error:
+        end(f"{name}: {lack(error.name)}")
+    finally:
+        SIGNALS.is_held = True  # (what has to be said is said)
+    sys.exit(status)
+
+
+def lack(name: Optional[str]) -> str:
+    """Says which module is missing, and what brings it: Debian and its children have a Python of the smallest modules
+    alone, python3-minimal, which libpython3-stdlib makes whole."""
+    if str(name).partition(".")[0] == PACKAGE:
+        return f"the module {name} isn't there: it isn't installed as a whole"
+    return f"Python has no module {name}: its standard library isn't whole (Debian: apt-get install libpython3-stdlib)"
+
+
+def end(text: str) -> NoReturn:
+    if sys.stderr is not None:
+        print(text, file=sys.stderr)
+    sys.exit(4)

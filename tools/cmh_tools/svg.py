@@ -1,0 +1,75 @@
+"""A picture as SVG, laid out by `dot` of Graphviz. Of what that writes, forms and texts alone are taken over, so that
+nothing of a name is ever more than a text."""
+from __future__ import annotations
+
+import shutil
+import subprocess
+import xml.etree.ElementTree as ElementTree
+from typing import Dict, Iterator
+
+from .dot import dot, in_svg
+from .files import Failure, shown
+from .picture import Picture
+from .start import SIGNALS
+
+SPACE = "http://www.w3.org/2000/svg"
+SECONDS = 120  # that a layout may take: one of 40 boxes takes less than one
+NO_GRAPHVIZ = "the command dot isn't there, which lays out pictures (Debian: apt-get install graphviz)"
+FORMS = {"g", "path", "polygon", "polyline", "ellipse", "text"}
+ATTRIBUTES = {"class", "transform", "fill", "stroke", "stroke-width", "stroke-dasharray", "points", "d", "cx", "cy",
+              "rx", "ry", "x", "y", "text-anchor", "font-family", "font-size", "font-weight"}
+
+
+def svg(picture: Picture) -> str:
+    """Returns the text of a picture as SVG. Raises Failure if Graphviz isn't there, or fails."""
+    if not shutil.which("dot"):
+        raise Failure(NO_GRAPHVIZ)
+    try:
+        tree = ElementTree.fromstring(laid_out(dot(picture)))
+    except ElementTree.ParseError as error:
+        raise Failure(f"what dot prints is no SVG: {error}") from None
+    made = ElementTree.Element("svg", {"xmlns": SPACE, "role": "img", "aria-labelledby": "cmh-title",
+                                       "aria-describedby": "cmh-desc", "viewBox": tree.get("viewBox", "")})
+    made.set("width", tree.get("width", ""))
+    made.set("height", tree.get("height", ""))
+    ElementTree.SubElement(made, "title", {"id": "cmh-title"}).text = in_svg(picture.caption())
+    ElementTree.SubElement(made, "desc", {"id": "cmh-desc"}).text = in_svg(" ".join(picture.sentences()))
+    boxes = {f"p{box.number}": "\n".join(map(in_svg, box.lines)) for box in picture.boxes}
+    made.extend(list(copies(tree, boxes)))
+    return ElementTree.tostring(made, encoding="unicode") + "\n"
+
+
+def laid_out(text: str) -> bytes:
+    """Returns what Graphviz makes of a graph."""
+    ran = None
+    try:
+        with SIGNALS.hold():
+            ran = subprocess.Popen(["dot", "-Tsvg"], stdin=subprocess.PIPE, stdout=subprocess.PIPE,
+                                   stderr=subprocess.PIPE)
+        out, errors = ran.communicate(text.encode("utf-8", "backslashreplace"), SECONDS)
+        if ran.returncode:
+            said = shown(errors.decode("utf-8", "replace").strip())
+            raise Failure(f"dot ended with status {ran.returncode}: {said}")
+        return out
+    except subprocess.TimeoutExpired:
+        raise Failure(f"dot takes longer than {SECONDS} s: without --all a picture has few boxes") from None
+    except OSError as error:
+        raise Failure(f"dot can't be run: {error.strerror}") from error
+    finally:
+        if ran:
+            ran.kill()
+            ran.wait()
+
+
+def copies(tree: ElementTree.Element, boxes: Dict[str, str]) -> Iterator[ElementTree.Element]:
+    """Yields the forms and texts below an element. What Graphviz calls one of the boxes gets its words as a title."""
+    for it in tree:
+        name = it.tag.replace(f"{{{SPACE}}}", "")
+        if name in FORMS:
+            made = ElementTree.Element(name, {key: value for key, value in it.attrib.items() if key in ATTRIBUTES})
+            made.text = it.text if name == "text" else None
+            title = it.find(f"{{{SPACE}}}title")
+            if title is not None and title.text in boxes and it.get("class", "").startswith("node"):
+                ElementTree.SubElement(made, "title").text = boxes[title.text]
+            made.extend(list(copies(it, boxes)))
+            yield made

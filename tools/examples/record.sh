@@ -1,0 +1,79 @@
+# What the record scripts share. Each run has a folder of its own, $work, and ends the processes in $started. Those
+# end by themselves too, ten minutes later, where a run is killed.
+
+work=$(mktemp -d)
+started=()
+trap 'kill "${started[@]}" 2> /dev/null || true; wait; rm -rf "$work"' EXIT
+
+# Runs $TAKER on what stalls, where it is set, in place of the record's own reading: with the system, and whom to take.
+hand_over() { [ -z "${TAKER:-}" ] || { "$TAKER" "$@"; exit; }; }
+
+# A port from 10000 to 29999 that nobody has. The three after it are this run's own too.
+port=$((10000 + 4 * ($$ % 5000)))
+while (exec 3<> "/dev/tcp/127.0.0.1/$port") 2> /dev/null; do port=$((port + 4)); done
+
+# Starts an epmd for this run alone, so that its nodes meet those of no other. Nodes find names of hosts in the file
+# `hosts`, and a cookie that the first one makes in the folder.
+own_epmd() {
+    export ERL_EPMD_ADDRESS=127.0.0.1 ERL_EPMD_PORT=$port
+    timeout 600 epmd > "$work/epmd.log" 2>&1 & started+=($!)
+    until epmd -names > /dev/null 2>&1; do kill -0 $!; sleep 0.1; done
+    echo "{host, {127,0,0,1}, [$1]}. {lookup, [file]}." > "$work/hosts"
+    export ERL_INETRC=$work/hosts HOME=$work
+}
+
+# A node that ends with this run, and one that evaluates an expression and ends. The first has what is in `node` alone.
+node() {
+    (cd "$work/node" && exec timeout 600 erl -noinput -start_epmd false -sname "$1" > "$work/$1.log" 2>&1) &
+    started+=($!)
+    until [ -s "$work/.erlang.cookie" ] && epmd -names | grep -q "^name ${1%@*} "; do kill -0 $!; sleep 0.1; done
+}
+ask() {
+    erl -noinput -start_epmd false -hidden -sname "ops-$BASHPID@${1#*@}" -eval "$2"
+}
+
+# Prints what `take` says of Erlang nodes, once all processes have done nothing between its two readings.
+take_counts() {
+    while take > "$work/state"; do
+        if has_rested < "$work/state"; then cat "$work/state"; return; fi
+    done
+    return 1
+}
+has_rested() {
+    awk '/^=process / { process = $2 " " $3 }
+        /^{reductions,/ { if (process in count && count[process] != $0) exit 1; count[process] = $0 }'
+}
+
+# Starts as many ranks of a program.
+run_ranks() {
+    ranks=$1 program=$2
+    shift
+    TMPDIR=$work timeout -k 10 600 nice mpirun --oversubscribe --allow-run-as-root -np "$ranks" "$@" >&2 & started+=($!)
+}
+
+await_ranks() { until [ "$(pgrep -fc "^$program ")" -ge "$ranks" ]; do kill -0 "${started[0]}"; sleep 0.2; done; }
+
+# Prints where each rank stands, all at once: one that is read is held, and takes no processor time from the others.
+take_ranks() {
+    await_ranks
+    readers=()
+    for pid in $(pgrep -f "^$program "); do
+        {
+            echo "# gdb -p $pid -batch -ex bt, $(tr '\0' '\n' < "/proc/$pid/environ" | grep ^OMPI_COMM_WORLD_RANK=)"
+            gdb -p "$pid" -batch -ex bt 2>&1
+        } > "$work/$pid.stack" & readers+=($!)
+    done
+    wait "${readers[@]}"
+    cat "$work"/*.stack
+}
+# The frames of the job's own in a state, once no rank is in MPI_Init.
+places_of_ranks() { ! grep -q MPI_Init "$1" && grep -o '^# gdb.*\|[a-z_]* ([^()]*) at [a-z]*\.c:.*' "$1"; }
+
+# Prints two states that a command prints, a second or more apart, once another one finds all at the same places in
+# both. Usage: take_twice TAKE PLACES
+take_twice() {
+    "$1" > "$work/first"
+    until sleep 1; "$1" > "$work/second"; is_same "$2"; do mv "$work/second" "$work/first"; done
+    cat "$work/first" "$work/second"
+}
+is_same() { places=$("$1" "$work/first") && [ -n "$places" ] && [ "$places" = "$("$1" "$work/second")" ]; }
