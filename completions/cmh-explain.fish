@@ -1,0 +1,16 @@
+# Completions of cmh-explain for fish. Put this file into ~/.config/fish/completions.
+
+complete -c cmh-explain -l all -d 'Show all names and lines'
+complete -c cmh-explain -l why -x -d 'Show the chain from one process to its root'
+complete -c cmh-explain -l summary -d 'Print the first line alone'
+complete -c cmh-explain -l quiet -d 'Print nothing: the status is the answer'
+complete -c cmh-explain -l json -d 'Print all of it as JSON'
+complete -c cmh-explain -l dot -d 'Print a graph for Graphviz'
+complete -c cmh-explain -l svg -d 'Print that graph as SVG'
+complete -c cmh-explain -l html -r -d 'Write all of it as a page'
+complete -c cmh-explain -l state -r -d 'Put the lines of a state into the page'
+complete -c cmh-explain -l color -x -a 'auto always never' -d 'Colour the verdicts'
+complete -c cmh-explain -l pager -d 'Show a long answer through $PAGER'
+complete -c cmh-explain -l without-notes -d 'The dump was written by hand'
+complete -c cmh-explain -l version -d 'Print the version'
+complete -c cmh-explain -s h -l help -d 'Print help'

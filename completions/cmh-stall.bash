@@ -1,0 +1,16 @@
+# Completions of cmh-stall for bash. Source this file, or put it as `cmh-stall` where bash-completion looks.
+
+_cmh_stall() {
+    local word=${COMP_WORDS[COMP_CWORD]} before=${COMP_WORDS[COMP_CWORD - 1]}
+    local options='--seconds --with --guesses --kill --heap --yes --cookie-file --output --redact --help --version'
+    local systems='linux jvm go python erlang mpi rabbitmq'
+    COMPREPLY=()
+    [[ $before != --seconds ]] || return
+    case $before:$word in
+        *:-*) mapfile -t COMPREPLY < <(compgen -W "$options" -- "$word") ;;
+        cmh-stall:* | --with:*) mapfile -t COMPREPLY < <(compgen -W "$systems" -o plusdirs -- "$word") ;;
+        *) compopt -o default ;;
+    esac
+}
+
+complete -F _cmh_stall cmh-stall
