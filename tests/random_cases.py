@@ -1,10 +1,12 @@
 """Makes random cases: dumps of many shapes, good and spoiled, each with the words of a command line."""
+from __future__ import annotations
 
 import copy
 import json
 import random
 from collections import namedtuple
 from functools import partial
+from typing import Any
 
 import reference
 
@@ -233,7 +235,7 @@ def write(draw, value):
 
 # Faults of values, in the order of docs/FORMATS.md. Each changes a good dump, or one with later faults.
 
-JUNK = [None, True, 7, -1, 1.5, "", "x", [], {}, [[]], {"a": 1}]
+JUNK: list[Any] = [None, True, 7, -1, 1.5, "", "x", [], {}, [[]], {"a": 1}]
 NO_NAMES = ["", "-a", "_a", ".a", ":", "/a", "a b", "a\n", "\na", "a\0", "a@b", "é", "aé", "ａ", "a,b", '"', "\\"]
 NO_NAMES.append("a" * 65)
 NO_VERSIONS = [0, 3, -1, "1", "2", True, None, [1], {}, 257, 4294967297, 2**64 + 1, 1e300, 1.5, ""]

@@ -7,6 +7,7 @@ It is written from docs/FORMATS.md and docs/MODEL.md alone, so that a mistake of
 finds all verdicts at once in the graph, and sends queries and replies for a trace alone. What clap writes, such as help
 and why it refuses a word, isn't known here: `answer` gives status 2 for such words, and None for the text.
 """
+from __future__ import annotations
 
 import json
 import math
@@ -439,7 +440,7 @@ def choose_command(words):
     return COMMANDS[words[0]]
 
 
-def answer(words, dump):
+def answer(words: list[str], dump: bytes) -> tuple[int, bytes, bytes | None]:
     """Returns the status, standard output and standard error of cmh; None in the place of what clap writes."""
     try:
         status, lines = choose_command(words)(words[1:], dump)

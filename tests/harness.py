@@ -1,0 +1,245 @@
+"""What unittest lacks for the tests of both products: comparisons by name, commands, side-by-side runs, a closing line.
+
+A script of tests is a file whose classes derive from Case, and that ends in `main()`. All of unittest's options serve:
+`tests/documents -k links -v` runs the tests whose names have 'links'.
+"""
+from __future__ import annotations
+
+import os
+import re
+import resource
+import shutil
+import subprocess
+import sys
+import tempfile
+import time
+import unittest
+from concurrent.futures import ThreadPoolExecutor
+from typing import Any, Iterable, NamedTuple, NoReturn, Sequence
+
+TOP = os.path.dirname(os.path.dirname(os.path.realpath(__file__)))
+PROGRAM = os.path.abspath(os.environ.get("CMH") or f"{TOP}/bin/cmh")
+SECONDS = 900  # no command of a test takes so long, also on a busy machine
+CLOSING = re.compile(r"(\d+) passed, (\d+) failed(?:, (\d+) skipped)?\n?")
+
+
+# Tests
+
+
+class Ran(NamedTuple):
+    """What a command has said."""
+
+    status: int
+    out: str
+    err: str
+
+
+class RanBytes(NamedTuple):
+    """What a command has said, byte for byte."""
+
+    status: int
+    out: bytes
+    err: bytes
+
+
+def run_bytes(words: Sequence[Any], stdin: Any = b"", **more: Any) -> RanBytes:
+    """Runs a command to its end. `stdin` is a text or bytes, or a file."""
+    given = {"stdin": stdin} if isinstance(stdin, int) or hasattr(stdin, "fileno") else {"input": encoded(stdin)}
+    pipes = {"stdout": subprocess.PIPE, "stderr": subprocess.PIPE}
+    how: dict[str, Any] = {"timeout": SECONDS, "check": False, **pipes, **given, **more}
+    done = subprocess.run(words, **how)
+    return RanBytes(done.returncode, done.stdout or b"", done.stderr or b"")
+
+
+def run(words: Sequence[Any], stdin: Any = b"", **more: Any) -> Ran:
+    """Runs a command to its end, and reads what it says as a text."""
+    done = run_bytes(words, stdin, **more)
+    return Ran(done.status, done.out.decode("utf-8", "replace"), done.err.decode("utf-8", "replace"))
+
+
+def encoded(text: str | bytes) -> bytes:
+    return text.encode("utf-8", "surrogatepass") if isinstance(text, str) else text
+
+
+def read_bytes(path: str) -> bytes:
+    """A file, whose path counts from the top of the repository."""
+    with open(os.path.join(TOP, path), "rb") as file:
+        return file.read()
+
+
+def read(path: str) -> str:
+    """The text of a file, whose path counts from the top of the repository."""
+    return read_bytes(path).decode("utf-8")
+
+
+def write(path: str, text: str | bytes) -> str:
+    """Writes a file, and returns its path."""
+    with open(path, "wb") as file:
+        file.write(encoded(text))
+    return path
+
+
+class Case(unittest.TestCase):
+    """A test whose comparisons have names. One that fails doesn't end the test."""
+
+    maxDiff = 4000
+
+    def same(self, name: str, found: object, wanted: object) -> None:
+        with self.subTest(name):
+            self.assertEqual(found, wanted)
+
+    def holds(self, name: str, found: object, more: object = "") -> None:
+        with self.subTest(name):
+            self.assertTrue(found, more)
+
+    def has(self, name: str, text: str, *words: str) -> None:
+        """A text has some words, in their order."""
+        at = 0
+        with self.subTest(name):
+            for word in words:
+                at = text.find(word, at)
+                self.assertGreaterEqual(at, 0, f"{word!r} isn't there, or not in its place, in {text[:2000]!r}")
+                at += len(word)
+
+    def folder(self) -> str:
+        """Returns a new folder, which is removed at the end of the test."""
+        made = tempfile.TemporaryDirectory(prefix="cmh-")
+        self.addCleanup(made.cleanup)
+        return os.path.realpath(made.name)
+
+    def need(self, *commands: str) -> None:
+        """Skips the test if a command isn't there."""
+        missing = [it for it in commands if not shutil.which(it)]
+        if missing:
+            self.skipTest(f"no {', no '.join(missing)}")
+
+    def skip(self, name: str, why: str) -> None:
+        """Skips one comparison of a test, and goes on."""
+        with self.subTest(name):
+            self.skipTest(why)
+
+
+class Result(unittest.TextTestResult):
+    """Counts each comparison, and tells at once what is skipped."""
+
+    def __init__(self, *more: Any, **named: Any) -> None:
+        super().__init__(*more, **named)
+        self.passed, self.failed = 0, 0
+
+    def addSubTest(self, test: Any, subtest: Any, err: Any) -> None:
+        super().addSubTest(test, subtest, err)
+        self.count(err is None)
+
+    def addSuccess(self, test: Any) -> None:
+        super().addSuccess(test)
+        self.count(True)
+
+    def addError(self, test: Any, err: Any) -> None:
+        super().addError(test, err)
+        self.count(False)
+
+    def addFailure(self, test: Any, err: Any) -> None:
+        super().addFailure(test, err)
+        self.count(False)
+
+    def addSkip(self, test: Any, reason: str) -> None:
+        super().addSkip(test, reason)
+        print(f"skipped {test.id().replace('__main__.', '')}: {reason}", flush=True)
+
+    def count(self, is_well: bool) -> None:
+        self.passed, self.failed = self.passed + is_well, self.failed + (not is_well)
+
+
+def main(words: Sequence[str] | None = None) -> NoReturn:
+    """Runs the tests of the script that calls this, and ends with its closing line."""
+    runner = unittest.TextTestRunner(stream=sys.stdout, verbosity=0, resultclass=Result)
+    argv = [sys.argv[0], *(sys.argv[1:] if words is None else words)]
+    result: Any = unittest.main(argv=argv, testRunner=runner, exit=False).result
+    if not result.testsRun and not result.skipped:
+        sys.exit(f"{argv[0]}: no test has run")
+    print(closing(result.passed, result.failed, len(result.skipped)), flush=True)
+    sys.exit(0 if result.wasSuccessful() else 1)
+
+
+def closing(passed: int, failed: int, skipped: int = 0) -> str:
+    """The line that a script of tests ends with."""
+    return f"{passed} passed, {failed} failed" + (f", {skipped} skipped" if skipped else "")
+
+
+# Several scripts
+
+
+PIPES: dict[str, Any] = {"stdin": subprocess.DEVNULL, "stdout": subprocess.PIPE, "stderr": subprocess.STDOUT,
+                         "encoding": "utf-8", "errors": "replace"}
+SUMMARY = "== summary"
+
+
+def minutes(seconds: float) -> str:
+    return f"{int(seconds) // 60}:{int(seconds) % 60:02}"
+
+
+def skipped_of(lines: list[str]) -> list[str]:
+    """The lines of a command that name what it skipped: where it has a summary, those of this, each with its script."""
+    if SUMMARY in lines:
+        return [it for it in lines[lines.index(SUMMARY):] if ": skipped " in it]
+    return [it for it in lines if it.startswith("skipped ")]
+
+
+class Summary:
+    """Runs commands, and adds up their closing lines."""
+
+    def __init__(self) -> None:
+        self.passed, self.failed = 0, 0
+        self.skipped: list[str] = []
+        self.lines: list[str] = []
+        self.start = time.monotonic()
+
+    def run(self, name: str, words: Sequence[str], **how: Any) -> bool:
+        """Runs a command, passes on what it prints as it comes, and returns whether all is well."""
+        print(f"== {name}", flush=True)
+        printed = []
+        with subprocess.Popen(words, **PIPES, **how) as ran:
+            for line in ran.stdout or ():
+                print(line, end="", flush=True)
+                printed.append(line)
+        return self.judge(name, "".join(printed), ran.returncode)
+
+    def run_side_by_side(self, commands: Iterable[tuple[str, Sequence[str]]], **how: Any) -> None:
+        """Runs commands, each a name and its words, as many at a time as there are processors. Passes on what each has
+        printed, in their order."""
+
+        def ran(command: tuple[str, Sequence[str]]) -> subprocess.CompletedProcess[str]:
+            return subprocess.run(command[1], check=False, **PIPES, **how)
+
+        commands = list(commands)
+        with ThreadPoolExecutor(len(os.sched_getaffinity(0))) as pool:
+            for (name, _), done in zip(commands, pool.map(ran, commands)):
+                print(f"== {name}\n{done.stdout}", end="", flush=True)
+                self.judge(name, done.stdout, done.returncode)
+
+    def judge(self, name: str, printed: str, status: int) -> bool:
+        """Adds what the closing line of a command says, and returns whether all is well. A command that ends without
+        one, or with a status that does not fit it, counts as one that failed."""
+        lines = printed.splitlines()
+        last = next(filter(None, map(CLOSING.fullmatch, reversed(lines))), None)
+        passed, failed, skipped = (int(it or 0) for it in last.groups()) if last else (0, 0, 0)
+        if not last or (status and not failed):
+            failed += 1
+        self.add(f"{name}: {last[0] if last else 'no closing line'}, status {status}", passed, failed)
+        names = [*skipped_of(lines), *["skipped without a name"] * skipped]
+        self.skipped += [f"{name}: {it}" for it in names[:skipped]]
+        return not failed
+
+    def add(self, line: str, passed: int, failed: int) -> None:
+        self.lines.append(line)
+        self.passed, self.failed = self.passed + passed, self.failed + failed
+
+    def close(self) -> int:
+        """Prints the summary, with all that was skipped, and returns the status of the whole."""
+        own, children = resource.getrusage(resource.RUSAGE_SELF), resource.getrusage(resource.RUSAGE_CHILDREN)
+        spent = sum(it.ru_utime + it.ru_stime for it in (own, children))
+        print(SUMMARY, *self.lines, *self.skipped, sep="\n")
+        took, processors = minutes(time.monotonic() - self.start), len(os.sched_getaffinity(0))
+        print(f"took {took} on {processors} processors, and {minutes(spent)} of their time")
+        print(closing(self.passed, self.failed, len(self.skipped)), flush=True)
+        return 1 if self.failed else 0
