@@ -20,7 +20,7 @@ use Rattle.cmh_text.specs.declared.leader_reach.LeaderReach.{LeaderReach}
 -- ---- rising lists
 
 -- rising lists that have the same members are one
-same_rising : (xs ys : List ℕ) → AllPairs (λ a b. a < b) xs → AllPairs (λ a b. a < b) ys
+pub same_rising : (xs ys : List ℕ) → AllPairs (λ a b. a < b) xs → AllPairs (λ a b. a < b) ys
     → ((z : ℕ) → Contains xs z → Contains ys z) → ((z : ℕ) → Contains ys z → Contains xs z) → xs ≡ ys
 same_rising [] [] rx ry to back = refl
 same_rising [] (y ∷ ys) rx ry to back = absurd (omega (arith, (back y (contains_first y ys)).1))
@@ -110,10 +110,10 @@ beside g p known marks w i is there of_p more = record {
 }
 
 -- members of a reach are those that are reached
-listed_reached : (g : Graph) (p q : ℕ) → Contains (reach_of g p) q → Reaches g p q
+pub listed_reached : (g : Graph) (p q : ℕ) → Contains (reach_of g p) q → Reaches g p q
 listed_reached g p q c = reaches_then g p q (filter_contains (reaches g p) (indices g) q c).1
 
-reached_listed : (g : Graph) (p q : ℕ) → IsWithinGraph g → p < process_count g → Reaches g p q
+pub reached_listed : (g : Graph) (p q : ℕ) → IsWithinGraph g → p < process_count g → Reaches g p q
     → Contains (reach_of g p) q
 reached_listed g p q w i r =
     contains_filter (reaches g p) (indices g) q (contains_index (process_count g) q (reached_within g w p q i r))

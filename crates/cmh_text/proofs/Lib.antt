@@ -1,3 +1,4 @@
+pub mod AloneLeaders
 pub mod Beyond
 pub mod ChosenPaths
 pub mod Counts

@@ -28,6 +28,14 @@ pub free_pieces : (old name : List ℕ) (path : List (List ℕ)) (a b new : List
     → new ≡ old ++ line (codes "free" ∷ name ∷ codes "path" ∷ path)
 free_pieces old name path a b new e f h = h ∙ rw (f, e, line_spaced) (simp append_assoc)
 
+-- the pieces of the line of a group of one process that waits for nobody, put one behind the other, are the line
+pub alone_pieces : (old number name a new : List ℕ) → a ≡ old
+    → new ≡ a ++ (codes "group " ++ (number ++ (codes " | " ++ (name ++ codes " | - | sites 1\n"))))
+    → new ≡ old
+    ++ line (codes "group" ∷ number ∷ codes "|" ∷ name
+    ∷ codes "|" ∷ codes "-" ∷ codes "|" ∷ codes "sites" ∷ codes "1" ∷ [])
+alone_pieces old number name a new e f = f ∙ rw e (simp append_assoc)
+
 -- the words of three lists, each after a space, are those of the three, one list after the other
 spaced_parts : (front middle back : List (List ℕ))
     → spaced_words (front ++ middle ++ back) ≡ spaced_words front ++ spaced_words middle ++ spaced_words back

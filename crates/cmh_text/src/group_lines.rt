@@ -11,7 +11,7 @@ ghost use Rattle.cmh_text.specs.Report.{line, group_line, site_count};
 use crate::backward_text::BackwardText;
 use crate::groups::{Group, Groups, core_and_rest, is_led_by};
 use crate::leader_reach::{GroupParts, LeaderReach, has_one_more, parts_beyond, reach_of};
-use crate::lines::push_group;
+use crate::lines::{push_alone, push_group};
 use crate::names::LastNames;
 use crate::sites::Sites;
 use cmh_graph::WaitGraph;
@@ -27,7 +27,7 @@ pub(crate) struct GroupLines<'a> {
     /// What the leader of the greatest group reaches, if there is one.
     shared: &'a Option<LeaderReach>,
     sites: Sites<'a>,
-    /// What the leader of the last line reaches.
+    /// What the leader of the last line that was searched reaches.
     last_reach: Option<LeaderReach>,
     last_names: LastNames<'a>,
 }
@@ -85,11 +85,23 @@ impl<'a> GroupLines<'a> {
         ensures same { self.new ≡ self.old }
         ensures text { IfOk result (λ text. string_bytes text ≡ line (group_line self.old leader)) }
     {
+        let mut text = String::new(alloc);
+        if self.graph.dependents(leader).is_empty() {
+            push_alone(&mut text, self.graph.name(leader), self.number_of(leader))?;
+            return Ok(text);
+        }
         let (group, reach) = self.group_of(alloc, leader)?;
         self.last_reach = Some(reach);
-        let mut text = String::new(alloc);
         push_group(alloc, &mut text, &group, &mut self.last_names)?;
         Ok(text)
+    }
+
+    /// The number of the group of a leader.
+    fn number_of(&self, leader: u32) -> u32
+        requires { Contains (leaders self.now) leader }
+        ensures { result ≡ group_number self.now leader }
+    {
+        self.groups.numbers[leader as usize]
     }
 
     /// The group of a leader, and what the leader reaches.
@@ -109,7 +121,7 @@ impl<'a> GroupLines<'a> {
         } = self.parts_of(alloc, leader)?;
         let site_count = self.sites.count(alloc, &leader_reach.reach)?;
         let group = Group {
-            number: self.groups.numbers[leader as usize],
+            number: self.number_of(leader),
             core,
             rest,
             site_count,
@@ -175,7 +187,7 @@ impl<'a> GroupLines<'a> {
         })
     }
 
-    /// The reach from which the search for that of a leader can continue, if there is one: that of the last line, or of
+    /// The reach from which the search for that of a leader can continue, if there is one: that of the last search, or of
     /// the greatest group.
     fn find_base(&self, leader: u32) -> Option<&LeaderReach>
         requires { leader < process_count self.now }

@@ -11,6 +11,9 @@ use std::alloc::{AllocError, Global};
 /// The room for the words and the numbers of a line, names apart.
 const WORDS_ROOM: usize = 32;
 
+/// So many names are written as fast as they are copied.
+const FEW: usize = 8;
+
 /// Appends the names, or a dash where there are none.
 fn push_names_or_dash(
     alloc: Global,
@@ -25,6 +28,9 @@ fn push_names_or_dash(
 {
     if list.is_empty() {
         return text.push_str(" -");
+    }
+    if list.len() <= FEW {
+        return push_names(text, last.graph, list);
     }
     last.renew(alloc, list)?;
     let names = last.text();
@@ -63,6 +69,17 @@ pub(crate) fn push_free(
     write!(text, "free {name} path")?;
     text.push_str(names)?;
     text.push_str("\n")?;
+    Ok(())
+}
+
+/// Appends the line of a group of one process that waits for nobody.
+pub(crate) fn push_alone(text: &mut String, name: &str, number: u32) -> Result<(), AllocError>
+    ensures { OnOk result (string_bytes text.new ≡ string_bytes text.old
+        ++ line (codes "group" ∷ decimal number ∷ codes "|" ∷ name.now
+        ∷ codes "|" ∷ codes "-" ∷ codes "|" ∷ codes "sites" ∷ codes "1" ∷ [])) }
+{
+    text.reserve(name.len().saturating_add(WORDS_ROOM))?;
+    write!(text, "group {number} | {name} | - | sites 1\n")?;
     Ok(())
 }
 

@@ -1,11 +1,41 @@
-use Rattle.std.proofs.Common.{◌∙◌, ◌++◌, ◌∷◌, [], ap, refl, subst, sym}
-use Rattle.std.specs.Prelude.{All, ◌<◌, codes, decimal, string_bytes}
-use Rattle.cmh_graph.specs.Graph.{process_count}
+use Rattle.std.proofs.Common.{◌∙◌, ◌++◌, ◌∷◌, [], ap, eqb-true, length, refl, subst, sym}
+use Rattle.std.specs.Prelude.{All, Contains, ◌<◌, codes, decimal, string_bytes}
+use Rattle.std.proofs.lemmas.List.{nil_from_length}
+use Rattle.cmh_graph.specs.Core.{leaders}
+use Rattle.cmh_graph.specs.Graph.{dependents_of, name_of, process_count}
 use Rattle.cmh_graph.proofs.Groups.{members_within}
+use Rattle.cmh_text.specs.Group.{AreGroupsOf}
 use Rattle.cmh_text.specs.Report.{group_line, line, names_of, names_or_dash}
+use Rattle.cmh_text.proofs.AloneLeaders.{alone_words}
 use Rattle.cmh_text.proofs.Members.{rest_within}
 use Rattle.cmh_text.proofs.LineLemmas.{group_words}
+use Rattle.cmh_text.proofs.Numbers.{leader_within}
 use Rattle.cmh_text.proofs.group_lines.GroupLines.line_of.Goals as goal
+
+pub dependents-requires : goal.dependents-requires
+dependents-requires c =
+    leader_within c.self.inside.graph.now c.args.leader
+    (subst (λ g. Contains (leaders g) c.args.leader) (sym c.self.view_is) c.requires)
+
+pub name-requires : goal.name-requires
+name-requires c =
+    leader_within c.self.inside.graph.now c.args.leader
+    (subst (λ g. Contains (leaders g) c.args.leader) (sym c.self.view_is) c.requires)
+
+pub returns-then-is_empty-clause-text : goal.returns-then-is_empty-clause-text
+returns-then-is_empty-clause-text c =
+    let g = c.args.self.now in
+    let p = c.args.leader in
+    let groups = subst (λ g. AreGroupsOf g c.self.inside.groups.now) c.self.view_is c.self.invariant.groups in
+    let list = c.dependents.ensures ∙ ap (λ g. dependents_of g p) c.self.view_is in
+    let none = nil_from_length _ (eqb-true (length c.dependents.result.now) 0
+    (sym c.is_empty.ensures ∙ c.if-is_empty.true)) in
+    let name = c.name.ensures ∙ ap (λ g. name_of g p) c.self.view_is in
+    c.in_ok-push_alone.ensures
+    ∙ ap (λ words. string_bytes c.new-text.result ++ line words)
+    (alone_words g p _ _ groups.well_formed.within (leader_within g p c.requires) (sym list ∙ none) name
+    c.number_of.ensures)
+    ∙ ap (λ xs. xs ++ line (group_line g p)) c.new-text.ensures.bytes
 
 pub push_group-requires : goal.push_group-requires
 push_group-requires c =
