@@ -78,8 +78,13 @@ class Names:
         unknown = VARIABLE.search(filled)
         if word in RELATIVES or unknown:
             return f"{quote(word)} names nobody: the state has no {quote(unknown[1] if unknown else word)} of it"
+        if filled.endswith(","):
+            return f"{quote(filled)} names nobody: names stand with spaces between them, and no commas"
         what = f"{quote(filled)} names nobody{near_name(filled.replace('*', ''), self.families)}"
-        return f"{what}; if all of them have ended, end the line with 'or nobody'" if fact.kind == "any" else what
+        if fact.kind != "any":
+            return what
+        return (f"{what}; if all of them have ended, end the line with 'or nobody'; if a timer or the outside ends the "
+                "wait, write '-> runs'")
 
     def of_word(self, word: str) -> Iterable[str]:
         """Returns the names that a word stands for, without those that the state may lack."""

@@ -12,7 +12,7 @@ from .facts import Facts, read_facts
 from .files import Failure, Refusal, hindrance, read_bytes, read_text, say, shown, write_out, write_texts
 from .making import sketch_for
 from .program import identity, judge
-from .proposals import proposals
+from .proposals import Proposal, legend, propose
 from .recorders import MODULES
 from .sketch import KINDS, UNKNOWN, FactRow, Sketch, number_of_guess, reason_of
 
@@ -77,7 +77,7 @@ def add_system(systems: Any, name: str, summary: str, states: Dict[str, Any]) ->
     return it
 
 
-def summary(dump: Dump, path: str, asked: List[str]) -> Iterator[str]:
+def summary(dump: Dump, path: str, asked: List[Proposal]) -> Iterator[str]:
     """Returns the lines for people on what was written. `asked` has the facts that are asked for."""
     kinds = Counter(process.kind for process in dump.sketch.processes)
     words = [f"{kinds[kind]:,} {kind.replace('_', ' ')}" for kind in KINDS if kinds[kind]]
@@ -95,9 +95,10 @@ def summary(dump: Dump, path: str, asked: List[str]) -> Iterator[str]:
     yield from fact_lines(dump.sketch, path)
     if asked:
         yield "Facts that would decide them, for you to complete:"
-        yield from (f"  {shown(line)}" for line in asked[:SHOWN])
+        yield from (f"  {shown(it.text())}" for it in asked[:SHOWN])
     if asked[SHOWN:]:
         yield f"  # and {len(asked) - SHOWN:,} lines more, in {shown(notes_path(path))}"
+    yield from (f"  {shown(line)}" for line in legend(asked, dump.sketch))
 
 
 def fact_lines(sketch: Sketch, path: str) -> Iterator[str]:
@@ -178,12 +179,12 @@ def make(asked: Any) -> int:
         paths, read = ["the processes"], lambda path: text
         kept = [(asked.save, text)] if asked.save else []
     sketch = sketch_for(asked.system, paths, facts, read, asked.guesses)
-    dump, lines = Dump(sketch), proposals(sketch)
-    notes = dump.notes(**({"proposals": lines} if lines else {}), **program_notes())
+    dump, found = Dump(sketch), propose(sketch)
+    notes = dump.notes(**({"proposals": [it.text() for it in found]} if found else {}), **program_notes())
     write_texts([*kept, (asked.output, dump.text(dump.low)), (notes_path(asked.output), notes)])
     for line in sketch.warnings:
         say(f"warning: {line}")
-    said = [*summary(dump, asked.output, lines)]
+    said = [*summary(dump, asked.output, found)]
     if asked.guesses and not any(map(number_of_guess, sketch.facts)):
         said.append("no guess is taken: the state fills in no whole line")
     write_out("".join(f"{line}\n" for line in said))

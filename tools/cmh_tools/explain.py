@@ -7,6 +7,7 @@ from typing import Callable, Dict, Iterable, Iterator, List, Optional, Sequence,
 from .dump import Dump
 from .files import shown
 from .findings import COME, MESSAGE, NOT_STUCK, STUCK, UNDECIDED, Findings, Waiters
+from .proposals import legend
 from .reasons import more_lines, rests_lines, rows
 from .sketch import ALL, ANY, DONE, ENDED, RUNS, UNKNOWN, Process
 from .terminal import PLAIN, AsItIs, Painted, Style, fill, laid_out, painted
@@ -282,6 +283,7 @@ class Explanation(Findings):
         if facts:
             lines += ["Facts that would decide them, for you to complete:"]
             lines += self.first([AsItIs(f"  {shown(it.text())}") for it in facts], ("line", "lines"))
+            lines += [AsItIs(f"  {shown(line)}") for line in legend(facts, self.dump.sketch)]
         return lines
 
     def waiters_words(self, row: List[int], others: Waiters) -> str:
@@ -331,7 +333,7 @@ class Explanation(Findings):
             return []
         number = sum(len(some) for _, some in rows)
         lines = [f"With a limit at the same place in all states: {number_of(number)}. One that only waits again and "
-                 "again needs a fact:"]
+                 "again needs a fact; one that does something else after its limit needs none:"]
         return lines + self.first([AsItIs(f"  {shown(text)}  # {self.some([shown(it.name) for it in some])}")
                                    for text, some in rows], ("place", "places"))
 

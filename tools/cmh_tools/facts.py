@@ -317,7 +317,7 @@ def check_words(kind: str, words: List[str]) -> None:
     """Raises Refusal if the kind isn't known, or has too many words or too few."""
     known = (*WAITS, HOLDS, ALSO)
     if kind not in known:
-        raise Refusal(f"{quote(kind)} is no fact{near_name(kind, known)}; facts are {', '.join(known)}")
+        raise Refusal(f"{quote(kind)} is no fact{near_name(kind, known)}; facts are {', '.join(map(quote, known))}")
     if COMPLETE in words:
         raise Refusal(TO_COMPLETE)
     if kind in ("runs", "nobody") and words or kind == "ended" and words not in ([], ["needed"]):

@@ -13,6 +13,7 @@ from .explain import IF_GUESSES, Explanation, number_of
 from .files import shown
 from .page_look import PAGE, SCRIPT, STYLE
 from .picture import headline, restarts
+from .proposals import legend
 from .reasons import called
 from .sketch import ALL, ANY, ENDED, RUNS, UNKNOWN
 from .steps import next_steps, ways_of
@@ -168,10 +169,11 @@ class Page:
         others = len(self.this.undecided) - len(rows)
         yield f"<p>Of {number_of(len(rows))} the state doesn't say enough{hang(others, ', and ', ' on these')}.</p>"
         yield from self.unknown_ones(rows)
-        facts = [it.text() for it in self.this.proposals()]
+        facts = self.this.proposals()
         if facts:
+            lines = [*(it.text() for it in facts[:LINES]), *legend(facts, self.this.dump.sketch)]
             yield "<p>Facts that would decide them, to be completed:</p>"
-            yield f"<pre>{text_of_lines(facts[:LINES])}</pre>"
+            yield f"<pre>{text_of_lines(lines)}</pre>"
 
     def unknown_ones(self, rows: List[Tree]) -> List[str]:
         """Returns the list of the unknown ones. Those of the same reason share an item."""

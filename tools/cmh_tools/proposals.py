@@ -8,7 +8,7 @@ import re
 from collections import Counter
 from typing import Collection, Dict, Iterable, List, NamedTuple, Sequence, Set, Tuple
 
-from .facts import is_variable, word_of
+from .facts import STILL, is_variable, word_of
 from .places import FRAME, is_like
 from .sketch import COMPLETE, REST, UNKNOWN, Process, Sketch
 
@@ -22,6 +22,8 @@ NUMBER = re.compile(r"\d[\d.]*$")
 OF_A_CALL = "#Ref"  # before an object that is of one call alone, whomever it called
 LEFT_OUT = f"{REST} -> runs"
 HAS_ENDED = " -> ended"
+FORMS = ("# any: one of them is enough; all: each has to come; a guess: leave out who can't end the wait",
+         "# -> runs: a timer, a user or the outside ends it; -> nobody: nothing does")
 FEW, MOST = 50, 20  # kinds of waits at one place whose names are compared, and words in a guess
 
 
@@ -39,16 +41,25 @@ class Proposal(NamedTuple):
         """Whether it is a guess that can be taken as it is."""
         return self.is_guess and not self.line.endswith(f" {COMPLETE}")
 
+    @property
+    def is_settled(self) -> bool:
+        """Whether it says all by itself, if it is true."""
+        return self.line in (LEFT_OUT, STILL) or self.line.endswith(HAS_ENDED)
+
     def text(self) -> str:
         number = f"{len(self.names):,} unknown"
-        if self.line == LEFT_OUT or self.line.endswith(HAS_ENDED):
+        if self.is_settled and self.line != STILL:
             return f"{self.line}  # {self.hint}"
         return f"{self.line}  # {f'{self.hint}: ' if self.hint else 'a guess, ' if self.is_guess else ''}{number}"
 
 
-def proposals(sketch: Sketch, quiet: Collection[str] = ()) -> List[str]:
-    """Returns the lines of `propose` as texts."""
-    return [it.text() for it in propose(sketch, quiet)]
+def legend(found: Iterable[Proposal], sketch: Sketch) -> List[str]:
+    """Returns what the lines that are to be completed mean, as comments of facts."""
+    if all(it.is_settled for it in found):
+        return []
+    families = Counter(NUMBER.sub("*", it.name) for it in sketch.processes)
+    name = max(families, key=lambda it: families[it])
+    return [f"# {COMPLETE} stands for names, with spaces between them, as {word_of(name)}", *FORMS]
 
 
 def propose(sketch: Sketch, quiet: Collection[str] = ()) -> List[Proposal]:
@@ -66,7 +77,8 @@ def propose(sketch: Sketch, quiet: Collection[str] = ()) -> List[Proposal]:
         found.append(Proposal(LEFT_OUT, "if none of those that the state may lack matters", False, names_of(lacking)))
     doubtful = [it for it in some if it.proposal == "still"]
     if doubtful:
-        found.append(Proposal("still", "if nothing moves in the system", False, names_of(doubtful)))
+        found.append(Proposal(STILL, "if nothing moves, so that one place in all states is one wait", False,
+                              names_of(doubtful)))
     return found
 
 
