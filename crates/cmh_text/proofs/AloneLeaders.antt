@@ -3,7 +3,6 @@ use Rattle.std.proofs.Common.{◌≡◌, ℕ, ◌<◌, cond, inl, inr, [], ◌�
 use Rattle.std.specs.Fmt.{digits}
 use Rattle.std.specs.Prelude.{Contains, codes, decimal, filter}
 use Rattle.std.proofs.lemmas.List.Kept.{AllPairs-from_increasing}
-use Rattle.cmh_graph.specs.Build.{IsWellFormed}
 use Rattle.cmh_graph.specs.Core.{core_of, group_number, rest_of}
 use Rattle.cmh_graph.specs.Graph.{Graph, dependents_of, name_of, process_count, IsWithinGraph}
 use Rattle.cmh_graph.specs.Path.{reach_of, reaches, Reaches}

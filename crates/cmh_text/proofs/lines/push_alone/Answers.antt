@@ -1,4 +1,3 @@
-use Rattle.std.proofs.Common.{◌∙◌}
 use Rattle.cmh_text.proofs.LineLemmas.{alone_pieces}
 use Rattle.cmh_text.proofs.lines.push_alone.Goals as goal
 
