@@ -14,12 +14,18 @@ from harness import PROGRAM, Case, Ran, run, write  # noqa: E402
 os.environ["CMH"] = PROGRAM
 from cmh_tools import dump_command, explain_command  # noqa: E402
 from cmh_tools.explain import Explanation  # noqa: E402
+from cmh_tools.proposals import propose  # noqa: E402
 from plain import plain_edges, plain_roots  # noqa: E402
 
 DUMP, EXPLAIN = ([sys.executable, f"{TOOLS}/{name}"] for name in ("cmh-dump", "cmh-explain"))
 KINDS = ("waits_for_any", "waits_for_all", "unknown", "runs", "ended")
 WORDS = {"waits_for_any": "any", "waits_for_all": "all"}  # how expected ones are written
 ALONE = ["unshare", "--user", "--map-root-user", "--pid", "--mount-proc", "--fork", "--kill-child"]
+
+
+def proposals(sketch):
+    """Returns the lines of facts that a sketch asks for."""
+    return [it.text() for it in propose(sketch)]
 
 
 def call(command, words):
