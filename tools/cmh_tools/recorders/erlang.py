@@ -89,7 +89,7 @@ class ErlangRecorder(Recorder):
         moment.cut = {reading.source for reading in moment.readings if reading.extent == PARTS}
         for reading in moment.readings:
             for block in reading.rows:
-                if not all(key in moment.by_key for key in block.monitored()):
+                if not all(key in moment.by_key for key in block.monitored):
                     reading.missing = reading.missing or "it names processes that aren't printed, as those that one " \
                                                          "monitors"
 
@@ -98,7 +98,7 @@ class ErlangRecorder(Recorder):
         groups: DefaultDict[str, Dict[str, None]] = defaultdict(dict)
         for moment in moments:
             for block in moment.rows():
-                names = [moment.name(moment.by_key[key]) for key in block.monitored() if key in moment.by_key]
+                names = [moment.name(moment.by_key[key]) for key in block.monitored if key in moment.by_key]
                 groups[f"monitored:{moment.name(block)}"].update(dict.fromkeys(names))
         there = {process.name for process in sketch.processes}
         sketch.groups = {group: [name for name in names if name in there] for group, names in groups.items()}

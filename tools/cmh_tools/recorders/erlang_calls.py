@@ -55,8 +55,8 @@ def wait_for_reference(block: Block, moment: Nodes, register: str, more: Dict[st
     having = holders(block, moment, {found[2]}) if found else []
     if not found or not having or block.is_mail_cut or found[2] in block.messages or "timers" in block.code():
         return None
-    watched = [moment.by_key[key] for key in block.monitored() if key in moment.by_key]
-    if len(watched) < len(block.monitored()):
+    watched = [moment.by_key[key] for key in block.monitored if key in moment.by_key]
+    if len(watched) < len(block.monitored):
         return None
     more.update(objects=[*moment.names(having), found[1]], count=found[1],
                 note=f"receive in {block.frames()[0]}")
@@ -101,7 +101,7 @@ def may_fail(server: Block, moment: Nodes) -> List[Block]:
 def callees(block: Block, moment: Nodes) -> Tuple[List[Optional[Block]], List[str]]:
     """The processes that it has called, None for one that isn't in the state, and their names. A call monitors whom it
     calls, and has the name on its stack; whom it monitors besides, it doesn't wait for."""
-    keys, term, by_key = block.monitored(), block.call.whom if block.call else "", moment.by_key
+    keys, term, by_key = block.monitored, block.call.whom if block.call else "", moment.by_key
     own = by_key.get((block.node, term)) or by_key.get(term) or by_key.get(f"{{{term},'{block.node}'}}")
     if own and own in [by_key.get(key) for key in keys]:
         return [own], [moment.name(own)]
@@ -153,7 +153,7 @@ def wait_for_holders(block: Block, moment: Nodes, called: List[Block], more: Dic
         return unknown(name, f"{moment.name(cut)} has too long a mailbox to be read, and may have its request", **more)
     keepers = [it for it in called if may_keep(it, having) and not it.has_request(tails)]
     if keepers:
-        words = [f"monitored:{moment.name(it)}" for it in keepers if it.monitored()]
+        words = [f"monitored:{moment.name(it)}" for it in keepers if it.monitored]
         others = [it for it in having if it not in keepers]
         more["candidates"] = words if not others and len(words) == len(called) else moment.names([*called, *others])
         return unknown(name, f"{moment.name(keepers[0])} keeps its call in its state, to answer it once something else "

@@ -21,7 +21,7 @@ def place_of(block: Block) -> Any:
 def fate_of(block: Block) -> Any:
     """What those have alike that are stuck or not together, as far as one sees at once."""
     return block.start, tuple(block.stack), block.extra("status"), block.has_limit, block.call and block.call.limit, \
-        block.monitors
+        block.monitored
 
 
 def two_of_each(blocks: Iterable[Block], kind: Callable[[Block], Any] = place_of) -> List[Block]:

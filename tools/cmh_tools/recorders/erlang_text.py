@@ -42,7 +42,11 @@ FUN = re.compile(r"'-(.*)/\d+-(fun-\d+)-'")
 WORD = r"(\w+|'[^']*')"
 OWN_START = re.compile(rf"{{'\$initial_call',{{{WORD},{WORD},(\d+)}}}}")  # of a server: its module
 START = re.compile(rf"{{{WORD},{WORD},(\d+)}}")
-ITEM = re.compile(r"^{(\w+),(.*)}$", re.M)
+ITEM = re.compile(r"\n{(\w+),(.*)}(?![^\n])")
+OBJECT = re.compile(r"#Ref<.*?>")
+ANY_PID = re.compile(r"<[\d.]+>")
+ANY_WORD = re.compile(r"\w+")
+REGISTER = re.compile(r"^y\(\d+\) +(.*)$", re.M)
 COUNTS = {"left out", "nodes", "receives", "timers"}
 CUT = "cut"  # in place of what is too long to be read
 KEPT, SHORT = 65536, 60  # functions whose names are kept; of a value that many processes may share
@@ -75,7 +79,8 @@ class Block:
         for key, value in ITEM.findall(text):
             self.items.setdefault(intern(key), intern(value) if len(value) < SHORT else value)
         self.role = self.item("registered_name")
-        self.monitors, self.messages = self.item("monitors"), self.item("messages")
+        self.messages = self.item("messages")
+        self.monitored = watched_by(self.node, self.item("monitors"))
         self.function, self.stack, self.own = places_of(self.item("current_stacktrace"))
         self.items.pop("current_stacktrace", None)  # (which is long)
         frames_text = text.partition("Program counter")[2]
@@ -84,7 +89,7 @@ class Block:
         self.call = call_of(limit, text) if limit else None
         waiting = self.counter + (limit[0] if limit else "")
         # The references of the call that it waits in, and their tails.
-        self.references = list(dict.fromkeys(re.findall(r"#Ref<.*?>", waiting)))
+        self.references = list(dict.fromkeys(OBJECT.findall(waiting)))
         self.awaited = tuple(dict.fromkeys(REFERENCE.findall(waiting)))
         self.is_mail_cut, self.is_stack_cut = self.messages == CUT, self.extra("backtrace") == CUT
         self.is_cut = self.is_mail_cut or self.is_stack_cut or CUT in map(self.extra, (
@@ -154,7 +159,7 @@ class Block:
 
     def registers(self) -> List[str]:
         """The terms of the topmost frame."""
-        return re.findall(r"^y\(\d+\) +(.*)$", self.counter, re.M)
+        return REGISTER.findall(self.counter)
 
     def is_answered(self, references: Iterable[str], before: str) -> bool:
         """Whether its mailbox has a message with one of some references."""
@@ -171,15 +176,15 @@ class Block:
 
     def linked(self) -> List[str]:
         """The pids of those that take it along if they fail. One that traps exits outlives them."""
-        return re.findall(r"<[\d.]+>", self.extra("links") or "") if self.extra("trap_exit") == "false" else []
+        return ANY_PID.findall(self.extra("links") or "") if self.extra("trap_exit") == "false" else []
 
     def may_end(self) -> List[str]:
         """The pids of those that its code may send an exit signal to, since it knows them."""
-        return re.findall(r"<[\d.]+>", self.extra("may_end") or "")
+        return ANY_PID.findall(self.extra("may_end") or "")
 
     def code(self) -> List[str]:
         """What the modules that it runs call: `bytes`, `exits`, `replies`, `stops`, `tables`, `timers`."""
-        return re.findall(r"\w+", self.extra("code") or "")
+        return ANY_WORD.findall(self.extra("code") or "")
 
     def is_supervisor(self) -> bool:
         return self.start[0] == "supervisor"
@@ -192,10 +197,6 @@ class Block:
         """The pids and names of the one that began it, of the one that began that, and so on."""
         began = re.search(r"{'\$ancestors',\[(.*?)\]}", self.extra("dictionary") or "")
         return began[1].split(",") if began else []
-
-    def monitored(self) -> List[Key]:
-        """The keys of those that it monitors."""
-        return list(dict.fromkeys((self.node, key) if key[0] == "<" else key for key in WATCHED.findall(self.monitors)))
 
 
 def call_of(limit: re.Match[str], text: str) -> Call:
@@ -231,6 +232,12 @@ def places_of(text: str) -> Tuple[Function, List[str], List[str]]:
     stack = [frame(function_name(*function), *([file, line] if line else [])) for *function, file, line in trace]
     own = [it for it, (module, *_) in zip(stack, trace) if not OF_SYSTEM.fullmatch(module)]
     return trace[0][:3] if trace else ("", "", ""), stack, own
+
+
+@lru_cache(maxsize=KEPT)
+def watched_by(node: str, monitors: str) -> Tuple[Key, ...]:
+    """Returns the keys of those that a process of a node monitors. Those of a pool monitor the same."""
+    return tuple(dict.fromkeys((node, key) if key[0] == "<" else key for key in WATCHED.findall(monitors)))
 
 
 def function_name(module: str, name: str, arity: str) -> str:

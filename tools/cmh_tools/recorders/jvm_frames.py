@@ -3,9 +3,9 @@ compute. `jvm` classifies threads by it."""
 from __future__ import annotations
 
 import re
-from dataclasses import dataclass
+from dataclasses import dataclass, field
 from functools import lru_cache
-from typing import Callable, List, Optional
+from typing import Callable, Dict, List, Optional
 
 from ..sketch import WORK, frame
 from .jvm_text import Stack, Thread, stack_of
@@ -151,10 +151,14 @@ class Place:
     call: str
     above: List[str]
     idle: str = ""
+    known: Dict["re.Pattern[str]", bool] = field(default_factory=dict)
 
     def has(self, pattern: "re.Pattern[str]") -> bool:
-        """Whether a frame of the call matches a pattern."""
-        return any(is_like(pattern, method) for method in self.above)
+        """Whether a frame of the call matches a pattern. It is known once it was asked: a pool has one place."""
+        found = self.known.get(pattern)
+        if found is None:
+            found = self.known[pattern] = any(is_like(pattern, method) for method in self.above)
+        return found
 
 
 def place_of(thread: Thread) -> Place:

@@ -62,7 +62,8 @@ class Heap:
 
 def read_heap(path: str, text: str) -> Optional[Heap]:
     """Returns the heap of a text, or None if it has none. Raises Refusal if its rows aren't whole."""
-    rows = [(number, line[len(MARK):]) for number, line in enumerate(text.split("\n"), 1) if line.startswith(MARK)]
+    lines = enumerate(text.split("\n"), 1) if MARK in text else ()
+    rows = [(number, line[len(MARK):]) for number, line in lines if line.startswith(MARK)]
     if not rows:
         return None
     heap = Heap(f"{shown(path)}:{rows[0][0]}")
