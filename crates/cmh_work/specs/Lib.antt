@@ -8,5 +8,6 @@ pub mod Shape
 pub mod Finding
 pub mod Leaders
 pub mod Numbering
+pub mod Work
 pub mod Worker
 pub mod Working

@@ -10,7 +10,7 @@ ghost use Rattle.cmh_run.specs.Run.{verdict_of, TellsTruth};
 ghost use Rattle.cmh_board.specs.Board.{board_view, SeesMore};
 ghost use Rattle.cmh_work.specs.Record.{IsRunFor};
 ghost use Rattle.cmh_work.specs.Finding.{finding_initiator, Accounts, IsAnswered, IsFound};
-ghost use Rattle.cmh_work.specs.Worker.{GoesOn, IsReady};
+ghost use Rattle.cmh_work.specs.Work.{ComesBack, GoesOn};
 ghost use Rattle.cmh_work.specs.Working.{IsMadeFor, AreSeated, AreNew, AreBack, IsWorked};
 
 use crate::Gate;
@@ -24,6 +24,7 @@ use cmh_graph::WaitGraph;
 use cmh_plan::Plan;
 use cmh_run::{Log, ProcessList, RunLog, Runner};
 use std::alloc::{AllocError, Global};
+use std::marker::Model;
 use std::sync::Wait;
 use std::thread::yield_now;
 
@@ -37,16 +38,27 @@ struct Worker<'a> {
     seats: Seats,
 }
 
+impl<'a> Model for Worker<'a> {
+    ghost use Rattle.cmh_work.specs.Work.{Work};
+
+    ghost Value = { Work };
+
+    ghost use Rattle.cmh_work.specs.Worker.{IsReady};
+
+    ghost view = { λ w. record { job = w.job.now; seats = w.seats } };
+
+    ghost invariant = { IsReady };
+}
+
 impl<'a> Worker<'a> {
     /// A run of the initiator, which asks the board as it goes.
     fn run_of<L: Log>(&mut self, alloc: Global, initiator: u32) -> Result<RunLog<L>, AllocError>
-        requires ready { IsReady self.old }
-        requires idle { IsTrue (is_idle self.old.job.now.graph.now initiator) }
+        requires idle { IsTrue (is_idle self.old.job.graph.now initiator) }
         ensures on { GoesOn self.old self.new }
         ensures sees { SeesMore (board_view self.old.seats.board) (board_view self.new.seats.board) }
         ensures run { IfOk result (λ r. IsRunFor
-            self.old.job.now.graph.now self.old.job.now.plan.now.choices initiator (verdict_of r.ending) r) }
-        ensures truth { IfOk result (TellsTruth self.old.job.now.graph.now) }
+            self.old.job.graph.now self.old.job.plan.now.choices initiator (verdict_of r.ending) r) }
+        ensures truth { IfOk result (TellsTruth self.old.job.graph.now) }
     {
         let job = self.job;
         let mut hints = BoardHints::new(&job.shared.board, &mut self.seats.board);
@@ -62,11 +74,10 @@ impl<'a> Worker<'a> {
         alloc: Global,
         initiator: u32,
     ) -> Result<Answer<RunLog<L, E>>, AllocError>
-        requires ready { IsReady self.old }
-        requires idle { IsTrue (is_idle self.old.job.now.graph.now initiator) }
+        requires idle { IsTrue (is_idle self.old.job.graph.now initiator) }
         ensures on { GoesOn self.old self.new }
-        ensures answered { IfOk result (IsAnswered self.old.job.now.graph.now
-            self.old.job.now.plan.now.choices initiator
+        ensures answered { IfOk result (IsAnswered self.old.job.graph.now
+            self.old.job.plan.now.choices initiator
             (board_view self.old.seats.board) (board_view self.new.seats.board)) }
     {
         let job = self.job;
@@ -91,11 +102,10 @@ impl<'a> Worker<'a> {
         gate: &G,
         initiator: u32,
     ) -> Result<Finding<RunLog<L, E>, P>, AllocError>
-        requires ready { IsReady self.old }
-        requires idle { IsTrue (is_idle self.old.job.now.graph.now initiator) }
+        requires idle { IsTrue (is_idle self.old.job.graph.now initiator) }
         ensures on { GoesOn self.old self.new }
-        ensures found { IfOk result (IsFound P.processes self.old.job.now.graph.now
-            self.old.job.now.plan.now.choices initiator
+        ensures found { IfOk result (IsFound P.processes self.old.job.graph.now
+            self.old.job.plan.now.choices initiator
             (board_view self.old.seats.board) (board_view self.new.seats.board)) }
     {
         gate.pass(initiator);
@@ -122,13 +132,12 @@ impl<'a> Worker<'a> {
         found: &mut Vec<Finding<RunLog<L, E>, P>>,
         chunk: &[u32],
     ) -> Result<(), AllocError>
-        requires ready { IsReady self.old }
-        requires idle { All (λ p. IsTrue (is_idle self.old.job.now.graph.now p)) chunk.now }
-        requires accounts { Accounts P.processes self.old.job.now.graph.now
-            self.old.job.now.plan.now.choices (board_view self.old.seats.board) found.old.items }
+        requires idle { All (λ p. IsTrue (is_idle self.old.job.graph.now p)) chunk.now }
+        requires accounts { Accounts P.processes self.old.job.graph.now
+            self.old.job.plan.now.choices (board_view self.old.seats.board) found.old.items }
         ensures on { GoesOn self.old self.new }
-        ensures accounts { OnOk result (Accounts P.processes self.old.job.now.graph.now
-            self.old.job.now.plan.now.choices (board_view self.new.seats.board) found.new.items) }
+        ensures accounts { OnOk result (Accounts P.processes self.old.job.graph.now
+            self.old.job.plan.now.choices (board_view self.new.seats.board) found.new.items) }
         ensures order { OnOk result (map finding_initiator found.new.items
             ≡ map finding_initiator found.old.items ++ chunk.now) }
     {
@@ -149,11 +158,10 @@ impl<'a> Worker<'a> {
         alloc: Global,
         gate: &G,
     ) -> Result<Vec<Finding<RunLog<L, E>, P>>, AllocError>
-        requires ready { IsReady self.old }
         requires new { AreNew self.old.seats }
-        ensures back { AreBack self.old.job.now.shared.now self.old.seats self.new.seats }
-        ensures worked { IfOk result (λ found. IsWorked P.processes self.old.job.now.graph.now
-            self.old.job.now.plan.now self.old.job.now.shared.now self.new.seats found.items) }
+        ensures back { ComesBack self.old self.new }
+        ensures worked { IfOk result (λ found. IsWorked P.processes self.old.job.graph.now
+            self.old.job.plan.now self.old.job.shared.now self.new.seats found.items) }
     {
         let job = self.job;
         let mut found = Vec::new(alloc);

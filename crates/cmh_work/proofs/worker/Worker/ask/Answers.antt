@@ -1,44 +1,47 @@
-use Rattle.std.proofs.Common.{rules, subst, sym}
+use Rattle.std.proofs.Common.{◌∙◌, ap, subst, sym}
 use Rattle.std.specs.Prelude.{Some}
-use Rattle.cmh_board.specs.Board.{board_view, AddsPosting}
+use Rattle.cmh_board.specs.Board.{board_view, AddsPosting, SeesMore}
+use Rattle.cmh_run.specs.Run.{verdict_of, TellsTruth}
 use Rattle.cmh_work.specs.Finding.{IsAnswered}
+use Rattle.cmh_work.specs.Record.{IsRunFor}
+use Rattle.cmh_work.specs.Work.{Work}
 use Rattle.cmh_work.proofs.AccountsLemmas.{run_answers}
-use Rattle.cmh_work.proofs.WorkerLemmas.{sits_for}
 use Rattle.cmh_work.proofs.worker.Worker.ask.Goals as goal
 
 pub returns : goal.returns
 returns g c =
     let old = c.args.self.now in
-    let gr = old.job.now.graph.now in
-    let choices = old.job.now.plan.now.choices in
+    let gr = old.job.graph.now in
+    let choices = old.job.plan.now.choices in
     let p = c.args.initiator in
     let run = c.in_ok-run.run' in
     let v = board_view old.seats.board in
     let w = board_view c.post.new.seat in
-    let on = c.in_ok-run.ensures.on in
-    let added =
-    subst (λ t. AddsPosting t (board_view c.run_of.new.self.seats.board) w) c.of_run.ensures.whole
+    let told = c.in_ok-run.ensures in
+    let before = c.self.view_is in
+    let after = c.self-2.view_is in
+    let job = ap (λ (k : Work). k.job) before in
+    let sees = subst (λ (k : Work). SeesMore (board_view k.seats.board) (board_view c.look.new.seat)) before
+    c.look.ensures.sees in
+    let ran = subst (λ j. IsRunFor j.graph.now j.plan.now.choices p (verdict_of run.ending) run) job told.run in
+    let truth = subst (λ j. TellsTruth j.graph.now run) job told.truth in
+    let added = subst (λ (k : Work). AddsPosting c.of_run.result (board_view k.seats.board) w) after
     c.post.ensures.posts.added in
+    let whole = subst (λ t. AddsPosting t (board_view c.run_of.new.self.seats.board) w) c.of_run.ensures.whole added in
     let answered =
     subst (λ verdict. IsAnswered gr choices p v w record { verdict = verdict; run = Some run })
     (sym c.verdict.ensures)
     (run_answers gr choices p v (board_view c.look.new.seat) (board_view c.run_of.new.self.seats.board) w run
-    c.look.ensures.sees c.in_ok-run.ensures.sees c.in_ok-run.ensures.run c.in_ok-run.ensures.truth added) in
+    sees told.sees ran truth whole) in
     record {
       on = record {
-        job = on.job;
-        tickets = on.tickets;
-        share = search rules;
-        ready = record {
-          shapes = on.ready.shapes;
-          runner = on.ready.runner;
-          leaders = on.ready.leaders;
-          seats = record {
-            board = sits_for old c.run_of.new.self c.post.new.seat on.job
-                record { sits = c.post.ensures.sits.0; away = c.post.ensures.sits.1 };
-            tickets = on.ready.seats.tickets;
-          };
-        };
+        job = ap (λ (k : Work). k.job) after ∙ told.on.job ∙ job;
+        tickets = ap (λ (k : Work). k.seats.tickets) after ∙ told.on.tickets
+            ∙ ap (λ (k : Work). k.seats.tickets) before;
+        share = c.post.ensures.posts.share
+            ∙ ap (λ (k : Work). (board_view k.seats.board).lock.share) after
+            ∙ told.on.share
+            ∙ sees.share;
       };
       answered =
           subst (λ kept. IsAnswered gr choices p v w record { verdict = c.verdict.result; run = Some kept })

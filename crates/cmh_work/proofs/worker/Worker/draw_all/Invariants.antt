@@ -3,16 +3,13 @@ use Rattle.cmh_plan.specs.TicketSeats.{ticket_view, chunk_count}
 use Rattle.cmh_board.specs.Board.{board_view}
 use Rattle.cmh_work.specs.Cutting.{chunks_of, concat_chunks}
 use Rattle.cmh_work.specs.Finding.{finding_initiator, Accounts}
-use Rattle.cmh_work.specs.Worker.{IsReady}
-use Rattle.cmh_work.specs.Working.{AreBack}
+use Rattle.cmh_work.specs.Work.{ComesBack}
 use Rattle.cmh_work.proofs.worker.Worker.draw_all.Given as goal
 
 abbrev pub invariant-loop-number : goal.invariant-loop-number
 invariant-loop-number g l =
-    let j = l.fn.self.job.now in record {
-      job : l.self.job ≡ l.fn.self.job;
-      ready : IsReady l.self;
-      back : AreBack j.shared.now l.fn.self.seats l.self.seats;
+    let j = l.fn.self.job in record {
+      back : ComesBack l.fn.self l.self;
       accounts : Accounts g.P.ProcessList.processes j.graph.now j.plan.now.choices
           (board_view l.self.seats.board) l.found.items;
       order : map finding_initiator l.found.items
@@ -21,4 +18,4 @@ invariant-loop-number g l =
 
 abbrev pub decreases-loop-number : goal.decreases-loop-number
 decreases-loop-number g l =
-    chunk_count l.fn.self.job.now.shared.now.tickets - length (ticket_view l.self.seats.tickets).drawn
+    chunk_count l.fn.self.job.shared.now.tickets - length (ticket_view l.self.seats.tickets).drawn

@@ -8,20 +8,20 @@ use Rattle.cmh_work.proofs.worker.Worker.find_each.Goals as goal
 
 pub loop-initiator-init : goal.loop-initiator-init
 loop-initiator-init g c = record {
-  on = record { job = refl; tickets = refl; share = refl; ready = c.requires.ready };
+  on = record { job = refl; tickets = refl; share = refl };
   accounts = c.requires.accounts;
   order = sym (append-nil _);
 }
 
 pub loop-initiator-preserved : goal.loop-initiator-preserved
 loop-initiator-preserved g c =
-    let gr = c.args.self.now.job.now.graph.now in
-    let choices = c.args.self.now.job.now.plan.now.choices in
+    let gr = c.args.self.now.job.graph.now in
+    let choices = c.args.self.now.job.plan.now.choices in
     let v = board_view c.loop-initiator.self.seats.board in
     let w = board_view c.find_one.new.self.seats.board in
     let finding = c.in_ok-finding.finding in
     let found =
-    subst (λ j. IsFound g.P.ProcessList.processes j.now.graph.now j.now.plan.now.choices
+    subst (λ j. IsFound g.P.ProcessList.processes j.graph.now j.plan.now.choices
     (get_or c.args.chunk.now c.loop-initiator.initiator-index 0) v w finding)
     c.loop-initiator.invariant.on.job c.in_ok-finding.ensures.found in
     let pushed : c.push.new.self.items ≡ c.loop-initiator.found.items ++ finding ∷ [] =
