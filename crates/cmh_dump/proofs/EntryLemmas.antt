@@ -3,7 +3,7 @@ use Rattle.std.proofs.Common.{◌≡◌, ℕ, List, [], ◌∷◌, Bool, true, f
 use Rattle.std.specs.Prelude.{bytes_eq, is_some, option_map, unwrap_or}
 use Rattle.std.specs.List.{list_all}
 use Rattle.std.specs.Option.{option_map_or}
-use Rattle.std.proofs.lemmas.Bool.{false≢true, false_from_ne_true}
+use Rattle.std.proofs.lemmas.Bool.{false≢true, false_from_ne_true, and_parts}
 use Rattle.serde_json.specs.Data.{Data, null, Items}
 use Rattle.serde_json.specs.Find.{get, as_array, as_object}
 use Rattle.serde_json.specs.View.{items_of}
@@ -12,6 +12,7 @@ use Rattle.cmh_graph.specs.declared.part.State.TheVariants.{Idle, Active}
 use Rattle.cmh_dump.specs.Name.{is_name, is_among}
 use Rattle.cmh_dump.specs.Tree.{text_of, list_of, elements_of, at_key, keys_of, has_keys}
 use Rattle.cmh_dump.specs.Entry.{Entry, entry_of, has_state, has_dependents, is_process}
+use Rattle.cmh_dump.specs.Read.{is_written}
 use Rattle.cmh_dump.proofs.Trees.{list_of-items_of}
 
 -- where three tests hold together, each does
@@ -19,11 +20,11 @@ three : (a b c : Bool) → (a && b && c) ≡ true → (a ≡ true) × (b ≡ tru
 three true true true h = (refl, refl, refl)
 three a b c h = absurd (false≢true h)
 
--- where six tests hold together, each does
-six : (a b c d e f : Bool) → (a && b && c && d && e && f) ≡ true
-    → (a ≡ true) × (b ≡ true) × (c ≡ true) × (d ≡ true) × (e ≡ true) × (f ≡ true)
-six true true true true true true h = (refl, refl, refl, refl, refl, refl)
-six a b c d e f h = absurd (false≢true h)
+-- where five tests hold together, each does
+five : (a b c d e : Bool) → (a && b && c && d && e) ≡ true
+    → (a ≡ true) × (b ≡ true) × (c ≡ true) × (d ≡ true) × (e ≡ true)
+five true true true true true h = (refl, refl, refl, refl, refl)
+five a b c d e h = absurd (false≢true h)
 
 -- a name stands at a key that is there
 named : (key : List ℕ) (d : Data) → is_name (text_of (at_key key d)) ≡ true → is_some (get key d) ≡ true
@@ -86,19 +87,18 @@ module _ (d : Data) where
 
   -- what is read of a process: none where it isn't written as it has to be
   abbrev answer : Option Entry
-  answer = cond (is_process d) (Some (entry_of d)) None
+  answer = cond (is_written d) (Some (entry_of d)) None
 
   -- where it can't be written as it has to be, none is read
-  refused : ¬ (is_process d ≡ true) → None ≡ answer
-  refused n = sym (ap (λ b. cond b (Some (entry_of d)) None) (false_from_ne_true (is_process d) n))
+  refused : ¬ (is_written d ≡ true) → None ≡ answer
+  refused n = sym (ap (λ b. cond b (Some (entry_of d)) None) (false_from_ne_true (is_written d) n))
 
   -- the parts of the test of a process
-  parts : is_process d ≡ true → (has_keys needed allowed d ≡ true) × (is_name (at (codes "name")) ≡ true)
+  parts : is_written d ≡ true → (has_keys needed allowed d ≡ true) × (is_name (at (codes "name")) ≡ true)
       × (is_name (at (codes "site")) ≡ true) × (has_some_state ≡ true) × (has_dependents d ≡ true)
-      × (list_all is_name (entry_of d).dependents ≡ true)
   parts h =
-      six (has_keys needed allowed d) (is_name (at (codes "name"))) (is_name (at (codes "site"))) has_some_state
-      (has_dependents d) (list_all is_name (entry_of d).dependents) h
+      five (has_keys needed allowed d) (is_name (at (codes "name"))) (is_name (at (codes "site"))) has_some_state
+      (has_dependents d) h
 
   -- the parts of the test of its keys
   key_parts : has_keys needed allowed d ≡ true → (is_some (as_object d) ≡ true)
@@ -115,11 +115,11 @@ module _ (d : Data) where
       by false e h = false≢true h
 
   -- where something that is written by name is no name, it is no process
-  pub no_name : (names : Bool) → names ≡ (is_name (at (codes "name")) && is_name (at (codes "site"))
-      && list_all is_name (entry_of d).dependents) → names ≡ false → None ≡ answer
+  pub no_name : (names : Bool) → names ≡ (is_name (at (codes "name")) && is_name (at (codes "site")))
+      → names ≡ false → None ≡ answer
   no_name names e f =
       refused (λ h. let p = parts h in
-      false≢true (sym f ∙ e ∙ (λ i. p.1 i && p.2 i && p.5 i)))
+      false≢true (sym f ∙ e ∙ (λ i. p.1 i && p.2 i)))
 
   -- where it has another key, it is no process
   pub another_key : has_no_other ≡ false → None ≡ answer
@@ -153,34 +153,39 @@ module _ (d : Data) where
       → is_some (as_object d) ≡ true → name ≡ at (codes "name") → site ≡ at (codes "site")
       → Some s ≡ cond (has_state (codes "active") d) (Some Active) (cond (has_state (codes "idle") d) (Some Idle) None)
       → Some ds ≡ cond (has_dependents d) (Some (elements_of (at_key (codes "dependents") d))) None
-      → names ≡ (is_name (at (codes "name")) && is_name (at (codes "site"))
-      && list_all is_name (entry_of d).dependents) → names ≡ true → has_no_other ≡ true
+      → names ≡ (is_name (at (codes "name")) && is_name (at (codes "site"))) → names ≡ true → has_no_other ≡ true
       → Some (record { name = name; site = site; state = s; dependents = map text_of ds }) ≡ answer
   accepted name site s ds names object n m state deps named_all t only =
       let st = state_is s state in
       let dep = dependents_are ds deps in
-      let n3 = three (is_name (at (codes "name"))) (is_name (at (codes "site")))
-      (list_all is_name (entry_of d).dependents) (sym named_all ∙ t) in
-      let first = named (codes "name") d n3.0 in
-      let second = named (codes "site") d n3.1 in
+      let both = and_parts (is_name (at (codes "name"))) (is_name (at (codes "site"))) (sym named_all ∙ t) in
+      let first = named (codes "name") d both.0 in
+      let second = named (codes "site") d both.1 in
       let third = stated st.0 in
       let keys : has_keys needed allowed d ≡ true =
       λ i. object i && (first i && (second i && (third i && true))) && only i in
-      let good : is_process d ≡ true = λ i. keys i && n3.0 i && n3.1 i && st.0 i && dep.0 i && n3.2 i in
+      let good : is_written d ≡ true = λ i. keys i && both.0 i && both.1 i && st.0 i && dep.0 i in
       (λ i. Some (record { name = n i; site = m i; state = st.1 i; dependents = map text_of (dep.1 i) }))
       ∙ sym (ap (λ b. cond b (Some (entry_of d)) None) good)
 
   -- where nothing is read, it is no process
   pub none_read : None ≡ answer → is_process d ≡ false
-  none_read e = by (is_process d) e
+  none_read e = ap (λ b. b && list_all is_name (entry_of d).dependents) (by (is_written d) e)
     where
       by : (b : Bool) → None ≡ cond b (Some (entry_of d)) None → b ≡ false
       by true e = absurd cc
       by false e = refl
 
-  -- where something is read, it is a process, and what is read is what is written
-  pub some_read : (e : Entry) → Some e ≡ answer → (is_process d ≡ true) × (e ≡ entry_of d)
-  some_read e h = by (is_process d) h
+  -- where something is read, it is what is written, its name is one, and it is a process just where its dependents are
+  -- names
+  pub some_read : (e : Entry) → Some e ≡ answer
+      → (is_process d ≡ list_all is_name e.dependents) × (e ≡ entry_of d) × (is_name e.name ≡ true)
+  some_read e h =
+      let read = by (is_written d) h in (
+        (λ i. read.0 i && list_all is_name (sym read.1 i).dependents),
+        read.1,
+        ap (λ p. is_name p.name) read.1 ∙ (parts read.0).1,
+      )
     where
       by : (b : Bool) → Some e ≡ cond b (Some (entry_of d)) None → (b ≡ true) × (e ≡ entry_of d)
       by true h = let same : e ≡ entry_of d = cc in (refl, same)

@@ -1,10 +1,11 @@
 -- Loops over lists and rows: what is left of them decides.
-use Rattle.std.proofs.Common.{◌≡◌, ℕ, zero, suc, ◌+◌, ◌<◌, ◌≤◌, List, [], ◌∷◌, Bool, true, false, not, ◌&&◌, cond, Option, Some, None, length, get_or, drop, nat_lt, refl, sym, ap, ◌∙◌, arith, add-one, drop-cons}
-use Rattle.std.specs.Prelude.{option_map, position, sum_by}
+use Rattle.std.proofs.Common.{◌≡◌, ℕ, zero, suc, ◌+◌, ◌<◌, ◌≤◌, List, [], ◌∷◌, ◌++◌, Bool, true, false, not, ◌&&◌, cond, Option, Some, None, length, get_or, drop, nat_lt, refl, sym, ap, ◌∙◌, arith, add-one, drop-cons}
+use Rattle.std.specs.Prelude.{option_map, position, sum_by, unwrap_or}
 use Rattle.std.specs.List.{list_all, position_from}
 use Rattle.std.specs.Option.{option_or}
 use Rattle.std.proofs.lemmas.Bool.{lt-ltb, le-ltb}
 use Rattle.std.proofs.lemmas.Iterator.Adapters.{position_from-zero}
+use Rattle.std.proofs.lemmas.List.{length-append}
 use Rattle.std.proofs.lemmas.List.Sums.{sum_by-cons}
 use Rattle.cmh_dump.specs.Read.{first_pair}
 
@@ -69,6 +70,83 @@ module _ {Y : Type 0} (bad : Y → Bool) (ys : List Y) where
   -- where the first bad element of all is the first of those left, and none are left, there is none
   pub none_left : (i : ℕ) → length ys ≤ i → FirstIsLeft i → position bad ys ≡ None
   none_left i le left = left ∙ ap (position_from bad i) (drop_all ys i le)
+
+-- or none is the same
+pub or_none : {X : Type 0} (o : Option X) → option_or o None ≡ o
+or_none None = refl
+or_none (Some x) = refl
+
+-- a search from place a on, of a list with one element more at its end, asks that one last
+position_from-last : {Z : Type 0} (test : Z → Bool) (a : ℕ) (zs : List Z) (z : Z)
+    → position_from test a (zs ++ z ∷ [])
+    ≡ option_or (position_from test a zs) (cond (test z) (Some (a + length zs)) None)
+position_from-last test a [] z =
+    let start : a ≡ a + 0 = omega arith in
+    ap (λ n. cond (test z) (Some n) None) start
+position_from-last test a (y ∷ zs) z = by (test y) (position_from-last test (a + 1) zs z)
+  where
+    next : a + 1 + length zs ≡ a + suc (length zs)
+    next = omega arith
+
+    by : (b : Bool) → position_from test (a + 1) (zs ++ z ∷ [])
+        ≡ option_or (position_from test (a + 1) zs) (cond (test z) (Some (a + 1 + length zs)) None)
+        → cond b (Some a) (position_from test (a + 1) (zs ++ z ∷ []))
+        ≡ option_or (cond b (Some a) (position_from test (a + 1) zs))
+        (cond (test z) (Some (a + suc (length zs))) None)
+    by true h = refl
+    by false h = h ∙ ap (λ n. option_or (position_from test (a + 1) zs) (cond (test z) (Some n) None)) next
+
+module _ {Y Z : Type 0} (bad : Y → Bool) (ill : Z → Bool) (ys : List Y) where
+  -- what was made of the elements before place i is as many, and the first bad element of all is the first ill one of
+  -- these, or else the first bad one of those that are left
+  abbrev pub MadeDecides : List Z → ℕ → Type 0
+  MadeDecides zs i =
+      (length zs ≡ i) × (position bad ys ≡ option_or (position ill zs) (position_from bad i (drop i ys)))
+
+  -- at the start all elements are left
+  pub none_made : MadeDecides [] 0
+  none_made = (refl, position_from-zero bad ys)
+
+  -- where the element at i is bad, the first bad one of all is the first ill one, or else the one at i
+  pub made_found : (zs : List Z) (i : ℕ) (y : Y) → i < length ys → y ≡ get_or ys i y → bad y ≡ true → MadeDecides zs i
+      → position bad ys ≡ Some (unwrap_or (position ill zs) i)
+  made_found zs i y lt is here left =
+      left.1
+      ∙ ap (λ rest. option_or (position ill zs) (position_from bad i rest)) (drop_next ys i y lt is)
+      ∙ ap (λ b. option_or (position ill zs) (cond b (Some i) (position_from bad (i + 1) (drop (i + 1) ys)))) here
+      ∙ by (position ill zs)
+    where
+      by : (o : Option ℕ) → option_or o (Some i) ≡ Some (unwrap_or o i)
+      by None = refl
+      by (Some j) = refl
+
+  -- past an element of which one is made that is ill just where it is bad, the same holds
+  pub made_passed : (zs more : List Z) (z : Z) (i : ℕ) (y : Y) → more ≡ zs ++ z ∷ [] → i < length ys
+      → y ≡ get_or ys i y → bad y ≡ ill z → MadeDecides zs i → MadeDecides more (i + 1)
+  made_passed zs more z i y pushed lt is same left =
+      let later = position_from bad (i + 1) (drop (i + 1) ys) in
+      let size : 0 + length zs ≡ i = omega (arith, left.0) in
+      let asked : position ill more ≡ option_or (position ill zs) (cond (ill z) (Some i) None) =
+      ap (position ill) pushed ∙ position_from-zero ill (zs ++ z ∷ []) ∙ position_from-last ill 0 zs z
+      ∙ (λ k. option_or (sym (position_from-zero ill zs) k) (cond (ill z) (Some (size k)) None)) in (
+        ap length pushed ∙ length-append zs (z ∷ []) ∙ ap (λ n. n + 1) left.0,
+        left.1
+            ∙ ap (λ rest. option_or (position ill zs) (position_from bad i rest)) (drop_next ys i y lt is)
+            ∙ ap (λ b. option_or (position ill zs) (cond b (Some i) later)) same
+            ∙ by (position ill zs) (ill z) later ∙ ap (λ o. option_or o later) (sym asked),
+      )
+    where
+      by : (o : Option ℕ) (b : Bool) (later : Option ℕ)
+          → option_or o (cond b (Some i) later) ≡ option_or (option_or o (cond b (Some i) None)) later
+      by None true later = refl
+      by None false later = refl
+      by (Some j) b later = refl
+
+  -- where none are left, the first bad one of all is the first ill one
+  pub all_made : (zs : List Z) (i : ℕ) → length ys ≤ i → MadeDecides zs i → position bad ys ≡ position ill zs
+  all_made zs i le left =
+      left.1 ∙ ap (λ rest. option_or (position ill zs) (position_from bad i rest)) (drop_all ys i le)
+      ∙ or_none (position ill zs)
 
 module _ {Y : Type 0} (search : Y → Option ℕ) (ys : List Y) where
   -- what the search finds in the rows that are left from i on is what it finds in all of them

@@ -52,13 +52,6 @@ pub all-map : {X Y : Type 0} (test : Y → Bool) (f : X → Y) (xs : List X)
 all-map test f [] = refl
 all-map test f (x ∷ xs) = ap (λ b. test (f x) && b) (all-map test f xs)
 
--- a test of the texts of values is one of the texts of the elements
-pub all_of_views : {V : Type 0} (test : List ℕ → Bool) (view : V → Data) (vs : List V) (d : Data)
-    → map view vs ≡ elements_of d
-    → list_all (λ v. test (text_of (view v))) vs ≡ list_all test (map text_of (elements_of d))
-all_of_views test view vs d e =
-    all-map test (λ v. text_of (view v)) vs ∙ ap (list_all test) (texts_of_views view vs d e)
-
 -- an array of two elements is a pair just where all its values are texts
 pub is_pair_of : {V : Type 0} (view : V → Data) (vs : List V) (d : Data) → map view vs ≡ elements_of d → length vs ≡ 2
     → list_all (λ v. is_some (as_str (view v))) vs ≡ is_pair d

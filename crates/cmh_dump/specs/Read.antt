@@ -1,5 +1,6 @@
 -- What is read of a dump before it becomes a graph, and what each stage of reading answers.
-use Rattle.std.specs.Prelude.{◌≡◌, ◌≢◌, ℕ, ◌+◌, List, [], ◌∷◌, map, Option, Some, None, option_map, Result, Ok, Err}
+use Rattle.std.specs.Prelude.{◌≡◌, ◌≢◌, ℕ, ◌+◌, ◌&&◌, ◌||◌, Bool, codes, not, position, List, [], ◌∷◌, map, Option, Some, None, option_map, Result, Ok, Err}
+use Rattle.std.specs.List.{list_all}
 use Rattle.std.specs.Global.{Vec}
 use Rattle.std.specs.Option.{option_or}
 use Rattle.serde_json.specs.Data.{Data}
@@ -10,8 +11,9 @@ use Rattle.cmh_dump.specs.declared.entry.Entry as declared
 use Rattle.cmh_dump.specs.declared.fault.DumpFault.{DumpFault}
 use Rattle.cmh_dump.specs.declared.fault.DumpFault.TheVariants.{Memory}
 use Rattle.cmh_dump.specs.Dump.{holds, first_of, tree_graph}
-use Rattle.cmh_dump.specs.Entry.{Entry}
-use Rattle.cmh_dump.specs.Tree.{text_of}
+use Rattle.cmh_dump.specs.Entry.{Entry, entry_of, has_state, has_dependents}
+use Rattle.cmh_dump.specs.Name.{is_name}
+use Rattle.cmh_dump.specs.Tree.{text_of, has_keys}
 use Rattle.serde_json.specs.View.{view}
 
 -- what an entry in memory stands for: a process as it is written
@@ -22,6 +24,21 @@ entry_view e = record {
   state = e.state;
   dependents = map (λ v. text_of (view v)) e.dependents.now;
 }
+
+-- a process as it has to be written, whatever stands among its dependents
+abbrev pub is_written : Data → Bool
+is_written p =
+    has_keys (codes "name" ∷ codes "site" ∷ codes "state" ∷ []) (codes "dependents" ∷ []) p
+    && is_name (entry_of p).name && is_name (entry_of p).site
+    && (has_state (codes "active") p || has_state (codes "idle") p) && has_dependents p
+
+-- the dependents of an entry in memory are names
+abbrev pub waits_for_names : declared.Entry → Bool
+waits_for_names e = list_all (λ v. is_name (text_of (view v))) e.dependents.now
+
+-- the place of the first entry with a dependent that is no name
+abbrev pub first_ill_named : List declared.Entry → Option ℕ
+first_ill_named es = position (λ e. not (waits_for_names e)) es
 
 -- the first row in which the search finds something, and what it finds; the rows are counted from i
 abbrev pub first_pair : {Y : Type 0} → (Y → Option ℕ) → ℕ → List Y → Option (ℕ × ℕ)

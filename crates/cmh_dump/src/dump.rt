@@ -1,14 +1,17 @@
 //! From the bytes of a dump to its graph, or to the first fault that refuses it.
 
-ghost use Rattle.std.specs.Prelude.{◌≡◌, ◌≢◌, ◌<◌, ◌^◌, ◌++◌, length, map, Ok, Err, IfOk, IfErr};
-ghost use Rattle.cmh_dump.specs.Dump.{in_order, name_faults, entry_faults, transit_faults, dump, dump_of_tree};
+ghost use Rattle.std.specs.Prelude.{◌≡◌, ◌≢◌, ◌<◌, ◌^◌, ◌++◌, true, length, map, option_map, Ok, Err, IfOk, IfErr};
+ghost use Rattle.std.specs.List.{list_all};
+ghost use Rattle.cmh_dump.specs.Dump.{holds, first_of, in_order, process_faults, name_faults, entry_faults, transit_faults, dump, dump_of_tree};
 ghost use Rattle.cmh_dump.specs.Entry.{sites as tree_sites, entries as tree_entries, names as tree_names};
-ghost use Rattle.cmh_dump.specs.Read.{Builds, entry_view};
+ghost use Rattle.cmh_dump.specs.Read.{Builds, entry_view, first_ill_named};
+ghost use Rattle.cmh_dump.specs.Name.{is_name};
+ghost use Rattle.cmh_dump.specs.declared.fault.DumpFault.TheVariants.{BadProcess};
 ghost use Rattle.cmh_dump.specs.Texts.{texts};
 ghost use Rattle.serde_json.specs.View.{view};
 
 use crate::entry::Entry;
-use crate::judge::{judge_top, link_entries, read_names, read_processes, read_sites};
+use crate::judge::{first_fault, judge_top, link_entries, read_names, read_processes, read_sites};
 use crate::parts::move_names;
 use crate::transit::read_in_transit;
 use crate::tree::{take_elements, take_member, tree_of};
@@ -60,6 +63,30 @@ fn read_named(
     read_linked(alloc, tree, entries, sites, &names)
 }
 
+/// What the graph of a tree is built of, once sites and processes are read. Whether dependents are names is judged only
+/// where something else is refused: all that are found among the names of the processes are.
+fn read_written(
+    alloc: Global,
+    tree: &Value,
+    entries: &[Entry<'_>],
+    sites: &IndexSet<&str>,
+) -> Result<GraphParts, DumpFault>
+    requires few_sites { length (texts sites.now.keys) < 2 ^ 32 }
+    requires few_processes { length entries.now < 2 ^ 32 }
+    ensures { map entry_view entries.now ≡ tree_entries (view tree.now)
+        → texts sites.now.keys ≡ tree_sites (view tree.now)
+        → list_all (λ e. is_name (entry_view e).name) entries.now ≡ true
+        → first_of (holds (view tree.now)) (process_faults (view tree.now))
+        ≡ option_map BadProcess (first_ill_named entries.now)
+        → Builds (view tree.now) (process_faults (view tree.now) ++ (name_faults (view tree.now)
+        ++ (entry_faults (view tree.now) ++ transit_faults (view tree.now)))) result }
+{
+    match read_named(alloc, tree, entries, sites) {
+        Ok(parts) => Ok(parts),
+        Err(fault) => Err(first_fault(entries, fault)),
+    }
+}
+
 /// What the graph of a tree is built of, or the first condition that refuses the tree.
 fn read_parts(alloc: Global, tree: &Value) -> Result<GraphParts, DumpFault>
     ensures { Builds (view tree.now) (in_order (view tree.now)) result }
@@ -67,7 +94,7 @@ fn read_parts(alloc: Global, tree: &Value) -> Result<GraphParts, DumpFault>
     judge_top(tree)?;
     let sites = read_sites(alloc, tree)?;
     let entries = read_processes(alloc, tree)?;
-    read_named(alloc, tree, &entries, &sites)
+    read_written(alloc, tree, &entries, &sites)
 }
 
 /// The wait graph that a tree means, or the first condition that refuses it.

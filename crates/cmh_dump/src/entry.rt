@@ -1,14 +1,13 @@
 //! Processes as they are written: all by names.
 
 ghost use Rattle.std.specs.Prelude.{◌≡◌, ◌&&◌, codes, map, option_map, Some, None, IfOk, if◌then◌else◌};
-ghost use Rattle.std.specs.List.{list_all};
 ghost use Rattle.serde_json.specs.View.{view};
 ghost use Rattle.cmh_graph.specs.declared.part.State.TheVariants.{Idle, Active};
-ghost use Rattle.cmh_dump.specs.Entry.{has_state, is_process, has_dependents, entry_of};
+ghost use Rattle.cmh_dump.specs.Entry.{has_state, has_dependents, entry_of};
 ghost use Rattle.cmh_dump.specs.Name.{is_name};
-ghost use Rattle.cmh_dump.specs.Read.{entry_view};
+ghost use Rattle.cmh_dump.specs.Read.{entry_view, is_written, first_ill_named};
 ghost use Rattle.cmh_dump.specs.Texts.{texts};
-ghost use Rattle.cmh_dump.specs.Tree.{text_of, elements_of, at_key};
+ghost use Rattle.cmh_dump.specs.Tree.{elements_of, at_key};
 
 use crate::names::{are_names_in, is_name};
 use crate::tree::{array_in, has_allowed, text_at};
@@ -60,17 +59,15 @@ fn dependents_of(process: &Value) -> Option<&[Value]>
     }
 }
 
-/// All that is written by name is a name.
 fn has_names(entry: &Entry<'_>) -> bool
-    ensures { result ≡ (is_name entry.now.name.now && is_name entry.now.site.now
-        && list_all (λ v. is_name (text_of (view v))) entry.now.dependents.now) }
+    ensures { result ≡ (is_name entry.now.name.now && is_name entry.now.site.now) }
 {
-    is_name(entry.name) && is_name(entry.site) && are_names_in(entry.dependents)
+    is_name(entry.name) && is_name(entry.site)
 }
 
-/// The process as it is written, where it is written as it has to be, whatever the others are.
+/// The process as it is written, where it is written as it has to be, whatever stands among its dependents.
 pub(crate) fn entry_of(process: &Value) -> Option<Entry<'_>>
-    ensures { option_map entry_view result ≡ (if is_process (view process.now)
+    ensures { option_map entry_view result ≡ (if is_written (view process.now)
         then Some (entry_of (view process.now)) else None) }
 {
     let members = process.as_object()?;
@@ -87,6 +84,15 @@ pub(crate) fn entry_of(process: &Value) -> Option<Entry<'_>>
     } else {
         None
     }
+}
+
+/// The place of the first process with a dependent that is no name.
+pub(crate) fn first_ill_named(entries: &[Entry<'_>]) -> Option<usize>
+    ensures { result ≡ first_ill_named entries.now }
+{
+    entries
+        .iter()
+        .position(|entry| !are_names_in(entry.dependents))
 }
 
 /// The names of the processes.

@@ -1,18 +1,21 @@
 //! The stages in which a tree is judged, each over some kinds of faults.
 
-ghost use Rattle.std.specs.Prelude.{◌≡◌, ◌<◌, ◌≤◌, ◌^◌, ◌&&◌, not, [], map, sum_by, length, position, nat_lt, vec_len, IfOk};
+ghost use Rattle.std.specs.Prelude.{◌≡◌, ◌≢◌, ◌<◌, ◌≤◌, ◌^◌, ◌&&◌, not, true, [], map, option_map, sum_by, length, position, nat_lt, vec_len, Some, IfOk, IfErr};
+ghost use Rattle.std.specs.List.{list_all};
+ghost use Rattle.std.specs.Option.{option_map_or};
+ghost use Rattle.cmh_dump.specs.declared.fault.DumpFault.TheVariants.{BadProcess};
 ghost use Rattle.serde_json.specs.Data.{Data};
 ghost use Rattle.serde_json.specs.View.{view};
 ghost use Rattle.cmh_graph.specs.Build.{process_of};
 ghost use Rattle.cmh_graph.specs.Graph.{is_idle_state};
-ghost use Rattle.cmh_dump.specs.Dump.{is_top, process_by, top_keys, top_faults, site_faults, process_faults, name_faults, entry_faults};
+ghost use Rattle.cmh_dump.specs.Dump.{holds, first_of, is_top, process_by, top_keys, top_faults, site_faults, process_faults, name_faults, entry_faults};
 ghost use Rattle.cmh_dump.specs.Entry.{is_version, sites as tree_sites, entries as tree_entries, names as tree_names};
-ghost use Rattle.cmh_dump.specs.Name.{is_among};
-ghost use Rattle.cmh_dump.specs.Read.{Judges, entry_view, without_name};
+ghost use Rattle.cmh_dump.specs.Name.{is_among, is_name};
+ghost use Rattle.cmh_dump.specs.Read.{Judges, entry_view, first_ill_named, without_name};
 ghost use Rattle.cmh_dump.specs.Texts.{texts};
 ghost use Rattle.cmh_dump.specs.Tree.{has_keys};
 
-use crate::entry::{Entry, entry_of, names_of};
+use crate::entry::{Entry, entry_of, first_ill_named, names_of};
 use crate::index::{IndexFault, index_of, is_known};
 use crate::names::first_bad_name;
 use crate::parts::parts_of;
@@ -84,12 +87,17 @@ pub(crate) fn read_sites<'v>(alloc: Global, tree: &'v Value) -> Result<IndexSet<
     Ok(index)
 }
 
-/// The processes as they are written, each judged by itself.
+/// The processes as they are written, each judged by itself, but for the names of its dependents. Each dependent is
+/// looked up later, and what is found is the name of a process.
 pub(crate) fn read_processes<'v>(
     alloc: Global,
     tree: &'v Value,
 ) -> Result<Vec<Entry<'v>>, DumpFault>
-    ensures judges { Judges (view tree.now) (process_faults (view tree.now)) result }
+    ensures left { IfOk result (λ v. first_of (holds (view tree.now)) (process_faults (view tree.now))
+        ≡ option_map BadProcess (first_ill_named v.items)) }
+    ensures refused { IfErr result (λ e. e ≢ DumpFault.Memory
+        → first_of (holds (view tree.now)) (process_faults (view tree.now)) ≡ Some e) }
+    ensures named { IfOk result (λ v. list_all (λ e. is_name (entry_view e).name) v.items ≡ true) }
     ensures read { IfOk result (λ v. map entry_view v.items ≡ tree_entries (view tree.now)) }
     ensures few { IfOk result (λ v. vec_len v ≤ MAX_PROCESSES) }
 {
@@ -100,11 +108,21 @@ pub(crate) fn read_processes<'v>(
     let mut entries = Vec::with_capacity(alloc, processes.len())?;
     for (i, process) in processes.iter().enumerate() {
         let Some(entry) = entry_of(process) else {
-            return Err(DumpFault::BadProcess(i));
+            return Err(DumpFault::BadProcess(first_ill_named(&entries).unwrap_or(i)));
         };
         entries.push(entry)?;
     }
     Ok(entries)
+}
+
+/// The fault of the first process with a dependent that is no name, or else this one, which comes later in order.
+pub(crate) fn first_fault(entries: &[Entry<'_>], later: DumpFault) -> DumpFault
+    ensures { result ≡ option_map_or BadProcess (first_ill_named entries.now) later }
+{
+    match first_ill_named(entries) {
+        Some(i) => DumpFault::BadProcess(i),
+        None => later,
+    }
 }
 
 /// The names of the processes by their places, of which none repeats.

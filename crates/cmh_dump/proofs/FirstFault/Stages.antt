@@ -1,5 +1,6 @@
 -- A tree that is judged stage by stage: its first fault, or the graph that it means.
-use Rattle.std.proofs.Common.{◌≡◌, ◌≢◌, ℕ, List, ◌++◌, ◌⊎◌, Some, None, Result, Ok, Err, map, sym, ap, subst, ◌∙◌}
+use Rattle.std.proofs.Common.{◌≡◌, ◌≢◌, ℕ, List, ◌++◌, ◌⊎◌, Option, Some, None, Result, Ok, Err, map, sym, ap, subst, ◌∙◌}
+use Rattle.std.specs.Prelude.{option_map}
 use Rattle.std.specs.Global.{Vec}
 use Rattle.std.specs.Option.{option_map_or}
 use Rattle.serde_json.specs.Data.{Data}
@@ -10,7 +11,7 @@ use Rattle.cmh_graph.specs.declared.fault.GraphFault.{GraphFault}
 use Rattle.cmh_graph.specs.declared.fault.GraphFault.TheVariants.{Memory as GraphMemory}
 use Rattle.cmh_dump.specs.declared.entry.Entry as declared
 use Rattle.cmh_dump.specs.declared.fault.DumpFault.{DumpFault}
-use Rattle.cmh_dump.specs.declared.fault.DumpFault.TheVariants.{Memory}
+use Rattle.cmh_dump.specs.declared.fault.DumpFault.TheVariants.{Memory, BadProcess}
 use Rattle.cmh_dump.specs.Dump.{holds, in_order, top_faults, site_faults, process_faults, name_faults, entry_faults, transit_faults, first_of, tree_graph, places_in_pair, process_by, dump_of_tree}
 use Rattle.cmh_dump.specs.Entry.{entries, names, sites, transits}
 use Rattle.cmh_dump.specs.Read.{entry_view, Builds, without_name, without_names}
@@ -49,6 +50,15 @@ module _ (d : Data) where
   refused_past_sites e top apart h =
       refused_later top_faults (site_faults d ++ faults_from_processes d) e top
       (refused_later (site_faults d) (faults_from_processes d) e apart h)
+
+  -- the first bad process, if any, or else the fault of the kinds after the processes, is that of both together
+  pub refused_or_later : (o : Option ℕ) (e : DumpFault)
+      → first_of (holds d) (process_faults d) ≡ option_map BadProcess o
+      → (e ≢ Memory → first_of (holds d) (faults_from_names d) ≡ Some e) → option_map_or BadProcess o e ≢ Memory
+      → first_of (holds d) (faults_from_processes d) ≡ Some (option_map_or BadProcess o e)
+  refused_or_later None e left h = refused_later (process_faults d) (faults_from_names d) e left h
+  refused_or_later (Some i) e left h =
+      refused_here (process_faults d) (faults_from_names d) (BadProcess i) (λ _. left)
 
   -- where no kind of a stage holds, an answer that fits the kinds after it fits both together
   pub built_later : (xs ys : List (List DumpFault)) (r : Result (Vec Part × Vec (ℕ × ℕ)) DumpFault)

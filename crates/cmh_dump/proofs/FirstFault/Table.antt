@@ -88,7 +88,7 @@ fails test (y ∷ ys) e x (inl s) = ap test s ∙ (neither_head (test y) y (find
 fails test (y ∷ ys) e x (inr m) = fails test ys (neither_head (test y) y (find test ys) e).1 x m
 
 -- where the first of two that may be there is none, neither is there
-neither : {X : Type 0} (o p : Option X) → option_or o p ≡ None → (o ≡ None) × (p ≡ None)
+pub neither : {X : Type 0} (o p : Option X) → option_or o p ≡ None → (o ≡ None) × (p ≡ None)
 neither None p e = (refl, e)
 neither (Some x) p e = absurd cc
 

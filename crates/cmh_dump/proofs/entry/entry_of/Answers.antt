@@ -1,12 +1,12 @@
-use Rattle.std.proofs.Common.{◌&&◌, map, codes, Some, ap, sym, ◌∙◌}
+use Rattle.std.proofs.Common.{◌&&◌, map, Some, ap, sym, ◌∙◌}
 use Rattle.std.specs.Prelude.{is_some, option_map}
 use Rattle.serde_json.specs.View.{view}
 use Rattle.cmh_dump.specs.Name.{is_name}
 use Rattle.cmh_dump.specs.Read.{entry_view}
-use Rattle.cmh_dump.specs.Tree.{at_key, text_of}
+use Rattle.cmh_dump.specs.Tree.{text_of}
 use Rattle.cmh_dump.proofs.Keys.{allowed_is}
-use Rattle.cmh_dump.proofs.Trees.{all_of_views, map-map}
-use Rattle.cmh_dump.proofs.EntryLemmas.{needed, allowed, no_dependents, no_name, another_key, dependents_are, accepted}
+use Rattle.cmh_dump.proofs.Trees.{map-map}
+use Rattle.cmh_dump.proofs.EntryLemmas.{needed, allowed, no_dependents, no_name, another_key, accepted}
 use Rattle.cmh_dump.proofs.entry.entry_of.Goals.{else-has_names-via-then-has_names+else-has_allowed, else-has_names-via-else-has_names}
 use Rattle.cmh_dump.proofs.entry.entry_of.Goals as goal
 
@@ -18,8 +18,6 @@ returns-in_err-dependents c =
 pub returns-then-has_allowed : goal.returns-then-has_allowed
 returns-then-has_allowed c =
     let d = view c.args.process.now in
-    let read = (dependents_are d (map view c.in_ok-dependents.dependents.now) c.in_ok-dependents.ensures).1 in
-    let all = all_of_views is_name view c.in_ok-dependents.dependents.now (at_key (codes "dependents") d) read in
     (λ i. Some (record {
       name = c.text_at.result.now;
       site = c.text_at-2.result.now;
@@ -29,7 +27,7 @@ returns-then-has_allowed c =
     ∙ accepted d c.text_at.result.now c.text_at-2.result.now c.in_ok-state.state
     (map view c.in_ok-dependents.dependents.now) c.has_names.result (sym (ap is_some c.in_ok-members.ensures))
     c.text_at.ensures c.text_at-2.ensures c.in_ok-state.ensures c.in_ok-dependents.ensures
-    (c.has_names.ensures ∙ (λ i. is_name (c.text_at.ensures i) && is_name (c.text_at-2.ensures i) && all i))
+    (c.has_names.ensures ∙ (λ i. is_name (c.text_at.ensures i) && is_name (c.text_at-2.ensures i)))
     c.if-has_names.true
     (sym (allowed_is needed allowed c.in_ok-members.members.now.entries view d c.has_allowed.result
     c.has_allowed.ensures c.in_ok-members.ensures) ∙ c.if-has_allowed.true)
@@ -37,8 +35,6 @@ returns-then-has_allowed c =
 pub returns-else-has_names : goal.returns-else-has_names
 returns-else-has_names c =
     let d = view c.args.process.now in
-    let read = (dependents_are d (map view c.in_ok-dependents.dependents.now) c.in_ok-dependents.ensures).1 in
-    let all = all_of_views is_name view c.in_ok-dependents.dependents.now (at_key (codes "dependents") d) read in
     elim c.else-has_names.branch [
       | else-has_names-via-then-has_names+else-has_allowed w ↦
           another_key d
@@ -46,6 +42,6 @@ returns-else-has_names c =
           w.has_allowed.ensures c.in_ok-members.ensures) ∙ w.if-has_allowed.false)
       | else-has_names-via-else-has_names w ↦
           no_name d c.has_names.result
-          (c.has_names.ensures ∙ (λ i. is_name (c.text_at.ensures i) && is_name (c.text_at-2.ensures i) && all i))
+          (c.has_names.ensures ∙ (λ i. is_name (c.text_at.ensures i) && is_name (c.text_at-2.ensures i)))
           w.if-has_names.false
     ]
