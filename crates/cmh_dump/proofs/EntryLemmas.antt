@@ -1,18 +1,21 @@
 -- Which processes are written as they have to be, by what their members are read as.
-use Rattle.std.proofs.Common.{◌≡◌, ℕ, List, [], ◌∷◌, Bool, true, false, ◌&&◌, ◌||◌, cond, codes, map, Option, Some, None, refl, sym, ap, ◌∙◌, Bor}
-use Rattle.std.specs.Prelude.{bytes_eq, is_some, option_map, unwrap_or}
+use Rattle.std.proofs.Common.{◌≡◌, ℕ, List, [], ◌∷◌, Bool, true, false, ◌&&◌, ◌||◌, ◌==◌, cond, codes, length, map, Option, Some, None, refl, sym, ap, ◌∙◌, Bor}
+use Rattle.std.specs.Prelude.{String, bytes_eq, is_some, option_map, string_bytes, unwrap_or}
 use Rattle.std.specs.List.{list_all}
 use Rattle.std.specs.Option.{option_map_or}
-use Rattle.std.proofs.lemmas.Bool.{false≢true, false_from_ne_true, and_parts}
+use Rattle.std.specs.Global.{Global}
+use Rattle.std.specs.Set.{distinct_count}
+use Rattle.std.proofs.lemmas.Bool.{eqb-true, false≢true, false_from_ne_true, and_parts, or_parts}
 use Rattle.serde_json.specs.Data.{Data, null, Items}
 use Rattle.serde_json.specs.Find.{get, as_array, as_object}
 use Rattle.serde_json.specs.View.{items_of}
 use Rattle.cmh_graph.specs.declared.part.State.{State}
 use Rattle.cmh_graph.specs.declared.part.State.TheVariants.{Idle, Active}
 use Rattle.cmh_dump.specs.Name.{is_name, is_among}
-use Rattle.cmh_dump.specs.Tree.{text_of, list_of, elements_of, at_key, keys_of, has_keys}
+use Rattle.cmh_dump.specs.Tree.{text_of, list_of, elements_of, at_key, has_array, keys_of, has_keys}
 use Rattle.cmh_dump.specs.Entry.{Entry, entry_of, has_state, has_dependents, is_process}
-use Rattle.cmh_dump.specs.Read.{is_written}
+use Rattle.cmh_dump.specs.Read.{is_written, own_keys}
+use Rattle.cmh_dump.proofs.Keys.{allowed_is, counted, is_allowed, map_keys, members_in}
 use Rattle.cmh_dump.proofs.Trees.{list_of-items_of}
 
 -- where three tests hold together, each does
@@ -148,20 +151,81 @@ module _ (d : Data) where
       by true e = let same : ds ≡ elements_of (at_key (codes "dependents") d) = cc in (refl, same)
       by false e = absurd cc
 
+  -- where its names, its state and its dependents are read, all keys stand there that a process of the state must have
+  own_found : (s : State) → Some s ≡ cond (has_state (codes "active") d) (Some Active)
+      (cond (has_state (codes "idle") d) (Some Idle) None) → is_name (at (codes "name")) ≡ true
+      → is_name (at (codes "site")) ≡ true → has_dependents d ≡ true
+      → list_all (λ k. is_some (get k d)) (own_keys s) ≡ true
+  own_found s state name site dep = by s state
+    where
+      first : is_some (get (codes "name") d) ≡ true
+      first = named (codes "name") d name
+
+      next : is_some (get (codes "site") d) ≡ true
+      next = named (codes "site") d site
+
+      third : is_some (get (codes "state") d) ≡ true
+      third = stated (state_is s state).0
+
+      fourth : (a b : Bool) → Some Idle ≡ cond a (Some Active) (cond (has_state (codes "idle") d) (Some Idle) None)
+          → cond b (has_array (codes "dependents") d) a ≡ true → b ≡ true
+      fourth true b e h = absurd cc
+      fourth false true e h = refl
+      fourth false false e h = absurd (false≢true h)
+
+      by : (s : State) → Some s ≡ cond (has_state (codes "active") d) (Some Active)
+          (cond (has_state (codes "idle") d) (Some Idle) None) → list_all (λ k. is_some (get k d)) (own_keys s) ≡ true
+      by Active e = λ i. first i && (next i && (third i && true))
+      by Idle e =
+          let last = fourth (has_state (codes "active") d) (is_some (get (codes "dependents") d)) e dep in
+          λ i. first i && (next i && (third i && (last i && true)))
+
+  module _ {V : Type 0} (es : List (String Global × V)) (view : V → Data)
+      (held : Some (members_in view es) ≡ as_object d) (s : State) (found : Bool)
+      (is : found ≡ ((length es == length (own_keys s))
+      || list_all (λ key. is_allowed needed allowed (string_bytes key)) (map_keys es))) where
+    -- where the keys are neither as many nor all allowed, one stands there that isn't
+    pub other_found : found ≡ false → has_no_other ≡ false
+    other_found f =
+        let others = (or_parts (length es == length (own_keys s)) _ (sym is ∙ f)).1 in
+        sym (allowed_is needed allowed es view d _ refl held) ∙ others
+
+    -- where all that it must have stand there, and the keys are as many or all allowed, no other stands there
+    pub none_found : list_all (λ k. is_some (get k d)) (own_keys s) ≡ true → found ≡ true → has_no_other ≡ true
+    none_found own t = by (length es == length (own_keys s)) refl (sym is ∙ t)
+      where
+        apart : (s : State) → distinct_count bytes_eq (own_keys s) ≡ length (own_keys s)
+        apart Idle = refl
+        apart Active = refl
+
+        passed : (s : State) → list_all (is_allowed needed allowed) (own_keys s) ≡ true
+        passed Idle = refl
+        passed Active = refl
+
+        by : (b : Bool) → (length es == length (own_keys s)) ≡ b
+            → (b || list_all (λ key. is_allowed needed allowed (string_bytes key)) (map_keys es)) ≡ true
+            → has_no_other ≡ true
+        by true e h =
+            counted (is_allowed needed allowed) (own_keys s) es view d held (apart s) (passed s) own
+            (eqb-true (length es) (length (own_keys s)) e)
+        by false e h = sym (allowed_is needed allowed es view d _ refl held) ∙ h
+
   -- what passes all tests is read as the process that is written
   pub accepted : (name site : List ℕ) (s : State) (ds : List Data) (names : Bool)
       → is_some (as_object d) ≡ true → name ≡ at (codes "name") → site ≡ at (codes "site")
       → Some s ≡ cond (has_state (codes "active") d) (Some Active) (cond (has_state (codes "idle") d) (Some Idle) None)
       → Some ds ≡ cond (has_dependents d) (Some (elements_of (at_key (codes "dependents") d))) None
-      → names ≡ (is_name (at (codes "name")) && is_name (at (codes "site"))) → names ≡ true → has_no_other ≡ true
+      → names ≡ (is_name (at (codes "name")) && is_name (at (codes "site"))) → names ≡ true
+      → (list_all (λ k. is_some (get k d)) (own_keys s) ≡ true → has_no_other ≡ true)
       → Some (record { name = name; site = site; state = s; dependents = map text_of ds }) ≡ answer
-  accepted name site s ds names object n m state deps named_all t only =
+  accepted name site s ds names object n m state deps named_all t alone =
       let st = state_is s state in
       let dep = dependents_are ds deps in
       let both = and_parts (is_name (at (codes "name"))) (is_name (at (codes "site"))) (sym named_all ∙ t) in
       let first = named (codes "name") d both.0 in
       let second = named (codes "site") d both.1 in
       let third = stated st.0 in
+      let only = alone (own_found s state both.0 both.1 dep.0) in
       let keys : has_keys needed allowed d ≡ true =
       λ i. object i && (first i && (second i && (third i && true))) && only i in
       let good : is_written d ≡ true = λ i. keys i && both.0 i && both.1 i && st.0 i && dep.0 i in

@@ -7,6 +7,8 @@ use Rattle.serde_json.specs.Data.{Data}
 use Rattle.cmh_graph.specs.Build as graph
 use Rattle.cmh_graph.specs.Graph.{Graph, Process}
 use Rattle.cmh_graph.specs.declared.part.Part.{Part}
+use Rattle.cmh_graph.specs.declared.part.State.{State}
+use Rattle.cmh_graph.specs.declared.part.State.TheVariants.{Idle, Active}
 use Rattle.cmh_dump.specs.declared.entry.Entry as declared
 use Rattle.cmh_dump.specs.declared.fault.DumpFault.{DumpFault}
 use Rattle.cmh_dump.specs.declared.fault.DumpFault.TheVariants.{Memory}
@@ -24,6 +26,11 @@ entry_view e = record {
   state = e.state;
   dependents = map (λ v. text_of (view v)) e.dependents.now;
 }
+
+-- the keys that a process of the state must have
+abbrev pub own_keys : State → List (List ℕ)
+own_keys Idle = codes "name" ∷ codes "site" ∷ codes "state" ∷ codes "dependents" ∷ []
+own_keys Active = codes "name" ∷ codes "site" ∷ codes "state" ∷ []
 
 -- a process as it has to be written, whatever stands among its dependents
 abbrev pub is_written : Data → Bool

@@ -1,18 +1,20 @@
 //! Processes as they are written: all by names.
 
-ghost use Rattle.std.specs.Prelude.{◌≡◌, ◌&&◌, codes, map, option_map, Some, None, IfOk, if◌then◌else◌};
+ghost use Rattle.std.specs.Prelude.{◌≡◌, ◌&&◌, ◌||◌, ◌==◌, [], ◌∷◌, length, string_bytes, codes, map, option_map, Some, None, IfOk, if◌then◌else◌};
+ghost use Rattle.std.specs.BTreeMap.{btree_map_len, keys};
+ghost use Rattle.std.specs.List.{list_all};
 ghost use Rattle.serde_json.specs.View.{view};
 ghost use Rattle.cmh_graph.specs.declared.part.State.TheVariants.{Idle, Active};
 ghost use Rattle.cmh_dump.specs.Entry.{has_state, has_dependents, entry_of};
-ghost use Rattle.cmh_dump.specs.Name.{is_name};
-ghost use Rattle.cmh_dump.specs.Read.{entry_view, is_written, first_ill_named};
+ghost use Rattle.cmh_dump.specs.Name.{is_among, is_name};
+ghost use Rattle.cmh_dump.specs.Read.{entry_view, own_keys, is_written, first_ill_named};
 ghost use Rattle.cmh_dump.specs.Texts.{texts};
 ghost use Rattle.cmh_dump.specs.Tree.{elements_of, at_key};
 
 use crate::names::{are_names_in, is_name};
 use crate::tree::{array_in, has_allowed, text_at};
 use cmh_graph::State;
-use serde_json::Value;
+use serde_json::{Map, Value};
 use std::alloc::{AllocError, Global};
 
 /// A process as it is written.
@@ -65,6 +67,27 @@ fn has_names(entry: &Entry<'_>) -> bool
     is_name(entry.name) && is_name(entry.site)
 }
 
+/// How many keys a process of the state must have.
+fn key_count(state: State) -> usize
+    ensures { result ≡ length (own_keys state) }
+{
+    match state {
+        State::Idle => 4,
+        State::Active => 3,
+    }
+}
+
+/// There are as many keys as a process of the state must have, or each is one that it may have. Where all that it must
+/// have stand there, either says that no other does, and to count them takes less.
+fn has_no_other(members: &Map<String, Value>, state: State) -> bool
+    ensures { result ≡ ((btree_map_len members.now == length (own_keys state))
+        || list_all (λ key. is_among (own_keys Active) (string_bytes key)
+        || is_among (codes "dependents" ∷ []) (string_bytes key)) (keys members.now)) }
+{
+    members.len() == key_count(state)
+        || has_allowed(members, &["name", "site", "state"], &["dependents"])
+}
+
 /// The process as it is written, where it is written as it has to be, whatever stands among its dependents.
 pub(crate) fn entry_of(process: &Value) -> Option<Entry<'_>>
     ensures { option_map entry_view result ≡ (if is_written (view process.now)
@@ -79,7 +102,7 @@ pub(crate) fn entry_of(process: &Value) -> Option<Entry<'_>>
         state,
         dependents,
     };
-    if has_names(&entry) && has_allowed(members, &["name", "site", "state"], &["dependents"]) {
+    if has_names(&entry) && has_no_other(members, state) {
         Some(entry)
     } else {
         None

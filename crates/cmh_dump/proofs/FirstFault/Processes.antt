@@ -1,11 +1,10 @@
 -- What the search for a bad process says of the faults of the processes by themselves.
-use Rattle.std.proofs.Common.{◌≡◌, ℕ, ◌+◌, ◌≤◌, List, [], ◌∷◌, Bool, true, false, not, ◌&&◌, ◌||◌, cond, Option, Some, None, map, length, refl, sym, ap, ◌∙◌}
-use Rattle.std.specs.Prelude.{bytes_eq, find, position, option_map}
+use Rattle.std.proofs.Common.{◌≡◌, ℕ, ◌+◌, ◌≤◌, List, [], ◌∷◌, Bool, true, false, not, ◌&&◌, cond, Option, Some, None, map, length, refl, sym, ap, ◌∙◌}
+use Rattle.std.specs.Prelude.{find, position, option_map}
 use Rattle.std.specs.List.{list_all, position_from}
 use Rattle.std.specs.Option.{option_or}
-use Rattle.std.proofs.lemmas.Bool.{false≢true, and_parts}
+use Rattle.std.proofs.lemmas.Bool.{and_parts}
 use Rattle.std.proofs.lemmas.Iterator.Adapters.{position_from-zero}
-use Rattle.std.proofs.lemmas.Slice.Eq.{bytes_eq-Decides}
 use Rattle.serde_json.specs.Data.{Data, null}
 use Rattle.serde_json.specs.View.{view}
 use Rattle.cmh_graph.specs.declared.TheConstants.{MAX_PROCESSES}
@@ -23,6 +22,7 @@ use Rattle.cmh_dump.proofs.FirstFault.Searches.{each_seen}
 use Rattle.cmh_dump.proofs.FirstFault.Kinds.{first_later, alone, size_of, or_seen, within, none_among, none_after}
 use Rattle.cmh_dump.proofs.FirstFault.Stages.{faults_from_entries, faults_from_names}
 use Rattle.cmh_dump.proofs.FirstFault.Table.{neither}
+use Rattle.cmh_dump.proofs.Keys.{among_passes}
 use Rattle.cmh_dump.proofs.Pairs.{all_pass, neither_row, or_none}
 use Rattle.cmh_dump.proofs.Trees.{all-map}
 
@@ -58,19 +58,6 @@ module _ {V : Type 0} (view : V → Data) (d : Data) (vs : List V) (seen : map v
 
 -- ---- dependents that are known
 
--- what is among names is a name
-among_names : (ns : List (List ℕ)) (text : List ℕ) → list_all is_name ns ≡ true → is_among ns text ≡ true
-    → is_name text ≡ true
-among_names [] text h m = absurd (false≢true m)
-among_names (n ∷ ns) text h m =
-    let both = and_parts (is_name n) (list_all is_name ns) h in
-    by (bytes_eq text n) refl both.0 (among_names ns text both.1) m
-  where
-    by : (b : Bool) → bytes_eq text n ≡ b → is_name n ≡ true → (is_among ns text ≡ true → is_name text ≡ true)
-        → (b || is_among ns text) ≡ true → is_name text ≡ true
-    by true e named later m = ap is_name ((bytes_eq-Decides text n).0 e) ∙ named
-    by false e named later m = later m
-
 -- where one test of each element follows from another, so it does of all
 all_follow : {X : Type 0} (test other : X → Bool) (xs : List X) → ((x : X) → test x ≡ true → other x ≡ true)
     → list_all test xs ≡ true → list_all other xs ≡ true
@@ -90,7 +77,7 @@ known_named ns i (e ∷ es) h known =
     let among = all_pass (λ v. is_among ns (text_of (view v))) e.dependents.now rows.0 in
     let named : waits_for_names e ≡ true =
     all_follow (λ v. is_among ns (text_of (view v))) (λ v. is_name (text_of (view v))) e.dependents.now
-    (λ v. among_names ns (text_of (view v)) h) among in
+    (λ v. among_passes is_name ns (text_of (view v)) h) among in
     ap (λ b. cond (not b) (Some i) (position_from (λ e. not (waits_for_names e)) (i + 1) es)) named
     ∙ known_named ns (i + 1) es h rows.1
 

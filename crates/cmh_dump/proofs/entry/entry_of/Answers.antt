@@ -4,10 +4,9 @@ use Rattle.serde_json.specs.View.{view}
 use Rattle.cmh_dump.specs.Name.{is_name}
 use Rattle.cmh_dump.specs.Read.{entry_view}
 use Rattle.cmh_dump.specs.Tree.{text_of}
-use Rattle.cmh_dump.proofs.Keys.{allowed_is}
 use Rattle.cmh_dump.proofs.Trees.{map-map}
-use Rattle.cmh_dump.proofs.EntryLemmas.{needed, allowed, no_dependents, no_name, another_key, accepted}
-use Rattle.cmh_dump.proofs.entry.entry_of.Goals.{else-has_names-via-then-has_names+else-has_allowed, else-has_names-via-else-has_names}
+use Rattle.cmh_dump.proofs.EntryLemmas.{no_dependents, no_name, other_found, none_found, another_key, accepted}
+use Rattle.cmh_dump.proofs.entry.entry_of.Goals.{else-has_names-via-then-has_names+else-has_no_other, else-has_names-via-else-has_names}
 use Rattle.cmh_dump.proofs.entry.entry_of.Goals as goal
 
 pub returns-in_err-dependents : goal.returns-in_err-dependents
@@ -15,8 +14,8 @@ returns-in_err-dependents c =
     ap (option_map entry_view) c.from_residual-in_err-dependents.ensures
     ∙ no_dependents (view c.args.process.now) c.in_err-dependents.ensures
 
-pub returns-then-has_allowed : goal.returns-then-has_allowed
-returns-then-has_allowed c =
+pub returns-then-has_no_other : goal.returns-then-has_no_other
+returns-then-has_no_other c =
     let d = view c.args.process.now in
     (λ i. Some (record {
       name = c.text_at.result.now;
@@ -29,17 +28,17 @@ returns-then-has_allowed c =
     c.text_at.ensures c.text_at-2.ensures c.in_ok-state.ensures c.in_ok-dependents.ensures
     (c.has_names.ensures ∙ (λ i. is_name (c.text_at.ensures i) && is_name (c.text_at-2.ensures i)))
     c.if-has_names.true
-    (sym (allowed_is needed allowed c.in_ok-members.members.now.entries view d c.has_allowed.result
-    c.has_allowed.ensures c.in_ok-members.ensures) ∙ c.if-has_allowed.true)
+    (λ own. none_found d c.in_ok-members.members.now.entries view c.in_ok-members.ensures c.in_ok-state.state
+    c.has_no_other.result c.has_no_other.ensures own c.if-has_no_other.true)
 
 pub returns-else-has_names : goal.returns-else-has_names
 returns-else-has_names c =
     let d = view c.args.process.now in
     elim c.else-has_names.branch [
-      | else-has_names-via-then-has_names+else-has_allowed w ↦
+      | else-has_names-via-then-has_names+else-has_no_other w ↦
           another_key d
-          (sym (allowed_is needed allowed c.in_ok-members.members.now.entries view d w.has_allowed.result
-          w.has_allowed.ensures c.in_ok-members.ensures) ∙ w.if-has_allowed.false)
+          (other_found d c.in_ok-members.members.now.entries view c.in_ok-members.ensures c.in_ok-state.state
+          w.has_no_other.result w.has_no_other.ensures w.if-has_no_other.false)
       | else-has_names-via-else-has_names w ↦
           no_name d c.has_names.result
           (c.has_names.ensures ∙ (λ i. is_name (c.text_at.ensures i) && is_name (c.text_at-2.ensures i)))
