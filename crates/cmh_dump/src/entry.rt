@@ -37,9 +37,10 @@ fn state_of(process: &Value) -> Option<State>
     ensures { result ≡ (if has_state (codes "active") (view process.now) then Some Active
         else (if has_state (codes "idle") (view process.now) then Some Idle else None)) }
 {
-    if has_state(process, "active") {
+    let word = text_at(process, "state");
+    if word == "active" {
         Some(State::Active)
-    } else if has_state(process, "idle") {
+    } else if word == "idle" {
         Some(State::Idle)
     } else {
         None
