@@ -99,7 +99,8 @@ impl Board {
         requires sits { SitsAt self.now seat.old × SitsAt self.now other }
         requires away { IsAway seat.old × IsAway other }
         ensures sits { SitsAt self.now seat.new × IsAway seat.new }
-        ensures joined { board_view seat.new ≡ joined_view (board_view seat.old) (board_view other) }
+        ensures joined { board_view seat.new
+            ≡ joined_view (board_view seat.old) (board_view other) }
         ensures begins { StartsWith (board_view seat.new).seen (board_view seat.old).seen
             × StartsWith (board_view seat.new).seen (board_view other).seen }
         ensures few { (board_view seat.new).lock.share ≤ MAX_SEATS }
@@ -232,13 +233,16 @@ impl Board {
         requires away { IsAway seat.old }
         ensures sits { SitsAt self.now seat.new × IsAway seat.new }
         ensures sees { SeesMore (board_view seat.old) (board_view seat.new) }
-        ensures tried { IfOk result (λ snap. TriesOnce (board_view seat.old) (board_view seat.new)) }
+        ensures tried { IfOk result (λ snap.
+            TriesOnce (board_view seat.old) (board_view seat.new)) }
         ensures read { IfOk result (λ snap. IsRead (board_view seat.old) (board_view seat.new)) }
         ensures shows { IfOk result (λ snap. (p : ℕ)
             → verdict_at snap p ≡ fold_at (board_view seat.new).seen p) }
-        ensures true_verdicts { IfOk result (λ snap. (p : ℕ) (v : Verdict) → verdict_at snap p ≡ Some v
+        ensures true_verdicts { IfOk result (λ snap.
+            (p : ℕ) (v : Verdict) → verdict_at snap p ≡ Some v
             → IsVerdict (board_graph self.now) p v) }
-        ensures fault { IfErr result (ExplainsReadFault (board_view seat.old) (board_view seat.new)) }
+        ensures fault { IfErr result
+            (ExplainsReadFault (board_view seat.old) (board_view seat.new)) }
     {
         let mut verdicts = Vec::with_capacity(alloc, self.processes as usize)?;
         if let Entry::Busy(found) = self.hold(seat) {
@@ -255,10 +259,12 @@ impl Board {
         requires away { IsAway seat.old }
         ensures sits { SitsAt self.now seat.new × IsAway seat.new }
         ensures sees { SeesMore (board_view seat.old) (board_view seat.new) }
-        ensures tried { IfOk result (λ rows. TriesOnce (board_view seat.old) (board_view seat.new)) }
+        ensures tried { IfOk result (λ rows.
+            TriesOnce (board_view seat.old) (board_view seat.new)) }
         ensures read { IfOk result (λ rows. IsRead (board_view seat.old) (board_view seat.new)) }
         ensures whole { IfOk result (λ rows. rows.items ≡ (board_view seat.new).seen) }
-        ensures fault { IfErr result (ExplainsReadFault (board_view seat.old) (board_view seat.new)) }
+        ensures fault { IfErr result
+            (ExplainsReadFault (board_view seat.old) (board_view seat.new)) }
     {
         let mut rows = Vec::with_capacity(alloc, self.processes as usize)?;
         if let Entry::Busy(found) = self.hold(seat) {

@@ -89,7 +89,8 @@ fn is_unposted(words: &RwWords, seat: &mut RwSeat, p: u32) -> bool
     requires process { p < MAX_PROCESSES }
     ensures own { IsSeatOf words.now seat.new }
     ensures loads { OnlyLoads (rw_view seat.old) (rw_view seat.new) }
-    ensures answer { result ≡ is_none (fold_at ((rw_view seat.old).seen ++ (rw_view seat.old).told) p) }
+    ensures answer { result
+        ≡ is_none (fold_at ((rw_view seat.old).seen ++ (rw_view seat.old).told) p) }
 {
     words.load(seat, FIRST_VERDICT + p as usize) == 0
 }

@@ -94,7 +94,8 @@ fn top_command<'a>(alloc: Global) -> Command<'a>
 /// The command with what the help says of it.
 fn describe<'a>(command: Command<'a>, about: &'a str, after: &'a str) -> Command<'a>
     ensures app { app_of result ≡ app_of command.entry }
-    ensures required { (out-Command result).subcommand_required ≡ (out-Command command.entry).subcommand_required }
+    ensures required { (out-Command result).subcommand_required
+        ≡ (out-Command command.entry).subcommand_required }
     ensures local { (out-Command result).has_globals ≡ (out-Command command.entry).has_globals }
 {
     command.about(about).after_help(after)

@@ -2,7 +2,7 @@
 
 ghost use Rattle.std.specs.Prelude.{◌≡◌, ◌<◌, ◌^◌, ℕ, length, map, Some, None, IfOk, IfErr, OnOk, if◌then◌else◌};
 ghost use Rattle.cmh_dump.specs.Index.{first_repeat};
-ghost use Rattle.cmh_dump.specs.Name.{is_among, place_of as place_of_lem};
+ghost use Rattle.cmh_dump.specs.Name.{is_among, place_of};
 ghost use Rattle.cmh_dump.specs.Places.{first_unknown};
 ghost use Rattle.cmh_dump.specs.Texts.{texts};
 ghost use Rattle.cmh_dump.specs.Tree.{text_of};
@@ -78,7 +78,7 @@ pub(crate) fn index_of<'v>(
 /// The place of a name.
 pub(crate) fn place_in(index: &IndexSet<&str>, name: &str) -> Option<usize>
     ensures { result ≡ (if is_among (texts index.now.keys) name.now
-        then Some (place_of_lem (texts index.now.keys) name.now) else None) }
+        then Some (place_of (texts index.now.keys) name.now) else None) }
 {
     index.get_index_of(name)
 }
@@ -93,7 +93,7 @@ pub(crate) fn is_known(index: &IndexSet<&str>, name: &str) -> bool
 /// The place of a name, or the number of names where it is none of them.
 pub(crate) fn place_of(index: &IndexSet<&str>, name: &str) -> u32
     requires { length (texts index.now.keys) < 2 ^ 32 }
-    ensures { result ≡ place_of_lem (texts index.now.keys) name.now }
+    ensures { result ≡ place_of (texts index.now.keys) name.now }
 {
     match place_in(index, name) {
         Some(place) => place as u32,
@@ -111,7 +111,7 @@ pub(crate) fn places_of(
     requires { length (texts index.now.keys) < 2 ^ 32 }
     ensures known { OnOk result (first_unknown (texts index.now.keys) values.now ≡ None) }
     ensures places { IfOk result (λ places. places.items
-        ≡ map (λ v. place_of_lem (texts index.now.keys) (text_of (view v))) values.now) }
+        ≡ map (λ v. place_of (texts index.now.keys) (text_of (view v))) values.now) }
     ensures unknown { IfErr result (λ e. (j : ℕ) → e ≡ PlaceFault.Unknown j
         → first_unknown (texts index.now.keys) values.now ≡ Some j) }
 {

@@ -93,7 +93,8 @@ pub(crate) fn read_processes<'v>(
     alloc: Global,
     tree: &'v Value,
 ) -> Result<Vec<Entry<'v>>, DumpFault>
-    ensures left { IfOk result (λ v. first_of (holds (view tree.now)) (process_faults (view tree.now))
+    ensures left { IfOk result (λ v.
+        first_of (holds (view tree.now)) (process_faults (view tree.now))
         ≡ option_map BadProcess (first_ill_named v.items)) }
     ensures refused { IfErr result (λ e. e ≢ DumpFault.Memory
         → first_of (holds (view tree.now)) (process_faults (view tree.now)) ≡ Some e) }

@@ -140,7 +140,8 @@ fn is_one_of(key: &str, words: &[&str]) -> bool
 }
 
 fn is_allowed(key: &str, needed: &[&str], allowed: &[&str]) -> bool
-    ensures { result ≡ (is_among (texts needed.now) key.now || is_among (texts allowed.now) key.now) }
+    ensures { result ≡ (is_among (texts needed.now) key.now
+        || is_among (texts allowed.now) key.now) }
 {
     is_one_of(key, needed) || is_one_of(key, allowed)
 }

@@ -61,7 +61,8 @@ impl WaitGraph {
         parts: Vec<Part>,
         in_transit: &[(u32, u32)],
     ) -> Result<WaitGraph, GraphFault>
-        ensures ok { IfOk result (λ g. (g ≡ parts_graph parts.items in_transit.now) × IsWellFormed g) }
+        ensures ok { IfOk result (λ g.
+            (g ≡ parts_graph parts.items in_transit.now) × IsWellFormed g) }
         ensures fault { IfErr result (λ e.
             (e ≡ GraphFault.Memory) ⊎ IsFirstGraphFault (parts_graph parts.items in_transit.now) e) }
     {
@@ -422,7 +423,8 @@ impl WaitGraph {
     ) -> Result<Vec<bool>, AllocError>
         requires within { p < process_count self.now }
         requires spreads { SpreadsFrom self.now p marks.items (p ∷ []) }
-        ensures marks { IfOk result (λ all. all.items ≡ map (reaches self.now p) (indices self.now)) }
+        ensures marks { IfOk result (λ all.
+            all.items ≡ map (reaches self.now p) (indices self.now)) }
         ensures few { process_count self.now ≤ MAX_PROCESSES }
     {
         self.has_no_fault();

@@ -27,7 +27,8 @@ pub fn law_reach()
 
 /// The test of deadlock says that the process is idle and reaches no awake one.
 pub fn law_verdict()
-    ensures { (g : Graph) (p : ℕ) → IsWithinGraph g → IsTrue (is_deadlocked g p) ↔ IsDeadlocked g p }
+    ensures { (g : Graph) (p : ℕ) → IsWithinGraph g
+        → IsTrue (is_deadlocked g p) ↔ IsDeadlocked g p }
 {}
 
 /// The chosen path is a shortest one to an awake process, and of these the least. No other path is.

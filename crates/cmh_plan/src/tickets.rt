@@ -60,8 +60,10 @@ impl Tickets {
     pub fn split(&self, seat: &mut TicketSeat) -> Option<TicketSeat>
         requires own { IsTicketSeatOf self.now seat.old }
         ensures own { IsTicketSeatOf self.now seat.new }
-        ensures new { IfSome result (λ s. IsTicketSeatOf self.now s × (ticket_view s ≡ ticket_newcomer (ticket_view seat.old))) }
-        ensures less { IfSome result (λ s. ticket_view seat.new ≡ ticket_less_one (ticket_view seat.old)) }
+        ensures new { IfSome result (λ s.
+            IsTicketSeatOf self.now s × (ticket_view s ≡ ticket_newcomer (ticket_view seat.old))) }
+        ensures less { IfSome result (λ s.
+            ticket_view seat.new ≡ ticket_less_one (ticket_view seat.old)) }
         ensures some { IfSome result (λ s. 1 < (ticket_view seat.old).share) }
         ensures none { IfNone result (seat.new ≡ seat.old × ((ticket_view seat.old).share ≡ 1)) }
     {
@@ -81,8 +83,10 @@ impl Tickets {
     pub fn join(&self, seat: &mut TicketSeat, other: TicketSeat)
         requires own { IsTicketSeatOf self.now seat.old × IsTicketSeatOf self.now other }
         ensures own { IsTicketSeatOf self.now seat.new }
-        ensures both { ticket_view seat.new ≡ joined_views (ticket_view seat.old) (ticket_view other) }
-        ensures all { (ticket_view seat.new).done ≡ true → (ticket_view seat.new).share ≡ MAX_WORKERS
+        ensures both { ticket_view seat.new
+            ≡ joined_views (ticket_view seat.old) (ticket_view other) }
+        ensures all { (ticket_view seat.new).done ≡ true
+            → (ticket_view seat.new).share ≡ MAX_WORKERS
             → DrewAll (ticket_view seat.new) }
     {
         let share = seat.share + other.share;
@@ -104,11 +108,13 @@ impl Tickets {
         ensures own { IsTicketSeatOf self.now seat.new }
         ensures within { IfSome result (λ n. n < chunk_count self.now) }
         ensures few { IfSome result (λ n. length (ticket_view seat.old).drawn ≤ n) }
-        ensures some { IfSome result (λ n. ticket_view seat.new ≡ with_drawn (ticket_view seat.old) n) }
+        ensures some { IfSome result (λ n.
+            ticket_view seat.new ≡ with_drawn (ticket_view seat.old) n) }
         ensures none { IfNone result
             (ticket_view seat.new ≡ record (ticket_view seat.old) { done = true }) }
         ensures after { (ticket_view seat.old).done ≡ true → IsNone result × (seat.new ≡ seat.old) }
-        ensures all { IfNone result ((ticket_view seat.new).share ≡ MAX_WORKERS → DrewAll (ticket_view seat.new)) }
+        ensures all { IfNone result ((ticket_view seat.new).share ≡ MAX_WORKERS
+            → DrewAll (ticket_view seat.new)) }
     {
         if seat.done {
             return None;

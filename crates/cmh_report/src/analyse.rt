@@ -34,7 +34,8 @@ fn run_analysis<R: Threads + Wait + Sync, G: Gate>(
     plan: &Plan,
     gate: &G,
 ) -> Result<Analysis<RunLog<NoLog, BriefList>, BriefList>, AppFault>
-    ensures analysis { IfOk result (IsSomeAnalysisOf ⟦<BriefList as ProcessList>⟧.processes graph.now) }
+    ensures analysis { IfOk result
+        (IsSomeAnalysisOf ⟦<BriefList as ProcessList>⟧.processes graph.now) }
     ensures memory { IfErr result (λ e. e ≡ AppFault.Work WorkFault.Memory) }
 {
     Ok(analyse_with(rt, alloc, graph, plan, gate)?)
@@ -106,7 +107,8 @@ pub fn analyse_bytes<R: Threads + Wait + Sync, S: Source, K: Sink, G: Gate>(
     ensures answer { IfOk result (λ deadlocked. IsAnswer (IsCountedReport deadlocked)
         (S.state source.old) (S.state source.new) (K.state sink.old) (K.state sink.new)) }
 
-    ensures memory { IfErr result (λ e. (fault : WorkFault) → e ≡ AppFault.Work fault → fault ≡ WorkFault.Memory) }
+    ensures memory { IfErr result (λ e.
+        (fault : WorkFault) → e ≡ AppFault.Work fault → fault ≡ WorkFault.Memory) }
     ensures nobody { IfErr result (λ e. IfNoSuchProcess e ⊥) }
     ensures no_run { IfErr result (λ e. IfRun e (λ _. ⊥)) }
     ensures cut_short { IfErr result (λ e. IfWriteFault e (IsCutShort IsReport

@@ -2,7 +2,7 @@
 
 ghost use Rattle.std.specs.Prelude.{◌≡◌, ◌<◌, ◌^◌, Option, Some};
 ghost use Rattle.cmh_graph.specs.declared.verdict.Verdict.{Verdict};
-ghost use Rattle.cmh_rw.specs.History.{row_code, row_of, verdict_code as verdict_code_lem};
+ghost use Rattle.cmh_rw.specs.History.{row_code, row_of, verdict_code};
 
 use cmh_graph::Verdict;
 
@@ -42,7 +42,7 @@ impl Row {
 
 /// The word that a verdict is stored as.
 pub(crate) fn verdict_code(verdict: Verdict) -> u64
-    ensures { result ≡ verdict_code_lem (Some verdict) }
+    ensures { result ≡ verdict_code (Some verdict) }
 {
     match verdict {
         Verdict::Deadlocked => 1,
@@ -52,7 +52,7 @@ pub(crate) fn verdict_code(verdict: Verdict) -> u64
 
 /// The verdict that a word stands for, or none where none is stored.
 pub fn verdict_from_code(code: u64) -> Option<Verdict>
-    ensures { (verdict : Option Verdict) → code ≡ verdict_code_lem verdict → result ≡ verdict }
+    ensures { (verdict : Option Verdict) → code ≡ verdict_code verdict → result ≡ verdict }
 {
     match code {
         0 => None,

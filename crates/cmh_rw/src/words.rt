@@ -85,7 +85,8 @@ impl RwWords {
         requires own { IsSeatOf self.now seat.old }
         requires away { IsRwSeatAway seat.old }
         ensures own { IsSeatOf self.now seat.new }
-        ensures some { IfSome result (λ s. IsSeatOf self.now s × (rw_view s ≡ newcomer_view (rw_view seat.old))
+        ensures some { IfSome result (λ s.
+            IsSeatOf self.now s × (rw_view s ≡ newcomer_view (rw_view seat.old))
             × (rw_view seat.new ≡ view_less_one (rw_view seat.old)) × (1 < (rw_view seat.old).lock.share)) }
         ensures none { IfNone result ((rw_view seat.new ≡ rw_view seat.old)
             × ((rw_view seat.old).lock.share ≡ 1)) }
@@ -157,7 +158,8 @@ impl RwWords {
         requires own { IsSeatOf self.now seat.old }
         requires away { IsRwSeatAway seat.old }
         ensures own { IsSeatOf self.now seat.new }
-        ensures held { result ≡ Entry.Held → (rw_view seat.new ≡ view_after_try (rw_view seat.old) Writing 0)
+        ensures held { result ≡ Entry.Held
+            → (rw_view seat.new ≡ view_after_try (rw_view seat.old) Writing 0)
             × ((rw_view seat.old).staged ≡ []) × ((rw_view seat.old).told ≡ []) }
         ensures busy { (n : ℕ) → result ≡ Entry.Busy n → (0 < n)
             × (rw_view seat.new ≡ view_after_try (rw_view seat.old) Away n) }

@@ -69,7 +69,8 @@ impl<'a> GroupLines<'a> {
     /// The lines of the groups of these leaders.
     pub(crate) fn text_of(&mut self, alloc: Global, chunk: &[u32]) -> Result<Pieces, AllocError>
         requires { All (Contains (leaders self.old)) chunk.now }
-        ensures { IfOk result (λ text. text ≡ flat_map (λ p. line (group_line self.old p)) chunk.now) }
+        ensures { IfOk result (λ text.
+            text ≡ flat_map (λ p. line (group_line self.old p)) chunk.now) }
     {
         let mut text = BackwardText::new(alloc);
         for n in (0..chunk.len()).rev() {

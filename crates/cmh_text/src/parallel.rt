@@ -67,7 +67,8 @@ pub(crate) fn group_lines<R: Threads + Sync>(
         .with_min_len(1)
         .map(
             |chunk: &[u32]| -> Result<Pieces, AllocError>
-                requires { AreGroupsOf graph.now groups.now × IfSome shared.now (IsLeaderReachOf graph.now)
+                requires { AreGroupsOf graph.now groups.now
+                    × IfSome shared.now (IsLeaderReachOf graph.now)
                     × All (Contains (leaders graph.now)) chunk.now }
                 ensures { IfOk result (λ text. text
                     ≡ flat_map (λ p. line (group_line graph.entry.now p)) chunk.now) }

@@ -52,7 +52,8 @@ impl<'a> ProcessLines<'a> {
     /// The lines of these idle processes.
     pub(crate) fn text_of(&mut self, alloc: Global, chunk: &[u32]) -> Result<Pieces, AllocError>
         requires { All (λ p. IsTrue (is_idle self.old p)) chunk.now }
-        ensures { IfOk result (λ text. text ≡ flat_map (λ p. line (process_line self.old p)) chunk.now) }
+        ensures { IfOk result (λ text.
+            text ≡ flat_map (λ p. line (process_line self.old p)) chunk.now) }
     {
         let mut text = BackwardText::new(alloc);
         for n in (0..chunk.len()).rev() {

@@ -97,7 +97,8 @@ pub fn analyse_with<
 
 /// Tickets for the chunks of the plan, of which there is one more than cuts.
 fn open_tickets(alloc: Global, plan: &Plan) -> Result<(Tickets, TicketSeat), AllocError>
-    ensures { IfOk result (λ r. IsTicketSeatOf r.0 r.1 × (chunk_count r.0 ≡ length plan.now.cuts + 1)
+    ensures { IfOk result (λ r.
+        IsTicketSeatOf r.0 r.1 × (chunk_count r.0 ≡ length plan.now.cuts + 1)
         × (ticket_view r.1 ≡ ticket_opening_view (length plan.now.cuts + 1))) }
 {
     let chunks = plan.cuts().len() as u32 + 1;

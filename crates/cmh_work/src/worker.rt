@@ -55,7 +55,8 @@ impl<'a> Worker<'a> {
     fn run_of<L: Log>(&mut self, alloc: Global, initiator: u32) -> Result<RunLog<L>, AllocError>
         requires idle { IsTrue (is_idle self.old.job.graph.now initiator) }
         ensures on { GoesOn self.old self.new }
-        ensures sees { SeesMore (board_view self.old.seats.board) (board_view self.new.seats.board) }
+        ensures sees { SeesMore
+            (board_view self.old.seats.board) (board_view self.new.seats.board) }
         ensures run { IfOk result (λ r. IsRunFor
             self.old.job.graph.now self.old.job.plan.now.choices initiator (verdict_of r.ending) r) }
         ensures truth { IfOk result (TellsTruth self.old.job.graph.now) }

@@ -38,9 +38,11 @@ fn concat_findings<L: Log, E: ProcessList, P: ProcessList>(
 fn split_off(shared: &Shared, seats: &mut Seats) -> Option<Seats>
     requires sit { AreSeated shared.now seats.old }
     requires new { AreNew seats.old }
-    requires share { (board_view seats.old.board).lock.share ≡ (ticket_view seats.old.tickets).share }
+    requires share { (board_view seats.old.board).lock.share
+        ≡ (ticket_view seats.old.tickets).share }
     ensures sit { AreSeated shared.now seats.new × AreNew seats.new }
-    ensures share { (board_view seats.new.board).lock.share ≡ (ticket_view seats.new.tickets).share }
+    ensures share { (board_view seats.new.board).lock.share
+        ≡ (ticket_view seats.new.tickets).share }
     ensures new { IfSome result (λ s. AreSeated shared.now s × AreNew s
         × ((board_view s.board).lock.share ≡ 1) × ((ticket_view s.tickets).share ≡ 1)) }
     ensures less { IfSome result (λ s.
@@ -112,7 +114,8 @@ pub(crate) fn workers<
         || -> (Seats, Result<Vec<Finding<RunLog<L, E>, P>>, AllocError>)
             requires { IsSync R.row × IsMadeFor graph.now plan.now shared.now
                 × AreSeated shared.now next × AreNew next }
-            ensures { AreBack shared.entry.now next result.0 × IfOk result.1 (λ found. IsWorked P.processes
+            ensures { AreBack shared.entry.now next result.0
+                × IfOk result.1 (λ found. IsWorked P.processes
                 graph.entry.now plan.entry.now shared.entry.now result.0 found.items) }
         { work(rt, alloc, graph, plan, shared, gate, next) },
         || -> (Seats, Result<Vec<Finding<RunLog<L, E>, P>>, AllocError>)
@@ -120,7 +123,8 @@ pub(crate) fn workers<
                 × AreSeated shared.now left
                 × ((board_view left.board).lock.share ≡ (ticket_view left.tickets).share)
                 × AreNew left × (fewer < (ticket_view left.tickets).share) }
-            ensures { AreBack shared.entry.now left result.0 × IfOk result.1 (λ found. IsWorked P.processes
+            ensures { AreBack shared.entry.now left result.0
+                × IfOk result.1 (λ found. IsWorked P.processes
                 graph.entry.now plan.entry.now shared.entry.now result.0 found.items) }
         { workers(rt, alloc, graph, plan, shared, gate, left, fewer) },
     );
