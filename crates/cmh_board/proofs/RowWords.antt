@@ -1,5 +1,5 @@
 -- Rows that are read back from their words.
-use Rattle.std.proofs.Common.{◌≡◌, ℕ, zero, suc, ◌+◌, ◌<◌, ◌≤◌, ◌^◌, List, [], ◌∷◌, ◌++◌, length, map, get_or, take, refl, sym, ◌∙◌, ap, arith, Some, None, slice_get}
+use Rattle.std.proofs.Common.{◌≡◌, ℕ, zero, suc, ◌+◌, ◌<◌, ◌≤◌, List, [], ◌∷◌, ◌++◌, length, map, get_or, take, refl, sym, ◌∙◌, ap, arith, Some, None, slice_get}
 use Rattle.std.specs.Prelude.{Option}
 use Rattle.std.specs.List.{range_with_len}
 use Rattle.std.proofs.lemmas.Bool.{cases_lt}
@@ -13,7 +13,7 @@ use Rattle.cmh_graph.specs.Graph.{Graph, process_count, IsWithinGraph}
 use Rattle.cmh_graph.specs.Verdict.{IsVerdict}
 use Rattle.cmh_graph.proofs.Verdicts.{idle_within, verdict_true}
 use Rattle.cmh_rw.specs.declared.row.Row.{Row}
-use Rattle.cmh_rw.specs.History.{row_code, row_of, fold_at, IsTrueOf}
+use Rattle.cmh_rw.specs.History.{row_code, row_of, row_words, fold_at, IsTrueOf}
 use Rattle.cmh_rw.proofs.Codes.{bit-small, free_bit-small, row_code_law}
 use Rattle.cmh_rw.proofs.Folds.{true-few, true-idle}
 use Rattle.cmh_board.specs.Snap.{verdict_at}
@@ -24,13 +24,13 @@ pub row_within : (g : Graph) (rows : List Row) (n : ℕ) → IsTrueOf g rows →
 row_within g rows n t l = omega (arith, true-few g rows t)
 
 -- the word of a row is small
-code_small : (r : Row) → r.process < MAX_PROCESSES → row_code r < 2 ^ 34
+code_small : (r : Row) → r.process < MAX_PROCESSES → row_code r < row_words
 code_small r l = omega (arith, bit-small r.last, free_bit-small r.verdict)
 
 -- the word of each true row is small
 pub codes_small : (g : Graph) (rows : List Row) (n : ℕ) → process_count g ≤ MAX_PROCESSES → IsTrueOf g rows
     → n < length rows
-    → get_or (map row_code rows) n 0 < 2 ^ 34
+    → get_or (map row_code rows) n 0 < row_words
 codes_small g [] n few t l = absurd (omega arith)
 codes_small g (r ∷ rs) zero few t l = let there = idle_within g r.process t.0 in code_small r (omega arith)
 codes_small g (r ∷ rs) (suc n) few t l = codes_small g rs n few t.3 (omega arith)

@@ -1,5 +1,5 @@
 -- The history of verdicts: rows, postings, and what a history says of each process.
-use Rattle.std.specs.Prelude.{◌≡◌, ℕ, ◌+◌, ◌*◌, ◌/◌, ◌%◌, ◌≤◌, ◌==◌, Bool, true, false, if◌then◌else◌, IsTrue, Option, Some, None, List, [], ◌∷◌, ◌++◌}
+use Rattle.std.specs.Prelude.{◌≡◌, ℕ, ◌+◌, ◌*◌, ◌/◌, ◌%◌, ◌^◌, ◌≤◌, ◌==◌, Bool, true, false, if◌then◌else◌, IsTrue, Option, Some, None, List, [], ◌∷◌, ◌++◌}
 use Rattle.cmh_graph.specs.declared.TheConstants.{MAX_PROCESSES}
 use Rattle.cmh_graph.specs.declared.verdict.Verdict.{Verdict}
 use Rattle.cmh_graph.specs.declared.verdict.Verdict.TheVariants.{Deadlocked, Free}
@@ -20,6 +20,10 @@ free_bit Free = 1
 -- the word that a row is stored as
 abbrev pub row_code : Row → ℕ
 row_code r = 4 * r.process + 2 * bit r.last + free_bit r.verdict
+
+-- how many words may stand for rows: four for each number that a process may have
+abbrev pub row_words : ℕ
+row_words = 4 * 2 ^ 32
 
 -- the row that is stored as this word
 abbrev pub row_of : ℕ → Row

@@ -1,8 +1,8 @@
 //! Rows and verdicts as words, and back.
 
-ghost use Rattle.std.specs.Prelude.{◌≡◌, ◌<◌, ◌^◌, Option, Some};
+ghost use Rattle.std.specs.Prelude.{◌≡◌, ◌<◌, Option, Some};
 ghost use Rattle.cmh_graph.specs.declared.verdict.Verdict.{Verdict};
-ghost use Rattle.cmh_rw.specs.History.{row_code, row_of, verdict_code};
+ghost use Rattle.cmh_rw.specs.History.{row_code, row_of, row_words, verdict_code};
 
 use cmh_graph::Verdict;
 
@@ -25,7 +25,7 @@ impl Row {
 
     /// The row that a word stands for.
     pub fn from_code(code: u64) -> Row
-        requires { code < 2 ^ 34 }
+        requires { code < row_words }
         ensures { result ≡ row_of code }
     {
         Row {

@@ -1,4 +1,5 @@
 use Rattle.std.proofs.Common.{◌<◌, ◌≤◌, arith, subst, ap, ◌∙◌, sym, length, refl, Some}
+use Rattle.cmh_graph.specs.declared.TheConstants.{MAX_PROCESSES}
 use Rattle.cmh_rw.specs.History.{IsTrueOf}
 use Rattle.cmh_rw.specs.Seats.{rw_view}
 use Rattle.cmh_board.specs.Board.{board_view, board_graph}
@@ -33,7 +34,7 @@ from_code-requires c =
     let code = told.row c.args.n refl there in
     let small =
     codes_small (board_graph c.args.self.now) seen c.args.n
-    (subst (λ n. n ≤ 4096) c.args.self.now.counted c.args.self.now.small) true_of there in
+    (subst (λ n. n ≤ MAX_PROCESSES) c.args.self.now.counted c.args.self.now.small) true_of there in
     omega arith
 
 pub returns-clause-row : goal.returns-clause-row
