@@ -1,5 +1,5 @@
 -- Names put into an index one after the other.
-use Rattle.std.proofs.Common.{◌≡◌, ℕ, zero, suc, ◌+◌, ◌<◌, ◌≤◌, List, [], ◌∷◌, ◌++◌, Bool, true, false, not, ◌||◌, cond, Some, None, take, length, get_or, nat_lt, refl, sym, ap, ◌∙◌, arith, Bor, below_more}
+use Rattle.std.proofs.Common.{◌≡◌, ℕ, zero, suc, ◌+◌, ◌<◌, ◌≤◌, List, [], ◌∷◌, ◌++◌, Bool, true, false, not, ◌||◌, cond, Some, None, take, length, get_or, nat_le, nat_lt, refl, sym, ap, ◌∙◌, arith, Bor, below_more}
 use Rattle.std.specs.Prelude.{bytes_eq, slice_get}
 use Rattle.std.specs.List.{list_any, position_or_len}
 use Rattle.std.proofs.lemmas.List.{get_or-map, take_all}
@@ -97,6 +97,14 @@ place_is_below name (x ∷ xs) = by (bytes_eq name x) (place_is_below name xs)
         → nat_lt (cond (not b) (1 + place_of xs name) 0) (suc (length xs)) ≡ (b || is_among xs name)
     by true e = first_is (length xs)
     by false e = shifted (place_of xs name) (length xs) ∙ e
+
+-- a place is past the names exactly where the name isn't among them
+pub place_is_past : (names : List (List ℕ)) (name : List ℕ)
+    → nat_le (length names) (place_of names name) ≡ not (is_among names name)
+place_is_past names name = past (place_of names name) (length names) ∙ ap not (place_is_below name names)
+  where
+    past : (a b : ℕ) → nat_le b a ≡ not (nat_lt a b)
+    past a b = grind arith
 
 -- the place that the index answers, if any, is that among the texts
 pub place_is : (name : List ℕ) (keys : List (Bor (List ℕ)))

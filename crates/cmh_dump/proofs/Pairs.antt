@@ -1,5 +1,5 @@
 -- Loops over lists and rows: what is left of them decides.
-use Rattle.std.proofs.Common.{◌≡◌, ℕ, zero, suc, ◌+◌, ◌<◌, ◌≤◌, List, [], ◌∷◌, ◌++◌, Bool, true, false, not, ◌&&◌, cond, Option, Some, None, length, get_or, drop, nat_lt, refl, sym, ap, ◌∙◌, arith, add-one, drop-cons}
+use Rattle.std.proofs.Common.{◌≡◌, ℕ, zero, suc, ◌+◌, ◌<◌, ◌≤◌, List, [], ◌∷◌, ◌++◌, Bool, true, false, not, ◌&&◌, cond, Option, Some, None, length, map, get_or, drop, nat_lt, refl, sym, ap, ◌∙◌, arith, add-one, drop-cons}
 use Rattle.std.specs.Prelude.{option_map, position, sum_by, unwrap_or}
 use Rattle.std.specs.List.{list_all, position_from}
 use Rattle.std.specs.Option.{option_or}
@@ -70,6 +70,19 @@ module _ {Y : Type 0} (bad : Y → Bool) (ys : List Y) where
   -- where the first bad element of all is the first of those left, and none are left, there is none
   pub none_left : (i : ℕ) → length ys ≤ i → FirstIsLeft i → position bad ys ≡ None
   none_left i le left = left ∙ ap (position_from bad i) (drop_all ys i le)
+
+-- a search of a list by what a function makes of each element is one of the mapped list
+position_from-map : {Y Z : Type 0} (bad : Z → Bool) (f : Y → Z) (i : ℕ) (ys : List Y)
+    → position_from (λ y. bad (f y)) i ys ≡ position_from bad i (map f ys)
+position_from-map bad f i [] = refl
+position_from-map bad f i (y ∷ ys) =
+    ap (cond (bad (f y)) (Some i)) (position_from-map bad f (i + 1) ys)
+
+pub position-map : {Y Z : Type 0} (bad : Z → Bool) (f : Y → Z) (ys : List Y)
+    → position (λ y. bad (f y)) ys ≡ position bad (map f ys)
+position-map bad f ys =
+    position_from-zero (λ y. bad (f y)) ys ∙ position_from-map bad f 0 ys
+    ∙ sym (position_from-zero bad (map f ys))
 
 -- or none is the same
 pub or_none : {X : Type 0} (o : Option X) → option_or o None ≡ o

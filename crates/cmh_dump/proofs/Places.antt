@@ -1,16 +1,22 @@
 -- Places of names.
-use Rattle.std.proofs.Common.{◌≡◌, ℕ, suc, ◌+◌, ◌<◌, List, [], ◌∷◌, Bool, true, false, not, ◌||◌, cond, Option, Some, None, length, get_or, refl, sym, ap, ◌∙◌, arith}
-use Rattle.std.specs.Prelude.{bytes_eq, unwrap_or}
+use Rattle.std.proofs.Common.{◌≡◌, ℕ, suc, ◌+◌, ◌<◌, List, [], ◌∷◌, Bool, true, false, not, ◌||◌, cond, Option, Some, None, length, get_or, map, nat_le, refl, sym, ap, ◌∙◌, arith}
+use Rattle.std.specs.Prelude.{bytes_eq, position, unwrap_or}
 use Rattle.std.specs.List.{list_all, list_any, position_or_len}
 use Rattle.std.proofs.lemmas.List.Sums.{passes_at_first, prefix_len-le-length}
 use Rattle.std.proofs.lemmas.Slice.Eq.{bytes_eq-Decides}
 use Rattle.std.proofs.lemmas.List.Folds.{list_any_at}
 use Rattle.std.proofs.lemmas.Bool.{false≢true, ltb-false}
 use Rattle.serde_json.specs.Data.{Data}
-use Rattle.cmh_dump.specs.Dump.{places_in_pair}
+use Rattle.cmh_graph.specs.Build.{process_of}
+use Rattle.cmh_graph.specs.Graph.{Process}
+use Rattle.cmh_graph.specs.declared.part.Part.{Part}
+use Rattle.cmh_dump.specs.declared.entry.Entry as declared
+use Rattle.cmh_dump.specs.Dump.{places_in_pair, process_by}
 use Rattle.cmh_dump.specs.Name.{is_among, place_of}
+use Rattle.cmh_dump.specs.Read.{entry_view, without_name}
 use Rattle.cmh_dump.specs.Tree.{texts_of}
-use Rattle.cmh_dump.proofs.IndexLemmas.{place_is_below}
+use Rattle.cmh_dump.proofs.IndexLemmas.{place_is_below, place_is_past}
+use Rattle.cmh_dump.proofs.Pairs.{position-map}
 
 -- the first place of a list that passes a test is within it where one passes
 pub first_within : {X : Type 0} (test : X → Bool) (xs : List X) → list_any test xs ≡ true
@@ -46,6 +52,17 @@ pub differs : (names : List (List ℕ)) (name : List ℕ) (k : ℕ) → is_among
 differs names name k e l s =
     false≢true
     (sym e ∙ list_any_at (bytes_eq name) names k [] l ((bytes_eq-Decides name (get_or names k [])).1 (sym s)))
+
+-- the first part whose site is past the sites is that of the first entry on a site that isn't among them
+pub past_sites : (sites names : List (List ℕ)) (es : List declared.Entry) (parts : List Part)
+    → map process_of parts ≡ map (λ e. without_name (process_by sites names (entry_view e))) es
+    → position (λ part. nat_le (length sites) part.site) parts
+    ≡ position (λ e. not (is_among sites e.site.now)) es
+past_sites sites names es parts made =
+    let past = λ (p : Process). nat_le (length sites) p.site in
+    position-map past process_of parts ∙ ap (position past) made
+    ∙ sym (position-map past (λ e. without_name (process_by sites names (entry_view e))) es)
+    ∙ (λ i. position (λ e. place_is_past sites e.site.now i) es)
 
 -- ---- as an index answers them
 

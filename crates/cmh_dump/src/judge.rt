@@ -1,9 +1,9 @@
 //! The stages in which a tree is judged, each over some kinds of faults.
 
-ghost use Rattle.std.specs.Prelude.{◌≡◌, ◌≢◌, ◌<◌, ◌≤◌, ◌^◌, ◌&&◌, not, true, [], map, option_map, sum_by, length, position, nat_lt, vec_len, Some, IfOk, IfErr};
+ghost use Rattle.std.specs.Prelude.{◌≡◌, ◌≢◌, ◌<◌, ◌≤◌, ◌^◌, ◌&&◌, not, true, [], map, option_map, sum_by, length, position, nat_le, nat_lt, vec_len, Some, None, IfOk, IfErr, OnOk};
 ghost use Rattle.std.specs.List.{list_all};
-ghost use Rattle.std.specs.Option.{option_map_or};
-ghost use Rattle.cmh_dump.specs.declared.fault.DumpFault.TheVariants.{BadProcess};
+ghost use Rattle.std.specs.Option.{option_map_or, option_or};
+ghost use Rattle.cmh_dump.specs.declared.fault.DumpFault.TheVariants.{BadProcess, UnknownSite, UnknownDependent};
 ghost use Rattle.serde_json.specs.Data.{Data};
 ghost use Rattle.serde_json.specs.View.{view};
 ghost use Rattle.cmh_graph.specs.Build.{process_of};
@@ -11,6 +11,7 @@ ghost use Rattle.cmh_graph.specs.Graph.{is_idle_state};
 ghost use Rattle.cmh_dump.specs.Dump.{holds, first_of, is_top, process_by, top_keys, top_faults, site_faults, process_faults, name_faults, entry_faults};
 ghost use Rattle.cmh_dump.specs.Entry.{is_version, sites as tree_sites, entries as tree_entries, names as tree_names};
 ghost use Rattle.cmh_dump.specs.Name.{is_among, is_name};
+ghost use Rattle.cmh_dump.specs.Places.{unknown_dependent};
 ghost use Rattle.cmh_dump.specs.Read.{Judges, entry_view, first_ill_named, without_name};
 ghost use Rattle.cmh_dump.specs.Texts.{texts};
 ghost use Rattle.cmh_dump.specs.Tree.{has_keys};
@@ -154,6 +155,56 @@ fn first_unknown_site(entries: &[Entry<'_>], sites: &IndexSet<&str>) -> Option<u
         .position(|entry| !is_known(sites, entry.site))
 }
 
+/// The place of the first part whose site is past the sites, of which there are `count`.
+fn first_past_sites(parts: &[Part], count: usize) -> Option<usize>
+    ensures { result ≡ position (λ part. nat_le count part.site) parts.now }
+{
+    parts.iter().position(|part| part.site as usize >= count)
+}
+
+/// The fault of the first process on a site that is not among the sites, or else this one, which comes later in order.
+fn first_site_fault(entries: &[Entry<'_>], sites: &IndexSet<&str>, later: DumpFault) -> DumpFault
+    ensures { result ≡ option_map_or UnknownSite (position
+        (λ e. not (is_among (texts sites.now.keys) e.site.now)) entries.now) later }
+{
+    match first_unknown_site(entries, sites) {
+        Some(i) => DumpFault::UnknownSite(i),
+        None => later,
+    }
+}
+
+/// The processes by indices and without their names, or the first unknown site, or else the first unknown dependent. Each
+/// site is looked up once, unless something is refused: an unknown one has the number of sites as its place.
+fn known_parts(
+    alloc: Global,
+    entries: &[Entry<'_>],
+    sites: &IndexSet<&str>,
+    names: &IndexSet<&str>,
+) -> Result<Vec<Part>, DumpFault>
+    requires few_sites { length (texts sites.now.keys) < 2 ^ 32 }
+    requires few_names { length (texts names.now.keys) < 2 ^ 32 }
+    ensures sites { OnOk result (position
+        (λ e. not (is_among (texts sites.now.keys) e.site.now)) entries.now ≡ None) }
+    ensures known { OnOk result (unknown_dependent (texts names.now.keys) entries.now ≡ None) }
+    ensures made { IfOk result (λ parts. map process_of parts.items
+        ≡ map (λ e. without_name (process_by (texts sites.now.keys) (texts names.now.keys)
+        (entry_view e))) entries.now) }
+    ensures unknown { IfErr result (λ e. e ≢ DumpFault.Memory
+        → option_or (option_map UnknownSite (position
+        (λ e. not (is_among (texts sites.now.keys) e.site.now)) entries.now))
+        (option_map (λ p. UnknownDependent p.0 p.1) (unknown_dependent (texts names.now.keys) entries.now))
+        ≡ Some e) }
+{
+    let parts = match parts_of(alloc, entries, sites, names) {
+        Ok(parts) => parts,
+        Err(fault) => return Err(first_site_fault(entries, sites, fault)),
+    };
+    match first_past_sites(&parts, sites.len()) {
+        Some(i) => Err(DumpFault::UnknownSite(i)),
+        None => Ok(parts),
+    }
+}
+
 /// The place of the first active process with dependents.
 fn first_active_with_dependents(entries: &[Entry<'_>]) -> Option<usize>
     ensures { result ≡ position
@@ -193,10 +244,7 @@ pub(crate) fn link_entries(
         ≡ map (λ e. without_name (process_by (texts sites.now.keys) (texts names.now.keys)
         (entry_view e))) entries.now) }
 {
-    if let Some(i) = first_unknown_site(entries, sites) {
-        return Err(DumpFault::UnknownSite(i));
-    }
-    let parts = parts_of(alloc, entries, sites, names)?;
+    let parts = known_parts(alloc, entries, sites, names)?;
     if let Some((i, j)) = first_repeated_dependent(alloc, &parts, names.len())? {
         return Err(DumpFault::RepeatedDependent(i, j));
     }

@@ -1,6 +1,7 @@
 -- What the searches of the processes beside the sites and one another say of their faults.
 use Rattle.std.proofs.Common.{◌≡◌, ◌≢◌, ℕ, zero, suc, List, [], ◌∷◌, Bool, true, false, not, ◌&&◌, cond, Option, Some, None, map, length, get_or, nat_lt, refl, sym, ap, ◌∙◌}
 use Rattle.std.specs.Prelude.{find, position, slice_get, unwrap_or, option_map, sum, sum_by}
+use Rattle.std.specs.Option.{option_map_or, option_or}
 use Rattle.std.proofs.lemmas.List.{length-map}
 use Rattle.std.proofs.lemmas.List.Sums.{sum-map}
 use Rattle.serde_json.specs.Data.{Data, null}
@@ -140,6 +141,17 @@ names_judged d ns seen apart =
 
 -- ---- processes beside the sites and one another
 
+-- an unknown site, or else a fault that names the unknown dependent, out of memory apart, is the first of the two
+pub site_or_dependent : (site : Option ℕ) (dependent : Option (ℕ × ℕ)) (e : DumpFault)
+    → (e ≢ Memory → (i j : ℕ) × (e ≡ UnknownDependent i j) × (dependent ≡ Some (i, j)))
+    → option_map_or UnknownSite site e ≢ Memory
+    → option_or (option_map UnknownSite site) (option_map (λ p. UnknownDependent p.0 p.1) dependent)
+    ≡ Some (option_map_or UnknownSite site e)
+site_or_dependent (Some i) dependent e found other = refl
+site_or_dependent None dependent e found other =
+    let t = found other in
+    ap (option_map (λ p. UnknownDependent p.0 p.1)) t.3 ∙ ap Some (sym t.2)
+
 module _ (d : Data) (es : List declared.Entry) (seen : map entry_view es ≡ entries d)
     (site_names process_names : List (List ℕ)) (are_sites : site_names ≡ sites d)
     (are_names : process_names ≡ names d) where
@@ -172,11 +184,20 @@ module _ (d : Data) (es : List declared.Entry) (seen : map entry_view es ≡ ent
   abbrev from_dependents : List (List DumpFault)
   from_dependents = each_dependent d UnknownDependent ∷ from_repeats
 
-  -- a process on an unknown site is the first fault of the entries
-  pub site_unknown : (i : ℕ) → unknown_site ≡ Some i → first_of (holds d) (entry_faults d) ≡ Some (UnknownSite i)
-  site_unknown i h =
-      first_here (holds d) (each (processes d) UnknownSite) from_dependents _ (UnknownSite i)
-      (unknown_sites d es seen site_names are_sites) (ap (option_map UnknownSite) h)
+  -- what is first of an unknown site and, after these, of an unknown dependent, is the first fault of the entries
+  pub unknown_first : (e : DumpFault) → option_or (option_map UnknownSite unknown_site)
+      (option_map (λ p. UnknownDependent p.0 p.1) unknown_dependent) ≡ Some e
+      → first_of (holds d) (entry_faults d) ≡ Some e
+  unknown_first e h =
+      (λ i. option_or (unknown_sites d es seen site_names are_sites i)
+      (option_or (unknown_dependents d es seen process_names are_names i) (first_of (holds d) from_repeats)))
+      ∙ by (option_map UnknownSite unknown_site) (option_map (λ p. UnknownDependent p.0 p.1) unknown_dependent) h
+    where
+      by : (o p : Option DumpFault) → option_or o p ≡ Some e
+          → option_or o (option_or p (first_of (holds d) from_repeats)) ≡ Some e
+      by None None h = absurd cc
+      by None (Some f) h = h
+      by (Some f) p h = h
 
   -- where all sites are known, the other kinds of faults of the entries decide
   sites_known : (r : Option DumpFault) → unknown_site ≡ None → first_of (holds d) from_dependents ≡ r
@@ -184,23 +205,6 @@ module _ (d : Data) (es : List declared.Entry) (seen : map entry_view es ≡ ent
   sites_known r h later =
       first_later (holds d) (each (processes d) UnknownSite) from_dependents _ r
       (unknown_sites d es seen site_names are_sites) (ap (option_map UnknownSite) h) later
-
-  -- where all sites are known, an unknown dependent is the first fault of the entries
-  dependent_unknown : (i j : ℕ) → unknown_site ≡ None → unknown_dependent ≡ Some (i, j)
-      → first_of (holds d) (entry_faults d) ≡ Some (UnknownDependent i j)
-  dependent_unknown i j h k =
-      sites_known (Some (UnknownDependent i j)) h
-      (first_here (holds d) (each_dependent d UnknownDependent) from_repeats _ (UnknownDependent i j)
-      (unknown_dependents d es seen process_names are_names) (ap (option_map (λ p. UnknownDependent p.0 p.1)) k))
-
-  -- where all sites are known, a fault that names the unknown dependent, out of memory apart, is the first fault of the
-  -- entries
-  pub dependent_found : (e : DumpFault) → unknown_site ≡ None
-      → (e ≢ Memory → (i j : ℕ) × (e ≡ UnknownDependent i j) × (unknown_dependent ≡ Some (i, j))) → e ≢ Memory
-      → first_of (holds d) (entry_faults d) ≡ Some e
-  dependent_found e h found other =
-      let t = found other in
-      dependent_unknown t.0 t.1 h t.3 ∙ ap Some (sym t.2)
 
   -- where all sites and all dependents are known, the kinds after these decide
   dependents_known : (r : Option DumpFault) → unknown_site ≡ None → unknown_dependent ≡ None

@@ -5,7 +5,7 @@ use Rattle.cmh_dump.specs.Places.{first_repeated_place}
 use Rattle.cmh_dump.specs.Read.{first_pair}
 use Rattle.cmh_dump.specs.Texts.{texts}
 use Rattle.cmh_dump.proofs.IndexLemmas.{length-texts}
-use Rattle.cmh_dump.proofs.FirstFault.Entries.{site_unknown, dependent_found, dependent_repeated, active_waits, dependencies_many, entries_judged}
+use Rattle.cmh_dump.proofs.FirstFault.Entries.{unknown_first, dependent_repeated, active_waits, dependencies_many, entries_judged}
 use Rattle.cmh_dump.proofs.RepeatedDependents.{parts_within, pairs_alike}
 use Rattle.cmh_dump.proofs.judge.link_entries.Goals as goal
 
@@ -17,32 +17,26 @@ first_repeated_dependent-requires c =
     ∙ parts_within (texts c.args.names.now.keys) (texts c.args.sites.now.keys) c.args.entries.now
     c.in_ok-parts.parts.items found.known found.made
 
-pub returns-in-Some-clause-judges : goal.returns-in-Some-clause-judges
-returns-in-Some-clause-judges c =
-    λ d seen are_sites are_names _. site_unknown d c.args.entries.now seen (texts c.args.sites.now.keys)
-    (texts c.args.names.now.keys) are_sites are_names c.in-Some.i
-    (sym c.first_unknown_site.ensures ∙ c.in-Some.is)
-
 pub returns-in_err-parts-clause-judges : goal.returns-in_err-parts-clause-judges
 returns-in_err-parts-clause-judges c =
     let p = err_from_is_err_and c.from_residual.result c.from_residual.ensures.1 in
     λ d seen are_sites are_names. rw (p.1, p.2)
-    (dependent_found d c.args.entries.now seen (texts c.args.sites.now.keys) (texts c.args.names.now.keys) are_sites
-    are_names _ (sym c.first_unknown_site.ensures ∙ c.in_default.is) c.in_err-parts.ensures.unknown)
+    (λ m. unknown_first d c.args.entries.now seen (texts c.args.sites.now.keys) (texts c.args.names.now.keys) are_sites
+    are_names _ (c.in_err-parts.ensures.unknown m))
 
-pub returns-in-Some-2-clause-judges : goal.returns-in-Some-2-clause-judges
-returns-in-Some-2-clause-judges c =
+pub returns-in-Some-clause-judges : goal.returns-in-Some-clause-judges
+returns-in-Some-clause-judges c =
     let found = c.in_ok-parts.ensures in
     let alike =
     pairs_alike (texts c.args.names.now.keys) (texts c.args.sites.now.keys) c.args.entries.now c.in_ok-parts.parts.items
     found.known found.made in
     let repeat =
     sym alike ∙ ap (first_pair (λ part. first_repeated_place part.dependents.items) 0) (sym c.deref.ensures.value)
-    ∙ sym c.in_ok-i.ensures ∙ c.in-Some-2.is in
+    ∙ sym c.in_ok-i.ensures ∙ c.in-Some.is in
     λ d seen are_sites are_names _. dependent_repeated d c.args.entries.now seen (texts c.args.sites.now.keys)
     (texts c.args.names.now.keys) are_sites are_names
-    c.in-Some-2.i c.in-Some-2.j
-    (sym c.first_unknown_site.ensures ∙ c.in_default.is)
+    c.in-Some.i c.in-Some.j
+    found.sites
     found.known repeat
 
 pub returns-in-Some-first_active_with_dependents-clause-judges :
@@ -54,11 +48,11 @@ returns-in-Some-first_active_with_dependents-clause-judges c =
     found.known found.made in
     let none =
     sym alike ∙ ap (first_pair (λ part. first_repeated_place part.dependents.items) 0) (sym c.deref.ensures.value)
-    ∙ sym c.in_ok-i.ensures ∙ c.in_default-2.is in
+    ∙ sym c.in_ok-i.ensures ∙ c.in_default.is in
     λ d seen are_sites are_names _. active_waits d c.args.entries.now seen (texts c.args.sites.now.keys)
     (texts c.args.names.now.keys) are_sites are_names
     c.in-Some-first_active_with_dependents.i
-    (sym c.first_unknown_site.ensures ∙ c.in_default.is)
+    found.sites
     found.known none
     (sym c.first_active_with_dependents.ensures ∙ c.in-Some-first_active_with_dependents.is)
 
@@ -70,10 +64,10 @@ returns-then-has_too_many_dependents-clause-judges c =
     found.known found.made in
     let none =
     sym alike ∙ ap (first_pair (λ part. first_repeated_place part.dependents.items) 0) (sym c.deref.ensures.value)
-    ∙ sym c.in_ok-i.ensures ∙ c.in_default-2.is in
+    ∙ sym c.in_ok-i.ensures ∙ c.in_default.is in
     λ d seen are_sites are_names _. dependencies_many d c.args.entries.now seen (texts c.args.sites.now.keys)
     (texts c.args.names.now.keys) are_sites are_names
-    (sym c.first_unknown_site.ensures ∙ c.in_default.is)
+    found.sites
     found.known none
     (sym c.first_active_with_dependents.ensures ∙ c.in_default-first_active_with_dependents.is)
     (sym c.has_too_many_dependents.ensures ∙ c.if-has_too_many_dependents.true)
@@ -86,10 +80,10 @@ returns-clause-judges c =
     found.known found.made in
     let none =
     sym alike ∙ ap (first_pair (λ part. first_repeated_place part.dependents.items) 0) (sym c.deref.ensures.value)
-    ∙ sym c.in_ok-i.ensures ∙ c.in_default-2.is in
+    ∙ sym c.in_ok-i.ensures ∙ c.in_default.is in
     λ d seen are_sites are_names. entries_judged d c.args.entries.now seen (texts c.args.sites.now.keys)
     (texts c.args.names.now.keys) are_sites are_names
-    (sym c.first_unknown_site.ensures ∙ c.in_default.is)
+    found.sites
     found.known none
     (sym c.first_active_with_dependents.ensures ∙ c.in_default-first_active_with_dependents.is)
     (sym c.has_too_many_dependents.ensures ∙ c.if-has_too_many_dependents.false)
