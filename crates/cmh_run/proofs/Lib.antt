@@ -16,6 +16,7 @@ pub mod LogAnswers
 pub mod NextProcesses
 pub mod OneComputation
 pub mod Paths
+pub mod PendingLemmas
 pub mod Places
 pub mod ProgressLemmas
 pub mod QueryLemmas

@@ -12,6 +12,7 @@ pub mod ScriptProofs
 pub mod Step
 -- the words of private functions
 pub mod CheckState
+pub mod Pending
 pub mod Procs
 pub mod Progress
 -- what passes on words of other files

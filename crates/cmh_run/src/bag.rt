@@ -14,7 +14,7 @@ use std::marker::Model;
 
 /// A bag with this number of messages makes room for all that one computation of any graph can have undelivered. Memory
 /// that a growing bag leaves behind is lost to its thread, so it grows in few steps.
-const FEW: usize = 4_096;
+pub(crate) const FEW: usize = 4_096;
 
 /// The undelivered messages, in the order in which they were sent.
 #[derive(Clone, Debug, Drop)]
@@ -194,7 +194,7 @@ impl Bag {
     /// Puts the message that the choice names before the others. It stands apart, so that the loop of a run has the first
     /// message's way alone in it.
     #[inline(never)]
-    fn bring_to_front(&mut self, choice: u64)
+    pub(crate) fn bring_to_front(&mut self, choice: u64)
         ensures none { self.old ≡ [] → self.new ≡ [] }
         ensures first { (m : Message) → slice_get self.old (choice % length self.old) ≡ Some m
             → self.new ≡ m ∷ remove self.old (choice % length self.old) }

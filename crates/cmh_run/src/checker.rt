@@ -15,24 +15,24 @@ use std::marker::Model;
 /// The run that the deliveries of a log make. Its bag is kept as a set, so that a message is found among many; the
 /// network's own bag has only what was just sent.
 #[derive(Drop)]
-pub(crate) struct Checker {
-    network: Network,
+pub(crate) struct Checker<'g> {
+    network: Network<'g>,
     undelivered: Undelivered,
 }
 
-impl Model for Checker {
+impl<'g> Model for Checker<'g> {
     ghost Value = { CheckState };
 
     ghost view = { λ a. record { network = a.network; undelivered = a.undelivered } };
 }
 
-impl Checker {
+impl<'g> Checker<'g> {
     /// The start of a run without restarts.
     pub(crate) fn begin(
         alloc: Global,
-        graph: &WaitGraph,
+        graph: &'g WaitGraph,
         initiator: u32,
-    ) -> Result<Checker, AllocError>
+    ) -> Result<Checker<'g>, AllocError>
         requires within { initiator < process_count graph.now }
         requires idle { IsTrue (is_idle graph.now initiator) }
         ensures ok { IfOk result (IsChecked graph.now initiator []) }
@@ -67,7 +67,7 @@ impl Checker {
     /// Makes delivery `t`, unless something is wrong with it. `truth` has the verdicts of all processes.
     pub(crate) fn deliver(
         &mut self,
-        graph: &WaitGraph,
+        graph: &'g WaitGraph,
         initiator: u32,
         truth: &[Verdict],
         t: usize,
@@ -128,7 +128,7 @@ impl Checker {
         ensures ok { OnOk result ((g : Graph) (i : ℕ) (log : List Delivery) (s : Going)
             → Agrees g i log s self.old → Agrees g i log s self.new) }
     {
-        while let Some(message) = self.network.take(0) {
+        while let Some(message) = self.network.take_first() {
             self.undelivered.add(message)?;
         }
         Ok(())

@@ -14,6 +14,7 @@ pub mod laws;
 mod list;
 mod log;
 mod network;
+mod pending;
 mod procs;
 mod progress;
 mod run_log;

@@ -4,9 +4,10 @@ ghost use Rattle.std.specs.Prelude.{◌≡◌, ℕ, List, ◌<◌, ◌^◌, ◌%
 ghost use Rattle.cmh_graph.specs.Graph.{dependents_of};
 ghost use Rattle.cmh_run.specs.Prelude.{after_action, after_engagement, after_hint, after_message, asks_hint, blank_config, Config, going_at_start, HintIsFit, is_awake, MayAct, MayReceive, MayStart, nothing_yet, process_count, query, start, without_message};
 
+use crate::pending::Pending;
 use crate::procs::Procs;
 use crate::send::Sender;
-use crate::{Bag, Ending, Hints};
+use crate::{Ending, Hints};
 use cmh_graph::laws::law_built_graph;
 use cmh_graph::{Verdict, WaitGraph};
 use cmh_process::{Action, Kind, Message};
@@ -15,14 +16,14 @@ use std::marker::Model;
 
 /// The undelivered messages and the processes of one initiator's computations.
 #[derive(Drop)]
-pub(crate) struct Network {
-    bag: Bag,
+pub(crate) struct Network<'g> {
+    bag: Pending<'g>,
     procs: Procs,
     number: u32,
     ended: Option<Ending>,
 }
 
-impl Model for Network {
+impl<'g> Model for Network<'g> {
     ghost Value = { Config };
 
     ghost view = { λ n. record {
@@ -34,13 +35,13 @@ impl Model for Network {
     } };
 }
 
-impl Network {
+impl<'g> Network<'g> {
     /// The network in which no process has heard of anything.
-    pub(crate) fn nothing_yet(alloc: Global, graph: &WaitGraph) -> Result<Network, AllocError>
+    pub(crate) fn nothing_yet(alloc: Global, graph: &WaitGraph) -> Result<Network<'g>, AllocError>
         ensures ok { IfOk result (λ n. n ≡ nothing_yet graph.now) }
     {
         Ok(Network {
-            bag: Bag::new(alloc),
+            bag: Pending::new(alloc),
             procs: Procs::new(alloc, graph.len() as usize)?,
             number: 0,
             ended: None,
@@ -48,7 +49,7 @@ impl Network {
     }
 
     /// The start of a run. An awake initiator sends nothing.
-    pub(crate) fn begin(&mut self, graph: &WaitGraph, initiator: u32) -> Result<(), AllocError>
+    pub(crate) fn begin(&mut self, graph: &'g WaitGraph, initiator: u32) -> Result<(), AllocError>
         requires blank { self.old ≡ nothing_yet graph.now }
         requires within { initiator < process_count graph.now }
         ensures ok { OnOk result ((restarts : List ℕ)
@@ -61,7 +62,7 @@ impl Network {
     }
 
     /// The initiator starts with its next number.
-    pub(crate) fn start(&mut self, graph: &WaitGraph, initiator: u32) -> Result<(), AllocError>
+    pub(crate) fn start(&mut self, graph: &'g WaitGraph, initiator: u32) -> Result<(), AllocError>
         requires { MayStart graph.now self.old initiator }
         ensures ok { OnOk result (self.new ≡ start graph.now initiator self.old) }
     {
@@ -93,13 +94,24 @@ impl Network {
 
     /// Takes the message that the choice names out of the bag.
     #[inline(always)]
-    pub(crate) fn take(&mut self, choice: u64) -> Option<Message>
-        ensures none { IsNone result ↔ (self.old.bag ≡ []) }
-        ensures unchanged { IfNone result (self.new ≡ self.old) }
-        ensures taken { IfSome result (λ m. let x = choice % length self.old.bag in
-            (slice_get self.old.bag x ≡ Some m) × (self.new ≡ without_message self.old x)) }
+    pub(crate) fn take(&mut self, choice: u64) -> Result<Option<Message>, AllocError>
+        ensures none { IfOk result (λ t. IsNone t ↔ (self.old.bag ≡ [])) }
+        ensures unchanged { IfOk result (λ t. IfNone t (self.new ≡ self.old)) }
+        ensures taken { IfOk result (λ t. IfSome t (λ m.
+            let x = choice % length self.old.bag in
+            (slice_get self.old.bag x ≡ Some m) × (self.new ≡ without_message self.old x))) }
     {
         self.bag.take(choice)
+    }
+
+    /// Takes the first message out of the bag.
+    pub(crate) fn take_first(&mut self) -> Option<Message>
+        ensures none { IsNone result ↔ (self.old.bag ≡ []) }
+        ensures unchanged { IfNone result (self.new ≡ self.old) }
+        ensures taken { IfSome result (λ m.
+            (slice_get self.old.bag 0 ≡ Some m) × (self.new ≡ without_message self.old 0)) }
+    {
+        self.bag.take_first()
     }
 
     /// Whether hints are asked about the receiver before the message is delivered.
@@ -118,7 +130,7 @@ impl Network {
     #[tactic(auto, using(crate::proofs::QueryLemmas::engaged_by_hint))]
     pub(crate) fn deliver(
         &mut self,
-        graph: &WaitGraph,
+        graph: &'g WaitGraph,
         initiator: u32,
         message: Message,
         hint: Option<Verdict>,
@@ -143,7 +155,7 @@ impl Network {
     #[tactic(auto, using(crate::proofs::QueryLemmas::engaged_by_hint, crate::proofs::QueryLemmas::fit_where_asked))]
     pub(crate) fn deliver_asking<H: Hints>(
         &mut self,
-        graph: &WaitGraph,
+        graph: &'g WaitGraph,
         initiator: u32,
         message: Message,
         hints: &mut H,
@@ -173,7 +185,7 @@ impl Network {
     #[tactic(auto, using(crate::proofs::QueryLemmas::answered, crate::proofs::QueryLemmas::replied))]
     fn receive(
         &mut self,
-        graph: &WaitGraph,
+        graph: &'g WaitGraph,
         initiator: u32,
         message: Message,
     ) -> Result<(), AllocError>
@@ -200,7 +212,7 @@ impl Network {
     #[inline(always)]
     fn engage_by_hint(
         &mut self,
-        graph: &WaitGraph,
+        graph: &'g WaitGraph,
         initiator: u32,
         number: u32,
         process: u32,
@@ -228,7 +240,7 @@ impl Network {
     #[inline(never)]
     fn engage(
         &mut self,
-        graph: &WaitGraph,
+        graph: &'g WaitGraph,
         initiator: u32,
         number: u32,
         process: u32,
@@ -252,7 +264,7 @@ impl Network {
     #[inline(never)]
     fn engage_apart(
         &mut self,
-        graph: &WaitGraph,
+        graph: &'g WaitGraph,
         initiator: u32,
         number: u32,
         process: u32,
@@ -292,7 +304,7 @@ impl Network {
         number: u32,
         process: u32,
         engager: u32,
-        asked: &[u32],
+        asked: &'g [u32],
     ) -> Result<(), AllocError>
         requires within { process < length self.old.procs }
         requires going { self.old.ended ≡ None }
@@ -313,7 +325,12 @@ impl Network {
 
     /// A process sends, ends the run, or does nothing.
     #[inline(always)]
-    fn act(&mut self, sender: Sender, dependents: &[u32], action: Action) -> Result<(), AllocError>
+    fn act(
+        &mut self,
+        sender: Sender,
+        dependents: &'g [u32],
+        action: Action,
+    ) -> Result<(), AllocError>
         requires { self.old.ended ≡ None }
         ensures ok { OnOk result (self.new ≡
             after_action sender.initiator self.old sender.number sender.process dependents.now

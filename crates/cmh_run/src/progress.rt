@@ -13,8 +13,8 @@ use std::marker::Model;
 /// A run on its way, with what was fixed at its start, the deliveries that were made and the restarts that are still to
 /// come. It gives its network back at the end.
 #[derive(Drop)]
-pub(crate) struct Progress<'a, L: Log> {
-    graph: &'a WaitGraph,
+pub(crate) struct Progress<'g, 'a, L: Log> {
+    graph: &'g WaitGraph,
     initiator: u32,
     /// Whether neither a choice nor a restart is still to come.
     is_plain: bool,
@@ -22,11 +22,11 @@ pub(crate) struct Progress<'a, L: Log> {
     restarts: &'a [u32],
     restarted: u32,
     made: usize,
-    network: Network,
+    network: Network<'g>,
     log: L,
 }
 
-impl<'a, L: Log> Model for Progress<'a, L> {
+impl<'g, 'a, L: Log> Model for Progress<'g, 'a, L> {
     ghost Value = { RunState };
 
     ghost view = { λ p. record {
@@ -46,16 +46,16 @@ impl<'a, L: Log> Model for Progress<'a, L> {
         → (length p.choices.now ≤ p.made) × (p.restarts.now ≡ []) };
 }
 
-impl<'a, L: Log> Progress<'a, L> {
+impl<'g, 'a, L: Log> Progress<'g, 'a, L> {
     /// The start of an accepted initiator. An awake one sends nothing, and never starts again.
     pub(crate) fn begin(
         alloc: Global,
-        graph: &'a WaitGraph,
-        mut network: Network,
+        graph: &'g WaitGraph,
+        mut network: Network<'g>,
         initiator: u32,
         choices: &'a [u64],
         restarts: &'a [u32],
-    ) -> Result<Progress<'a, L>, AllocError>
+    ) -> Result<Progress<'g, 'a, L>, AllocError>
         requires blank { network ≡ nothing_yet graph.now }
         requires accepted { IsAccepted graph.now initiator choices.now restarts.now }
         ensures same { IfOk result (IsRunState graph.now initiator choices.now) }
@@ -134,7 +134,8 @@ impl<'a, L: Log> Progress<'a, L> {
         if self.network.has_ended() {
             return Ok(false);
         }
-        let Some(message) = self.network.take(choice) else {
+        let taken = self.network.take(choice)?;
+        let Some(message) = taken else {
             return Ok(false);
         };
         let hint = self
@@ -146,7 +147,7 @@ impl<'a, L: Log> Progress<'a, L> {
     }
 
     /// What is kept of the run, in which nothing more is delivered, and the network for the next run.
-    pub(crate) fn finish(self, alloc: Global) -> (RunLog<L>, Network)
+    pub(crate) fn finish(self, alloc: Global) -> (RunLog<L>, Network<'g>)
         ensures log { result.0 ≡ record {
           initiator = self.entry.initiator;
           log = self.entry.log;

@@ -15,7 +15,7 @@ use std::marker::Model;
 #[derive(Drop)]
 pub struct Runner<'a> {
     graph: &'a WaitGraph,
-    network: Option<Network>,
+    network: Option<Network<'a>>,
 }
 
 impl<'a> Model for Runner<'a> {
@@ -83,7 +83,7 @@ impl<'a> Runner<'a> {
     }
 
     /// The network of the run before, or a new one.
-    fn take_network(&mut self, alloc: Global) -> Result<Network, AllocError>
+    fn take_network(&mut self, alloc: Global) -> Result<Network<'a>, AllocError>
         ensures same { self.new ≡ self.old }
         ensures blank { IfOk result (λ n. n ≡ nothing_yet self.old) }
     {
@@ -130,15 +130,15 @@ fn is_rising(list: &[u32]) -> bool
 }
 
 /// The run that was accepted.
-fn follow<L: Log, H: Hints>(
+fn follow<'g, L: Log, H: Hints>(
     alloc: Global,
-    graph: &WaitGraph,
-    network: Network,
+    graph: &'g WaitGraph,
+    network: Network<'g>,
     initiator: u32,
     choices: &[u64],
     hints: &mut H,
     restarts: &[u32],
-) -> Result<(RunLog<L>, Network), AllocError>
+) -> Result<(RunLog<L>, Network<'g>), AllocError>
     requires blank { network ≡ nothing_yet graph.now }
     requires speaks { H.speaks_of hints.old graph.now }
     requires accepted { IsAccepted graph.now initiator choices.now restarts.now }

@@ -3,7 +3,7 @@
 ghost use Rattle.std.specs.Prelude.{◌≡◌, ◌++◌, OnOk};
 ghost use Rattle.cmh_run.specs.Config.{messages_of};
 
-use crate::Bag;
+use crate::pending::Pending;
 use cmh_process::{Action, Kind, Message};
 use std::alloc::AllocError;
 
@@ -18,10 +18,10 @@ pub(crate) struct Sender {
 impl Sender {
     /// Sends what the action says: queries in the order of the dependents, or one reply.
     #[inline(always)]
-    pub(crate) fn send(
+    pub(crate) fn send<'g>(
         self,
-        bag: &mut Bag,
-        dependents: &[u32],
+        bag: &mut Pending<'g>,
+        dependents: &'g [u32],
         action: Action,
     ) -> Result<(), AllocError>
         ensures ok { OnOk result (bag.new ≡ bag.old
@@ -29,7 +29,7 @@ impl Sender {
     {
         match action {
             Action::Engage => bag.add_queries(self, dependents),
-            Action::ReplyTo(to) => bag.add(self.message(Kind::Reply, to)),
+            Action::ReplyTo(to) => bag.add_reply(self, to),
             Action::Nothing | Action::Declare => Ok(()),
         }
     }

@@ -1,5 +1,6 @@
-use Rattle.cmh_run.proofs.Common.{◌≡◌, ◌↔◌, ℕ, ◌%◌, ◌<◌, List, [], ◌∷◌, ◌++◌, length, remove, slice_get, Option, Some, None, refl, sym, ◌∙◌, arith, none-some, slice_get-get_or, Message, IfSome}
+use Rattle.cmh_run.proofs.Common.{◌≡◌, ◌↔◌, ℕ, ◌%◌, ◌<◌, List, [], ◌∷◌, ◌++◌, length, remove, slice_get, Option, Some, None, refl, sym, ◌∙◌, arith, slice_get-get_or, Message, IfSome}
 use Rattle.std.specs.Prelude.{IsNone, IsSome, IfNone, option_to_list}
+use Rattle.cmh_run.proofs.PendingLemmas.{first_first}
 use Rattle.cmh_run.proofs.bag.Bag.take.Goals as goal
 use Rattle.cmh_run.proofs.bag.Bag.take.Goals.{then-choice-ne0, else-choice-ne0}
 
@@ -18,14 +19,6 @@ took (o ∷ os) mid new x (Some m) none first within items some =
     let there = slice_get-get_or (o ∷ os) x o (within (omega arith)) in
     let brought = first _ there in
     ((λ q. absurd (cc), λ q. absurd (cc)), cc, cc, tt)
-
--- without a choice the first message stands before the others
-first_first : (xs : List Message) (x : ℕ) (m : Message) → (0 < length xs → x ≡ 0) → slice_get xs x ≡ Some m
-    → xs ≡ m ∷ remove xs x
-first_first [] x m zero there = absurd (none-some _ there)
-first_first (o ∷ os) x m zero there =
-    let at = zero (omega arith) in
-    let same : Some o ≡ Some m = rw at at there in rw at (cc)
 
 -- what is taken is what the choice names, whether it was brought to the front or stood there
 pub returns : goal.returns

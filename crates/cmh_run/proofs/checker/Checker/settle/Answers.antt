@@ -1,4 +1,3 @@
-use Rattle.cmh_run.proofs.Common.{◌%◌, length}
 use Rattle.cmh_run.proofs.CheckStateLemmas.{agrees_on}
 use Rattle.cmh_run.proofs.checker.Checker.settle.Goals as goal
 
@@ -7,7 +6,7 @@ pub loop-message-preserved : goal.loop-message-preserved
 loop-message-preserved c g i log s h =
     agrees_on g i log s
     (record { network = c.loop-message.self-inside.network; undelivered = c.loop-message.self-inside.undelivered })
-    (record { network = c.take.new.self; undelivered = c.add.new.self }) (c.loop-message.invariant g i log s h)
-    (0 % length c.loop-message.self-inside.network.bag) c.in-Some.message c.in-Some.ensures.taken.0
+    (record { network = c.take_first.new.self; undelivered = c.add.new.self }) (c.loop-message.invariant g i log s h)
+    0 c.in-Some.message c.in-Some.ensures.taken.0
     c.in-Some.ensures.taken.1
     c.in_ok-add.ensures.ok

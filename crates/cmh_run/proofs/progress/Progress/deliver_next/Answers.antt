@@ -7,7 +7,7 @@ pub deliver_asking-requires-clause-may : goal.deliver_asking-requires-clause-may
 deliver_asking-requires-clause-may g c =
     let at = ready_by_choice c.requires.under_way.0 _ _ _ _ c.requires.under_way.1 c.in_ok-choice.ensures
     c.self.view_is in
-    let taken = rw at.1 at c.in-Some.ensures.taken in
+    let taken = rw (c.in-Some.is, at.1) at c.in_ok-taken.ensures.taken in
     may_receive c.requires.under_way.0 _ at.0 c.in-Some.message _ (c.has_ended.ensures.0 c.if-has_ended.false) taken.0
     taken.1
 
@@ -22,7 +22,7 @@ overflow_add-self g c =
 pub returns-clause-under_way : goal.returns-clause-under_way
 returns-clause-under_way g c more restarts way =
     let at = ready_by_choice restarts _ _ _ _ way c.in_ok-choice.ensures c.self.view_is in
-    let taken = rw at.1 at c.in-Some.ensures.taken in
+    let taken = rw (c.in-Some.is, at.1) at c.in_ok-taken.ensures.taken in
     next_under_way restarts _ at.0 c.in-Some.message _ (c.has_ended.ensures.0 c.if-has_ended.false) taken.0 taken.1
     c.in_ok-hint.hint c.in_ok-hint.ensures.fit _ c.in_ok-hint.ensures.ok _ c.in_ok-add.ensures _ refl
 
