@@ -266,7 +266,7 @@ class Explanation(Findings):
 
     def restart(self, members: List[int], called: Callable[[str], str] = shown) -> str:
         """Returns where a root has to be broken. A site is `called` by its name alone, or with what it is."""
-        sites, is_some_unsaid = self.sites(members)
+        sites, is_some_unsaid = self.units(members)
         if not sites:
             return f"restart what has {self.some([self.name(at) for at in members])}: the state doesn't say where"
         elsewhere = ", or what runs at a place that isn't said" if is_some_unsaid else ""

@@ -16,6 +16,8 @@ STUCK, UNDECIDED, NOT_STUCK = "stuck", "undecided", "not_stuck"  # verdicts, bes
 STATUSES = {STUCK: 3, UNDECIDED: 5, NOT_STUCK: 0}
 START = -1  # no process
 RUNNING, MESSAGE, COME = "runs", "message_in_transit", "all_have_come"  # why one goes on by itself
+# Systems of which nothing less can be restarted.
+WHOLE = {"mpi": "the MPI job"}
 
 
 class Waiters(NamedTuple):
@@ -156,6 +158,11 @@ class Findings(Verdicts):
         """Returns the sites of some, and whether some have none."""
         found = dict.fromkeys(self.waits.processes[at].site for at in members)
         return [site for site in found if site is not None], None in found
+
+    def units(self, members: List[int]) -> Tuple[List[str], bool]:
+        """Returns what can be restarted of some, and whether that isn't known of others: their sites, or the whole."""
+        whole = WHOLE.get(self.dump.sketch.system)
+        return ([whole], False) if whole else self.sites(members)
 
     # Who is undecided, and who isn't stuck
 

@@ -301,7 +301,7 @@ def restarts(this: Explanation) -> List[str]:
     found: Dict[FrozenSet[str], List[int]] = {}
     words = [this.restart(members, called_site) for members in this.roots.roots]
     for number, members in enumerate(this.roots.roots):
-        sites, is_some_unsaid = this.sites(members)
+        sites, is_some_unsaid = this.units(members)
         if sites and not is_some_unsaid:
             found.setdefault(frozenset(sites), []).append(number)
     for first, *others in found.values():
@@ -315,7 +315,7 @@ def restart_of_all(this: Explanation, words: List[str]) -> str:
     """Returns in a sentence what breaks all roots: one restart, or one for each if they are at one site each."""
     if all(it == f"{TOGETHER}1 breaks it too" for it in words[1:]):
         return f"{words[0][:1].upper()}{words[0][1:]}."
-    sites = [this.sites(members) for members in this.roots.roots]
+    sites = [this.units(members) for members in this.roots.roots]
     if any(len(some) != 1 or is_some_unsaid for some, is_some_unsaid in sites):
         return ""
     names = list(dict.fromkeys(called_site(some[0]) for some, _ in sites))
