@@ -1,5 +1,5 @@
 -- What workers give back, put together.
-use Rattle.std.proofs.Common.{arith, refl, ◌≡◌, ℕ, ◌+◌, ◌||◌, List, [], ◌++◌, length, map, slice_index_or, sym, ap, ◌∙◌, subst, Result, Ok, Err, IfOk}
+use Rattle.std.proofs.Common.{◌≡◌, ℕ, ◌+◌, ◌||◌, List, [], ◌++◌, length, map, slice_index_or, sym, ap, ◌∙◌, subst, Result, Ok, Err, IfOk}
 use Rattle.std.specs.Prelude.{IsOkAnd}
 use Rattle.std.specs.Global.{Vec}
 use Rattle.std.proofs.lemmas.List.{map-append}
@@ -19,8 +19,8 @@ use Rattle.cmh_rw.specs.View.{joined_view}
 use Rattle.cmh_board.specs.Board.{board_view}
 use Rattle.cmh_rw.specs.Machine.{total}
 use Rattle.cmh_work.specs.Cutting.{chunks_of, concat_chunks}
-use Rattle.cmh_work.specs.Finding.{finding_initiator, Accounts}
-use Rattle.cmh_work.specs.Working.{AreNew, IsMadeFor, IsWorked}
+use Rattle.cmh_work.specs.Finding.{finding_initiator}
+use Rattle.cmh_work.specs.Working.{IsMadeFor, IsWorked}
 use Rattle.cmh_work.proofs.AccountsLemmas.{accounts_joined}
 use Rattle.cmh_work.proofs.CuttingLemmas.{concat_chunks-append, gathered_snoc, gathered_once}
 
@@ -56,17 +56,6 @@ joined_worked listed g plan j s t u a b is jo first second w x = record {
       ∙ ap (λ v. concat_chunks (chunks_of plan.cuts j.idle.items) v.drawn) (sym is);
   done = ap (λ v. v.done) is ∙ ap (λ d. d || (ticket_view t.tickets).done) w.done;
 }
-
--- new seats have added nothing that a finding would explain
-pub nothing_found : {L : Type 0} (listed : L → List ℕ) (g : Graph) (choices : List ℕ) (s : Seats) → AreNew s
-    → Accounts listed g choices (board_view s.board) []
-nothing_found listed g choices s new =
-    record { sound = λ k d l. absurd (omega (arith, l)); explained = rw new.mine tt }
-
--- new seats have drawn no chunk
-pub nothing_drawn : (chunks : List (List ℕ)) (s : Seats) → AreNew s
-    → [] ≡ concat_chunks chunks (ticket_view s.tickets).drawn
-nothing_drawn chunks s new = rw new.drawn refl
 
 -- with one chunk more drawn and its findings added, the findings are of the chunks drawn, in order
 pub drawn_more : {L : Type 0} (plan : PlanValue) (j : Shared) (s u : TicketSeat) (n : ℕ) (a b : List (Finding Run L))
