@@ -4,7 +4,7 @@ from __future__ import annotations
 import re
 from functools import lru_cache
 from sys import intern
-from typing import Dict, Iterable, List, NamedTuple, Optional, Set, Tuple, Union
+from typing import Dict, Iterable, Iterator, List, NamedTuple, Optional, Set, Tuple, Union
 
 from ..files import Refusal, shown
 from ..moments import PARTS, Reading
@@ -35,7 +35,8 @@ OF_SYSTEM = re.compile(r"gen(_server|_statem|_event)?|proc_lib|supervisor|sys|ti
                        r"Agent|DynamicSupervisor|Enum|GenServer|Process|Registry|Stream|Supervisor|Task)(\.\w+)*'")
 LOOPS = re.compile(r"(gen_server:loop|gen_statem:loop_(receive|hibernate)|gen_event:fetch_msg|proc_lib:hibernate"
                    r"|proc_lib:wake_up|erlang:hibernate)/")
-MARK = re.compile(r"\n=(process|keeps|left out|nodes|receives|tables|timers|end) ")
+FIRST = re.compile("=(process|keeps|left out|nodes|receives|tables|timers|end) ")
+MARK = re.compile(rf"\n{FIRST.pattern}")
 RECEIVES = re.compile(r"{(\w+|'[^']*'),(\w+|'[^']*'),(\d+),\[([\w,]*)\](?:,(\d+))?}")
 OF_ELIXIR = re.compile(r"'Elixir\.([\w.]+)'")
 FUN = re.compile(r"'-(.*)/\d+-(fun-\d+)-'")
@@ -245,12 +246,24 @@ def function_name(module: str, name: str, arity: str) -> str:
     return f"{short}{':' if short == module else '.'}{of_elixir(name)}/{arity}"
 
 
+def parts_of(text: str) -> Iterator[Tuple[str, str]]:
+    """Yields each part of a text, with the word that it begins with. They are cut off one by one, as all of them take
+    as much memory as the text."""
+    first = FIRST.match(text)
+    word, begin = (first[1], first.end()) if first else ("", 0)
+    for mark in MARK.finditer(text):
+        if word:
+            yield word, text[begin:mark.start()]
+        word, begin = mark[1], mark.end()
+    if word:
+        yield word, text[begin:].rstrip("\n")
+
+
 def readings_of(path: str, text: str) -> List[NodeReading]:
     """Returns the readings of a text in their order: where a process of a node stands again, another one begins."""
     found: List[NodeReading] = []
     pids: Set[str] = set()
-    _, *parts = MARK.split("\n" + text.replace("\r\n", "\n").rstrip("\n"))
-    for word, part in zip(parts[::2], parts[1::2]):
+    for word, part in parts_of(text.replace("\r\n", "\n")):
         block = Block(part, path) if word == "process" else None
         words = part.split("\n")[0].split()
         node = block.node if block else words[-1] if words else ""

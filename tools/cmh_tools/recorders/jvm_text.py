@@ -10,7 +10,7 @@ import hashlib
 import itertools
 import re
 from dataclasses import dataclass, field
-from typing import Any, Dict, List, Optional, Tuple
+from typing import Any, Dict, Iterator, List, Optional, Tuple
 
 from ..files import Refusal, shown
 
@@ -255,16 +255,18 @@ class PrintReader:
         self.began = next(filter(None, map(BEGAN.fullmatch, before)), None)
 
     def read(self) -> Dump:
-        body, found, tail = self.text.partition("\n" + END)
-        if not found:
+        end = self.text.find("\n" + END)
+        if end < 0:
             raise Refusal(f"{self.path}:{self.last}: the dump is cut off: it ends before the line 'JNI global "
                           "refs', so threads are missing")
-        head, *blocks = body.split('\n"')
+        tail = self.text[end + 1 + len(END):]
+        first = self.text.find('\n"', 0, end)
+        head = self.text[:end if first < 0 else first]
         number = self.first
         for number, line in enumerate(head.split("\n")[1:], self.first + 1):
             self.take(line, number)
-        for block in blocks:
-            self.take_block(f'"{block}', number + 1)
+        for block in self.blocks(len(head), end):
+            self.take_block(block, number + 1)
             number += block.count("\n") + 1
         self.take_found(tail.split("\n"))
         ended = next(filter(None, map(ENDED.fullmatch, tail.split("\n"))), None)
@@ -273,11 +275,20 @@ class PrintReader:
             self.dump.time = float(self.began["time"]), float(ended["time"])
             self.dump.launcher = f"{self.dump.pid}/{self.dump.pid}" if self.began["program"] == "java" else ""
         if any("." in it.elapsed for it in self.dump.threads):  # (so that two states of a JVM differ)
-            self.dump.taken = hashlib.sha256(body.encode("utf-8", "surrogatepass")).hexdigest()
+            self.dump.taken = hashlib.sha256(self.text[:end].encode("utf-8", "surrogatepass")).hexdigest()
         for thread in self.dump.threads:
             thread.fault = thread.fault or misfit(thread)
         self.dump.close()
         return self.dump
+
+    def blocks(self, at: int, end: int) -> Iterator[str]:
+        """Yields the text of each thread between two places. They are cut off one by one, as all of them take as much
+        memory as the text."""
+        while at < end:
+            after = self.text.find('\n"', at + 1, end)
+            after = end if after < 0 else after
+            yield self.text[at + 1:after]
+            at = after
 
     def take_found(self, lines: List[str]) -> None:
         """Reads who owns what in the deadlocks that the JVM itself has found."""
