@@ -101,6 +101,8 @@ def run(name: str, main: Callable[[Sequence[str]], int], words: Sequence[str]) -
         return fault(name, failure, failure.status)
     except MemoryError:
         return fault(name, "out of memory", 4)
+    finally:
+        gc.freeze()  # (nor is it looked through when Python ends)
 
 
 def fault(name: str, text: object, status: int) -> int:

@@ -315,7 +315,7 @@ class Explanation(Findings):
         rows = sorted(followers.items(), key=lambda row: -len(row[1]))
         lines = self.first([f"  {self.name(end)}, which {self.goes_on_words(end)}, may unblock {self.some(names)}"
                             for end, names in rows], ("process", "processes"))
-        alone = [at for at in self.well if self.waits.kind(at) != RUNS and self.waits.is_awake(at)]
+        alone = [at for at in self.well if self.waits.kinds[at] != RUNS and self.waits.is_awake(at)]
         return lines + self.first([f"  {self.name(at)}: {self.goes_on_words(at)}" for at in alone
                                    if at not in followers], ("process", "processes"))
 
@@ -375,7 +375,7 @@ class Explanation(Findings):
             root = self.root_head(number) + self.group(members)
             return fill([lines, root + rests_lines(self.rests, rests, self.everything)], self.style)
         lines += [line for it in chain for line in self.lines(it)]
-        if at not in self.open and self.waits.kind(chain[-1]) in (ANY, ALL):
+        if at not in self.open and self.waits.kinds[chain[-1]] in (ANY, ALL):
             lines.append(f"{self.name(chain[-1])}: {self.goes_on_words(chain[-1])}")
         rests = self.rests.of(self.processes(chain))
         return fill([lines + rests_lines(self.rests, rests, self.everything)], self.style)

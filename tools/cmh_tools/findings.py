@@ -57,7 +57,7 @@ class Findings(Verdicts):
         super().__init__(dump.waits, dump.low, dump.high)
         self.dump, self.waits, self.low, self.high = dump, dump.waits, dump.low, dump.high
         self.open = set(self.undecided)
-        self.ended = [at for at in range(self.waits.number) if self.waits.kind(at) == ENDED]
+        self.ended = [at for at in range(self.waits.number) if self.waits.kinds[at] == ENDED]
         self.roots = Roots(self.waits, self.stuck)
         self.rests = Rests(dump.sketch)
         self.left_over = self.waits.stuck_without(self.roots.root_of) if self.stuck else []
@@ -81,7 +81,7 @@ class Findings(Verdicts):
 
     def running(self) -> List[int]:
         """Returns those that aren't stuck and wait for nobody, idle ones too."""
-        return [at for at in self.well if self.waits.kind(at) == RUNS or at in self.quiet]
+        return [at for at in self.well if self.waits.kinds[at] == RUNS or at in self.quiet]
 
     def are_all_idle(self) -> bool:
         """Whether each process that has not ended is idle. Idle ones may be left out, which a warning says."""
@@ -104,7 +104,7 @@ class Findings(Verdicts):
     def verdict(self, at: int) -> str:
         if at in self.roots.above:
             return STUCK
-        if self.waits.kind(at) == ENDED:
+        if self.waits.kinds[at] == ENDED:
             return ENDED
         return UNDECIDED if at in self.open else NOT_STUCK
 
@@ -117,7 +117,7 @@ class Findings(Verdicts):
         """Returns why one goes on by itself, if it does whatever unknown ones do."""
         if not self.waits.is_awake(at):
             return None
-        return {ANY: MESSAGE, ALL: COME}.get(self.waits.kind(at), RUNNING)
+        return {ANY: MESSAGE, ALL: COME}.get(self.waits.kinds[at], RUNNING)
 
     def chain(self, at: int) -> List[int]:
         """Returns the way from one process to what its answer rests on: one of its root, an unknown one, or one who
@@ -126,10 +126,10 @@ class Findings(Verdicts):
             return self.roots.chain(at)
         if at in self.open:
             found = way(edges_among(self.waits, self.undecided), at,
-                        {it for it in self.undecided if self.waits.kind(it) == UNKNOWN})
+                        {it for it in self.undecided if self.waits.kinds[it] == UNKNOWN})
             return without_hubs(self.waits, found)
         chain = [at]
-        cause = None if self.waits.kind(at) == ENDED else self.high.cause[at]
+        cause = None if self.waits.kinds[at] == ENDED else self.high.cause[at]
         while cause is not None:
             chain.append(cause)
             cause = self.high.cause[cause]
@@ -168,7 +168,7 @@ class Findings(Verdicts):
 
     def unknown_ones(self, most: int) -> Iterator[Tuple[int, Waiters]]:
         """Yields the unknown ones that others hang on, with at most `most` of these. The first has most."""
-        starts = [at for at in self.undecided if self.waits.kind(at) == UNKNOWN]
+        starts = [at for at in self.undecided if self.waits.kinds[at] == UNKNOWN]
         counts = count_waiters(self.waits, self.open, starts, most)
         starts.sort(key=lambda at: -counts[at][0])
         for at in starts:
@@ -187,7 +187,7 @@ class Findings(Verdicts):
         """Returns the premises on which some run, with these; also that a limit of their wait ends, if it is asked."""
         found: Dict[str, List[int]] = {}
         for at in self.running():
-            for reason in self.waits.processes[at].because if self.waits.kind(at) == RUNS else ():
+            for reason in self.waits.processes[at].because if self.waits.kinds[at] == RUNS else ():
                 name = reason.partition("premise ")[2]
                 if name and (with_limits or reason != premise(LIMIT)):
                     found.setdefault(name, []).append(at)

@@ -51,7 +51,7 @@ class Folding:
             if others:
                 return Part(SHARED)
             return Part(ROOT if at in roots.root_of else BEHIND, number) if number in self.apart else Part(MORE)
-        kind = self.waits.kind(at)
+        kind = self.waits.kinds[at]
         if kind == ENDED:
             return Part(OVER)
         if at in self.this.open:

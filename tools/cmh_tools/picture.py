@@ -146,7 +146,7 @@ class Picture:
         return [head, self.place_of(members), f"{names} and {len(members) - len(shown_ones):,} more"]
 
     def has_one_unknown(self) -> bool:
-        return sum(self.waits.kind(at) == UNKNOWN for at in self.this.undecided) == 1
+        return sum(self.waits.kinds[at] == UNKNOWN for at in self.this.undecided) == 1
 
     def lines_of_more(self, members: Row) -> List[str]:
         inside = sum(at in self.this.roots.root_of for at in members)
@@ -179,7 +179,7 @@ class Picture:
         hubs: Dict[int, List[int]] = {}
         for box in self.boxes:
             for at in box.members if box.part.sort != MORE else ():
-                ends = found.setdefault((box.number, self.waits.kind(at)), {})
+                ends = found.setdefault((box.number, self.waits.kinds[at]), {})
                 ends.update(dict.fromkeys(self.ends_of(at, hubs)))
         return [arrow for (start, style), ends in found.items() for arrow in self.arrows_of(start, style, list(ends))]
 
@@ -268,7 +268,7 @@ class Picture:
         if style == MESSAGE:
             sent = by_first(self.pairs)
             return [([at], sent.get(at, []), True) for at in members]
-        some = [at for at in members if self.waits.kind(at) == style]
+        some = [at for at in members if self.waits.kinds[at] == style]
         hubs = by_first((self.waits.left[at][0], at) for at in some if self.waits.has_hub(at))
         own = [([at], self.waits.left[at], True) for at in some if not self.waits.has_hub(at)]
         return [*own, *((row, self.waits.left[hub], False) for hub, row in hubs.items())]
@@ -365,7 +365,7 @@ def stuck_words(this: Explanation) -> str:
 
 def undecided_words(this: Explanation) -> str:
     """Returns in a sentence how many are undecided: unknown themselves, or as they hang on these."""
-    unknown = sum(this.waits.kind(at) == UNKNOWN for at in this.undecided)
+    unknown = sum(this.waits.kinds[at] == UNKNOWN for at in this.undecided)
     hang, whom = len(this.undecided) - unknown, "it" if unknown == 1 else "them"
     head = f"{len(this.undecided):,}{' more' if this.stuck else ''} {are(this.undecided)}"
     if not hang or not unknown:

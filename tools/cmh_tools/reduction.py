@@ -34,7 +34,7 @@ class Reduction:
         self.over: Dict[int, int] = {}
         self.source: Dict[int, int] = {}
         self.twins = 0
-        self.there = [waits.kind(at) != ENDED for at in range(len(waits.left))]
+        self.there = [waits.kinds[at] != ENDED for at in range(len(waits.left))]
         self.count()
         for reduce in (self.leave_out, self.fold_twins, self.fold):
             if not self.fits():
@@ -86,11 +86,11 @@ class Reduction:
 
     def is_row(self, at: int) -> bool:
         """Whether it is a process of the dump. The list of a hub of ALL is that of one that is folded into it."""
-        return at < self.number or self.waits.kind(at) == ANY
+        return at < self.number or self.waits.kinds[at] == ANY
 
     def width(self, at: int) -> int:
         """Returns how many dependents it takes."""
-        if self.waits.kind(at) == ALL:
+        if self.waits.kinds[at] == ALL:
             return 1
         return len(self.whom(at)) + (self.waits.has_hub(at) and bool(self.waits.senders[at]))
 
@@ -108,7 +108,7 @@ class Reduction:
 
     def whom(self, at: int) -> Set[int]:
         """Returns those that stand for the list of one."""
-        there = [it for it in self.waits.left[at] if self.waits.kind(it) != ENDED]
+        there = [it for it in self.waits.left[at] if self.waits.kinds[it] != ENDED]
         return set(map(self.stands_for, there) if self.over else there)
 
     # The steps
@@ -118,7 +118,7 @@ class Reduction:
         left = self.waits.left
         counts = [sum(it != at for it in waiters) for at, waiters in enumerate(self.waits.waiters)]
         alone = [at for at in self.rest() if counts[at] == 0]
-        alone.sort(key=lambda at: self.waits.kind(at) == RUNS)
+        alone.sort(key=lambda at: self.waits.kinds[at] == RUNS)
         while alone and not self.fits():
             at = alone.pop()
             self.drop(at)
@@ -126,7 +126,7 @@ class Reduction:
                 counts[other] -= other != at
                 if counts[other] == 0 and self.there[other] and other != at:
                     alone.append(other)
-        self.left_out = [at for at in range(self.number) if not self.there[at] and self.waits.kind(at) != ENDED]
+        self.left_out = [at for at in range(self.number) if not self.there[at] and self.waits.kinds[at] != ENDED]
 
     def drop(self, at: int) -> None:
         self.there[at] = False
@@ -167,7 +167,7 @@ class Reduction:
 
     def fold(self) -> None:
         """Folds those that have another one's verdict, again and again: each time after those that it waits for."""
-        edges = {at: [it for it in self.waits.left[at] if self.waits.kind(it) != ENDED]
+        edges = {at: [it for it in self.waits.left[at] if self.waits.kinds[it] != ENDED]
                  for at, kind in enumerate(self.waits.kinds) if kind != ENDED}
         order = [at for members in components(edges) for at in members if self.there[at]]
         before = -1
@@ -183,11 +183,11 @@ class Reduction:
     def one_alike(self, at: int, known: Dict[object, int]) -> Optional[int]:
         """Returns another one that has the same verdict, whatever others do. `known` has those seen before, by their
         waits."""
-        kind, waits = self.waits.kind(at), self.waits
+        kind, waits = self.waits.kinds[at], self.waits
         if kind not in (ANY, ALL) or waits.senders[at] or waits.is_awake(at):
             return None
         whom = self.whom(at)
-        if kind == ALL and (at in whom or any(waits.kind(it) == ENDED for it in waits.left[at])):
+        if kind == ALL and (at in whom or any(waits.kinds[it] == ENDED for it in waits.left[at])):
             return None  # (it never goes on)
         others = whom - {at}
         if len(others) < 2:

@@ -351,7 +351,7 @@ def check_keys(tree: Any, keys: Set[str], who: str) -> None:
     """Raises Refusal if a tree is no object, or has a key that isn't known."""
     if not isinstance(tree, dict):
         raise Refusal(f"{who} is no object")
-    for key in sorted(tree.keys() - keys):
+    for key in sorted(tree.keys() - keys) if not tree.keys() <= keys else ():
         of_dump = key in ("state", "dependents", "sites", "version")
         more = "; this is a key of a dump, not of a sketch" if of_dump else near_name(key, sorted(keys))
         raise Refusal(f"{who} has the key {quote(key)}, which isn't known{more}")
@@ -374,7 +374,7 @@ def texts_of(tree: Dict[str, Any], key: str, who: str) -> List[str]:
 
 
 def is_texts(value: object) -> bool:
-    return isinstance(value, list) and all(isinstance(item, str) for item in value)
+    return isinstance(value, list) and set(map(type, value)) <= {str}
 
 
 def lists_of(tree: Dict[str, Any]) -> Dict[str, List[str]]:

@@ -20,10 +20,10 @@ def next_steps(found: Findings) -> Dict[int, int]:
     """Returns for each process the next one on a shortest way, but for those where a way ends."""
     waits = found.waits
     steps = steps_to(found.roots.edges, found.roots.root_of)
-    unknown = [at for at in found.undecided if waits.kind(at) == UNKNOWN]
+    unknown = [at for at in found.undecided if waits.kinds[at] == UNKNOWN]
     steps.update(steps_to(edges_among(waits, found.undecided), unknown))
     for at in range(waits.number):
-        cause = None if waits.kind(at) == ENDED else found.high.cause[at]
+        cause = None if waits.kinds[at] == ENDED else found.high.cause[at]
         if cause is not None:
             steps[at] = cause
     return {at: past_hubs(steps, it, waits.number) for at, it in steps.items() if at < waits.number}

@@ -138,12 +138,9 @@ class Waits:
     def is_done(self, at: int) -> bool:
         return (self.processes[at].kind, self.processes[at].reason) == (ENDED, DONE)
 
-    def kind(self, at: int) -> str:
-        return self.kinds[at]
-
     def is_awake(self, at: int) -> bool:
         """Whether it goes on whatever the others do, unknown ones aside."""
-        kind = self.kind(at)
+        kind = self.kinds[at]
         return kind == RUNS or kind == ANY and bool(self.senders[at]) or kind == ALL and not self.left[at]
 
     def answer(self, unknown_in: bool) -> Answer:
@@ -167,7 +164,7 @@ class Answer:
         self.inside = [True] * number
         self.cause: List[Optional[int]] = [None] * number
         self.picks: Dict[int, List[int]] = {}
-        missing = [len(others) if waits.kind(at) == ALL else 1 for at, others in enumerate(waits.left)]
+        missing = [len(others) if waits.kinds[at] == ALL else 1 for at, others in enumerate(waits.left)]
         out = deque(at for at in range(number) if self.is_out(at, unknown_in))
         for at in out:
             self.inside[at] = False
@@ -182,10 +179,10 @@ class Answer:
     def is_out(self, at: int, unknown_in: bool) -> bool:
         if at in self.running or self.waits.is_awake(at):
             return True
-        return self.waits.kind(at) == UNKNOWN and not unknown_in
+        return self.waits.kinds[at] == UNKNOWN and not unknown_in
 
     def is_stuck(self, at: int) -> bool:
-        return self.inside[at] and self.waits.kind(at) != ENDED
+        return self.inside[at] and self.waits.kinds[at] != ENDED
 
     def members(self) -> List[int]:
         """Returns the stuck ones in their order."""
@@ -194,13 +191,13 @@ class Answer:
     def dependents(self, at: int) -> Optional[List[int]]:
         """Returns whom the dump names for p, or None where it is active: of ALL one that is stuck, if there is one. A
         hub of ANY is named itself, beside one whose message is in transit."""
-        waits, kind = self.waits, self.waits.kind(at)
+        waits, kind = self.waits, self.waits.kinds[at]
         if kind == UNKNOWN:
             return [] if self.inside[at] else None
         if kind == ANY:
-            there = [other for other in waits.left[at] if waits.kind(other) != ENDED]
+            there = [other for other in waits.left[at] if waits.kinds[other] != ENDED]
             there += [min(waits.senders[at])] if waits.senders[at] and waits.has_hub(at) else []
-            return None if any(waits.kind(it) == ENDED for it in waits.senders[at]) else there
+            return None if any(waits.kinds[it] == ENDED for it in waits.senders[at]) else there
         if kind != ALL or not waits.left[at]:
             return None
         return self.pick(waits.left[at][0] if waits.has_hub(at) else at)
@@ -209,7 +206,7 @@ class Answer:
         """Returns whom the dump names for one that waits for all, or for a hub of such ones: the first that is stuck,
         or else the first."""
         if at not in self.picks:
-            there = [other for other in self.waits.left[at] if self.waits.kind(other) != ENDED]
+            there = [other for other in self.waits.left[at] if self.waits.kinds[other] != ENDED]
             picks = [other for other in there if self.inside[other]] or (there if not self.inside[at] else [])
             self.picks[at] = [min(picks)] if picks else []
         return self.picks[at]
