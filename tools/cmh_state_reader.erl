@@ -314,12 +314,16 @@ start_of(Info) ->
 
 %% What the modules that it runs call, as their files say: `exits` if they may end a process, `stops` if they may have
 %% a supervisor end one, or stop a supervisor, `replies`, `tables` if they may keep a term in one, `timers` if they may
-%% begin one, or if a server in its loop has a limit, `bytes` if they make terms of these.
+%% begin one, or if a server in its loop has a limit, `bytes` if they make terms of these, `halts` if they may end or
+%% restart the node. What ends others may stand in a module that these call.
 code_of(Info) ->
     {_, Stack} = lists:keyfind(current_stacktrace, 1, Info),
     Own = start_of(Info) ++ [Module || {Module, _, _, _} <- Stack],
     Limits = [timers || is_idle(Info), [] =/= on_top(Info, "^y[(][0-9]+[)] +[0-9]+$")],
-    lists:usort(Limits ++ lists:flatmap(fun calls_of_module/1, lists:usort(Own))).
+    Modules = lists:usort(Own),
+    Called = lists:usort(lists:flatmap(fun modules_called/1, Modules)),
+    Ends = [Kind || Kind <- lists:flatmap(fun calls_of_module/1, Called), lists:member(Kind, [exits, halts, stops])],
+    lists:usort(Limits ++ lists:flatmap(fun calls_of_module/1, Modules) ++ Ends).
 
 on_top(Info, Form) ->
     case lists:keyfind(backtrace, 1, Info) of
@@ -330,16 +334,20 @@ on_top(Info, Form) ->
     end.
 
 %% One without a file may call anything, if it is loaded.
--define(ANY, [bytes, exits, replies, stops, tables, timers]).
+-define(ANY, [bytes, exits, halts, replies, stops, tables, timers]).
 -define(STOP, [application, gen_server, proc_lib, 'Elixir.Application', 'Elixir.DynamicSupervisor', 'Elixir.GenServer',
                'Elixir.PartitionSupervisor', 'Elixir.Supervisor']).
 
-calls_of_module(Module) ->
+calls_of_module(Module) -> element(1, calls(Module)).
+
+modules_called(Module) -> element(2, calls(Module)).
+
+%% What a module calls, by its kinds, and the modules of it.
+calls(Module) ->
     Key = {?MODULE, Module},
     case get(Key) of
         undefined ->
-            IsOwn = erlang:module_loaded(Module) andalso not is_of_otp(Module),
-            put(Key, case IsOwn of true -> imports_of(Module); false -> [] end),
+            put(Key, case is_of_otp(Module) of true -> {[], []}; false -> imports_of(Module) end),
             get(Key);
         Known -> Known
     end.
@@ -348,15 +356,19 @@ imports_of(Module) ->
     case code:get_object_code(Module) of
         {_, Code, _} ->
             case beam_lib:chunks(Code, [imports]) of
-                {ok, {_, [{imports, Imports}]}} -> lists:usort(lists:flatmap(fun kind_of/1, Imports));
-                _ -> ?ANY
+                {ok, {_, [{imports, Imports}]}} ->
+                    {lists:usort(lists:flatmap(fun kind_of/1, Imports)), lists:usort([Of || {Of, _, _} <- Imports])};
+                _ -> {?ANY, []}
             end;
-        error -> ?ANY
+        error -> {[Kind || Kind <- ?ANY, erlang:module_loaded(Module)], []}
     end.
 
 kind_of({erlang, exit, Arity}) when Arity > 1 -> [exits];
 kind_of({'Elixir.Process', exit, _}) -> [exits];
 kind_of({'Elixir.Task', shutdown, _}) -> [exits];
+kind_of({init, Name, _}) -> [halts || lists:member(Name, [reboot, restart, stop])];
+kind_of({erlang, halt, _}) -> [halts];
+kind_of({'Elixir.System', Name, _}) -> [halts || lists:member(Name, [halt, restart, stop])];
 kind_of({_, terminate_child, _}) -> [stops];
 kind_of({Module, stop, _}) -> [stops || lists:member(Module, ?STOP)];
 kind_of({erlang, Name, _}) when Name =:= binary_to_term; Name =:= list_to_ref -> [bytes];

@@ -24,7 +24,7 @@ CHILD = re.compile(r"{child,(<[\d.]+>),.*?,(infinity|\d+|brutal_kill),(?:worker|
 IDLE = "waits for requests"
 WORKS = ("running", "runnable", "garbage_collecting", "exiting")
 
-OWN_CHILD, OUTSIDE = "child", "outside"
+OWN_CHILD, OUTSIDE, RESTARTS = "child", "outside", "restarts"
 
 
 class ErlangRecorder(Recorder):
@@ -38,14 +38,19 @@ class ErlangRecorder(Recorder):
         LETS_GO: Premise("a server in its loop that no longer has a call doesn't fail by itself, if its code begins no "
                          "timers"),
         ENDS: Premise("a task answers once, when its function has returned"),
+        RESTARTS: Premise("a supervisor that restarts one child alone doesn't give up, as it does where children fail "
+                          "again and again"),
         OWN_CHILD: Premise("a supervisor that starts or stops a child waits for that child alone"),
         OUTSIDE: Premise("no timer answers a call, and a process is ended only by who has a link to it (a registry of "
                          "Elixir's doesn't fail), by what fails below its supervisor, and by code that ends others or "
-                         "has a supervisor do so"),
+                         "has a supervisor do so, of the modules that somebody runs or that these call"),
     }
 
+    def __init__(self) -> None:
+        self.known: Dict[bytes, Block] = {}
+
     def read(self, state: State) -> Sequence[Reading]:
-        return readings_of(state.path, state.text)
+        return readings_of(state.path, state.text, self.known)
 
     def begin(self, readings: List[Reading]) -> None:
         """Checks that the states are of one system, and names its nodes apart."""
@@ -72,8 +77,8 @@ class ErlangRecorder(Recorder):
             for tail in block.tails:
                 moment.has_tail[tail].append(block)
         moment.enders = stoppers_of(moment.rows())
-        for keys in (("links", "trap_exit"), ("references", "may_end"), ("closures", "code")):
-            if any(block.extra(key) is not None for block in moment.rows() for key in keys):
+        for keys in ({"links", "trap_exit"}, {"references", "may_end"}, {"closures", "code"}):
+            if not all(keys.isdisjoint(block.items) for block in moment.rows()):
                 for block in moment.rows():
                     block.need(keys)
         add_enders(moment)
@@ -109,7 +114,8 @@ class ErlangRecorder(Recorder):
         """Returns the process of a block. Who may end it ends any wait of it."""
         made = self.wait_of_block(subject, moment)
         if made.kind != RUNS:
-            made.because.append(premise(OUTSIDE))
+            is_spared = (subject.node, subject.pid) in moment.spared
+            made.because += [premise(OUTSIDE), *([premise(RESTARTS)] if is_spared else [])]
         enders = [moment.name(it) for it in moment.enders[subject.node, subject.pid] if it is not subject]
         if subject.node in moment.cut:
             enders.append(f"{self.labels[subject.node]}/{REST}")

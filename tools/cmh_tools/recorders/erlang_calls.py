@@ -18,15 +18,16 @@ REGISTRY = "'Elixir.Registry.Partition'"
 class Nodes(Moment):
     """The processes of all nodes at one time: by what others know them by, and by the tails of the references that they
     have; their names in the sketch; each answer that is under way, as (sender, receiver); who may end a process, by
-    its node and pid; who has a fun that may have any reference; the limits of the receives in a function, by its node
-    and its name; where a reference may be that no process has, in words, or nothing; and the nodes whose states aren't
-    whole."""
+    its node and pid; who stands below a supervisor that restarts one alone, beside others that may fail; who has a fun
+    that may have any reference; the limits of the receives in a function, by its node and its name; where a reference
+    may be that no process has, in words, or nothing; and the nodes whose states aren't whole."""
 
     by_key: Dict[Key, Block]
     has_tail: Dict[str, List[Block]]
     name: Callable[[Block], str]
     answers: List[Tuple[str, str]]
     enders: Dict[Key, List[Block]]
+    spared: Set[Key]
     closures: List[Block]
     limits: Dict[Tuple[str, ...], Tuple[List[str], str]]
     elsewhere: str
@@ -94,8 +95,7 @@ def keeps_elsewhere(server: Block, moment: Nodes, is_held: bool) -> str:
 def may_fail(server: Block, moment: Nodes) -> List[Block]:
     """Returns those by which a server may fail that has let go of a call: itself, if it is at work or may wake by
     itself, and who may take it along."""
-    is_asleep = server.is_loop() and "timers" not in server.code() and server.messages == "[]"
-    return [*([] if is_asleep else [server]), *moment.enders[server.node, server.pid]]
+    return [*([] if server.is_asleep() else [server]), *moment.enders[server.node, server.pid]]
 
 
 def callees(block: Block, moment: Nodes) -> Tuple[List[Optional[Block]], List[str]]:

@@ -1,11 +1,11 @@
 """Erlang: who may end a process, whatever it waits for: who fails and has a link to it, who kills it or has a
-supervisor end it, and who fails below a supervisor that then ends all its children.
+supervisor end it, who fails below a supervisor that then ends all its children, and who ends the node.
 """
 from __future__ import annotations
 
 import re
 from collections import defaultdict
-from typing import Any, Callable, DefaultDict, Dict, Iterable, List
+from typing import Any, Callable, DefaultDict, Dict, Iterable, Iterator, List, Tuple
 
 from .erlang_calls import REGISTRY, Nodes
 from .erlang_text import Block, Key
@@ -51,12 +51,14 @@ def stoppers_of(blocks: List[Block]) -> Dict[Key, List[Block]]:
 def add_enders(moment: Nodes) -> None:
     """Adds for each process who may end it, to those that start or stop it."""
     above, below = supervised(moment)
-    ending, stopping = by_code(moment, "exits"), by_code(moment, "stops")
+    ending, stopping, halting = (by_code(moment, word) for word in ("exits", "stops", "halts"))
     for block in moment.rows():
         enders = moment.enders[block.node, block.pid]
         enders += linked_to(block, moment) + failing_beside(block, above, below)
         enders += ending[block.node] if block.role not in ("[]", "") else []
         enders += stopping[block.node] if block in above else []
+        enders += halting[block.node]
+    moment.spared = {(block.node, block.pid) for block in above if is_spared(block, above, below)}
     for block in moment.rows():
         for pid in block.may_end():
             moment.enders[block.node, pid].append(block)
@@ -82,15 +84,25 @@ def supervised(moment: Nodes) -> Any:
     return above, below
 
 
-def failing_beside(block: Block, above: Dict[Block, Block], below: Dict[Block, List[Block]]) -> List[Block]:
-    """Those that may fail below a supervisor above a process, which isn't known to restart one alone."""
-    found: List[Block] = []
+def supervisors_of(block: Block, above: Dict[Block, Block]) -> Iterator[Tuple[Block, Block]]:
+    """Yields each supervisor above a process, behind the child through which it is above."""
     seen = set()
     while block in above and block not in seen:
         seen.add(block)
-        child, block = block, above[block]
-        found += [] if block.restarts_one() else [it for it in below[block] if it is not child]
-    return found
+        yield block, above[block]
+        block = above[block]
+
+
+def failing_beside(block: Block, above: Dict[Block, Block], below: Dict[Block, List[Block]]) -> List[Block]:
+    """Those that may fail below a supervisor above a process, which isn't known to restart one alone."""
+    return [it for child, supervisor in supervisors_of(block, above) if not supervisor.restarts_one()
+            for it in below[supervisor] if it is not child]
+
+
+def is_spared(block: Block, above: Dict[Block, Block], below: Dict[Block, List[Block]]) -> bool:
+    """Whether a supervisor above a process restarts others alone that may fail, as long as it doesn't give up."""
+    return any(it is not child and not it.is_asleep() for child, supervisor in supervisors_of(block, above)
+               if supervisor.restarts_one() for it in below[supervisor])
 
 
 def linked_to(block: Block, moment: Nodes) -> List[Block]:

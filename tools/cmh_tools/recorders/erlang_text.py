@@ -3,6 +3,7 @@ from __future__ import annotations
 
 import re
 from functools import lru_cache
+from hashlib import blake2b
 from sys import intern
 from typing import Dict, Iterable, Iterator, List, NamedTuple, Optional, Set, Tuple, Union
 
@@ -50,6 +51,7 @@ ANY_WORD = re.compile(r"\w+")
 REGISTER = re.compile(r"^y\(\d+\) +(.*)$", re.M)
 COUNTS = {"left out", "nodes", "receives", "timers"}
 CUT = "cut"  # in place of what is too long to be read
+REDUCTIONS = "\n{reductions,"
 KEPT, SHORT = 65536, 60  # functions whose names are kept; of a value that many processes may share
 Key = Union[str, Tuple[str, str]]  # of a process: its node and pid, or its name
 Function = Tuple[str, str, str]  # its module, its name and its arity
@@ -155,6 +157,10 @@ class Block:
         """Whether it is a server that waits for requests."""
         return bool(self.stack) and LOOPS.match(self.stack[0]) is not None
 
+    def is_asleep(self) -> bool:
+        """Whether it is a server that waits for a request, has none, and isn't woken by a timer of its code."""
+        return self.is_loop() and "timers" not in self.code() and self.messages == "[]"
+
     def is_in_library(self) -> bool:
         return OF_SYSTEM.fullmatch(self.function[0]) is not None
 
@@ -170,10 +176,10 @@ class Block:
         """Whether one of these requests lies unread in its mailbox, or is what its callback is at work on."""
         return not tails.isdisjoint(self.requests)
 
-    def need(self, keys: Iterable[str]) -> None:
+    def need(self, keys: Set[str]) -> None:
         """Says of its text that it isn't understood if it lacks an item that texts of its state have."""
-        for key in keys:
-            self.item(key)
+        if not keys <= self.items.keys():
+            self.item(min(keys - self.items.keys()))
 
     def linked(self) -> List[str]:
         """The pids of those that take it along if they fail. One that traps exits outlives them."""
@@ -185,7 +191,7 @@ class Block:
 
     def code(self) -> List[str]:
         """What the modules that it runs call: `bytes`, `exits`, `replies`, `stops`, `tables`, `timers`."""
-        return ANY_WORD.findall(self.extra("code") or "")
+        return words_of(self.extra("code") or "")
 
     def is_supervisor(self) -> bool:
         return self.start[0] == "supervisor"
@@ -217,6 +223,12 @@ def shared_call(*words: str) -> Call:
 def of_elixir(text: str) -> str:
     """Returns a text with modules of Elixir as its programs name them: Shop.Server."""
     return OF_ELIXIR.sub(r"\1", text) if "'Elixir." in text else text
+
+
+@lru_cache(maxsize=KEPT)
+def words_of(text: str) -> List[str]:
+    """Returns the words of a text. Processes of one module share these lists, which nobody changes."""
+    return ANY_WORD.findall(text)
 
 
 @lru_cache(maxsize=KEPT)
@@ -259,12 +271,30 @@ def parts_of(text: str) -> Iterator[Tuple[str, str]]:
         yield word, text[begin:].rstrip("\n")
 
 
-def readings_of(path: str, text: str) -> List[NodeReading]:
-    """Returns the readings of a text in their order: where a process of a node stands again, another one begins."""
+def block_of(text: str, path: str, known: Dict[bytes, Block]) -> Block:
+    """Returns what is printed of one process. Of one that stands as it stood before, but for its reductions and where
+    these are printed, they alone are read. `known` has the blocks by the digest of their other text."""
+    front, _, back = text.partition(REDUCTIONS)
+    count, _, rest = back.partition("}")
+    if not count.isdigit():
+        return Block(text, path)
+    digest = blake2b(f"{front}{rest}".encode(), digest_size=16).digest()
+    if digest not in known:
+        known[digest] = Block(text, path)
+        return known[digest]
+    block = Block.__new__(Block)
+    vars(block).update(vars(known[digest]))
+    block.count = count
+    return block
+
+
+def readings_of(path: str, text: str, known: Dict[bytes, Block]) -> List[NodeReading]:
+    """Returns the readings of a text in their order: where a process of a node stands again, another one begins.
+    `known` has the blocks that were read before."""
     found: List[NodeReading] = []
     pids: Set[str] = set()
     for word, part in parts_of(text.replace("\r\n", "\n")):
-        block = Block(part, path) if word == "process" else None
+        block = block_of(part, path, known) if word == "process" else None
         words = part.split("\n")[0].split()
         node = block.node if block else words[-1] if words else ""
         last = found[-1] if found else None
