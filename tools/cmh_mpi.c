@@ -478,6 +478,12 @@ int MPI_Testsome(int n, MPI_Request *requests, int *done, int *indices, MPI_Stat
     looked(r, *done != 0, *done == MPI_UNDEFINED ? 0 : *done, indices);
     return error;
 }
+int MPI_Request_get_status(MPI_Request request, int *flag, MPI_Status *status) {
+    struct record *r = look(TEXT("Request_get_status"), 1, &request, HERE);
+    int error = PMPI_Request_get_status(request, flag, status);
+    looked(r, *flag, 0, NULL);
+    return error;
+}
 int MPI_Iprobe(int source, int tag, MPI_Comm comm, int *flag, MPI_Status *status) {
     struct record *r = look(TEXT("Iprobe"), 0, NULL, HERE);
     int error = PMPI_Iprobe(source, tag, comm, flag, status);

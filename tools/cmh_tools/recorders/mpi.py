@@ -46,7 +46,7 @@ PROGRESS = re.compile(r"(progress_engine|listen_thread|ucs_async_thread_func)$")
 COLLECTIVES = re.compile(r"_(Barrier|All\w+|Reduce_scatter\w*|Comm_(split|dup|create|free)\w*|Win_(fence|create|free)"
                          r"|File_\w+_all\w*)$")
 WAITS = re.compile(r"_Wait(all|any|some)?$")  # of a request, which may be that of a collective
-POLLS = re.compile(r"(Test|Testall|Testany|Testsome|Iprobe|Improbe)$")
+POLLS = re.compile(r"(Test|Testall|Testany|Testsome|Iprobe|Improbe|Request_get_status)$")
 # (Open MPI begins to receive, sends, and then waits for what it receives.)
 HALVES = (r"mca_pml_\w+_send$", "sends"), (r"ompi_request_default_wait$", "receives")
 SLEEPS = re.compile(r"(__GI_)?_*(clock_)?(nano|u)?sleep$")

@@ -77,6 +77,10 @@ class Rank:
         """Those of it that may send: its threads, or itself."""
         return [it.name for it in self.threads] or [self.name]
 
+    def is_away(self) -> bool:
+        """Whether it is in no call of MPI, or only looks into one now and then."""
+        return all(it.kind in (0, POLL) for it in self.threads)
+
     def in_finalize(self) -> bool:
         return any(it.row.get("name") == "Finalize" and it.kind == OTHER for it in self.threads)
 
@@ -394,6 +398,10 @@ def need_of_meeting(thread: Thread, moment: Job, comm: Dict[str, Any], row: Dict
     if late.why or row["number"] < 1:
         return Need(why=late.why or "the record doesn't have its number")
     ranks = ranks_of(comm) or []
+    away = next((it for it in ranks if it in moment.ranks and it not in late.ranks and moment.ranks[it].is_away()), None)
+    if away is not None and "meeting" in row:
+        return Need(moment.ranks[away].names(), why=f"rank {away} has begun the same call, and goes on with it only when "
+                    "it calls MPI again")
     is_root = comm["rank"] == root
     if kind == FROM_ROOT and not is_root and ranks[root:root + 1] and ranks[root] in late.ranks:
         return all_of([ranks[root]], moment, late)
