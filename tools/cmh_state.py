@@ -17,6 +17,7 @@ open, with the signal's name in it, where Linux has such files. /proc/PID/fd sho
 A state is lines of JSON, each behind `cmh-state `. It has names of the machine, files, functions, threads, tasks and
 locks, limits of waits, and no other values. It needs CPython 3.8 or later on a system with signals, so not Windows.
 """
+import collections
 import contextlib
 import dis
 import faulthandler
@@ -45,12 +46,14 @@ LOCALS = ("self", "timeout", "fs", "fut", "future", "return_when", "work_queue",
 WORDS = ("ALL_COMPLETED", "FIRST_COMPLETED", "FIRST_EXCEPTION")
 CANCELS = {"cancel", "all_tasks", "set_result", "set_exception"}
 FINAL = (signal.SIGINT, signal.SIGTERM)  # signals that end a program
-FATAL = ("_exit", "abort", "kill", "killpg", "interrupt_main", "pthread_kill", "raise_signal")
+FATAL = {"_exit", "abort", "kill", "killpg", "interrupt_main", "pthread_kill", "raise_signal", "execl", "execle", "execlp",
+         "execlpe", "execv", "execve", "execvp", "execvpe"}
 OTHER_TASKS = ("gevent", "eventlet", "trio", "curio", "twisted.internet")
 CALLED = (types.FunctionType, types.BuiltinFunctionType, types.MethodType)
 PYTHON_RLOCK = getattr(threading, "_PyRLock")
 RLOCKS = (type(threading.RLock()), PYTHON_RLOCK)
 LOCK = type(threading.Lock())
+ROWS = (list, tuple, set, frozenset, collections.deque)
 BLOCKS = ("SETUP_WITH", "SETUP_ASYNC_WITH", "SETUP_FINALLY")  # before Python 3.11
 BEGIN = ("BEFORE_WITH", "SETUP_WITH", "BEFORE_ASYNC_WITH", "SETUP_ASYNC_WITH")
 WITH = {dis.opmap[name] for name in BEGIN if name in dis.opmap}
@@ -675,10 +678,10 @@ def is_child(value):
 
 def insides(value):
     """What a list or the like has, what a function sees, or the attributes of an object of the program."""
-    if type(value) in (list, tuple, set, frozenset):
+    if type(value) in ROWS:
         return list(value)
-    if type(value) is dict:
-        return list(value.values())
+    if issubclass(type(value), dict):
+        return list(dict.values(value))
     if type(value) is types.FunctionType:
         return inside_function(value)
     if type(value) in (types.MethodType, types.BuiltinMethodType):
@@ -716,13 +719,6 @@ def attributes_in(value):
     return found
 
 
-def ends_of(frames):
-    """The calls that end a process, or a wait by a signal, which the code of these frames of the program names."""
-    own = [frame.f_code.co_names for frame, _ in frames
-           if not LIBRARIES.match(frame.f_globals.get("__name__") or "")]
-    return [name for name in FATAL if any(name in names for names in own)]
-
-
 # Whether what some frames may still come to names what cancels a task or a future, or sets one.
 
 
@@ -752,13 +748,20 @@ def called_later(frames):
         has_begun = frame.f_code.co_name != "run" or any(is_own(each) for each, _ in frames[:place])
         if not is_own(frame) and not (is_thread and has_begun):
             found += called_by(frame)
-    return spread(spread(found))
+    return spread(found)
 
 
 def spread(values):
-    """Values, and what those have that are lists or the like."""
-    kinds = (list, tuple, dict, functools.partial, types.MethodType)
-    return [*values, *(each for value in values if type(value) in kinds for each in insides(value))]
+    """Values, and what those have that are lists or the like, also within one another."""
+    found = last = list(values)
+    for _ in range(NEAR):
+        last = [each for value in last if holds_others(value) for each in insides(value)]
+        found = found + last
+    return found
+
+
+def holds_others(value):
+    return type(value) in (*ROWS, functools.partial, types.MethodType) or issubclass(type(value), dict)
 
 
 def kinds_of(values):
@@ -783,35 +786,55 @@ def named_by(names, places):
     return spread(found + [each[name] for each in kinds for name in names if name in each])
 
 
-def reaches(words, frames, start_of, called=()):
-    """Whether the code of some frames of the program from a step on has one of some names, or functions have it that
-    this names, some steps far, or that will be called."""
+def reached(words, frames, start_of, called=()):
+    """Yields those of some names that the code of frames of the program from a step on has, or functions that this
+    names, some steps far, or that will be called."""
     ways = [(names_ahead(frame.f_code, start_of(frame)), (frame.f_locals, frame.f_globals))
             for frame, _ in frames if is_own(frame)]
-    values, seen = [*called, *called_later(frames)], set()
+    values, seen, objects = [*called, *called_later(frames)], set(), []
     for _ in range(NEAR + 1):
         values += [value for names, places in ways for value in named_by(names, places)]
+        objects += [each for each in map(attributes_of, values) if each]
         names = {value.__name__ for value in values if type(value) in CALLED}
-        if not words.isdisjoint(names.union(*(names for names, _ in ways))):
-            return True
+        yield from words.intersection(names.union(*(names for names, _ in ways)))
         new = {value for value in values if type(value) is types.FunctionType and is_foreign(value)} - seen
         seen |= new
         LEFT["codes"] -= len(new)
         if LEFT["codes"] < 0:
-            return True
-        ways = [(names_ahead(each.__code__, 0), (cells_in(each), each.__globals__)) for each in new]
+            yield from words
+            return
+        ways = [(names_ahead(each.__code__, 0), (cells_in(each), each.__globals__, *objects)) for each in new]
         values = []
-    return False
+
+
+def from_step(frame):
+    return frame.f_lasti
+
+
+def from_start(frame):
+    """The first step that counts of what a frame may have done or may do: a module's code runs once alone."""
+    return frame.f_lasti if frame.f_code.co_name == "<module>" else 0
 
 
 def may_cancel(frames, called=()):
     """Whether these frames may still come to what ends the wait for a task or a future of others."""
-    return reaches(CANCELS, frames, lambda frame: frame.f_lasti, called)
+    return any(reached(CANCELS, frames, from_step, [*called, *spread(finalized())]))
+
+
+def finalized():
+    """What is called once an object goes, which any code may bring about."""
+    found = list(getattr(weakref.finalize, "_registry", {}).values())
+    return [part for each in found for part in (each.func, each.args)]
 
 
 def may_release(frames):
-    """Whether these frames may give back a lock, or have done so: a module's code runs once alone."""
-    return reaches({"release"}, frames, lambda frame: frame.f_lasti if frame.f_code.co_name == "<module>" else 0)
+    """Whether these frames may give back a lock, or have done so."""
+    return any(reached({"release"}, frames, from_start))
+
+
+def may_end(frames):
+    """The calls that end a process, or a wait by a signal, to which these frames may come."""
+    return sorted(set(reached(FATAL, frames, from_start)))
 
 
 def is_foreign(function):
@@ -886,7 +909,7 @@ def thread_rows(before, spent, holders):
             "thread": ident, "name": thread.name if thread else f"foreign-{ident}", "native": native,
             "daemon": thread.daemon if thread else True, "main": thread is threading.main_thread(),
             "moved": before.get(ident) != now.get(ident), **counts, "holds": guarded(holders.held, frames),
-            "ends": guarded(ends_of, frames), "cancels": guarded(may_cancel, frames),
+            "ends": guarded(may_end, frames), "cancels": guarded(may_cancel, frames),
             "loop": hex(id(loop)) if loop is not None else None, "call": call,
             **guarded(inside_thread, frames),
             "frames": shown})
@@ -964,7 +987,17 @@ def handles_of(loop):
 def callbacks_of(loop):
     """The names of what timers of a loop will call, or sockets, that may cancel a task."""
     found = {foreign_name(each._callback, True) for each in timers_of(loop)}
-    return sorted(filter(None, found | {foreign_name(each._callback, False) for each in readers_of(loop)}))
+    found |= {foreign_name(each._callback, False) or protocol_of(each._callback) for each in readers_of(loop)}
+    return sorted(filter(None, found))
+
+
+def protocol_of(callback):
+    """The name of the program's protocol that a transport calls, if its code may cancel a task, or nothing."""
+    protocol = getattr(getattr(callback, "__self__", None), "_protocol", None)
+    kind = type(protocol)
+    if LIBRARIES.match(kind.__module__) or not any(reached(CANCELS, [], from_step, functions_of([kind]))):
+        return ""
+    return f"{kind.__module__}.{kind.__qualname__}"
 
 
 def handlers_of(loop):
@@ -1031,7 +1064,7 @@ def task_row(task, timers, before, holders):
         "moved": id(task) in before and before[id(task)] != place, "wait": place[-1],
         "waits": describe(waiter), "limit": id(task) in timers or (waiter is not None and id(waiter) in timers),
         "sets": [hex(id(future)) for future in sets if future is not None], **parent_of(task),
-        "holds": guarded(holders.held, chain), "ends": guarded(ends_of, chain),
+        "holds": guarded(holders.held, chain), "ends": guarded(may_end, chain),
         "cancels": guarded(may_cancel, chain, spread([each for each, _ in getattr(task, "_callbacks", None) or ()])),
         **guarded(inside_task, coroutine),
         "frames": [guarded(frame_row, *each) for each in chain]}

@@ -68,7 +68,7 @@ class Jobs(Moment):
 
 
 KILLS = {"kill", "killpg"}  # calls that end any process, by its number
-ENDS = re.compile(r"(_thread\.interrupt_main|_signal\.(raise_signal|pthread_kill)|posix\.(kill|killpg|_exit|abort))$")
+ENDS = re.compile(r"(_thread\.interrupt_main|_signal\.(raise_signal|pthread_kill)|posix\.(kill|killpg|_exit|abort|exec\w+))$")
 
 
 def timer_of(look: Look) -> str:

@@ -67,7 +67,11 @@ def by_sleep(standing: Standing) -> Optional[Wait]:
 
 
 def by_step(standing: Standing) -> Optional[Wait]:
-    return Wait(RUNS, reason="it moved between two looks") if standing.row.more.get("moved") is True else None
+    """One that has moved runs. In a function of the module `select` it may only look again and again, with a limit."""
+    more = standing.row.more
+    if standing.call.get("module") == "select" and more.get("asleep") is True and more.get("new_stops"):
+        return limited("it looks again and again")
+    return Wait(RUNS, reason="it moved between two looks") if more.get("moved") is True else None
 
 
 def limit_of(call: Dict[str, Any]) -> Any:
