@@ -46,8 +46,8 @@ LOCALS = ("self", "timeout", "fs", "fut", "future", "return_when", "work_queue",
 WORDS = ("ALL_COMPLETED", "FIRST_COMPLETED", "FIRST_EXCEPTION")
 CANCELS = {"cancel", "all_tasks", "set_result", "set_exception"}
 FINAL = (signal.SIGINT, signal.SIGTERM)  # signals that end a program
-FATAL = {"_exit", "abort", "kill", "killpg", "interrupt_main", "pthread_kill", "raise_signal", "execl", "execle", "execlp",
-         "execlpe", "execv", "execve", "execvp", "execvpe"}
+FATAL = {"_exit", "abort", "kill", "killpg", "interrupt_main", "pthread_kill", "raise_signal",
+         "execl", "execle", "execlp", "execlpe", "execv", "execve", "execvp", "execvpe"}
 OTHER_TASKS = ("gevent", "eventlet", "trio", "curio", "twisted.internet")
 CALLED = (types.FunctionType, types.BuiltinFunctionType, types.MethodType)
 PYTHON_RLOCK = getattr(threading, "_PyRLock")

@@ -398,10 +398,11 @@ def need_of_meeting(thread: Thread, moment: Job, comm: Dict[str, Any], row: Dict
     if late.why or row["number"] < 1:
         return Need(why=late.why or "the record doesn't have its number")
     ranks = ranks_of(comm) or []
-    away = next((it for it in ranks if it in moment.ranks and it not in late.ranks and moment.ranks[it].is_away()), None)
-    if away is not None and "meeting" in row:
-        return Need(moment.ranks[away].names(), why=f"rank {away} has begun the same call, and goes on with it only when "
-                    "it calls MPI again")
+    come = [moment.ranks[it] for it in ranks if it in moment.ranks and it not in late.ranks]
+    away = next(filter(Rank.is_away, come), None) if "meeting" in row else None
+    if away is not None:
+        return Need(away.names(), why=f"rank {away.number} has begun the same call, and goes on with it only when it "
+                    "calls MPI again")
     is_root = comm["rank"] == root
     if kind == FROM_ROOT and not is_root and ranks[root:root + 1] and ranks[root] in late.ranks:
         return all_of([ranks[root]], moment, late)

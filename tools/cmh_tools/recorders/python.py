@@ -68,7 +68,8 @@ class Jobs(Moment):
 
 
 KILLS = {"kill", "killpg"}  # calls that end any process, by its number
-ENDS = re.compile(r"(_thread\.interrupt_main|_signal\.(raise_signal|pthread_kill)|posix\.(kill|killpg|_exit|abort|exec\w+))$")
+ENDS = re.compile(r"(_thread\.interrupt_main|_signal\.(raise_signal|pthread_kill)"
+                  r"|posix\.(kill|killpg|_exit|abort|exec\w+))$")
 
 
 def timer_of(look: Look) -> str:

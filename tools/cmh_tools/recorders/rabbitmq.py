@@ -37,12 +37,13 @@ SHAPES = {
                             "taken?": [{"channel": str, "number": int}]}}),
 }
 HEARTBEAT = 8  # bytes of the frame, a packet of its own
-READY, MOVES, ROUTED, ACTS, KEEPS, EXPIRES = "ready", "moves", "routed", "acts", "keeps", "expires"
+READY, MOVES, ROUTED, ACTS, KEEPS, EXPIRES, HANDLES = ("ready", "moves", "routed", "acts", "keeps", "expires",
+                                                       "handles")
 FINE = "fine"  # the statistics that count who publishes to which queue
 TO_COME, UNSEEN, TIMEOUT = "other-publishers", "unseen-work", "consumer-timeout"
 STAND_INS = {  # who stands for what no state shows, and for what
-    TO_COME: "stands for whoever will publish to a queue to which it hasn't published since it connected, as a mailer "
-             "that hasn't published to 'receipts' yet",
+    TO_COME: "stands for whoever will publish to a queue to which no channel that it has open has published: as a mailer "
+             "that hasn't published to 'receipts' yet, or one that opens a channel for each message",
     UNSEEN: "stands for what a service that waits at its queues does besides: by a timer, at a request from outside, "
             "or on a message that it has acknowledged already",
     TIMEOUT: "stands for the broker's limit, 30 minutes if nobody has set another one, after which a message that "
@@ -226,6 +227,8 @@ class RabbitmqRecorder(Recorder):
                         "nor by its name"),
         ACTS: Premise("a service acknowledges a message only once it is done with it, does nothing by itself, as by a "
                       "timer, and waits for no direct reply but of one to which its messages may have come"),
+        HANDLES: Premise("a service that has a message keeps it: the broker doesn't close its channel, as it does after "
+                         "its consumer_timeout, 30 minutes if nobody has set another one"),
         KEEPS: Premise("a consumer that stands by gets no message while the channel of the active one is there"),
     }
 
@@ -284,7 +287,7 @@ def at_work(service: Service, name: str, more: Dict[str, Any]) -> Process:
     has_replies = 0 < len(replies) < len(service.queues)
     more.update(operation="reply" if has_replies else "handle", objects=service.places())
     does = f"may wait for a reply in {shown(replies[0])}" if has_replies else "the broker can't tell what it does"
-    return unknown(name, f"it has a message that isn't acknowledged, and {does}", **more)
+    return unknown(name, f"it has a message that isn't acknowledged, and {does}", because=[premise(HANDLES)], **more)
 
 
 def wait_of_consumer(service: Service, name: str, more: Dict[str, Any]) -> Process:
