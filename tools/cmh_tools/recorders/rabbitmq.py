@@ -42,7 +42,7 @@ READY, MOVES, ROUTED, ACTS, KEEPS, EXPIRES, HANDLES = ("ready", "moves", "routed
 FINE = "fine"  # the statistics that count who publishes to which queue
 TO_COME, UNSEEN, TIMEOUT = "other-publishers", "unseen-work", "consumer-timeout"
 STAND_INS = {  # who stands for what no state shows, and for what
-    TO_COME: "stands for whoever will publish to a queue to which no channel that it has open has published: as a mailer "
+    TO_COME: "stands for whoever will publish to a queue to which no channel that it has open has published: a mailer "
              "that hasn't published to 'receipts' yet, or one that opens a channel for each message",
     UNSEEN: "stands for what a service that waits at its queues does besides: by a timer, at a request from outside, "
             "or on a message that it has acknowledged already",
@@ -227,8 +227,8 @@ class RabbitmqRecorder(Recorder):
                         "nor by its name"),
         ACTS: Premise("a service acknowledges a message only once it is done with it, does nothing by itself, as by a "
                       "timer, and waits for no direct reply but of one to which its messages may have come"),
-        HANDLES: Premise("a service that has a message keeps it: the broker doesn't close its channel, as it does after "
-                         "its consumer_timeout, 30 minutes if nobody has set another one"),
+        HANDLES: Premise("a service that has a message keeps it: the broker doesn't close its channel, as it does "
+                         "after its consumer_timeout, 30 minutes if nobody has set another one"),
         KEEPS: Premise("a consumer that stands by gets no message while the channel of the active one is there"),
     }
 
