@@ -525,7 +525,7 @@ class Sockets:
             here = row.to[0] in local or is_loopback(row.to[0])
             if row.inode:
                 self.rows[row.inode] = {"kind": "tcp", "state": row.state, "at": address(row.at),
-                                        "to": address(row.to), "peers": peers, "away": not here}
+                                        "to": address(row.to), "peers": peers, "away": not here, "timer": row.timer}
 
 
 def unix_rows(prefix: List[str], warnings: List[str]) -> List[List[str]]:
@@ -543,12 +543,14 @@ def unix_rows(prefix: List[str], warnings: List[str]) -> List[List[str]]:
 
 
 class TcpRow:
-    """A line of /proc/net/tcp. Its two ends are pairs of address and port, as the kernel writes them."""
+    """A line of /proc/net/tcp. Its two ends are pairs of address and port, as the kernel writes them. `timer` says
+    whether the kernel has one for it, without which no limit of a connection comes."""
 
     def __init__(self, line: str) -> None:
         words = line.split()
         self.at, self.to = end_of(words[1]), end_of(words[2])
         self.state, self.inode = "LISTEN" if words[3] == "0A" else words[3], int(words[9])
+        self.timer = not words[5].startswith("00:")
 
     def takes(self, to: Tuple[str, str]) -> bool:
         """Whether one that listens takes connections to an end. One of all addresses of IPv6 takes those of IPv4 too.

@@ -6,7 +6,7 @@ from dataclasses import dataclass, field
 from typing import List, Tuple
 
 from ..sketch import LIMIT
-from .linux_text import OPEN, READS, WRITES, Machine, Owner, Thread, some_names
+from .linux_text import OPEN, READS, WRITES, Machine, Owner, Row, Thread, some_names
 
 FILES, FIFO, REMOTE, UNTIMED, GROUP = "files", "fifo", "remote", "untimed", "group"
 READ = ("read", "readv", "pread64", "preadv", "recvfrom", "recvmsg", "recvmmsg")
@@ -146,11 +146,20 @@ def ends_of_socket(machine: Machine, thread: Thread, target: str) -> Ends:
         return Ends(why="to whom it sends isn't known", what=what)
     ends = [owner for peer in row["peers"] for owner in machine.with_file(f"socket:[{peer}]")]
     others = list(dict.fromkeys(ends))
-    found = found_ends(thread, others, what, [FILES, UNTIMED])
+    found = found_ends(thread, others, what, [FILES, UNTIMED] if may_time_out(machine, thread, row) else [FILES])
     # Whoever has the same end may shut it down.
     same = threads_of(machine.with_file(target), thread, False)
     found.whom += [it for it in same if found.whom and it not in found.whom]
     return found
+
+
+def may_time_out(machine: Machine, thread: Thread, row: Row) -> bool:
+    """Whether a limit of a socket may end a wait at it. To one that polls only that of TCP matters, which needs a timer
+    of the kernel at one of the ends."""
+    if thread.call not in (*SETS, *EPOLLS):
+        return True
+    ends = [row, *(machine.sockets.get(peer, {}) for peer in row["peers"])]
+    return row["kind"] == "tcp" and any(it.get("timer") is not False for it in ends)
 
 
 def ends_of_anonymous(machine: Machine, thread: Thread, it: List[str]) -> Ends:
@@ -218,7 +227,7 @@ def joined(parts: List[Ends], more: List[Thread]) -> Ends:
         return Ends(runs=going.runs, premises=going.premises, what=what, others=others)
     why = next((it.why for it in parts if it.why), "" if parts else "it waits for no descriptor, but for a signal")
     whom = list(dict.fromkeys([*(thread for it in parts for thread in it.whom), *more]))
-    premises = list(dict.fromkeys(name for it in parts for name in it.premises if name != UNTIMED))
+    premises = list(dict.fromkeys(name for it in parts for name in it.premises))
     return Ends(whom, why, "", premises, what, others, is_exact=all(it.is_exact for it in parts))
 
 

@@ -1,4 +1,5 @@
 """Stalls at the corners of calls, each with its healthy twin: what a simpler rule takes for another wait."""
+import contextlib
 import ctypes
 import fcntl
 import os
@@ -227,6 +228,43 @@ def datagram_pair(is_slow=False):
     vector = (ctypes.c_ulong * 2)(ctypes.addressof(data), 100)
     message = (ctypes.c_ulong * 8)(0, 0, ctypes.addressof(vector), 1)
     LIBC.recvmmsg(near.fileno(), message, 1, 0, (ctypes.c_long * 2)(1, 0))
+
+
+def client(work, is_slow):
+    """Starts a client, which works at its end of a connection over TCP, or sleeps. Returns the other end."""
+    with socket.create_server(("127.0.0.1", 0)) as listener:
+        near = socket.create_connection(listener.getsockname())
+        far = listener.accept()[0]
+
+    def wait():
+        far.close()
+        rest() if is_slow else work(near)
+
+    start("client", wait)
+    near.close()
+    call_me("server")
+    return far
+
+
+def tcp_polls(is_slow=False):
+    """A server and a client poll at both ends of a connection for what neither sends. The kernel has no timer for it,
+    so no limit of it comes."""
+    far = client(lambda near: select.select([near], [], []), is_slow)
+    select.select([far], [], [])
+
+
+def tcp_limit(is_slow=False):
+    """A server and a client send to each other before they receive, and poll for room. The kernel asks for that again
+    and again, and TCP_USER_TIMEOUT would end it."""
+
+    def send(own):
+        own.setblocking(False)
+        with contextlib.suppress(BlockingIOError):
+            while True:
+                own.send(FULL)
+        select.select([], [own], [])
+
+    send(client(send, is_slow))
 
 
 def backlog(is_slow=False):
