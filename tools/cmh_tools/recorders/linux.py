@@ -18,8 +18,8 @@ from .linux_locks import SETLKW, ends_of_lock
 from .linux_stacks import BARRIER, STACK, add_stacks, ends_of_futex, hint, meeting_of, own_frames, system_of
 from .linux_text import ENDED as GONE
 from .linux_text import READS, WRITES, Machine, Owner, Row, Thread, readings_of, rows_of
-from .linux_waits import (ACCEPTS, EPOLLS, FIFO, FILES, FORKS, GROUP, MOVES, OPENS, READ, REMOTE, SETS, SIGCHLD, SLEEPS,
-                          SUSPENDS, UNTIMED, WRITE, Ends, ends_of, ends_of_connect, ends_of_set, ends_of_wait,
+from .linux_waits import (ACCEPTS, EPOLLS, FIFO, FILES, FORKS, GROUP, MOVES, OPENS, PIPE, READ, REMOTE, SETS, SIGCHLD,
+                          SLEEPS, SUSPENDS, UNTIMED, WRITE, Ends, ends_of, ends_of_connect, ends_of_set, ends_of_wait,
                           has_limit, int32, note_of, threads_of)
 
 SIGNALS_OF_KERNEL = {14: ("SIGALRM", "an alarm"), 29: ("SIGIO", "an event at a descriptor")}  # which come unseen
@@ -74,6 +74,7 @@ class LinuxRecorder(Recorder):
         FILES: Premise("who has a file shows it among its descriptors: none is on its way unseen, kept by the "
                        "kernel or by one thread alone, or was replaced during a wait"),
         ABOVE: Premise("nobody from whom a process descends ends it", timer_above),
+        PIPE: Premise("nobody opens a pipe anew by its name in /proc, as /proc/PID/fd/1"),
         FIFO: Premise("nobody else opens the FIFO"),
         GROUP: Premise("no other child joins the group for which one waits"),
         UNTIMED: Premise("a socket has no limit of its own (SO_RCVTIMEO, SO_SNDTIMEO, TCP_USER_TIMEOUT)"),

@@ -8,7 +8,7 @@ from typing import List, Tuple
 from ..sketch import LIMIT
 from .linux_text import OPEN, READS, WRITES, Machine, Owner, Row, Thread, some_names
 
-FILES, FIFO, REMOTE, UNTIMED, GROUP = "files", "fifo", "remote", "untimed", "group"
+FILES, PIPE, FIFO, REMOTE, UNTIMED, GROUP = "files", "pipe", "fifo", "remote", "untimed", "group"
 READ = ("read", "readv", "pread64", "preadv", "recvfrom", "recvmsg", "recvmmsg")
 SEND = ("sendto", "sendmsg", "sendmmsg")
 WRITE = ("write", "writev", "pwrite64", "pwritev", "vmsplice", *SEND)
@@ -96,11 +96,9 @@ def ends_of_file(machine: Machine, thread: Thread, it: List[str], events: int) -
     """Returns what may bring an event to an open file of a thread."""
     target, more = it[0], it[2] if len(it) > 2 else ""
     if target.startswith("pipe:["):
-        return ends_of_pipe(machine, thread, target, f"pipe {target[6:-1]}", it[1], events)
+        return ends_of_pipe(machine, thread, target, f"pipe {target[6:-1]}", it[1], events, PIPE)
     if more.startswith("fifo "):
-        found = ends_of_pipe(machine, thread, more, f"FIFO {target}", it[1], events)
-        found.premises.append(FIFO)
-        return found
+        return ends_of_pipe(machine, thread, more, f"FIFO {target}", it[1], events, FIFO)
     if target.startswith("socket:["):
         return ends_of_socket(machine, thread, target)
     if target.startswith("anon_inode:[") or target.startswith("pidfd:["):
@@ -108,13 +106,13 @@ def ends_of_file(machine: Machine, thread: Thread, it: List[str], events: int) -
     return Ends(why=f"what ends a wait at {target} isn't known", what=target)
 
 
-def ends_of_pipe(machine: Machine, thread: Thread, key: str, what: str, mode: str, events: int) -> Ends:
+def ends_of_pipe(machine: Machine, thread: Thread, key: str, what: str, mode: str, events: int, kind: str) -> Ends:
     """Returns what may bring an event to an end of a pipe, open in a mode: to one that is only read or only written
-    nothing comes but from the other end, whatever is asked for."""
+    nothing comes but from the other end, whatever is asked for. `kind` is the premise that nobody opens it."""
     ways = [mode for way, mode in ((READS, "w"), (WRITES, "r")) if events & way] or ["w", "r"]
     ways = {"r": ["w"], "w": ["r"]}.get(mode, ways)
     others = list(dict.fromkeys(owner for mode in ways for owner in machine.with_file(key, mode)))
-    found = found_ends(thread, others, what, [FILES])
+    found = found_ends(thread, others, what, [FILES, kind])
     if others == [thread.owner] and any(map(thread.owner.catches, OF_USERS)):
         found.why = "it has a handler for a signal, which may use its own pipe"
     return found
