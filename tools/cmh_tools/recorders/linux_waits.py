@@ -112,16 +112,15 @@ def ends_of_pipe(machine: Machine, thread: Thread, key: str, what: str, mode: st
     ways = [mode for way, mode in ((READS, "w"), (WRITES, "r")) if events & way] or ["w", "r"]
     ways = {"r": ["w"], "w": ["r"]}.get(mode, ways)
     others = list(dict.fromkeys(owner for mode in ways for owner in machine.with_file(key, mode)))
-    found = found_ends(thread, others, what, [FILES, kind])
-    if others == [thread.owner] and any(map(thread.owner.catches, OF_USERS)):
-        found.why = "it has a handler for a signal, which may use its own pipe"
-    return found
+    return found_ends(thread, others, what, [FILES, kind])
 
 
 def found_ends(thread: Thread, others: List[Owner], what: str, premises: List[str]) -> Ends:
     """Returns the ends that some processes have. If none has one, that isn't known: it may be on its way."""
     whom = threads_of(others, thread)
     why = "" if whom else f"no process that was read has the other end of {what}"
+    if others == [thread.owner] and any(map(thread.owner.catches, OF_USERS)):
+        why = why or "it has a handler for a signal, which may use its own other end"
     return Ends(whom, why, "", list(premises), what, others)
 
 

@@ -60,6 +60,17 @@ def own_reader(is_slow=False):
     write_all(writing)
 
 
+def own_socket(is_slow=False):
+    """A process reads from a socket of which it has the other end itself. In the twin it has a handler for a signal,
+    which writes there, and its child sends that signal later."""
+    near, far = socket.socketpair()
+    if is_slow:
+        signal.signal(signal.SIGUSR1, lambda *_: far.send(b"x"))
+        start("child", lambda: (near.close(), far.close(), rest(), os.kill(os.getppid(), signal.SIGUSR1)))
+    call_me("reader")
+    near.recv(1)
+
+
 def vmsplices(is_slow=False):
     """A process gives its memory to a full pipe, whose reader waits for it."""
     reading, writing = os.pipe()
