@@ -112,7 +112,10 @@ def ends_of_pipe(machine: Machine, thread: Thread, key: str, what: str, mode: st
     ways = [mode for way, mode in ((READS, "w"), (WRITES, "r")) if events & way] or ["w", "r"]
     ways = {"r": ["w"], "w": ["r"]}.get(mode, ways)
     others = list(dict.fromkeys(owner for mode in ways for owner in machine.with_file(key, mode)))
-    return found_ends(thread, others, what, [FILES, kind])
+    found = found_ends(thread, others, what, [FILES, kind])
+    if kind == FIFO and others == [thread.owner]:
+        found.why = found.why or "it alone has the FIFO open, and others open that when they have something to say"
+    return found
 
 
 def found_ends(thread: Thread, others: List[Owner], what: str, premises: List[str]) -> Ends:

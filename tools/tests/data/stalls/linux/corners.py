@@ -71,6 +71,15 @@ def own_socket(is_slow=False):
     near.recv(1)
 
 
+def own_fifo(is_slow=False):
+    """A process reads from a FIFO that nobody else has open. In the twin another one opens it later, and writes."""
+    os.mkfifo("control")
+    if is_slow:
+        start("writer", lambda: (rest(), os.write(os.open("control", os.O_WRONLY), b"x")))
+    call_me("daemon")
+    os.read(os.open("control", os.O_RDWR), 1)
+
+
 def vmsplices(is_slow=False):
     """A process gives its memory to a full pipe, whose reader waits for it."""
     reading, writing = os.pipe()
