@@ -11,7 +11,9 @@ from typing import Any, Dict, Iterable, List, Optional, Set, Tuple, Union
 
 from ..files import Refusal, shown
 from ..moments import APART, Reading
-from ..sketch import DONE, ENDED, LIMIT, SYSTEM, Process, Sketch, premise, runs, unknown, waits_for_all, waits_for_any
+from ..sketch import (ALL, COMPLETE, DONE, ENDED, LIMIT, SYSTEM, Process, Sketch, premise, runs, unknown,
+                      waits_for_all, waits_for_any)
+from ..stuck import Waits
 from . import State
 from .base import Moment, Premise, Recorder, one_line
 from .linux_locks import SETLKW, ends_of_lock
@@ -19,8 +21,8 @@ from .linux_stacks import BARRIER, STACK, add_stacks, ends_of_futex, hint, meeti
 from .linux_text import ENDED as GONE
 from .linux_text import READS, WRITES, Machine, Owner, Row, Thread, readings_of, rows_of
 from .linux_waits import (ACCEPTS, EPOLLS, FIFO, FILES, FORKS, GROUP, MOVES, OPENS, PIPE, READ, REMOTE, SETS, SIGCHLD,
-                          SLEEPS, SUSPENDS, UNTIMED, WRITE, Ends, ends_of, ends_of_connect, ends_of_set, ends_of_wait,
-                          has_limit, int32, note_of, threads_of)
+                          SLEEPS, SUSPENDS, UNTIMED, WRITE, Ends, choice_of, ends_of, ends_of_connect, ends_of_set,
+                          ends_of_wait, has_limit, int32, note_of, threads_of)
 
 SIGNALS_OF_KERNEL = {14: ("SIGALRM", "an alarm"), 29: ("SIGIO", "an event at a descriptor")}  # which come unseen
 ENDING = (1, 2, 3, 13, 15, SIGCHLD)  # the end of a child, and signals that end a process, which nobody kills
@@ -88,6 +90,8 @@ class LinuxRecorder(Recorder):
         self.unread: List[List[Owner]] = []
         self.unread_names: List[str] = []
         self.asked: Set[str] = set()
+        # Of those that wait for one of several, or for all: why, and who may end that besides, whichever it is.
+        self.choices: Dict[str, Tuple[str, List[str]]] = {}
 
     def read(self, state: State) -> List[Reading]:
         rows = rows_of(state.text, state.path)
@@ -123,8 +127,22 @@ class LinuxRecorder(Recorder):
         """Leaves out what couldn't be read, wasn't asked for and stands in nobody's list."""
         wanted = self.asked.union(name for process in sketch.processes for name in (*process.whom, *process.besides))
         sketch.processes = [it for it in sketch.processes if it.frames != [UNREADABLE] or it.name in wanted]
+        if self.choices:
+            self.doubt_choices(sketch)
         for moment in moments:
             sketch.warnings += [it for it in moment.machine.warnings if it not in sketch.warnings]
+
+    def doubt_choices(self, sketch: Sketch) -> None:
+        """Leaves who waits for one of several, or for all of them, unknown where some of these may be stuck and others
+        aren't. Where all are it is stuck as well, and where none is it isn't."""
+        waits = Waits(sketch)
+        surely, perhaps = ({waits.processes[at].name for at in waits.answer(is_high).members()}
+                           for is_high in (False, True))
+        for it in sketch.processes:
+            if it.name in self.choices and it.kind == ALL and perhaps.intersection(it.whom) and set(it.whom) - surely:
+                why, besides = self.choices[it.name]
+                it.candidates, it.besides = [*it.whom, COMPLETE], besides
+                it.become_unknown(why)
 
     def wait_of(self, subject: Subject, moment: Computer) -> Process:
         if isinstance(subject, list):
@@ -178,21 +196,26 @@ class LinuxRecorder(Recorder):
         if ends.why:
             return unknown(name, ends.why, **more)
         because += [SYSTEM, premise(SIGNALS), premise(ABOVE)]
-        whom = [it.name for it in ends.whom]
-        more["besides"] = [it.name for it in ends.besides if it.name not in whom]
+        because += [premise(OUTSIDE)] if self.outside == "container" and not ends.is_exact else []
+        whom, more["besides"] = self.whom_of(thread, moment, ends)
+        if ends.choice:
+            self.choices[name] = ends.choice, [] if ends.is_exact else [it for it in more["besides"] if it not in whom]
+        make = waits_for_all if ends.needs_all or ends.choice else waits_for_any
+        return make(name, whom, because, **more)
+
+    def whom_of(self, thread: Thread, moment: Computer, ends: Ends) -> Tuple[List[str], List[str]]:
+        """Returns the names of those that end a wait, and of those that may end it besides."""
+        whom, are_all = [it.name for it in ends.whom], ends.needs_all or bool(ends.choice)
+        besides = [*whom] if ends.choice else []
+        more = [*ends.besides]
         if not ends.is_exact:
             # Any of these may have another end, or what each of several has to let go of.
-            more["besides"] += [it.name for it in threads_of(moment.machine.carriers, thread, False)
-                                if it.name not in whom]
-            more["besides"] += self.unread_names if ends.needs_all else []
-            whom += [] if ends.needs_all else self.unread_names
-            because += [premise(OUTSIDE)] if self.outside == "container" else []
+            more += threads_of(moment.machine.carriers, thread, False)
+            besides += self.unread_names if are_all else []
+            whom += [] if are_all else self.unread_names
         if thread.owner.catches(SIGCHLD):
-            owners = moment.machine.children(thread.owner.pid)
-            besides = [it.name for it in threads_of(owners, thread, False) if it.name not in whom]
-            more["besides"] += besides
-        make = waits_for_all if ends.needs_all else waits_for_any
-        return make(name, whom, because, **more)
+            more += threads_of(moment.machine.children(thread.owner.pid), thread, False)
+        return whom, list(dict.fromkeys([*besides, *(it.name for it in more if it.name not in whom)]))
 
 
 def time_of(row: Row) -> Optional[Tuple[float, float]]:
@@ -281,7 +304,8 @@ def ends_of_call(machine: Machine, thread: Thread) -> Ends:
     if call in SUSPENDS and thread.owner.catches(SIGCHLD) and not thread.owner.catches_others(ENDING):
         children = machine.children(thread.owner.pid)
         whom = threads_of(children, thread, False)
-        return Ends(whom, "" if whom else "its children aren't known", what="a child", others=children, is_exact=True)
+        return Ends(whom, "" if whom else "its children aren't known", what="a child", others=children, is_exact=True,
+                    choice=choice_of(thread, children))
     if call in FORKS:
         children = machine.children(thread.owner.pid)
         whom = threads_of(children, thread, False)

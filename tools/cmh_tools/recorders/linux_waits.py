@@ -28,7 +28,7 @@ FOREVER = 0x7FFFFFFF  # a limit of 24 days, which programs write for none
 ONESHOT, EVENTS = 1 << 30, 0xFFFF  # of epoll: a file that is seen once, and what it is seen for
 OWN_CHILDREN = 0x20000000  # __WNOTHREAD: those of the thread alone
 SIGCHLD = 17
-SHELLS = ("bash", "sh", "dash", "ksh", "zsh")
+SHELLS = ("ash", "bash", "busybox", "dash", "ksh", "ksh93", "mksh", "sh", "zsh")
 OF_USERS = (10, 12, *range(34, 65))  # SIGUSR1, SIGUSR2 and those of real time, which do what a program likes
 INTERNET = (2, 10)  # the families of addresses of IPv4 and of IPv6
 
@@ -38,6 +38,7 @@ class Ends:
     """What may end a wait. `whom` are the threads that can, `why` says why that isn't known, `runs` why it goes on by
     itself; `premises` are what that rests on. `what` says what it waits at, and `others` who has the other ends.
     `needs_all` says that each of `whom` has to let go, and `is_exact` that no process that can't be read is one.
+    `choice` says, where one of `whom` or all of them may have to come, why it isn't known which of that it is.
     `operation` is what it does, if that is another word than the call, and `besides` are those who may end the wait by
     something new."""
 
@@ -48,6 +49,7 @@ class Ends:
     what: str = ""
     others: List[Owner] = field(default_factory=list)
     needs_all: bool = False
+    choice: str = ""
     is_exact: bool = False
     operation: str = ""
     besides: List[Thread] = field(default_factory=list)
@@ -251,6 +253,8 @@ def ends_of_wait(machine: Machine, thread: Thread) -> Ends:
         ends.why = ends.why or "it waits for the end of several, and of one it isn't known which thread ends it"
     if what == "any child":
         ends.besides = new_children(machine, thread, own)
+        ends.choice = "" if ends.needs_all else choice_of(thread, children)
+        ends.what = "a child, or all of them" if ends.choice else what
     elif "group" in what:
         ends.premises.append(GROUP)
     return ends
@@ -264,9 +268,22 @@ def doubt_of_wait(thread: Thread, children: List[Owner]) -> str:
         return f"{ended[0].name} has ended, and it may be about to see that"
     if options & OWN_CHILDREN and len(thread.owner.living) > 1:
         return "it waits for the children of its own thread, and which these are isn't known"
-    if thread.owner.command in SHELLS and any(map(thread.owner.catches, OF_USERS)):
+    if is_shell(thread.owner) and any(map(thread.owner.catches, OF_USERS)):
         return "it has a trap for a signal, which may end its wait"
     return ""
+
+
+def is_shell(owner: Owner) -> bool:
+    """Whether a process is a shell. One that a script names is called as that."""
+    program = str(owner.row.get("exe", "")).partition(" ")[0].rpartition("/")[2]
+    return owner.command in SHELLS or program in SHELLS
+
+
+def choice_of(thread: Thread, children: List[Owner]) -> str:
+    """Returns why it isn't known whether the end of one child is enough, or nothing. A shell asks the kernel for any
+    child, also where it waits for one of them or for all, and then asks again."""
+    is_open = is_shell(thread.owner) and bool(children[1:])
+    return "a shell may wait for one of its children alone, or for all" if is_open else ""
 
 
 def new_children(machine: Machine, thread: Thread, own: List[Owner]) -> List[Thread]:

@@ -510,6 +510,26 @@ def asks(is_slow=False):
     os._exit(0)
 
 
+BUILD = """mkfifo jobs
+sleep 600 &
+{server} < jobs &
+exec 3> jobs
+echo first >&3
+wait $!
+"""
+
+
+def one_child(is_slow=False, shell="bash"):
+    """A shell waits for its server, which reads a FIFO that the shell has open. Another child of it sleeps, and isn't
+    waited for. In the twin the server sleeps too."""
+    os.execvp(shell, [shell, "-c", BUILD.format(server="sleep 600" if is_slow else "(read -r job; read -r job)")])
+
+
+def one_child_dash(is_slow=False):
+    """The same with a shell that waits for a signal."""
+    one_child(is_slow, "dash")
+
+
 # What the kernel keeps nothing of
 
 
