@@ -21,15 +21,20 @@ def ends_of_lock(machine: Machine, thread: Thread) -> Ends:
         ends.why = "which lock it waits for isn't known"
         return ends
     sets: Dict[str, List[Owner]] = {}
+    takers: Dict[str, Owner] = {}
     for owner in machine.with_file(file):
         for row, text in locks_of(owner, file):
             lock = Lock.of(text)
             if lock is None:
                 ends.why = "a lock of its file isn't understood"
             elif lock.is_in_the_way_of(wanted) and not is_own(lock, owner, row, thread.owner, it):
-                some = sets.setdefault(holder_of(lock, owner, row, text), [])
+                name = holder_of(lock, owner, row, text)
+                some = sets.setdefault(name, [])
                 some += [owner] if owner not in some else []
-    set_lock(ends, thread, sets)
+                takers.update({name: owner} if lock.taker == owner.pid else {})
+    ends.others = list(dict.fromkeys(owner for some in sets.values() for owner in some))
+    set_lock(ends, thread, {name: [takers[name]] if name in takers else some for name, some in sets.items()})
+    ends.besides = [it for it in threads_of(ends.others, thread, False) if it not in ends.whom]
     if wanted.is_anywhere and len(sets) > 1:
         ends.why = ends.why or "which part of the file it wants isn't known, and several have locks of it"
     return ends
@@ -54,9 +59,9 @@ def is_own(lock: "Lock", owner: Owner, row: List[str], other: Owner, its: List[s
 
 
 def set_lock(ends: Ends, thread: Thread, sets: Dict[str, List[Owner]]) -> None:
-    """Sets who has to let go, by each lock in the way with the processes that have its open file."""
+    """Sets who has to let go, by each lock in the way with the process that took it, or if that isn't there any more,
+    with those that share its open file: one of these may let go for all, and else it goes once all have closed that."""
     threads = [threads_of(some, thread) for some in sets.values()]
-    ends.others = list(dict.fromkeys(owner for some in sets.values() for owner in some))
     ends.whom = list(dict.fromkeys(it for some in threads for it in some))
     ends.needs_all = len(sets) > 1
     if not ends.whom:
@@ -65,6 +70,8 @@ def set_lock(ends: Ends, thread: Thread, sets: Dict[str, List[Owner]]) -> None:
         ends.why = ends.why or "several hold a lock in the way, and of one it isn't known which thread lets go"
     elif any(" READ " in text and len(some) > 1 for text, some in sets.items()):
         ends.why = ends.why or "it isn't known whether those who hold the lock share it"
+    elif any(len(some) > 1 for some in sets.values()):
+        ends.choice = "several processes share the lock, and it isn't known whether one of them lets go of it"
 
 
 def locks_of(owner: Owner, file: str) -> Iterator[Tuple[List[str], str]]:
@@ -76,13 +83,15 @@ def locks_of(owner: Owner, file: str) -> Iterator[Tuple[List[str], str]]:
 
 @dataclass
 class Lock:
-    """A lock of a file. One of the whole file has no last byte. Where one that `is_anywhere` begins isn't known."""
+    """A lock of a file. One of the whole file has no last byte. Where one that `is_anywhere` begins isn't known.
+    `taker` is the process that took it, which may have ended since, or 0."""
 
     kind: str
     is_write: bool
     first: int = 0
     last: Optional[int] = None
     is_anywhere: bool = False
+    taker: int = 0
 
     @staticmethod
     def of(text: str) -> Optional["Lock"]:
@@ -90,7 +99,8 @@ class Lock:
         words = text.split()[2:]
         if len(words) != 7 or words[0] not in ("FLOCK", "POSIX", "OFDLCK") or words[2] not in ("READ", "WRITE"):
             return None
-        return Lock(words[0], words[2] == "WRITE", int(words[5]), None if words[6] == "EOF" else int(words[6]))
+        return Lock(words[0], words[2] == "WRITE", int(words[5]), None if words[6] == "EOF" else int(words[6]),
+                    taker=int(words[3]) if words[3].isdigit() else 0)
 
     @staticmethod
     def wanted(thread: Thread) -> Optional["Lock"]:

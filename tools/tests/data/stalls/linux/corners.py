@@ -433,6 +433,47 @@ def heirs(is_slow=False):
     locked("a")
 
 
+def two_jobs(take, has_end, is_slow):
+    """Two jobs take two locks in two orders, each with what takes one at a descriptor. The first one has a helper, to
+    which it hands on its open file. The helper sleeps, or it waits for the job."""
+
+    def job(first, second, is_resting, has_helper):
+        it = os.open(first, os.O_RDWR | os.O_CREAT)
+        take(it)
+        reading, writing = os.pipe()
+        if has_helper:
+            start("helper", lambda: (os.close(writing), os.read(reading, 1)) if has_end else rest())
+        time.sleep(2)
+        rest() if is_resting else locked(second)
+
+    start("export", job, "a", "b", False, True)
+    time.sleep(0.7)
+    start("prune", job, "b", "a", is_slow, False)
+    call_me("cron")
+    os.wait()
+
+
+def take_by_another(handle):
+    """Takes a lock by a process that ends, as a shell does with the command flock."""
+    os.waitpid(start("flock", fcntl.flock, handle, fcntl.LOCK_EX), 0)
+
+
+def shared_lock(is_slow=False):
+    """Two jobs take two locks in two orders. Who took them has ended, and a helper of one job shares its lock, and
+    sleeps. In the twin the other job sleeps too."""
+    two_jobs(take_by_another, False, is_slow)
+
+
+def shared_lock_all(is_slow=False):
+    """The same, where the helper waits for its job."""
+    two_jobs(take_by_another, True, is_slow)
+
+
+def lock_taker(is_slow=False):
+    """The same, where each job took its lock itself, and a helper shares that, and sleeps."""
+    two_jobs(lambda it: fcntl.flock(it, fcntl.LOCK_EX), False, is_slow)
+
+
 def from_here(is_slow=False):
     """One wants a range that begins where it stands in the file, as `lockf` of C does. Who has one waits for it."""
     begin("holder", lambda: lock(open_file(), WRITE, 50, 10, SETLKW), [], is_slow)
