@@ -22,7 +22,7 @@ from .linux_text import ENDED as GONE
 from .linux_text import READS, WRITES, Machine, Owner, Row, Thread, readings_of, rows_of
 from .linux_waits import (ACCEPTS, EPOLLS, FIFO, FILES, FORKS, GROUP, MOVES, OPENS, PIPE, READ, REMOTE, SETS, SIGCHLD,
                           SLEEPS, SUSPENDS, UNTIMED, WRITE, Ends, choice_of, ends_of, ends_of_connect, ends_of_set,
-                          ends_of_wait, has_limit, int32, note_of, threads_of)
+                          ends_of_wait, has_limit, int32, note_of, threads_of, timed_parents)
 
 SIGNALS_OF_KERNEL = {14: ("SIGALRM", "an alarm"), 29: ("SIGIO", "an event at a descriptor")}  # which come unseen
 ENDING = (1, 2, 3, 13, 15, SIGCHLD)  # the end of a child, and signals that end a process, which nobody kills
@@ -207,7 +207,7 @@ class LinuxRecorder(Recorder):
         """Returns the names of those that end a wait, and of those that may end it besides."""
         whom, are_all = [it.name for it in ends.whom], ends.needs_all or bool(ends.choice)
         besides = [*whom] if ends.choice else []
-        more = [*ends.besides]
+        more = [*ends.besides, *timed_parents(moment.machine, thread.owner)]
         if not ends.is_exact:
             # Any of these may have another end, or what each of several has to let go of.
             more += threads_of(moment.machine.carriers, thread, False)

@@ -311,6 +311,15 @@ def awaited(thread: Thread, own: List[Owner]) -> Tuple[str, List[Owner]]:
     return "a child", [it for it in own if it.pid in pids]
 
 
+def timed_parents(machine: Machine, owner: Owner) -> List[Thread]:
+    """Returns the threads of the parent of a process that wait with a limit at a pipe of which it has an end. After
+    that they may end it, as the module subprocess of Python does."""
+    parent = machine.by_pid.get(owner.parent)
+    timed = [it for it in parent.living if it.events and it.arguments and has_limit(it)] if parent else []
+    pipes = {it[0] for it in owner.files.values() if it[0].startswith("pipe:[")} if timed else set()
+    return [it for it in timed if any(it.owner.files.get(str(fd), [""])[0] in pipes for fd, *_ in it.events)]
+
+
 def ends_of_connect(machine: Machine, thread: Thread) -> Ends:
     path = thread.row.get("path", "")
     if thread.row.get("family") in INTERNET:

@@ -551,6 +551,18 @@ def asks(is_slow=False):
     os._exit(0)
 
 
+def captured(is_slow=False):
+    """A process waits for the output of its child, which waits for itself. In the twin it waits with a limit, and ends
+    the child then."""
+    (reading, writing), own = os.pipe(), os.pipe()
+    child = start("report", lambda: (os.close(reading), os.read(own[0], 1)))
+    for it in (writing, *own):
+        os.close(it)
+    call_me("parent")
+    if not select.select([reading], [], [], 600 if is_slow else None)[0]:
+        os.kill(child, signal.SIGKILL)
+
+
 BUILD = """mkfifo jobs
 sleep 600 &
 {server} < jobs &
