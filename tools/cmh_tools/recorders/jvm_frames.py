@@ -26,9 +26,9 @@ MACHINERY = re.compile(
     r"|.*\$\w*Node\.(?:block|await)"
 )
 # Idle frames: a thread with one of them before the first of the job's own waits for work, and tells of no stall.
-WORKER, ACCEPTOR, POLLER, TIMER, CLEANER, CARRIER = (
+WORKER, ACCEPTOR, POLLER, TIMER, CLEANER, CARRIER, REAPER = (
     WORK, "waits for a connection", "polls its sockets", "waits for tasks to be scheduled",
-    "waits for objects to be cleaned up", "carries a virtual thread")
+    "waits for objects to be cleaned up", "carries a virtual thread", "waits for the end of a child")
 IDLE = [(re.compile(pattern), label) for pattern, label in (
     (r"jdk\.internal\.vm\.Continuation\.run", CARRIER),
     (r"java\.util\.concurrent\.ThreadPoolExecutor\.getTask", WORKER),
@@ -46,6 +46,7 @@ IDLE = [(re.compile(pattern), label) for pattern, label in (
     (r"sun\.nio\.ch\.SelectorImpl\.(?:lockAndDoSelect|select)", POLLER),
     (r"io\.netty\.channel\.\w+\.Native\.\w*[wW]ait0?", POLLER),
     (r"sun\.nio\.ch\.(?:Poller\.\w*[lL]oop|(?:EPoll|KQueue)Port\$EventHandlerTask\.poll)", POLLER),
+    (r"java\.lang\.ProcessHandleImpl\.waitForProcessExit0", REAPER),
 )]
 RUN_WORKER = "java.util.concurrent.ForkJoinPool.runWorker"  # in which workers of JDK 9 to 16 wait for work
 # Waits for a timer rather than for work, if they have a limit.
@@ -95,6 +96,8 @@ OF_THE_JVM = re.compile(
     r"|Surrogate Locker Thread.*|VirtualThread-un\w+|MasterPoller|(?:Read|Write|Sub)-?Poller.*|JVMCI.*|JFR .*"
     r"|RMI .*|GC Daemon|Secondary finalizer|Keep-Alive-Timer|JDWP .*|Java2D .*|AWT-Shutdown"
 )
+# What they call who end a child, and then run what the job has left for that end (Process.onExit).
+REAPS = re.compile(r"java\.lang\.ProcessHandleImpl\S*")
 # Those of them that run no code of the job at any time, and so end nobody's wait.
 INSIDE = re.compile(r"Signal Dispatcher|Service Thread|Monitor Deflation Thread|Attach Listener|Sweeper thread"
                     r"|C[12] CompilerThread\d+")
@@ -125,8 +128,8 @@ def has_jobs(stack: Stack) -> bool:
 
 
 def is_of_jvm(thread: Thread) -> bool:
-    """Whether a thread is of the JVM itself, and runs no code of the job."""
-    if has_jobs(stack_of(thread)):
+    """Whether a thread is of the JVM itself, and runs no code of the job, nor will once a child ends."""
+    if has_jobs(stack_of(thread)) or is_in(REAPS, stack_of(thread)):
         return False
     inside = thread.number is None and not thread.state and not thread.frames
     return inside or OF_THE_JVM.fullmatch(thread.name) is not None

@@ -8,11 +8,12 @@ from typing import Collection, Dict, List, Optional, Protocol, Sequence
 from ..files import shown
 from ..moments import ONCE
 from ..sketch import ALL, ANY, INNER, REST, RUNS, UNKNOWN, Process, Sketch
-from .jvm_frames import is_inside, is_of_jvm, place_of
+from .jvm_frames import HAS_TIMER, REAPER, is_inside, is_of_jvm, place_of
 from .jvm_text import Dump, Thread
 
 FEW = 3  # of those who may disturb, which all who can be disturbed name
 ORDER = (RUNS, UNKNOWN, ANY, ALL)  # in which they are named
+FROM_OUTSIDE = frozenset((REAPER,))  # idle ways in which one may be woken from outside, and run code of the job
 
 
 class Whole(Protocol):
@@ -41,8 +42,8 @@ def count_owned(processes: List[Process]) -> None:
 
 def add_disturbers(sketch: Sketch, reasons: Collection[str], moments: Sequence[Whole]) -> None:
     """Adds who may end a wait besides, where it rests on a reason that any thread of the job may break: all of these
-    that aren't idle. The first such wait has them all, and the others have that one and a few. So all become unknown if
-    anybody isn't stuck, and many take linear time."""
+    that aren't at rest. The first such wait has them all, and the others have that one and a few. So all become unknown
+    if anybody isn't stuck, and many take linear time."""
     frail = [it for it in sketch.processes if it.kind in (ANY, ALL) and not set(reasons).isdisjoint(it.because)]
     new = newcomer(moments) if frail else None
     if new is not None:
@@ -56,18 +57,28 @@ def add_disturbers(sketch: Sketch, reasons: Collection[str], moments: Sequence[W
 
 
 def disturbers(sketch: Sketch, moments: Sequence[Whole]) -> List[str]:
-    """Returns the names of the job's threads that aren't idle, those that run first."""
-    names = {moment.names[it.key] for moment in moments for it in moment.threads if not is_of_jvm(it)}
-    some = [it for it in sketch.processes if it.name in names and not (it.is_idle and it.kind == UNKNOWN)]
+    """Returns the names of the job's threads that aren't at rest, those that run first."""
+    threads = {id(it): moment.names[it.key] for moment in moments for it in moment.threads if not is_of_jvm(it)}
+    names = set(threads.values())
+    awake = {threads[id(it)] for moment in moments for it in moment.threads if id(it) in threads and not is_at_rest(it)}
+    some = [it for it in sketch.processes if it.name in awake
+            or it.name in names and not (it.is_idle and it.kind == UNKNOWN)]
     found = [it.name for kind in ORDER for it in some if it.kind == kind]
     return found + [REST] * any(moment.lacks for moment in moments)
 
 
 def newcomer(moments: Sequence[Whole]) -> Optional[str]:
-    """Returns the name of a thread of the job that isn't idle and has come after the first state, or None."""
+    """Returns the name of a thread of the job that isn't at rest and has come after the first state, or None."""
     before = {it.key for it in moments[0].threads}
     return next((moment.names[it.key] for moment in moments[1:] for it in moment.threads
-                 if it.key not in before and not is_of_jvm(it) and not place_of(it).idle), None)
+                 if it.key not in before and not is_of_jvm(it) and not is_at_rest(it)), None)
+
+
+def is_at_rest(thread: Thread) -> bool:
+    """Whether a thread is idle until another thread of the job gives it something to do."""
+    place = place_of(thread)
+    is_timed = thread.state != "WAITING" and place.has(HAS_TIMER)
+    return bool(place.idle) and place.idle not in FROM_OUTSIDE and not is_timed
 
 
 def add_inner(sketch: Sketch, moments: Sequence[Whole]) -> None:
