@@ -4,7 +4,8 @@ Known by itself is who holds a monitor, unless `Object.wait()` has given it back
 kin, and who initialises a class. `jstack` stops all threads, and nobody but its owner gives such a lock back, so one
 state shows such a wait. All other waits are unknown until facts decide them. One that has been woken may still stand at
 its wait, so they need two states, and the same processor time in both. `Thread.dump_to_file` stops nobody and counts
-nothing. A wait that any thread may end by an interrupt or a cancel lasts only if all of the job are stuck or idle.
+nothing. A wait that any thread may end by an interrupt or a cancel lasts only if all of the job are stuck or idle, and
+none of these waits for the outside: for a connection, at its sockets, for the end of a child.
 
 A wait with a limit has the operation 'timed put' in place of 'put'. It goes on by itself, unless a fact with that
 operation says for whom it only waits again and again.

@@ -26,9 +26,12 @@ MACHINERY = re.compile(
     r"|.*\$\w*Node\.(?:block|await)"
 )
 # Idle frames: a thread with one of them before the first of the job's own waits for work, and tells of no stall.
-WORKER, ACCEPTOR, POLLER, TIMER, CLEANER, CARRIER, REAPER = (
+WORKER, ACCEPTOR, POLLER, TIMER, CLEANER, CARRIER, REAPER, USED = (
     WORK, "waits for a connection", "polls its sockets", "waits for tasks to be scheduled",
-    "waits for objects to be cleaned up", "carries a virtual thread", "waits for the end of a child")
+    "waits for objects to be cleaned up", "carries a virtual thread", "waits for the end of a child",
+    "waits for events of its windows")
+# The ways in which the outside may wake an idle thread, which then runs code of the job.
+FROM_OUTSIDE = frozenset((ACCEPTOR, POLLER, REAPER, USED))
 IDLE = [(re.compile(pattern), label) for pattern, label in (
     (r"jdk\.internal\.vm\.Continuation\.run", CARRIER),
     (r"java\.util\.concurrent\.ThreadPoolExecutor\.getTask", WORKER),
@@ -37,7 +40,7 @@ IDLE = [(re.compile(pattern), label) for pattern, label in (
     (r"org\.eclipse\.jetty\.util\.thread\.QueuedThreadPool(?:\$Runner)?\.idleJobPoll", WORKER),
     (r"io\.netty\.util\.concurrent\.\w*EventExecutor\.takeTask", WORKER),
     (r"kotlinx\.coroutines\.scheduling\.CoroutineScheduler\$Worker\.park", WORKER),
-    (r"java\.awt\.EventQueue\.getNextEvent", WORKER),
+    (r"java\.awt\.EventQueue\.getNextEvent", USED),
     (r"java\.util\.TimerThread\.mainLoop", TIMER),
     (r"java\.util\.concurrent\.DelayScheduler\.loop", TIMER),
     (r"java\.lang\.ref\.ReferenceQueue\.remove0?", CLEANER),
@@ -94,7 +97,7 @@ OF_THE_JVM = re.compile(
     r"Reference Handler|Finalizer|Signal Dispatcher|Service Thread|Monitor Deflation Thread|Common-Cleaner"
     r"|Notification Thread|Attach Listener|DestroyJavaVM|C[12] CompilerThread\d+|Sweeper thread|process reaper.*"
     r"|Surrogate Locker Thread.*|VirtualThread-un\w+|MasterPoller|(?:Read|Write|Sub)-?Poller.*|JVMCI.*|JFR .*"
-    r"|RMI .*|GC Daemon|Secondary finalizer|Keep-Alive-Timer|JDWP .*|Java2D .*|AWT-Shutdown"
+    r"|RMI (?!TCP Accept).*|GC Daemon|Secondary finalizer|Keep-Alive-Timer|JDWP .*|Java2D .*|AWT-Shutdown"
 )
 # What they call who end a child, and then run what the job has left for that end (Process.onExit).
 REAPS = re.compile(r"java\.lang\.ProcessHandleImpl\S*")

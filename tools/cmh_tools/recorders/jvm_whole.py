@@ -8,12 +8,11 @@ from typing import Collection, Dict, List, Optional, Protocol, Sequence
 from ..files import shown
 from ..moments import ONCE
 from ..sketch import ALL, ANY, INNER, REST, RUNS, UNKNOWN, Process, Sketch
-from .jvm_frames import HAS_TIMER, REAPER, is_inside, is_of_jvm, place_of
+from .jvm_frames import FROM_OUTSIDE, HAS_TIMER, is_inside, is_of_jvm, place_of
 from .jvm_text import Dump, Thread
 
 FEW = 3  # of those who may disturb, which all who can be disturbed name
 ORDER = (RUNS, UNKNOWN, ANY, ALL)  # in which they are named
-FROM_OUTSIDE = frozenset((REAPER,))  # idle ways in which one may be woken from outside, and run code of the job
 
 
 class Whole(Protocol):
