@@ -8,20 +8,21 @@ one moment. Not so where the operating system wakes: what has come to a socket o
 seen.
 
 A name is FUNCTION/NUMBER, with the function that was started, wherever the goroutine stands in it. Facts may name
-`{self}`, `{creator}` and the group `children:NAME`, where the text says which goroutine created which.
+`{self}`, `{creator}` and the group `children:NAME`, where the text says which goroutine created which. A list that a
+pattern finds isn't whole while more of it may be started: by a goroutine that isn't stuck, by a timer (`go_starters`).
 """
 from __future__ import annotations
 
 from collections import defaultdict
-from typing import DefaultDict, Dict, List, Optional, Set, Tuple
+from typing import DefaultDict, Dict, Iterable, List, Optional, Set, Tuple
 
 from ..files import Refusal
 from ..moments import APART, CUT, ONCE, Reading
 from ..sketch import COMPLETE, LIMIT, SYSTEM, UNKNOWN, Process, Sketch, premise, runs, spoilt, unknown, waits_for_any
 from . import State
 from .base import Moment, Premise, Recorder
-from .go_frames import (ACCEPTOR, CONNECTION, NEEDS_ALL, Place, entry_of, is_at_another, is_jobs, is_of_runtime,
-                        takes_state)
+from .go_frames import NEEDS_ALL, Place, entry_of, is_at_another, is_jobs, is_of_runtime, takes_state
+from .go_starters import MAIN, UNSEEN, Starters, unseen_starter
 from .go_text import ADDRESS, Dump, Goroutine, read_dumps
 
 SITE = "the Go program"
@@ -38,7 +39,7 @@ NAMED = 3  # names in a reason
 MANY, MOST = 8, 200  # more who have what stands in a frame of another, or what it waits at, tell nothing of that
 WRITERS = "a writer ends this wait, which holds the lock or waits in Lock, and no reader; the state doesn't show which"
 ANOTHER = "another wait"  # beside the objects of one that has left its place between two states
-INTENT, MAIN = "empty-select", "1"
+INTENT = "empty-select"
 
 
 class Goroutines(Moment):
@@ -50,6 +51,10 @@ class Goroutines(Moment):
     starters: Dict[str, List[str]]
     seen: DefaultDict[str, List[str]]
     is_stopped: bool
+
+    def lists(self) -> Iterable[List[str]]:
+        """The lists of those who may start more, each once."""
+        return {id(some): some for some in self.starters.values()}.values()
 
 
 class GoRecorder(Recorder):
@@ -105,33 +110,13 @@ class GoRecorder(Recorder):
         moment.places = {it.number: Place(it) for it in moment.rows()}
         moment.seen = defaultdict(list)
         moment.is_stopped = not any(it.is_elsewhere for it in moment.rows())
-        moment.starters = self.starters_of(moment)
+        starters = Starters(moment.rows(), moment.places, self.names)
+        moment.starters = {self.names[it.number]: starters.of(it) for it in moment.rows()}
         for it in moment.rows():
             here = moment.places[it.number].objects
             for address in dict.fromkeys(ADDRESS.findall(" ".join(each.arguments for each in it.frames))):
                 if address not in here:
                     moment.seen[address].append(self.names[it.number])
-
-    def starters_of(self, moment: Goroutines) -> Dict[str, List[str]]:
-        """Returns who may start more like a goroutine, by its name: those in the function that started it, or, if
-        nobody is in that, whoever may call it again."""
-        standing = defaultdict(list)
-        for it in moment.rows():
-            for function in dict.fromkeys(frame.function for frame in it.frames):
-                standing[function].append(self.names[it.number])
-        others = self.callers(moment)
-        return {self.names[it.number]: standing.get(it.created_by, others) for it in moment.rows()
-                if it.created_by and is_jobs(it.creator)}
-
-    def callers(self, moment: Goroutines) -> List[str]:
-        """Returns who may call any function of the job: those that run code of it, and those at which a request may
-        come that it answers. Of many at one place two are enough."""
-        found: DefaultDict[Tuple[str, ...], List[str]] = defaultdict(list)
-        for it in moment.rows():
-            place = moment.places[it.number]
-            if place.idle in ("", ACCEPTOR, CONNECTION):
-                found[(it.state, *place.frames[:1])].append(self.names[it.number])
-        return [name for names in found.values() for name in names[:2]]
 
     def wait_of(self, subject: Goroutine, moment: Goroutines) -> Process:
         goroutine, name = subject, self.names[subject.number]
@@ -196,6 +181,8 @@ class GoRecorder(Recorder):
     def finish(self, sketch: Sketch, moments: List[Goroutines]) -> None:
         """Adds the warnings, and for each creator the group of those that it has created."""
         sketch.warnings = list(dict.fromkeys([*self.warnings, *sketch.warnings]))
+        if any(UNSEEN in some for moment in moments for some in moment.lists()):
+            sketch.processes.append(unseen_starter())
         if self.dumps[0].is_last:
             sketch.as_of = "as of SIGQUIT, which ended the program"
         for it in moments[0].rows():
