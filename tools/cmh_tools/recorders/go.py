@@ -153,10 +153,10 @@ class GoRecorder(Recorder):
         if state == "sleep":
             why = place.idle or "sleeps"
             return runs(name, why, [premise(LIMIT)], operation="timed sleep", is_idle=bool(place.idle))
-        if place.idle:
-            return unknown(name, place.idle, is_idle=True)
         if state in NOBODY or goroutine.is_leaked:
             return wait_for_nobody(goroutine, name)
+        if place.idle:
+            return unknown(name, place.idle, is_idle=True)
         if state in OF_THE_SYSTEM:
             return unknown(name, f"{state}: the other end may be in the dump, and the state doesn't show it")
         if not state:

@@ -28,7 +28,8 @@ OPERATIONS = {
     "sync.Mutex.lockSlow": "sync.Mutex.Lock", "sync.runtime_SemacquireMutex": "sync.Mutex.Lock",
     "sync.runtime_Semacquire": "sync.WaitGroup.Wait"}
 METHOD = re.compile(r"[(*)]")
-# Idle frames: a goroutine with one of them before the first of the job's own waits for work, and tells of no stall.
+# Idle frames: a goroutine with one of them before the first of the job's own waits for work, and tells of no stall. But
+# for one that accepts connections, it has none of the job's own, and waits for no lock.
 ACCEPTOR, CONNECTION, WATCHER = "waits for a connection", "waits on a connection", "waits for what it watches"
 IDLE = [(re.compile(pattern), label) for pattern, label in (
     (r"net\.\(\*(?:TCP|Unix)Listener\)\.Accept\w*|internal/poll\.\(\*FD\)\.Accept", ACCEPTOR),
@@ -40,6 +41,9 @@ IDLE = [(re.compile(pattern), label) for pattern, label in (
     (r"os/signal\.NotifyContext\.func\d+|context\.(?:\(\*cancelCtx\)\.)?propagateCancel\.func\d+", WATCHER),
     (r"go\.opencensus\.io/stats/view\.\(\*worker\)\.start|k8s\.io/klog\S*flushDaemon|.*/glog\.\S*flushDaemon", WATCHER),
 )]
+# The one state in which it waits for work, where in others it serves a request of the job: a body has to be read, say.
+IDLE_IN = {"net/http.(*persistConn).readLoop": "IO wait", "net/http.(*persistConn).writeLoop": "select"}
+AT_A_LOCK = re.compile(r"semacquire|sync\.(?!Cond\b).*")
 WRAPPER = re.compile(r".*(?:\.gowrap\d+|·dwrap·\d+)")
 CHANNEL = re.compile(r"runtime\.chan(?:send|recv)")
 LOCK = re.compile(r"sync\.\(\*(?:Mutex|RWMutex|WaitGroup|Cond|Once)\)\.\w+|internal/sync\.\(\*Mutex\)\.\w+")
@@ -105,6 +109,14 @@ def label_of(function: str) -> str:
     return next((label for pattern, label in IDLE if pattern.fullmatch(function)), "")
 
 
+def idle_label(frames: List[Frame], state: str, has_own: bool) -> str:
+    """Returns how a goroutine in a state is idle, with these frames before the first of the job's own, or nothing."""
+    is_at_work = has_own or AT_A_LOCK.fullmatch(state) is not None
+    labels = {it.function: label_of(it.function) for it in frames}
+    return next((label for function, label in labels.items() if label == ACCEPTOR
+                 or label and not is_at_work and IDLE_IN.get(function, state) == state), "")
+
+
 def is_of_runtime(goroutine: Goroutine) -> bool:
     """Whether a goroutine is of the runtime, and runs no code of the job."""
     if any(map(is_jobs, goroutine.frames)) or goroutine.fault:
@@ -128,7 +140,7 @@ class Place:
     def __init__(self, goroutine: Goroutine) -> None:
         frames = [it for it in goroutine.frames if it.function not in OUTERMOST]
         start = next((at for at, it in enumerate(frames) if is_own(it)), None)
-        self.idle = next(filter(None, (label_of(it.function) for it in frames[:start])), "")
+        self.idle = idle_label(frames[:start], goroutine.state, start is not None)
         if start is None:
             start = next((at for at, it in enumerate(frames) if is_jobs(it)), None)
         if start is None:
