@@ -10,14 +10,14 @@ from .go_text import Goroutine
 
 MAIN = "1"
 UNSEEN = "unseen-starter"
-STANDS_FOR = ("stands for what starts goroutines and isn't in a state: timers, as of time.AfterFunc or of a context with "
-              "a limit, finalizers, and threads of C")
+STANDS_FOR = ("stands for what starts goroutines and isn't in a state: timers, as of time.AfterFunc or of a context "
+              "with a limit, finalizers, and threads of C")
 BY_ITSELF = frozenset(("context", "runtime", "time"))  # packages that start goroutines, while none of them waits to
 
 
 class Starters:
-    """Who stands in which function of a state, and who may call any function of the job (`callers`). `outer` has of each
-    function what called it there, or started a goroutine with it."""
+    """Who stands in which function of a state, and who may call any function of the job (`callers`). `outer` has of
+    each function what called it there, or started a goroutine with it."""
 
     def __init__(self, goroutines: List[Goroutine], places: Dict[str, Place], names: Dict[str, str]) -> None:
         self.standing: DefaultDict[str, List[str]] = defaultdict(list, {UNSEEN: [UNSEEN]})

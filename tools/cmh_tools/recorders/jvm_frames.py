@@ -55,6 +55,8 @@ RUN_WORKER = "java.util.concurrent.ForkJoinPool.runWorker"  # in which workers o
 # Waits for a timer rather than for work, if they have a limit.
 HAS_TIMER = re.compile(r"java\.util\.TimerThread\.mainLoop|java\.util\.concurrent\.DelayScheduler\.loop"
                        r"|java\.util\.concurrent\.ScheduledThreadPoolExecutor\$DelayedWorkQueue\.(?:take|poll)")
+# Waits for work of one that has a task to run later, if they have a limit.
+HAS_TASK = re.compile(r"io\.netty\.util\.concurrent\.\w*EventExecutor\.takeTask")
 # The JDK's own timers, which complete a CompletableFuture once its limit is over.
 LIMITS_FUTURES = re.compile(r"CompletableFutureDelayScheduler|.*-delayScheduler")
 FUTURE = re.compile(r"CompletableFuture\.\w+")

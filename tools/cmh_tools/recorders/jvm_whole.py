@@ -8,8 +8,8 @@ from typing import Collection, Dict, List, Optional, Protocol, Sequence
 from ..files import shown
 from ..moments import ONCE
 from ..sketch import ALL, ANY, INNER, REST, RUNS, UNKNOWN, Process, Sketch
-from .jvm_frames import FROM_OUTSIDE, HAS_TIMER, is_inside, is_of_jvm, place_of
-from .jvm_text import Dump, Thread
+from .jvm_frames import FROM_OUTSIDE, HAS_TASK, HAS_TIMER, is_in, is_inside, is_of_jvm, place_of
+from .jvm_text import Dump, Thread, stack_of
 
 FEW = 3  # of those who may disturb, which all who can be disturbed name
 ORDER = (RUNS, UNKNOWN, ANY, ALL)  # in which they are named
@@ -76,8 +76,8 @@ def newcomer(moments: Sequence[Whole]) -> Optional[str]:
 def is_at_rest(thread: Thread) -> bool:
     """Whether a thread is idle until another thread of the job gives it something to do."""
     place = place_of(thread)
-    is_timed = thread.state != "WAITING" and place.has(HAS_TIMER)
-    return bool(place.idle) and place.idle not in FROM_OUTSIDE and not is_timed
+    has_task = place.has(HAS_TIMER) or is_in(HAS_TASK, stack_of(thread))
+    return bool(place.idle) and place.idle not in FROM_OUTSIDE and (thread.state == "WAITING" or not has_task)
 
 
 def add_inner(sketch: Sketch, moments: Sequence[Whole]) -> None:
