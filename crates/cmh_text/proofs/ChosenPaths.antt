@@ -49,7 +49,7 @@ less_on : (p : ℕ) (xs ys : List ℕ) → is_lt (slice_cmp nat_cmp (p ∷ xs) (
 less_on p xs ys e = rw (sym (nat_cmp_is p p Equal refl)) at e
 
 -- what follows p on its chosen path is the chosen path of the next process
-chosen_rest : (g : Graph) (p q : ℕ) (rest : List ℕ) → IsWithinGraph g → p < process_count g
+pub chosen_rest : (g : Graph) (p q : ℕ) (rest : List ℕ) → IsWithinGraph g → p < process_count g
     → chosen_path g p ≡ Some (p ∷ q ∷ rest)
     → (q < process_count g) × (chosen_path g q ≡ Some (q ∷ rest))
 chosen_rest g p q rest w i e =

@@ -1,5 +1,5 @@
 -- The numbers of groups, and the processes that belong to each.
-use Rattle.std.proofs.Common.{◌≡◌, ℕ, zero, suc, ◌+◌, ◌-◌, ◌<◌, ◌≤◌, ◌&&◌, Bool, true, false, not, cond, eqb, leb, List, [], ◌∷◌, length, map, refl, sym, ◌∙◌, ap, subst, arith, add-one, eqb-true, eq-eqb, length-append}
+use Rattle.std.proofs.Common.{◌≡◌, ℕ, zero, suc, ◌+◌, ◌-◌, ◌<◌, ◌≤◌, ◌&&◌, Bool, true, false, not, cond, eqb, leb, List, [], ◌∷◌, get_or, length, map, refl, sym, ◌∙◌, ap, subst, arith, add-one, eqb-true, eq-eqb, length-append}
 use Rattle.std.specs.Prelude.{Contains, Option, Some, None, filter, count_by}
 use Rattle.std.specs.List.{range_with_len}
 use Rattle.std.specs.Option.{option_eq}
@@ -125,12 +125,15 @@ pub leader_leads : (g : Graph) (list : List (Option ℕ)) (l : ℕ) → list ≡
 leader_leads g list l are c =
     led_test g list l l are (leader_within g l c) ∙ (filter_contains (leads_itself g) (indices g) l c).1
 
--- a leader's number is that of its group
-pub own_number : (g : Graph) (list : List (Option ℕ)) (l : ℕ) → list ≡ map (group_leader g) (indices g)
-    → l < process_count g → is_led_by list l l ≡ true → leaders_up_to g l ≡ group_number g l
-own_number g list l are i leads =
-    let itself = and_parts (is_deadlocked g l) (eqb (leader_of g l) l) (sym (led_test g list l l are i) ∙ leads) in
-    ap (leaders_up_to g) (sym (eqb-true (leader_of g l) l itself.1)) ∙ number_is g l
+-- the number at a leader's place is that of its group
+pub number_at : (g : Graph) (numbers : List ℕ) (l d : ℕ) → numbers ≡ map (leaders_up_to g) (indices g)
+    → Contains (leaders g) l → get_or numbers l d ≡ group_number g l
+number_at g numbers l d are c =
+    let itself = and_parts (is_deadlocked g l) (eqb (leader_of g l) l)
+    (filter_contains (leads_itself g) (indices g) l c).1 in
+    by_index g (leaders_up_to g) numbers l d are (leader_within g l c)
+    ∙ ap (leaders_up_to g) (sym (eqb-true (leader_of g l) l itself.1))
+    ∙ number_is g l
 
 -- ---- core and rest by the table of leaders
 

@@ -12,10 +12,11 @@ use Rattle.cmh_graph.specs.Verdict.{is_deadlocked}
 use Rattle.cmh_graph.proofs.ChosenPathLemmas.{chosen_path_law, way_out}
 use Rattle.cmh_graph.proofs.IndexLists.{by_index, by_index_agree, length-by_index}
 use Rattle.cmh_graph.proofs.Verdicts.{deadlocked_from_test, idle_within, test_from_deadlocked}
+use Rattle.cmh_text.specs.Chunks.{path_count}
 use Rattle.cmh_text.specs.Summary.{leader_in, leaders_in, next_in, summary_of, AreSummariesOf}
 use Rattle.cmh_text.specs.declared.summary.Summary.{Summary}
 use Rattle.cmh_text.specs.declared.summary.Summary.TheVariants.{Active, Deadlocked, Free}
-use Rattle.cmh_text.proofs.ChosenPaths.{chosen_first, chosen_from, not_both}
+use Rattle.cmh_text.proofs.ChosenPaths.{chosen_first, chosen_from, chosen_rest, not_both}
 
 -- there is a summary of each process
 pub summaries_size : (g : Graph) (list : List Summary) → AreSummariesOf g list → length list ≡ process_count g
@@ -66,12 +67,6 @@ pub record IsFreeBy (g : Graph) (p : ℕ) (next : Option ℕ) (count : ℕ) : Ty
   pub free : is_deadlocked g p ≡ false
   pub second : slice_get (unwrap_or (chosen_path g p) []) 1 ≡ next
   pub size : length (unwrap_or (chosen_path g p) []) ≡ count
-
--- how many processes are on the path that the summary is of
-abbrev path_count : Summary → ℕ
-path_count Active = 0
-path_count (Deadlocked leader) = 0
-path_count (Free next count) = count
 
 free_by : (g : Graph) (p : ℕ) (next : Option ℕ) (count : ℕ) (idle dead : Bool) → is_idle g p ≡ idle
     → is_deadlocked g p ≡ dead → summary_of g p ≡ Free next count → IsFreeBy g p next count
@@ -226,3 +221,33 @@ pub walk_end : (g : Graph) (p : ℕ) (walked : List ℕ) (next : Option ℕ) →
     → length (unwrap_or (chosen_path g p) []) ≤ length walked → chosen_path g p ≡ Some walked
 walk_end g p walked next h l =
     h.chosen ∙ ap Some (sym (take_all (length walked) (unwrap_or (chosen_path g p) []) l) ∙ sym h.front)
+
+-- ---- a path that begins one process before another
+
+-- a chosen path with q second is its process and then the path of q
+path_then : (g : Graph) (p q : ℕ) (path rest : List ℕ) → IsWithinGraph g → p < process_count g
+    → chosen_path g p ≡ Some path → slice_get path 1 ≡ Some q → chosen_path g q ≡ Some rest
+    → chosen_path g p ≡ Some (p ∷ rest)
+path_then g p q [] rest w i is second after = absurd cc
+path_then g p q (x ∷ []) rest w i is second after = absurd cc
+path_then g p q (x ∷ y ∷ more) rest w i is second after =
+    let same : y ≡ q = cc in
+    let whole = subst (λ r. chosen_path g p ≡ Some (r ∷ y ∷ more)) (chosen_first g p x (y ∷ more) w i is) is in
+    let tail : Some (y ∷ more) ≡ Some rest =
+    sym (chosen_rest g p y more w i whole).1 ∙ ap (chosen_path g) same ∙ after in
+    whole ∙ ap (λ o. Some (p ∷ unwrap_or o [])) tail
+
+-- where its summary names the next process, a path is its process and then the path of the next one
+pub path_before : (g : Graph) (p q : ℕ) (count : ℕ) (rest : List ℕ) → IsWithinGraph g
+    → summary_of g p ≡ Free (Some q) count → chosen_path g q ≡ Some rest → chosen_path g p ≡ Some (p ∷ rest)
+path_before g p q count rest w is after =
+    let by = free_then g p (Some q) count is in
+    path_then g p q _ rest w (idle_within g p by.idle) (path_known g p (Some q) count w is) by.second after
+
+-- a chosen path is that of its first process
+pub path_by_first : (g : Graph) (p q : ℕ) (path : List ℕ) → IsWithinGraph g → p < process_count g
+    → chosen_path g p ≡ Some path → slice_get path 0 ≡ Some q → chosen_path g q ≡ Some path
+path_by_first g p q [] w i is first = absurd cc
+path_by_first g p q (x ∷ rest) w i is first =
+    let same : x ≡ q = cc in
+    subst (λ r. chosen_path g r ≡ Some (x ∷ rest)) (sym (chosen_first g p x rest w i is) ∙ same) is

@@ -1,7 +1,7 @@
 //! The lines of groups, each by the graph and what the line before has left.
 
 ghost use Rattle.std.specs.Prelude.{◌≡◌, ◌<◌, All, Contains, IfOk, IfSome, IsTrue, flat_map, map, string_bytes};
-ghost use Rattle.cmh_graph.specs.Core.{core_of, group_number, leaders, rest_of};
+ghost use Rattle.cmh_graph.specs.Core.{core_of, leaders, rest_of};
 ghost use Rattle.cmh_graph.specs.Graph.{indices, process_count};
 ghost use Rattle.cmh_graph.specs.Path.{Reaches, reach_of, reaches};
 ghost use Rattle.cmh_text.specs.Group.{AreGroupsOf};
@@ -87,28 +87,20 @@ impl<'a> GroupLines<'a> {
         ensures text { IfOk result (λ text. string_bytes text ≡ line (group_line self.old leader)) }
     {
         let mut text = String::new(alloc);
+        let number = self.groups.numbers[leader as usize];
         if self.graph.dependents(leader).is_empty() {
-            push_alone(&mut text, self.graph.name(leader), self.number_of(leader))?;
+            push_alone(&mut text, self.graph.name(leader), number)?;
             return Ok(text);
         }
         let (group, reach) = self.group_of(alloc, leader)?;
         self.last_reach = Some(reach);
-        push_group(alloc, &mut text, &group, &mut self.last_names)?;
+        push_group(alloc, &mut text, number, &group, &mut self.last_names)?;
         Ok(text)
-    }
-
-    /// The number of the group of a leader.
-    fn number_of(&self, leader: u32) -> u32
-        requires { Contains (leaders self.now) leader }
-        ensures { result ≡ group_number self.now leader }
-    {
-        self.groups.numbers[leader as usize]
     }
 
     /// The group of a leader, and what the leader reaches.
     fn group_of(&self, alloc: Global, leader: u32) -> Result<(Group, LeaderReach), AllocError>
         requires { Contains (leaders self.now) leader }
-        ensures number { IfOk result (λ made. made.0.number ≡ group_number self.now leader) }
         ensures core { IfOk result (λ made. made.0.core.items ≡ core_of self.now leader) }
         ensures rest { IfOk result (λ made. made.0.rest.items ≡ rest_of self.now leader) }
         ensures sites { IfOk result (λ made.
@@ -122,7 +114,6 @@ impl<'a> GroupLines<'a> {
         } = self.parts_of(alloc, leader)?;
         let site_count = self.sites.count(alloc, &leader_reach.reach)?;
         let group = Group {
-            number: self.number_of(leader),
             core,
             rest,
             site_count,

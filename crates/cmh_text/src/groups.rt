@@ -72,10 +72,9 @@ pub(crate) fn is_led_by(summaries: &[Summary], leader: u32, p: u32) -> bool
     summaries[p as usize].leader() == Some(leader)
 }
 
-/// What the line of a group says.
+/// What the line of a group says beside its number.
 #[derive(Drop)]
 pub(crate) struct Group {
-    pub(crate) number: u32,
     pub(crate) core: Vec<u32>,
     pub(crate) rest: Vec<u32>,
     pub(crate) site_count: usize,

@@ -1,6 +1,6 @@
 //! The lines of the report, each appended to the text before it. The room for a line is reserved at once.
 
-ghost use Rattle.std.specs.Prelude.{◌≡◌, ◌++◌, ◌∷◌, [], ◌<◌, All, OnOk, codes, decimal, string_bytes};
+ghost use Rattle.std.specs.Prelude.{◌≡◌, ℕ, List, ◌++◌, ◌∷◌, [], ◌<◌, All, OnOk, codes, decimal, string_bytes};
 ghost use Rattle.cmh_graph.specs.Graph.{process_count};
 ghost use Rattle.cmh_text.specs.Report.{line, names_of, names_or_dash, spaced_words};
 
@@ -47,23 +47,13 @@ pub(crate) fn push_deadlocked(text: &mut String, name: &str, number: u32) -> Res
     write!(text, "deadlocked {name} group {number}\n")
 }
 
-/// Appends the line of a free process with this path.
+/// Appends the line of a free process with these names on its path, each after a space.
 #[tactic(auto, using(crate::proofs::LineLemmas::free_pieces))]
-pub(crate) fn push_free(
-    alloc: Global,
-    text: &mut String,
-    name: &str,
-    path: &[u32],
-    last: &mut LastNames,
-) -> Result<(), AllocError>
-    requires { All (λ q. q < process_count last.old.graph) path.now }
-    ensures graph { last.new.graph ≡ last.old.graph }
-    ensures text { OnOk result (string_bytes text.new ≡ string_bytes text.old
-        ++ line (codes "free" ∷ name.now
-        ∷ codes "path" ∷ names_of last.old.graph path.now)) }
+pub(crate) fn push_free(text: &mut String, name: &str, names: &str) -> Result<(), AllocError>
+    ensures { OnOk result ((path : List (List ℕ)) → names.now ≡ spaced_words path
+        → string_bytes text.new ≡ string_bytes text.old
+        ++ line (codes "free" ∷ name.now ∷ codes "path" ∷ path)) }
 {
-    last.renew(alloc, path)?;
-    let names = last.text();
     let room = names.len().saturating_add(name.len());
     text.reserve(room.saturating_add(WORDS_ROOM))?;
     write!(text, "free {name} path")?;
@@ -83,10 +73,11 @@ pub(crate) fn push_alone(text: &mut String, name: &str, number: u32) -> Result<(
     Ok(())
 }
 
-/// Appends the line of a group.
+/// Appends the line of the group with this number.
 pub(crate) fn push_group(
     alloc: Global,
     text: &mut String,
+    number: u32,
     group: &Group,
     last: &mut LastNames,
 ) -> Result<(), AllocError>
@@ -94,14 +85,14 @@ pub(crate) fn push_group(
         × All (λ p. p < process_count last.old.graph) group.now.rest.items }
     ensures graph { last.new.graph ≡ last.old.graph }
     ensures text { OnOk result (string_bytes text.new ≡ string_bytes text.old
-        ++ line (codes "group" ∷ decimal group.now.number
+        ++ line (codes "group" ∷ decimal number
         ∷ codes "|" ∷ names_of last.old.graph group.now.core.items
         ++ codes "|" ∷ names_or_dash last.old.graph group.now.rest.items
         ++ codes "|" ∷ codes "sites" ∷ decimal group.now.site_count ∷ [])) }
 {
     let graph = last.graph;
     text.reserve(names_room(graph, &group.core).saturating_add(WORDS_ROOM))?;
-    write!(text, "group {} |", group.number)?;
+    write!(text, "group {number} |")?;
     push_names(text, graph, &group.core)?;
     text.push_str(" |")?;
     push_names_or_dash(alloc, text, &group.rest, last)?;

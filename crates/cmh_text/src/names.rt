@@ -3,7 +3,8 @@
 //!
 //! A comparison shows what two lists share at their ends, so no proof here speaks of paths or rests.
 
-ghost use Rattle.std.specs.Prelude.{◌≡◌, [], ◌++◌, ◌-◌, ◌<◌, ◌≤◌, ◌^◌, drop, length, min, All, IfOk, OnOk, string_bytes};
+ghost use Rattle.std.specs.Prelude.{◌≡◌, [], ◌∷◌, ◌++◌, ◌-◌, ◌<◌, ◌≤◌, ◌^◌, drop, length, min, nat_eq, slice_get, All, OnErr, OnOk, Some, string_bytes};
+ghost use Rattle.std.specs.Option.{option_eq};
 ghost use Rattle.cmh_graph.specs.Graph.{process_count};
 ghost use Rattle.cmh_text.specs.Report.{names_of, spaced_words};
 
@@ -51,6 +52,7 @@ impl<'a> LastNames<'a> {
         requires { All (λ p. p < process_count self.old.graph) list.now }
         ensures graph { self.new.graph ≡ self.old.graph }
         ensures list { OnOk result (self.new.list ≡ list.now) }
+        ensures none { OnErr result (self.new.list ≡ []) }
     {
         let none = LastNames::new(alloc, self.graph);
         let LastNames {
@@ -59,7 +61,9 @@ impl<'a> LastNames<'a> {
             mut text,
         } = mem::replace(self, none);
         let kept = kept_count(&old, list);
-        let front = names_text(alloc, graph, &list[..list.len() - kept])?;
+        let added = &list[..list.len() - kept];
+        let mut front = String::with_capacity(alloc, names_room(graph, added))?;
+        push_names(&mut front, graph, added)?;
         let cut = names_room(graph, &old[..old.len() - kept]);
         text.replace_range(..cut, &front)?;
         old.clear();
@@ -69,6 +73,35 @@ impl<'a> LastNames<'a> {
             list: old,
             text,
         };
+        Ok(())
+    }
+
+    /// Whether the list begins with that process.
+    pub(crate) fn begins_with(&self, p: u32) -> bool
+        ensures { result ≡ option_eq nat_eq (slice_get self.now.list 0) (Some p) }
+    {
+        self.list.first().copied() == Some(p)
+    }
+
+    /// Puts a process before the list. Where memory is refused, no names are left.
+    pub(crate) fn put_before(&mut self, alloc: Global, p: u32) -> Result<(), AllocError>
+        requires { p < process_count self.old.graph }
+        ensures graph { self.new.graph ≡ self.old.graph }
+        ensures list { OnOk result (self.new.list ≡ p ∷ self.old.list) }
+        ensures none { OnErr result (self.new.list ≡ []) }
+    {
+        let none = LastNames::new(alloc, self.graph);
+        let LastNames {
+            graph,
+            mut list,
+            mut text,
+        } = mem::replace(self, none);
+        let mut front = String::new(alloc);
+        front.push(' ')?;
+        front.push_str(graph.name(p))?;
+        text.insert_str(0, &front)?;
+        list.insert(0, p)?;
+        *self = LastNames { graph, list, text };
         Ok(())
     }
 
@@ -93,16 +126,6 @@ fn kept_count(old: &[u32], new: &[u32]) -> usize
     } else {
         0
     }
-}
-
-/// The name of each process after a space.
-fn names_text(alloc: Global, graph: &WaitGraph, list: &[u32]) -> Result<String, AllocError>
-    requires { All (λ p. p < process_count graph.now) list.now }
-    ensures { IfOk result (λ text. string_bytes text ≡ spaced_words (names_of graph.now list.now)) }
-{
-    let mut text = String::with_capacity(alloc, names_room(graph, list))?;
-    push_names(&mut text, graph, list)?;
-    Ok(text)
 }
 
 /// Appends the name of each process after a space.

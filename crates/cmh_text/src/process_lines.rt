@@ -1,4 +1,4 @@
-//! The lines of idle processes, each by the graph and the names that the line before has left.
+//! The lines of idle processes, each by the graph and the path that the line before has left.
 
 ghost use Rattle.std.specs.Prelude.{◌≡◌, All, IfOk, IsTrue, flat_map, string_bytes};
 ghost use Rattle.cmh_graph.specs.Graph.{is_idle};
@@ -8,8 +8,7 @@ ghost use Rattle.cmh_text.specs.Report.{line, process_line};
 use crate::backward_text::BackwardText;
 use crate::groups::Groups;
 use crate::lines::{push_deadlocked, push_free};
-use crate::names::LastNames;
-use crate::paths::path_of;
+use crate::paths::LastPath;
 use crate::summary::Summary;
 use cmh_graph::WaitGraph;
 use cmh_stream::Pieces;
@@ -21,7 +20,7 @@ use std::marker::Model;
 pub(crate) struct ProcessLines<'a> {
     graph: &'a WaitGraph,
     groups: &'a Groups,
-    last_names: LastNames<'a>,
+    last_path: LastPath<'a>,
 }
 
 impl<'a> Model for ProcessLines<'a> {
@@ -45,7 +44,7 @@ impl<'a> ProcessLines<'a> {
         ProcessLines {
             graph,
             groups,
-            last_names: LastNames::new(alloc, graph),
+            last_path: LastPath::new(alloc, graph, &groups.summaries),
         }
     }
 
@@ -76,14 +75,8 @@ impl<'a> ProcessLines<'a> {
                 push_deadlocked(&mut text, self.graph.name(p), number)?;
             }
             Summary::Free(next, count) => {
-                let path = path_of(alloc, self.graph, &self.groups.summaries, p, next, count)?;
-                push_free(
-                    alloc,
-                    &mut text,
-                    self.graph.name(p),
-                    &path,
-                    &mut self.last_names,
-                )?;
+                self.last_path.go_to(alloc, p, next, count)?;
+                push_free(&mut text, self.graph.name(p), self.last_path.names())?;
             }
             Summary::Active => unreachable!(),
         }

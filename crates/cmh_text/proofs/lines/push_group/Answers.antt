@@ -13,7 +13,7 @@ returns-clause-text c =
     ∙ (λ i. string_bytes c.write.new.self ++ spaced_words (names_of (shown i) (c.deref-2.ensures.value i))) in
     let rest = c.in_ok-push_names_or_dash.ensures.text
     ∙ ap (λ ps. string_bytes c.push_str.new.self ++ spaced_words (names_or_dash g ps)) c.deref-3.ensures.value in
-    let front = codes "group " ++ (decimal c.args.group.now.number ++ codes " |") in
+    let front = codes "group " ++ (decimal c.args.number ++ codes " |") in
     let first : string_bytes c.write.new.self ≡ string_bytes c.args.text.now ++ front =
     c.in_ok-write.ensures.bytes ∙ ap (λ xs. xs ++ front) c.reserve.ensures.bytes in
     let bar : string_bytes c.push_str.new.self ≡ string_bytes c.push_names.new.text ++ codes " |" =

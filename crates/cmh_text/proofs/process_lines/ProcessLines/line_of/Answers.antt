@@ -1,19 +1,18 @@
-use Rattle.std.proofs.Common.{◌∙◌, ◌++◌, ◌<◌, ◌∷◌, [], ap, arith, length, subst, sym}
-use Rattle.std.specs.Prelude.{All, codes, string_bytes, unwrap_or, Some}
+use Rattle.std.proofs.Common.{◌∙◌, ◌++◌, ◌<◌, [], ap, arith, length, subst, sym}
+use Rattle.std.specs.Prelude.{string_bytes, unwrap_or}
 use Rattle.cmh_graph.specs.ChosenPath.{chosen_path}
 use Rattle.cmh_graph.specs.Graph.{name_of, process_count}
 use Rattle.cmh_graph.proofs.Groups.{in_own_core, leader_least}
 use Rattle.cmh_graph.proofs.IndexLists.{by_index, length-by_index}
 use Rattle.cmh_graph.proofs.Verdicts.{idle_within}
 use Rattle.cmh_text.specs.Group.{leaders_up_to, AreGroupsOf}
-use Rattle.cmh_text.specs.Report.{line, names_of, process_line}
+use Rattle.cmh_text.specs.Report.{line, names_of, process_line, spaced_words}
 use Rattle.cmh_text.specs.Summary.{summary_of}
-use Rattle.cmh_text.proofs.ChosenPaths.{path_within}
 use Rattle.cmh_text.proofs.Numbers.{number_is}
 use Rattle.cmh_text.proofs.Summaries.{deadlocked_then, free_then, idle_then, summaries_size}
 use Rattle.cmh_text.proofs.LineLemmas.{deadlocked_words, free_words}
 use Rattle.cmh_text.proofs.process_lines.ProcessLines.line_of.Goals as goal
-use Rattle.cmh_text.proofs.process_lines.ProcessLines.line_of.Goals.{in-Deadlocked+in_ok-push_deadlocked-in-Deadlocked, in-Free+in_ok-path-in-Free+in_ok-push_free-in-Free}
+use Rattle.cmh_text.proofs.process_lines.ProcessLines.line_of.Goals.{in-Deadlocked+in_ok-push_deadlocked-in-Deadlocked, in-Free+in_ok-go_to-in-Free+in_ok-push_free-in-Free}
 
 -- there is a summary of the process
 pub index-requires : goal.index-requires
@@ -46,25 +45,14 @@ index-number-requires c =
     )
 
 -- the summary is that of a free process
-pub path_of-requires-clause-free : goal.path_of-requires-clause-free
-path_of-requires-clause-free c =
+pub go_to-requires : goal.go_to-requires
+go_to-requires c =
     let g = c.args.self.now in
     let p = c.args.p in
     let groups = subst (λ g. AreGroupsOf g c.self.inside.groups.now) c.self.view_is c.self.invariant.groups in
     let within = idle_within g p c.requires in
-    ap (λ g. summary_of g p) c.self.view_is
+    ap (λ g. summary_of g p) (c.self.invariant.last_path ∙ c.self.view_is)
     ∙ sym (c.index.ensures ∙ by_index g (summary_of g) _ p _ groups.summaries within) ∙ c.in-Free.is
-
--- the path goes along processes of the graph
-pub push_free-requires : goal.push_free-requires
-push_free-requires c =
-    let g = c.args.self.now in
-    let groups = subst (λ g. AreGroupsOf g c.self.inside.groups.now) c.self.view_is c.self.invariant.groups in
-    let shown = c.self.invariant.last_names ∙ c.self.view_is in
-    subst (λ g. All (λ q. q < process_count g) c.deref-in-Free.result.now) (sym shown)
-    (path_within g c.args.p _ groups.well_formed.within (idle_within g c.args.p c.requires)
-    (ap (λ g. chosen_path g c.args.p) (sym c.self.view_is)
-    ∙ c.in_ok-path-in-Free.ensures ∙ ap Some (sym c.deref-in-Free.ensures.value)))
 
 -- an idle process has no such summary
 pub unreachable-requires : goal.unreachable-requires
@@ -81,7 +69,7 @@ returns-clause-text c =
     let g = c.args.self.now in
     let p = c.args.p in
     let groups = subst (λ g. AreGroupsOf g c.self.inside.groups.now) c.self.view_is c.self.invariant.groups in
-    let shown = c.self.invariant.last_names ∙ c.self.view_is in
+    let shown = c.self.invariant.last_path ∙ c.self.view_is in
     let here = idle_within g p c.requires in
     let summary =
     sym (c.index.ensures ∙ by_index g (summary_of g) _ p _ groups.summaries here) in
@@ -100,16 +88,16 @@ returns-clause-text c =
           ∙ ap (λ words. string_bytes c.new-text.result ++ line words)
           (deadlocked_words g p w.index-number.result.now w.name.result.now known.0 name number)
           ∙ empty
-      | in-Free+in_ok-path-in-Free+in_ok-push_free-in-Free w ↦
+      | in-Free+in_ok-go_to-in-Free+in_ok-push_free-in-Free w ↦
           let by = free_then g p w.in-Free.next w.in-Free.count (summary ∙ w.in-Free.is) in
-          let path = w.deref-in-Free.result.now in
+          let path = w.go_to.new.self.list in
+          let graph = w.in_ok-go_to-in-Free.ensures.graph ∙ shown in
+          let names = w.names.ensures ∙ ap (λ g. spaced_words (names_of g path)) graph in
           let name = w.name-in-Free.ensures ∙ ap (λ g. name_of g p) c.self.view_is in
-          let chosen = w.deref-in-Free.ensures.value ∙ ap (λ o. unwrap_or o []) (sym w.in_ok-path-in-Free.ensures)
-          ∙ ap (λ g. unwrap_or (chosen_path g p) []) c.self.view_is in
+          let chosen = ap (λ o. unwrap_or o []) (sym w.in_ok-go_to-in-Free.ensures.path)
+          ∙ ap (λ g. unwrap_or (chosen_path g p) []) shown in
           ap string_bytes w.text-is
-          ∙ w.in_ok-push_free-in-Free.ensures.text
-          ∙ ap (λ g. string_bytes c.new-text.result
-          ++ line (codes "free" ∷ w.name-in-Free.result.now ∷ codes "path" ∷ names_of g path)) shown
+          ∙ w.in_ok-push_free-in-Free.ensures (names_of g path) names
           ∙ ap (λ words. string_bytes c.new-text.result ++ line words)
           (free_words g p w.name-in-Free.result.now path by.free name chosen)
           ∙ empty
