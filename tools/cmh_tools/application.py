@@ -122,6 +122,7 @@ class Application:
         self.by_line: Dict[int, Set[str]] = {}  # by the line of a fact, whom it is on
 
     def run(self) -> None:
+        self.facts.find_bystanders(self.sketch)
         found = self.undecided()
         self.meet(found)
         self.decide_all(found, found)
@@ -315,6 +316,22 @@ class Application:
         process.proposal = "still" if process.doubt != GROWN else "none"
         says = "a guess" if process.is_guessed() else "its place"
         process.become_unknown(f"{process.doubt}; {says} says that it waits for {kind} of {some or 'nobody'}")
+
+
+def drop_bystanders(facts: Facts, sketch: Sketch) -> None:
+    """Takes those out of the lists of others, where one of several is enough, that end nobody's wait by the facts."""
+    kept: Dict[int, List[str]] = {}  # by the id of a list, what is left of it
+    for process in sketch.processes if facts.bystanders else ():
+        for some in (process.whom, process.besides):
+            kept.setdefault(id(some), [name for name in some if name not in facts.bystanders])
+        lists = [process.besides, *([process.whom] if process.kind == ANY else [])]
+        gone = {facts.bystanders[name].at: facts.bystanders[name] for some in lists for name in some
+                if name in facts.bystanders}
+        process.besides = kept[id(process.besides)]
+        process.whom = kept[id(process.whom)] if process.kind == ANY else process.whom
+        for fact in gone.values() if process.kind in (ANY, ALL) else ():
+            process.because = [*process.because, facts.reason(fact)]
+            fact.decided.append(process.name)
 
 
 def are_told_apart(fact: Fact, other: Optional[Fact]) -> bool:

@@ -16,6 +16,7 @@ from .proposals import Proposal, legend, propose
 from .recorders import MODULES
 from .sketch import KINDS, UNKNOWN, FactRow, Sketch, number_of_guess, reason_of
 
+DID = {" holds ": "is held by", " frees ": "is freed by"}  # what names have to do with a word of a fact
 SHOWN, NAMES = 8, 5  # as many unknown ones and lines of facts are shown, and names in one; the notes have all
 USAGE = """cmh-dump SYSTEM STATE.. [--facts FILE] [--guesses] -o DUMP
        cmh-dump linux --pid PID.. [--seconds S] [--stacks] [--save STATE] [--facts FILE] [--guesses] -o DUMP
@@ -119,7 +120,7 @@ def number_decided(sketch: Sketch) -> List[int]:
 
 def fact_line(row: FactRow, number: int) -> str:
     """Returns the line on what a fact did: how many it decided, and the names that each of its patterns took."""
-    did = "is held by" if " holds " in row["text"] else "took"
+    did = next((words for mark, words in DID.items() if mark in row["text"]), "took")
     some = [f"; {shown(word)} {did} {some_names(names)}" for word, names in row["took"].items() if names != [word]]
     return f"{shown(row['at'])}: {shown(row['text'])}: decided {number:,}{''.join(some)}"
 

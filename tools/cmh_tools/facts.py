@@ -14,6 +14,7 @@
     loader.done                    -> ended
     main.(*Store).Put:26           -> holds Store.mu
     main.(*Store).Size Lock        -> any @Store.mu
+    beat.sh                        -> frees nobody
     * "gen_server:call {pool}"     -> also answered by {pool}/worker/*
     group row-0 = rank-0 rank-1 rank-2
     grid.c:* of row-0 MPI_Allreduce -> all of row-0
@@ -38,6 +39,8 @@ FUNCTION, FUNCTION:LINE, FILE:LINE and the whole frame. The first line that matc
                              process that waits at an object called WHAT waits for any of its holders. Where a broker's
                              keys are held, `*` in WHAT stands for a word, and `#` for any number of words
     also answered by NAME .. these may answer in place of the process that was called
+    frees nobody             it ends nobody's wait, though it could: a heartbeat that has both ends of a pipe, a watchdog
+                             that only writes to a log. FRAME is any frame here, and all such lines count
 
 NAME is a pattern of names of processes, a group, `creator` or `children` of the process that waits, where the state
 says who created whom, or `@WHAT`: all that hold WHAT. `{VARIABLE}` in it is the text that stands there before the
@@ -60,7 +63,7 @@ from .files import Refusal, shown
 from .places import VARIABLE, Place, Values, values_of_frame
 from .sketch import COMPLETE, FACT, UNKNOWN, FactRow, Process, Sketch, guess, near_name, quote
 
-HOLDS, ALSO, STILL, GROUP = "holds", "also answered by", "still", "group"
+HOLDS, ALSO, STILL, GROUP, FREES = "holds", "also answered by", "still", "group", "frees"
 WAITS = ("any", "all", "nobody", "runs", "ended")
 BARE = ("runs", "ended", "holds", "also")  # kinds that need no arrow before them
 # Words for relatives of the one that waits, unless a process has that name.
@@ -122,13 +125,15 @@ def fill_in(word: str, values: Values) -> str:
 @dataclass
 class Facts:
     """The facts of a file. `path` is its name, for people, and `still` the line that says that nothing moves. `guesses`
-    has by the names of processes what is guessed of them, where no fact is on their wait."""
+    has by the names of processes what is guessed of them, where no fact is on their wait, and `bystanders` by theirs the
+    fact that they end nobody's wait."""
 
     facts: List[Fact] = field(default_factory=list)
     path: str = "facts"
     still: Optional[Fact] = None
     groups: Dict[str, List[str]] = field(default_factory=dict)
     guesses: Dict[str, Fact] = field(default_factory=dict)
+    bystanders: Dict[str, Fact] = field(default_factory=dict)
     by_frame: Dict[str, List[Fact]] = field(default_factory=dict, repr=False, compare=False)
 
     def wait(self, process: Process) -> Optional[Fact]:
@@ -154,6 +159,16 @@ class Facts:
             fact.used = True
         return [(fact, fill_in(fact.words[0], fact.values(process))) for fact in found]
 
+    def find_bystanders(self, sketch: Sketch) -> None:
+        """Finds who ends nobody's wait."""
+        some = [fact for fact in self.facts if fact.kind == FREES]
+        for process in sketch.processes if some else ():
+            for fact in some:
+                if fact.place.values(process, True) is not None:
+                    fact.used = True
+                    fact.took.setdefault("nobody", {})[process.name] = None
+                    self.bystanders.setdefault(process.name, fact)
+
     def first(self, kinds: Tuple[str, ...], process: Process) -> Optional[Fact]:
         for fact in self.at_frame(process.frames[0] if process.frames else ""):
             if fact.kind in kinds and fact.place.values(process) is not None:
@@ -178,7 +193,7 @@ class Facts:
 
 def why_unused(fact: Fact, sketch: Sketch) -> str:
     """Returns what a fact matches that decides nobody, or which place of one who is still unknown is near."""
-    there, anywhere = fact.place, fact.kind == HOLDS
+    there, anywhere = fact.place, fact.kind in (HOLDS, FREES)
     if any(there.values(it, anywhere) is not None for it in sketch.processes):
         return f"no unknown process: {fact.text}"
     open_ones = [it for it in sketch.processes if it.kind == UNKNOWN and not (it.is_spoilt or it.is_idle)]
@@ -315,13 +330,15 @@ def place_of(words: List[Word]) -> Place:
 
 def check_words(kind: str, words: List[str]) -> None:
     """Raises Refusal if the kind isn't known, or has too many words or too few."""
-    known = (*WAITS, HOLDS, ALSO)
+    known = (*WAITS, HOLDS, ALSO, FREES)
     if kind not in known:
         raise Refusal(f"{quote(kind)} is no fact{near_name(kind, known)}; facts are {', '.join(map(quote, known))}")
     if COMPLETE in words:
         raise Refusal(TO_COMPLETE)
     if kind in ("runs", "nobody") and words or kind == "ended" and words not in ([], ["needed"]):
         raise Refusal(f"{quote(kind)} is followed by {quote(words[0])}")
+    if kind == FREES and words != ["nobody"]:
+        raise Refusal("'frees' is followed by 'nobody'")
     if kind == HOLDS and len(words) != 1:
         raise Refusal("'holds' is followed by one WHAT; one that is '#' stands in quotes")
     if kind in ("any", "all", ALSO) and not words:

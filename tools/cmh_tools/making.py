@@ -4,7 +4,7 @@ from __future__ import annotations
 from typing import Callable, Dict, List, Sequence, Tuple
 
 from . import guesses
-from .application import add_left_out, apply
+from .application import add_left_out, apply, drop_bystanders
 from .command import read_any
 from .facts import Facts
 from .files import Refusal, read_text, shown
@@ -43,6 +43,7 @@ def decide(sketch: Sketch, facts: Facts, what: str = "processes", with_guesses: 
         guesses.take(sketch, facts)
         add_left_out(sketch)
     add_starters(sketch)
+    drop_bystanders(facts, sketch)
     leave_out(sketch, what)
     sketch.check()
     doubt_roots(sketch)
