@@ -62,6 +62,7 @@ ENDS = ("JUMP_FORWARD", "RETURN_VALUE", "RETURN_CONST", "RAISE_VARARGS")  # step
 STUCK = 5  # seconds
 DEEP = 2000  # frames of a stack at most
 WIDE = 200000  # values that are looked at for tasks and children in all
+CROWD, FEW = 5000, 20  # values within one another, and objects of a class, that are looked at for functions
 CODES = 50000  # functions that are looked at for names in one state; more count as having them
 LEFT = {"codes": CODES}
 NEAR = 3  # steps from a name to a task, future or child that it is taken to reach
@@ -752,16 +753,31 @@ def called_later(frames):
 
 
 def spread(values):
-    """Values, and what those have that are lists or the like, also within one another."""
+    """Values, and what those have that are lists or the like, also within one another, as far as these are no more than
+    can be looked at."""
     found = last = list(values)
+    seen = set()
     for _ in range(NEAR):
-        last = [each for value in last if holds_others(value) for each in insides(value)]
+        some = {id(value): value for value in last if holds_others(value) and id(value) not in seen}
+        seen.update(some)
+        last = list(itertools.islice((each for value in some.values() for each in insides(value)), CROWD))
         found = found + last
     return found
 
 
 def holds_others(value):
     return type(value) in (*ROWS, functools.partial, types.MethodType) or issubclass(type(value), dict)
+
+
+def add_owners(owners, values):
+    """Adds the attributes of some objects to those that methods may find in `self`: by the names of their classes, a
+    few of each."""
+    for value in values:
+        here = attributes_of(value) if type(value) not in (*CALLED, types.ModuleType, type) else {}
+        for kind in type.__dict__["__mro__"].__get__(type(value))[:-1] if here else ():
+            rows = owners.setdefault(kind.__qualname__, {})
+            if len(rows) < FEW:
+                rows[id(value)] = here
 
 
 def kinds_of(values):
@@ -780,8 +796,8 @@ def attributes_of(value):
 
 def named_by(names, places):
     """What names stand for: in variables, as attributes and methods of these, and of what they stand for there."""
-    found = [place[name] for place in places for name in names if name in place]
-    found += [inner[name] for inner in map(attributes_of, found) for name in names if name in inner]
+    found = [place[name] for place in places for name in names & place.keys()]
+    found += [inner[name] for inner in map(attributes_of, found) for name in names & inner.keys()]
     kinds = kinds_of([*found, *list(places[0].values())])
     return spread(found + [each[name] for each in kinds for name in names if name in each])
 
@@ -791,10 +807,10 @@ def reached(words, frames, start_of, called=()):
     names, some steps far, or that will be called."""
     ways = [(names_ahead(frame.f_code, start_of(frame)), (frame.f_locals, frame.f_globals))
             for frame, _ in frames if is_own(frame)]
-    values, seen, objects = [*called, *called_later(frames)], set(), []
+    values, seen, owners = [*called, *called_later(frames)], set(), {}
     for _ in range(NEAR + 1):
         values += [value for names, places in ways for value in named_by(names, places)]
-        objects += [each for each in map(attributes_of, values) if each]
+        add_owners(owners, values)
         names = {value.__name__ for value in values if type(value) in CALLED}
         yield from words.intersection(names.union(*(names for names, _ in ways)))
         new = {value for value in values if type(value) is types.FunctionType and is_foreign(value)} - seen
@@ -803,8 +819,14 @@ def reached(words, frames, start_of, called=()):
         if LEFT["codes"] < 0:
             yield from words
             return
-        ways = [(names_ahead(each.__code__, 0), (cells_in(each), each.__globals__, *objects)) for each in new]
+        ways = [(names_ahead(each.__code__, 0), (cells_in(each), each.__globals__, *objects_of(each, owners)))
+                for each in new]
         values = []
+
+
+def objects_of(function, owners):
+    """The attributes of the objects of which a function is a method."""
+    return owners.get(function.__qualname__.rpartition(".")[0], {}).values()
 
 
 def from_step(frame):
