@@ -89,7 +89,7 @@ def read_text(path: str) -> str:
 
 
 def text_of_bytes(data: bytes, path: str) -> str:
-    if not data.strip():
+    if not data or data.isspace():
         raise Refusal(f"{shown(path)}: it is empty")
     try:
         return data.decode("utf-8-sig")

@@ -10,6 +10,7 @@ import itertools
 import re
 from collections import Counter
 from dataclasses import dataclass
+from functools import lru_cache
 from typing import Any, Callable, Dict, Iterable, Iterator, List, Optional, Sequence, Tuple, Type
 
 from ..files import Refusal, shown
@@ -29,6 +30,7 @@ class Premise:
     is_of_process: bool = False
 
 
+KEPT = 65536  # lists of reasons whose premises are kept
 LIMITS = {LIMIT: Premise("a wait with a limit ends, and the process then continues")}
 
 
@@ -120,7 +122,7 @@ class Recorder:
         sketch = Sketch([], system=self.NAME)
         for subject in self.processes(moment):
             process = self.wait_of(subject, moment)
-            for name in premises_of(process):
+            for name in premises_in(tuple(process.because)):
                 sketch.premises[name] = table[name].sentence
                 broken = table[name].breaks(subject, moment)
                 if broken:
@@ -171,9 +173,10 @@ def parts_of(value: Any, shape: Any) -> Iterator[Tuple[Any, Any, Any]]:
                 yield name, value.get(name, ...), wanted
 
 
-def premises_of(process: Process) -> List[str]:
-    """The names of the premises that a process rests on."""
-    return [reason.split(" ", 1)[1] for reason in process.because if reason.startswith("premise ")]
+@lru_cache(maxsize=KEPT)
+def premises_in(because: Tuple[str, ...]) -> List[str]:
+    """The names of the premises among some reasons. Many processes have the same, so nobody changes this list."""
+    return [reason.split(" ", 1)[1] for reason in because if reason.startswith("premise ")]
 
 
 def one_line(text: str, width: int = 200) -> str:

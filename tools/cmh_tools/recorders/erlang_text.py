@@ -87,15 +87,15 @@ class Block:
         self.function, self.stack, self.own = places_of(self.item("current_stacktrace"))
         self.items.pop("current_stacktrace", None)  # (which is long)
         frames_text = text.partition("Program counter")[2]
-        self.counter = frames_text.split("\n\n")[0]
+        self.counter = frames_text.partition("\n\n")[0]
         limit, self.has_limit = LIMIT.search(text), WITH_A_LIMIT.search(text) is not None
         self.call = call_of(limit, text) if limit else None
         waiting = self.counter + (limit[0] if limit else "")
         # The references of the call that it waits in, and their tails.
         self.references = list(dict.fromkeys(OBJECT.findall(waiting)))
         self.awaited = tuple(dict.fromkeys(REFERENCE.findall(waiting)))
-        self.is_mail_cut, self.is_stack_cut = self.messages == CUT, self.extra("backtrace") == CUT
-        self.is_cut = self.is_mail_cut or self.is_stack_cut or CUT in map(self.extra, (
+        self.is_mail_cut, self.is_stack_cut = self.messages == CUT, self.items.get("backtrace") == CUT
+        self.is_cut = self.is_mail_cut or self.is_stack_cut or CUT in map(self.items.get, (
             "references", "may_end", "closures"))
         self.count = self.extra("reductions")
         self.start = self.start_of()
@@ -107,7 +107,7 @@ class Block:
             self.fault = "its stack isn't in the text"
 
     def item(self, key: str) -> str:
-        found = self.extra(key)
+        found = self.items.get(key)
         if found is None:
             self.fault = self.fault or f"its text has no line '{{{key},..}}'"
         return found or ""
@@ -183,15 +183,15 @@ class Block:
 
     def linked(self) -> List[str]:
         """The pids of those that take it along if they fail. One that traps exits outlives them."""
-        return ANY_PID.findall(self.extra("links") or "") if self.extra("trap_exit") == "false" else []
+        return ANY_PID.findall(self.items.get("links", "")) if self.items.get("trap_exit") == "false" else []
 
     def may_end(self) -> List[str]:
         """The pids of those that its code may send an exit signal to, since it knows them."""
-        return ANY_PID.findall(self.extra("may_end") or "")
+        return ANY_PID.findall(self.items.get("may_end", ""))
 
     def code(self) -> List[str]:
         """What the modules that it runs call: `bytes`, `exits`, `replies`, `stops`, `tables`, `timers`."""
-        return words_of(self.extra("code") or "")
+        return words_of(self.items.get("code", ""))
 
     def is_supervisor(self) -> bool:
         return self.start[0] == "supervisor"
@@ -295,7 +295,7 @@ def readings_of(path: str, text: str, known: Dict[bytes, Block]) -> List[NodeRea
     pids: Set[str] = set()
     for word, part in parts_of(text.replace("\r\n", "\n")):
         block = block_of(part, path, known) if word == "process" else None
-        words = part.split("\n")[0].split()
+        words = [] if block else part.partition("\n")[0].split()
         node = block.node if block else words[-1] if words else ""
         last = found[-1] if found else None
         if last is None or last.source != node or last.is_closed or block and block.pid in pids:
