@@ -333,8 +333,8 @@ class Explanation(Findings):
             return []
         number = sum(len(some) for _, some in rows)
         lines = [f"With a limit at the same place in all states: {number_of(number)}. One that only waits again and "
-                 "again needs a fact, or '-> frees nobody' if it ends nobody's wait; one that does something else after "
-                 "its limit needs none:"]
+                 "again needs a fact, or '-> frees nobody' if it ends nobody's wait; one that does something else "
+                 "after its limit needs none:"]
         return lines + self.first([AsItIs(f"  {shown(text)}  # {self.some([shown(it.name) for it in some])}")
                                    for text, some in rows], ("place", "places"))
 

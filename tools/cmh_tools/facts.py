@@ -39,8 +39,8 @@ FUNCTION, FUNCTION:LINE, FILE:LINE and the whole frame. The first line that matc
                              process that waits at an object called WHAT waits for any of its holders. Where a broker's
                              keys are held, `*` in WHAT stands for a word, and `#` for any number of words
     also answered by NAME .. these may answer in place of the process that was called
-    frees nobody             it ends nobody's wait, though it could: a heartbeat that has both ends of a pipe, a watchdog
-                             that only writes to a log. FRAME is any frame here, and all such lines count
+    frees nobody             it ends nobody's wait, though it could: a heartbeat that has both ends of a pipe, or a
+                             watchdog that only writes to a log. FRAME is any frame here, and all such lines count
 
 NAME is a pattern of names of processes, a group, `creator` or `children` of the process that waits, where the state
 says who created whom, or `@WHAT`: all that hold WHAT. `{VARIABLE}` in it is the text that stands there before the
@@ -125,8 +125,8 @@ def fill_in(word: str, values: Values) -> str:
 @dataclass
 class Facts:
     """The facts of a file. `path` is its name, for people, and `still` the line that says that nothing moves. `guesses`
-    has by the names of processes what is guessed of them, where no fact is on their wait, and `bystanders` by theirs the
-    fact that they end nobody's wait."""
+    has by the names of processes what is guessed of them, where no fact is on their wait, and `bystanders` by theirs
+    the fact that they end nobody's wait."""
 
     facts: List[Fact] = field(default_factory=list)
     path: str = "facts"

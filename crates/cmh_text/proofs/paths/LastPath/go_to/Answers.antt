@@ -37,7 +37,8 @@ invariant_of-self-then-begins_with c =
     record {
       names = c.in_ok-put_before.ensures.graph ∙ c.self.invariant.names;
       summaries = c.self.invariant.summaries;
-      path = λ q at. path_by_first g c.args.p q c.put_before.new.self.list c.law_built_graph.ensures.within within path at;
+      path = λ q at.
+          path_by_first g c.args.p q c.put_before.new.self.list c.law_built_graph.ensures.within within path at;
     }
 
 pub returns-then-begins_with-clause-path : goal.returns-then-begins_with-clause-path
