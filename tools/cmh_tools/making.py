@@ -14,7 +14,7 @@ from .moments import STOOD, UNCOUNTED, both
 from .proposals import shorten_candidates
 from .recorders import State, recorder
 from .roots import Roots
-from .sketch import ALL, ANY, ENDED, REST, RUNS, UNKNOWN, Sketch, premise, read_sketch
+from .sketch import ALL, ANY, COMPLETE, ENDED, REST, RUNS, UNKNOWN, Sketch, premise, read_sketch
 from .stuck import Waits
 
 
@@ -126,4 +126,19 @@ def record(system: str, states: List[State]) -> Sketch:
         raise Refusal(f"{where}: this isn't understood as a state of {system} ({type(error).__name__}: "
                       f"{shown(str(error))})") from error
     sketch.system = sketch.system or system
+    doubt_choices(sketch)
     return sketch
+
+
+def doubt_choices(sketch: Sketch) -> None:
+    """Leaves who waits for one of several, or for all of them, unknown where some of these may be stuck and others
+    aren't. Where all are it is stuck as well, and where none is it isn't."""
+    some = [it for it in sketch.processes if it.choice is not None and it.kind == ALL]
+    waits = Waits(sketch) if some else None
+    surely, perhaps = ({waits.processes[at].name for at in waits.answer(unknown_in).members()} if waits else set()
+                       for unknown_in in (False, True))
+    for it in some:
+        if it.choice is not None and perhaps.intersection(it.whom) and set(it.whom) - surely:
+            why, besides = it.choice
+            it.candidates, it.besides = [*it.whom, COMPLETE], besides
+            it.become_unknown(why)

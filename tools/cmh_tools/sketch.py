@@ -81,7 +81,8 @@ class Process:
     the state prints, so that one who isn't printed may belong to it. `doubt` says why it isn't known that all readings
     show one wait, if it isn't; then neither the system nor a fact on its list decides it. `moment` says how it was
     read, if not as others of its system. `is_spoilt` says that no fact on its place decides it, as where its text in a
-    state isn't understood. `thread` is the thread of the kernel that it is all the time, as PID/TID.
+    state isn't understood. `thread` is the thread of the kernel that it is all the time, as PID/TID. `choice` says of
+    one that waits for one of its list, or for all of it, why that isn't known, and who may end its wait besides.
     """
 
     name: str
@@ -110,6 +111,7 @@ class Process:
     starters: Dict[str, List[str]] = field(default_factory=dict)
     likely: Dict[str, bool] = field(default_factory=dict)
     thread: str = ""
+    choice: Optional[Tuple[str, List[str]]] = None
 
     def copy(self) -> Process:
         """Returns one whose parts are the same. `dataclasses.replace` takes ten times as long."""

@@ -11,9 +11,8 @@ from typing import Any, Dict, Iterable, List, Optional, Set, Tuple, Union
 
 from ..files import Refusal, shown
 from ..moments import APART, Reading
-from ..sketch import (ALL, COMPLETE, DONE, ENDED, LIMIT, SYSTEM, Process, Sketch, premise, runs, unknown,
-                      waits_for_all, waits_for_any)
-from ..stuck import Waits
+from ..sketch import (DONE, ENDED, LIMIT, SYSTEM, Process, Sketch, premise, runs, unknown, waits_for_all,
+                      waits_for_any)
 from . import State
 from .base import Moment, Premise, Recorder, one_line
 from .linux_locks import SETLKW, ends_of_lock
@@ -90,8 +89,6 @@ class LinuxRecorder(Recorder):
         self.unread: List[List[Owner]] = []
         self.unread_names: List[str] = []
         self.asked: Set[str] = set()
-        # Of those that wait for one of several, or for all: why, and who may end that besides, whichever it is.
-        self.choices: Dict[str, Tuple[str, List[str]]] = {}
 
     def read(self, state: State) -> List[Reading]:
         rows = rows_of(state.text, state.path)
@@ -127,22 +124,8 @@ class LinuxRecorder(Recorder):
         """Leaves out what couldn't be read, wasn't asked for and stands in nobody's list."""
         wanted = self.asked.union(name for process in sketch.processes for name in (*process.whom, *process.besides))
         sketch.processes = [it for it in sketch.processes if it.frames != [UNREADABLE] or it.name in wanted]
-        if self.choices:
-            self.doubt_choices(sketch)
         for moment in moments:
             sketch.warnings += [it for it in moment.machine.warnings if it not in sketch.warnings]
-
-    def doubt_choices(self, sketch: Sketch) -> None:
-        """Leaves who waits for one of several, or for all of them, unknown where some of these may be stuck and others
-        aren't. Where all are it is stuck as well, and where none is it isn't."""
-        waits = Waits(sketch)
-        surely, perhaps = ({waits.processes[at].name for at in waits.answer(is_high).members()}
-                           for is_high in (False, True))
-        for it in sketch.processes:
-            if it.name in self.choices and it.kind == ALL and perhaps.intersection(it.whom) and set(it.whom) - surely:
-                why, besides = self.choices[it.name]
-                it.candidates, it.besides = [*it.whom, COMPLETE], besides
-                it.become_unknown(why)
 
     def wait_of(self, subject: Subject, moment: Computer) -> Process:
         if isinstance(subject, list):
@@ -199,7 +182,7 @@ class LinuxRecorder(Recorder):
         because += [premise(OUTSIDE)] if self.outside == "container" and not ends.is_exact else []
         whom, more["besides"] = self.whom_of(thread, moment, ends)
         if ends.choice:
-            self.choices[name] = ends.choice, [] if ends.is_exact else [it for it in more["besides"] if it not in whom]
+            more["choice"] = ends.choice, [] if ends.is_exact else [it for it in more["besides"] if it not in whom]
         make = waits_for_all if ends.needs_all or ends.choice else waits_for_any
         return make(name, whom, because, **more)
 
