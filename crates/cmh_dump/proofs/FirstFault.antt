@@ -6,7 +6,9 @@ pub mod Processes
 pub mod Entries
 pub mod Transits
 pub mod Table
+pub mod Shared
 pub mod WellFormed
 pub mod Stages
+pub mod Linked
 pub mod Bytes
 pub mod Laws

@@ -6,6 +6,5 @@ pub mod Keys
 pub mod MovedNames
 pub mod Pairs
 pub mod Places
-pub mod RepeatedDependents
 pub mod Taken
 pub mod Trees

@@ -1,12 +1,11 @@
 -- Loops over lists and rows: what is left of them decides.
-use Rattle.std.proofs.Common.{◌≡◌, ℕ, zero, suc, ◌+◌, ◌<◌, ◌≤◌, List, [], ◌∷◌, ◌++◌, Bool, true, false, not, ◌&&◌, cond, Option, Some, None, length, map, get_or, drop, nat_lt, refl, sym, ap, ◌∙◌, arith, add-one, drop-cons}
-use Rattle.std.specs.Prelude.{option_map, position, sum_by, unwrap_or}
+use Rattle.std.proofs.Common.{◌≡◌, ℕ, zero, suc, ◌+◌, ◌<◌, ◌≤◌, List, [], ◌∷◌, ◌++◌, Bool, true, false, not, ◌&&◌, cond, Option, Some, None, length, map, get_or, drop, refl, sym, ap, ◌∙◌, arith, add-one, drop-cons}
+use Rattle.std.specs.Prelude.{option_map, position, unwrap_or}
 use Rattle.std.specs.List.{list_all, position_from}
 use Rattle.std.specs.Option.{option_or}
-use Rattle.std.proofs.lemmas.Bool.{lt-ltb, le-ltb}
+use Rattle.std.proofs.lemmas.Bool.{and_parts}
 use Rattle.std.proofs.lemmas.Iterator.Adapters.{position_from-zero}
 use Rattle.std.proofs.lemmas.List.{length-append}
-use Rattle.std.proofs.lemmas.List.Sums.{sum_by-cons}
 use Rattle.cmh_dump.specs.Read.{first_pair}
 
 -- what is left of a list from place i on is the element at i, and what is left from i + 1 on
@@ -166,51 +165,10 @@ module _ {Y : Type 0} (search : Y → Option ℕ) (ys : List Y) where
   abbrev pub LeftDecides : ℕ → Type 0
   LeftDecides i = first_pair search 0 ys ≡ first_pair search i (drop i ys)
 
-  -- where the rows from i on decide and the search answers j at row i, the first pair is (i, j)
-  pub pair_found : (i j : ℕ) (y : Y) → i < length ys → y ≡ get_or ys i y → search y ≡ Some j → LeftDecides i
-      → Some (i, j) ≡ first_pair search 0 ys
-  pair_found i j y lt is found left =
-      sym
-      (left ∙ ap (first_pair search i) (drop_next ys i y lt is)
-      ∙ ap (λ o. option_or (option_map (λ k. (i, k)) o) (first_pair search (i + 1) (drop (i + 1) ys))) found)
-
-  -- where the rows from i on decide and the search answers nothing at row i, those after it decide
-  pub pair_passed : (i : ℕ) (y : Y) → i < length ys → y ≡ get_or ys i y → search y ≡ None → LeftDecides i
-      → LeftDecides (i + 1)
-  pair_passed i y lt is none left =
-      left ∙ ap (first_pair search i) (drop_next ys i y lt is)
-      ∙ ap (λ o. option_or (option_map (λ k. (i, k)) o) (first_pair search (i + 1) (drop (i + 1) ys))) none
-
-  -- where the rows that are left decide and none are left, the search finds no pair
-  pub no_pair : (i : ℕ) → length ys ≤ i → LeftDecides i → None ≡ first_pair search 0 ys
-  no_pair i le left = sym (left ∙ ap (first_pair search i) (drop_all ys i le))
-
-module _ {Y : Type 0} (size : Y → ℕ) (ys : List Y) where
-  -- the room is what is left of the limit after the sizes of the entries before place i
-  abbrev pub RoomIsLeft : ℕ → ℕ → ℕ → Type 0
-  RoomIsLeft most room i = sum_by size ys + room ≡ most + sum_by size (drop i ys)
-
-  -- the sum of the sizes from place i on is the size at i and the sum of those after it
-  next_total : (i : ℕ) (y : Y) → i < length ys → y ≡ get_or ys i y
-      → sum_by size (drop i ys) ≡ size y + sum_by size (drop (i + 1) ys)
-  next_total i y lt is = ap (sum_by size) (drop_next ys i y lt is) ∙ sum_by-cons size y (drop (i + 1) ys)
-
-  -- an entry that is larger than the room takes the total past the limit
-  pub room_exceeded : (most room i : ℕ) (y : Y) → i < length ys → y ≡ get_or ys i y → room < size y
-      → RoomIsLeft most room i → true ≡ nat_lt most (sum_by size ys)
-  room_exceeded most room i y lt is more left =
-      let next = next_total i y lt is in
-      sym (lt-ltb most (sum_by size ys) (omega (arith, next, left, more)))
-
-  -- an entry takes its size off the room that is left of a limit
-  pub room_taken : (most room rest i : ℕ) (y : Y) → i < length ys → y ≡ get_or ys i y → rest + size y ≡ room
-      → RoomIsLeft most room i → RoomIsLeft most rest (i + 1)
-  room_taken most room rest i y lt is same left =
-      let next = next_total i y lt is in
-      omega (arith, next, left, same)
-
-  -- where room is left of the limit and no entry is to come, the total is within the limit
-  pub room_enough : (most room i : ℕ) → length ys ≤ i → RoomIsLeft most room i → false ≡ nat_lt most (sum_by size ys)
-  room_enough most room i le left =
-      let none = ap (sum_by size) (drop_all ys i le) in
-      sym (le-ltb most (sum_by size ys) (omega (arith, none, left)))
+-- where all elements of a list pass a test, the one at each place does
+pub passes_at : {X : Type 0} (test : X → Bool) (xs : List X) (i : ℕ) (x : X) → list_all test xs ≡ true → i < length xs
+    → x ≡ get_or xs i x → test x ≡ true
+passes_at test [] i x h l is = absurd (omega arith)
+passes_at test (y ∷ ys) zero x h l is = ap test is ∙ (and_parts (test y) (list_all test ys) h).0
+passes_at test (y ∷ ys) (suc i) x h l is =
+    passes_at test ys i x (and_parts (test y) (list_all test ys) h).1 (omega arith) is

@@ -4,8 +4,7 @@ use Rattle.std.specs.Prelude.{bytes_eq, position, unwrap_or}
 use Rattle.std.specs.List.{list_all, list_any, position_or_len}
 use Rattle.std.proofs.lemmas.List.Sums.{passes_at_first, prefix_len-le-length}
 use Rattle.std.proofs.lemmas.Slice.Eq.{bytes_eq-Decides}
-use Rattle.std.proofs.lemmas.List.Folds.{list_any_at}
-use Rattle.std.proofs.lemmas.Bool.{false≢true, ltb-false}
+use Rattle.std.proofs.lemmas.Bool.{ltb-false}
 use Rattle.serde_json.specs.Data.{Data}
 use Rattle.cmh_graph.specs.Build.{process_of}
 use Rattle.cmh_graph.specs.Graph.{Process}
@@ -35,7 +34,7 @@ pub place_within : (names : List (List ℕ)) (name : List ℕ) → is_among name
 place_within names name e = first_within (bytes_eq name) names e
 
 -- at the place of a name that is among the names stands that name
-at_place_of : (names : List (List ℕ)) (name : List ℕ) → is_among names name ≡ true
+pub at_place_of : (names : List (List ℕ)) (name : List ℕ) → is_among names name ≡ true
     → name ≡ get_or names (place_of names name) []
 at_place_of names name e =
     (bytes_eq-Decides name (get_or names (place_of names name) [])).0
@@ -45,13 +44,6 @@ at_place_of names name e =
 pub same_from_places : (names : List (List ℕ)) (a b : List ℕ) → is_among names a ≡ true → is_among names b ≡ true
     → place_of names a ≡ place_of names b → a ≡ b
 same_from_places names a b p q e = at_place_of names a p ∙ ap (λ k. get_or names k []) e ∙ sym (at_place_of names b q)
-
--- where a name equals none of a list, it is no element of it
-pub differs : (names : List (List ℕ)) (name : List ℕ) (k : ℕ) → is_among names name ≡ false → k < length names
-    → get_or names k [] ≡ name → ⊥
-differs names name k e l s =
-    false≢true
-    (sym e ∙ list_any_at (bytes_eq name) names k [] l ((bytes_eq-Decides name (get_or names k [])).1 (sym s)))
 
 -- the first part whose site is past the sites is that of the first entry on a site that isn't among them
 pub past_sites : (sites names : List (List ℕ)) (es : List declared.Entry) (parts : List Part)

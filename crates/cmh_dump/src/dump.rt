@@ -34,10 +34,10 @@ fn read_linked(
 ) -> Result<GraphParts, DumpFault>
     requires few_sites { length (texts sites.now.keys) < 2 ^ 32 }
     requires few_names { length (texts names.now.keys) < 2 ^ 32 }
-    ensures { map entry_view entries.now ≡ tree_entries (view tree.now)
-        → texts sites.now.keys ≡ tree_sites (view tree.now)
-        → texts names.now.keys ≡ tree_names (view tree.now)
-        → Builds (view tree.now) (entry_faults (view tree.now)
+    requires read { map entry_view entries.now ≡ tree_entries (view tree.now) }
+    requires sites { texts sites.now.keys ≡ tree_sites (view tree.now) }
+    requires names { texts names.now.keys ≡ tree_names (view tree.now) }
+    ensures { Builds (view tree.now) (entry_faults (view tree.now)
         ++ transit_faults (view tree.now)) result }
 {
     let parts = link_entries(alloc, entries, sites, names)?;
@@ -54,9 +54,9 @@ fn read_named(
 ) -> Result<GraphParts, DumpFault>
     requires few_sites { length (texts sites.now.keys) < 2 ^ 32 }
     requires few_processes { length entries.now < 2 ^ 32 }
-    ensures { map entry_view entries.now ≡ tree_entries (view tree.now)
-        → texts sites.now.keys ≡ tree_sites (view tree.now)
-        → Builds (view tree.now) (name_faults (view tree.now)
+    requires read { map entry_view entries.now ≡ tree_entries (view tree.now) }
+    requires sites { texts sites.now.keys ≡ tree_sites (view tree.now) }
+    ensures { Builds (view tree.now) (name_faults (view tree.now)
         ++ (entry_faults (view tree.now) ++ transit_faults (view tree.now))) result }
 {
     let names = read_names(alloc, entries)?;
@@ -73,9 +73,9 @@ fn read_written(
 ) -> Result<GraphParts, DumpFault>
     requires few_sites { length (texts sites.now.keys) < 2 ^ 32 }
     requires few_processes { length entries.now < 2 ^ 32 }
-    ensures { map entry_view entries.now ≡ tree_entries (view tree.now)
-        → texts sites.now.keys ≡ tree_sites (view tree.now)
-        → list_all (λ e. is_name (entry_view e).name) entries.now ≡ true
+    requires read { map entry_view entries.now ≡ tree_entries (view tree.now) }
+    requires sites { texts sites.now.keys ≡ tree_sites (view tree.now) }
+    ensures { list_all (λ e. is_name (entry_view e).name) entries.now ≡ true
         → first_of (holds (view tree.now)) (process_faults (view tree.now))
         ≡ option_map BadProcess (first_ill_named entries.now)
         → Builds (view tree.now) (process_faults (view tree.now) ++ (name_faults (view tree.now)

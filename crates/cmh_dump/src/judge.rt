@@ -1,13 +1,12 @@
 //! The stages in which a tree is judged, each over some kinds of faults.
 
-ghost use Rattle.std.specs.Prelude.{◌≡◌, ◌≢◌, ◌<◌, ◌≤◌, ◌^◌, ◌&&◌, not, true, [], map, option_map, sum_by, length, position, nat_le, nat_lt, vec_len, Some, None, IfOk, IfErr, OnOk};
+ghost use Rattle.std.specs.Prelude.{◌≡◌, ◌≢◌, ◌<◌, ◌≤◌, ◌^◌, not, true, [], map, option_map, length, position, nat_le, vec_len, Some, None, IfOk, IfErr, OnOk};
 ghost use Rattle.std.specs.List.{list_all};
 ghost use Rattle.std.specs.Option.{option_map_or, option_or};
 ghost use Rattle.cmh_dump.specs.declared.fault.DumpFault.TheVariants.{BadProcess, UnknownSite, UnknownDependent};
 ghost use Rattle.serde_json.specs.Data.{Data};
 ghost use Rattle.serde_json.specs.View.{view};
 ghost use Rattle.cmh_graph.specs.Build.{process_of};
-ghost use Rattle.cmh_graph.specs.Graph.{is_idle_state};
 ghost use Rattle.cmh_dump.specs.Dump.{holds, first_of, is_top, process_by, top_keys, top_faults, site_faults, process_faults, name_faults, entry_faults};
 ghost use Rattle.cmh_dump.specs.Entry.{is_version, sites as tree_sites, entries as tree_entries, names as tree_names};
 ghost use Rattle.cmh_dump.specs.Name.{is_among, is_name};
@@ -20,10 +19,12 @@ use crate::entry::{Entry, entry_of, first_ill_named, names_of};
 use crate::index::{IndexFault, index_of, is_known};
 use crate::names::first_bad_name;
 use crate::parts::parts_of;
-use crate::repeats::first_repeated_dependent;
 use crate::tree::{elements_at, has_array, has_keys, is_number_at, texts_at};
 use crate::{DumpFault, MAX_SITES};
-use cmh_graph::{MAX_DEPENDENCIES, MAX_PROCESSES, Part, State};
+use cmh_graph::{
+    MAX_PROCESSES, Part, first_active_with_dependents, first_repeated_dependent,
+    has_too_many_dependents,
+};
 use indexmap::IndexSet;
 use serde_json::Value;
 use std::alloc::Global;
@@ -205,29 +206,6 @@ fn known_parts(
     }
 }
 
-/// The place of the first active process with dependents.
-fn first_active_with_dependents(entries: &[Entry<'_>]) -> Option<usize>
-    ensures { result ≡ position
-        (λ e. not (is_idle_state e.state) && nat_lt 0 (length e.dependents.now)) entries.now }
-{
-    entries.iter().position(|entry| matches!(entry.state, State::Active)
-        && !entry.dependents.is_empty())
-}
-
-fn has_too_many_dependents(entries: &[Entry<'_>]) -> bool
-    ensures { result ≡ nat_lt MAX_DEPENDENCIES
-        (sum_by (λ e. length e.dependents.now) entries.now) }
-{
-    let mut room = MAX_DEPENDENCIES;
-    for entry in entries {
-        if entry.dependents.len() > room {
-            return true;
-        }
-        room -= entry.dependents.len();
-    }
-    false
-}
-
 /// The processes by indices and without their names, judged beside the sites and one another.
 pub(crate) fn link_entries(
     alloc: Global,
@@ -237,6 +215,8 @@ pub(crate) fn link_entries(
 ) -> Result<Vec<Part>, DumpFault>
     requires few_sites { length (texts sites.now.keys) < 2 ^ 32 }
     requires few_names { length (texts names.now.keys) < 2 ^ 32 }
+    requires read { (d : Data) × (map entry_view entries.now ≡ tree_entries d)
+        × (texts sites.now.keys ≡ tree_sites d) × (texts names.now.keys ≡ tree_names d) }
     ensures judges { (d : Data) → map entry_view entries.now ≡ tree_entries d
         → texts sites.now.keys ≡ tree_sites d → texts names.now.keys ≡ tree_names d
         → Judges d (entry_faults d) result }
@@ -245,13 +225,13 @@ pub(crate) fn link_entries(
         (entry_view e))) entries.now) }
 {
     let parts = known_parts(alloc, entries, sites, names)?;
-    if let Some((i, j)) = first_repeated_dependent(alloc, &parts, names.len())? {
+    if let Some((i, j)) = first_repeated_dependent(alloc, &parts)? {
         return Err(DumpFault::RepeatedDependent(i, j));
     }
-    if let Some(i) = first_active_with_dependents(entries) {
+    if let Some(i) = first_active_with_dependents(&parts) {
         return Err(DumpFault::ActiveWithDependents(i));
     }
-    if has_too_many_dependents(entries) {
+    if has_too_many_dependents(&parts) {
         return Err(DumpFault::TooManyDependencies);
     }
     Ok(parts)

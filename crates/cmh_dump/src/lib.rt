@@ -9,7 +9,6 @@ mod judge;
 pub mod laws;
 mod names;
 mod parts;
-mod repeats;
 mod source;
 mod transit;
 mod tree;

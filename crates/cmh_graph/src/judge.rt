@@ -44,7 +44,7 @@ pub(crate) fn judge(
 }
 
 /// Whether the dependent sets have more than `MAX_DEPENDENCIES` dependents together.
-fn has_too_many_dependents(parts: &[Part]) -> bool
+pub fn has_too_many_dependents(parts: &[Part]) -> bool
     ensures { IsTrue result ↔ (MAX_DEPENDENCIES < dependent_count (parts_graph parts.now [])) }
 {
     let mut room = MAX_DEPENDENCIES;
@@ -88,7 +88,7 @@ fn first_at_least(bound: usize, list: &[u32]) -> Option<usize>
 
 /// The first dependent that equals an earlier one of its part, by the places of the part and of the dependent. Each
 /// process keeps the number of the last part that named it, counted from 1.
-fn first_repeated_dependent(
+pub fn first_repeated_dependent(
     alloc: Global,
     parts: &[Part],
 ) -> Result<Option<(usize, usize)>, AllocError>
@@ -110,7 +110,7 @@ fn first_repeated_dependent(
 /// The place of the first entry that equals an earlier one. Each entry is a place of `stamps`, which gets the stamp: a
 /// number above all that stand there, so that one list after another can be looked through. It takes time linear in the
 /// list.
-pub fn first_repeat(stamp: usize, list: &[u32], stamps: &mut [usize]) -> Option<usize>
+fn first_repeat(stamp: usize, list: &[u32], stamps: &mut [usize]) -> Option<usize>
     requires within { All (λ r. r < length stamps.old) list.now }
     requires fresh { All (λ s. s < stamp) stamps.old }
     ensures some { IfSome result (IsFirst (IsRepeat list.now)) }
@@ -127,7 +127,7 @@ pub fn first_repeat(stamp: usize, list: &[u32], stamps: &mut [usize]) -> Option<
 }
 
 /// The first part that is active and has dependents.
-fn first_active_with_dependents(parts: &[Part]) -> Option<usize>
+pub fn first_active_with_dependents(parts: &[Part]) -> Option<usize>
     ensures some { IfSome result (IsFirst
         (λ i. HasGraphFault (parts_graph parts.now []) (ActiveWithDependents i))) }
     ensures none { IfNone result

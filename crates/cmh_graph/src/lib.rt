@@ -15,7 +15,7 @@ mod verdict;
 
 pub use fault::{GraphFault, out_of_memory};
 pub use graph::WaitGraph;
-pub use judge::first_repeat;
+pub use judge::{first_active_with_dependents, first_repeated_dependent, has_too_many_dependents};
 pub use part::{Part, State};
 pub use predecessors::Predecessors;
 pub use search::marked_indices;

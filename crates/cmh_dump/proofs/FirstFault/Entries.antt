@@ -1,13 +1,10 @@
 -- What the searches of the processes beside the sites and one another say of their faults.
-use Rattle.std.proofs.Common.{◌≡◌, ◌≢◌, ℕ, zero, suc, List, [], ◌∷◌, Bool, true, false, not, ◌&&◌, cond, Option, Some, None, map, length, get_or, nat_lt, refl, sym, ap, ◌∙◌}
-use Rattle.std.specs.Prelude.{find, position, slice_get, unwrap_or, option_map, sum, sum_by}
+use Rattle.std.proofs.Common.{◌≡◌, ◌≢◌, ℕ, zero, suc, List, [], ◌∷◌, Bool, true, false, not, cond, Option, Some, None, map, length, get_or, refl, sym, ap, ◌∙◌}
+use Rattle.std.specs.Prelude.{find, position, slice_get, unwrap_or, option_map}
 use Rattle.std.specs.Option.{option_map_or, option_or}
 use Rattle.std.proofs.lemmas.List.{length-map}
-use Rattle.std.proofs.lemmas.List.Sums.{sum-map}
 use Rattle.serde_json.specs.Data.{Data, null}
 use Rattle.serde_json.specs.View.{view}
-use Rattle.cmh_graph.specs.Graph.{is_idle_state}
-use Rattle.cmh_graph.specs.declared.TheConstants.{MAX_DEPENDENCIES}
 use Rattle.cmh_dump.specs.declared.entry.Entry as declared
 use Rattle.cmh_dump.specs.declared.fault.DumpFault.{DumpFault}
 use Rattle.cmh_dump.specs.declared.fault.DumpFault.TheVariants.{Memory, RepeatedProcess, UnknownSite, UnknownDependent, RepeatedDependent, ActiveWithDependents, TooManyDependencies}
@@ -21,11 +18,6 @@ use Rattle.cmh_dump.specs.Tree.{text_of}
 use Rattle.cmh_dump.proofs.Trees.{map-map}
 use Rattle.cmh_dump.proofs.FirstFault.Searches.{below, each_seen, pairs_seen, find-map, get-map}
 use Rattle.cmh_dump.proofs.FirstFault.Kinds.{first_here, first_later, alone, size_of, at_seen, or_seen}
-
--- a sum over a mapped list is the sum, over the list, of the sizes of what the function makes
-sum_by-map : {X Y : Type 0} (size : Y → ℕ) (f : X → Y) (xs : List X)
-    → sum_by size (map f xs) ≡ sum_by (λ x. size (f x)) xs
-sum_by-map size f xs = sym (sum-map size (map f xs)) ∙ ap sum (sym (map-map size f xs)) ∙ sum-map (λ x. size (f x)) xs
 
 -- an element that a function makes is made of the one at its place
 made_at : {Y Z : Type 0} (f : Y → Z) (ys : List Y) (k : ℕ) (y : Y) (z : Z) → slice_get (map f ys) k ≡ Some z
@@ -89,37 +81,6 @@ module _ (d : Data) (es : List declared.Entry) (seen : map entry_view es ≡ ent
           (or_seen (λ v. text_of (view v)) e.dependents.now (entry d k).dependents j z []
           (ap (λ x. x.dependents) (sym is)) h) ∙ ap (λ ks. not (is_among ks z)) (sym same))
 
-  -- the first repeated dependent stands where the search by rows finds it
-  pub repeated_dependents : find (holds d) (each_dependent d RepeatedDependent)
-      ≡ option_map (λ p. RepeatedDependent p.0 p.1)
-      (first_pair (λ e. first_repeat (map (λ v. text_of (view v)) e.dependents.now)) 0 es)
-  repeated_dependents =
-      pairs_seen (holds d) RepeatedDependent (λ i. map (RepeatedDependent i) (below (length (entry d i).dependents)))
-      (λ e. first_repeat (map (λ v. text_of (view v)) e.dependents.now)) es (length (processes d)) process_count
-      (λ k e h. find-map (holds d) (RepeatedDependent k) (below (length (entry d k).dependents))
-      ∙ ap (λ x. option_map (RepeatedDependent k) (first_repeat x.dependents)) (entry_seen k e h))
-
-  -- the first active process with dependents stands where the search finds it
-  pub active_with_dependents : find (holds d) (each (processes d) ActiveWithDependents)
-      ≡ option_map ActiveWithDependents
-      (position (λ e. not (is_idle_state e.state) && nat_lt 0 (length e.dependents.now)) es)
-  active_with_dependents =
-      each_seen (holds d) ActiveWithDependents entry_view
-      (λ e. not (is_idle_state e.state) && nat_lt 0 (length e.dependents)) es (length (processes d)) process_count
-      (λ k z h. ap (λ e. not (is_idle_state e.state) && nat_lt 0 (length e.dependents)) (entry_is k z h))
-      ∙
-      (λ i. option_map ActiveWithDependents
-      (position
-      (λ e. not (is_idle_state e.state) && nat_lt 0 (length-map e.dependents.now (λ v. text_of (view v)) i)) es))
-
-  -- the dependents that were read are as many as those of the tree
-  pub dependent_total_is : sum_by (λ e. length e.dependents.now) es ≡ sum_by (λ e. length e.dependents) (entries d)
-  dependent_total_is =
-      sym
-      (sum_by-map (λ e. length e.dependents) entry_view es
-      ∙ λ i. sum_by (λ e. length-map e.dependents.now (λ v. text_of (view v)) i) es)
-      ∙ ap (sum_by (λ e. length e.dependents)) seen
-
 -- the names of the processes that are read are those of the dump
 pub names_seen : (d : Data) (es : List declared.Entry) → map entry_view es ≡ entries d
     → map (λ e. (entry_view e).name) es ≡ names d
@@ -161,15 +122,6 @@ module _ (d : Data) (es : List declared.Entry) (seen : map entry_view es ≡ ent
 
   abbrev unknown_dependent : Option (ℕ × ℕ)
   unknown_dependent = first_pair (λ e. first_unknown process_names e.dependents.now) 0 es
-
-  abbrev repeated_dependent : Option (ℕ × ℕ)
-  repeated_dependent = first_pair (λ e. first_repeat (map (λ v. text_of (view v)) e.dependents.now)) 0 es
-
-  abbrev active : Option ℕ
-  active = position (λ e. not (is_idle_state e.state) && nat_lt 0 (length e.dependents.now)) es
-
-  abbrev total : ℕ
-  total = sum_by (λ e. length e.dependents.now) es
 
   -- the kinds of faults of the entries from one of them on: here from the total of dependents on
   abbrev from_total : List (List DumpFault)
@@ -216,54 +168,41 @@ module _ (d : Data) (es : List declared.Entry) (seen : map entry_view es ≡ ent
       later)
 
   -- where all sites and all dependents are known, a repeated dependent is the first fault of the entries
-  pub dependent_repeated : (i j : ℕ) → unknown_site ≡ None → unknown_dependent ≡ None → repeated_dependent ≡ Some (i, j)
+  pub dependent_repeated : (i j : ℕ) → unknown_site ≡ None → unknown_dependent ≡ None
+      → find (holds d) (each_dependent d RepeatedDependent) ≡ Some (RepeatedDependent i j)
       → first_of (holds d) (entry_faults d) ≡ Some (RepeatedDependent i j)
   dependent_repeated i j h k l =
       dependents_known (Some (RepeatedDependent i j)) h k
-      (first_here (holds d) (each_dependent d RepeatedDependent) from_active _ (RepeatedDependent i j)
-      (repeated_dependents d es seen) (ap (option_map (λ p. RepeatedDependent p.0 p.1)) l))
+      (first_here (holds d) (each_dependent d RepeatedDependent) from_active _ (RepeatedDependent i j) l refl)
 
   -- where all sites and all dependents are known and no dependent repeats, the kinds after these decide
-  dependents_apart : (r : Option DumpFault) → unknown_site ≡ None → unknown_dependent ≡ None → repeated_dependent ≡ None
+  dependents_apart : (r : Option DumpFault) → unknown_site ≡ None → unknown_dependent ≡ None
+      → find (holds d) (each_dependent d RepeatedDependent) ≡ None
       → first_of (holds d) from_active ≡ r → first_of (holds d) (entry_faults d) ≡ r
   dependents_apart r h k l later =
-      dependents_known r h k
-      (first_later (holds d) (each_dependent d RepeatedDependent) from_active _ r (repeated_dependents d es seen)
-      (ap (option_map (λ p. RepeatedDependent p.0 p.1)) l) later)
+      dependents_known r h k (first_later (holds d) (each_dependent d RepeatedDependent) from_active _ r l refl later)
 
   -- where all sites and all dependents are known and no dependent repeats, an active process with dependents is the
   -- first fault of the entries
-  pub active_waits : (i : ℕ) → unknown_site ≡ None → unknown_dependent ≡ None → repeated_dependent ≡ None
-      → active ≡ Some i → first_of (holds d) (entry_faults d) ≡ Some (ActiveWithDependents i)
+  pub active_waits : (i : ℕ) → unknown_site ≡ None → unknown_dependent ≡ None
+      → find (holds d) (each_dependent d RepeatedDependent) ≡ None
+      → find (holds d) (each (processes d) ActiveWithDependents) ≡ Some (ActiveWithDependents i)
+      → first_of (holds d) (entry_faults d) ≡ Some (ActiveWithDependents i)
   active_waits i h k l m =
       dependents_apart (Some (ActiveWithDependents i)) h k l
-      (first_here (holds d) (each (processes d) ActiveWithDependents) from_total _ (ActiveWithDependents i)
-      (active_with_dependents d es seen) (ap (option_map ActiveWithDependents) m))
+      (first_here (holds d) (each (processes d) ActiveWithDependents) from_total _ (ActiveWithDependents i) m refl)
 
   -- where none of the faults of the entries before it holds, the total of dependents decides
-  entries_but_total : (b : Bool) → unknown_site ≡ None → unknown_dependent ≡ None → repeated_dependent ≡ None
-      → active ≡ None → nat_lt MAX_DEPENDENCIES total ≡ b
+  pub entries_but_total : (b : Bool) → unknown_site ≡ None → unknown_dependent ≡ None
+      → find (holds d) (each_dependent d RepeatedDependent) ≡ None
+      → find (holds d) (each (processes d) ActiveWithDependents) ≡ None → holds d TooManyDependencies ≡ b
       → first_of (holds d) (entry_faults d) ≡ cond b (Some TooManyDependencies) None
   entries_but_total b h k l m t =
       dependents_apart (cond b (Some TooManyDependencies) None) h k l
       (first_later (holds d) (each (processes d) ActiveWithDependents) from_total _
-      (cond b (Some TooManyDependencies) None)
-      (active_with_dependents d es seen) (ap (option_map ActiveWithDependents) m)
-      (by b
-      (alone (holds d) TooManyDependencies b
-      (ap (nat_lt MAX_DEPENDENCIES) (sym (dependent_total_is d es seen)) ∙ t))))
+      (cond b (Some TooManyDependencies) None) m refl (by b (alone (holds d) TooManyDependencies b t)))
     where
       by : (b : Bool) → find (holds d) (TooManyDependencies ∷ []) ≡ cond b (Some TooManyDependencies) None
           → first_of (holds d) from_total ≡ cond b (Some TooManyDependencies) None
       by true e = first_here (holds d) (TooManyDependencies ∷ []) [] _ TooManyDependencies e refl
       by false e = first_later (holds d) (TooManyDependencies ∷ []) [] _ None e refl refl
-
-  -- where none of the faults of the entries before it holds, too large a total of dependents is the first
-  pub dependencies_many : unknown_site ≡ None → unknown_dependent ≡ None → repeated_dependent ≡ None → active ≡ None
-      → nat_lt MAX_DEPENDENCIES total ≡ true → first_of (holds d) (entry_faults d) ≡ Some TooManyDependencies
-  dependencies_many h k l m t = entries_but_total true h k l m t
-
-  -- where no other fault of the entries holds and the total of dependents is within the limit, none holds
-  pub entries_judged : unknown_site ≡ None → unknown_dependent ≡ None → repeated_dependent ≡ None → active ≡ None
-      → nat_lt MAX_DEPENDENCIES total ≡ false → first_of (holds d) (entry_faults d) ≡ None
-  entries_judged h k l m t = entries_but_total false h k l m t

@@ -76,16 +76,6 @@ least_found test n i lt before now =
 pub none_found : (test : ℕ → Bool) (n : ℕ) → ((k : ℕ) → k < n → test k ≡ false) → find test (below n) ≡ None
 none_found test n h = ap (find test) (sym (map-id (below n))) ∙ none_below test (λ k. k) n h
 
--- two tests that agree below n have one least number there
-pub find_alike : (test other : ℕ → Bool) (n : ℕ) → ((k : ℕ) → k < n → test k ≡ other k)
-    → find test (below n) ≡ find other (below n)
-find_alike test other zero h = refl
-find_alike test other (suc n) h =
-    ap (find test) (below-last n) ∙ find-append test (below n) (n ∷ [])
-    ∙ (λ i. option_or (find_alike test other n (λ k l. h k (omega arith)) i)
-    (cond (h n (omega arith) i) (Some n) None))
-    ∙ sym (ap (find other) (below-last n) ∙ find-append other (below n) (n ∷ []))
-
 -- ---- a list, and rows of lists
 
 -- where an element is read at a place, what a function makes of it is read there in the mapped list

@@ -77,6 +77,17 @@ module _ (d : Data) where
   unfolding dump_of_tree
   accepted g none is = ap (λ o. option_map_or Err o (Ok (tree_graph d))) none ∙ ap Ok (sym is)
 
+  -- the parts that are made of the entries are the processes of the tree, names apart
+  pub processes_are : (parts : List Part) (es : List declared.Entry) (site_names process_names : List (List ℕ))
+      → map entry_view es ≡ entries d → site_names ≡ sites d → process_names ≡ names d
+      → map graph.process_of parts ≡ map (λ e. without_name (process_by site_names process_names (entry_view e))) es
+      → map graph.process_of parts ≡ map (λ e. without_name (process_by (sites d) (names d) e)) (entries d)
+  processes_are parts es site_names process_names written are_sites are_names made =
+      made
+      ∙ (λ i. map (λ e. without_name (process_by (are_sites i) (are_names i) (entry_view e))) es)
+      ∙ map-map (λ e. without_name (process_by (sites d) (names d) e)) entry_view es
+      ∙ ap (map (λ e. without_name (process_by (sites d) (names d) e))) written
+
   -- the parts and messages that are read make the graph of the tree, names apart
   pub graph_is : (parts : List Part) (messages : List (ℕ × ℕ)) (es : List declared.Entry)
       (site_names process_names : List (List ℕ)) → map entry_view es ≡ entries d → site_names ≡ sites d
@@ -85,12 +96,8 @@ module _ (d : Data) where
       → messages ≡ map (places_in_pair (names d)) (transits d)
       → graph.parts_graph parts messages ≡ without_names (tree_graph d)
   graph_is parts messages es site_names process_names written are_sites are_names made sent =
-      let processes : map graph.process_of parts ≡ map without_name (tree_graph d).processes =
-      made
-      ∙ (λ i. map (λ e. without_name (process_by (are_sites i) (are_names i) (entry_view e))) es)
-      ∙ map-map without_name (λ e. process_by (sites d) (names d) (entry_view e)) es
-      ∙ ap (map without_name) (map-map (process_by (sites d) (names d)) entry_view es
-      ∙ ap (map (process_by (sites d) (names d))) written) in
+      let processes = processes_are parts es site_names process_names written are_sites are_names made
+      ∙ map-map without_name (process_by (sites d) (names d)) (entries d) in
       λ i. record { processes = processes i; in_transit = sent i }
 
   -- the graph of a tree without a fault is refused as out of memory alone

@@ -2,12 +2,13 @@
 use Rattle.std.proofs.Common.{◌≡◌, ℕ, zero, suc, ◌<◌, ◌≤◌, List, [], ◌∷◌, ◌++◌, Bool, true, false, cond, Option, Some, None, map, ◌⊎◌, inl, inr, refl, sym, ap, ◌∙◌, subst, arith}
 use Rattle.std.specs.Prelude.{find, flat_map}
 use Rattle.std.specs.Option.{option_or}
-use Rattle.std.proofs.lemmas.Bool.{cases_lt}
-use Rattle.std.proofs.lemmas.List.{map-append}
+use Rattle.std.proofs.lemmas.Bool.{cases_lt, false_from_ne_true}
+use Rattle.std.proofs.lemmas.List.{append-nil, map-append}
 use Rattle.std.proofs.lemmas.List.Concat.{flat_map-append}
+use Rattle.std.proofs.lemmas.List.Folds.{find-append}
 use Rattle.cmh_dump.specs.declared.fault.DumpFault.{DumpFault}
 use Rattle.cmh_dump.specs.Dump.{first_of}
-use Rattle.cmh_dump.proofs.FirstFault.Searches.{below, below-last}
+use Rattle.cmh_dump.proofs.FirstFault.Searches.{below, below-last, found_at, none_below}
 
 -- x is an element of the list
 abbrev pub Among : {X : Type 0} → X → List X → Type 0
@@ -73,6 +74,47 @@ among_rows f m (suc n) i j l h =
         let here = subst (λ p. Among (f i j) (row f m p)) e (among_below (f i) (m i) j h) in
         among_right (f i j) (flat_map (row f m) (below n)) (row f m n ++ []) (among_left (f i j) (row f m n) [] here)
 
+-- where f holds at no two numbers within the bounds, a search of all finds none
+pub no_row : {X : Type 0} (test : X → Bool) (f : ℕ → ℕ → X) (m : ℕ → ℕ) (n : ℕ)
+    → ((k l : ℕ) → k < n → l < m k → test (f k l) ≡ true → ⊥) → find test (flat_map (row f m) (below n)) ≡ None
+no_row test f m zero none = refl
+no_row test f m (suc n) none =
+    ap (find test) (rows-below f m n)
+    ∙ find-append test (flat_map (row f m) (below n)) (row f m n ++ [])
+    ∙ (λ z. option_or (no_row test f m n (λ k l i j. none k l (omega arith) j) z)
+    (find test (append-nil (row f m n) z)))
+    ∙ none_below test (f n) (m n) (λ l j. false_from_ne_true (test (f n l)) (none n l (omega arith) j))
+
+-- where f holds at i and j, and at no two numbers that come before, a search of all finds f there
+pub first_row : {X : Type 0} (test : X → Bool) (f : ℕ → ℕ → X) (m : ℕ → ℕ) (n i j : ℕ) → i < n → j < m i
+    → test (f i j) ≡ true
+    → ((k l : ℕ) → k < n → l < m k → test (f k l) ≡ true → (i < k) ⊎ ((i ≡ k) × (j ≤ l)))
+    → find test (flat_map (row f m) (below n)) ≡ Some (f i j)
+first_row test f m zero i j l h t least = absurd (omega arith)
+first_row test f m (suc n) i j l h t least =
+    let rest = find test (row f m n ++ []) in
+    let found : option_or (find test (flat_map (row f m) (below n))) rest ≡ Some (f i j) =
+    elim (cases_lt i n) [
+      | inl k ↦ ap (λ o. option_or o rest) (first_row test f m n i j k h t (λ k l a b. least k l (omega (arith, a)) b))
+      | inr k ↦
+          let e : i ≡ n = omega (arith, k, l) in
+          let before : (k l : ℕ) → k < n → l < m k → test (f k l) ≡ true → ⊥ =
+          λ k l a b u. elim (least k l (omega (arith, a)) b u) [
+            | inl c ↦ omega (arith, a, c, e)
+            | inr c ↦ omega (arith, a, c.0, e)
+          ] in
+          let earlier : (l : ℕ) → l < j → test (f i l) ≡ false =
+          λ l a. false_from_ne_true (test (f i l))
+          (λ u. elim (least i l (omega (arith, e)) (omega (arith, a, h)) u) [
+            | inl c ↦ omega (arith, c)
+            | inr c ↦ omega (arith, c.1, a)
+          ]) in
+          (λ z. option_or (no_row test f m n before z) (find test (append-nil (row f m (sym e z)) z)))
+          ∙ found_at test (f i) (m i) j h earlier t
+    ] in
+    ap (find test) (rows-below f m n)
+    ∙ find-append test (flat_map (row f m) (below n)) (row f m n ++ []) ∙ found
+
 -- ---- where none is found
 
 -- where a head and the rest behind it have no first, the head fails and the rest has none
@@ -82,7 +124,7 @@ neither_head true x rest e = absurd cc
 neither_head false x rest e = (refl, e)
 
 -- where a list has none that is found, each element fails
-fails : {X : Type 0} (test : X → Bool) (xs : List X) → find test xs ≡ None → (x : X) → Among x xs → test x ≡ false
+pub fails : {X : Type 0} (test : X → Bool) (xs : List X) → find test xs ≡ None → (x : X) → Among x xs → test x ≡ false
 fails test [] e x m = absurd m
 fails test (y ∷ ys) e x (inl s) = ap test s ∙ (neither_head (test y) y (find test ys) e).0
 fails test (y ∷ ys) e x (inr m) = fails test ys (neither_head (test y) y (find test ys) e).1 x m

@@ -10,14 +10,17 @@ pub returns-in_err-names : goal.returns-in_err-names
 returns-in_err-names c =
     let d = view c.args.tree.now in
     let p = err_from_is_err_and c.from_residual.result c.from_residual.ensures.1 in
-    λ written are_sites. rw (p.1, p.2)
+    rw (p.1, p.2)
     (refused_here d (name_faults d) (faults_from_entries d) _
-    (c.in_err-names.ensures.judges d written))
+    (c.in_err-names.ensures.judges d c.requires.read))
+
+pub read_linked-requires-clause-names : goal.read_linked-requires-clause-names
+read_linked-requires-clause-names c =
+    c.in_ok-names.ensures.read ∙ names_seen (view c.args.tree.now) c.args.entries.now c.requires.read
 
 pub returns : goal.returns
 returns c =
     let d = view c.args.tree.now in
-    λ written are_sites.
     built_later d (name_faults d) (faults_from_entries d) c.read_linked.result
-    (c.in_ok-names.ensures.judges d written)
-    (c.read_linked.ensures written are_sites (c.in_ok-names.ensures.read ∙ names_seen d c.args.entries.now written))
+    (c.in_ok-names.ensures.judges d c.requires.read)
+    c.read_linked.ensures

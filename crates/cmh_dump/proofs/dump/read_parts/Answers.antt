@@ -34,6 +34,9 @@ returns-in_err-entries c =
     (refused_here d (process_faults d) (faults_from_names d) _
     c.in_err-entries.ensures.refused))
 
+pub read_written-requires-clause-read : goal.read_written-requires-clause-read
+read_written-requires-clause-read c = ap (map entry_view) c.deref.ensures.value ∙ c.in_ok-entries.ensures.read
+
 pub returns : goal.returns
 returns c =
     let d = view c.args.tree.now in
@@ -43,6 +46,5 @@ returns c =
     let same = c.deref.ensures.value in
     built_later d top_faults (site_faults d ++ later) result c.in_ok-judge_top.ensures
     (built_later d (site_faults d) later result c.in_ok-sites.ensures.judges
-    (c.read_written.ensures (ap (map entry_view) same ∙ read.read) c.in_ok-sites.ensures.read
-    (ap (list_all (λ e. is_name (entry_view e).name)) same ∙ read.named)
+    (c.read_written.ensures (ap (list_all (λ e. is_name (entry_view e).name)) same ∙ read.named)
     (read.left ∙ ap (λ es. option_map BadProcess (first_ill_named es)) (sym same))))

@@ -12,13 +12,13 @@ use Rattle.cmh_dump.proofs.dump.read_written.Goals as goal
 pub returns-in-Ok : goal.returns-in-Ok
 returns-in-Ok c =
     let d = view c.args.tree.now in
-    λ written are_sites named left.
-    let built = c.in-Ok.ensures written are_sites in
-    let none = left ∙ ap (option_map BadProcess) (all_named d c.args.entries.now written named built.0) in
+    λ named left.
+    let built = c.in-Ok.ensures in
+    let none = left ∙ ap (option_map BadProcess) (all_named d c.args.entries.now c.requires.read named built.0) in
     (first_after (holds d) (process_faults d) (faults_from_names d) none ∙ built.0, built.1)
 
 pub returns-in-Err : goal.returns-in-Err
 returns-in-Err c =
     let d = view c.args.tree.now in
-    λ written are_sites named left. rw c.first_fault.ensures
-    (refused_or_later d (first_ill_named c.args.entries.now) c.in-Err.fault left (c.in-Err.ensures written are_sites))
+    λ named left. rw c.first_fault.ensures
+    (refused_or_later d (first_ill_named c.args.entries.now) c.in-Err.fault left c.in-Err.ensures)

@@ -7,9 +7,8 @@ use Rattle.cmh_dump.specs.Name.{is_among}
 use Rattle.cmh_dump.specs.Texts.{texts}
 use Rattle.cmh_dump.specs.Tree.{texts_of}
 use Rattle.cmh_dump.proofs.FirstFault.Transits.{transit_bad, transit_unknown, transits_judged}
-use Rattle.cmh_dump.proofs.Pairs.{all_left, all_pass, first_found, first_passed, none_left}
+use Rattle.cmh_dump.proofs.Pairs.{all_left, all_pass, first_found, first_passed, none_left, passes_at}
 use Rattle.cmh_dump.proofs.Places.{none_lost, some_found}
-use Rattle.cmh_dump.proofs.RepeatedDependents.{passes_at}
 use Rattle.cmh_dump.proofs.Taken.{made-next}
 use Rattle.cmh_dump.proofs.Trees.{map-map}
 use Rattle.cmh_dump.proofs.transit.read_in_transit.Goals as goal
