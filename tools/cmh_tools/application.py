@@ -4,7 +4,7 @@ from __future__ import annotations
 import re
 from typing import Container, Dict, Iterable, List, Optional, Set, Tuple
 
-from .facts import HOLDS, RELATIVES, Fact, Facts, families, fill_in
+from .facts import HOLDS, OTHERS, RELATIVES, Fact, Facts, families, fill_in
 from .files import shown
 from .idle import has_fact
 from .moments import GROWN, POLLED
@@ -35,6 +35,7 @@ class Names:
         self.facts, self.groups = facts, sketch.groups
         self.names = {process.name: None for process in sketch.processes}
         self.families = families(self.names)
+        self.others = [it.name for it in sketch.processes if is_other(it) and it.name not in facts.spared]
         self.holders: Dict[str, Dict[str, None]] = {}
         self.holding: Dict[str, Dict[int, Fact]] = {}  # the facts by which something is held, by their lines
         self.lists: Dict[Tuple[str, Tuple[str, ...]], Tuple[List[str], str]] = {}
@@ -67,7 +68,8 @@ class Names:
         found: Dict[str, None] = {}
         for key, word in zip(fact.words, words):
             names = dict.fromkeys(self.of_word(word))
-            fact.took.setdefault(key, {}).update(names)
+            if word != OTHERS:  # (they may be many, and the word says who they are)
+                fact.took.setdefault(key, {}).update(names)
             if not names and not fact.or_nobody:
                 return [], f"{self.facts.path}:{fact.at}: {self.lack(fact, key, word)}"
             found.update(names)
@@ -99,6 +101,8 @@ class Names:
             return [word]
         if word in self.groups:
             return self.groups[word]
+        if word == OTHERS:
+            return self.others
         if VARIABLE.search(word):  # (it has no value, and stands for no text)
             return []
         if ":" in word and any(group.startswith(f"{word.split(':')[0]}:") for group in self.groups):
@@ -107,7 +111,7 @@ class Names:
 
     def is_open(self, fact: Fact, process: Process) -> bool:
         """Whether one who isn't in the state may belong to the list that a fact gives a process."""
-        return any(name not in self.names for name in self.words(fact, process))
+        return any(name not in self.names and name != OTHERS for name in self.words(fact, process))
 
 
 class Application:
@@ -165,8 +169,8 @@ class Application:
             self.widen(process)
         for process in processes:
             self.settle_doubt(process)
-        path, guesses = self.facts.path, {it.at: it for it in self.facts.guesses.values()}
-        found = [*self.facts.facts, *filter(None, [self.facts.still]), *guesses.values()]
+        path, guesses = self.facts.path, [*self.facts.guesses.values(), *self.facts.spared.values()]
+        found = [*self.facts.facts, *filter(None, [self.facts.still]), *{it.at: it for it in guesses}.values()]
         self.sketch.facts += [fact.row(path) for fact in found if fact.used and fact.called(path) not in known]
 
     def is_undecided(self, process: Process) -> bool:
@@ -197,6 +201,8 @@ class Application:
         """Sets whom one waits for by a fact. One that only waits again may have been sent what it will see next time:
         no count tells, but the line `still`."""
         whom, fault = ([], "") if fact.kind == "nobody" else self.names.of_fact(fact, process)
+        if not fault and whom == [process.name] and OTHERS in fact.words and self.facts.spared:
+            fault = "nobody else is there but those who are likely to end nobody's wait"
         if not fault and fact.kind == "all" and not process.is_collective and len(self.meetings.get(fact.at, ())) > 1:
             fault = (f"line {fact.at} of the facts names one list for several that may wait at different objects: 'of "
                      "NAME' before the operation, or the object after it, tells them apart")
@@ -207,6 +213,10 @@ class Application:
                 process.become_unknown(fault)
             return
         process.because = [] if was_timed else process.because
+        for spared in self.facts.spared.values() if OTHERS in fact.words else ():
+            spared.used = True
+            spared.decided.append(process.name)
+            because.append(self.facts.reason(spared))
         process.decide(ALL if fact.kind == "all" else ANY, because)
         process.whom = whom  # (the same list for all that wait alike)
         process.is_open = process.is_open or self.names.is_open(fact, process)
@@ -318,6 +328,11 @@ class Application:
         process.become_unknown(f"{process.doubt}; {says} says that it waits for {kind} of {some or 'nobody'}")
 
 
+def is_other(process: Process) -> bool:
+    """Whether one is meant by `others`: it is there, and doesn't wait for work."""
+    return not (process.is_idle or process.kind == ENDED or process.frames == [REST])
+
+
 def drop_bystanders(facts: Facts, sketch: Sketch) -> None:
     """Takes those out of the lists of others, where one of several is enough, that end nobody's wait by the facts."""
     kept: Dict[int, List[str]] = {}  # by the id of a list, what is left of it
@@ -353,8 +368,9 @@ def is_key(what: str, key: str, end: str) -> bool:
 
 
 def add_left_out(sketch: Sketch) -> None:
-    """Adds to each list that was found by a search those that the state may lack."""
-    missing = [it.name for it in sketch.processes if it.kind == UNKNOWN and it.frames == [REST]]
+    """Adds to each list that was found by a search those that the state may lack, unless a fact says that none of them
+    matters."""
+    missing = [it.name for it in sketch.processes if it.frames == [REST] and (it.kind == UNKNOWN or it.is_guessed())]
     longer: Dict[int, Tuple[List[str], List[str]]] = {}  # by the id of a list, it and what becomes of it
     for process in sketch.processes:
         if missing and process.is_open and process.kind in (ANY, ALL):

@@ -24,7 +24,7 @@ USAGE = """cmh-dump SYSTEM STATE.. [--facts FILE] [--guesses] -o DUMP
 ABOUT = """Makes a dump for cmh, and beside it DUMP.notes.json with all that is known of it: cmh-explain reads both.
 A process that isn't understood is unknown, and active in this dump. Nothing is written if something is refused."""
 FACTS, OUTPUT = "a file of facts, which no state shows: see the man page", "the dump to write, usually DUMP.json"
-GUESSES = "take the facts that the state has filled in as they are, as guesses"
+GUESSES = "guess the facts that are asked for; the status is that without them"
 MORE = f"""options after SYSTEM:
   --facts FILE            {FACTS}
   --guesses               {GUESSES}
@@ -187,7 +187,7 @@ def make(asked: Any) -> int:
         say(f"warning: {line}")
     said = [*summary(dump, asked.output, found)]
     if asked.guesses and not any(map(number_of_guess, sketch.facts)):
-        said.append("no guess is taken: the state fills in no whole line")
+        said.append("no guess is taken: nothing is unknown that a line of facts decides")
     write_out("".join(f"{line}\n" for line in said))
     return 0
 

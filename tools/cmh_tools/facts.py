@@ -42,8 +42,9 @@ FUNCTION, FUNCTION:LINE, FILE:LINE and the whole frame. The first line that matc
     frees nobody             it ends nobody's wait, though it could: a heartbeat that has both ends of a pipe, or a
                              watchdog that only writes to a log. FRAME is any frame here, and all such lines count
 
-NAME is a pattern of names of processes, a group, `creator` or `children` of the process that waits, where the state
-says who created whom, or `@WHAT`: all that hold WHAT. `{VARIABLE}` in it is the text that stands there before the
+NAME is a pattern of names of processes, a group, `others`, who are all that don't wait for work, `creator` or
+`children` of the process that waits, where the state says who created whom, or `@WHAT`: all that hold WHAT.
+`{VARIABLE}` in it is the text that stands there before the
 arrow, or a value of the process that waits: an argument, or its own name, `{self}`. What has spaces stands in double
 quotes. A fact decides a wait only if the state doesn't show it, so that it is unknown. One whose OPERATION begins with
 'timed' also decides one that waits with a limit: it only waits again. Such a one looks now and then, so that needs the
@@ -68,6 +69,7 @@ WAITS = ("any", "all", "nobody", "runs", "ended")
 BARE = ("runs", "ended", "holds", "also")  # kinds that need no arrow before them
 # Words for relatives of the one that waits, unless a process has that name.
 RELATIVES = {"creator": "{creator}", "children": "children:{self}"}
+OTHERS = "others"  # a word for all others, unless a process has that name
 OR_NOBODY, IF_ENDED = ["or", "nobody"], ["if", "all", "have", "ended"]
 TO_COMPLETE = f"'{COMPLETE}' stands for what you have to complete"
 TOKEN = re.compile(r'"((?:[^"\\]|\\.)*)"|(\S+)')
@@ -125,8 +127,8 @@ def fill_in(word: str, values: Values) -> str:
 @dataclass
 class Facts:
     """The facts of a file. `path` is its name, for people, and `still` the line that says that nothing moves. `guesses`
-    has by the names of processes what is guessed of them, where no fact is on their wait, and `bystanders` by theirs
-    the fact that they end nobody's wait."""
+    has by the names of processes what is guessed of them, where no fact is on their wait, `bystanders` by theirs the
+    fact that they end nobody's wait, and `spared` the guess that they aren't among `others`."""
 
     facts: List[Fact] = field(default_factory=list)
     path: str = "facts"
@@ -134,6 +136,7 @@ class Facts:
     groups: Dict[str, List[str]] = field(default_factory=dict)
     guesses: Dict[str, Fact] = field(default_factory=dict)
     bystanders: Dict[str, Fact] = field(default_factory=dict)
+    spared: Dict[str, Fact] = field(default_factory=dict)
     by_frame: Dict[str, List[Fact]] = field(default_factory=dict, repr=False, compare=False)
 
     def wait(self, process: Process) -> Optional[Fact]:
@@ -184,7 +187,8 @@ class Facts:
 
     def unused_lines(self, sketch: Sketch) -> List[str]:
         """Returns a line for each fact that has matched nothing, or nobody who is unknown."""
-        return [f"{self.path}:{fact.at}: it matches {why_unused(fact, sketch)}" for fact in self.facts if not fact.used]
+        return [f"{self.path}:{fact.at}: it matches {why_unused(fact, sketch)}" for fact in self.facts
+                if not (fact.used or fact.is_guess)]
 
     def reason(self, fact: Fact) -> str:
         where = fact.called(self.path)

@@ -1,6 +1,7 @@
 """From raw states or sketches to the sketch that a dump is made of: facts are applied here, once, for all."""
 from __future__ import annotations
 
+from dataclasses import replace
 from typing import Callable, Dict, List, Sequence, Tuple
 
 from . import guesses
@@ -36,6 +37,7 @@ def sketch_for(system: str, paths: Sequence[str], facts: Facts, read: Callable[[
 
 def decide(sketch: Sketch, facts: Facts, what: str = "processes", with_guesses: bool = False) -> Sketch:
     """Applies facts to a sketch, and all that comes after them. `what` is what its idle processes are called."""
+    facts = guesses.supposed(sketch, facts) if with_guesses else facts
     apply(facts, sketch)
     add_left_out(sketch)
     shorten_candidates(sketch)
@@ -47,8 +49,11 @@ def decide(sketch: Sketch, facts: Facts, what: str = "processes", with_guesses: 
     leave_out(sketch, what)
     sketch.check()
     doubt_roots(sketch)
+    reasons = guesses.reasons_of(sketch)
+    bare = [it.copy() for it in guesses.without_guesses(sketch).processes] if reasons else []
     doubt_stuck(sketch)
-    doubt_without_guesses(sketch)
+    if reasons:
+        doubt_without_guesses(sketch, replace(sketch, processes=bare), reasons)
     return sketch
 
 
@@ -103,14 +108,9 @@ def doubt_stuck(sketch: Sketch) -> None:
             process.proposal = "none"
 
 
-def doubt_without_guesses(sketch: Sketch) -> None:
-    """Lets those rest on the guesses too that would be unknown without them, since one who waits by a guess alone may
-    free them besides."""
-    reasons = guesses.reasons_of(sketch)
-    if not reasons:
-        return
-    bare = guesses.without_guesses(sketch)
-    bare.processes = [process.copy() for process in bare.processes]
+def doubt_without_guesses(sketch: Sketch, bare: Sketch, reasons: List[str]) -> None:
+    """Lets those rest on the guesses too that would be unknown without them, as in `bare`, since one who waits or has
+    ended by a guess alone may free them besides."""
     doubt_stuck(bare)
     for process, other in zip(sketch.processes, bare.processes):
         if other.kind == UNKNOWN != process.kind and not process.is_guessed():

@@ -8,7 +8,7 @@ import re
 from collections import Counter
 from typing import Collection, Dict, Iterable, List, NamedTuple, Sequence, Set, Tuple
 
-from .facts import STILL, is_variable, word_of
+from .facts import OTHERS, STILL, is_variable, word_of
 from .places import FRAME, is_like
 from .sketch import COMPLETE, REST, UNKNOWN, Process, Sketch
 
@@ -24,6 +24,7 @@ LEFT_OUT = f"{REST} -> runs"
 HAS_ENDED = " -> ended"
 FORMS = ("# any: one of them is enough; all: each has to come; a guess: leave out who can't end the wait",
          "# -> runs: a timer, a user or the outside ends it; -> nobody: nothing does")
+ASKED = ("any", "all", "runs", "maybe")  # proposals that are lines on the place of one
 FEW, MOST = 50, 20  # kinds of waits at one place whose names are compared, and words in a guess
 
 
@@ -59,14 +60,15 @@ def legend(found: Iterable[Proposal], sketch: Sketch) -> List[str]:
         return []
     families = Counter(NUMBER.sub("*", it.name) for it in sketch.processes)
     name = max(families, key=lambda it: families[it])
-    return [f"# {COMPLETE} stands for names, with spaces between them, as {word_of(name)}", *FORMS]
+    return [f"# {COMPLETE} stands for names, with spaces between them, as {word_of(name)}; {OTHERS}: all of them",
+            *FORMS]
 
 
 def propose(sketch: Sketch, quiet: Collection[str] = ()) -> List[Proposal]:
     """Returns a line of facts for each wait that isn't known, with those that it would decide. What only lacks a count
     of its waits needs one line for all. `quiet` has the names of those that need none."""
     some = [it for it in sketch.processes if it.kind == UNKNOWN and it.name not in quiet]
-    asked = [it for it in some if it.frames and it.frames != [REST] and it.proposal in ("any", "all")]
+    asked = [it for it in some if it.frames and it.frames != [REST] and it.proposal in ASKED]
     found = [Proposal(line, "", not EMPTY.search(line), names_of(them)) for line, them in lines_of(asked, sketch)]
     found += [Proposal(f"? holds {word_of(what)}", "whoever publishes that", False, names)
               for what, names in wanted_of(some).items()]
@@ -129,8 +131,9 @@ def line_of(some: List[Process], words: Sequence[str], mark: Sequence[str] = ())
     of = ["of", word_of(one.name)] if one.is_idle and not mark else []
     operation = [word_of(one.operation)] if one.operation else []
     guess = words or [COMPLETE]
-    proposal = one.proposal if one.proposal in ("any", "all") else "any"
-    return " ".join([word_of(place_name(one)), *mark, *of, *operation, "->", proposal, *map(word_of, guess)])
+    proposal = one.proposal if one.proposal in ("all", "runs") else "any"
+    fact = [proposal] if proposal == "runs" else [proposal, *map(word_of, guess)]
+    return " ".join([word_of(place_name(one)), *mark, *of, *operation, "->", *fact])
 
 
 def place_name(process: Process) -> str:

@@ -45,7 +45,7 @@ MANY = 65_536  # names in all lists; with more, equal lists are one
 TEXTS = ("site", "note", "operation", "thread")
 LISTS = ("frames", "objects", "because", "besides", "candidates")
 FLAGS = {"idle": "is_idle", "stays": "stays", "spoilt": "is_spoilt"}
-PROPOSALS = ("any", "all", "holds", "still", "ended", "none")
+PROPOSALS = ("any", "all", "holds", "still", "ended", "runs", "maybe", "frees", "none")
 KEYS = {"name", *KINDS, *TEXTS, *LISTS, *FLAGS, "count", "proposal"}
 TOP_KEYS = {"processes", "lists", "in_transit", "system", "as_of", "warnings", "premises", "facts", "readings",
             "machine", "times", "idle", "readers", "inner"}
@@ -65,7 +65,9 @@ class Process:
     what the system counts (reductions, context switches), as text. Two states show the same wait if these four are the
     same. `proposal` is the fact that people are asked for where it is unknown: 'any', 'all' of an operation that needs
     all, 'holds' if nobody is known to hold what ends it, 'still' if only a count of its waits is missing, 'ended' of
-    one that stands for others who may not be there, or 'none'.
+    one that stands for others who may not be there, 'runs' of one that is likely to go on by itself, 'maybe' of one
+    that may not wait at all, so that nothing is guessed, or 'none'. Of one that runs 'frees' says that it is likely to
+    end nobody's wait.
     `candidates` are words of facts that the state suggests for it: names, groups, or of 'holds' what is to be held.
     `ends` is of one that facts on who holds what may decide: what may end its wait, by name, each with a regular
     expression for what is held. Each of them needs a holder, since one without may be anybody's: then it waits for any
@@ -528,7 +530,7 @@ def row_of(process: Process, lists: Dict[int, str]) -> Dict[str, object]:
         value = getattr(process, key)
         if value:
             row[key] = value
-    if process.kind == UNKNOWN and process.proposal != "any":
+    if process.kind == UNKNOWN and process.proposal != "any" or process.proposal == "frees":
         row["proposal"] = process.proposal
     row.update({key: True for key, name in FLAGS.items() if getattr(process, name)})
     return row

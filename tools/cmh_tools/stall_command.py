@@ -14,7 +14,7 @@ from typing import Any, Dict, Iterator, List, Sequence
 from .captures import HEAP, SYSTEMS, Capture, captures_for, check_needs, take
 from .command import Parser, notes_path, run
 from .dump_command import GUESSES
-from .explain import Explanation, number_of
+from .explain import Explanation
 from .explain_command import load
 from .files import Failure, Refusal, read_text, say, shown, write_out, write_texts
 from .redact import redact
@@ -196,10 +196,8 @@ def next_step(folder: str, paths: List[str], explanation: Explanation) -> str:
         return f"What rests on guesses: see which lines of {where} hold, and then: cmh-stall {folder}"
     if not paths:
         return "What is undecided: the state asks for no fact that would decide it. Look at the unknown ones themselves"
-    number = sum(it.is_complete for it in explanation.proposals())
-    some = number_of(number, "guess", "guesses")
-    more = f"; or, with {some} as the state suggests them: cmh-stall {folder} --guesses" if number else ""
-    return f"What is undecided: complete the facts in {where}, and then: cmh-stall {folder}{more}"
+    return (f"What is undecided: complete the facts in {where}, and then: cmh-stall {folder}; or, by guesses: "
+            f"cmh-stall {folder} --guesses")
 
 
 def parts_of(folder: str) -> List[Dict[str, Any]]:

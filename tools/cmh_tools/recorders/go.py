@@ -23,7 +23,7 @@ from . import State
 from .base import Moment, Premise, Recorder
 from .go_frames import NEEDS_ALL, Place, entry_of, is_at_another, is_jobs, is_of_runtime, takes_state
 from .go_starters import MAIN, UNSEEN, Starters, unseen_starter
-from .go_text import ADDRESS, Dump, Goroutine, read_dumps
+from .go_text import ADDRESS, TAKER, Dump, Goroutine, read_dumps
 
 SITE = "the Go program"
 # States in which a goroutine goes on by itself, or the runtime sees to it.
@@ -125,6 +125,9 @@ class GoRecorder(Recorder):
         place = moment.places[goroutine.number]
         process = self.wait_at(goroutine, place, name, moment)
         process.site, process.proposal = SITE, "all" if place.operation in NEEDS_ALL else "any"
+        is_sleeping_main = goroutine.number == MAIN and process.operation == "timed sleep"
+        if is_sleeping_main or any(it.function == TAKER for it in goroutine.frames):
+            process.proposal = "frees"
         process.frames, process.operation = place.frames, process.operation or place.operation
         process.meeting = next(iter(place.objects), name) if place.operation in NEEDS_ALL else ""
         process.objects = [*place.objects, *self.values(goroutine), *filter(None, [self.again.get(id(goroutine))])]

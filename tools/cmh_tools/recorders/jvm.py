@@ -161,6 +161,8 @@ class JvmRecorder(Recorder):
         here = moment.locks.objects.get(thread.key, [])
         process.objects = here if thread.same_as is None else thread.same_as
         process.proposal = "all" if NEEDS_ALL.fullmatch(place.call) else "any"
+        if thread.name == "main" and process.operation == "timed Thread.sleep":
+            process.proposal = "frees"
         process.is_collective = MEETS.fullmatch(place.call) is not None
         process.meeting = moment.meetings.get(thread.key, "")
         if process.proposal == "all" and not process.is_collective:

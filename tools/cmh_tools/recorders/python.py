@@ -285,7 +285,10 @@ def is_vouched(thread: Optional[Row], is_held: bool, subject: Subject) -> bool:
 
 def wait_of_thread(subject: Subject) -> Process:
     standing = subject.job.standing(subject.row, subject.row.frames)
-    return process_of(subject, subject.row.frames, subject.job.wait_of_thread(subject.row, standing), standing)
+    process = process_of(subject, subject.row.frames, subject.job.wait_of_thread(subject.row, standing), standing)
+    if subject.row.more.get("main") is True and process.operation == "timed time.sleep":
+        process.proposal = "frees"
+    return process
 
 
 def wait_of_task(subject: Subject) -> Process:

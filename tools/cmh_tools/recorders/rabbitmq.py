@@ -250,7 +250,8 @@ class RabbitmqRecorder(Recorder):
         if service.state in ("blocked", "blocking"):
             return unknown(name, "the broker blocks it, since its memory or its disk is full", **more)
         if not service.queues:
-            return unknown(name, "it consumes nothing, so the broker can't tell what it waits for", **more)
+            return unknown(name, "it consumes nothing, so the broker can't tell what it waits for", proposal="runs",
+                           **more)
         if service.is_at_work:
             return at_work(service, name, more)
         if not service.acknowledges:
@@ -287,7 +288,8 @@ def at_work(service: Service, name: str, more: Dict[str, Any]) -> Process:
     has_replies = 0 < len(replies) < len(service.queues)
     more.update(operation="reply" if has_replies else "handle", objects=service.places())
     does = f"may wait for a reply in {shown(replies[0])}" if has_replies else "the broker can't tell what it does"
-    return unknown(name, f"it has a message that isn't acknowledged, and {does}", because=[premise(HANDLES)], **more)
+    return unknown(name, f"it has a message that isn't acknowledged, and {does}", because=[premise(HANDLES)],
+                   proposal="any" if has_replies else "maybe", **more)
 
 
 def wait_of_consumer(service: Service, name: str, more: Dict[str, Any]) -> Process:
