@@ -86,7 +86,7 @@ fn top_command<'a>(alloc: Global) -> Command<'a>
     ensures local { (out-Command result).has_globals ≡ false }
 {
     Command::new(alloc, "cmh")
-        .version("1.0.2")
+        .version("1.1.0")
         .subcommand_required(true)
         .disable_help_subcommand(true)
 }
