@@ -9,7 +9,7 @@ from typing import Any, Callable, Dict, NoReturn, Optional, Sequence, Tuple
 from . import VERSION
 from .dump import Dump
 from .files import Failure, Refusal, read_text, say, shown, write_out
-from .sketch import OLDER, Sketch, read_json, sketch_of
+from .sketch import BARE, OLDER, Sketch, read_json, sketch_of
 
 
 class Parser(argparse.ArgumentParser):
@@ -64,7 +64,8 @@ def sketch_of_dump(tree: Any, where: str, is_by_hand: bool) -> Sketch:
     for row in rows:
         waits = {"waits_for_any": row.get("dependents", [])} if row.get("state") == "idle" else active
         made.append({"name": row["name"], "site": row.get("site"), **waits})
-    return sketch_of({"processes": made, "in_transit": tree.get("in_transit") or []}, where)
+    return sketch_of({"system": BARE if is_by_hand else "", "processes": made,
+                      "in_transit": tree.get("in_transit") or []}, where)
 
 
 def read_any(path: str) -> Sketch:

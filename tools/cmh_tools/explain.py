@@ -266,11 +266,11 @@ class Explanation(Findings):
 
     def restart(self, members: List[int], called: Callable[[str], str] = shown) -> str:
         """Returns where a root has to be broken. A site is `called` by its name alone, or with what it is."""
-        sites, is_some_unsaid = self.units(members)
-        if not sites:
+        units, is_some_unsaid = self.units(members, called)
+        if not units:
             return f"restart what has {self.some([self.name(at) for at in members])}: the state doesn't say where"
         elsewhere = ", or what runs at a place that isn't said" if is_some_unsaid else ""
-        return f"restart {self.some([called(site) for site in sites], ' or ')}{elsewhere}"
+        return f"restart {self.some(units, ' or ')}{elsewhere}"
 
     def undecided_lines(self) -> List[str]:
         """The undecided ones, by the unknown ones that they depend on."""

@@ -1,15 +1,16 @@
 """What is known of a dump with both its answers, by index: the text, the JSON and the pictures are all made of this."""
 from __future__ import annotations
 
-from typing import Dict, Iterator, List, NamedTuple, Optional, Tuple
+from typing import Callable, Dict, Iterator, List, NamedTuple, Optional, Tuple
 
 from .dump import Dump
+from .files import shown
 from .idle import quiet
 from .guesses import without_guesses
 from .proposals import Line, Proposal, lines_of, propose
 from .reasons import Reason, Rests, counts_of
 from .roots import Roots, count_waiters, edges_among, ends, way, without_hubs
-from .sketch import ALL, ANY, ENDED, GUESS, LIMIT, RUNS, UNKNOWN, Process, premise
+from .sketch import ALL, ANY, BARE, ENDED, GUESS, LIMIT, RUNS, UNKNOWN, Process, premise
 from .stuck import Answer, Waits
 
 STUCK, UNDECIDED, NOT_STUCK = "stuck", "undecided", "not_stuck"  # verdicts, beside ENDED
@@ -159,10 +160,16 @@ class Findings(Verdicts):
         found = dict.fromkeys(self.waits.processes[at].site for at in members)
         return [site for site in found if site is not None], None in found
 
-    def units(self, members: List[int]) -> Tuple[List[str], bool]:
-        """Returns what can be restarted of some, and whether that isn't known of others: their sites, or the whole."""
-        whole = WHOLE.get(self.dump.sketch.system)
-        return ([whole], False) if whole else self.sites(members)
+    def units(self, members: List[int], called: Callable[[str], str] = shown) -> Tuple[List[str], bool]:
+        """Returns what can be restarted of some, and whether that isn't known of others: their sites, each as it is
+        `called`; the whole; or those themselves of a dump that was written by hand, where a site is a machine."""
+        system = self.dump.sketch.system
+        if system in WHOLE:
+            return [WHOLE[system]], False
+        if system == BARE:
+            return [shown(self.waits.processes[at].name) for at in members], False
+        sites, is_some_unsaid = self.sites(members)
+        return list(map(called, sites)), is_some_unsaid
 
     # Who is undecided, and who isn't stuck
 

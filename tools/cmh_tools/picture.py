@@ -301,9 +301,9 @@ def restarts(this: Explanation) -> List[str]:
     found: Dict[FrozenSet[str], List[int]] = {}
     words = [this.restart(members, called_site) for members in this.roots.roots]
     for number, members in enumerate(this.roots.roots):
-        sites, is_some_unsaid = this.units(members)
-        if sites and not is_some_unsaid:
-            found.setdefault(frozenset(sites), []).append(number)
+        units, is_some_unsaid = this.units(members)
+        if units and not is_some_unsaid:
+            found.setdefault(frozenset(units), []).append(number)
     for first, *others in found.values():
         words[first] += breaks_words(this, [first, *others]) if others else ""
         for number in others:
@@ -315,11 +315,11 @@ def restart_of_all(this: Explanation, words: List[str]) -> str:
     """Returns in a sentence what breaks all roots: one restart, or one for each if they are at one site each."""
     if all(it == f"{TOGETHER}1 breaks it too" for it in words[1:]):
         return f"{words[0][:1].upper()}{words[0][1:]}."
-    sites = [this.units(members) for members in this.roots.roots]
-    if any(len(some) != 1 or is_some_unsaid for some, is_some_unsaid in sites):
+    units = [this.units(members, called_site) for members in this.roots.roots]
+    if any(len(some) != 1 or is_some_unsaid for some, is_some_unsaid in units):
         return ""
-    names = list(dict.fromkeys(called_site(some[0]) for some, _ in sites))
-    each = "each breaks one root" if len(names) == len(sites) else "each breaks those in it"
+    names = list(dict.fromkeys(some[0] for some, _ in units))
+    each = "each breaks one root" if len(names) == len(units) else "each breaks those in it"
     return f"Restart {this.some(names, ' and ')}: {each}."
 
 

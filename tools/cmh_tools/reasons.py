@@ -5,7 +5,7 @@ from typing import Collection, Dict, Iterable, List, NamedTuple, Tuple
 
 from .facts import is_variable
 from .files import shown
-from .sketch import (BY_HAND, ENDED, FACT, GUESS, OLDER, PREMISE, SYSTEM, Process, Sketch, distinct_lists, guess,
+from .sketch import (BARE, BY_HAND, ENDED, FACT, GUESS, OLDER, PREMISE, SYSTEM, Process, Sketch, distinct_lists, guess,
                      number_of_guess, reason_of)
 
 SHOWN = 5
@@ -81,7 +81,7 @@ def rests_lines(rests: Rests, found: List[Reason], everything: bool) -> List[str
     """Returns the paragraph on what is said of some processes: each fact, and each premise with the number of
     processes that rest on it."""
     if [it.kind for it in found] == [BY_HAND]:
-        return [f"Rests on {WORDS[BY_HAND]}."]
+        return [f"Rests on {'what stands in the dump' if rests.sketch.system == BARE else WORDS[BY_HAND]}."]
     number = rests.sketch.readings
     states = "one state" if number == 1 else f"{'two' if number == 2 else number} states"
     return [f"Rests on: {states}, and on", *rows(rests, found, everything)] if found else []

@@ -37,6 +37,7 @@ WORK = "waits for work"  # why an idle worker of a pool is unknown
 COMPLETE = "?"  # among candidates: there may be others, so that people have to complete them
 REST = "left-out"  # the name and the frame of those that a state may lack, by which facts decide them
 SYSTEM, BY_HAND, OLDER = "system", "by hand", "an older version"  # reasons, beside premises, facts and guesses
+BARE = "dump"  # the system of a dump that was written by hand
 FACT, PREMISE, GUESS = "fact", "premise", "guess"  # before what a reason of these kinds is called
 NUMBERED = re.compile(rf"{GUESS} (\d+)")
 LIMIT = "limit"  # the premise that a wait with a limit ends
