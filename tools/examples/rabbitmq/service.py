@@ -6,13 +6,12 @@ A credit expires after so many milliseconds, or never. Each service acknowledges
 is done with it."""
 import os
 import sys
-import time
 
 import pika
 
 QUEUES = {  # each queue, and the routing keys that are bound to it
     "credits": ["credit.given"], "pages": ["page.fetched"], "batches": ["batch.parsed"],
-    "done": ["batch.indexed"], "mails": ["mail.written"], "alerts": ["page.broken", "alarm.raised"],
+    "done": ["batch.indexed"], "mails": ["mail.written"], "alerts": ["link.broken", "alarm.raised"],
     "questions": ["status.asked"], "answers": ["status.answered"],
     "images": ["image.sent"], "thumbs": ["image.shrunk"]}
 
@@ -44,7 +43,8 @@ def serve(queue, answer):
 
 def fetch(page):
     say("page.fetched", page)
-    if channel.basic_get("questions", auto_ack=True)[0]:
+    if int(page) % 3 == 0 and channel.basic_get("questions", auto_ack=True)[0]:
+        connection.sleep(10)  # it counts what it has fetched
         say("status.answered")
 
 
@@ -52,12 +52,17 @@ def fetcher():
     serve("credits", fetch)
 
 
+def parse(page):
+    say("link.broken", page)
+    say("batch.parsed", page)
+
+
 def parser():
-    serve("pages", lambda page: say("batch.parsed" if page else "page.broken", page))
+    serve("pages", parse)
 
 
 def index(page):
-    time.sleep(5 if page == b"1" else 300)
+    connection.sleep(300 if page == b"4" else 1)
     say("batch.indexed", page)
     say("credit.given", b"%d" % (int(page) + 1))
 
@@ -81,23 +86,24 @@ def alerter():
 
 def watchdog():
     while True:
-        connection.sleep(60)
-        say("alarm.raised")
+        say("alarm.raised")  # to try that it comes
+        connection.sleep(3600)
 
 
 def console():
     say("status.asked")
-    serve("answers", lambda status: None)
+    serve("answers", lambda status: say("status.asked"))
 
 
 def uploader():
     while True:
-        say("image.sent")
-        connection.sleep(100)
+        say("image.sent", b"small")
+        say("image.sent", b"large")
+        connection.sleep(3600)
 
 
-def shrink(_):
-    time.sleep(80)
+def shrink(image):
+    connection.sleep(300 if image == b"large" else 1)
     say("image.shrunk")
 
 
