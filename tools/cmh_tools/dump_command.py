@@ -10,9 +10,10 @@ from .command import Parser, notes_path, run
 from .dump import Dump
 from .facts import Facts, read_facts
 from .files import Failure, Refusal, hindrance, read_bytes, read_text, say, shown, write_out, write_texts
+from .idle import proposals_of
 from .making import sketch_for
 from .program import identity, judge
-from .proposals import Proposal, legend, propose
+from .proposals import Proposal, legend
 from .recorders import MODULES
 from .sketch import KINDS, UNKNOWN, FactRow, Sketch, number_of_guess, reason_of
 
@@ -180,7 +181,7 @@ def make(asked: Any) -> int:
         paths, read = ["the processes"], lambda path: text
         kept = [(asked.save, text)] if asked.save else []
     sketch = sketch_for(asked.system, paths, facts, read, asked.guesses)
-    dump, found = Dump(sketch), propose(sketch)
+    dump, found = Dump(sketch), proposals_of(sketch)
     notes = dump.notes(**({"proposals": [it.text() for it in found]} if found else {}), **program_notes())
     write_texts([*kept, (asked.output, dump.text(dump.low)), (notes_path(asked.output), notes)])
     for line in sketch.warnings:

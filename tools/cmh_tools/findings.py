@@ -5,9 +5,9 @@ from typing import Callable, Dict, Iterator, List, NamedTuple, Optional, Tuple
 
 from .dump import Dump
 from .files import shown
-from .idle import quiet
+from .idle import proposals_of, quiet
 from .guesses import without_guesses
-from .proposals import Line, Proposal, lines_of, propose
+from .proposals import Line, Proposal, lines_of
 from .reasons import Reason, Rests, counts_of
 from .roots import Roots, count_waiters, edges_among, ends, way, without_hubs
 from .sketch import ALL, ANY, BARE, ENDED, GUESS, LIMIT, RUNS, UNKNOWN, Process, premise
@@ -183,7 +183,7 @@ class Findings(Verdicts):
 
     def proposals(self) -> List[Proposal]:
         """Returns the facts that would decide the undecided ones."""
-        return propose(self.dump.sketch, {self.waits.processes[at].name for at in self.quiet})
+        return proposals_of(self.dump.sketch, {self.waits.processes[at].name for at in self.quiet})
 
     def ends(self) -> Dict[int, int]:
         """Returns for each that isn't stuck and waits, the one who may unblock it in the end."""

@@ -3,8 +3,10 @@ answer. That changes no verdict: nobody waits for one that is left out. One that
 from __future__ import annotations
 
 from collections import Counter
-from typing import List, Set
+from typing import Collection, Dict, List, Set
 
+from .facts import word_of
+from .proposals import HAS_ENDED, Proposal, propose
 from .sketch import UNKNOWN, WORK, Process, Sketch, distinct_lists
 from .stuck import Answer, Waits
 
@@ -12,8 +14,7 @@ from .stuck import Answer, Waits
 def leave_out(sketch: Sketch, what: str) -> None:
     """Leaves out the idle ones that nobody waits for and no fact decides. Says how many in one line, as `what` in the
     plural."""
-    wanted = {name for whom in distinct_lists(sketch.processes) for name in whom}
-    wanted.update(name for process in sketch.processes for name in process.besides)
+    wanted = wanted_names(sketch)
     kept: List[Process] = []
     out: Counter[str] = Counter()
     for process in sketch.processes:
@@ -31,9 +32,30 @@ def leave_out(sketch: Sketch, what: str) -> None:
         sketch.warnings.append(f"idle {what} that nobody waits for are left out, {total} in all: {ways}")
 
 
+def wanted_names(sketch: Sketch) -> Set[str]:
+    """Returns the names of those that others wait for, or that may end their waits besides."""
+    wanted = {name for whom in distinct_lists(sketch.processes) for name in whom}
+    return wanted.union(name for process in sketch.processes for name in process.besides)
+
+
 def is_stand_in(process: Process) -> bool:
-    """Whether it is nobody of the system, but stands for others who may not be there."""
-    return process.is_idle and process.kind == UNKNOWN and process.proposal == "ended"
+    """Whether it is nobody of the system, but stands for others who may not be there, and therefore has no site."""
+    return process.kind == UNKNOWN and process.proposal == "ended" and process.site is None
+
+
+def proposals_of(sketch: Sketch, quiet: Collection[str] = ()) -> List[Proposal]:
+    """Returns the lines of facts that would decide who is unknown. Of those who are there, but count as ended where
+    they have nothing that others need, all at one place share a line."""
+    there = [it for it in sketch.processes if it.kind == UNKNOWN and it.proposal == "ended" and it.frames
+             and it.frames[0] != it.name]
+    found = propose(sketch, {*quiet}.union(it.name for it in there))
+    wanted = wanted_names(sketch).difference(quiet) if there else set()
+    shared: Dict[str, List[str]] = {}
+    for it in there:
+        if it.name in wanted:
+            shared.setdefault(f"{word_of(it.frames[0])}{HAS_ENDED}", []).append(it.name)
+    return found + [Proposal(line, f"if {'they have' if names[1:] else 'it has'} nothing of what the others wait at",
+                             False, names) for line, names in shared.items()]
 
 
 def has_fact(process: Process) -> bool:

@@ -129,7 +129,7 @@ class LinuxRecorder(Recorder):
 
     def wait_of(self, subject: Subject, moment: Computer) -> Process:
         if isinstance(subject, list):
-            return unread_one(subject)
+            return unread_one(subject, unread_name(subject) in self.asked)
         thread, name = subject, subject.name
         more: Dict[str, Any] = {"site": f"{thread.owner.command}-{thread.owner.pid}",
                                 "thread": f"{thread.owner.pid}/{thread.tid}"}
@@ -234,11 +234,14 @@ def unread_name(some: List[Owner]) -> str:
     return f"{some[0].name}{more}, which can't be read"
 
 
-def unread_one(some: List[Owner]) -> Process:
+def unread_one(some: List[Owner], is_asked: bool) -> Process:
+    """Returns one that can't be read. One that wasn't asked for stands for whatever has another end of a wait, and runs
+    nowhere in the system by itself."""
     why = some[0].why if some else "the option hidepid of /proc hides processes of other users"
     more = "" if " root " in why else "root can read more, and "
     return unknown(unread_name(some), f"{why}: {more}the fact `{UNREADABLE} -> ended` says that it has nothing of what "
-                   "the others wait at", frames=[UNREADABLE], proposal="none")
+                   "the others wait at", frames=[UNREADABLE], proposal="ended",
+                   site=f"{some[0].command}-{some[0].pid}" if is_asked else None)
 
 
 def odd_state(thread: Thread, machine: Machine) -> Optional[Ends]:
