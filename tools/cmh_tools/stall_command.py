@@ -194,7 +194,7 @@ def next_step(folder: str, paths: List[str], explanation: Explanation) -> str:
     where = " and ".join(paths)
     if explanation.guesses:
         return f"What rests on guesses: see which lines of {where} hold, and then: cmh-stall {folder}"
-    if not paths:
+    if not paths or not explanation.proposals():
         return "What is undecided: the state asks for no fact that would decide it. Look at the unknown ones themselves"
     return (f"What is undecided: complete the facts in {where}, and then: cmh-stall {folder}; or, by guesses: "
             f"cmh-stall {folder} --guesses")

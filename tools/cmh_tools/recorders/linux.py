@@ -23,7 +23,8 @@ from .linux_waits import (ACCEPTS, EPOLLS, FIFO, FILES, FORKS, GROUP, MOVES, OPE
                           SLEEPS, SUSPENDS, UNTIMED, WRITE, Ends, choice_of, ends_of, ends_of_connect, ends_of_set,
                           ends_of_wait, has_limit, int32, note_of, threads_of, timed_parents)
 
-SIGNALS_OF_KERNEL = {14: ("SIGALRM", "an alarm"), 29: ("SIGIO", "an event at a descriptor")}  # which come unseen
+SIGNALS_OF_KERNEL = {14: "SIGALRM", 29: "SIGIO"}  # which come unseen: an alarm, an event at a descriptor
+NO_FACT = ", and no fact on its place decides that"
 ENDING = (1, 2, 3, 13, 15, SIGCHLD)  # the end of a child, and signals that end a process, which nobody kills
 OWN_THREADS = ("erlang", "go", "jvm", "mpi")  # whose runtimes have threads that are none of the job's
 SIGNALS, OUTSIDE, ABOVE = "signals", "outside", "above"
@@ -47,15 +48,19 @@ class Computer(Moment):
 def signal_of(thread: Thread, moment: Computer) -> str:
     """Returns what shows that a signal may end the waits of a process, or nothing."""
     if thread.row.get("pending"):
-        return "a signal is about to reach it"
+        return f"a signal is about to reach it{NO_FACT}"
     if thread.owner.row.get("timers"):
-        return "it has a timer, whose signal may end its wait"
-    for number, (name, event) in SIGNALS_OF_KERNEL.items():
-        if thread.owner.catches(number):
-            return f"it has a handler for {name}, and {event} may end its wait"
+        return f"it has a timer, whose signal may end its wait{NO_FACT}"
     if any("io_uring" in it[0] for it in thread.owner.files.values()):
-        return "it has an io_uring, and what that does isn't known"
+        return f"it has an io_uring, and what that does isn't known{NO_FACT}"
     return ""
+
+
+def unseen_signals(owner: Owner) -> Dict[str, str]:
+    """Returns what stands for the signals that the kernel may send a process, which has a handler for them, and why it
+    is unknown. They may end any of its waits; no state shows whether one comes, and a fact may say that none does."""
+    names = " and ".join(name for number, name in SIGNALS_OF_KERNEL.items() if owner.catches(number))
+    return {f"signal of {owner.name}": f"may come unseen, as there is a handler for {names}"} if names else {}
 
 
 def timer_above(thread: Thread, moment: Computer) -> str:
@@ -89,6 +94,7 @@ class LinuxRecorder(Recorder):
         self.unread: List[List[Owner]] = []
         self.unread_names: List[str] = []
         self.asked: Set[str] = set()
+        self.unseen: Dict[str, str] = {}
 
     def read(self, state: State) -> List[Reading]:
         rows = rows_of(state.text, state.path)
@@ -121,9 +127,11 @@ class LinuxRecorder(Recorder):
         return [*(thread for owner in moment.machine.owners for thread in owner.threads), *self.unread]
 
     def finish(self, sketch: Sketch, moments: List[Computer]) -> None:
-        """Leaves out what couldn't be read, wasn't asked for and stands in nobody's list."""
+        """Leaves out what couldn't be read, wasn't asked for and stands in nobody's list. Adds what no state shows."""
         wanted = self.asked.union(name for process in sketch.processes for name in (*process.whom, *process.besides))
         sketch.processes = [it for it in sketch.processes if it.frames != [UNREADABLE] or it.name in wanted]
+        sketch.processes += [unknown(name, why, frames=[name], is_idle=True, proposal="ended")
+                             for name, why in self.unseen.items() if name in wanted]
         for moment in moments:
             sketch.warnings += [it for it in moment.machine.warnings if it not in sketch.warnings]
 
@@ -182,7 +190,8 @@ class LinuxRecorder(Recorder):
         because += [premise(OUTSIDE)] if self.outside == "container" and not ends.is_exact else []
         whom, more["besides"] = self.whom_of(thread, moment, ends)
         if ends.choice:
-            more["choice"] = ends.choice, [] if ends.is_exact else [it for it in more["besides"] if it not in whom]
+            more["choice"] = ends.choice, [it for it in more["besides"] if it not in whom and
+                                           (it in self.unseen or not ends.is_exact)]
         make = waits_for_all if ends.needs_all or ends.choice else waits_for_any
         return make(name, whom, because, **more)
 
@@ -198,7 +207,9 @@ class LinuxRecorder(Recorder):
             whom += [] if are_all else self.unread_names
         if thread.owner.catches(SIGCHLD):
             more += threads_of(moment.machine.children(thread.owner.pid), thread, False)
-        return whom, list(dict.fromkeys([*besides, *(it.name for it in more if it.name not in whom)]))
+        unseen = unseen_signals(thread.owner)
+        self.unseen.update(unseen)
+        return whom, list(dict.fromkeys([*besides, *(it.name for it in more if it.name not in whom), *unseen]))
 
 
 def time_of(row: Row) -> Optional[Tuple[float, float]]:
