@@ -264,7 +264,9 @@ def redact_folder(folder: str) -> int:
     os.makedirs(new, 0o700, exist_ok=True)
     write_texts([(f"{new}/sketch.json", text_of_sketch(redact(sketch)) + "\n")])
     call("cmh-dump", "sketch", f"{new}/sketch.json", "-o", f"{new}/dump.json")
-    return answer(new).status()
+    status = answer(new).status()
+    say(f"The copy is in {shown(new)}")
+    return status
 
 
 def command(words: Sequence[str]) -> int:
