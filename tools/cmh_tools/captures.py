@@ -10,7 +10,7 @@ import signal
 import subprocess
 import sys
 import time
-from dataclasses import dataclass, field
+from dataclasses import dataclass, field, replace
 from typing import Dict, Iterator, List, Optional, Sequence
 
 from .files import Failure, shown
@@ -53,6 +53,8 @@ PYTHON_WAYS = {
     "py-spy": "py-spy reads the memory of each process, and stops nothing: twice. It shows no locks",
     "gdb": "gdb with python3-dbg stops each process while it reads it: twice, some 3 s. It shows no owners of locks",
 }
+TO_SEE_INSIDE = ("to see inside of it, have it load cmh_state the next time, or read it now by cmh_python_reader.py, "
+                 "which needs py-spy, or gdb with python3-dbg")
 
 
 @dataclass
@@ -119,9 +121,10 @@ def captures_for(system: str, targets: List[str], may_kill: bool, may_dump: bool
     """Returns what is to be taken. Of Python processes that don't answer a signal, a tool that is there shows the
     places besides what Linux sees."""
     made = capture_for(system, targets, may_kill, may_dump)
-    way = way_to_python(targets) if system == "python" and made.system == "linux" else ""
+    is_bare = system == "python" and made.system == "linux"
+    way = way_to_python(targets) if is_bare else ""
     if not way:
-        return [made]
+        return [replace(made, how=f"{made.how}; {TO_SEE_INSIDE}")] if is_bare else [made]
     command = [sys.executable, f"{HOME}/cmh_python_reader.py", way]
     frames = Capture("python", targets, PYTHON_WAYS[way], command)
     return [frames, made] if way == "py-spy" else [frames]  # (gdb takes too long for both to be of one time)

@@ -142,4 +142,5 @@ def system_of(thread: Thread) -> str:
 def hint(thread: Thread) -> str:
     """Returns which recorder knows more of a process, as words for a reason."""
     system = system_of(thread)
-    return f"; `cmh-dump {system}` sees inside of it" if system else ""
+    ways = ", by cmh_state or cmh_python_reader.py" if system == "python" else ""
+    return f"; `cmh-dump {system}` sees inside of it{ways}" if system else ""
