@@ -16,6 +16,7 @@ import json
 import os
 import platform
 import re
+import shutil
 import subprocess
 import sys
 import time
@@ -33,6 +34,7 @@ COMMANDS = {
     "gdb": ["gdb", "-nx", "-batch", "-ex", "set confirm off", "-ex", "file {exe}", "-ex", "attach {pid}",
             "-ex", "thread apply all py-bt", "-ex", "detach"],
 }
+NEEDS = {"py-spy": "pip install py-spy, or take gdb", "gdb": "apt-get install gdb python3-dbg, or take py-spy"}
 
 
 def slurp(path: str) -> str:
@@ -122,6 +124,9 @@ def main() -> int:
     it.add_argument("--seconds", type=float, default=float(os.environ.get("CMH_SECONDS", "5")),
                     help="the time between both readings (5, or $CMH_SECONDS)")
     asked = it.parse_args()
+    if shutil.which(asked.way) is None:
+        print(f"cmh_python_reader: {asked.way} is needed, and isn't there: {NEEDS[asked.way]}", file=sys.stderr)
+        return 1
     try:
         text = state(asked.way, asked.pids, max(0.0, min(3600.0, asked.seconds)))
     except LookupError as error:
