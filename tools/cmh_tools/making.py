@@ -88,19 +88,21 @@ def add_starters(sketch: Sketch) -> None:
 
 def doubt_stuck(sketch: Sketch) -> None:
     """Leaves one of the stuck unknown that another one may free besides, which isn't stuck itself. Those that the state
-    may lack free nobody if a fact says that they run, which is that none of them matters."""
+    may lack free nobody if a fact says that they run, which is that none of them matters. Those that have ended by a
+    guess free nobody here, but stay in the lists: what is joined with this may show more to be stuck without it."""
     there = {process.name for process in sketch.processes
              if process.kind != ENDED and not (process.kind == RUNS and process.frames == [REST])}
+    supposed = {process.name for process in sketch.processes if process.kind == ENDED and process.is_guessed()}
     kept: Dict[int, List[str]] = {}  # of lists that many share
     for process in sketch.processes:
         if id(process.besides) not in kept:
-            kept[id(process.besides)] = [name for name in process.besides if name in there]
+            kept[id(process.besides)] = [name for name in process.besides if name in there or name in supposed]
     for process in sketch.processes:
         process.besides = kept[id(process.besides)]
     risky = weak = [process for process in sketch.processes if process.besides and process.kind in (ANY, ALL)]
     while weak:
         waits = Waits(sketch)
-        inside = {waits.processes[at].name for at in waits.answer(False).members()}
+        inside = supposed.union(waits.processes[at].name for at in waits.answer(False).members())
         weak = [process for process in risky if process.name in inside and not inside.issuperset(process.besides)]
         for process in weak:
             other = next(name for name in process.besides if name not in inside)
