@@ -35,7 +35,7 @@ class Names:
         self.facts, self.groups = facts, sketch.groups
         self.names = {process.name: None for process in sketch.processes}
         self.families = families(self.names)
-        self.others = [it.name for it in sketch.processes if is_other(it) and it.name not in facts.spared]
+        self.others = [it.name for it in sketch.processes if it.is_there() and it.name not in facts.spared]
         self.holders: Dict[str, Dict[str, None]] = {}
         self.holding: Dict[str, Dict[int, Fact]] = {}  # the facts by which something is held, by their lines
         self.lists: Dict[Tuple[str, Tuple[str, ...]], Tuple[List[str], str]] = {}
@@ -236,7 +236,8 @@ class Application:
         if process.name in held:
             return [], (f"by the facts it holds {quote(held[process.name])} itself, of line {fact.at}: if it does, it "
                         "waits for ever, and 'nobody' says so; if not, a line that names its place better does")
-        if whom != [process.name] and process.name in self.names.words(fact, process) and self.is_for_one(fact):
+        if not process.is_collective and whom != [process.name] and process.name in self.names.words(fact, process) \
+                and self.is_for_one(fact):
             return [], (f"line {fact.at} of the facts names it itself: if it waits for itself it waits for ever, and "
                         "'nobody' says so; if not, it doesn't belong there")
         left = [name for name in whom if name not in come and name != process.name]
@@ -326,11 +327,6 @@ class Application:
         process.proposal = "still" if process.doubt != GROWN else "none"
         says = "a guess" if process.is_guessed() else "its place"
         process.become_unknown(f"{process.doubt}; {says} says that it waits for {kind} of {some or 'nobody'}")
-
-
-def is_other(process: Process) -> bool:
-    """Whether one is meant by `others`: it is there, and doesn't wait for work."""
-    return not (process.is_idle or process.kind == ENDED or process.frames == [REST])
 
 
 def drop_bystanders(facts: Facts, sketch: Sketch) -> None:

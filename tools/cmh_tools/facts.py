@@ -42,13 +42,13 @@ FUNCTION, FUNCTION:LINE, FILE:LINE and the whole frame. The first line that matc
     frees nobody             it ends nobody's wait, though it could: a heartbeat that has both ends of a pipe, or a
                              watchdog that only writes to a log. FRAME is any frame here, and all such lines count
 
-NAME is a pattern of names of processes, a group, `others`, who are all that don't wait for work, `creator` or
-`children` of the process that waits, where the state says who created whom, or `@WHAT`: all that hold WHAT.
-`{VARIABLE}` in it is the text that stands there before the
-arrow, or a value of the process that waits: an argument, or its own name, `{self}`. What has spaces stands in double
-quotes. A fact decides a wait only if the state doesn't show it, so that it is unknown. One whose OPERATION begins with
-'timed' also decides one that waits with a limit: it only waits again. Such a one looks now and then, so that needs the
-line `still` too. A list that is too short invents a deadlock, so a NAME that fits no process leaves it unknown.
+NAME is a pattern of names of processes, a group, `others`, who are all that don't wait for work (nor does a line with
+it decide one who does), `creator` or `children` of the process that waits, where the state says who created whom, or
+`@WHAT`: all that hold WHAT. `{VARIABLE}` in it is the text that stands there before the arrow, or a value of the
+process that waits: an argument, or its own name, `{self}`. What has spaces stands in double quotes. A fact decides a
+wait only if the state doesn't show it, so that it is unknown. One whose OPERATION begins with 'timed' also decides one
+that waits with a limit: it only waits again. Such a one looks now and then, so that needs the line `still` too. A list
+that is too short invents a deadlock, so a NAME that fits no process leaves it unknown.
 
 The line `still` says that nothing moves in the system: what stood at the same place in all states was at one wait, also
 if nothing counts that.
@@ -174,7 +174,8 @@ class Facts:
 
     def first(self, kinds: Tuple[str, ...], process: Process) -> Optional[Fact]:
         for fact in self.at_frame(process.frames[0] if process.frames else ""):
-            if fact.kind in kinds and fact.place.values(process) is not None:
+            is_meant = process.is_there() or OTHERS not in fact.words
+            if is_meant and fact.kind in kinds and fact.place.values(process) is not None:
                 fact.used = True
                 return fact
         return None

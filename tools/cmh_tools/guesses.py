@@ -3,19 +3,26 @@ the proposals that the state itself has filled in; that it shows all who matter,
 other wait that one of those who are there ends it. No verdict that rests on one is certain."""
 from __future__ import annotations
 
+import re
 from dataclasses import replace
 from typing import Dict, Iterable, Iterator, List, Optional, Set, Tuple
 
 from .application import apply_guesses, is_end
 from .facts import FREES, HOLDS, OTHERS, STILL, Fact, Facts, read_facts, word_of
 from .files import Refusal
-from .idle import is_stand_in
-from .places import Place
-from .proposals import HAS_ENDED, place_name, propose
-from .sketch import NUMBERED, REST, RUNS, UNKNOWN, Process, Sketch, guess, number_of_guess
+from .idle import is_stand_in, there_of
+from .places import Place, is_like
+from .proposals import HAS_ENDED, MOST, names_of, place_name, propose
+from .sketch import ANY, COMPLETE, ENDED, NUMBERED, REST, RUNS, UNKNOWN, Process, Sketch, guess, number_of_guess
+from .stuck import Waits
 
 Line = Tuple[str, List[str]]  # of facts, with the names of those whom it would decide
 WAITS = ("any", "all", "holds")  # proposals for one that waits, for whomever
+OPEN = f" {COMPLETE}"  # the end of a line that isn't whole
+FREES_NOBODY = f" -> {FREES} nobody"
+# Operations of one that waits for its next message, and functions without a name in which one is started.
+RECEIVES = re.compile(r"chan receive|select|receive|consume|(\w+\.)*(\w*(Queue|Deque)\.(get|take\w*|poll)|accept|recv)")
+NAMELESS = re.compile(r"lambda|\.func\d|Thread\.run|\$\d")
 
 
 def supposed(sketch: Sketch, facts: Facts) -> Facts:
@@ -30,21 +37,106 @@ def supposed(sketch: Sketch, facts: Facts) -> Facts:
 
 
 def take(sketch: Sketch, facts: Facts) -> None:
-    """Has guesses decide who is unknown and isn't idle, where no fact speaks of it."""
+    """Has guesses decide who is unknown and isn't idle, where no fact speaks of it. If some are stuck without those who
+    only wait for their next message, these may have nothing to do, and nothing is guessed of their waits."""
     passed_over = {it.name for it in sketch.processes if it.is_idle or is_spoken_of(it, facts)}
-    asked = [*filled_in(sketch, passed_over)]
-    asked += ended_by_others(sketch, passed_over.union(name for _, names in asked for name in names))
-    number = last_number(sketch) + len(facts.facts) + 2
-    found = facts_of(asked, number)
-    if found:
-        spared = facts_of(likely_bystanders(sketch), number + len(asked))
-        apply_guesses(replace(facts, guesses=found, spared=spared), sketch)
+    at_rest = receivers(sketch, passed_over)
+    trial = replace(sketch, processes=[it.copy() for it in sketch.processes], facts=[*sketch.facts])
+    apply_to(trial, facts, passed_over, at_rest)
+    idle = {it.name for it in trial.processes if it.is_idle}
+    if at_rest and idle.issuperset(stuck_names(trial)):
+        apply_to(sketch, facts, passed_over, [])
+    else:
+        sketch.processes, sketch.facts = trial.processes, trial.facts
     count_anew(sketch)
 
 
+def apply_to(sketch: Sketch, facts: Facts, passed_over: Set[str], at_rest: List[str]) -> None:
+    """Has guesses decide who is unknown. Of those who are at rest it is guessed that they end nobody's wait."""
+    asked = [*filled_in(sketch, passed_over)]
+    asked += ended_by_others(sketch, passed_over.union(at_rest, (name for _, names in asked for name in names)))
+    bystanders = [*likely_bystanders(sketch)]
+    bystanders += [(f"* of {any_of(at_rest)}{FREES_NOBODY}", at_rest)] if at_rest else []
+    number = last_number(sketch) + len(facts.facts) + 2
+    found, spared = facts_of(asked, number), facts_of(bystanders, number + len(asked))
+    known = {it.name for it in sketch.processes if it.kind != UNKNOWN}
+    apply_guesses(replace(facts, guesses=found, spared=spared), sketch)
+    spare(sketch, spared, known)
+    doubt_lone_ones(sketch)
+
+
+def spare(sketch: Sketch, spared: Dict[str, Fact], known: Set[str]) -> None:
+    """Takes those out of lists of several who are likely to end nobody's wait. What is `known` without guesses keeps
+    them apart, so that it can be had again."""
+    rows = {row["at"]: row for row in sketch.facts}
+    for process in sketch.processes if spared else ():
+        gone = [name for name in process.whom if name in spared] if process.kind == ANY else []
+        if not 0 < len(gone) < len(process.whom):
+            continue
+        process.whom = [name for name in process.whom if name not in spared]
+        process.spared = gone if process.name in known else []
+        for fact in {spared[name].at: spared[name] for name in gone}.values():
+            rows.setdefault(guess(fact.at), fact.row(""))["decided"].append(process.name)
+            process.because = [*process.because, guess(fact.at)]
+    sketch.facts = list(rows.values())
+
+
+def receivers(sketch: Sketch, passed_over: Set[str]) -> List[str]:
+    """Returns those who only wait for their next message, at the function that they were started with, and whom nobody
+    is known to wait for."""
+    wanted = {name for it in sketch.processes for name in (*it.whom, *it.candidates)}
+    found = [it.name for it in sketch.processes if it.kind == UNKNOWN and it.name not in passed_over
+             and it.name not in wanted and RECEIVES.fullmatch(it.operation) and is_at_start(it)]
+    return found if len(found) <= MOST else []
+
+
+def is_at_start(process: Process) -> bool:
+    return all(map(NAMELESS.search, process.frames[1:]))
+
+
+def any_of(names: Iterable[str]) -> str:
+    return " or ".join(map(word_of, names))
+
+
+def stuck_names(sketch: Sketch) -> Set[str]:
+    waits = Waits(sketch)
+    return {waits.processes[at].name for at in waits.answer(False).members()}
+
+
+def doubt_lone_ones(sketch: Sketch) -> None:
+    """Leaves one unknown of whose list guesses have ended everybody: it may have nothing to wait for."""
+    gone = {it.name for it in sketch.processes if it.kind == ENDED and it.is_guessed()}
+    for process in sketch.processes:
+        if process.kind == ANY and process.whom and gone.issuperset(process.whom):
+            process.become_unknown("by guesses, nobody whom the state shows ends its wait")
+            process.proposal = "maybe"
+
+
+def take_besides(sketch: Sketch) -> None:
+    """Guesses that nobody ends the wait of a stuck one in another way, as by a kill, who isn't stuck itself."""
+    inside = stuck_names(sketch)
+    there = there_of(sketch)
+    weak = [it for it in sketch.processes if it.name in inside and there.intersection(it.besides) - inside]
+    others = dict.fromkeys(name for it in weak for name in it.besides if name in there and name not in inside)
+    if not others or len(others) > MOST or needed_names(sketch).intersection(others):
+        return
+    number = last_number(sketch) + 1
+    line = f"* of {any_of(others)}{FREES_NOBODY}"
+    for process in weak:
+        process.besides = [name for name in process.besides if name not in others]
+        process.because = [*process.because, guess(number)]
+    sketch.facts.append({"at": guess(number), "text": line, "took": {}, "decided": names_of(weak)})
+
+
 def filled_in(sketch: Sketch, passed_over: Set[str]) -> Iterator[Line]:
-    """Yields the proposals that the state has filled in."""
-    return ((it.line, it.names) for it in propose(sketch, passed_over) if it.is_complete)
+    """Yields the proposals that the state has filled in, as if they were whole, unless one that waits for work is among
+    the names of one that isn't."""
+    named = {it.name: it.candidates for it in sketch.processes}
+    resting = [it.name for it in sketch.processes if not it.is_there()]
+    for it in propose(sketch, passed_over):
+        words = [word for name in it.names for word in named[name] if word != COMPLETE]
+        if it.is_complete or it.is_guess and not any(is_like(word, name) for word in {*words} for name in resting):
+            yield it.line[:-len(OPEN)] if it.line.endswith(OPEN) else it.line, it.names
 
 
 def ended_by_others(sketch: Sketch, passed_over: Set[str]) -> Iterator[Line]:
@@ -59,9 +151,15 @@ def ended_by_others(sketch: Sketch, passed_over: Set[str]) -> Iterator[Line]:
 
 def likely_bystanders(sketch: Sketch) -> Iterator[Line]:
     """Yields a line for each that is likely to end nobody's wait, and therefore is none of `others`."""
+    needed = needed_names(sketch)
     for it in sketch.processes:
-        if it.kind == RUNS and it.stays and it.proposal == FREES:
-            yield f"{word_of(place_name(it))} of {word_of(it.name)} -> frees nobody", [it.name]
+        if it.kind == RUNS and it.proposal == FREES and it.name not in needed:
+            yield f"{word_of(place_name(it))} of {word_of(it.name)}{FREES_NOBODY}", [it.name]
+
+
+def needed_names(sketch: Sketch) -> Set[str]:
+    """Returns the names of those who alone end somebody's wait, so that they free somebody."""
+    return {it.whom[0] for it in sketch.processes if it.kind == ANY and len(it.whom) == 1}
 
 
 def is_spoken_of(process: Process, facts: Facts) -> bool:
@@ -139,5 +237,9 @@ def without_guess(process: Process) -> Process:
     if not process.is_guessed():
         return process
     made = process.copy()
-    made.become_unknown("a guess alone decides it")
+    if process.spared:
+        made.whom, made.spared = [*process.whom, *process.spared], []
+        made.because = [reason for reason in process.because if not NUMBERED.fullmatch(reason)]
+    else:
+        made.become_unknown("a guess alone decides it")
     return made

@@ -7,7 +7,7 @@ from typing import Collection, Dict, List, Set
 
 from .facts import word_of
 from .proposals import HAS_ENDED, Proposal, propose
-from .sketch import UNKNOWN, WORK, Process, Sketch, distinct_lists
+from .sketch import ENDED, REST, RUNS, UNKNOWN, WORK, Process, Sketch, distinct_lists
 from .stuck import Answer, Waits
 
 
@@ -36,6 +36,12 @@ def wanted_names(sketch: Sketch) -> Set[str]:
     """Returns the names of those that others wait for, or that may end their waits besides."""
     wanted = {name for whom in distinct_lists(sketch.processes) for name in whom}
     return wanted.union(name for process in sketch.processes for name in process.besides)
+
+
+def there_of(sketch: Sketch) -> Set[str]:
+    """Returns the names of those who are there and may free others. Those that the state may lack free nobody if a fact
+    says that they run, which is that none of them matters."""
+    return {it.name for it in sketch.processes if it.kind != ENDED and not (it.kind == RUNS and it.frames == [REST])}
 
 
 def is_stand_in(process: Process) -> bool:

@@ -9,13 +9,13 @@ from .application import add_left_out, apply, drop_bystanders
 from .command import read_any
 from .facts import Facts
 from .files import Refusal, read_text, shown
-from .idle import leave_out
+from .idle import leave_out, there_of
 from .join import join_sketches
 from .moments import STOOD, UNCOUNTED, both
 from .proposals import shorten_candidates
 from .recorders import State, recorder
 from .roots import Roots
-from .sketch import ALL, ANY, COMPLETE, ENDED, REST, RUNS, UNKNOWN, Sketch, premise, read_sketch
+from .sketch import ALL, ANY, COMPLETE, ENDED, UNKNOWN, Sketch, premise, read_sketch
 from .stuck import Waits
 
 
@@ -49,9 +49,11 @@ def decide(sketch: Sketch, facts: Facts, what: str = "processes", with_guesses: 
     leave_out(sketch, what)
     sketch.check()
     doubt_roots(sketch)
-    reasons = guesses.reasons_of(sketch)
-    bare = [it.copy() for it in guesses.without_guesses(sketch).processes] if reasons else []
+    bare = [it.copy() for it in guesses.without_guesses(sketch).processes]
+    if with_guesses:
+        guesses.take_besides(sketch)
     doubt_stuck(sketch)
+    reasons = guesses.reasons_of(sketch)
     if reasons:
         doubt_without_guesses(sketch, replace(sketch, processes=bare), reasons)
     return sketch
@@ -90,8 +92,7 @@ def doubt_stuck(sketch: Sketch) -> None:
     """Leaves one of the stuck unknown that another one may free besides, which isn't stuck itself. Those that the state
     may lack free nobody if a fact says that they run, which is that none of them matters. Those that have ended by a
     guess free nobody here, but stay in the lists: what is joined with this may show more to be stuck without it."""
-    there = {process.name for process in sketch.processes
-             if process.kind != ENDED and not (process.kind == RUNS and process.frames == [REST])}
+    there = there_of(sketch)
     supposed = {process.name for process in sketch.processes if process.kind == ENDED and process.is_guessed()}
     kept: Dict[int, List[str]] = {}  # of lists that many share
     for process in sketch.processes:

@@ -14,7 +14,8 @@ from itertools import zip_longest
 from typing import Any, Dict, List, Optional, Set, Tuple
 
 from .files import shown
-from .sketch import ALL, ANY, BY_HAND, DONE, ENDED, REST, RUNS, SYSTEM, UNKNOWN, Process, Sketch, premise, unknown
+from .sketch import (ALL, ANY, BY_HAND, DONE, ENDED, LIMIT, REST, RUNS, SYSTEM, UNKNOWN, Process, Sketch, premise,
+                     unknown)
 
 AS_OF = "as of the first of {} states"
 # How the processes of a reading were read: all at one moment, so that one reading alone may decide; at one moment, but
@@ -141,7 +142,7 @@ def join(process: Process, later: Optional[Process]) -> Process:
     if later is None or later.kind == ENDED:
         return moved(process, "it has ended since")
     if is_elsewhere(process, later):
-        return moved(process, "it has moved")
+        return moved(replace(process, proposal="any"), "it has moved")
     if any(it.kind == RUNS and (SYSTEM in it.because or UNKNOWN not in (process.kind, later.kind))
            for it in (process, later)):  # (one that the system shows to run at either time was in no deadlock)
         return runner_of(process, later)
@@ -161,7 +162,14 @@ def runner_of(process: Process, later: Process) -> Process:
     """One that runs in one of the states at least, at the same place in both."""
     one = process if process.kind == RUNS else later
     stays = is_placed_runner(process) and later.kind == RUNS
-    return replace(process, kind=RUNS, whom=[], reason=one.reason, because=one.because, stays=stays)
+    proposal = "frees" if stays and ticks(process, later) else process.proposal if stays else "any"
+    return replace(process, kind=RUNS, whom=[], reason=one.reason, because=one.because, stays=stays, proposal=proposal)
+
+
+def ticks(process: Process, later: Process) -> bool:
+    """Whether one has come back to a wait with a limit, as a heartbeat does."""
+    counts = process.count, later.count
+    return premise(LIMIT) in process.because and None not in counts and counts[0] != counts[1]
 
 
 def is_placed_runner(process: Process) -> bool:

@@ -44,7 +44,7 @@ LIMIT = "limit"  # the premise that a wait with a limit ends
 INNER = "inner"  # the premise that threads of a runtime, such as one that finalizes, end nobody's wait
 MANY = 65_536  # names in all lists; with more, equal lists are one
 TEXTS = ("site", "note", "operation", "thread")
-LISTS = ("frames", "objects", "because", "besides", "candidates")
+LISTS = ("frames", "objects", "because", "besides", "candidates", "spared")
 FLAGS = {"idle": "is_idle", "stays": "stays", "spoilt": "is_spoilt"}
 PROPOSALS = ("any", "all", "holds", "still", "ended", "runs", "maybe", "frees", "none")
 KEYS = {"name", *KINDS, *TEXTS, *LISTS, *FLAGS, "count", "proposal"}
@@ -111,6 +111,7 @@ class Process:
     candidates: List[str] = field(default_factory=list)
     ends: Dict[str, str] = field(default_factory=dict)
     besides: List[str] = field(default_factory=list)
+    spared: List[str] = field(default_factory=list)
     starters: Dict[str, List[str]] = field(default_factory=dict)
     likely: Dict[str, bool] = field(default_factory=dict)
     thread: str = ""
@@ -131,6 +132,10 @@ class Process:
         self.kind, self.whom, self.reason = kind, whom if isinstance(whom, list) else list(whom), reason
         self.candidates = []
         self.because = list(dict.fromkeys([*self.because, *because]))
+
+    def is_there(self) -> bool:
+        """Whether it is one of the system that doesn't wait for work."""
+        return not (self.is_idle or self.kind == ENDED or self.proposal == "ended" or self.frames == [REST])
 
     def is_guessed(self) -> bool:
         """Whether it rests on a guess."""

@@ -177,10 +177,10 @@ class JvmRecorder(Recorder):
         """Sets the processor time as its count. Who is blocked at a monitor, or waits with a limit, wakes up by itself
         and uses some, so that it counts nothing there."""
         is_again = place.has(AGAIN) or thread.state == "BLOCKED"
-        if process.kind == RUNS or process.moment == ONCE or is_again or not thread.cpu or not moment.counts:
+        if process.moment == ONCE or is_again or not thread.cpu or not moment.counts:
             return
         process.count = f"cpu {thread.cpu}"
-        process.because.append(premise(TIMED))
+        process.because += [premise(TIMED)] if process.kind != RUNS else []
 
     def wait_at(self, thread: Thread, place: Place, name: str, moment: Threads) -> Process:
         """Returns what a thread waits for, as a process with its kind alone."""

@@ -19,9 +19,9 @@ from .linux_locks import SETLKW, ends_of_lock
 from .linux_stacks import BARRIER, STACK, add_stacks, ends_of_futex, hint, meeting_of, own_frames, system_of
 from .linux_text import ENDED as GONE
 from .linux_text import READS, WRITES, Machine, Owner, Row, Thread, readings_of, rows_of
-from .linux_waits import (ACCEPTS, EPOLLS, FIFO, FILES, FORKS, GROUP, MOVES, OPENS, PIPE, READ, REMOTE, SETS, SIGCHLD,
-                          SLEEPS, SUSPENDS, UNTIMED, WRITE, Ends, choice_of, ends_of, ends_of_connect, ends_of_set,
-                          ends_of_wait, has_limit, int32, note_of, threads_of, timed_parents)
+from .linux_waits import (ACCEPTS, CONNECTS, EPOLLS, FIFO, FILES, FORKS, GROUP, MOVES, OPENS, PIPE, READ, REMOTE,
+                          SETS, SIGCHLD, SLEEPS, SUSPENDS, UNTIMED, WRITE, Ends, choice_of, ends_of, ends_of_connect,
+                          ends_of_set, ends_of_wait, has_limit, int32, note_of, threads_of, timed_parents)
 
 SIGNALS_OF_KERNEL = {14: "SIGALRM", 29: "SIGIO"}  # which come unseen: an alarm, an event at a descriptor
 NO_FACT = ", and no fact on its place decides that"
@@ -181,7 +181,7 @@ class LinuxRecorder(Recorder):
             ends.why, ends.runs = f"it waits for all of its runtime{hint(thread)}", ""
         if ends.runs:
             more["operation"] = f"timed {thread.call}" if LIMIT in ends.premises else more["operation"]
-            return runs(name, ends.runs, because, **more)
+            return runs(name, ends.runs, because, **more, proposal="frees" if ends.runs == CONNECTS else "any")
         if ends.operation == BARRIER:
             more.update(is_collective=True, meeting=meeting_of(thread), proposal="all")
         if ends.why:

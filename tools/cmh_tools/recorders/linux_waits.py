@@ -13,6 +13,7 @@ READ = ("read", "readv", "pread64", "preadv", "recvfrom", "recvmsg", "recvmmsg")
 SEND = ("sendto", "sendmsg", "sendmmsg")
 WRITE = ("write", "writev", "pwrite64", "pwritev", "vmsplice", *SEND)
 ACCEPTS = ("accept", "accept4")
+CONNECTS = "somebody may connect"  # why one goes on that accepts connections
 SETS = ("poll", "ppoll", "select", "pselect6")
 EPOLLS = ("epoll_wait", "epoll_pwait", "epoll_pwait2")
 MOVES = ("sendfile", "splice", "tee")
@@ -135,7 +136,7 @@ def ends_of_socket(machine: Machine, thread: Thread, target: str) -> Ends:
         return Ends(why=f"the other end of {target} isn't known", what=target)
     kind = {"tcp": "TCP socket", "u_dgr": "Unix datagram socket"}.get(row["kind"], "Unix socket")
     if row["state"] == "LISTEN":
-        return Ends(runs="somebody may connect", premises=[REMOTE], what=f"listening {kind} {row['at']}")
+        return Ends(runs=CONNECTS, premises=[REMOTE], what=f"listening {kind} {row['at']}")
     between = f"from {row['at']} to {row['to']}" if row["to"] else row["at"]
     what = f"{kind} {target[8:-1] if between in ('', '*') else between}"
     if row.get("away"):

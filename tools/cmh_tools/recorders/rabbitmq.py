@@ -15,7 +15,7 @@ from typing import Any, Dict, List, Optional, Set, Tuple
 
 from ..files import Refusal, shown
 from ..moments import APART, Reading
-from ..sketch import Process, Sketch, premise, quote, read_json, runs, spoilt, unknown, waits_for_any
+from ..sketch import COMPLETE, Process, Sketch, premise, quote, read_json, runs, spoilt, unknown, waits_for_any
 from . import State
 from .base import Moment, Premise, Recorder, fits, misfits
 from .rabbitmq_routes import Routes
@@ -200,6 +200,13 @@ class Service:
         also directly, at a consumer that the broker doesn't list."""
         return [name for name, askers in self.broker.asked.items() if process_name(self.name) in askers]
 
+    def repliers(self, queues: List[str]) -> List[str]:
+        """Returns who may reply in some queues: those that have published there, as far as the broker counts that; or
+        else all others that are at work; or else all others that consume anything."""
+        known = dict.fromkeys(it for queue in queues for it in self.broker.senders.get(queue, {}))
+        others = {name: it for name, it in self.broker.services.items() if it.queues and it is not self}
+        return list(known) or [name for name, it in others.items() if it.is_at_work] or list(others)
+
     def by_limit(self) -> List[str]:
         """Returns who stands for the limit of the broker, if that may give it a message. It has none itself."""
         return [TIMEOUT] if any(map(self.broker.routes.taken.get, self.sources)) else []
@@ -257,7 +264,8 @@ class RabbitmqRecorder(Recorder):
         if not service.acknowledges:
             more.update(operation="take", objects=service.places())
             return unknown(name, "it needn't acknowledge, so the broker can't tell whether it is at work",
-                           besides=service.by_limit(), **more)
+                           besides=service.by_limit(), candidates=[*service.senders, COMPLETE],
+                           proposal="any" if service.senders else "maybe", **more)
         return wait_of_consumer(service, name, more)
 
     def finish(self, sketch: Sketch, moments: List[Moment]) -> None:
@@ -289,7 +297,8 @@ def at_work(service: Service, name: str, more: Dict[str, Any]) -> Process:
     more.update(operation="reply" if has_replies else "handle", objects=service.places())
     does = f"may wait for a reply in {shown(replies[0])}" if has_replies else "the broker can't tell what it does"
     return unknown(name, f"it has a message that isn't acknowledged, and {does}", because=[premise(HANDLES)],
-                   proposal="any" if has_replies else "maybe", **more)
+                   proposal="any" if has_replies else "maybe",
+                   candidates=[*service.repliers(replies), COMPLETE] if has_replies else [], **more)
 
 
 def wait_of_consumer(service: Service, name: str, more: Dict[str, Any]) -> Process:
