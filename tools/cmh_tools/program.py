@@ -18,6 +18,7 @@ from .stuck import Answer
 Output = TypeVar("Output")
 WORKERS = 64  # docs/PERFORMANCE.md advises as many, and as many even parts, for a dump that takes long
 LONGEST = 200  # bytes, more than the first line of a report has
+COUNT = re.compile(rb"processes .* deadlocked (\d{1,9})[ \n]")
 DEADLOCKED = re.compile(rb"deadlocked ([!-~]+) group \d+\n")
 
 
@@ -83,22 +84,24 @@ def read_output(words: List[str], read: Callable[[IO[bytes]], Output], stdin: IO
 def deadlocked_names(data: bytes) -> Set[str]:
     """Returns the names that the program calls deadlocked in a dump, of bytes. Raises Refusal with its fault if it
     refuses the dump, and Failure if it fails. A report may have half a gigabyte, so it isn't kept."""
-    (first, found), status, said = ask(["analyse", *plan(data)], data, read_report)
+    (count, found), status, said = ask(["analyse", *plan(data)], data, read_report)
     refuse(status, said)
     if status not in (0, 3):
         raise Failure(shown(said) or f"{shown(program())} ended with status {status}")
-    if first[:1] != [b"processes"] or first[-1] != b"%d" % len(found) or (status == 3) != bool(found):
+    if count != len(found) or (status == 3) != bool(found):
         raise mismatch("report")
     return found
 
 
-def read_report(out: IO[bytes]) -> Tuple[List[bytes], Set[str]]:
-    """Returns the words of the first line of a report, and the names that it calls deadlocked."""
+def read_report(out: IO[bytes]) -> Tuple[int, Set[str]]:
+    """Returns how many are deadlocked by the first line of a report, or -1 if it doesn't say that, and the names that
+    the report calls deadlocked."""
     line = out.readline(LONGEST)
     if line and not line.startswith(b"processes "):
         raise mismatch("report")
+    count = COUNT.match(line)
     rows = (DEADLOCKED.fullmatch(line) for line in out if line.startswith(b"deadlocked "))
-    return line.split(), {row[1].decode() for row in rows if row}
+    return int(count[1]) if count else -1, {row[1].decode() for row in rows if row}
 
 
 def judge(data: bytes) -> None:
