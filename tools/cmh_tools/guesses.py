@@ -22,6 +22,7 @@ OPEN = f" {COMPLETE}"  # the end of a line that isn't whole
 FREES_NOBODY = f" -> {FREES} nobody"
 # Operations of one that waits for its next message, and functions without a name in which one is started.
 RECEIVES = re.compile(r"chan receive|select|receive|consume|(\w+\.)*(\w*(Queue|Deque)\.(get|take\w*|poll)|accept|recv)")
+ACCEPTS = re.compile(r"(.*[.:])?(accept\d?|serve_forever)(/\d+)?")
 NAMELESS = re.compile(r"lambda|\.func\d|Thread\.run|\$\d")
 
 
@@ -54,8 +55,10 @@ def take(sketch: Sketch, facts: Facts) -> None:
 def apply_to(sketch: Sketch, facts: Facts, passed_over: Set[str], at_rest: List[str]) -> None:
     """Has guesses decide who is unknown. Of those who are at rest it is guessed that they end nobody's wait."""
     asked = [*filled_in(sketch, passed_over)]
+    accepting = [it for it in sketch.processes if it.kind == UNKNOWN and it.name not in passed_over and is_acceptor(it)]
+    asked += [(f"{place_words(*place)} -> runs", names) for place, names in places_of(accepting).items()]
     asked += ended_by_others(sketch, passed_over.union(at_rest, (name for _, names in asked for name in names)))
-    bystanders = [*likely_bystanders(sketch)]
+    bystanders = [*likely_bystanders(sketch, accepting)]
     bystanders += [(f"* of {any_of(at_rest)}{FREES_NOBODY}", at_rest)] if at_rest else []
     number = last_number(sketch) + len(facts.facts) + 2
     found, spared = facts_of(asked, number), facts_of(bystanders, number + len(asked))
@@ -141,20 +144,44 @@ def filled_in(sketch: Sketch, passed_over: Set[str]) -> Iterator[Line]:
 
 def ended_by_others(sketch: Sketch, passed_over: Set[str]) -> Iterator[Line]:
     """Yields a line for each other wait: any of those who are there ends it. One that may not wait at all has none."""
+    some = [it for it in sketch.processes if it.kind == UNKNOWN and it.name not in passed_over and it.frames
+            and it.proposal in WAITS]
+    for place, names in places_of(some).items():
+        yield f"{place_words(*place)} -> any {OTHERS}", names
+
+
+def places_of(processes: Iterable[Process]) -> Dict[Tuple[str, str], List[str]]:
+    """Returns the names of those at each place, with its operation."""
     places: Dict[Tuple[str, str], List[str]] = {}
-    for it in sketch.processes:
-        if it.kind == UNKNOWN and it.name not in passed_over and it.frames and it.proposal in WAITS:
-            places.setdefault((place_name(it), it.operation), []).append(it.name)
-    for (place, operation), names in places.items():
-        yield " ".join([word_of(place), *([word_of(operation)] if operation else []), "-> any", OTHERS]), names
+    for it in processes:
+        places.setdefault((place_name(it), it.operation), []).append(it.name)
+    return places
 
 
-def likely_bystanders(sketch: Sketch) -> Iterator[Line]:
-    """Yields a line for each that is likely to end nobody's wait, and therefore is none of `others`."""
-    needed = needed_names(sketch)
-    for it in sketch.processes:
-        if it.kind == RUNS and it.proposal == FREES and it.name not in needed:
-            yield f"{word_of(place_name(it))} of {word_of(it.name)}{FREES_NOBODY}", [it.name]
+def place_words(place: str, operation: str) -> str:
+    return " ".join(map(word_of, filter(None, [place, operation])))
+
+
+def is_acceptor(process: Process) -> bool:
+    """Whether one waits for connections from outside."""
+    return any(map(ACCEPTS.fullmatch, (process.operation, place_name(process).partition(":")[0], place_name(process))))
+
+
+def likely_bystanders(sketch: Sketch, accepting: List[Process]) -> Iterator[Line]:
+    """Yields a line for each that is likely to end nobody's wait, and therefore is none of `others`, and for each that
+    waits for such ones alone."""
+    needed, found = needed_names(sketch), {it.name for it in accepting}
+    new = [*accepting, *(it for it in sketch.processes if it.kind == RUNS and it.proposal == FREES
+                         and it.name not in needed)]
+    while new:
+        yield from ((freeing_nobody(it), [it.name]) for it in new)
+        found.update(it.name for it in new)
+        new = [it for it in sketch.processes if it.kind == ANY and it.whom and found.issuperset(it.whom)
+               and it.name not in found]
+
+
+def freeing_nobody(process: Process) -> str:
+    return f"{word_of(place_name(process))} of {word_of(process.name)}{FREES_NOBODY}"
 
 
 def needed_names(sketch: Sketch) -> Set[str]:

@@ -166,7 +166,8 @@ class LinuxRecorder(Recorder):
         if has_limit(thread):
             more["operation"], more["note"] = f"timed {thread.call}", whole_note(thread, ends)
             why = "it sleeps" if thread.call in SLEEPS else "it waits with a limit"
-            return runs(thread.name, why, [premise(LIMIT)], **more)
+            is_main = thread.tid == thread.owner.pid and thread.call in SLEEPS and len(thread.owner.threads) > 1
+            return runs(thread.name, why, [premise(LIMIT)], **more, proposal="frees" if is_main else "any")
         return self.decided(thread, moment, ends, more)
 
     def decided(self, thread: Thread, moment: Computer, ends: Ends, more: Dict[str, Any]) -> Process:
