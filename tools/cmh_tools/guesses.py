@@ -12,14 +12,13 @@ from .facts import FREES, HOLDS, OTHERS, STILL, Fact, Facts, read_facts, word_of
 from .files import Refusal
 from .idle import is_stand_in, there_of
 from .places import Place, is_like
-from .proposals import HAS_ENDED, MOST, names_of, place_name, propose
+from .proposals import HAS_ENDED, MOST, freeing_nobody, names_of, place_name, propose
 from .sketch import ANY, COMPLETE, ENDED, NUMBERED, REST, RUNS, UNKNOWN, Process, Sketch, guess, number_of_guess
 from .stuck import Waits
 
 Line = Tuple[str, List[str]]  # of facts, with the names of those whom it would decide
 WAITS = ("any", "all", "holds")  # proposals for one that waits, for whomever
 OPEN = f" {COMPLETE}"  # the end of a line that isn't whole
-FREES_NOBODY = f" -> {FREES} nobody"
 # Operations of one that waits for its next message, and functions without a name in which one is started.
 RECEIVES = re.compile(r"chan receive|select|receive|consume|(\w+\.)*(\w*(Queue|Deque)\.(get|take\w*|poll)|accept|recv)")
 ACCEPTS = re.compile(r"(.*[.:])?(accept\d?|serve_forever)(/\d+)?")
@@ -59,7 +58,7 @@ def apply_to(sketch: Sketch, facts: Facts, passed_over: Set[str], at_rest: List[
     asked += [(f"{place_words(*place)} -> runs", names) for place, names in places_of(accepting).items()]
     asked += ended_by_others(sketch, passed_over.union(at_rest, (name for _, names in asked for name in names)))
     bystanders = [*likely_bystanders(sketch, accepting)]
-    bystanders += [(f"* of {any_of(at_rest)}{FREES_NOBODY}", at_rest)] if at_rest else []
+    bystanders += [(freeing_nobody(at_rest), at_rest)] if at_rest else []
     number = last_number(sketch) + len(facts.facts) + 2
     found, spared = facts_of(asked, number), facts_of(bystanders, number + len(asked))
     known = {it.name for it in sketch.processes if it.kind != UNKNOWN}
@@ -97,10 +96,6 @@ def is_at_start(process: Process) -> bool:
     return all(map(NAMELESS.search, process.frames[1:]))
 
 
-def any_of(names: Iterable[str]) -> str:
-    return " or ".join(map(word_of, names))
-
-
 def stuck_names(sketch: Sketch) -> Set[str]:
     waits = Waits(sketch)
     return {waits.processes[at].name for at in waits.answer(False).members()}
@@ -124,7 +119,7 @@ def take_besides(sketch: Sketch) -> None:
     if not others or len(others) > MOST or needed_names(sketch).intersection(others):
         return
     number = last_number(sketch) + 1
-    line = f"* of {any_of(others)}{FREES_NOBODY}"
+    line = freeing_nobody(others)
     for process in weak:
         process.besides = [name for name in process.besides if name not in others]
         process.because = [*process.because, guess(number)]
@@ -174,14 +169,10 @@ def likely_bystanders(sketch: Sketch, accepting: List[Process]) -> Iterator[Line
     new = [*accepting, *(it for it in sketch.processes if it.kind == RUNS and it.proposal == FREES
                          and it.name not in needed)]
     while new:
-        yield from ((freeing_nobody(it), [it.name]) for it in new)
+        yield from ((freeing_nobody([it.name], place_name(it)), [it.name]) for it in new)
         found.update(it.name for it in new)
         new = [it for it in sketch.processes if it.kind == ANY and it.whom and found.issuperset(it.whom)
                and it.name not in found]
-
-
-def freeing_nobody(process: Process) -> str:
-    return f"{word_of(place_name(process))} of {word_of(process.name)}{FREES_NOBODY}"
 
 
 def needed_names(sketch: Sketch) -> Set[str]:

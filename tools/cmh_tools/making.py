@@ -7,15 +7,15 @@ from typing import Callable, Dict, List, Sequence, Tuple
 from . import guesses
 from .application import add_left_out, apply, drop_bystanders
 from .command import read_any
-from .facts import Facts
+from .facts import FREES, Facts
 from .files import Refusal, read_text, shown
 from .idle import leave_out, there_of
 from .join import join_sketches
 from .moments import STOOD, UNCOUNTED, both
-from .proposals import shorten_candidates
+from .proposals import MOST, shorten_candidates
 from .recorders import State, recorder
 from .roots import Roots
-from .sketch import ALL, ANY, COMPLETE, ENDED, UNKNOWN, Sketch, premise, read_sketch
+from .sketch import ALL, ANY, COMPLETE, ENDED, UNKNOWN, Process, Sketch, premise, read_sketch
 from .stuck import Waits
 
 
@@ -101,14 +101,21 @@ def doubt_stuck(sketch: Sketch) -> None:
     for process in sketch.processes:
         process.besides = kept[id(process.besides)]
     risky = weak = [process for process in sketch.processes if process.besides and process.kind in (ANY, ALL)]
+    asked = {it.name for it in sketch.processes if it.kind == UNKNOWN and it.is_there() and it.proposal != "none"}
     while weak:
         waits = Waits(sketch)
         inside = supposed.union(waits.processes[at].name for at in waits.answer(False).members())
         weak = [process for process in risky if process.name in inside and not inside.issuperset(process.besides)]
+        asked.update(process.name for process in weak)
         for process in weak:
-            other = next(name for name in process.besides if name not in inside)
-            process.become_unknown(f"{shown(other)}, which isn't known to be stuck, may end its wait too")
-            process.proposal = "none"
+            others = [name for name in process.besides if name not in inside]
+            process.become_unknown(f"{shown(others[0])}, which isn't known to be stuck, may end its wait too")
+            ask_to_spare(process, [name for name in others if name not in asked])
+
+
+def ask_to_spare(process: Process, others: List[str]) -> None:
+    """Asks for the fact that some end nobody's wait, who may end that of a process besides."""
+    process.proposal, process.candidates = (FREES, others) if 0 < len(others) <= MOST else ("none", [])
 
 
 def doubt_without_guesses(sketch: Sketch, bare: Sketch, reasons: List[str]) -> None:

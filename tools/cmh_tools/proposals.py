@@ -8,7 +8,7 @@ import re
 from collections import Counter
 from typing import Collection, Dict, Iterable, List, NamedTuple, Sequence, Set, Tuple
 
-from .facts import OTHERS, STILL, is_variable, word_of
+from .facts import FREES, OTHERS, STILL, is_variable, word_of
 from .places import FRAME, is_like
 from .sketch import COMPLETE, REST, UNKNOWN, Process, Sketch
 
@@ -74,6 +74,11 @@ def propose(sketch: Sketch, quiet: Collection[str] = ()) -> List[Proposal]:
               for what, names in wanted_of(some).items()]
     found += [Proposal(f"{word_of(it.name)}{HAS_ENDED}", f"if there is none: it {it.reason}", False, [it.name])
               for it in some if it.proposal == "ended"]
+    free: Dict[Tuple[str, ...], List[str]] = {}
+    for it in some:
+        if it.proposal == FREES:
+            free.setdefault(tuple(it.candidates), []).append(it.name)
+    found += [Proposal(freeing_nobody(names), "if that is so", False, them) for names, them in free.items()]
     lacking = [it for it in some if it.frames == [REST]]
     if lacking:
         found.append(Proposal(LEFT_OUT, "if none of those that the state may lack matters", False, names_of(lacking)))
@@ -82,6 +87,11 @@ def propose(sketch: Sketch, quiet: Collection[str] = ()) -> List[Proposal]:
         found.append(Proposal(STILL, "if nothing moves, so that one place in all states is one wait", False,
                               names_of(doubtful)))
     return found
+
+
+def freeing_nobody(names: Iterable[str], place: str = "*") -> str:
+    """Returns the line that some end nobody's wait."""
+    return f"{word_of(place)} of {' or '.join(map(word_of, names))} -> {FREES} nobody"
 
 
 def names_of(processes: Iterable[Process]) -> List[str]:
