@@ -8,12 +8,13 @@ from __future__ import annotations
 
 import functools
 from dataclasses import replace
-from typing import Dict, List, Sequence
+from typing import Dict, List, Optional, Sequence
 
 from .files import Refusal, shown
 from .guesses import renumbered, without_guess
 from .moments import STOOD, UNCOUNTED
-from .sketch import ALL, ANY, DONE, ENDED, INNER, RUNS, SYSTEM, UNKNOWN, Process, Sketch, premise, quote
+from .sketch import (ALL, ANY, DONE, ENDED, INNER, RUNS, SYSTEM, UNKNOWN, Process, Sketch, number_of_guess, premise,
+                     quote, reason_of)
 
 
 def join_sketches(sketches: Sequence[Sketch], paths: Sequence[str]) -> Sketch:
@@ -51,7 +52,9 @@ def check_times(sketches: Sequence[Sketch], paths: Sequence[str]) -> None:
 
 def join_two(first: Sketch, second: Sketch) -> Sketch:
     """Returns the sketch of two, in which the threads of both have the names of the first."""
-    second = renumbered(rename(second, new_names(first, second), new_premises(first, second)), first)
+    names = new_names(first, second)
+    free = {**freeing_nobody(second, names), **freeing_nobody(first)}
+    second = renumbered(rename(second, names, new_premises(first, second)), first)
     check_facts(first, second)
     others = {process.name: process for process in second.processes}
     mine = {process.name for process in first.processes}
@@ -65,6 +68,7 @@ def join_two(first: Sketch, second: Sketch) -> Sketch:
             process.because = []
             why = SYSTEM if process.thread in readers else premise(INNER)
             process.decide(ENDED, [why], reason=DONE)  # (it ends nobody's wait)
+    processes = [without_bystanders(it, free) for it in processes] if free else processes
     pairs = list(dict.fromkeys([*first.in_transit, *second.in_transit]))
     return Sketch(processes, pairs, f"{first.system} and {second.system}", first.as_of,
                   list(dict.fromkeys([*first.warnings, *second.warnings])), {**first.premises, **second.premises},
@@ -72,6 +76,23 @@ def join_two(first: Sketch, second: Sketch) -> Sketch:
                   min(first.readings, second.readings), {**first.groups, **second.groups}, first.machine,
                   [[min(a[0], b[0]), max(a[1], b[1])] for a, b in zip(first.times, second.times)], sorted(idle),
                   sorted(readers), sorted(inner))
+
+
+def freeing_nobody(sketch: Sketch, names: Optional[Dict[str, str]] = None) -> Dict[str, str]:
+    """Returns those who end nobody's wait by a fact, by what they are called in both, with the fact as a reason."""
+    return {(names or {}).get(name, name): reason_of(row) for row in sketch.facts if not number_of_guess(row)
+            for name in row.get("took", {}).get("nobody", [])}
+
+
+def without_bystanders(process: Process, free: Dict[str, str]) -> Process:
+    """Returns a process whose lists have none who ends nobody's wait by a fact on another system."""
+    lists = [process.besides, *([process.whom] if process.kind == ANY else [])]
+    gone = dict.fromkeys(free[name] for some in lists for name in some if name in free)
+    if not gone:
+        return process
+    whom = [name for name in process.whom if name not in free] if process.kind == ANY else process.whom
+    return replace(process, whom=whom, besides=[name for name in process.besides if name not in free],
+                   because=list(dict.fromkeys([*process.because, *gone])))
 
 
 def new_names(first: Sketch, second: Sketch) -> Dict[str, str]:
@@ -94,6 +115,7 @@ def rename(sketch: Sketch, names: Dict[str, str], premises: Dict[str, str]) -> S
     reasons = {premise(name): premise(new) for name, new in premises.items()}
     processes = [replace(it, name=names[it.name], whom=[names[name] for name in it.whom],
                          besides=[names[name] for name in it.besides if name in names],
+                         spared=[names[name] for name in it.spared],
                          candidates=[names.get(word, word) for word in it.candidates],
                          because=[reasons.get(reason, reason) for reason in it.because]) for it in sketch.processes]
     return replace(sketch, processes=processes, in_transit=[(names[a], names[b]) for a, b in sketch.in_transit],
