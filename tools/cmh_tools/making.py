@@ -4,7 +4,7 @@ from __future__ import annotations
 from dataclasses import replace
 from typing import Callable, Dict, List, Sequence, Tuple
 
-from . import guesses
+from . import guesses, guessing
 from .application import add_left_out, apply, drop_bystanders
 from .command import read_any
 from .facts import FREES, Facts
@@ -37,21 +37,22 @@ def sketch_for(system: str, paths: Sequence[str], facts: Facts, read: Callable[[
 
 def decide(sketch: Sketch, facts: Facts, what: str = "processes", with_guesses: bool = False) -> Sketch:
     """Applies facts to a sketch, and all that comes after them. `what` is what its idle processes are called."""
-    facts = guesses.supposed(sketch, facts) if with_guesses else facts
+    facts = guessing.supposed(sketch, facts) if with_guesses else facts
     apply(facts, sketch)
     add_left_out(sketch)
     shorten_candidates(sketch)
     if with_guesses:
-        guesses.take(sketch, facts)
+        guessing.take(sketch, facts)
         add_left_out(sketch)
     add_starters(sketch)
     drop_bystanders(facts, sketch)
     leave_out(sketch, what)
     sketch.check()
     doubt_roots(sketch)
-    bare = [it.copy() for it in guesses.without_guesses(sketch).processes]
+    has_any = with_guesses or bool(guesses.reasons_of(sketch))
+    bare = [it.copy() for it in guesses.without_guesses(sketch).processes] if has_any else []
     if with_guesses:
-        guesses.take_besides(sketch)
+        guessing.take_besides(sketch)
     doubt_stuck(sketch)
     reasons = guesses.reasons_of(sketch)
     if reasons:
