@@ -7,6 +7,7 @@ import re
 from typing import Any, Dict, List, Optional
 
 from ..files import Refusal, shown
+from .jvm_misfits import add_faults
 from .jvm_text import BETWEEN, FRAME, PARKED, START, Dump, PrintReader, Thread, add_line, frame_of
 
 FILE_THREAD = re.compile(
@@ -24,7 +25,10 @@ def read_dumps(path: str, text: str) -> List[Dump]:
     starts = [it.start() for it in re.finditer(f"\n{START}", f"\n{text}")]
     if starts:
         ends = [*starts[1:], len(text)]
-        return [PrintReader(name, text, start, end).read() for start, end in zip(starts, ends)]
+        dumps = [PrintReader(name, text, start, end).read() for start, end in zip(starts, ends)]
+        for dump in dumps:
+            add_faults(dump)
+        return dumps
     lines = text.split("\n")
     if any(FILE_THREAD.fullmatch(line) for line in lines[:50]):
         return [read_file_text(name, lines)]

@@ -79,7 +79,7 @@ MEETS = re.compile(r"CyclicBarrier\.await|Phaser\.arriveAndAwaitAdvance")
 # Calls that end once a task has run, and the frames of threads of pools, which run tasks.
 TASK = re.compile(r"(?:FutureTask|CompletableFuture|ForkJoinTask)\.(?:get|join)")
 POOLED = re.compile(r"java\.util\.concurrent\.(?:ThreadPoolExecutor\$Worker|ForkJoinWorkerThread)\.run")
-BARRIER = re.compile(r"java\.util\.concurrent\.CyclicBarrier\.await")
+BARRIER = re.compile(r"java\.util\.concurrent\.CyclicBarrier\.(?:await|dowait)")
 # Calls that interrupt other threads.
 INTERRUPTS = re.compile(r"java\.lang\.Thread\.interrupt0?|java\.util\.concurrent\.FutureTask\.cancel"
                         r"|java\.util\.concurrent\.\w+\.shutdownNow|java\.lang\.ThreadGroup\.interrupt")

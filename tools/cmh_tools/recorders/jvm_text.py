@@ -14,7 +14,8 @@ from typing import Any, Dict, Iterator, List, Optional, Tuple
 
 from ..files import Refusal, shown
 
-START, OWNERS = "Full thread dump ", "Locked ownable"
+START, OWNERS, LIST = "Full thread dump ", "Locked ownable", "_java_thread_list="
+LISTED = re.compile(rf"{LIST}\w+, length=(\d{{1,9}}), elements={{\s*")
 HEADER = re.compile(
     r'"(?P<name>.*)"(?: #(?P<number>\d+))?(?: \[\d+\])?(?: daemon)?(?: prio=\d+)?(?: os_prio=-?\d+)?'
     r"(?: cpu=(?P<cpu>\d+(?:\.\d+)?)ms)?(?: elapsed=(?P<elapsed>\d+(?:\.\d+)?)s)?(?: allocated=\S+)?"
@@ -31,9 +32,6 @@ CLASS_WAIT = re.compile(r"\s+- waiting on the Class initialization monitor for (
 OWNED = re.compile(r"\s+- <(0x[0-9a-f]+)> \(a (.*)\)\s*")
 OBJECT, SOME = re.compile(r"<(0x[0-9a-f]+)>"), "<object>"  # in marks and among what is owned
 LOCATION = re.compile(r"(?:.*/)?(?P<file>[^/:]*)(?::(?P<line>\d{1,9}))?")
-# The first frame of one that waits, by what its state says besides.
-TOPS = {"parking": re.compile(r".*\.Unsafe\.park"), "on object monitor": re.compile(r"java\.lang\.Object\.wait0?"),
-        "sleeping": re.compile(r"java\.lang\.Thread\.sleep\w*")}
 # In the deadlocks that jstack itself finds: two lines that say who owns what.
 WANTED = re.compile(r"\s+waiting (?:for ownable synchronizer (0x\w+)|to lock monitor \w+ \(object (0x\w+)), .*")
 HELD = re.compile(r'\s+(?:in JNI, )?which is held by "(.*)"\s*')
@@ -79,10 +77,10 @@ Stack = Tuple[Tuple[str, str, Optional[int]], ...]
 class Thread:
     """A thread of one state. `key` tells it from others of its JVM, `identity`, if it isn't empty, from those of other
     JVMs too, and `native` is its number in the kernel; `at` is where it was read. `parked_class` is the class of what
-    it is parked at, and `owned` has the class of each lock that it owns. By another state, if its frames are the same
-    there, `same_as` has the objects that it waited at in the first one, and `has_stood` says that it has used no
-    processor time. `is_closed` says that no more frames may follow in its text, and `stack` is what `stack_of` has
-    found."""
+    it is parked at, and `owned` has the class of each lock that it owns, if `lists_owned` says that these are printed.
+    By another state, if its frames are the same there, `same_as` has the objects that it waited at in the first one,
+    and `has_stood` says that it has used no processor time. `is_closed` says that no more frames may follow in its
+    text, and `stack` is what `stack_of` has found."""
 
     name: str
     key: str
@@ -99,6 +97,7 @@ class Thread:
     frames: List[Frame] = field(default_factory=list)
     stack: Stack = ()
     owned: Dict[str, str] = field(default_factory=dict)
+    lists_owned: bool = False
     waits_for_owner: Optional[str] = None
     parked_class: str = ""
     same_as: Optional[List[str]] = None
@@ -186,7 +185,9 @@ def add_line(thread: Thread, line: str) -> bool:
         thread.state, thread.detail = found[1], found[2] or ""
         return is_first
     elif text.startswith("- <") and (found := OWNED.fullmatch(line)):
-        thread.owned[found[1]] = found[2]
+        thread.owned[found[1]], thread.lists_owned = found[2], True
+    elif text.startswith("- None"):
+        thread.lists_owned = True
     else:
         return is_plain(line)
     return True
@@ -203,19 +204,6 @@ def add_mark(thread: Thread, marks: Dict[str, Any]) -> bool:
     if kind == PARKED:
         thread.parked_class = marks.get("class") or ""
     return True
-
-
-def misfit(thread: Thread) -> str:
-    """Returns what of the text of a thread doesn't fit the rest, so that lines may be missing, or nothing."""
-    top = thread.frames[0] if thread.frames else None
-    if thread.number and not thread.state and not thread.is_virtual:
-        return f"{thread.at}: no state follows this line"
-    wanted = TOPS.get(thread.detail) if thread.state in ("WAITING", "TIMED_WAITING") else None
-    if wanted and (top is None or not wanted.fullmatch(top.method)):
-        return f"{thread.at}: its state is '{thread.state} ({thread.detail})', and its first frame is another"
-    if top is not None and thread.state != "BLOCKED" and any(kind == "waiting to lock" for kind, _ in top.marks):
-        return f"{thread.at}: it waits to lock a monitor, and its state is {thread.state or 'missing'}"
-    return ""
 
 
 @functools.lru_cache(maxsize=4096)
@@ -236,6 +224,7 @@ def fill(thread: Thread, pattern: Thread, objects: List[str]) -> None:
     names = {f"{at:#x}": it for at, it in enumerate(objects)}
     thread.state, thread.detail, thread.is_closed = pattern.state, pattern.detail, pattern.is_closed
     thread.waits_for_owner, thread.parked_class = pattern.waits_for_owner, pattern.parked_class
+    thread.lists_owned = pattern.lists_owned
     thread.owned = {names[it]: name for it, name in pattern.owned.items()}
     thread.frames = [it.with_marks([(kind, names.get(object_, object_)) for kind, object_ in it.marks])
                      if it.marks else it for it in pattern.frames]
@@ -276,8 +265,8 @@ class PrintReader:
             self.dump.launcher = f"{self.dump.pid}/{self.dump.pid}" if self.began["program"] == "java" else ""
         if any("." in it.elapsed for it in self.dump.threads):  # (so that two states of a JVM differ)
             self.dump.taken = hashlib.sha256(self.text[:end].encode("utf-8", "surrogatepass")).hexdigest()
-        for thread in self.dump.threads:
-            thread.fault = thread.fault or misfit(thread)
+        if not self.dump.listed and any(it.elapsed for it in self.dump.threads):  # (as JDK 10 and later print it)
+            self.dump.lost = self.dump.lost or f"{self.path}:{self.first}: no whole line '{LIST}..' follows this line"
         self.dump.close()
         return self.dump
 
@@ -313,12 +302,13 @@ class PrintReader:
         """Reads a line under the first one of a thread, or before all of them."""
         at = f"{self.path}:{number}"
         if self.thread is None:
-            found = re.search(r"length=(\d{1,9})\b", line)
-            self.dump.listed = int(found[1]) if found and line.startswith("_java") else self.dump.listed
+            found = LISTED.fullmatch(line)
+            self.dump.listed = int(found[1]) if found else self.dump.listed
             if line.strip() and not BETWEEN.fullmatch(line):
                 self.dump.warn(at, line)
                 self.dump.lost = self.dump.lost or f"{at} belongs to no thread"
         elif found := MOUNTED.fullmatch(line):
+            self.thread.lists_owned = True  # (below the frames of the one that it carries)
             self.thread = Thread("", f"#{found[1]}", at, found[1], is_virtual=True)
             self.dump.threads.append(self.thread)
         elif not add_line(self.thread, line):
