@@ -48,8 +48,12 @@ ITEM = re.compile(r"\n{(\w+),(.*)}(?![^\n])")
 OBJECT = re.compile(r"#Ref<.*?>")
 ANY_PID = re.compile(r"<[\d.]+>")
 ANY_WORD = re.compile(r"\w+")
+# Of a stack, its places, and the numbers of the terms that each of them has; and the beginning of a pid or a reference.
+SLOT = re.compile(r"^(?:y\((\d{1,6})\) |Program counter: |0x)", re.M)
+CUT_OFF = re.compile(r"<[\d.]*$", re.M)
 REGISTER = re.compile(r"^y\(\d+\) +(.*)$", re.M)
 COUNTS = {"left out", "nodes", "receives", "timers"}
+SINCE = {"timers": "may_end", "nodes": "closures", "receives": "closures"}  # an item that came with a count
 CUT = "cut"  # in place of what is too long to be read
 REDUCTIONS = "\n{reductions,"
 KEPT, SHORT = 65536, 60  # functions whose names are kept; of a value that many processes may share
@@ -105,6 +109,8 @@ class Block:
         self.hibernates = not self.stack and "(unknown function)" in self.counter  # (which has no stack)
         if not self.fault and not self.stack and not self.hibernates:
             self.fault = "its stack isn't in the text"
+        if self.extra("status") is not None:  # (which texts written by hand may lack, with most of the stack)
+            self.fault = self.fault or lost_of_stack(frames_text)
 
     def item(self, key: str) -> str:
         found = self.items.get(key)
@@ -231,6 +237,16 @@ def words_of(text: str) -> List[str]:
     return ANY_WORD.findall(text)
 
 
+def lost_of_stack(text: str) -> str:
+    """Returns what shows that a stack isn't whole, or nothing: each place has its terms from y(0) up."""
+    following = 0
+    for it in SLOT.finditer(text):
+        if it[1] and int(it[1]) != following:
+            return f"its stack has y({it[1]}) where y({following}) is expected"
+        following = following + 1 if it[1] else 0
+    return "a term of its stack is cut off" if CUT_OFF.search(text) else ""
+
+
 @lru_cache(maxsize=KEPT)
 def function_of(module: str, name: str, arity: str) -> Function:
     """Returns a function as many processes share it."""
@@ -340,10 +356,14 @@ class NodeReading(Reading):
 
     def close(self) -> None:
         """Says what the text lacks."""
-        lost = COUNTS - self.numbers.keys() if any(block.extra("closures") for block in self.rows) else ()
-        if self.numbers.get("end") != len(self.rows) or lost:
+        lost = [it for it in COUNTS - self.numbers.keys()
+                if it not in SINCE or any(block.extra(SINCE[it]) for block in self.rows)]
+        is_counted = self.numbers.get("end") == len(self.rows)
+        if lost or not is_counted:
             self.extent = PARTS
-            self.missing = "the state of the node isn't whole: its last line '=end ..' is missing, or counts others"
+            self.missing = "the state of the node isn't whole: " + (
+                f"it has no line '={min(lost)} ..'" if is_counted else
+                "its last line '=end ..' is missing, or counts others")
             return
         left, timers = self.numbers.get("left out", 0), self.numbers.get("timers", 0)
         cut = [block.own_name() for block in self.rows if block.is_cut]
