@@ -29,7 +29,7 @@ STEP = re.compile(r"^#\d+ ", re.M)
 # What eu-stack prints: a frame with its module, or a thread. It shows no arguments.
 BARE = re.compile(r"^(#\d+ +0x[0-9a-f]+)(?: (?!- )(\S.*?))? - (\S*)$", re.M)
 BARE_THREAD = re.compile(r"^TID (\d+):$", re.M)
-THREAD = re.compile(r"^Thread (\d+) \(.*$", re.M)
+THREAD = re.compile(r"^Thread (\d{1,9}) \(.*$", re.M)
 CALL = re.compile(r"[Pp]?(?:MPI_(?P<name>[A-Z]\w*)|mpi_(?P<fortran>[a-z]\w*?)_+)$")
 OF_LIBRARY = re.compile(r"(ompi|opal|orte|prte|mca|pmix|PMIx|MPI[DRIU]\w*|MPL|ucp|ucs|uct|psm2?|psmx\w*|fi|ofi|rxm)_")
 FINALIZE = re.compile(r"(ompi_mpi_finalize|MPI[DRI]+_Finalize)$")
@@ -41,6 +41,7 @@ PARTNERS = {
 WORLD = re.compile(r"\bcomm=(?:0x[0-9a-f]+ )?(?:<ompi_mpi_comm_world>|1140850688\b|0x44000000\b)")
 # How a thread begins, and the functions of Open MPI, PMIx and UCX that threads of their own run.
 BEGINS = re.compile(r"(start_thread|_*clone3?)$")
+OUTERMOST = re.compile(r"(start_thread|_*clone3?|main|_start|__libc_start\w*|\?\?.*)$")
 PROGRESS = re.compile(r"(progress_engine|listen_thread|ucs_async_thread_func)$")
 # Calls that need all ranks of their communicator to come.
 COLLECTIVES = re.compile(r"_(Barrier|All\w+|Reduce_scatter\w*|Comm_(split|dup|create|free)\w*|Win_(fence|create|free)"
@@ -125,6 +126,8 @@ class Ranks(Moment):
 
 def other_thread(rank: Rank, moment: Ranks) -> str:
     """Returns what shows that another thread of a rank may send for it, or nothing."""
+    if not all(stack and OUTERMOST.match(stack[-1]["function"]) for stack in rank.threads):
+        return "the stack of another thread of it isn't whole, so that one may send for it"
     busy = [it for stack in rank.threads if not is_of_library(stack) for it in stack
             if CALL.match(it["function"]) or is_own(it) and (it["file"] or rank.is_bare)]
     return f"another thread of it is in {busy[0]['function']}, and may send for it" if busy else ""
@@ -265,6 +268,7 @@ def reading_of(path: str, heading: Match[str], text: str) -> Reading:
         return Reading(path, heading[0], [], f"a stack has no rank in its heading: {shown(heading[0])[:80]}", PARTS)
     is_bare = heading[0].startswith("# eu-stack")
     stacks, fault = stacks_of(like_gdb(text, head["pid"]) if is_bare else text)
+    fault = fault or lost_of(text)
     size = SIZE.search(heading[0])
     number, host = int(head["rank"]), head["host"] or ""
     return Reading(path, number, [Rank(head["pid"], number, host, stacks[0] if stacks else [], stacks[1:],
@@ -281,6 +285,16 @@ def like_gdb(text: str, pid: str) -> str:
     threads = itertools.count(2)
     text = BARE_THREAD.sub(lambda it: f"Thread {1 if it[1] == pid else next(threads)} (LWP {it[1]}):", text)
     return BARE.sub(frame_line, text)
+
+
+def lost_of(text: str) -> str:
+    """Returns what shows that lines of a rank are missing, or nothing."""
+    numbers = sorted(int(it[1]) for it in THREAD.finditer(text))
+    if numbers and STEP.search(THREAD.split(text)[0]):
+        return "frames stand above the first line 'Thread ..': the first line of a thread is missing"
+    if numbers != [*range(1, len(numbers) + 1)]:
+        return "it has more threads than are shown"
+    return ""
 
 
 def stacks_of(text: str) -> Tuple[List[List[Match[str]]], str]:
