@@ -222,6 +222,9 @@ class PythonRecorder(Recorder):
             process = process_of(subject, [], unsure("its row in the state isn't understood"))
         if None in process.whom:
             process.become_unknown("what it waits for isn't in the state")
+        if subject.what != "asked" and subject.row.fault:
+            process.become_unknown(subject.row.fault)
+            process.is_spoilt, process.proposal = True, "none"
         if process.kind != RUNS:
             process.because.append(premise(ALARM))
         look = subject.job.look

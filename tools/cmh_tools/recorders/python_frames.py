@@ -27,6 +27,7 @@ GDB_THREAD = re.compile(r'^Thread \d+ \(Thread 0x[0-9a-f]+ \(LWP (\d+)\)(?: ".*"
 GDB_FRAME = re.compile(r'^  File "(.*)", line (\d+), in (.*)$')
 GDB_LOST = re.compile(r"^  \(unable to read python frame information\)|^  File .* in .*frame information optimized out")
 GDB_CALL = re.compile(r"^  <built-in method (\w+) of (?:module|(.*?)) object at remote (0x[0-9a-f]+)>$")
+LIBRARY = re.compile(r"threading\.(?:Thread\.)?(_bootstrap|_bootstrap_inner|run)$")  # frames that begin a thread
 # What py-spy shortens: files of the library, by their path below it.
 SHORT = re.compile(r"(threading|queue|selectors|socket|socketserver|ssl|subprocess|runpy|sched|contextlib|functools"
                    r"|(asyncio|concurrent|multiprocessing|logging|importlib|http|urllib|xmlrpc)/.*)\.py$")
@@ -106,7 +107,28 @@ def add_threads(look: Look, rows: Any, counts: Dict[str, Dict[str, Any]]) -> Non
         more.update({"new_stops": None} if count else {})
         if frames and call is not None:
             frames[0].call = call
-        look.threads[tid] = Row(tid, name or f"thread-{tid}", frames, more)
+        row = look.threads[tid] = Row(tid, name or f"thread-{tid}", frames, more, fault_of(frames))
+        if row.fault:
+            look.is_whole = False
+            look.warnings.append(f"{shown(look.where)}: thread {shown(row.name)} of process {look.pid}: {row.fault}")
+
+
+def fault_of(frames: List[Frame]) -> str:
+    """Returns what shows that the first line of a thread is missing, so that its frames stand below another's."""
+    if any(map(is_outermost, frames, frames[1:])):
+        return "frames of another thread stand below its own, so the first line of that one is missing"
+    return ""
+
+
+def is_outermost(it: Frame, outer: Frame) -> bool:
+    """Whether the frame that stands below one can't have called it."""
+    found = LIBRARY.match(it.at)
+    if not outer.file.endswith(".py"):  # (which couldn't be read, or isn't Python's, as py-spy --native shows it)
+        return False
+    if found and found[1] != "run":
+        return found[1] == "_bootstrap" or f"{outer.at}_inner" != it.at
+    is_main = it.at.endswith(".<module>") and it.file.endswith(".py")
+    return outer.kind == "own" and (is_main or found is not None and not outer.at.endswith(".run"))
 
 
 def frame_of(name: str, file: str, line: str) -> Frame:

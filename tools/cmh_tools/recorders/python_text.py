@@ -44,12 +44,14 @@ class Frame:
 
 @dataclass
 class Row:
-    """A thread or a task. `key` tells it from the others of its process, `more` is the row of the state."""
+    """A thread or a task. `key` tells it from the others of its process, `more` is the row of the state, and `fault`
+    says what of its text shows that it isn't one thread's."""
 
     key: Any
     name: str
     frames: List[Frame]
     more: Dict[str, Any]
+    fault: str = ""
 
 
 @dataclass
