@@ -357,6 +357,9 @@ def reading_of(path: str, lists: List[Tuple[str, str]]) -> Reading:
     """Returns the reading of the lists of one time."""
     where = shown(path)
     raw: Dict[str, Any] = {name: read_json(text, path) for name, text in lists}
+    other = next((name for name in raw if name not in SHAPES), None)
+    if other is not None:
+        raise Refusal(f"{where}: a line begins with '# rabbitmqctl {other}', which isn't known, or is cut off")
     for part in NEEDED:
         if part not in raw:
             raise Refusal(f"{where}: no line begins with '# rabbitmqctl {part}'")
@@ -365,6 +368,11 @@ def reading_of(path: str, lists: List[Tuple[str, str]]) -> Reading:
         if odd is not None:
             raise Refusal(f"{where}, {part}: {quote(odd[1:] or 'the list')} isn't as rabbitmqctl prints it; rows count "
                           "from 0. Take the state again, or leave that row out by hand")
+    policies = ["", *(row["name"] for row in raw["list_policies"])]
+    for row in raw["list_queues"]:
+        if isinstance(row.get("policy"), str) and row["policy"] not in policies:
+            raise Refusal(f"{where}, list_policies: it lacks {quote(row['policy'])}, which queue {shown(row['name'])} "
+                          "has. Take the state again")
     broker = Broker(raw)
     rows = sorted(broker.services.values(), key=lambda service: service.name)
     return Reading(path, "broker", rows, broker.missing)
