@@ -180,7 +180,8 @@ def answers(pid: str) -> bool:
 
 def has_record(target: str) -> bool:
     """Whether a rank, named by its number or its executable file, has a record of cmh_mpi.so."""
-    return any(glob.glob(f"/proc/{pid}/root/dev/shm/cmh_mpi.*.{start_of(pid)}") for pid in pids_of(target))
+    return any(os.path.exists(f"/proc/{pid}/root/dev/shm/cmh_mpi.{own_number(pid)}.{start_of(pid)}")
+               for pid in pids_of(target))
 
 
 def pids_of(target: str) -> List[str]:
@@ -189,6 +190,13 @@ def pids_of(target: str) -> List[str]:
         return [target]
     return [pid for pid in filter(str.isdigit, os.listdir("/proc"))
             if os.path.basename(link_of(f"/proc/{pid}/exe")) == target]
+
+
+def own_number(pid: str) -> str:
+    """The number of a process as it sees it itself, which is another one in a container."""
+    with contextlib.suppress(OSError), open(f"/proc/{pid}/status", encoding="utf-8", errors="replace") as file:
+        return next((line.split()[-1] for line in file if line.startswith("NSpid:")), pid)
+    return pid
 
 
 def start_of(pid: str) -> str:
