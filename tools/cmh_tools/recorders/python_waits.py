@@ -6,7 +6,7 @@ from dataclasses import dataclass, field
 from typing import Any, Dict, List, Optional
 
 from ..sketch import ALL, ANY, LIMIT, RUNS, SYSTEM, UNKNOWN, premise
-from .python_names import Standing, pools_of
+from .python_names import Standing, own_frames, pools_of
 from .python_text import Frame, is_number, last_word
 
 BUSY = 0.2  # the part of the time between two looks that one who computes has used at least
@@ -56,8 +56,14 @@ def thread_wait(standing: Standing) -> Wait:
         if found is not None:
             return found
     operation = standing.operation[0]
-    return unsure(f"no state shows what ends its {operation}" if operation else
-                  "its call isn't known: it may wait or compute")
+    return unsure(not_shown(standing, operation) if operation else "its call isn't known: it may wait or compute")
+
+
+def not_shown(standing: Standing, operation: str) -> str:
+    """Returns why a wait is unknown. Of a `with` at something that isn't known, the words are no operation."""
+    is_known = standing.call.get("how") != "with" or isinstance(standing.call.get("on"), dict) or standing.standard
+    own = own_frames(standing.frames)
+    return f"no state shows what ends its {operation if is_known or not own else f'wait in {own[0]}'}"
 
 
 def by_sleep(standing: Standing) -> Optional[Wait]:
