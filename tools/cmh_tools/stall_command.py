@@ -24,7 +24,7 @@ from .start import SIGNALS
 from .terminal import style_of_output
 
 RECORD = "stall.json"  # what a folder has, by which it is explained again
-UNDECIDED = 5
+STUCK, UNDECIDED = 3, 5
 ALONE = ("erlang", "go", "rabbitmq")  # whose states don't say of which threads of a machine they are
 MOST_NAMES = 200  # names that stand in a file of facts, for people to choose from
 USAGE = """cmh-stall SYSTEM TARGET.. [--seconds S] [--with SYSTEM TARGET..] [--guesses] [-o FOLDER]
@@ -129,7 +129,10 @@ def stall(parts: List[Capture], asked: argparse.Namespace) -> int:
                                           for it in parts]}
         write_texts([*((f"{folder}/{name}", text) for name, text in texts.items()),
                      (f"{folder}/{RECORD}", json.dumps(record, indent=1) + "\n")])
-    return explain(folder, asked.guesses)
+    status = explain(folder, asked.guesses)
+    if status == STUCK:
+        say(f"This answer is kept in {shown(folder)}, with all that was seen")
+    return status
 
 
 def make_folder(path: str) -> None:
@@ -195,7 +198,8 @@ def next_step(folder: str, paths: List[str], explanation: Explanation) -> str:
     if explanation.guesses:
         return f"What rests on guesses: see which lines of {where} hold, and then: cmh-stall {folder}"
     if not paths or not explanation.proposals():
-        return "What is undecided: the state asks for no fact that would decide it. Look at the unknown ones themselves"
+        return ("What is undecided: the state asks for no fact that would decide it. Look at the unknown ones "
+                f"themselves, in {folder}/answer")
     return (f"What is undecided: complete the facts in {where}, and then: cmh-stall {folder}; or, by guesses: "
             f"cmh-stall {folder} --guesses")
 
