@@ -205,6 +205,9 @@ def why_unused(fact: Fact, sketch: Sketch) -> str:
     at_frame = [it for it in open_ones if Place(there.frames).values(it, anywhere) is not None]
     named = [it for it in at_frame if Place(there.frames, there.names).values(it, anywhere) is not None]
     pattern, texts = there.frames[0].split(":")[0], {each.split(" (")[0] for it in open_ones for each in it.frames}
+    is_name = any(Place(["*"], there.frames[:1]).values(it) is not None for it in sketch.processes)
+    if is_name and not any(Place(there.frames).values(it, True) is not None for it in sketch.processes):
+        return f"nothing: {fact.text}; a name stands behind 'of', as in * of {word_of(there.frames[0])}"
     if at_frame and not named:
         pattern, texts = there.names[0], set(families(it.name for it in at_frame))
     elif named:

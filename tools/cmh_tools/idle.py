@@ -21,7 +21,8 @@ def leave_out(sketch: Sketch, what: str) -> None:
         if is_stand_in(process) and process.name not in wanted:
             continue
         if process.is_idle and process.name not in wanted and not has_fact(process):
-            out[WORK if process.is_spoilt else process.reason or WORK] += 1
+            is_doubt = process.doubt and process.reason.startswith(process.doubt)
+            out[WORK if process.is_spoilt or is_doubt or not process.reason else process.reason] += 1
             sketch.idle += [process.thread] if process.thread else []
         else:
             kept.append(process)

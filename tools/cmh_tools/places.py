@@ -106,7 +106,15 @@ def values_of_frames(patterns: List[str], frames: List[str], start: int) -> Opti
 def operations(process: Process) -> List[str]:
     """Returns what OPERATION is matched with: 'FutureTask.get', 'get', and both with each object."""
     names = dict.fromkeys([process.operation, QUALIFIER.sub("", process.operation)])
-    return [*names, *(f"{name} {it}" for name in names for it in process.objects)]
+    return [*names, *(f"{name} {it}" for name in names for it in process.objects), *noted(process)]
+
+
+def noted(process: Process) -> List[str]:
+    """Returns the operation with its request, as 'GenServer.call flush', if the note has both in front of the frame."""
+    limit = "timed " if process.operation.startswith("timed ") else ""
+    call, _, where = process.note.rpartition(" in ")
+    is_known = bool(process.operation) and process.frames[:1] == [where]
+    return [f"{limit}{call}"] if is_known and call.startswith(f"{process.operation[len(limit):]} ") else []
 
 
 # Keys of a broker
