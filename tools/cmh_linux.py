@@ -340,6 +340,8 @@ class Machine:
         numbers = field(status, "NSpid").split()
         if numbers[1:]:
             row["inner"] = int(numbers[-1])  # its number in its own container
+        if folder.split("/")[2] != str(tid):
+            row["comm"] = field(f"\n{status}", "Name")
         if row["state"] in "ZXR":
             return row
         words = slurp(f"{folder}/syscall").split()

@@ -149,7 +149,7 @@ class LinuxRecorder(Recorder):
             return unknown(name, why, frames=[thread.owner.command], operation="polls", **more)
         if is_awake:
             return runs(name, "it computes", [SYSTEM], **more)
-        more["frames"] = own_frames(thread) or [thread.owner.command]
+        more["frames"] = [*(own_frames(thread) or [thread.owner.command]), *filter(None, [thread.title])]
         more["objects"] = [" ".join([thread.call, *thread.row.get("args", [])])]
         if thread.counts:
             more["count"] = f"{thread.owner.row.get('start')} {thread.counts[0]}"
@@ -235,7 +235,8 @@ def whole_note(thread: Thread, ends: Ends) -> str:
     places = own_frames(thread)[:1]
     command = one_line(str(thread.owner.row.get("command", "")), WIDTH)
     is_told = thread.tid == thread.owner.pid and " " in command
-    return " in ".join([note_of(thread, ends), *places]) + (f" [{command}]" if is_told else "")
+    told = f" [{command}]" if is_told else f" [thread {shown(thread.title)}]" if thread.title else ""
+    return " in ".join([note_of(thread, ends), *places]) + told
 
 
 def unread_name(some: List[Owner]) -> str:

@@ -20,8 +20,9 @@ CARRIES, RING = "scm_fds:", "UserFiles:"  # a socket with descriptors on their w
 OPEN = "open "  # how the name of an open file begins, which several descriptors may share
 ENDED = "ZX"  # the states of those that have ended
 HEX = re.compile(r"(0x)?[0-9a-f]{1,16}")
-THREAD = {"tid": int, "state": str, "inner?": int, "call?": str, "args?": [HEX] * 6, "counts?": [int, int],
-          "set?": [[int]], "words?": re.compile("([0-9a-f]{2})*"), "range?": [int] * 4, "path?": str, "wchan?": str}
+THREAD = {"tid": int, "state": str, "inner?": int, "comm?": str, "call?": str, "args?": [HEX] * 6,
+          "counts?": [int, int], "set?": [[int]], "words?": re.compile("([0-9a-f]{2})*"), "range?": [int] * 4,
+          "path?": str, "wchan?": str}
 OWNER = {"pid": int, "ppid?": int, "comm": str, "group?": int, "TracerPid?": re.compile(r"\d{1,9}"), "SigCgt?": HEX,
          "fds?": {str: [str]}, "threads?": [THREAD]}
 SOCKET = {"socket": int, "kind": str, "state": str, "at": str, "to": str, "peers": [int]}
@@ -87,6 +88,12 @@ class Thread:
         self.counts: List[int] = self.row.get("counts", [])
         self.events: List[List[int]] = self.row.get("set", [])
         self.words = bytes.fromhex(self.row.get("words", ""))
+
+    @property
+    def title(self) -> str:
+        """The name that the program has given the thread, if it has given it one of its own."""
+        own = str(self.row.get("comm", ""))
+        return own if own != self.owner.command else ""
 
     @property
     def name(self) -> str:
