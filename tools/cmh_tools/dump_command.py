@@ -174,7 +174,7 @@ def check_live(it: Parser, asked: Any) -> None:
 
 def make(asked: Any) -> int:
     """Makes a dump and its notes."""
-    facts = read_facts(read_text(asked.facts), asked.facts) if asked.facts else Facts()
+    facts = read_facts(read_text(asked.facts, True), asked.facts) if asked.facts else Facts()
     paths, read, kept = asked.states, read_text, []
     if getattr(asked, "pid", None):
         text = collected(asked)

@@ -83,13 +83,13 @@ def read_input() -> bytes:
     return sys.stdin.buffer.read()
 
 
-def read_text(path: str) -> str:
+def read_text(path: str, may_be_empty: bool = False) -> str:
     """Returns the text of a file. Raises Failure if it can't be read, and Refusal if it is empty, or no UTF-8."""
-    return text_of_bytes(read_bytes(path), path)
+    return text_of_bytes(read_bytes(path), path, may_be_empty)
 
 
-def text_of_bytes(data: bytes, path: str) -> str:
-    if not data or data.isspace():
+def text_of_bytes(data: bytes, path: str, may_be_empty: bool = False) -> str:
+    if not may_be_empty and (not data or data.isspace()):
         raise Refusal(f"{shown(path)}: it is empty")
     try:
         return data.decode("utf-8-sig")
