@@ -19,6 +19,8 @@ START = -1  # no process
 RUNNING, MESSAGE, COME = "runs", "message_in_transit", "all_have_come"  # why one goes on by itself
 # Systems of which nothing less can be restarted.
 WHOLE = {"mpi": "the MPI job"}
+# Systems whose processes can be restarted by themselves: a site is a machine, which others may share.
+ALONE = {BARE, "rabbitmq"}
 
 
 class Waiters(NamedTuple):
@@ -162,11 +164,11 @@ class Findings(Verdicts):
 
     def units(self, members: List[int], called: Callable[[str], str] = shown) -> Tuple[List[str], bool]:
         """Returns what can be restarted of some, and whether that isn't known of others: their sites, each as it is
-        `called`; the whole; or those themselves of a dump that was written by hand, where a site is a machine."""
+        `called`; the whole; or those themselves."""
         system = self.dump.sketch.system
         if system in WHOLE:
             return [WHOLE[system]], False
-        if system == BARE:
+        if system in ALONE:
             return [shown(self.waits.processes[at].name) for at in members], False
         sites, is_some_unsaid = self.sites(members)
         return list(map(called, sites)), is_some_unsaid
