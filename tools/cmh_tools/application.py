@@ -189,7 +189,7 @@ class Application:
             return
         because, was_timed = [self.facts.reason(fact)], process.kind == RUNS
         if fact.kind == "runs":
-            process.decide(RUNS, because, reason="a fact says so")
+            process.decide(RUNS, because, reason=f"{'a guess' if fact.is_guess else 'a fact'} says so")
         elif fact.kind == "ended":
             process.decide(ENDED, because, reason=NEEDED if fact.words else DONE)
         else:
@@ -330,12 +330,15 @@ class Application:
 
 
 def drop_bystanders(facts: Facts, sketch: Sketch) -> None:
-    """Takes those out of the lists of others, where one of several is enough, that end nobody's wait by the facts."""
+    """Takes those out of the lists of others, where one of several is enough, that end nobody's wait by the facts. A
+    list of such ones alone stays: who waits for them waits for their own end, as a join does."""
     kept: Dict[int, List[str]] = {}  # by the id of a list, what is left of it
     for process in sketch.processes if facts.bystanders else ():
         for some in (process.whom, process.besides):
             kept.setdefault(id(some), [name for name in some if name not in facts.bystanders])
-        lists = [process.besides, *([process.whom] if process.kind == ANY else [])]
+        kept[id(process.whom)] = kept[id(process.whom)] or process.whom
+        lists = [process.besides, *([process.whom] if process.kind == ANY and kept[id(process.whom)] is not process.whom
+                                    else [])]
         gone = {facts.bystanders[name].at: facts.bystanders[name] for some in lists for name in some
                 if name in facts.bystanders}
         process.besides = kept[id(process.besides)]
