@@ -10,7 +10,7 @@ from typing import Dict, Iterable, Iterator, List, Set, Tuple
 from .application import apply_guesses, is_end
 from .facts import FREES, HOLDS, OTHERS, STILL, Fact, Facts, word_of
 from .guesses import Line, count_anew, facts_of, guessed, last_number
-from .idle import is_stand_in, there_of
+from .idle import is_receiver, is_stand_in, there_of
 from .places import Place, is_like
 from .proposals import HAS_ENDED, MOST, freeing_nobody, names_of, place_name, propose
 from .sketch import ANY, COMPLETE, ENDED, REST, RUNS, UNKNOWN, Process, Sketch, guess
@@ -18,10 +18,7 @@ from .stuck import Waits
 
 WAITS = ("any", "all", "holds")  # proposals for one that waits, for whomever
 OPEN = f" {COMPLETE}"  # the end of a line that isn't whole
-# Operations of one that waits for its next message, and functions without a name in which one is started.
-RECEIVES = re.compile(r"chan receive|select|receive|consume|(\w+\.)*(\w*(Queue|Deque)\.(get|take\w*|poll)|accept|recv)")
 ACCEPTS = re.compile(r"(.*[.:])?(accept\d?|serve_forever)(/\d+)?")
-NAMELESS = re.compile(r"lambda|\.func\d|Thread\.run|\$\d")
 
 
 def supposed(sketch: Sketch, facts: Facts) -> Facts:
@@ -87,12 +84,8 @@ def receivers(sketch: Sketch, passed_over: Set[str]) -> List[str]:
     is known to wait for."""
     wanted = {name for it in sketch.processes for name in (*it.whom, *it.candidates)}
     found = [it.name for it in sketch.processes if it.kind == UNKNOWN and it.name not in passed_over
-             and it.name not in wanted and RECEIVES.fullmatch(it.operation) and is_at_start(it)]
+             and it.name not in wanted and is_receiver(it)]
     return found if len(found) <= MOST else []
-
-
-def is_at_start(process: Process) -> bool:
-    return all(map(NAMELESS.search, process.frames[1:]))
 
 
 def stuck_names(sketch: Sketch) -> Set[str]:

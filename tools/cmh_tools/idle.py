@@ -2,6 +2,7 @@
 answer. That changes no verdict: nobody waits for one that is left out. One that may be waited for stays, unknown."""
 from __future__ import annotations
 
+import re
 from collections import Counter
 from typing import Collection, Dict, List, Set
 
@@ -9,6 +10,11 @@ from .facts import word_of
 from .proposals import HAS_ENDED, Proposal, propose
 from .sketch import ENDED, REST, RUNS, UNKNOWN, WORK, Process, Sketch, distinct_lists
 from .stuck import Answer, Waits
+
+# Operations of one that waits for its next message, and functions without a name in which one is started.
+RECEIVES = re.compile(r"chan receive|select|receive|consume|(\w+\.)*(\w*(Queue|Deque)\.(get|take\w*|poll)|accept|recv)"
+                      r"|(\w+\.)+(recv\w*|read(into|line|until|exactly)?)")
+NAMELESS = re.compile(r"lambda|\.func\d|Thread\.run|\$\d")
 
 
 def leave_out(sketch: Sketch, what: str) -> None:
@@ -63,6 +69,11 @@ def proposals_of(sketch: Sketch, quiet: Collection[str] = ()) -> List[Proposal]:
             shared.setdefault(f"{word_of(it.frames[0])}{HAS_ENDED}", []).append(it.name)
     return found + [Proposal(line, f"if {'they have' if names[1:] else 'it has'} nothing of what the others wait at",
                              False, names) for line, names in shared.items()]
+
+
+def is_receiver(process: Process) -> bool:
+    """Whether one waits for its next message, at the function that it was started with."""
+    return RECEIVES.fullmatch(process.operation) is not None and all(map(NAMELESS.search, process.frames[1:]))
 
 
 def has_fact(process: Process) -> bool:
