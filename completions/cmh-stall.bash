@@ -2,7 +2,8 @@
 
 _cmh_stall() {
     local word=${COMP_WORDS[COMP_CWORD]} before=${COMP_WORDS[COMP_CWORD - 1]}
-    local options='--seconds --with --guesses --kill --heap --yes --cookie-file --output --redact --help --version'
+    local options='--seconds --with --guesses --stacks --kill --heap --yes --cookie-file'
+    options+=' --output --redact --help --version'
     local systems='linux jvm go python erlang mpi rabbitmq'
     COMPREPLY=()
     [[ $before != --seconds ]] || return

@@ -4,6 +4,7 @@ complete -c cmh-stall -n __fish_use_subcommand -a 'linux jvm go python erlang mp
 complete -c cmh-stall -l seconds -x -d 'The time between the two readings'
 complete -c cmh-stall -l with -x -a 'linux jvm go python erlang mpi rabbitmq' -d 'Take another system at the same time'
 complete -c cmh-stall -l guesses -d 'Guess the facts that are asked for'
+complete -c cmh-stall -l stacks -d 'Of linux: add the stacks of those at a futex'
 complete -c cmh-stall -l kill -d 'End a Go program by SIGQUIT, which prints its goroutines'
 complete -c cmh-stall -l heap -d 'Dump the heap of a JVM too'
 complete -c cmh-stall -l yes -d 'Agree to what --heap stops'

@@ -25,6 +25,7 @@ import platform
 import queue
 import re
 import shutil
+import signal
 import socket
 import stat
 import struct
@@ -710,33 +711,76 @@ def inode_of(target: str) -> int:
     return int(target[8:-1]) if target.startswith("socket:[") else 0
 
 
-# Both readings
+# Stacks
+
+
+def debugger() -> List[str]:
+    """Returns the command that prints the stacks of a process, or nothing if there is none."""
+    return next((words for words in STACKS if shutil.which(words[0])), [])
 
 
 def stacks_of(pids: Iterable[int], reading: Reading) -> Iterator[Row]:
     """Yields the stacks of the processes that stand at a futex, each with the calls before and after. That holds a
     process for a moment."""
-    found = [words for words in STACKS if shutil.which(words[0])]
+    words = debugger()
     for pid in pids:
         threads = reading.rows.get(pid, {}).get("threads", ())
-        if not found or not any(it.get("call") == "futex" for it in threads):
+        if not any(it.get("call") == "futex" for it in threads):
             continue
-        calls = []
-        text = ""
-        for at in range(2):
-            calls.append({it["tid"]: try_slurp(f"/proc/{pid}/task/{it['tid']}/syscall").split()[:7] for it in threads})
-            if at == 0:
-                with contextlib.suppress(OSError, subprocess.TimeoutExpired):
-                    text = subprocess.run([it.format(pid) for it in found[0]], stdin=subprocess.DEVNULL, timeout=30,
-                                          capture_output=True, check=False).stdout.decode(errors="backslashreplace")
-        still = {tid: call for tid, call in calls[0].items() if call and call == calls[1][tid]}
-        yield {"stacks": pid, "by": found[0][0], "still": still, "text": text}
+        before = calls_now(pid, threads)
+        text = text_of_stacks(pid, words)
+        after = calls_now(pid, threads)
+        still = {tid: call for tid, call in before.items() if call and call == after[tid]}
+        yield {"stacks": pid, "by": words[0], "still": still, "text": text}
+
+
+def calls_now(pid: int, threads: Iterable[Row]) -> Dict[int, List[str]]:
+    """Returns the calls of some threads with their arguments, as they are now."""
+    return {it["tid"]: try_slurp(f"/proc/{pid}/task/{it['tid']}/syscall").split()[:7] for it in threads}
+
+
+def text_of_stacks(pid: int, words: List[str]) -> str:
+    """Returns what a debugger prints of a process. Whatever becomes of the debugger, the process goes on."""
+    has_ended, was_still = False, is_stopped(pid) or field(try_slurp(f"/proc/{pid}/status"), "TracerPid") != "0"
+    try:
+        ran = subprocess.run([it.format(pid) for it in words], stdin=subprocess.DEVNULL, timeout=30,
+                             capture_output=True, check=False)
+        has_ended = True
+        return ran.stdout.decode(errors="backslashreplace")
+    except (OSError, subprocess.TimeoutExpired):
+        return ""
+    finally:
+        if not has_ended and not was_still:
+            let_go(pid)
+
+
+def is_stopped(pid: int) -> bool:
+    """Whether a process stands still by a signal, or is about to."""
+    status = try_slurp(f"/proc/{pid}/status")
+    pending = int(field(status, "SigPnd") or "0", 16) | int(field(status, "ShdPnd") or "0", 16)
+    return field(status, "State").startswith("T") or bool(pending >> signal.SIGSTOP - 1 & 1)
+
+
+def let_go(pid: int) -> None:
+    """Has a process go on whose debugger has been ended. It stops a process by SIGSTOP, and where it ends before it has
+    seen that done, the process stays stopped."""
+    last = time.monotonic() + 1
+    while time.monotonic() < last:
+        if is_stopped(pid):
+            with contextlib.suppress(OSError):
+                os.kill(pid, signal.SIGCONT)
+        time.sleep(0.02)
+
+
+# Both readings
 
 
 def collect(pids: Sequence[int], seconds: float = 5.0, stacks: bool = False) -> str:
     """Returns the state of some processes as a text. Raises LookupError if one isn't there, OSError if /proc isn't."""
     if platform.machine() not in ("x86_64", "aarch64"):
         raise OSError(f"the numbers of calls aren't known on {platform.machine()}")
+    if stacks and not debugger():
+        raise LookupError("for --stacks eu-stack is needed, or gdb, and neither is there")
     readings = [Reading()]
     for pid in pids:
         if pid not in readings[0].rows:
@@ -751,7 +795,8 @@ def collect(pids: Sequence[int], seconds: float = 5.0, stacks: bool = False) -> 
             kept.add(pid)
             left += [it for reading in readings for it in reading.around(pid)]
     rows: List[Row] = [{"version": 1, "machine": platform.machine(), "release": platform.release(),
-                        "asked": list(pids), "seconds": seconds, "outside": outside(), "space": space()}]
+                        "asked": list(pids), "seconds": seconds, "outside": outside(), "space": space(),
+                        "with_stacks": stacks}]
     for number, reading in enumerate(readings, 1):
         rows += reading.text(number, kept)
     rows += stacks_of(sorted(kept), readings[1]) if stacks else []
@@ -794,6 +839,7 @@ def main() -> int:
     it = argparse.ArgumentParser(description="Prints what the kernel keeps of the waits of some processes.")
     add_options(it, True)
     asked = it.parse_args()
+    signal.signal(signal.SIGTERM, lambda *_: sys.exit(128 + signal.SIGTERM))  # (so that whom it holds goes on)
     try:
         sys.stdout.write(collect(asked.pid, asked.seconds, asked.stacks))
         sys.stdout.flush()

@@ -44,6 +44,10 @@ SYSTEMS = {
     "rabbitmq": System("nothing is stopped: rabbitmqctl asks the broker", {"rabbitmqctl": "rabbitmq-server"}, True),
 }
 
+STACKS = {
+    "eu-stack": "nothing is stopped but each process at a futex: once, some 0.04 s, while eu-stack reads its stacks",
+    "gdb": "nothing is stopped but each process at a futex: once, some 0.6 s, while gdb reads its stacks",
+}
 HEAP = ("the JVM collects its garbage, and then stops while it dumps its heap: 10.5 s for 2.4 GB that live then, which "
         "need as much room in $TMPDIR meanwhile; it also stops twice while it prints its threads")
 
@@ -65,6 +69,7 @@ class Capture:
     targets: List[str]
     how: str = ""  # a way that isn't the system's first one, in words, whose commands are there
     command: Sequence[str] = ()  # of such a way
+    has_stacks: bool = False  # of Linux: with the stacks of those at a futex
 
     def words(self, seconds: float) -> List[str]:
         """Returns the command that prints it."""
@@ -72,6 +77,7 @@ class Capture:
             return [*self.command, *self.targets]
         if self.system == "linux":
             collector = [sys.executable, f"{HOME}/cmh_linux.py", "--seconds", f"{seconds:g}"]
+            collector += ["--stacks"] if self.has_stacks else []
             return [*collector, *(word for pid in self.targets for word in ("--pid", pid))]
         targets = [",".join(self.targets)] if self.system == "erlang" else self.targets
         return [recipe(self.system), *targets]
@@ -128,6 +134,18 @@ def captures_for(system: str, targets: List[str], may_kill: bool, may_dump: bool
     command = [sys.executable, f"{HOME}/cmh_python_reader.py", way]
     frames = Capture("python", targets, PYTHON_WAYS[way], command)
     return [frames, made] if way == "py-spy" else [frames]  # (gdb takes too long for both to be of one time)
+
+
+def with_stacks(capture: Capture) -> Capture:
+    """Returns a capture with the stacks of those at a futex, if it is of Linux. Raises Failure if nothing reads them.
+    """
+    if capture.system != "linux":
+        return capture
+    tool = next((it for it in STACKS if shutil.which(it)), "")
+    if not tool:
+        raise Failure("eu-stack or gdb is needed for --stacks, and neither is there (Debian: apt-get install elfutils)")
+    says = "; ".join(filter(None, [capture.how, STACKS[tool]]))
+    return replace(capture, how=says, has_stacks=True)
 
 
 def way_to_python(targets: Sequence[str]) -> str:

@@ -11,7 +11,7 @@ import sys
 import time
 from typing import Any, Dict, Iterator, List, Sequence
 
-from .captures import HEAP, SYSTEMS, Capture, captures_for, check_needs, take
+from .captures import HEAP, SYSTEMS, Capture, captures_for, check_needs, take, with_stacks
 from .command import Parser, notes_path, run
 from .dump_command import GUESSES
 from .explain import Explanation
@@ -28,6 +28,7 @@ STUCK, UNDECIDED = 3, 5
 ALONE = ("erlang", "go", "rabbitmq")  # whose states don't say of which threads of a machine they are
 MOST_NAMES = 200  # names that stand in a file of facts, for people to choose from
 USAGE = """cmh-stall SYSTEM TARGET.. [--seconds S] [--with SYSTEM TARGET..] [--guesses] [-o FOLDER]
+       cmh-stall linux PID.. --stacks
        cmh-stall go PID --kill
        cmh-stall jvm PID --heap --yes
        cmh-stall FOLDER [--guesses | --redact]
@@ -46,6 +47,8 @@ def parser() -> Parser:
     it.add_argument("--with", dest="others", metavar="WORD", nargs="+", action="append", default=[],
                     help="take another SYSTEM TARGET.. at the same time, and join both")
     it.add_argument("--seconds", type=seconds_of, default=5.0, help="the time from the first reading to the second (5)")
+    it.add_argument("--stacks", action="store_true",
+                    help="of linux PID: read the stacks of those at a futex too, which holds each for a moment")
     it.add_argument("--kill", action="store_true",
                     help="of go PID: end the program by SIGQUIT, for the goroutines that it then writes to its stderr")
     it.add_argument("--heap", action="store_true",
@@ -77,7 +80,10 @@ def main(words: Sequence[str]) -> int:
         if asked.kill and (asked.words[0] != "go" or asked.others or len(asked.words) != 2):
             it.error("--kill is of one Go program alone: go PID --kill")
         check_heap(it, asked)
+        if asked.stacks and all(some[0] != "linux" for some in [asked.words, *asked.others]):
+            it.error("--stacks is of Linux: linux PID --stacks")
         parts = [part for some in [asked.words, *asked.others] for part in captured(it, some, asked)]
+        parts = [with_stacks(part) for part in parts] if asked.stacks else parts
         alone = next((part.system for part in parts if parts[1:] and part.system in ALONE), "")
         if alone:
             it.error(f"a state of {alone} doesn't say of which threads of the machine it is, so it isn't joined")

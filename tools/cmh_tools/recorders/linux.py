@@ -101,8 +101,10 @@ class LinuxRecorder(Recorder):
         self.outside = str(rows[0].get("outside", ""))
         self.stacks = [row for row in rows if "stacks" in row]
         unread = {row["pid"]: row["unreadable"] for row in rows if "unreadable" in row}
-        return [Reading(state.path, "machine", [Machine(some, unread)], machine=str(rows[0].get("space", "")),
-                        time=time_of(some[0])) for some in readings_of(rows, state.path)]
+        has_stacks = bool(rows[0].get("with_stacks") or self.stacks)
+        return [Reading(state.path, "machine", [Machine(some, unread, has_stacks)],
+                        machine=str(rows[0].get("space", "")), time=time_of(some[0]))
+                for some in readings_of(rows, state.path)]
 
     def begin(self, readings: List[Reading]) -> None:
         """Checks that all is of one state, and names the processes that can't be read. Each stands in every list that

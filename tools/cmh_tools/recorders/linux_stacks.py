@@ -95,7 +95,7 @@ def ends_of_futex(machine: Machine, thread: Thread) -> Ends:
     if kind in LOCKS:
         return owned(Ends(what=word, operation=operation), with_number(machine, thread, thread.word(0) & OWNER))
     if not operation or kind not in WAITS:
-        more = hint(thread) or ("" if thread.stack else "; `cmh-dump linux --pid PID --stacks` may show more")
+        more = hint(thread) or ("" if machine.has_stacks else "; the option `--stacks` may show more")
         return Ends(why=f"the kernel doesn't know who ends it{more}", what=word)
     if operation == BARRIER:
         return Ends(why="the state doesn't show who has still to come to its barrier", what=word, operation=operation)

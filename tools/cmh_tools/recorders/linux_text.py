@@ -111,9 +111,10 @@ class Thread:
 
 class Machine:
     """One reading of a machine: its processes, and who has which file. One that can't be read in any of the readings
-    counts so in all: `unread` has these, each with why."""
+    counts so in all: `unread` has these, each with why. `has_stacks` says that stacks were asked for."""
 
-    def __init__(self, rows: List[Row], unread: Dict[int, str]) -> None:
+    def __init__(self, rows: List[Row], unread: Dict[int, str], has_stacks: bool = False) -> None:
+        self.has_stacks = has_stacks
         self.owners = [Owner({**row, "unreadable": unread[row["pid"]]} if row["pid"] in unread else row)
                        for row in rows if "pid" in row]
         self.by_pid = {it.pid: it for it in self.owners}
