@@ -20,8 +20,9 @@ from .linux_stacks import BARRIER, STACK, add_stacks, ends_of_futex, hint, meeti
 from .linux_text import ENDED as GONE
 from .linux_text import READS, WRITES, Machine, Owner, Row, Thread, readings_of, rows_of
 from .linux_waits import (ACCEPTS, CONNECTS, EPOLLS, FIFO, FILES, FORKS, GROUP, MOVES, OPENS, PIPE, READ, REMOTE,
-                          SETS, SIGCHLD, SLEEPS, SUSPENDS, UNTIMED, WRITE, Ends, choice_of, ends_of, ends_of_connect,
-                          ends_of_set, ends_of_wait, has_limit, int32, note_of, threads_of, timed_parents)
+                          RESTS, SETS, SIGCHLD, SLEEPS, SUSPENDS, UNTIMED, WRITE, Ends, choice_of, ends_of,
+                          ends_of_connect, ends_of_set, ends_of_wait, has_limit, int32, note_of, threads_of,
+                          timed_parents)
 
 SIGNALS_OF_KERNEL = {14: "SIGALRM", 29: "SIGIO"}  # which come unseen: an alarm, an event at a descriptor
 NO_FACT = ", and no fact on its place decides that"
@@ -83,6 +84,7 @@ class LinuxRecorder(Recorder):
         PIPE: Premise("nobody opens a pipe anew by its name in /proc, as /proc/PID/fd/1"),
         FIFO: Premise("nobody else opens the FIFO"),
         GROUP: Premise("no other child joins the group for which one waits"),
+        RESTS: Premise("the program `sleep` only sleeps: it neither reads, writes nor unlocks what it has inherited"),
         UNTIMED: Premise("a socket has no limit of its own (SO_RCVTIMEO, SO_SNDTIMEO, TCP_USER_TIMEOUT)"),
         REMOTE: Premise("who is outside of this machine, or may still connect, goes on by itself"),
         STACK: Premise("what a stack shows right after both readings was so in them"),

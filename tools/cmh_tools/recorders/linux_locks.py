@@ -5,7 +5,7 @@ from dataclasses import dataclass
 from typing import Dict, Iterator, List, Optional, Tuple
 
 from .linux_text import OPEN, Machine, Owner, Thread
-from .linux_waits import FILES, Ends, int32, threads_of
+from .linux_waits import FILES, Ends, able, int32, threads_of, with_rest
 
 SETLKW = (7, 38)  # F_SETLKW and F_OFD_SETLKW
 
@@ -33,8 +33,10 @@ def ends_of_lock(machine: Machine, thread: Thread) -> Ends:
                 some += [owner] if owner not in some else []
                 takers.update({name: owner} if lock.taker == owner.pid else {})
     ends.others = list(dict.fromkeys(owner for some in sets.values() for owner in some))
-    set_lock(ends, thread, {name: [takers[name]] if name in takers else some for name, some in sets.items()})
-    ends.besides = [it for it in threads_of(ends.others, thread, False) if it not in ends.whom]
+    set_lock(ends, thread, {name: [takers[name]] if name in takers else able(some) for name, some in sets.items()})
+    for some in sets.values():
+        ends.premises = list(dict.fromkeys(with_rest(ends.premises, some)))
+        ends.besides += [it for it in threads_of(able(some), thread, False) if it not in ends.whom]
     if wanted.is_anywhere and len(sets) > 1:
         ends.why = ends.why or "which part of the file it wants isn't known, and several have locks of it"
     return ends

@@ -8,7 +8,7 @@ from typing import List, Tuple
 from ..sketch import LIMIT
 from .linux_text import OPEN, READS, WRITES, Machine, Owner, Row, Thread, some_names
 
-FILES, PIPE, FIFO, REMOTE, UNTIMED, GROUP = "files", "pipe", "fifo", "remote", "untimed", "group"
+FILES, PIPE, FIFO, REMOTE, UNTIMED, GROUP, RESTS = "files", "pipe", "fifo", "remote", "untimed", "group", "sleep"
 READ = ("read", "readv", "pread64", "preadv", "recvfrom", "recvmsg", "recvmmsg")
 SEND = ("sendto", "sendmsg", "sendmmsg")
 WRITE = ("write", "writev", "pwrite64", "pwritev", "vmsplice", *SEND)
@@ -31,6 +31,7 @@ OWN_CHILDREN = 0x20000000  # __WNOTHREAD: those of the thread alone
 SIGCHLD = 17
 SHELLS = ("ash", "bash", "busybox", "dash", "ksh", "ksh93", "mksh", "sh", "zsh")
 OF_USERS = (10, 12, *range(34, 65))  # SIGUSR1, SIGUSR2 and those of real time, which do what a program likes
+SLEEP, FOLDERS, OF_MANY_NAMES = "sleep", ("/bin", "/usr/bin"), ("busybox", "coreutils")
 INTERNET = (2, 10)  # the families of addresses of IPv4 and of IPv6
 
 
@@ -82,6 +83,25 @@ def threads_of(owners: List[Owner], but: Thread, is_alone: bool = True) -> List[
     return others
 
 
+def only_sleeps(owner: Owner) -> bool:
+    """Whether a process is the program `sleep` of the system, and sleeps: it uses nothing of what it has inherited."""
+    folder, _, program = str(owner.row.get("exe", "")).rpartition("/")
+    is_sleep = program == SLEEP or program in OF_MANY_NAMES and owner.command == SLEEP
+    is_asleep = len(owner.threads) == 1 and owner.threads[0].call in (*SLEEPS, *SUSPENDS)
+    return folder in FOLDERS and is_sleep and is_asleep and not owner.catches_others(())
+
+
+def able(owners: List[Owner]) -> List[Owner]:
+    """Returns those of some processes with a file who may use it. Who only sleeps closes it in the end, which others
+    see once all have done that: it counts where nobody else has the file."""
+    return [it for it in owners if not only_sleeps(it)] or owners
+
+
+def with_rest(premises: List[str], owners: List[Owner]) -> List[str]:
+    """Returns the premises of a wait for those of some processes who may use a file."""
+    return [*premises, RESTS] if len(able(owners)) < len(owners) else [*premises]
+
+
 # Descriptors
 
 
@@ -116,18 +136,18 @@ def ends_of_pipe(machine: Machine, thread: Thread, key: str, what: str, mode: st
     ways = {"r": ["w"], "w": ["r"]}.get(mode, ways)
     others = list(dict.fromkeys(owner for mode in ways for owner in machine.with_file(key, mode)))
     found = found_ends(thread, others, what, [FILES, kind])
-    if kind == FIFO and others == [thread.owner]:
+    if kind == FIFO and able(others) == [thread.owner]:
         found.why = found.why or "it alone has the FIFO open, and others open that when they have something to say"
     return found
 
 
 def found_ends(thread: Thread, others: List[Owner], what: str, premises: List[str]) -> Ends:
     """Returns the ends that some processes have. If none has one, that isn't known: it may be on its way."""
-    whom = threads_of(others, thread)
+    whom = threads_of(able(others), thread)
     why = "" if whom else f"no process that was read has the other end of {what}"
-    if others == [thread.owner] and any(map(thread.owner.catches, OF_USERS)):
+    if able(others) == [thread.owner] and any(map(thread.owner.catches, OF_USERS)):
         why = why or "it has a handler for a signal, which may use its own other end"
-    return Ends(whom, why, "", list(premises), what, others)
+    return Ends(whom, why, "", with_rest(premises, others), what, others)
 
 
 def ends_of_socket(machine: Machine, thread: Thread, target: str) -> Ends:
@@ -151,8 +171,9 @@ def ends_of_socket(machine: Machine, thread: Thread, target: str) -> Ends:
     others = list(dict.fromkeys(ends))
     found = found_ends(thread, others, what, [FILES, UNTIMED] if may_time_out(machine, thread, row) else [FILES])
     # Whoever has the same end may shut it down.
-    same = threads_of(machine.with_file(target), thread, False)
-    found.whom += [it for it in same if found.whom and it not in found.whom]
+    same = machine.with_file(target)
+    found.premises = list(dict.fromkeys(with_rest(found.premises, same)))
+    found.whom += [it for it in threads_of(able(same), thread, False) if found.whom and it not in found.whom]
     return found
 
 
@@ -189,21 +210,23 @@ def ends_of_set(machine: Machine, thread: Thread) -> Ends:
     if "set" not in thread.row:
         return Ends(why="the set of its descriptors couldn't be read", what="a set that can't be read")
     rows = thread.events
-    epoll: List[Thread] = []
+    owners = {thread.owner: None}  # who may add to the set
     if thread.call in EPOLLS:
         it = thread.owner.files.get(str(int32(thread.arguments[0])))
         if it is None or "eventpoll" not in it[0]:
             return Ends(why="its epoll isn't known", what="epoll")
         names = [more for more in it[2:] if more.startswith(OPEN)]
-        owners = dict.fromkeys([thread.owner, *(owner for name in names for owner in machine.with_file(name))])
-        epoll = threads_of(list(owners), thread, False)  # who may add to it
+        owners.update(dict.fromkeys(owner for name in names for owner in machine.with_file(name)))
         stale = [fd for fd, _, number in rows if is_other_file(thread.owner, fd, number)]
         if stale:
             return Ends(why=f"its epoll has a file that descriptor {stale[0]} no longer is", what="epoll")
         rows = [row for row in rows if not row[1] & ONESHOT or row[1] & EVENTS]  # (others were seen)
     if thread.call in MOVES:  # (what it moves from or to a file on a disk doesn't wait)
         rows = [row for row in rows if not is_plain(thread.owner.files.get(str(row[0]), [""]))]
-    return joined([ends_of(machine, thread, row[0], row[1]) for row in rows], epoll)
+    more = threads_of(able([*owners]), thread, False) if thread.call in EPOLLS else []
+    ends = joined([ends_of(machine, thread, row[0], row[1]) for row in rows], more)
+    ends.premises = list(dict.fromkeys(with_rest(ends.premises, [*owners])))
+    return ends
 
 
 def is_plain(it: List[str]) -> bool:
@@ -289,9 +312,9 @@ def choice_of(thread: Thread, children: List[Owner]) -> str:
 
 def new_children(machine: Machine, thread: Thread, own: List[Owner]) -> List[Thread]:
     """Returns who may give a process more children: its other threads, and those below, whose children it may inherit.
-    """
+    One that only sleeps has none."""
     others = [it for it in thread.owner.living if it is not thread]
-    return others + [it for owner in machine.below(own) for it in owner.living]
+    return others + [it for owner in machine.below(own) if not only_sleeps(owner) for it in owner.living]
 
 
 def awaited(thread: Thread, own: List[Owner]) -> Tuple[str, List[Owner]]:

@@ -7,6 +7,7 @@ import select
 import signal
 import socket
 import struct
+import subprocess
 import sys
 import time
 
@@ -638,6 +639,96 @@ def deep(is_slow=False):
     os.close(writing)
     call_me("reader")
     os.read(reading, 1)
+
+
+# A `sleep` that has inherited what others wait at
+
+
+def keep_asleep(*handles):
+    """Starts the program `sleep`, which inherits descriptors."""
+    return subprocess.Popen(["sleep", "600"], pass_fds=handles)
+
+
+def sleeper(is_slow=False):
+    """Two processes wait for each other's word, and a `sleep` has all ends of their pipes. In the twin one of them has
+    ended, so that the other one reads the end of its input once the `sleep` has ended too."""
+    (a_read, a_write), (b_read, b_write) = os.pipe(), os.pipe()
+    keep_asleep(a_read, a_write, b_read, b_write)
+
+    def side(own, *others):
+        for it in others:
+            os.close(it)
+        os.read(own, 1)
+
+    first = start("left", side, a_read, a_write, b_read)
+    if not is_slow:
+        start("right", side, b_read, b_write, a_read)
+    for it in (a_read, a_write, b_read, b_write):
+        os.close(it)
+    call_me("waiter")
+    os.waitpid(first, 0)
+
+
+def sleeper_named(is_slow=False):
+    """The same with a program that only is called like that, and writes after its rest."""
+    (a_read, a_write), (b_read, b_write) = os.pipe(), os.pipe()
+
+    def rest_and_say():
+        rest()
+        os.write(a_write, b"x")
+
+    def side(own, *others):
+        for it in others:
+            os.close(it)
+        os.read(own, 1)
+
+    start("sleep", rest_and_say)
+    first = start("left", side, a_read, a_write, b_read)
+    start("right", side, b_read, b_write, a_read)
+    for it in (a_read, a_write, b_read, b_write):
+        os.close(it)
+    call_me("waiter")
+    os.waitpid(first, 0)
+
+
+def sleeper_pair(is_slow=False):
+    """Two processes with a socket pair wait for each other, and a `sleep` has both ends too. In the twin one of them
+    has ended, so that the other one reads the end once the `sleep` has ended too."""
+    left, right = socket.socketpair()
+    keep_asleep(left.fileno(), right.fileno())
+
+    def side(own, other):
+        other.close()
+        own.recv(1)
+
+    first = start("left", side, left, right)
+    if not is_slow:
+        start("right", side, right, left)
+    left.close()
+    right.close()
+    call_me("waiter")
+    os.waitpid(first, 0)
+
+
+def sleeper_lock(is_slow=False):
+    """A job waits for a lock whose taker has ended, which the holder of a pipe shares with a `sleep`, and the holder
+    waits for the job's word. In the twin the holder has closed the file, so that the lock goes with the `sleep`."""
+    reading, writing = os.pipe()
+    file = os.open("a", os.O_RDWR | os.O_CREAT)
+    subprocess.run(["flock", str(file)], pass_fds=[file], check=True)
+    keep_asleep(file)
+
+    def hold():
+        os.close(writing)
+        if is_slow:
+            os.close(file)
+        os.read(reading, 1)
+
+    start("holder", hold)
+    os.close(reading)
+    os.close(file)
+    call_me("job")
+    locked("a")
 
 
 # Runtimes of which the kernel shows the outside
