@@ -33,7 +33,8 @@ class System:
 
 SYSTEMS = {
     "linux": System("nothing is stopped, and no signal is sent"),
-    "jvm": System("the JVM stops at a safepoint while it prints its threads: twice, 0.6 s with 60 million objects",
+    "jvm": System("the JVM stops at a safepoint while it prints its threads: twice, 0.6 s with 60 million objects. "
+                  "--heap shows more",
                   {"jstack": "default-jdk-headless"}),
     "go": System("the program stops while it prints its goroutines: twice, 0.6 s with 100,000 of them"),
     "python": System("nothing is stopped: a signal wakes the thread of cmh_state, and a system call of the main thread "
@@ -70,6 +71,7 @@ class Capture:
     how: str = ""  # a way that isn't the system's first one, in words, whose commands are there
     command: Sequence[str] = ()  # of such a way
     has_stacks: bool = False  # of Linux: with the stacks of those at a futex
+    beside: Sequence[str] = ()  # of Python: the children that would answer too, and aren't taken
 
     def words(self, seconds: float) -> List[str]:
         """Returns the command that prints it."""
@@ -185,7 +187,20 @@ def capture_for(system: str, targets: List[str], may_kill: bool, may_dump: bool)
     if system == "go" and all(map(str.isdigit, targets)):
         return Capture("linux", targets, "it is read as the kernel sees it, which shows no goroutines: name HOST:PORT "
                        "of a program that serves net/http/pprof, or end it by --kill")
-    return Capture(system, targets)
+    return Capture(system, targets, beside=children_that_answer(targets) if system == "python" else ())
+
+
+def children_that_answer(pids: Sequence[str]) -> List[str]:
+    """Returns the other Python processes below some that answer a signal too."""
+    parents: Dict[str, List[str]] = {}
+    for pid in filter(str.isdigit, os.listdir("/proc")):
+        parents.setdefault(stat_of(pid, 1), []).append(pid)
+    left, found = list(pids), set()
+    while left:
+        some = parents.get(left.pop(), [])
+        left += [it for it in some if it not in found]
+        found.update(some)
+    return sorted((it for it in found.difference(pids) if answers(it)), key=int)
 
 
 def answers(pid: str) -> bool:
@@ -219,8 +234,13 @@ def own_number(pid: str) -> str:
 
 def start_of(pid: str) -> str:
     """When a process began, as the kernel counts it."""
+    return stat_of(pid, 19)
+
+
+def stat_of(pid: str, at: int) -> str:
+    """A number that the kernel keeps of a process, by its place behind the name."""
     with contextlib.suppress(OSError, IndexError), open(f"/proc/{pid}/stat", "rb") as file:
-        return file.read().rpartition(b")")[2].split()[19].decode()
+        return file.read().rpartition(b")")[2].split()[at].decode()
     return "?"
 
 

@@ -28,7 +28,7 @@ def rows_of(pid: str) -> Iterator[Row]:
     name = os.path.basename(path)
     words = [word.decode(errors="backslashreplace") for word in bytes_of(f"/proc/{pid}/cmdline").split(b"\0")]
     if name == "java":
-        yield f"java {pid}", f"cmh-stall jvm {pid}"
+        yield f"java {pid}", f"cmh-stall jvm {pid}, or with --heap, which shows more and stops it for longer"
     elif name == "beam.smp" and any("rabbit" in word for word in words):
         yield f"rabbitmq {pid}", "cmh-stall rabbitmq"
     elif name == "beam.smp":

@@ -35,6 +35,7 @@ USAGE = """cmh-stall SYSTEM TARGET.. [--seconds S] [--with SYSTEM TARGET..] [--g
        cmh-stall"""
 ABOUT = """Takes the state of a system that hangs twice, and says who is stuck. All that it saw is kept in a new folder.
 SYSTEM TARGET is one of: linux PID.., jvm PID, go HOST:PORT, python PID.., erlang NODE.. , mpi PROGRAM, rabbitmq.
+linux with --stacks and jvm with --heap show more, and stop more meanwhile.
 With a FOLDER that it made, it says the answer again, with the facts that you have written there. Alone, it says what
 runs here, and the command for each."""
 MORE = """status: 0 no process is stuck, 3 some process is stuck, 5 none is stuck for certain and some are undecided,
@@ -131,8 +132,8 @@ def stall(parts: List[Capture], asked: argparse.Namespace) -> int:
         env = {"HOME": home_with(asked.cookie_file, folder)} if asked.cookie_file else {}
         texts = {name: text for some in take(parts, asked.seconds, env) for name, text in some.items()}
         shutil.rmtree(f"{folder}/home", ignore_errors=True)
-        record = {"version": 1, "parts": [{"system": it.system, "targets": it.targets, "states": it.names()}
-                                          for it in parts]}
+        record = {"version": 1, "parts": [{"system": it.system, "targets": it.targets, "states": it.names(),
+                                           **({"beside": it.beside} if it.beside else {})} for it in parts]}
         write_texts([*((f"{folder}/{name}", text) for name, text in texts.items()),
                      (f"{folder}/{RECORD}", json.dumps(record, indent=1) + "\n")])
     status = explain(folder, asked.guesses)
@@ -193,9 +194,26 @@ def explain(folder: str, with_guesses: bool) -> int:
     if len(parts) > 1:
         call("cmh-dump", "join", *map(notes_path, dumps), "-o", f"{folder}/dump.json")
     explanation = answer(folder)
+    steps = [*more_ways(parts, explanation.status(), read_text(f"{folder}/answer"))]
     if explanation.status() == UNDECIDED:
-        say(next_step(shown(folder), [shown(it) for it in paths if os.path.exists(it)], explanation))
+        steps.append(next_step(shown(folder), [shown(it) for it in paths if os.path.exists(it)], explanation))
+    if steps:
+        say("\n".join(steps))
     return explanation.status()
+
+
+def more_ways(parts: List[Dict[str, Any]], status: int, text: str) -> Iterator[str]:
+    """Yields the commands that would take more of a system than was taken, where that may change the answer."""
+    for part in parts:
+        system, words = part["system"], " ".join(map(shown, part["targets"]))
+        if part["beside"] and status:
+            more = " ".join(map(shown, part["beside"]))
+            yield f"What wasn't read: {more}, which {words} has started. All of them: cmh-stall python {words} {more}"
+        if system == "jvm" and part["targets"] and "--heap" not in part["targets"] and status == UNDECIDED:
+            yield f"The heap shows more, and stops the JVM for longer: cmh-stall jvm {words} --heap"
+        if system == "linux" and part["targets"] and "`--stacks`" in text:
+            yield ("Stacks show more, and hold each process at a futex for a moment: cmh-stall linux "
+                   f"{words} --stacks")
 
 
 def next_step(folder: str, paths: List[str], explanation: Explanation) -> str:
@@ -214,7 +232,8 @@ def parts_of(folder: str) -> List[Dict[str, Any]]:
     path = f"{folder}/{RECORD}"
     tree = read_json(read_text(path), path)
     try:
-        parts = [{"system": str(it["system"]), "states": list(map(str, it["states"]))} for it in tree["parts"]]
+        parts = [{"system": str(it["system"]), "states": list(map(str, it["states"])),
+                  **{key: list(map(str, it.get(key, []))) for key in ("targets", "beside")}} for it in tree["parts"]]
     except (TypeError, KeyError) as error:
         raise Refusal(f"{shown(path)}: cmh-stall has written something else there") from error
     if not parts or tree.get("version") != 1:
