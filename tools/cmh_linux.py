@@ -657,6 +657,18 @@ class Reading:
             for inode in self.sockets.names.get((row["net"], thread.get("path", "")), ()):
                 yield f"socket:[{inode}]"
 
+    def parents(self, pids: Set[int]) -> Dict[int, List[int]]:
+        """Returns the parent of each process above some, and when it began."""
+        found: Dict[int, List[int]] = {}
+        left = [self.rows[pid]["ppid"] for pid in pids]
+        while left:
+            pid = left.pop()
+            row = self.rows.get(pid, {})
+            if "start" in row and pid not in pids and pid not in found:
+                found[pid] = [row["ppid"], row["start"]]
+                left.append(row["ppid"])
+        return found
+
     def text(self, number: int, kept: Set[int]) -> Iterator[Row]:
         """Yields the rows of the state for some processes."""
         rows = [self.rows[pid] for pid in sorted(kept) if pid in self.rows]
@@ -673,6 +685,7 @@ class Reading:
             yield {"socket": inode, **self.sockets.rows[inode]}
         listening = {f"{net} {path}": them for (net, path), them in self.sockets.names.items() if numbers & {*them}}
         yield {"listening": listening}
+        yield {"parents": self.parents({row["pid"] for row in (*rows, *missing)})}
         yield {"end": number, "processes": len(rows) + len(missing)}
 
 

@@ -19,6 +19,7 @@ from .linux_locks import SETLKW, ends_of_lock
 from .linux_stacks import BARRIER, STACK, add_stacks, ends_of_futex, hint, meeting_of, own_frames, system_of
 from .linux_text import ENDED as GONE
 from .linux_text import READS, WRITES, Machine, Owner, Row, Thread, readings_of, rows_of
+from .linux_unread import Branches
 from .linux_waits import (ACCEPTS, CONNECTS, EPOLLS, FIFO, FILES, FORKS, GROUP, MOVES, OPENS, PIPE, READ, REMOTE,
                           RESTS, SETS, SIGCHLD, SLEEPS, SUSPENDS, UNTIMED, WRITE, Ends, choice_of, ends_of,
                           ends_of_connect, ends_of_set, ends_of_wait, has_limit, int32, note_of, threads_of,
@@ -28,7 +29,7 @@ SIGNALS_OF_KERNEL = {14: "SIGALRM", 29: "SIGIO"}  # which come unseen: an alarm,
 NO_FACT = ", and no fact on its place decides that"
 ENDING = (1, 2, 3, 13, 15, SIGCHLD)  # the end of a child, and signals that end a process, which nobody kills
 OWN_THREADS = ("erlang", "go", "jvm", "mpi")  # whose runtimes have threads that are none of the job's
-SIGNALS, OUTSIDE, ABOVE = "signals", "outside", "above"
+SIGNALS, OUTSIDE, ABOVE, MADE = "signals", "outside", "above", "made"
 UNREADABLE = "unreadable"  # the frame of a process that can't be read, by which facts decide it
 # Where the kernel holds a thread, whatever its call: of a group that is frozen in get_signal.
 ELSEWHERE = re.compile(r"freez|refrigerator|seccomp|userfault|get_signal")
@@ -44,6 +45,7 @@ class Computer(Moment):
     machine: Machine
     unread: List[List[Owner]]
     names: List[str]
+    branches: Branches
 
 
 def signal_of(thread: Thread, moment: Computer) -> str:
@@ -80,6 +82,8 @@ class LinuxRecorder(Recorder):
         OUTSIDE: Premise("no process outside of this container has a file of those in it"),
         FILES: Premise("who has a file shows it among its descriptors: none is on its way unseen, kept by the "
                        "kernel or by one thread alone, or was replaced during a wait"),
+        MADE: Premise("what a process hasn't got, and only those below it have, was made by it or by these; who can't "
+                      "be read elsewhere was given none of it, and opened none by its name"),
         ABOVE: Premise("nobody from whom a process descends ends it", timer_above),
         PIPE: Premise("nobody opens a pipe anew by its name in /proc, as /proc/PID/fd/1"),
         FIFO: Premise("nobody else opens the FIFO"),
@@ -126,6 +130,7 @@ class LinuxRecorder(Recorder):
 
     def prepare(self, moment: Computer) -> None:
         moment.machine = moment.rows()[0]
+        moment.branches = Branches(moment.machine)
 
     def processes(self, moment: Computer) -> Iterable[Subject]:
         return [*(thread for owner in moment.machine.owners for thread in owner.threads), *self.unread]
@@ -193,14 +198,21 @@ class LinuxRecorder(Recorder):
             return unknown(name, ends.why, **more)
         because += [SYSTEM, premise(SIGNALS), premise(ABOVE)]
         because += [premise(OUTSIDE)] if self.outside == "container" and not ends.is_exact else []
-        whom, more["besides"] = self.whom_of(thread, moment, ends)
+        strangers = [] if ends.is_exact else self.strangers(thread, moment)
+        because += [premise(MADE)] if len(strangers) < len(self.unread) and not ends.is_exact else []
+        whom, more["besides"] = self.whom_of(thread, moment, ends, strangers)
         if ends.choice:
             more["choice"] = ends.choice, [it for it in more["besides"] if it not in whom and
                                            (it in self.unseen or not ends.is_exact)]
         make = waits_for_all if ends.needs_all or ends.choice else waits_for_any
         return make(name, whom, because, **more)
 
-    def whom_of(self, thread: Thread, moment: Computer, ends: Ends) -> Tuple[List[str], List[str]]:
+    def strangers(self, thread: Thread, moment: Computer) -> List[str]:
+        """Returns the names of those that can't be read, and may have a file at which a thread waits."""
+        return [name for some, name in zip(self.unread, self.unread_names) if moment.branches.may_have(some, thread)]
+
+    def whom_of(self, thread: Thread, moment: Computer, ends: Ends, strangers: List[str]) -> Tuple[List[str],
+                                                                                                   List[str]]:
         """Returns the names of those that end a wait, and of those that may end it besides."""
         whom, are_all = [it.name for it in ends.whom], ends.needs_all or bool(ends.choice)
         besides = [*whom] if ends.choice else []
@@ -208,8 +220,8 @@ class LinuxRecorder(Recorder):
         if not ends.is_exact:
             # Any of these may have another end, or what each of several has to let go of.
             more += threads_of(moment.machine.carriers, thread, False)
-            besides += self.unread_names if are_all else []
-            whom += [] if are_all else self.unread_names
+            besides += strangers if are_all else []
+            whom += [] if are_all else strangers
         if thread.owner.catches(SIGCHLD):
             more += threads_of(moment.machine.children(thread.owner.pid), thread, False)
         unseen = unseen_signals(thread.owner)

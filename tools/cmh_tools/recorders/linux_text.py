@@ -27,7 +27,8 @@ OWNER = {"pid": int, "ppid?": int, "comm": str, "group?": int, "TracerPid?": re.
          "fds?": {str: [str]}, "threads?": [THREAD]}
 SOCKET = {"socket": int, "kind": str, "state": str, "at": str, "to": str, "peers": [int]}
 SHAPES = {"pid": OWNER, "socket": SOCKET, "listening": {"listening": {str: [int]}}, "warnings": {"warnings": [str]},
-          "stacks": {"stacks": int, "still": {str: [str]}, "text": str}, "unreadable": {"unreadable": str}}
+          "parents": {"parents": {str: [int, int]}}, "stacks": {"stacks": int, "still": {str: [str]}, "text": str},
+          "unreadable": {"unreadable": str}}
 
 
 @dataclass(eq=False)
@@ -120,6 +121,10 @@ class Machine:
         self.by_pid = {it.pid: it for it in self.owners}
         self.sockets: Dict[int, Row] = {row["socket"]: row for row in rows if "socket" in row}
         self.warnings = [str(it) for row in rows for it in row.get("warnings", [])]
+        # The parent of each process, also of those above them, and when it began. One that isn't known has none.
+        self.parents: Dict[int, Tuple[int, int]] = {
+            int(pid): (it[0], it[1]) for row in rows for pid, it in row.get("parents", {}).items()}
+        self.parents.update({it.pid: (it.parent, it.row["start"]) for it in self.owners if "start" in it.row})
         self.listening: Dict[str, List[int]] = next((row["listening"] for row in rows if "listening" in row), {})
         self.holders: Dict[str, List[Tuple[Owner, str]]] = {}
         for owner in self.owners:

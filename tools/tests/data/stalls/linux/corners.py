@@ -11,7 +11,7 @@ import subprocess
 import sys
 import time
 
-from programs import FULL, LIBC, call_me, locked, rest, start, write_all
+from programs import FULL, LIBC, become_user, call_me, locked, rest, start, write_all
 
 READ, WRITE = 0, 1  # F_RDLCK and F_WRLCK
 SETLKW, OFD = 7, 38
@@ -729,6 +729,55 @@ def sleeper_lock(is_slow=False):
     os.close(file)
     call_me("job")
     locked("a")
+
+
+# Processes that can't be read, of another user
+
+
+of_process_1 = []  # the ends of pipes that it has
+
+
+def begin_as_root(story, is_slow):
+    """What process 1 does before a story, which the user who reads can't see."""
+    if story == "user_given" and is_slow:
+        of_process_1.extend((*os.pipe(), *os.pipe()))
+    if story == "user_orphan" and not is_slow:
+        start("elder", rest)
+        time.sleep(0.1)
+
+
+def wait_for_each_other(a_read, a_write, b_read, b_write, keeps_ends):
+    """Starts two processes that wait for each other's word."""
+
+    def side(own, *others):
+        for it in others:
+            os.close(it)
+        os.read(own, 1)
+
+    first = start("left", side, a_read, a_write, b_read)
+    start("right", side, b_read, b_write, a_read)
+    for it in () if keeps_ends else (a_read, a_write, b_read, b_write):
+        os.close(it)
+    call_me("waiter")
+    os.waitpid(first, 0)
+
+
+def user_given(is_slow=False):
+    """Two processes wait for each other, by pipes that their parent made. In the twin process 1 made them, and can write
+    to both; the parent has inherited them, and has them still."""
+    become_user()
+    wait_for_each_other(*(of_process_1 if is_slow else (*os.pipe(), *os.pipe())), is_slow)
+
+
+def user_orphan(is_slow=False):
+    """The same beside a process of root that began before. In the twin it began later, as a child of a child of theirs
+    that has ended, and can write to both."""
+    handles = (*os.pipe(), *os.pipe())
+    if is_slow:
+        start("middle", lambda: start("younger", rest))
+        os.wait()
+    become_user()
+    wait_for_each_other(*handles, False)
 
 
 # Runtimes of which the kernel shows the outside

@@ -556,9 +556,22 @@ def queue_lock(is_slow=False):
     take(*reversed(locks))
 
 
+USER = 65534  # who may not read process 1, in the stories whose name begins so
+
+
+def become_user():
+    os.setgroups([])
+    os.setgid(USER)
+    os.setuid(USER)
+    LIBC.prctl(4, 1, 0, 0, 0)  # PR_SET_DUMPABLE, without which nobody but root could read it
+
+
 def main():
     name, program, seconds, *more = sys.argv[1:]
     story, is_slow = name.replace("_alive", ""), name.endswith("_alive")
+    as_user = {"user": USER, "group": USER, "extra_groups": []} if story.startswith("user_") else {}
+    if as_user:
+        importlib.import_module("corners").begin_as_root(story, is_slow)
     pid = os.fork()
     if pid == 0:
         if story.startswith("cpp_"):
@@ -570,7 +583,7 @@ def main():
         return
     time.sleep(float(os.environ.get("SETTLE", "2")))
     try:
-        subprocess.run([sys.executable, program, "--pid", str(pid), "--seconds", seconds, *more], check=True)
+        subprocess.run([sys.executable, program, "--pid", str(pid), "--seconds", seconds, *more], check=True, **as_user)
     finally:
         if os.path.exists("disk"):  # (else nobody could end who waits for a frozen one)
             os.system("fsfreeze --unfreeze disk 2> /dev/null; umount --lazy disk")
