@@ -731,6 +731,26 @@ def sleeper_lock(is_slow=False):
     locked("a")
 
 
+# A build that is out of tokens
+
+
+def tokens(is_slow=False, how="inherits"):
+    """Three parts of a build share a pipe of two tokens, and each needs two. A shell that says how far it is has the
+    pipe and the build's lock as well, and only uses them by mistake. In the twin there are four tokens."""
+    for name in ("build", "lib", "app", "docs", "progress", "nightly"):
+        os.symlink("build.sh", name)
+    build = subprocess.Popen(["./build", how, "slow" if is_slow else "stuck"])
+    time.sleep(0.5)
+    subprocess.Popen(["./nightly"])
+    call_me("cron")
+    os.waitpid(build.pid, 0)
+
+
+def tokens_closed(is_slow=False):
+    """The same with a shell that has neither."""
+    tokens(is_slow, "closed")
+
+
 # Processes that can't be read, of another user
 
 
