@@ -25,6 +25,7 @@ from .linux_waits import (ACCEPTS, CONNECTS, EPOLLS, FIFO, FILES, FORKS, GROUP, 
                           ends_of_connect, ends_of_set, ends_of_wait, has_limit, int32, note_of, threads_of,
                           timed_parents)
 
+SIGINT = 2
 SIGNALS_OF_KERNEL = {14: "SIGALRM", 29: "SIGIO"}  # which come unseen: an alarm, an event at a descriptor
 NO_FACT = ", and no fact on its place decides that"
 ENDING = (1, 2, 3, 13, 15, SIGCHLD)  # the end of a child, and signals that end a process, which nobody kills
@@ -202,6 +203,7 @@ class LinuxRecorder(Recorder):
         because += [premise(MADE)] if len(strangers) < len(self.unread) and not ends.is_exact else []
         whom, more["besides"] = self.whom_of(thread, moment, ends, strangers)
         if ends.choice:
+            more["proposal"] = "all" if needs_all_likely(thread, ends) else "any"
             more["choice"] = ends.choice, [it for it in more["besides"] if it not in whom and
                                            (it in self.unseen or not ends.is_exact)]
         make = waits_for_all if ends.needs_all or ends.choice else waits_for_any
@@ -227,6 +229,13 @@ class LinuxRecorder(Recorder):
         unseen = unseen_signals(thread.owner)
         self.unseen.update(unseen)
         return whom, list(dict.fromkeys([*besides, *(it.name for it in more if it.name not in whom), *unseen]))
+
+
+def needs_all_likely(thread: Thread, ends: Ends) -> bool:
+    """Whether one of several, or all of them, rather are all: a lock that nobody unlocks goes once all have ended. A
+    shell without job control waits for those in the background by `wait`, which they show: they ignore SIGINT."""
+    is_lock = thread.call not in ("wait4", "waitid", *SUSPENDS)
+    return is_lock or not thread.owner.ignores(SIGINT) and all(it.owner.ignores(SIGINT) for it in ends.whom)
 
 
 def time_of(row: Row) -> Optional[Tuple[float, float]]:
