@@ -20,12 +20,11 @@ from .linux_stacks import BARRIER, STACK, add_stacks, ends_of_futex, hint, meeti
 from .linux_text import ENDED as GONE
 from .linux_text import READS, WRITES, Machine, Owner, Row, Thread, readings_of, rows_of
 from .linux_unread import Branches
-from .linux_waits import (ACCEPTS, CONNECTS, EPOLLS, FIFO, FILES, FORKS, GROUP, MOVES, OPENS, PIPE, READ, REMOTE,
-                          RESTS, SETS, SIGCHLD, SLEEPS, SUSPENDS, UNTIMED, WRITE, Ends, choice_of, ends_of,
-                          ends_of_connect, ends_of_set, ends_of_wait, has_limit, int32, note_of, threads_of,
+from .linux_waits import (ACCEPTS, CONNECTS, EPOLLS, FIFO, FILES, FORKS, FRONT, GROUP, MOVES, OPENS, PIPE, READ,
+                          REMOTE, RESTS, SETS, SIGCHLD, SIGINT, SLEEPS, SUSPENDS, UNTIMED, WRITE, Ends, choice_of,
+                          ends_of, ends_of_connect, ends_of_set, ends_of_wait, has_limit, int32, note_of, threads_of,
                           timed_parents)
 
-SIGINT = 2
 SIGNALS_OF_KERNEL = {14: "SIGALRM", 29: "SIGIO"}  # which come unseen: an alarm, an event at a descriptor
 NO_FACT = ", and no fact on its place decides that"
 ENDING = (1, 2, 3, 13, 15, SIGCHLD)  # the end of a child, and signals that end a process, which nobody kills
@@ -89,6 +88,7 @@ class LinuxRecorder(Recorder):
         PIPE: Premise("nobody opens a pipe anew by its name in /proc, as /proc/PID/fd/1"),
         FIFO: Premise("nobody else opens the FIFO"),
         GROUP: Premise("no other child joins the group for which one waits"),
+        FRONT: Premise("a shell has started in the background who ignores SIGINT, and waits for the one that doesn't"),
         RESTS: Premise("the program `sleep` only sleeps: it neither reads, writes nor unlocks what it has inherited"),
         UNTIMED: Premise("a socket has no limit of its own (SO_RCVTIMEO, SO_SNDTIMEO, TCP_USER_TIMEOUT)"),
         REMOTE: Premise("who is outside of this machine, or may still connect, goes on by itself"),
@@ -224,7 +224,7 @@ class LinuxRecorder(Recorder):
             more += threads_of(moment.machine.carriers, thread, False)
             besides += strangers if are_all else []
             whom += [] if are_all else strangers
-        if thread.owner.catches(SIGCHLD):
+        if thread.owner.catches(SIGCHLD) and FRONT not in ends.premises:  # (else it waits again for the same one)
             more += threads_of(moment.machine.children(thread.owner.pid), thread, False)
         unseen = unseen_signals(thread.owner)
         self.unseen.update(unseen)

@@ -3,12 +3,13 @@ from __future__ import annotations
 
 import ctypes
 from dataclasses import dataclass, field
-from typing import List, Tuple
+from typing import List, Sequence, Tuple
 
 from ..sketch import LIMIT
 from .linux_text import OPEN, READS, WRITES, Machine, Owner, Row, Thread, some_names
 
-FILES, PIPE, FIFO, REMOTE, UNTIMED, GROUP, RESTS = "files", "pipe", "fifo", "remote", "untimed", "group", "sleep"
+FILES, PIPE, FIFO, REMOTE, UNTIMED, GROUP = "files", "pipe", "fifo", "remote", "untimed", "group"
+RESTS, FRONT = "sleep", "foreground"
 READ = ("read", "readv", "pread64", "preadv", "recvfrom", "recvmsg", "recvmmsg")
 SEND = ("sendto", "sendmsg", "sendmmsg")
 WRITE = ("write", "writev", "pwrite64", "pwritev", "vmsplice", *SEND)
@@ -28,8 +29,9 @@ NUMBERS = ("poll", "epoll_wait", "epoll_pwait")  # whose limit is a number, and 
 FOREVER = 0x7FFFFFFF  # a limit of 24 days, which programs write for none
 ONESHOT, EVENTS = 1 << 30, 0xFFFF  # of epoll: a file that is seen once, and what it is seen for
 OWN_CHILDREN = 0x20000000  # __WNOTHREAD: those of the thread alone
-SIGCHLD = 17
+SIGINT, SIGCHLD = 2, 17
 SHELLS = ("ash", "bash", "busybox", "dash", "ksh", "ksh93", "mksh", "sh", "zsh")
+BOURNE = ("ash", "bash", "dash", "sh")  # which wait for all of a foreground pipeline
 OF_USERS = (10, 12, *range(34, 65))  # SIGUSR1, SIGUSR2 and those of real time, which do what a program likes
 SLEEP, FOLDERS, OF_MANY_NAMES = "sleep", ("/bin", "/usr/bin"), ("busybox", "coreutils")
 INTERNET = (2, 10)  # the families of addresses of IPv4 and of IPv6
@@ -279,6 +281,11 @@ def ends_of_wait(machine: Machine, thread: Thread) -> Ends:
         ends.besides = new_children(machine, thread, own)
         ends.choice = "" if ends.needs_all else choice_of(thread, children)
         ends.what = "a child, or all of them" if ends.choice else what
+        front = in_front(thread.owner, children) if ends.choice else []
+        if front:
+            ends.whom, ends.others, ends.choice = threads_of(front, thread, False), front, ""
+            ends.what, ends.besides = "the child in the foreground", []
+            ends.premises.append(FRONT)
     elif "group" in what:
         ends.premises.append(GROUP)
     return ends
@@ -297,10 +304,10 @@ def doubt_of_wait(thread: Thread, children: List[Owner]) -> str:
     return ""
 
 
-def is_shell(owner: Owner) -> bool:
+def is_shell(owner: Owner, kinds: Sequence[str] = SHELLS) -> bool:
     """Whether a process is a shell. One that a script names is called as that."""
     program = str(owner.row.get("exe", "")).partition(" ")[0].rpartition("/")[2]
-    return owner.command in SHELLS or program in SHELLS
+    return owner.command in kinds or program in kinds
 
 
 def choice_of(thread: Thread, children: List[Owner]) -> str:
@@ -308,6 +315,17 @@ def choice_of(thread: Thread, children: List[Owner]) -> str:
     child, also where it waits for one of them or for all, and then asks again."""
     is_open = is_shell(thread.owner) and bool(children[1:])
     return "a shell may wait for one of its children alone, or for all" if is_open else ""
+
+
+def in_front(shell: Owner, children: List[Owner]) -> List[Owner]:
+    """Returns the child of a shell that it has started in the foreground, if that is known. Without job control those
+    in the background ignore SIGINT, which no shell changes, but other programs may: one that catches it may be any.
+    While one is in the foreground no other one is started."""
+    odd = [it for it in children if it.groups[-1:] != shell.groups[-1:] or it.catches(SIGINT) and not is_shell(it)]
+    front = [it for it in children if not it.ignores(SIGINT)]
+    if not is_shell(shell, BOURNE) or shell.ignores(SIGINT) or shell.numbers[-1] == 1 or odd or len(front) != 1:
+        return []
+    return front if front[0] is max(children, key=lambda it: (int(it.row.get("start", 0)), it.pid)) else []
 
 
 def new_children(machine: Machine, thread: Thread, own: List[Owner]) -> List[Thread]:

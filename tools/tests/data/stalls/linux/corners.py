@@ -584,6 +584,25 @@ def one_child_dash(is_slow=False):
     one_child(is_slow, "dash")
 
 
+SERVER = "(read -r job; read -r job) <&3"
+
+
+def in_shell(script):
+    os.execvp("bash", ["bash", "-c", f"mkfifo jobs; exec 3<> jobs; {script}; true"])
+
+
+def front(is_slow=False):
+    """A shell runs its server in the foreground, which reads a FIFO that the shell has open, and a `sleep` beside it. In
+    the twin the server is beside it, and the `sleep` in the foreground."""
+    in_shell(f"{SERVER} & sleep 600 3>&-" if is_slow else f"sleep 600 3>&- & {SERVER}")
+
+
+def front_reset(is_slow=False):
+    """A shell waits for its `sleep`, and has begun a server before, which doesn't ignore SIGINT any more."""
+    server = "env --default-signal=INT bash -c 'read -r job; read -r job' <&3"
+    in_shell(f"{server} & sleep 600 3>&- & wait $!")
+
+
 # What the kernel keeps nothing of
 
 
