@@ -325,7 +325,16 @@ def in_front(shell: Owner, children: List[Owner]) -> List[Owner]:
     front = [it for it in children if not it.ignores(SIGINT)]
     if not is_shell(shell, BOURNE) or shell.ignores(SIGINT) or shell.numbers[-1] == 1 or odd or len(front) != 1:
         return []
-    return front if front[0] is max(children, key=lambda it: (int(it.row.get("start", 0)), it.pid)) else []
+    is_last = front[0] is max(children, key=lambda it: (int(it.row.get("start", 0)), it.pid))
+    return front if is_last and not pipes_between(shell, front[0]) else []
+
+
+def pipes_between(shell: Owner, child: Owner) -> bool:
+    """Whether one of two processes reads what the other one writes, as a shell does with those of a process
+    substitution or a coprocess: these are in the background, and don't ignore SIGINT."""
+    ends = [{(it[0], way) for it in some.files.values() if it[0].startswith("pipe:[") for way in it[1]}
+            for some in (shell, child)]
+    return any((what, "w" if way == "r" else "r") in ends[1] for what, way in ends[0])
 
 
 def new_children(machine: Machine, thread: Thread, own: List[Owner]) -> List[Thread]:

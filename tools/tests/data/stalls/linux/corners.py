@@ -597,6 +597,11 @@ def front(is_slow=False):
     in_shell(f"{SERVER} & sleep 600 3>&-" if is_slow else f"sleep 600 3>&- & {SERVER}")
 
 
+def front_tee(is_slow=False):
+    """A shell waits for its `sleep`, and has begun one after it that writes what the shell says."""
+    in_shell("sleep 600 3>&- & job=$!; exec > >(cat 3>&-); wait $job")
+
+
 def front_reset(is_slow=False):
     """A shell waits for its `sleep`, and has begun a server before, which doesn't ignore SIGINT any more."""
     server = "env --default-signal=INT bash -c 'read -r job; read -r job' <&3"
