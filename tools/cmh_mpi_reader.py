@@ -3,11 +3,11 @@
 
     cmh_mpi_reader.py PROGRAM|PID.. [--seconds 5] > NODE.raw
 
-Run it on each node of the job, by the job's user or root. Nothing is stopped and no signal is sent. Each file in
-/dev/shm is taken only if it belongs to the user of its process, and has that one's number and time of start. Whether a
-request is complete stands in the memory of the rank; `addr2line` (binutils) says at which line of source a call is.
-It needs Python 3.8. The state is a line of JSON for each rank, with names of functions and files: look at it before you
-mail it.
+Run it on each node of the job, by the job's user or root. Nothing is stopped and no signal is sent. A record is a file
+in memory that its rank has open, and is taken only if it belongs to the user of that process, and has its number.
+Whether a request is complete stands in the memory of the rank; `addr2line` (binutils) says at which line of source a
+call is. It needs Python 3.8. The state is a line of JSON for each rank, with names of functions and files: look at it
+before you mail it.
 """
 from __future__ import annotations
 
@@ -18,24 +18,28 @@ import os
 import platform
 import re
 import shutil
-import stat
 import struct
 import subprocess
 import sys
 import time
-from typing import Any, Dict, Iterator, List, Optional, Sequence, Set, Tuple
+from typing import Any, BinaryIO, Dict, Iterator, List, Optional, Sequence, Set, Tuple
 
 Row = Dict[str, Any]
 
-MAGIC = b"cmh_mpi1"
-HEAD = struct.Struct("=8sQQ12i7i32i")
-NUMBERS = ("pid", "rank", "size", "level", "standard", "complete_at", "any_source", "any_tag", "opened", "lost",
-           "comms", "used")
-COMM = struct.Struct("=QQQ6i32s")
-RECORD = struct.Struct("=QQQQ32s4iQQ")
+# What cmh_mpi.c writes, in its order: a head, communicators, the records of threads, requests that have been begun, and
+# for each communicator its ranks of the world.
+MAGIC, LINK = b"cmh_mpi2", "/memfd:cmh_mpi (deleted)"
+COMMS, THREADS, OPEN, PLACES, WORDS, OWN = 128, 32, 128, 4096, 24, 64
+NUMBERS = ("pid", "rank", "size", "level", "standard", "any_source", "any_tag", "opened", "lost")
+HEAD = struct.Struct(f"@8s{2 * WORDS}Q{len(NUMBERS)}i{2 * OWN}i0Q")
+COMM = struct.Struct("=QQQQQ4i32s")
+RECORD = struct.Struct("=QQQQ32s4i")
 OPERATION = struct.Struct("=QQ4i")
+RECORD_SIZE = RECORD.size + (1 + OPEN) * OPERATION.size
+RECORDS_AT = HEAD.size + COMMS * COMM.size
+KNOWN_AT = RECORDS_AT + THREADS * RECORD_SIZE
+RANKS_AT = KNOWN_AT + PLACES * OPERATION.size
 RECEIVE, SEND, OTHER, ALL_OF, ANY_OF, POLL, KEPT = 1, 2, 8, 9, 10, 11, 16
-ALL_RANKS = -2
 # The calls of the kernel that may have a limit, by their numbers: at which argument, and whether that is a number, of
 # which -1 is none, or an address. A sleep has one anyway.
 LIMITS: Dict[str, Dict[int, Tuple[int, bool]]] = {
@@ -75,13 +79,11 @@ def processes_of(words: Sequence[str]) -> List[int]:
 
 
 def name_of(pid: int) -> str:
-    with contextlib.suppress(OSError):
-        return os.path.basename(os.readlink(f"/proc/{pid}/exe"))
-    return ""
+    return os.path.basename(link_of(f"/proc/{pid}/exe"))
 
 
 def is_rank(pid: int) -> bool:
-    return RANK.search(slurp(f"/proc/{pid}/environ")) is not None or os.path.exists(path_of(pid))
+    return RANK.search(slurp(f"/proc/{pid}/environ")) is not None or record_of(pid)[0] != ""
 
 
 def stat_of(path: str) -> List[str]:
@@ -89,113 +91,114 @@ def stat_of(path: str) -> List[str]:
     return slurp(path).decode("utf-8", "replace").rpartition(")")[2].split()
 
 
-def path_of(pid: int) -> str:
-    """Returns where the record of a process lies, as it sees its own number and /dev/shm."""
-    numbers = re.search(rb"^NSpid:.*?(\d+)$", slurp(f"/proc/{pid}/status"), re.M)
-    fields = stat_of(f"/proc/{pid}/stat")
-    start = fields[19] if len(fields) > 19 else "0"
-    return f"/proc/{pid}/root/dev/shm/cmh_mpi.{int(numbers[1]) if numbers else pid}.{start}"
-
-
-def record_of(pid: int) -> Tuple[bytes, str]:
-    """Returns the record of a process, or why there is none to be trusted."""
-    path = path_of(pid)
+def record_of(pid: int) -> Tuple[str, str]:
+    """Returns where the record of a process can be opened, or why there is none."""
+    folder = f"/proc/{pid}/fd"
     try:
-        number = os.open(path, os.O_RDONLY | os.O_NOFOLLOW | os.O_NONBLOCK | os.O_CLOEXEC)
-    except FileNotFoundError:
-        return b"", "cmh_mpi.so keeps no record of it"
+        paths = [f"{folder}/{it}" for it in os.listdir(folder)]
     except OSError:
-        return b"", f"its record can't be read: {NEEDS_RIGHTS}"
-    with open(number, "rb") as file:
-        found = os.fstat(number)
-        if not stat.S_ISREG(found.st_mode) or found.st_uid != os.stat(f"/proc/{pid}").st_uid or found.st_mode & 0o77:
-            return b"", "its record may have been written by another user"
-        data = file.read(1 << 24)
-    if len(data) < HEAD.size or data[:8] != MAGIC:
-        return b"", "its record isn't whole, or of another version of cmh_mpi.so"
-    if str(HEAD.unpack_from(data)[1]) != path.rpartition(".")[2]:
-        return b"", "its record is that of a process that has ended"
-    return data, ""
+        return "", f"its record can't be read: {NEEDS_RIGHTS}"
+    path = next((it for it in paths if link_of(it) == LINK), "")
+    return path, "" if path else "cmh_mpi.so keeps no record of it"
+
+
+def link_of(path: str) -> str:
+    with contextlib.suppress(OSError):
+        return os.readlink(path)
+    return ""
+
+
+def inner_number(path: str, number: int) -> int:
+    """Returns the number of a process or a thread as it sees it itself, which is another one in a container."""
+    numbers = re.search(rb"^NSpid:.*?(\d+)$", slurp(f"{path}/status"), re.M)
+    return int(numbers[1]) if numbers else number
 
 
 # One rank
 
 
 class Rank:
-    """The record of a rank, as it is now."""
+    """The record of a rank, as it is when this is made. `fault` says why it isn't one to be trusted."""
 
-    def __init__(self, pid: int, data: bytes) -> None:
-        head = HEAD.unpack_from(data)
-        self.pid, self.data = pid, data
-        self.numbers: Dict[str, int] = dict(zip(NUMBERS, head[3:15]))
-        self.comm_at, self.comm_size, self.record_at, self.record_size, self.ranks_at = head[15:20]
-        self.known_at, self.known_number = head[20:22]
-        self.own = [it for it in head[22:] if it]
-        self.is_full = self.numbers["comms"] >= (self.record_at - self.comm_at) // max(1, self.comm_size)
-        self.number_of_records = (self.ranks_at - self.record_at) // max(1, self.record_size)
+    def __init__(self, pid: int, file: BinaryIO) -> None:
+        self.pid, self.file = pid, file
+        self.data = self.again(0, RANKS_AT)
+        self.fault = self.find_fault()
+        if self.fault:
+            return
+        head = HEAD.unpack_from(self.data)[1:]
+        self.complete_at = [8 * at for at in range(WORDS) if head[at] == 0 and head[WORDS + at] == 1]
+        self.numbers: Dict[str, int] = dict(zip(NUMBERS, head[2 * WORDS:]))
+        before, after = head[-2 * OWN:-OWN], head[-OWN:]
+        self.own = set(after) - set(before) if not before[-1] else set()  # (the threads that MPI_Init has begun)
+
+    def find_fault(self) -> str:
+        found = os.fstat(self.file.fileno())
+        if found.st_uid != os.stat(f"/proc/{self.pid}").st_uid:
+            return "its record may have been written by another user"
+        if len(self.data) < RANKS_AT or self.data[:8] != MAGIC:
+            return "its record isn't whole, or of another version of cmh_mpi.so"
+        if HEAD.unpack_from(self.data)[1 + 2 * WORDS] != inner_number(f"/proc/{self.pid}", self.pid):
+            return "its record is that of the process that began it"
+        return ""
 
     def again(self, at: int, size: int) -> bytes:
         """Returns a part of the file as it is now."""
-        with contextlib.suppress(OSError), open(path_of(self.pid), "rb", buffering=0) as file:
-            return os.pread(file.fileno(), size, at)
+        with contextlib.suppress(OSError):
+            return os.pread(self.file.fileno(), size, at)
         return b""
 
     def comms(self) -> List[Row]:
-        return [self.comm(at) for at in range(self.numbers["comms"])]
+        """Returns its communicators and files by their places, up to the last one that has been taken."""
+        rows = [self.comm(at) for at in range(COMMS)]
+        used = [at for at, row in enumerate(rows) if row.pop("is_used")]
+        return rows[:used[-1] + 1]
 
     def comm(self, at: int) -> Row:
-        handle, number_id, number, size, rank, is_inter, root, first, _, name = COMM.unpack_from(
-            self.data, self.comm_at + at * self.comm_size)
-        row: Row = {"id": f"{number_id:x}" if handle else "0", "number": number, "size": size, "rank": rank,
-                    "inter": is_inter, "root": root, "name": text_of(name)}
-        if first != ALL_RANKS and 0 <= first and handle:
-            row["ranks"] = list(struct.unpack_from(f"={size}i", self.data, self.ranks_at + 4 * first))
-        elif first != ALL_RANKS:
-            row["ranks"] = None
-        return row
+        handle, own_id, number, parent, made, size, rank, is_inter, root, name = COMM.unpack_from(
+            self.data, HEAD.size + at * COMM.size)
+        row: Row = {"id": f"{own_id:x}" if handle else "0", "number": number, "size": size, "rank": rank,
+                    "inter": is_inter, "root": root, "name": text_of(name), "parent": f"{parent:x}", "made": made,
+                    "is_used": handle or made or size}
+        ranks = self.again(RANKS_AT + 4 * at * self.numbers["size"], 4 * size) if handle and size else b""
+        numbers = [it[0] for it in struct.iter_unpack("=i", ranks)] or None
+        return row if numbers == list(range(size)) else {**row, "ranks": numbers}
 
     def begun(self) -> List[List[Any]]:
         """Returns the messages that have been begun and aren't complete, as far as that is known: kind, communicator,
         partner and tag. Their buffers may be on their way meanwhile."""
-        data = self.data[self.known_at:self.known_at + self.known_number * OPERATION.size]
         found = []
-        for handle, _, kind, comm, partner, tag in OPERATION.iter_unpack(data):
+        for handle, _, kind, comm, partner, tag in OPERATION.iter_unpack(self.data[KNOWN_AT:]):
             if handle and kind & ~KEPT in (RECEIVE, SEND) and not self.is_complete(handle):
                 found.append([kind & ~KEPT, comm, self.partner(partner) if kind & ~KEPT == RECEIVE else partner, tag])
         return found
 
     def records(self) -> Dict[int, Row]:
         """Returns the records of its threads by their numbers, as the rank itself sees these."""
-        found: Dict[int, Row] = {}
-        for at in range(self.number_of_records):
-            place = self.record_at + at * self.record_size
-            if RECORD.unpack_from(self.data, place)[5]:
-                row = self.record(place)
-                found[row.pop("thread")] = row
-        return found
+        places = [RECORDS_AT + at * RECORD_SIZE for at in range(THREADS)]
+        rows = [self.record(it) for it in places if RECORD.unpack_from(self.data, it)[5]]
+        return {row.pop("thread"): row for row in rows}
 
     def record(self, place: int) -> Row:
         """Returns a record in one piece, or with a fault."""
         for number in range(TRIES):
-            data = self.again(place, self.record_size)
-            if len(data) == self.record_size and not RECORD.unpack_from(data)[0] & 1:
+            data = self.again(place, RECORD_SIZE)
+            if not RECORD.unpack_from(data)[0] & 1:
                 row = self.row_of(data)
-                after = self.again(place, 8)
-                if after == data[:8]:
+                if self.again(place, 8) == data[:8]:
                     return row
             time.sleep(0.001 * (number > 5))
         thread = RECORD.unpack_from(self.data, place)[5]
         return {"thread": thread, "fault": "its record couldn't be read in one piece"}
 
     def row_of(self, data: bytes) -> Row:
-        _, calls, polls, caller, name, thread, _, requests, _, _, _ = RECORD.unpack_from(data)
+        _, calls, polls, caller, name, thread, _, requests, _ = RECORD.unpack_from(data)
         _, number, kind, comm, partner, tag = OPERATION.unpack_from(data, RECORD.size)
-        room = (len(data) - RECORD.size) // OPERATION.size - 1
         row: Row = {"thread": thread, "calls": calls, "polls": polls, "name": text_of(name), "kind": kind,
                     "caller": caller}
         if kind in (ALL_OF, ANY_OF, POLL):
-            row["requests"] = [self.request(data, at) for at in range(min(requests, room))]
-            row["more"] = max(0, requests - room)
+            row["requests"] = [self.request(data, at) for at in range(min(requests, OPEN))]
+            row["more"] = max(0, requests - OPEN)
         else:
             row.update({"number": number, "comm": comm, "tag": tag,
                         "partner": self.partner(partner) if kind == RECEIVE else partner})
@@ -214,32 +217,39 @@ class Rank:
 
     def is_complete(self, handle: int) -> Optional[int]:
         """Whether a request is complete, as the library keeps it in its memory: 1 if it is."""
-        if self.numbers["complete_at"] < 0 or not handle:
+        if len(self.complete_at) != 1 or not handle:
             return None
         with contextlib.suppress(OSError, OverflowError), open(f"/proc/{self.pid}/mem", "rb", buffering=0) as memory:
-            word = os.pread(memory.fileno(), 8, handle + self.numbers["complete_at"])
+            word = os.pread(memory.fileno(), 8, handle + self.complete_at[0])
             return int(int.from_bytes(word, sys.byteorder) == 1) if len(word) == 8 else None
         return None
 
 
 def row_of_rank(pid: int) -> Row:
     """Returns what is known of a rank at this moment."""
-    data, fault = record_of(pid)
-    if fault and not os.path.exists(f"/proc/{pid}/stat"):
+    path, fault = record_of(pid)
+    with contextlib.suppress(OSError), open(path, "rb", buffering=0) as file:
+        rank = Rank(pid, file)
+        if not rank.fault:
+            return row_of_record(rank)
+        fault = rank.fault
+    if not os.path.exists(f"/proc/{pid}/stat"):
         return {"pid": pid, "ended": True}
-    if fault:
-        found = RANK.search(slurp(f"/proc/{pid}/environ"))
-        return {"pid": pid, "fault": fault, **({"rank": int(found[1])} if found else {})}
-    rank = Rank(pid, data)
+    found = RANK.search(slurp(f"/proc/{pid}/environ"))
+    return {"pid": pid, "fault": fault or "it has ended its record", **({"rank": int(found[1])} if found else {})}
+
+
+def row_of_record(rank: Rank) -> Row:
     # The threads are looked at before and after their records: who hasn't moved between stood there meanwhile.
-    states = {tid: stat_of_thread(pid, tid) for tid in threads_of(pid)}
+    states = [stat_of_thread(rank.pid, tid) for tid in threads_of(rank.pid)]
     records = rank.records()
-    later = Rank(pid, record_of(pid)[0] or data)
-    threads = [{**row, **records[row["inner"]]} if row["inner"] in records else row for row in states.values()
-               if row["inner"] not in rank.own]
+    rank.data = rank.again(0, RANKS_AT) or rank.data
+    threads = [{**row, **records.get(row["inner"], {})} for row in states
+               if row["inner"] in records or row["inner"] not in rank.own]
     numbers = {key: rank.numbers[key] for key in ("rank", "size", "level", "standard", "opened", "lost")}
-    return {"pid": pid, **numbers, "full": rank.is_full, "fortran": is_fortran(pid),
-            "comms": later.comms(), "begun": later.begun(), "any_tag": rank.numbers["any_tag"], "threads": threads}
+    comms = rank.comms()
+    return {"pid": rank.pid, **numbers, "full": len(comms) == COMMS, "fortran": is_fortran(rank.pid),
+            "comms": comms, "begun": rank.begun(), "any_tag": rank.numbers["any_tag"], "threads": threads}
 
 
 def is_fortran(pid: int) -> Optional[bool]:
@@ -256,9 +266,9 @@ def threads_of(pid: int) -> List[int]:
 
 def stat_of_thread(pid: int, tid: int) -> Row:
     """Returns a thread: its number as it sees itself, its state, and the call of the kernel that it is in."""
-    numbers = re.search(rb"^NSpid:.*?(\d+)$", slurp(f"/proc/{pid}/task/{tid}/status"), re.M)
-    fields, call = stat_of(f"/proc/{pid}/task/{tid}/stat"), slurp(f"/proc/{pid}/task/{tid}/syscall").split()
-    row: Row = {"tid": tid, "inner": int(numbers[1]) if numbers else tid, "state": fields[0] if fields else "X"}
+    folder = f"/proc/{pid}/task/{tid}"
+    fields, call = stat_of(f"{folder}/stat"), slurp(f"{folder}/syscall").split()
+    row: Row = {"tid": tid, "inner": inner_number(folder, tid), "state": fields[0] if fields else "X"}
     if len(call) > 6 and call[0].isdigit():
         row["call"] = name_of_call(int(call[0]), [int(it, 16) for it in call[1:7]])
     return row

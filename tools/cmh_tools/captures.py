@@ -205,16 +205,20 @@ def children_that_answer(pids: Sequence[str]) -> List[str]:
 
 def answers(pid: str) -> bool:
     """Whether a Python process has a file in memory by which it shows that it answers a signal."""
-    with contextlib.suppress(OSError):
-        folder = f"/proc/{pid}/fd"
-        return any(link_of(f"{folder}/{fd}").startswith("/memfd:cmh_state ") for fd in os.listdir(folder))
-    return False
+    return has_in_memory(pid, "cmh_state")
 
 
 def has_record(target: str) -> bool:
     """Whether a rank, named by its number or its executable file, has a record of cmh_mpi.so."""
-    return any(os.path.exists(f"/proc/{pid}/root/dev/shm/cmh_mpi.{own_number(pid)}.{start_of(pid)}")
-               for pid in pids_of(target))
+    return any(has_in_memory(pid, "cmh_mpi") for pid in pids_of(target))
+
+
+def has_in_memory(pid: str, name: str) -> bool:
+    """Whether a process has a file in memory of this name open."""
+    with contextlib.suppress(OSError):
+        folder = f"/proc/{pid}/fd"
+        return any(link_of(f"{folder}/{fd}").startswith(f"/memfd:{name} ") for fd in os.listdir(folder))
+    return False
 
 
 def pids_of(target: str) -> List[str]:

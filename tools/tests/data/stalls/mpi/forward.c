@@ -187,6 +187,64 @@ static void communicators(void) {
     MPI_Comm_disconnect(&it);
 }
 
+static void files(const char *name) {
+    int out[2] = {rank + 1, rank + 5}, in[2];
+    MPI_File it;
+    MPI_Offset at = rank * sizeof out, size;
+    MPI_Request r;
+    MPI_Status s;
+    MPI_File_open(WORLD, name, MPI_MODE_CREATE | MPI_MODE_RDWR | MPI_MODE_DELETE_ON_CLOSE, MPI_INFO_NULL, &it);
+    MPI_File_set_size(it, 0);
+    MPI_File_preallocate(it, 2 * sizeof out);
+    MPI_File_get_size(it, &size);
+    WANTED("File_preallocate", size, (MPI_Offset)(2 * sizeof out));
+#define TRY_FILE(name, write, read, wanted) \
+    write; \
+    MPI_File_sync(it); \
+    MPI_Barrier(WORLD); \
+    MPI_File_sync(it); \
+    in[0] = in[1] = 0; \
+    read; \
+    WANTED(name, in[0] * 10 + in[1], wanted); \
+    MPI_Barrier(WORLD); \
+    out[0]++
+    int first = out[0] * 10 + out[1];
+    TRY_FILE("File_read_at_all", MPI_File_write_at_all(it, at, out, 2, MPI_INT, &s),
+             MPI_File_read_at_all(it, at, in, 2, MPI_INT, &s), first);
+    TRY_FILE("File_iread_at_all", (MPI_File_iwrite_at_all(it, at, out, 2, MPI_INT, &r), MPI_Wait(&r, &s)),
+             (MPI_File_iread_at_all(it, at, in, 2, MPI_INT, &r), MPI_Wait(&r, &s)), first + 10);
+    TRY_FILE("File_read_at_all_end",
+             (MPI_File_write_at_all_begin(it, at, out, 2, MPI_INT), MPI_File_write_at_all_end(it, out, &s)),
+             (MPI_File_read_at_all_begin(it, at, in, 2, MPI_INT), MPI_File_read_at_all_end(it, in, &s)), first + 20);
+#define AGAIN MPI_File_set_view(it, at, MPI_INT, MPI_INT, "native", MPI_INFO_NULL)
+    AGAIN;
+    TRY_FILE("File_read_all", MPI_File_write_all(it, out, 2, MPI_INT, &s),
+             (AGAIN, MPI_File_read_all(it, in, 2, MPI_INT, &s)), first + 30);
+    AGAIN;
+    TRY_FILE("File_iread_all", (MPI_File_iwrite_all(it, out, 2, MPI_INT, &r), MPI_Wait(&r, &s)),
+             (AGAIN, MPI_File_iread_all(it, in, 2, MPI_INT, &r), MPI_Wait(&r, &s)), first + 40);
+    AGAIN;
+    TRY_FILE("File_read_all_end",
+             (MPI_File_write_all_begin(it, out, 2, MPI_INT), MPI_File_write_all_end(it, out, &s)),
+             (AGAIN, MPI_File_read_all_begin(it, in, 2, MPI_INT), MPI_File_read_all_end(it, in, &s)), first + 50);
+    MPI_File_set_view(it, 0, MPI_INT, MPI_INT, "native", MPI_INFO_NULL);
+#define BACK MPI_File_seek_shared(it, 0, MPI_SEEK_SET)
+    BACK;
+    TRY_FILE("File_read_ordered", MPI_File_write_ordered(it, out, 2, MPI_INT, &s),
+             (BACK, MPI_File_read_ordered(it, in, 2, MPI_INT, &s)), first + 60);
+    BACK;
+    TRY_FILE("File_read_ordered_end",
+             (MPI_File_write_ordered_begin(it, out, 2, MPI_INT), MPI_File_write_ordered_end(it, out, &s)),
+             (BACK, MPI_File_read_ordered_begin(it, in, 2, MPI_INT), MPI_File_read_ordered_end(it, in, &s)), first + 70);
+    BACK;
+    TRY_FILE("File_read_shared", MPI_File_write_shared(it, in, 0, MPI_INT, &s),
+             (BACK, MPI_File_read_shared(it, in, 0, MPI_INT, &s)), 0);
+    MPI_File_set_atomicity(it, 1);
+    MPI_File_set_info(it, MPI_INFO_NULL);
+    MPI_File_close(&it);
+    WANTED("File_close", it == MPI_FILE_NULL, 1);
+}
+
 int main(int argc, char **argv) {
     MPI_Init(&argc, &argv);
     MPI_Comm_rank(WORLD, &rank);
@@ -194,6 +252,7 @@ int main(int argc, char **argv) {
     messages();
     meetings();
     communicators();
+    files(argv[1]);
     MPI_Finalize();
     printf("rank %d is through\n", rank);
     return faults != 0;
