@@ -31,7 +31,7 @@ THREAD = {"tid": int, "inner": int, "state": str, "call?": str, "calls?": int, "
           "kind?": int, "number?": int, "comm?": int, "partner?": (int, str), "tag?": int, "requests?": [object],
           "more?": int, "place?": [object], "fault?": str}
 COMM = {"id": str, "number": int, "size": int, "rank": int, "inter": int, "root": int, "name": str,
-        "ranks?": ([int], type(None))}
+        "ranks?": ([int], type(None)), "parent?": str, "made?": int}
 RANK = {"pid": int, "rank": int, "size": int, "level": int, "standard": int, "opened": int, "lost": int, "full": bool,
         "fortran": (bool, type(None)), "comms": [COMM], "threads": [THREAD], "any_tag?": int, "begun?": [object]}
 SHAPES = {"threads": RANK, "fault": {"pid": int, "fault": str, "rank?": int}, "ended": {"pid": int, "ended": bool},
@@ -374,21 +374,35 @@ def find_late(moment: Job, comm: Dict[str, Any], number: int, name: str, root: i
         return Late(why="the record doesn't say which ranks its communicator has")
     for it in ranks:
         rank = moment.ranks.get(it)
-        if rank is None:
-            found.is_open = True
-        elif rank.row.get("full"):
+        late = is_late(rank, comm, number, name, root) if rank else False
+        if rank and rank.row.get("full"):
             return Late(why=f"rank {it} has more communicators than its record has room for")
-        elif rank.fault or is_late(rank.by_id.get(comm["id"]), number, name, root):
+        found.is_open = found.is_open or rank is None
+        if rank and late:
             found.ranks.append(it)
             found.differs = found.differs or rank.by_id.get(comm["id"], comm)["number"] == number
     return found
 
 
-def is_late(comm: Optional[Dict[str, Any]], number: int, name: str, root: int) -> bool:
+def is_late(rank: Rank, comm: Dict[str, Any], number: int, name: str, root: int) -> bool:
     """Whether a rank, by its count in a communicator, hasn't come to a call."""
-    if comm is None or comm["number"] < number:
+    own = rank.by_id.get(comm["id"])
+    if rank.fault or own is None:
+        return bool(rank.fault) or has_yet_to_make(rank, comm)
+    if own["number"] < number:
         return True
-    return comm["number"] == number and name != "" and (comm["name"], comm["root"]) != (name, root)
+    return own["number"] == number and name != "" and (own["name"], own["root"]) != (name, root)
+
+
+def has_yet_to_make(rank: Rank, comm: Dict[str, Any]) -> bool:
+    """Whether a rank that doesn't have a communicator hasn't made it so far. Then it still has the one that this is made
+    of. Else it has freed it: it has come to all calls of it, and gone."""
+    parent = rank.by_id.get(comm.get("parent", ""))
+    if parent is None:
+        return False
+    made: int = comm.get("made", 0)
+    makes = [it.row for it in rank.threads if it.kind in (ALL, OTHER) and it.row["number"] == made]
+    return parent["number"] < made or any(rank.comms[it["comm"]:it["comm"] + 1] == [parent] for it in makes)
 
 
 def need_of_meeting(thread: Thread, moment: Job, comm: Dict[str, Any], row: Dict[str, Any]) -> Need:

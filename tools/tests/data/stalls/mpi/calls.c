@@ -202,6 +202,32 @@ static void persistent(void) {
         MPI_Waitall(2, requests, MPI_STATUSES_IGNORE);
     }
 }
+/* Each rank frees a communicator once it has its part of a broadcast, which rank 1 hands on to rank 3. */
+static void use_and_free(MPI_Comm step) {
+    if (rank == 1)
+        be_late();
+    if (rank == 1 && !is_slow)
+        receive(3, LATER);
+    MPI_Bcast(&it, 1, MPI_INT, 0, step);
+    MPI_Comm_free(&step);
+    if (rank == 3)
+        send(0, TAG);
+    if (rank == 0)
+        receive(3, TAG);
+}
+static void freed(void) {
+    MPI_Comm step;
+    MPI_Comm_dup(world, &step);
+    use_and_free(step);
+}
+/* The same of one that was made of another one, which is freed too. */
+static void freed_twice(void) {
+    MPI_Comm copy, step;
+    MPI_Comm_dup(world, &copy);
+    MPI_Comm_dup(copy, &step);
+    MPI_Comm_free(&copy);
+    use_and_free(step);
+}
 
 /* A message of two gigabytes goes from rank 0 to rank 1, again and again. */
 static void transfer(void) {
@@ -242,6 +268,7 @@ static const struct { const char *name; int ranks, level; void (*work)(void); } 
     {"sendrecv", 4, 0, sendrecv}, {"ibarrier", 3, 0, ibarrier}, {"token", 4, 0, token}, {"polls", 2, 0, polls},
     {"threads", 2, MPI_THREAD_MULTIPLE, threads}, {"funneled", 2, 0, funneled},
     {"window", 2, 0, window}, {"reduce", 4, 0, reduce}, {"persistent", 4, 0, persistent},
+    {"freed", 4, 0, freed}, {"freed_twice", 4, 0, freed_twice},
     {"transfer", 2, 0, transfer}, {"transfer_begun", 2, 0, transfer_begun}, {"exchange", 2, 0, exchange},
     {0},
 };
