@@ -121,7 +121,7 @@ class Thread:
         """The number of a collective call, or the tag of a message, in words."""
         if self.kind in (RECEIVE, SEND):
             return f"tag {self.row['tag']}"
-        return f"number {self.row['number']}" if ALL <= self.kind <= SOME else ""
+        return f"number {self.row['number']}" if ALL <= self.kind <= SOME or of_file(self.row) else ""
 
 
 @dataclass
@@ -242,7 +242,7 @@ class RecordsRecorder(Recorder):
         else:
             need = need_of(thread, moment, thread.row)
         if need.why:
-            proposal = "all" if thread.kind in (ALL, ALL_OF) else "any"
+            proposal = "all" if thread.kind in (ALL, ALL_OF) or of_file(thread.row) else "any"
             return unknown(thread.name, need.why, proposal=proposal, candidates=need.whom, **more)
         make = waits_for_all if need.needs_all else waits_for_any
         return make(thread.name, need.whom, need.because, is_open=need.is_open, **more)
@@ -285,7 +285,7 @@ def outside(thread: Thread, more: Dict[str, Any]) -> Process:
 def hidden_calls(row: Dict[str, Any]) -> str:
     """Returns which calls a rank may be in that leave no record, or nothing."""
     if row["opened"] > 0:
-        return "it has a window or a file of MPI open, and may be in a call on it"
+        return "it has a window of MPI open, and may be in a call on it"
     return "it may be in a call that came with MPI 4, which leaves no record" if row["standard"] >= NEW_CALLS else ""
 
 
@@ -310,7 +310,7 @@ def finalizes(thread: Thread, moment: Job, more: Dict[str, Any]) -> Process:
 def need_of(thread: Thread, moment: Job, row: Dict[str, Any]) -> Need:
     """Returns what a call, or a request, of a thread needs."""
     kind, comms = row["kind"], thread.rank.comms
-    if kind == OTHER or not 0 <= row["comm"] < len(comms):
+    if kind == OTHER and not of_file(row) or not 0 <= row["comm"] < len(comms):
         return Need(why=f"the record doesn't say whom {thread.operation()} waits for")
     comm = comms[row["comm"]]
     if kind in (RECEIVE, SEND):
@@ -318,6 +318,12 @@ def need_of(thread: Thread, moment: Job, row: Dict[str, Any]) -> Need:
     if comm["id"] == "0" or comm["inter"]:
         return Need(why="the record doesn't tell its communicator from others of these ranks")
     return need_of_meeting(thread, moment, comm, row)
+
+
+def of_file(row: Dict[str, Any]) -> bool:
+    """Whether a call, or a request, is a collective one on a file."""
+    return row.get("kind") == OTHER and row.get("number", 0) > 0 and str(
+        row.get("meeting", row.get("name", ""))).startswith("File_")
 
 
 def ranks_of(comm: Dict[str, Any]) -> Optional[List[int]]:
@@ -418,6 +424,9 @@ def need_of_meeting(thread: Thread, moment: Job, comm: Dict[str, Any], row: Dict
         return Need(away.names(), why=f"rank {away.number} has begun the same call, and goes on with it only when it "
                     "calls MPI again")
     is_root = comm["rank"] == root
+    if kind == OTHER:
+        return Need([name for it in late.ranks for name in moment.ranks[it].names()],
+                    why="MPI doesn't say whether a collective call on a file waits for those that haven't come to it")
     if kind == FROM_ROOT and not is_root and ranks[root:root + 1] and ranks[root] in late.ranks:
         return all_of([ranks[root]], moment, late)
     if kind == ALL or kind == TO_ROOT and is_root:

@@ -228,6 +228,34 @@ static void freed_twice(void) {
     MPI_Comm_free(&copy);
     use_and_free(step);
 }
+/* All write into a file together. The second time rank 2 has nothing to write, and skips that, or computes first. */
+static void file(void) {
+    MPI_File output;
+    MPI_File_open(world, "output", MPI_MODE_CREATE | MPI_MODE_WRONLY, MPI_INFO_NULL, &output);
+    for (int round = 0; round < 2; round++) {
+        if (rank == 2 && round == 1)
+            be_late();
+        if (rank != 2 || round == 0 || is_slow)
+            MPI_File_write_at_all(output, rank * sizeof rank, &rank, 1, MPI_INT, MPI_STATUS_IGNORE);
+    }
+    MPI_Barrier(world);
+    MPI_File_close(&output);
+}
+/* They write in the order of ranks, where rank 2 waits for a message of rank 0, or computes first. */
+static void file_ordered(void) {
+    MPI_File output;
+    MPI_Request request;
+    MPI_File_open(world, "output", MPI_MODE_CREATE | MPI_MODE_WRONLY, MPI_INFO_NULL, &output);
+    MPI_File_set_view(output, 0, MPI_INT, MPI_INT, "native", MPI_INFO_NULL);
+    MPI_File_iwrite_at_all(output, rank, &rank, 1, MPI_INT, &request);
+    MPI_Wait(&request, MPI_STATUS_IGNORE);
+    if (rank == 2)
+        be_late();
+    if (rank == 2 && !is_slow)
+        receive(0, TAG);
+    MPI_File_write_ordered(output, &rank, 1, MPI_INT, MPI_STATUS_IGNORE);
+    MPI_File_close(&output);
+}
 
 /* A message of two gigabytes goes from rank 0 to rank 1, again and again. */
 static void transfer(void) {
@@ -268,7 +296,8 @@ static const struct { const char *name; int ranks, level; void (*work)(void); } 
     {"sendrecv", 4, 0, sendrecv}, {"ibarrier", 3, 0, ibarrier}, {"token", 4, 0, token}, {"polls", 2, 0, polls},
     {"threads", 2, MPI_THREAD_MULTIPLE, threads}, {"funneled", 2, 0, funneled},
     {"window", 2, 0, window}, {"reduce", 4, 0, reduce}, {"persistent", 4, 0, persistent},
-    {"freed", 4, 0, freed}, {"freed_twice", 4, 0, freed_twice},
+    {"freed", 4, 0, freed}, {"freed_twice", 4, 0, freed_twice}, {"file", 3, 0, file},
+    {"file_ordered", 3, 0, file_ordered},
     {"transfer", 2, 0, transfer}, {"transfer_begun", 2, 0, transfer_begun}, {"exchange", 2, 0, exchange},
     {0},
 };
