@@ -9,6 +9,7 @@ from __future__ import annotations
 
 import itertools
 import re
+from collections import Counter
 from dataclasses import dataclass, field
 from typing import Any, Dict, List, Match, Tuple
 
@@ -33,6 +34,9 @@ THREAD = re.compile(r"^Thread (\d{1,9}) \(.*$", re.M)
 CALL = re.compile(r"[Pp]?(?:MPI_(?P<name>[A-Z]\w*)|mpi_(?P<fortran>[a-z]\w*?)_+)$")
 OF_LIBRARY = re.compile(r"(ompi|opal|orte|prte|mca|pmix|PMIx|MPI[DRIU]\w*|MPL|ucp|ucs|uct|psm2?|psmx\w*|fi|ofi|rxm)_")
 FINALIZE = re.compile(r"(ompi_mpi_finalize|MPI[DRI]+_Finalize)$")
+# What gdb prints of an argument that is still what it was at the function's entry, and where the next one begins.
+ENTRY = re.compile(r"\b(\w+)=\1@entry=")
+NEXT = re.compile(r", (?=\w+(?:@entry)?=)")
 # The argument that names the partner in the frame of the call itself.
 PARTNERS = {
     "Send": "dest", "Ssend": "dest", "Rsend": "dest", "Bsend": "dest", "Recv": "source", "Probe": "source",
@@ -113,8 +117,13 @@ class Rank:
         return made, {**more, "frames": [*polls.more()["frames"][:1], *more["frames"][1:]]}
 
     def values(self) -> List[str]:
-        """The arguments of the job's own function that made the call."""
-        return re.split(r", (?=\w+=)", self.own[0]["arguments"]) if self.own and self.own[0]["arguments"] else []
+        """The arguments of the job's own function that made the call. Then those of its callers, but for `main`, that
+        have a name of their own, and are no addresses."""
+        some = [it["arguments"] for at, it in enumerate(self.own) if at == 0 or it["function"] != "main"]
+        rows = [NEXT.split(it) if it else [] for it in some]
+        names = Counter(it.split("=")[0] for row in rows for it in row)
+        outer = [it for row in rows[1:] for it in row if names[it.split("=")[0]] == 1 and "=0x" not in it]
+        return [*(rows[0] if rows else []), *outer]
 
 
 class Ranks(Moment):
@@ -306,7 +315,7 @@ def stacks_of(text: str) -> Tuple[List[List[Match[str]]], str]:
     stacks: List[List[Match[str]]] = []
     fault = ""
     for each in texts_in_order:
-        one = re.sub(r"\n {4,}(?=\S)", " ", each)
+        one = ENTRY.sub(r"\1=", re.sub(r"\n {4,}(?=\S)", " ", each))
         frames = list(FRAME.finditer(one))
         if [int(it["at"]) for it in frames] != list(range(len(STEP.findall(one)))):
             fault = "its frames don't run from #0 up, each understood: some are missing, or of another rank"
