@@ -134,15 +134,14 @@ static int learn(MPI_Comm comm, uint64_t handle, uint64_t parent, uint64_t numbe
     unlock();
     return at;
 }
-static __attribute__((noinline)) int find_or_learn(struct record *r, MPI_Comm comm) {
+static int index_of(struct record *r, MPI_Comm comm) {
+    if (comm == MPI_COMM_WORLD || !file)
+        return WORLD;
+    if (file->comm[r->index].handle == BITS(comm))
+        return r->index;
     int found = find(BITS(comm)), at = found >= 0 ? found : learn(comm, BITS(comm), 0, 0);
     r->index = at >= 0 ? at : WORLD;
     return at;
-}
-static inline int index_of(struct record *r, MPI_Comm comm) {
-    if (comm == MPI_COMM_WORLD || !file)
-        return WORLD;
-    return file->comm[r->index].handle == BITS(comm) ? r->index : find_or_learn(r, comm);
 }
 /* Learns what a collective call has made, a communicator or a file. */
 static void learn_made(struct record *r, int error, MPI_Comm comm, uint64_t handle) {
@@ -157,19 +156,6 @@ static inline void drop(uint64_t handle, int mask) {
     if (it->handle == handle && !(it->kind & mask))
         it->handle = 0;
 }
-/* Copies what is known of some requests to the record. Those beyond its room are dropped. */
-static inline void look_up(struct record *r, int number, const MPI_Request *requests) {
-    for (int at = 0; at < number; at++) {
-        uint64_t handle = BITS(requests[at]);
-        struct operation *it = place_of(handle);
-        if (at >= OPEN)
-            drop(handle, KEPT);
-        else if (it->handle == handle && handle)
-            r->open[at] = *it;
-        else
-            r->open[at] = (struct operation){handle, 0, requests[at] == MPI_REQUEST_NULL ? NONE : OTHER, -1, -1, -1};
-    }
-}
 
 /* A collective call is told by its number in its communicator. */
 static inline uint64_t meet(const char *name, int at, int root) {
@@ -180,7 +166,7 @@ static inline uint64_t meet(const char *name, int at, int root) {
     WRITE(file->comm[at].number, file->comm[at].number + 1);
     return file->comm[at].number;
 }
-/* A call begins, with its partner or its requests. */
+/* A call begins, with its partner, or what is known of its requests. Those beyond the record's room are dropped. */
 static inline void enter(struct record *r, const char *name, int kind, int at, int partner, int tag, int number,
                          const MPI_Request *requests, uint64_t caller) {
     if (!file)
@@ -192,7 +178,15 @@ static inline void enter(struct record *r, const char *name, int kind, int at, i
     __atomic_thread_fence(__ATOMIC_RELEASE);
     r->now = it, r->requests = number, r->caller = caller, r->polls = 0;
     memcpy(r->name, name, NAME);
-    look_up(r, number, requests);
+    for (int i = 0; i < number; i++) {
+        uint64_t handle = BITS(requests[i]);
+        if (i >= OPEN)
+            drop(handle, KEPT);
+        else if (place_of(handle)->handle == handle && handle)
+            r->open[i] = *place_of(handle);
+        else
+            r->open[i] = (struct operation){handle, 0, requests[i] == MPI_REQUEST_NULL ? NONE : OTHER, -1, -1, -1};
+    }
     WRITE(r->sequence, r->sequence + 1);
     unlock();
 }
@@ -275,8 +269,6 @@ static inline void looked(struct record *r, int found, int number, const int *pl
 #define UNKNOWN(name, row) CALL(name, row, ENTER(name, OTHER, NOT_KNOWN, -1, -1), leave(r))
 #define BEGINS(name, kind, partner, row) \
     CALL(name, row REQUEST, begin(r, NULL, AT, 0), note(r, *request, kind, partner, tag))
-#define SENDS(name) PLAIN(name, SEND, dest, OUT TO)
-#define SENDS_LATER(name, kind) BEGINS(name, kind, dest, OUT TO)
 #define MEETS(name, begun, kind, root, row) \
     CALL(name, row COMM, ENTER(name, kind, AT, root, 0), leave(r)) \
     CALL(begun, row COMM REQUEST, begin(r, TEXT(#begun), AT, root), note(r, *request, kind, root, 0))
@@ -305,6 +297,7 @@ static inline void looked(struct record *r, int found, int number, const int *pl
 #define COMM (MPI_Comm, comm)
 #define ROOT (int, root)
 #define MADE (MPI_Comm *, made)
+#define PORT (const char *, port)
 #define WIN (MPI_Win *, win)
 #define INFO (MPI_Info, info)
 #define FLAG (int *, flag)
@@ -319,6 +312,8 @@ static inline void looked(struct record *r, int found, int number, const int *pl
 #define TYPE (MPI_Datatype, type)
 #define OTHER_TYPE (MPI_Datatype, other)
 
+#define SENDS(name) PLAIN(name, SEND, dest, OUT TO)
+#define SENDS_LATER(name, kind) BEGINS(name, kind, dest, OUT TO)
 SENDS(Send) SENDS(Ssend) SENDS(Rsend)
 PLAIN(Recv, RECEIVE, source, IN FROM STATUS)
 PLAIN(Probe, RECEIVE, source, FROM STATUS)
@@ -401,22 +396,19 @@ MAKES(Dist_graph_create, COMM (int, n)(const int *, nodes)(const int *, degrees)
 MAKES(Dist_graph_create_adjacent, COMM (int, n)(const int *, sources)(const int *, weights)(int, m)
       (const int *, targets)(const int *, others) INFO (int, order))
 
-UNKNOWN(Bsend, OUT TO)
-UNKNOWN(Mrecv, IN MESSAGE STATUS)
-UNKNOWN(Buffer_detach, (void *, buffer)(int *, size))
+UNKNOWN(Bsend, OUT TO) UNKNOWN(Mrecv, IN MESSAGE STATUS) UNKNOWN(Buffer_detach, (void *, buffer)(int *, size))
 UNKNOWN(Sendrecv_replace, DATA(void)(int, dest)(int, tag)(int, source)(int, other_tag) COMM STATUS)
-UNKNOWN(Comm_create_group, COMM (MPI_Group, group)(int, tag)MADE)
+UNKNOWN(Comm_create_group, COMM (MPI_Group, group)(int, tag) MADE)
 UNKNOWN(Comm_free, (MPI_Comm *, comm)) UNKNOWN(Comm_disconnect, (MPI_Comm *, comm))
-UNKNOWN(Comm_accept, (const char *, port) INFO ROOT COMM MADE)
-UNKNOWN(Comm_connect, (const char *, port) INFO ROOT COMM MADE)
-UNKNOWN(Comm_join, (int, socket)MADE)
+UNKNOWN(Comm_accept, PORT INFO ROOT COMM MADE) UNKNOWN(Comm_connect, PORT INFO ROOT COMM MADE)
+UNKNOWN(Comm_join, (int, socket) MADE)
 UNKNOWN(Comm_spawn, (const char *, command)(char **, words)(int, n) INFO ROOT COMM MADE(int *, errors))
 UNKNOWN(Comm_spawn_multiple, (int, n)(char **, commands)(char ***, words)(const int *, numbers)
         (const MPI_Info *, infos) ROOT COMM MADE(int *, errors))
-UNKNOWN(Intercomm_create, COMM (int, leader)(MPI_Comm, peers)(int, remote)(int, tag)MADE)
-UNKNOWN(Intercomm_merge, COMM (int, high)MADE)
+UNKNOWN(Intercomm_create, COMM (int, leader)(MPI_Comm, peers)(int, remote)(int, tag) MADE)
+UNKNOWN(Intercomm_merge, COMM (int, high) MADE)
 UNKNOWN(Lookup_name, (const char *, name) INFO (char *, port))
-UNKNOWN(Publish_name, (const char *, name) INFO (const char *, port))
+UNKNOWN(Publish_name, (const char *, name) INFO PORT)
 
 /* Calls on a window aren't seen: who has one open may be in such a call. */
 OPENS(Win_create, 1, (void *, base)(MPI_Aint, size)(int, unit) INFO COMM WIN)
