@@ -48,8 +48,9 @@ BEGINS = re.compile(r"(start_thread|_*clone3?)$")
 OUTERMOST = re.compile(r"(start_thread|_*clone3?|main|_start|__libc_start\w*|\?\?.*)$")
 PROGRESS = re.compile(r"(progress_engine|listen_thread|ucs_async_thread_func)$")
 # Calls that need all ranks of their communicator to come.
-COLLECTIVES = re.compile(r"_(Barrier|All\w+|Reduce_scatter\w*|Comm_(split|dup|create|free)\w*|Win_(fence|create|free)"
-                         r"|File_\w+_all\w*)$")
+COLLECTIVES = re.compile(r"_(Barrier|All\w+|Reduce_scatter\w*|Comm_(split|dup|create|free)\w*|Cart_(create|sub)|"
+                         r"Win_(fence|create|allocate|free)\w*|"
+                         r"File_(open|close|sync|preallocate|set_\w+|seek_shared|\w+_(all|ordered)\w*))$")
 WAITS = re.compile(r"_Wait(all|any|some)?$")  # of a request, which may be that of a collective
 POLLS = re.compile(r"(Test|Testall|Testany|Testsome|Iprobe|Improbe|Request_get_status)$")
 # (Open MPI begins to receive, sends, and then waits for what it receives.)

@@ -401,8 +401,8 @@ def is_late(rank: Rank, comm: Dict[str, Any], number: int, name: str, root: int)
 
 
 def has_yet_to_make(rank: Rank, comm: Dict[str, Any]) -> bool:
-    """Whether a rank that doesn't have a communicator hasn't made it so far. Then it still has the one that this is made
-    of. Else it has freed it: it has come to all calls of it, and gone."""
+    """Whether a rank that doesn't have a communicator hasn't made it so far. Then it still has the one that this is
+    made of. Else it has freed it: it has come to all calls of it, and gone."""
     parent = rank.by_id.get(comm.get("parent", ""))
     if parent is None:
         return False
