@@ -4,8 +4,9 @@
     cmh_heap.py FILE
 
 FILE is of `jcmd PID GC.heap_dump FILE`, in the binary format HPROF. It is read from front to end, and only the objects
-of the classes in GROUPS are kept. A row is a line '# cmh heap {..}'. Threads stand in it as [number, address], which is
-how jstack prints them too: "name" #number .. tid=address. Objects move, so no address of one is printed.
+of the classes in GROUPS are kept, and half of each reference. A row is a line '# cmh heap {..}'. Threads stand in it as
+[number, address], which is how jstack prints them too: "name" #number .. tid=address. Objects move, so no address of
+one is printed.
 """
 from __future__ import annotations
 
@@ -14,9 +15,10 @@ import mmap
 import re
 import struct
 import sys
+from array import array
 from collections import defaultdict
 from dataclasses import dataclass
-from typing import Any, Callable, Dict, Iterator, List, NamedTuple, Optional, Sequence, Set, Tuple
+from typing import Any, Callable, Dict, Iterable, Iterator, List, NamedTuple, Optional, Sequence, Set, Tuple
 
 # The classes whose objects are kept, also those of classes that derive from them, and which fields of each.
 THREAD, TASK, SYNC, HOLDS, ENTRY, WORKER, POOL, QUEUE, NODE, FUTURE, STEP = GROUPS = (
@@ -33,6 +35,10 @@ FIELDS = {
     POOL: ("workQueue", "corePoolSize", "maximumPoolSize"), QUEUE: ("head", "capacity"), NODE: ("item", "next"),
     FUTURE: ("result",), STEP: ("dep", "src", "executor")}
 MOST = 300_000  # objects of one group that are kept; with more, what rests on them isn't printed
+# References that are looked through, objects on paths, looks through all references, and threads in all lists: with
+# more it isn't printed who reaches what.
+MOST_REFERENCES, MOST_ON_PATHS, MOST_SWEEPS, MOST_LISTED = 50_000_000, 20_000, 16, 250_000
+STRIDE = 1 << 17  # bytes of a heap dump whose references are looked through together
 UNBOUNDED = 2 ** 31 - 1
 SHOWN = 12  # frames of a row
 STEPS = 100  # futures of a chain
@@ -41,21 +47,52 @@ JOIN, AWAIT, GET = ("java.lang.Thread.join", "java.util.concurrent.FutureTask.aw
                     "java.util.concurrent.CompletableFuture.waitingGet")
 WRITES = "java.util.concurrent.locks.ReentrantReadWriteLock$WriteLock.lock"
 COMPUTES = re.compile(r"java\.util\.concurrent\.CompletableFuture\$(?:Async(?:Supply|Run)\.run|(?:Uni|Bi)\w+\.tryFire)")
+# Who lets a thread sleep, and who waits by that.
+PARKS_A_WHILE = re.compile(r"java\.util\.concurrent\.locks\.LockSupport\.park(?:Nanos|Until)")
+PARKS = re.compile(r"(?:jdk\.internal|sun)\.misc\.Unsafe\.park|java\.util\.concurrent\.locks\.LockSupport\.park")
+WAITS, GETS_TASK, CLEANS = ("java.lang.Object.wait", "java.lang.Object.wait0"), \
+    "java.util.concurrent.ThreadPoolExecutor.getTask", "java.lang.ref."
+TAKES = re.compile(r"java\.util\.concurrent\.(?!Scheduled)\w+(?:\$\w+)?\.take\w*")
+# Fields by which nobody comes to an object: nodes of those who wait, whom others only wake up; the list of all threads;
+# what a phantom refers to; and what the collector keeps for itself. A thread alone uses some fields of its own.
+WAKES = re.compile(r"java/util/concurrent/(?:locks/(?:Abstract(?:Ownable|Queued(?:Long)?)Synchronizer(?:\$Node)?"
+                   r"|StampedLock\$W?Node)|SynchronousQueue\$\S+|LinkedTransferQueue\$Node|Exchanger\$Node"
+                   r"|Phaser\$QNode|FutureTask\$WaitNode|CompletableFuture\$Signaller|ForkJoinTask\$Aux)"
+                   r"\.(?:thread|waiter|parked|exclusiveOwnerThread)"
+                   r"|java/lang/(?:ThreadGroup\.threads|Thread\.parkBlocker|ref/Reference\.discovered)")
+OWN = re.compile(r"java/lang/Thread\.(?:target|holder|threadLocals|inheritableThreadLocals"
+                 r"|inheritedAccessControlContext|blocker|scopedValueBindings)")
+REFERENT, PHANTOM = "java/lang/ref/Reference.referent", "java/lang/ref/PhantomReference"
+VIRTUAL, STRING = "java/lang/VirtualThread", "java/lang/String"
 TEXT, LOADED, FRAME, TRACE, SEGMENTS, END = 0x01, 0x02, 0x04, 0x05, (0x0C, 0x1C), 0x2C
 LOCAL, OF_THREAD, CLASS, INSTANCE, OBJECTS, VALUES = 0x03, 0x08, 0x20, 0x21, 0x22, 0x23
+OF_ALL, OF_NATIVES = (0x01, 0xFF), (0x02, 0x04, 0x06)  # roots of the JVM's, and of natives of one thread
 ROOTS = {0x01: 16, 0x02: 16, LOCAL: 16, 0x04: 12, 0x05: 8, 0x06: 12, 0x07: 8, OF_THREAD: 16, 0xFF: 8}
-WIDTHS = {2: 8, 4: 1, 5: 2, 6: 4, 7: 8, 8: 1, 9: 2, 10: 4, 11: 8}
-FORMATS = {2: struct.Struct(">Q"), 10: struct.Struct(">i"), 11: struct.Struct(">q")}
+REFERENCE = 2
+WIDTHS = {REFERENCE: 8, 4: 1, 5: 2, 6: 4, 7: 8, 8: 1, 9: 2, 10: 4, 11: 8}
+FORMATS = {REFERENCE: struct.Struct(">Q"), 10: struct.Struct(">i"), 11: struct.Struct(">q")}
 RECORD, NUMBER, IDENTITY = struct.Struct(">BII"), struct.Struct(">I"), struct.Struct(">Q")
-OBJECT, ARRAY, ARRAY_OF_VALUES = struct.Struct(">QIQI"), struct.Struct(">QII"), struct.Struct(">QIIB")
+HEAD = struct.Struct(">B12xQI")  # of an object: its tag, its class and size; of an array its length, and what follows
 COUNT, FIELD = struct.Struct(">H"), struct.Struct(">QB")
-ROOT, CLASS_HEAD = struct.Struct(">QII"), struct.Struct(">QIQ")
+ROOT, ROOT_OF_NATIVE, CLASS_HEAD = struct.Struct(">QII"), struct.Struct(">QI"), struct.Struct(">QIQQQQ")
+LOWER = 2 ** 32 - 1
+SHORT = 64  # arrays shorter than this have what reads them at hand
+ARRAYS = [struct.Struct(f">{'4xI' * length}").unpack_from for length in range(SHORT)]
 Row = Dict[str, Any]
 Reader = Tuple[int, Callable[..., Tuple[Any, ...]]]
 
 
 class Fault(Exception):
     """The file isn't what is expected."""
+
+
+class Referring(NamedTuple):
+    """An object with the lower halves of its references: its class, or 0 for an array, and where its fields stand."""
+
+    identity: int
+    kind: int
+    at: int
+    halves: Tuple[int, ...]
 
 
 class Layout(NamedTuple):
@@ -65,10 +102,41 @@ class Layout(NamedTuple):
     readers: List[Optional[Reader]]
 
 
+def halves_in(length: int) -> Callable[..., Iterable[int]]:
+    """Returns what reads the lower half of each reference of an array."""
+
+    def halves(data: mmap.mmap, at: int) -> Iterable[int]:
+        words = array("I", data[at:at + 8 * length])
+        if sys.byteorder == "little":
+            words.byteswap()
+        return words[1::2]
+
+    return halves
+
+
+class Shapes(Dict[int, Optional[Callable[..., Tuple[int, ...]]]]):
+    """By a class, what reads the lower halves of the references that an object of it has. A text refers to none but its
+    letters."""
+
+    def __init__(self, heap: Heap) -> None:
+        super().__init__()
+        self.heap = heap
+
+    def __missing__(self, kind: int) -> Optional[Callable[..., Tuple[int, ...]]]:
+        is_text = self.heap.name_of(kind) == STRING
+        self.heap.keeps_references = self.heap.keeps_references and kind in self.heap.classes
+        widths = [] if is_text else [width for it in self.heap.lineage(kind) for _, width in self.heap.classes[it][1]]
+        words = "".join("4xI" if width == REFERENCE else f"{WIDTHS[width]}x" for width in widths)
+        found = self[kind] = struct.Struct(f">{words}").unpack_from if "I" in words else None
+        return found
+
+
 class Heap:
     """What is kept of a heap dump: when it was taken, in seconds; by the identity of an object the values of its
     fields, for each group; of each thread, by its number in the file, its object, its trace, and which objects each of
-    its frames has."""
+    its frames has, or its natives. `of_all` are those that any thread may come to: in static fields, of the JVM.
+    `references` has the lower half of each reference, in the order of the file, and `strides` where some of them begin
+    there and here."""
 
     def __init__(self, data: mmap.mmap) -> None:
         self.data, self.time = data, 0.0
@@ -84,6 +152,12 @@ class Heap:
         self.wanted: Dict[int, Layout] = {}
         self.roots: Dict[int, Tuple[int, int]] = {}
         self.locals: Dict[int, List[Tuple[int, int]]] = defaultdict(list)
+        self.natives: Dict[int, Set[int]] = defaultdict(set)
+        self.of_all: Set[int] = set()
+        self.keeps_references = True
+        self.references = array("I")
+        self.strides: List[Tuple[int, int]] = []
+        self.shapes = Shapes(self)
 
     def read(self) -> None:
         head = self.data.find(b"\0", 0, 64)
@@ -120,32 +194,51 @@ class Heap:
             self.traces[serial] = list(struct.unpack_from(f">{number}Q", self.data, at + 12))
 
     def read_objects(self, at: int, end: int) -> None:
-        """Reads a segment of the heap: most of the time goes here."""
-        data, wanted, unpack = self.data, self.wanted, OBJECT.unpack_from
+        """Reads a segment of the heap. So near the end of the file that a head is cut off there are roots alone."""
         while at < end:
-            tag = data[at]
+            if at + HEAD.size > len(self.data):
+                at = self.read_root(self.data[at], at)
+                continue
+            self.strides.append((at, len(self.references)))
+            at = self.read_stride(at, min(at + STRIDE, end, len(self.data) - HEAD.size + 1), end)
+            self.keeps_references = self.keeps_references and len(self.references) <= MOST_REFERENCES
+            if not self.keeps_references:
+                del self.references[:], self.strides[:]
+
+    def read_stride(self, at: int, stop: int, end: int) -> int:
+        """Reads objects up to a place, and returns where the next stands: most of the time goes here."""
+        data, wanted, unpack, extend = self.data, self.wanted, HEAD.unpack_from, self.references.extend
+        shapes, arrays = self.shapes, ARRAYS
+        while at < stop:
+            tag, kind, size = unpack(data, at)
             if tag == INSTANCE:
-                identity, _, kind, size = unpack(data, at + 1)
                 if kind in wanted:
-                    self.keep(identity, kind, at + 25)
-                at += 25 + size
+                    self.keep(kind, at)
+                halves = shapes[kind]
+                at += 25
+                if halves:
+                    extend(halves(data, at))
+                at += size
             elif tag == VALUES:
-                _, _, size, width = ARRAY_OF_VALUES.unpack_from(data, at + 1)
-                at += 18 + size * WIDTHS[width]
+                at += 18 + (kind >> 32) * WIDTHS[kind >> 24 & 0xFF]
             elif tag == OBJECTS:
-                at += 25 + 8 * ARRAY.unpack_from(data, at + 1)[2]
+                length = kind >> 32
+                extend(arrays[length](data, at + 25) if length < SHORT else halves_in(length)(data, at + 25))
+                at += 25 + 8 * length
             elif tag == CLASS:
                 at = self.read_classes(at, end)
             else:
                 at = self.read_root(tag, at)
+        return at
 
-    def keep(self, identity: int, kind: int, at: int) -> None:
+    def keep(self, kind: int, at: int) -> None:
         group, readers = self.wanted[kind]
         if len(self.found[group]) >= MOST:
             self.over.add(group)
             return
+        identity = IDENTITY.unpack_from(self.data, at + 1)[0]
         self.kinds[identity] = kind
-        self.found[group][identity] = tuple(it[1](self.data, at + it[0])[0] if it else None for it in readers)
+        self.found[group][identity] = tuple(it[1](self.data, at + 25 + it[0])[0] if it else None for it in readers)
 
     def read_root(self, tag: int, at: int) -> int:
         """Reads a root of the collector, and returns where the next record stands."""
@@ -154,6 +247,11 @@ class Heap:
         if tag == LOCAL:
             identity, serial, depth = ROOT.unpack_from(self.data, at + 1)
             self.locals[serial].append((depth, identity))
+        elif tag in OF_NATIVES:
+            identity, serial = ROOT_OF_NATIVE.unpack_from(self.data, at + 1)
+            self.natives[serial].add(identity)
+        elif tag in OF_ALL:
+            self.of_all.add(IDENTITY.unpack_from(self.data, at + 1)[0])
         elif tag == OF_THREAD:
             identity, serial, trace = ROOT.unpack_from(self.data, at + 1)
             self.roots[serial] = identity, trace
@@ -171,17 +269,27 @@ class Heap:
 
     def read_class(self, at: int) -> int:
         """Reads a class, and returns where the next record stands: constants and statics come before the fields."""
-        kind, _, above = CLASS_HEAD.unpack_from(self.data, at)
+        kind, _, above, *of_all = CLASS_HEAD.unpack_from(self.data, at)
+        self.of_all.update(of_all)
         at += 64
         for head in (2, 8):
             number: int = COUNT.unpack_from(self.data, at)[0]
             at += 2
             for _ in range(number):
+                if self.data[at + head] == REFERENCE:
+                    self.of_all.add(IDENTITY.unpack_from(self.data, at + head + 1)[0])
                 at += head + 1 + WIDTHS[self.data[at + head]]
         number = COUNT.unpack_from(self.data, at)[0]
         self.classes[kind] = above, [(name, width) for name, width in FIELD.iter_unpack(
             self.data[at + 2:at + 2 + FIELD.size * number])]
         return at + 2 + FIELD.size * number
+
+    def passed(self, tag: int, at: int) -> int:
+        """Returns where the record stands behind one that is no object with references."""
+        if tag == VALUES:
+            rest: int = HEAD.unpack_from(self.data, at)[1]
+            return at + 18 + (rest >> 32) * WIDTHS[rest >> 24 & 0xFF]
+        return self.read_class(at + 1) if tag == CLASS else at + 1 + ROOTS[tag]
 
     def lineage(self, kind: int) -> List[int]:
         """Returns a class and those that it derives from."""
@@ -238,6 +346,132 @@ class Thread:
         return {identity for depth, identity in self.locals if depth in depths and identity in some}
 
 
+class Reach:
+    """Who has a path of references to some objects. `into` has, of each object on a path, those that refer to it, `own`
+    the threads that alone use a field of theirs which does, `having` those that have it in a frame, and `of_all` are
+    those that any thread may come to. A compiled frame may have one of which the heap dump doesn't say it: the JVM has
+    then taken the object apart by which alone it has that, for as long as nobody else sees it."""
+
+    def __init__(self, heap: Heap, alive: Iterable[int]) -> None:
+        self.heap, self.alive = heap, set(alive)
+        self.into: Dict[int, Set[int]] = {}
+        self.own: Dict[int, Set[int]] = defaultdict(set)
+        self.having: Dict[int, Set[int]] = defaultdict(set)
+        self.of_all = {*heap.of_all}
+        self.fields: Dict[int, List[Tuple[int, bool]]] = {}
+        self.known: Dict[int, Optional[Set[int]]] = {}
+        for serial, rows in heap.locals.items():
+            self.add_root(heap.roots.get(serial, (0, 0))[0], [it for _, it in rows])
+        for serial, held in heap.natives.items():
+            self.add_root(heap.roots.get(serial, (0, 0))[0], held)
+
+    def add_root(self, thread: int, held: Iterable[int]) -> None:
+        if thread not in self.alive:
+            self.of_all.update(held)
+        for it in held:
+            self.having[it].add(thread)
+
+    def find(self, some: Iterable[int]) -> bool:
+        """Finds all paths to some objects, and returns whether these are all. A virtual thread has no frames here."""
+        kinds = map(self.heap.name_of, {*self.heap.kinds.values()})
+        if not self.heap.keeps_references or THREAD in self.heap.over or VIRTUAL in kinds:
+            return False
+        new = set(some)
+        self.into = {it: set() for it in new}
+        for number in range(MOST_SWEEPS):
+            if not new or len(self.into) > MOST_ON_PATHS:
+                break
+            new = self.look_for(new, -1 if number % 2 else 1)
+        return not new
+
+    def look_for(self, some: Set[int], step: int) -> Set[int]:
+        """Looks through all references for those to some objects, and to those that refer to these. It returns the
+        latter: what refers to them may have been passed before."""
+        wanted, found = {it & LOWER for it in some}, set()
+        strides, references = self.heap.strides, self.heap.references
+        ends = [*(begin for _, begin in strides[1:]), len(references)]
+        for number in range(len(strides))[::step]:
+            at, begin = strides[number]
+            if not wanted.isdisjoint(references[begin:ends[number]]) and len(self.into) <= MOST_ON_PATHS:
+                found |= self.look_at(list(self.referring(at, ends[number] - begin)), wanted)
+        return found
+
+    def look_at(self, rows: List[Referring], wanted: Set[int]) -> Set[int]:
+        """Adds those objects of a stride that refer to one that is wanted, or to each other, and returns the new ones.
+        """
+        found: Set[int] = set()
+        new: Set[int] = {0}
+        while new and len(found) <= MOST_ON_PATHS:
+            new = {row.identity for row in rows if not wanted.isdisjoint(row.halves) and self.add(row)}
+            wanted.update(it & LOWER for it in new)
+            found |= new
+        return found
+
+    def referring(self, at: int, number: int) -> Iterator[Referring]:
+        """Yields the objects from a place on that have so many references."""
+        data = self.heap.data
+        while number > 0:
+            tag, kind, size = HEAD.unpack_from(data, at)
+            identity = IDENTITY.unpack_from(data, at + 1)[0]
+            if tag == INSTANCE:
+                halves = self.heap.shapes[kind]
+                row = Referring(identity, kind, at + 25, halves(data, at + 25) if halves else ())
+                at += 25 + size
+            elif tag == OBJECTS:
+                row = Referring(identity, 0, at + 25, tuple(halves_in(kind >> 32)(data, at + 25)))
+                at += 25 + 8 * (kind >> 32)
+            else:
+                at = self.heap.passed(tag, at)
+                continue
+            number -= len(row.halves)
+            yield row
+
+    def add(self, row: Referring) -> bool:
+        """Adds to whom on paths an object refers, and returns whether it is a new one there."""
+        is_new = False
+        for at, is_own in self.fields_of(row):
+            other = IDENTITY.unpack_from(self.heap.data, row.at + at)[0]
+            if other in self.into and is_own and row.identity in self.alive:
+                self.own[other].add(row.identity)
+            elif other in self.into:
+                self.into[other].add(row.identity)
+                is_new = is_new or row.identity not in self.into
+        if is_new:
+            self.into[row.identity] = set()
+        return is_new
+
+    def fields_of(self, row: Referring) -> Iterable[Tuple[int, bool]]:
+        """Returns where the references of an object stand, but for those by which nobody comes to an object, and which
+        of them only a thread itself uses, if it is one."""
+        if not row.kind:
+            return [(8 * at, False) for at in range(len(row.halves))]
+        if row.kind not in self.fields:
+            self.fields[row.kind] = list(self.fields_in(row.kind))
+        return self.fields[row.kind]
+
+    def fields_in(self, kind: int) -> Iterator[Tuple[int, bool]]:
+        names = [self.heap.name_of(it) for it in self.heap.lineage(kind)]
+        at = 0
+        for owner, (name, width) in ((owner, it) for owner, each in zip(names, self.heap.lineage(kind))
+                                     for it in self.heap.classes[each][1]):
+            field = f"{owner}.{self.heap.text(name)}"
+            if width == REFERENCE and not WAKES.fullmatch(field) and not (field == REFERENT and PHANTOM in names):
+                yield at, OWN.fullmatch(field) is not None
+            at += WIDTHS[width]
+
+    def threads_to(self, thing: int) -> Optional[Set[int]]:
+        """Returns the threads that have a path to an object, or None if any thread may have one."""
+        if thing not in self.known:
+            path, seen = [thing], {thing}
+            for it in path:  # (which grows meanwhile)
+                new = self.into[it] - seen
+                seen |= new
+                path += new
+            found = {thread for it in path for some in (self.having, self.own) for thread in some.get(it, ())}
+            self.known[thing] = None if seen & self.of_all else found | seen & self.alive
+        return self.known[thing]
+
+
 class Waits:
     """Who waits for what in a heap dump, as rows."""
 
@@ -254,16 +488,62 @@ class Waits:
         for thread in self.threads.values():
             for held in {held for _, held in thread.locals}:
                 self.having[held].append(thread)
+        self.reach = Reach(heap, self.threads)
+        self.at = {it.identity: self.object_of(it) for it in self.threads.values()}
+        self.listed = 0
         self.steps: Dict[int, List[int]] = defaultdict(list)
         for identity, (after, _, _) in self.found[STEP].items():
             self.steps[after].append(identity)
 
     def rows(self) -> Iterator[Row]:
+        waiting = {it for it, at in self.at.items() if at or self.threads[it].top(JOIN)}
+        is_known = self.reach.find(waiting.union(filter(None, self.at.values()))) if waiting else False
         for thread in self.threads.values():
             row = self.row_of(thread)
+            some = self.reaching(thread) if is_known and thread.identity in waiting else None
+            if some is not None and not row and self.at[thread.identity] and not thread.top(GETS_TASK):
+                row = {"waits": "reach", "for": some}
+            elif some is not None and row:
+                row["reach"] = some
             if row:
                 frames = [f"{name}:{line}" for name, line in thread.frames[:SHOWN]]
                 yield {"thread": thread.label, "frames": frames, **row}
+
+    def object_of(self, thread: Thread) -> int:
+        """Returns by which object others end the wait of a thread without a limit: one of the JDK's at which it is
+        parked, or one on which it is in Object.wait(). Else it returns 0."""
+        names = [name for name, _ in thread.frames[:SHOWN]]
+        parker = next((name for name in names if not PARKS.fullmatch(name)), "")
+        if any(name == JOIN or name.startswith(CLEANS) for name in names) or PARKS_A_WHILE.fullmatch(parker):
+            return 0
+        if names[0:1] != [parker] and parker.startswith("java.util.concurrent."):
+            return thread.blocker
+        depths = {at for at, name in enumerate(names) if name in WAITS} if parker in WAITS else set()
+        found = {identity for depth, identity in thread.locals if depth in depths}
+        return found.pop() if len(found) == 1 else 0
+
+    def reaching(self, thread: Thread) -> Optional[List[List[Any]]]:
+        """Returns who may end the wait of a thread, by what it waits at or by an interrupt, or None if that may be
+        anybody. In the place of a worker of a pool that is idle stands who may give it something to do."""
+        found: Set[int] = set()
+        todo = [thread]
+        seen = {thread.identity}
+        for one in todo:  # (which grows meanwhile)
+            some = [self.reach.threads_to(it) for it in (self.at[one.identity], one.identity) if it]
+            if None in some or self.listed > MOST_LISTED:
+                return None
+            new = {it for each in some for it in each or ()} - seen
+            seen |= new
+            todo += [self.threads[it] for it in new if self.is_at_rest(self.threads[it])]
+            found |= {it for it in new if not self.is_at_rest(self.threads[it])}
+        self.listed += len(found)
+        return [thread.label for it, thread in self.threads.items() if it in found]
+
+    def is_at_rest(self, thread: Thread) -> bool:
+        """Whether a thread of a pool waits without a limit until somebody has a task for it."""
+        names = [name for name, _ in thread.frames[:SHOWN]]
+        at = names.index(GETS_TASK) if GETS_TASK in names else 0
+        return at > 0 and TAKES.fullmatch(names[at - 1]) is not None and self.at[thread.identity] != 0
 
     def row_of(self, thread: Thread) -> Row:
         """Returns what a thread waits for, or nothing if the heap doesn't show it for certain."""

@@ -83,6 +83,9 @@ BARRIER = re.compile(r"java\.util\.concurrent\.CyclicBarrier\.(?:await|dowait)")
 # Calls that interrupt other threads.
 INTERRUPTS = re.compile(r"java\.lang\.Thread\.interrupt0?|java\.util\.concurrent\.FutureTask\.cancel"
                         r"|java\.util\.concurrent\.\w+\.shutdownNow|java\.lang\.ThreadGroup\.interrupt")
+# Calls that come to threads without a reference.
+FINDS_THREADS = re.compile(r"java\.lang\.(?:ThreadGroup\.(?:enumerate|interrupt|stop)"
+                           r"|Thread\.(?:enumerate|getAllStackTraces|getAllThreads|getThreads))")
 # Waits for a lock that an interrupt ends, also within the JDK's own queues.
 INTERRUPTIBLY = re.compile(r"java\.util\.concurrent\.locks\..*Interruptibly")
 # Calls that only let others go first: who waits by them looks again and again.

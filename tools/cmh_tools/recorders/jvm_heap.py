@@ -13,17 +13,22 @@ from typing import Any, Dict, List, Optional, Tuple
 from ..files import Refusal, shown
 from ..sketch import COMPLETE, SYSTEM, Process, premise, unknown, waits_for_all, waits_for_any
 from .base import misfits
+from .jvm_frames import FINDS_THREADS, is_in, is_of_jvm
 from .jvm_locks import Locks
-from .jvm_text import Dump, Thread
+from .jvm_text import Dump, Thread, stack_of
 
 MARK = "# cmh heap "
 BUILT = re.compile(r"\$\$Lambda.*(?=\.)|[+/]0x[0-9a-f]+(?=\.)")  # what jstack and a heap dump write differently
 LABEL = [int, re.compile(r"0x[0-9a-f]{1,16}")]
-TASK, QUEUED, READERS, JOIN, FUTURE = KINDS = ("task", "queued", "readers", "join", "future")
+KINDS = TASK, QUEUED, READERS, JOIN, FUTURE, REACH = ("task", "queued", "readers", "join", "future", "reach")
 ROW = {"thread": LABEL, "frames": [str], "waits": re.compile("|".join(KINDS)), "for": [LABEL], "object?": str,
-       "is_full?": bool, "is_direct?": bool, "besides?": [LABEL]}
+       "is_full?": bool, "is_direct?": bool, "besides?": [LABEL], "reach?": [LABEL]}
 Label = Tuple[int, int]
-CANCELS, POOLS, COMPLETES = "cancels", "pools", "completes"
+CANCELS, POOLS, COMPLETES, REACHES = "cancels", "pools", "completes", "reaches"
+BY_REFERENCE = {
+    REACHES: "only a thread that has a path of references, by the heap dump, to what a wait is at, or to the thread "
+             "that waits, ends that wait",
+}
 PREMISES = {
     CANCELS: "nobody cancels a task for which a thread waits, nor interrupts a thread that waits for another one",
     POOLS: "a task that stands in the queue of a pool is begun by a thread of that pool",
@@ -35,7 +40,8 @@ PREMISES = {
 class Wait:
     """What a heap shows of the wait of a thread: of which of KINDS it is, whom it waits for, who else has at hand what
     it waits at; whether the pool of a queued task takes no more threads, and whether who computes the first future of
-    a chain also does what follows."""
+    a chain also does what follows. `reach` has all who may end it, also by an interrupt or a cancel, if that can't be
+    anybody."""
 
     kind: str
     frames: List[str]
@@ -43,6 +49,7 @@ class Wait:
     besides: List[Label] = field(default_factory=list)
     is_full: bool = False
     is_direct: bool = False
+    reach: Optional[List[Label]] = None
 
 
 @dataclass
@@ -92,7 +99,9 @@ def tree_of(at: str, line: str) -> Dict[str, Any]:
 def wait_of_row(row: Dict[str, Any]) -> Wait:
     whom, besides = (list(map(key_of, row.get(key, []))) for key in ("for", "besides"))
     frames = [BUILT.sub("", it) for it in row["frames"]]
-    return Wait(row["waits"], frames, whom, besides, row.get("is_full", False), row.get("is_direct", False))
+    reach = row["for"] if row["waits"] == REACH else row.get("reach")
+    return Wait(row["waits"], frames, whom, besides, row.get("is_full", False), row.get("is_direct", False),
+                None if reach is None else list(map(key_of, reach)))
 
 
 def key_of(label: List[Any]) -> Label:
@@ -126,14 +135,29 @@ class Heaps:
         self.threads = {it.key: it for it in threads}
         labels = [(label_of(it), it) for it in threads] if heap else []
         self.there: Dict[Label, Thread] = {label: it for label, it in labels if label}
+        self.is_searched = any(is_in(FINDS_THREADS, stack_of(it)) for it in threads)
 
     def names_of(self, labels: List[Label]) -> List[str]:
         return [self.names[self.there[it].key] for it in labels if it in self.there]
 
+    def in_order(self, names: List[str]) -> List[str]:
+        """Returns some names in the order in which the state has their threads, so that equal lists look alike."""
+        some = set(names)
+        return [name for name in map(self.names.__getitem__, self.threads) if name in some]
+
+    def reach_of(self, thread: Thread) -> Optional[List[str]]:
+        """Returns the names of all who may end the wait of a thread, or None if it isn't known who they are, or one of
+        them is of the JVM itself, or a thread looks for others without a reference."""
+        wait = self.heap.wait_of(thread) if self.heap and not self.is_searched else None
+        if wait is None or wait.reach is None:
+            return None
+        some = [self.there.get(it) for it in wait.reach]
+        return None if any(it is None or is_of_jvm(it) for it in some) else self.names_of(wait.reach)
+
     def process_of(self, thread: Thread, name: str) -> Optional[Process]:
         """Returns what a thread waits for without a limit, as a process, or None if the heap doesn't say it."""
         wait = self.heap.wait_of(thread) if self.heap else None
-        if wait is None or not wait.whom:
+        if wait is None or not wait.whom or wait.kind == REACH:
             return None
         if not all(it in self.there for it in [*wait.whom, *wait.besides]):
             return unknown(name, "a thread that may end this wait by the heap dump isn't in this state")
@@ -145,8 +169,11 @@ class Heaps:
                            candidates=[*whom, COMPLETE])
         if wait.kind == FUTURE and not wait.is_direct and not all(self.stands(self.there[it]) for it in wait.whom):
             return unknown(name, f"{whom[0]} computed what it waits for, and has moved since", candidates=whom)
+        reach = self.reach_of(thread)
         because = {QUEUED: [POOLS, CANCELS], FUTURE: [COMPLETES]}.get(wait.kind, [CANCELS])
-        return waits_for_any(name, whom, [SYSTEM, *map(premise, because)], besides=self.names_of(wait.besides))
+        because = because if reach is None else [REACHES]
+        besides = dict.fromkeys([*self.names_of(wait.besides), *(it for it in reach or () if it not in whom)])
+        return waits_for_any(name, whom, [SYSTEM, *map(premise, because)], besides=list(besides))
 
     def stands(self, thread: Thread) -> bool:
         """Whether a thread was at one wait all the time between the two states. One that is blocked at a monitor uses
