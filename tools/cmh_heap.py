@@ -45,6 +45,7 @@ STEPS = 100  # futures of a chain
 FREED = 1 << 26  # bytes after which what was read leaves the memory
 JOIN, AWAIT, GET = ("java.lang.Thread.join", "java.util.concurrent.FutureTask.awaitDone",
                     "java.util.concurrent.CompletableFuture.waitingGet")
+POOL_ENDS = "java.util.concurrent.ThreadPoolExecutor.awaitTermination"
 WRITES = "java.util.concurrent.locks.ReentrantReadWriteLock$WriteLock.lock"
 COMPUTES = re.compile(r"java\.util\.concurrent\.CompletableFuture\$(?:Async(?:Supply|Run)\.run|(?:Uni|Bi)\w+\.tryFire)")
 # Who lets a thread sleep, and who waits by that.
@@ -555,6 +556,9 @@ class Waits:
             joined = thread.objects_in(JOIN, self.found[THREAD])
             others = [self.threads[it].label for it in joined if it in self.threads]
             return {"waits": "join", "for": others} if len(joined) == len(others) == 1 else {}
+        if thread.top(POOL_ENDS):
+            pools = thread.objects_in(POOL_ENDS, self.found[POOL])
+            return {"waits": "pool", "for": self.workers(*pools)} if len(pools) == 1 else {}
         if thread.top(GET):
             futures = thread.objects_in(GET, self.found[FUTURE])
             return self.future(thread, *futures) if len(futures) == 1 else {}
@@ -576,11 +580,13 @@ class Waits:
         if len(pools) != 1:
             return {}
         queue, least, most = self.found[POOL][pools[0]]
-        workers = [self.threads[it].label for pool, it in self.found[WORKER].values()
-                   if pool == pools[0] and it in self.threads]
+        workers = self.workers(pools[0])
         is_full = len(workers) >= (least if self.found[QUEUE][queue][1] == UNBOUNDED else most)
         return {"waits": "queued", "for": workers, "is_full": is_full, "object": f"{thread.blocker:#x}",
                 "besides": self.besides(thread.blocker, [thread])}
+
+    def workers(self, pool: int) -> List[List[Any]]:
+        return [self.threads[it].label for its, it in self.found[WORKER].values() if its == pool and it in self.threads]
 
     def queued(self, pool: int) -> Set[int]:
         """Returns the tasks in the queue of a pool, of the kind that fixed pools have."""

@@ -17,13 +17,13 @@ from typing import Dict, Iterable, List, Optional, Set, Tuple
 
 from ..files import Refusal
 from ..moments import APART, ONCE, WHOLE, WOKEN, Reading
-from ..sketch import (COMPLETE, LIMIT, REST, RUNS, SYSTEM, Process, Sketch, premise, runs, spoilt,
+from ..sketch import (COMPLETE, LIMIT, REST, RUNS, SYSTEM, UNKNOWN, Process, Sketch, premise, runs, spoilt,
                       unknown, waits_for_any)
 from . import State
 from .base import Moment, Premise, Recorder
 from .jvm_dumps import read_dumps
 from .jvm_frames import (AGAIN, BARRIER, CLEANER, COMPUTES, CONDITION, FUTURE, HAS_TIMER, INTERRUPTIBLY, INTERRUPTS,
-                         LIMITED, LIMITS_FUTURES, MEETS, NEEDS_ALL, OF_QUEUES, POOLED, POOLS_OWN, READS,
+                         LIMITED, LIMITS_FUTURES, LONG, MEETS, NEEDS_ALL, OF_QUEUES, POOLED, POOLS_OWN, READS,
                          SLEEP, SOCKETS, TASK, WORKER, YIELDS, Place, caller_of, is_in, is_like, is_of_jvm, place_of,
                          short)
 from .jvm_heap import BY_REFERENCE, REACHES, Heap, Heaps, is_between, read_heap
@@ -192,7 +192,9 @@ class JvmRecorder(Recorder):
         if thread.state == "BLOCKED":
             return self.wait_for_monitor(thread, name, moment)
         if has_limit:
-            return wait_with_limit(place, name)
+            process = wait_with_limit(place, name)
+            process.candidates = moment.heaps.workers_of(thread) if process.kind == UNKNOWN else []
+            return process
         if thread.state == "WAITING":
             return self.wait_without_limit(thread, place, name, moment)
         if thread.state == "RUNNABLE":
@@ -348,6 +350,9 @@ def wait_with_limit(place: Place, name: str) -> Process:
     if place.has(AGAIN):
         why = f"{place.call} waits with a limit, again and again, and the state doesn't show what for"
         return unknown(name, why, operation=place.call)
+    if place.has(LONG):
+        return unknown(name, f"{place.call} has a limit that the state doesn't show, and it may be one of centuries",
+                       operation=place.call)
     why = "sleeps" if place.has(SLEEP) else "waits for a timer" if place.has(HAS_TIMER) else "waits with a limit"
     return runs(name, why, [premise(LIMIT)], operation=f"timed {place.call}" if place.call else "")
 

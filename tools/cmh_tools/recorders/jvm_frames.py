@@ -65,6 +65,8 @@ POOLS_OWN = "java.util.concurrent.ThreadPoolExecutor$Worker"  # a lock of each w
 # Calls within which a socket has a lock of its own.
 SOCKETS = re.compile(r"sun\.nio\.ch\.(?:NioSocketImpl|(?:Server)?SocketChannelImpl)"
                      r"\.(?:accept|read|write|implRead|implWrite)")
+# Waits with a limit that often is one of centuries.
+LONG = re.compile(r"java\.util\.concurrent\.\w+\.awaitTermination")
 # Waits with a limit that only wait again.
 AGAIN = re.compile(r"java\.io\.Piped(?:InputStream|Reader)\.(?:read|receive|awaitSpace)"
                    r"|java\.util\.concurrent\.\w+\.close")

@@ -20,7 +20,8 @@ from .jvm_text import Dump, Thread, stack_of
 MARK = "# cmh heap "
 BUILT = re.compile(r"\$\$Lambda.*(?=\.)|[+/]0x[0-9a-f]+(?=\.)")  # what jstack and a heap dump write differently
 LABEL = [int, re.compile(r"0x[0-9a-f]{1,16}")]
-KINDS = TASK, QUEUED, READERS, JOIN, FUTURE, REACH = ("task", "queued", "readers", "join", "future", "reach")
+KINDS = TASK, QUEUED, READERS, JOIN, FUTURE, POOL, REACH = (
+    "task", "queued", "readers", "join", "future", "pool", "reach")
 ROW = {"thread": LABEL, "frames": [str], "waits": re.compile("|".join(KINDS)), "for": [LABEL], "object?": str,
        "is_full?": bool, "is_direct?": bool, "besides?": [LABEL], "reach?": [LABEL]}
 Label = Tuple[int, int]
@@ -154,10 +155,16 @@ class Heaps:
         some = [self.there.get(it) for it in wait.reach]
         return None if any(it is None or is_of_jvm(it) for it in some) else self.names_of(wait.reach)
 
+    def workers_of(self, thread: Thread) -> List[str]:
+        """Returns the threads of the pool for whose end a thread waits, if the heap shows these."""
+        wait = self.heap.wait_of(thread) if self.heap else None
+        is_known = wait is not None and wait.kind == POOL and all(it in self.there for it in wait.whom)
+        return self.names_of(wait.whom) if wait is not None and is_known else []
+
     def process_of(self, thread: Thread, name: str) -> Optional[Process]:
         """Returns what a thread waits for without a limit, as a process, or None if the heap doesn't say it."""
         wait = self.heap.wait_of(thread) if self.heap else None
-        if wait is None or not wait.whom or wait.kind == REACH:
+        if wait is None or not wait.whom or wait.kind in (POOL, REACH):
             return None
         if not all(it in self.there for it in [*wait.whom, *wait.besides]):
             return unknown(name, "a thread that may end this wait by the heap dump isn't in this state")
