@@ -21,15 +21,16 @@ from dataclasses import dataclass
 from typing import Any, Callable, Dict, Iterable, Iterator, List, NamedTuple, Optional, Sequence, Set, Tuple
 
 # The classes whose objects are kept, also those of classes that derive from them, and which fields of each.
-THREAD, TASK, SYNC, HOLDS, ENTRY, WORKER, POOL, QUEUE, NODE, FUTURE, STEP = GROUPS = (
-    "java/lang/Thread", "java/util/concurrent/FutureTask",
+THREAD, TASK, TIMED, SYNC, HOLDS, ENTRY, WORKER, POOL, QUEUE, NODE, FUTURE, STEP = GROUPS = (
+    "java/lang/Thread", "java/util/concurrent/FutureTask", "java/util/TimerTask",
     "java/util/concurrent/locks/ReentrantReadWriteLock$Sync",
     "java/util/concurrent/locks/ReentrantReadWriteLock$Sync$HoldCounter", "java/lang/ThreadLocal$ThreadLocalMap$Entry",
     "java/util/concurrent/ThreadPoolExecutor$Worker", "java/util/concurrent/ThreadPoolExecutor",
     "java/util/concurrent/LinkedBlockingQueue", "java/util/concurrent/LinkedBlockingQueue$Node",
     "java/util/concurrent/CompletableFuture", "java/util/concurrent/CompletableFuture$Completion")
 FIELDS = {
-    THREAD: ("tid", "eetop", "parkBlocker"), TASK: ("state", "runner"),
+    THREAD: ("tid", "eetop", "parkBlocker"), TASK: ("state", "runner", "period", "this$0"),
+    TIMED: ("state", "period"),
     SYNC: ("state", "firstReader", "firstReaderHoldCount", "readHolds"), HOLDS: ("count", "tid"),
     ENTRY: ("referent", "value"), WORKER: ("this$0", "thread"),
     POOL: ("workQueue", "corePoolSize", "maximumPoolSize"), QUEUE: ("head", "capacity"), NODE: ("item", "next"),
@@ -39,13 +40,15 @@ MOST = 300_000  # objects of one group that are kept; with more, what rests on t
 # more it isn't printed who reaches what.
 MOST_REFERENCES, MOST_ON_PATHS, MOST_SWEEPS, MOST_LISTED = 50_000_000, 20_000, 16, 250_000
 STRIDE = 1 << 17  # bytes of a heap dump whose references are looked through together
-UNBOUNDED = 2 ** 31 - 1
+UNBOUNDED, SCHEDULED = 2 ** 31 - 1, 1
 SHOWN = 12  # frames of a row
 STEPS = 100  # futures of a chain
 FREED = 1 << 26  # bytes after which what was read leaves the memory
 JOIN, AWAIT, GET = ("java.lang.Thread.join", "java.util.concurrent.FutureTask.awaitDone",
                     "java.util.concurrent.CompletableFuture.waitingGet")
-POOL_ENDS = "java.util.concurrent.ThreadPoolExecutor.awaitTermination"
+POOL_ENDS, TIMER = "java.util.concurrent.ThreadPoolExecutor.awaitTermination", "java.util.TimerThread.mainLoop"
+SCHEDULES = "java.util.concurrent.ScheduledThreadPoolExecutor$DelayedWorkQueue.take"
+LATCH = "java.util.concurrent.CountDownLatch.await"
 WRITES = "java.util.concurrent.locks.ReentrantReadWriteLock$WriteLock.lock"
 COMPUTES = re.compile(r"java\.util\.concurrent\.CompletableFuture\$(?:Async(?:Supply|Run)\.run|(?:Uni|Bi)\w+\.tryFire)")
 # Who lets a thread sleep, and who waits by that.
@@ -64,7 +67,7 @@ WAKES = re.compile(r"java/util/concurrent/(?:locks/(?:Abstract(?:Ownable|Queued(
 OWN = re.compile(r"java/lang/Thread\.(?:target|holder|threadLocals|inheritableThreadLocals"
                  r"|inheritedAccessControlContext|blocker|scopedValueBindings)")
 REFERENT, PHANTOM = "java/lang/ref/Reference.referent", "java/lang/ref/PhantomReference"
-VIRTUAL, STRING = "java/lang/VirtualThread", "java/lang/String"
+VIRTUAL, STRING, OF_THE_END = "java/lang/VirtualThread", "java/lang/String", "java/lang/ApplicationShutdownHooks"
 TEXT, LOADED, FRAME, TRACE, SEGMENTS, END = 0x01, 0x02, 0x04, 0x05, (0x0C, 0x1C), 0x2C
 LOCAL, OF_THREAD, CLASS, INSTANCE, OBJECTS, VALUES = 0x03, 0x08, 0x20, 0x21, 0x22, 0x23
 OF_ALL, OF_NATIVES = (0x01, 0xFF), (0x02, 0x04, 0x06)  # roots of the JVM's, and of natives of one thread
@@ -135,7 +138,8 @@ class Shapes(Dict[int, Optional[Callable[..., Tuple[int, ...]]]]):
 class Heap:
     """What is kept of a heap dump: when it was taken, in seconds; by the identity of an object the values of its
     fields, for each group; of each thread, by its number in the file, its object, its trace, and which objects each of
-    its frames has, or its natives. `of_all` are those that any thread may come to: in static fields, of the JVM.
+    its frames has, or its natives. `of_all` are those that any thread may come to: in static fields, of the JVM. `hooks` has the map of the threads that
+    are started once the JVM ends.
     `references` has the lower half of each reference, in the order of the file, and `strides` where some of them begin
     there and here."""
 
@@ -155,6 +159,7 @@ class Heap:
         self.locals: Dict[int, List[Tuple[int, int]]] = defaultdict(list)
         self.natives: Dict[int, Set[int]] = defaultdict(set)
         self.of_all: Set[int] = set()
+        self.hooks: Set[int] = set()
         self.keeps_references = True
         self.references = array("I")
         self.strides: List[Tuple[int, int]] = []
@@ -271,15 +276,16 @@ class Heap:
     def read_class(self, at: int) -> int:
         """Reads a class, and returns where the next record stands: constants and statics come before the fields."""
         kind, _, above, *of_all = CLASS_HEAD.unpack_from(self.data, at)
-        self.of_all.update(of_all)
         at += 64
         for head in (2, 8):
             number: int = COUNT.unpack_from(self.data, at)[0]
             at += 2
             for _ in range(number):
                 if self.data[at + head] == REFERENCE:
-                    self.of_all.add(IDENTITY.unpack_from(self.data, at + head + 1)[0])
+                    of_all.append(IDENTITY.unpack_from(self.data, at + head + 1)[0])
                 at += head + 1 + WIDTHS[self.data[at + head]]
+        self.of_all.update(of_all)
+        self.hooks.update(of_all if self.name_of(kind) == OF_THE_END else ())
         number = COUNT.unpack_from(self.data, at)[0]
         self.classes[kind] = above, [(name, width) for name, width in FIELD.iter_unpack(
             self.data[at + 2:at + 2 + FIELD.size * number])]
@@ -506,6 +512,8 @@ class Waits:
                 row = {"waits": "reach", "for": some}
             elif some is not None and row:
                 row["reach"] = some
+            elif is_known and not row and thread.top(LATCH) and self.is_for_hook(self.at[thread.identity]):
+                row = {"waits": "hook", "for": []}
             if row:
                 frames = [f"{name}:{line}" for name, line in thread.frames[:SHOWN]]
                 yield {"thread": thread.label, "frames": frames, **row}
@@ -559,6 +567,8 @@ class Waits:
         if thread.top(POOL_ENDS):
             pools = thread.objects_in(POOL_ENDS, self.found[POOL])
             return {"waits": "pool", "for": self.workers(*pools)} if len(pools) == 1 else {}
+        if thread.top(TIMER) or thread.top(SCHEDULES):
+            return {"waits": "timer", "for": []} if self.is_periodic(thread) else {}
         if thread.top(GET):
             futures = thread.objects_in(GET, self.found[FUTURE])
             return self.future(thread, *futures) if len(futures) == 1 else {}
@@ -570,7 +580,7 @@ class Waits:
 
     def task(self, thread: Thread) -> Row:
         """Returns who runs a task, or the threads of the pool in whose queue it stands."""
-        state, runner = self.found[TASK][thread.blocker]
+        state, runner, _, _ = self.found[TASK][thread.blocker]
         if runner in self.threads:
             but = [thread, self.threads[runner]]
             return {"waits": "task", "for": [self.threads[runner].label], "object": f"{thread.blocker:#x}",
@@ -587,6 +597,22 @@ class Waits:
 
     def workers(self, pool: int) -> List[List[Any]]:
         return [self.threads[it].label for its, it in self.found[WORKER].values() if its == pool and it in self.threads]
+
+    def is_periodic(self, thread: Thread) -> bool:
+        """Whether all that a thread has to do later it does again and again: the tasks of its pool, or of all timers.
+        """
+        pools = {pool for pool, it in self.found[WORKER].values() if it == thread.identity}
+        tasks = [(state, period) for state, _, period, pool in self.found[TASK].values() if not state and pool in pools]
+        if thread.top(TIMER):
+            tasks = [(state, period) for state, period in self.found[TIMED].values() if state == SCHEDULED]
+        return tasks != [] and all(period for _, period in tasks)
+
+    def is_for_hook(self, at: int) -> bool:
+        """Whether the work of a thread that is started once the JVM ends has a latch itself, so that it opens it."""
+        into = self.reach.into
+        works = {work for latch in into[at] for work in into[latch]}
+        hooks = works.union(*map(into.__getitem__, works)) & self.found[THREAD].keys()
+        return any(into[table] & self.heap.hooks for hook in hooks for table in into[hook])
 
     def queued(self, pool: int) -> Set[int]:
         """Returns the tasks in the queue of a pool, of the kind that fixed pools have."""

@@ -23,7 +23,7 @@ from . import State
 from .base import Moment, Premise, Recorder
 from .jvm_dumps import read_dumps
 from .jvm_frames import (AGAIN, BARRIER, CLEANER, COMPUTES, CONDITION, FUTURE, HAS_TIMER, INTERRUPTIBLY, INTERRUPTS,
-                         LIMITED, LIMITS_FUTURES, LONG, MEETS, NEEDS_ALL, OF_QUEUES, POOLED, POOLS_OWN, READS,
+                         LIMITED, LIMITS_FUTURES, LONG, MEETS, NEEDS_ALL, OF_ITEMS, OF_QUEUES, POOLED, POOLS_OWN, READS,
                          SLEEP, SOCKETS, TASK, WORKER, YIELDS, Place, caller_of, is_in, is_like, is_of_jvm, place_of,
                          short)
 from .jvm_heap import BY_REFERENCE, REACHES, Heap, Heaps, is_between, read_heap
@@ -46,8 +46,9 @@ class Threads(Moment):
     the names of the threads of pools (`workers`), with `?` if one of them may have begun what another one waits for.
     `owners` have a lock of the JDK, `timers` are those of the JDK with something to do for futures, `meetings` has by
     key at which barrier one waits, if the state shows that of all who wait at one, `limited` are the keys of those
-    whose wait has a limit, and `breakers` of those at a barrier; `counts` says that processor times tell one wait from
-    the next, `lacks` that threads may be missing, and `heaps` has what a heap dump shows."""
+    whose wait has a limit, and `breakers` of those at a barrier; `waited` has at what some wait without a limit in a
+    queue; `counts` says that processor times tell one wait from the next, `lacks` that threads may be missing, and
+    `heaps` has what a heap dump shows."""
 
     dump: Dump
     threads: List[Thread]
@@ -60,6 +61,7 @@ class Threads(Moment):
     meetings: Dict[str, str]
     limited: Set[str]
     breakers: List[str]
+    waited: Set[str]
     counts: bool
     lacks: bool
     heaps: Heaps
@@ -145,6 +147,8 @@ class JvmRecorder(Recorder):
                            and is_in(BARRIER, stack_of(it))]
         moment.counts = not is_coarse(moment.dump)
         moment.lacks = any(reading.missing for reading in moment.readings)
+        moment.waited = {at for it in moment.threads if it.state == "WAITING" and place_of(it).has(OF_ITEMS)
+                         for at in moment.locks.objects.get(it.key, [])}
         moment.heaps = Heaps(self.heap, moment.threads, self.names, moment.locks)
 
     def processes(self, moment: Threads) -> Iterable[Thread]:
@@ -163,7 +167,7 @@ class JvmRecorder(Recorder):
         here = moment.locks.objects.get(thread.key, [])
         process.objects = here if thread.same_as is None else thread.same_as
         process.proposal = "all" if NEEDS_ALL.fullmatch(place.call) else "any"
-        if thread.name == "main" and process.operation == "timed Thread.sleep":
+        if process.kind == RUNS and self.frees_nobody(thread, place, process, moment):
             process.proposal = "frees"
         process.is_collective = MEETS.fullmatch(place.call) is not None
         process.meeting = moment.meetings.get(thread.key, "")
@@ -174,6 +178,14 @@ class JvmRecorder(Recorder):
         process.moment = APART if moment.dump.is_file else process.moment
         self.set_count(process, thread, place, moment)
         return process
+
+    def frees_nobody(self, thread: Thread, place: Place, process: Process, moment: Threads) -> bool:
+        """Whether one with a limit is likely to end nobody's wait: a main thread that sleeps, one that has something to
+        do again and again alone, or one that waits for the same as others without a limit do."""
+        at = moment.locks.objects.get(thread.key, [])[:1]
+        return (thread.name == "main" and process.operation == "timed Thread.sleep"
+                or place.has(HAS_TIMER) and moment.heaps.is_periodic(thread)
+                or at != [] and place.has(OF_ITEMS) and at[0] in moment.waited)
 
     def set_count(self, process: Process, thread: Thread, place: Place, moment: Threads) -> None:
         """Sets the processor time as its count. Who is blocked at a monitor, or waits with a limit, wakes up by itself

@@ -61,6 +61,8 @@ HAS_TASK = re.compile(r"io\.netty\.util\.concurrent\.\w*EventExecutor\.takeTask"
 LIMITS_FUTURES = re.compile(r"CompletableFutureDelayScheduler|.*-delayScheduler")
 FUTURE = re.compile(r"CompletableFuture\.\w+")
 CONDITION, OF_QUEUES = "ConditionObject", "java.util.concurrent."
+# Calls that put something into a queue, or take it out.
+OF_ITEMS = re.compile(r"java\.util\.concurrent\.\w+(?:Queue|Deque)\.(?:put|offer|take|poll)\w*")
 POOLS_OWN = "java.util.concurrent.ThreadPoolExecutor$Worker"  # a lock of each worker at work
 # Calls within which a socket has a lock of its own.
 SOCKETS = re.compile(r"sun\.nio\.ch\.(?:NioSocketImpl|(?:Server)?SocketChannelImpl)"

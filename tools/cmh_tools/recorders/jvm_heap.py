@@ -20,8 +20,8 @@ from .jvm_text import Dump, Thread, stack_of
 MARK = "# cmh heap "
 BUILT = re.compile(r"\$\$Lambda.*(?=\.)|[+/]0x[0-9a-f]+(?=\.)")  # what jstack and a heap dump write differently
 LABEL = [int, re.compile(r"0x[0-9a-f]{1,16}")]
-KINDS = TASK, QUEUED, READERS, JOIN, FUTURE, POOL, REACH = (
-    "task", "queued", "readers", "join", "future", "pool", "reach")
+KINDS = TASK, QUEUED, READERS, JOIN, FUTURE, POOL, REACH, HOOK, TIMER = (
+    "task", "queued", "readers", "join", "future", "pool", "reach", "hook", "timer")
 ROW = {"thread": LABEL, "frames": [str], "waits": re.compile("|".join(KINDS)), "for": [LABEL], "object?": str,
        "is_full?": bool, "is_direct?": bool, "besides?": [LABEL], "reach?": [LABEL]}
 Label = Tuple[int, int]
@@ -161,9 +161,16 @@ class Heaps:
         is_known = wait is not None and wait.kind == POOL and all(it in self.there for it in wait.whom)
         return self.names_of(wait.whom) if wait is not None and is_known else []
 
+    def is_periodic(self, thread: Thread) -> bool:
+        """Whether a thread has nothing to do later but what it does again and again."""
+        wait = self.heap.wait_of(thread) if self.heap else None
+        return wait is not None and wait.kind == TIMER
+
     def process_of(self, thread: Thread, name: str) -> Optional[Process]:
         """Returns what a thread waits for without a limit, as a process, or None if the heap doesn't say it."""
         wait = self.heap.wait_of(thread) if self.heap else None
+        if wait is not None and wait.kind == HOOK:
+            return unknown(name, "waits for the end of the JVM", is_idle=True)
         if wait is None or not wait.whom or wait.kind in (POOL, REACH):
             return None
         if not all(it in self.there for it in [*wait.whom, *wait.besides]):

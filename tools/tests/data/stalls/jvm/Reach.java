@@ -3,7 +3,7 @@ import java.util.concurrent.*;
 import java.util.concurrent.atomic.AtomicInteger;
 
 /** Waits of which a heap dump shows who may end them, by a word; the states in reach_* were recorded from it by
- *  `take-jvm --heap`, those in offers* by `take-jvm`. Main ends, and nothing is in a static field. */
+ *  `take-jvm --heap`, those in offers* by `take-jvm`. Main ends. */
 class Reach {
     /** A log, whose writer logs itself once the queue is full, which it alone empties. */
     static class Log {
@@ -156,6 +156,12 @@ class Reach {
                 for (int line = 0; line < 4; line++) other.put("full");
                 startLog(log);
                 start("tracer", () -> trace(log, words[0].equals("offers") ? log : other, !words[0].equals("offers")));
+                break;
+            case "log-once": case "log-again":
+                ScheduledExecutorService later = Executors.newScheduledThreadPool(1, it -> new Thread(it, "later"));
+                if (words[0].equals("log-once")) later.schedule(() -> log.queue.clear(), 1, TimeUnit.HOURS);
+                else later.scheduleAtFixedRate(() -> System.out.println(log.queue.size()), 1, 1, TimeUnit.HOURS);
+                startLog(log);
                 break;
         }
     }
