@@ -1,9 +1,10 @@
 #!/usr/bin/env python3
 """Prints what a heap dump of a JVM tells of waits that `jstack` doesn't show, for `take-jvm --heap`:
 
-    cmh_heap.py FILE
+    cmh_heap.py FILE [CODE]
 
-FILE is of `jcmd PID GC.heap_dump FILE`, in the binary format HPROF. It is read from front to end, and only the objects
+FILE is of `jcmd PID GC.heap_dump FILE`, in the binary format HPROF, and CODE what `jcmd PID Compiler.codelist` prints
+then: without it, it isn't said who has a path of references to what. It is read from front to end, and only the objects
 of the classes in GROUPS are kept, and half of each reference. A row is a line '# cmh heap {..}'. Threads stand in it as
 [number, address], which is how jstack prints them too: "name" #number .. tid=address. Objects move, so no address of
 one is printed.
@@ -51,6 +52,7 @@ SCHEDULES = "java.util.concurrent.ScheduledThreadPoolExecutor$DelayedWorkQueue.t
 LATCH = "java.util.concurrent.CountDownLatch.await"
 WRITES = "java.util.concurrent.locks.ReentrantReadWriteLock$WriteLock.lock"
 COMPUTES = re.compile(r"java\.util\.concurrent\.CompletableFuture\$(?:Async(?:Supply|Run)\.run|(?:Uni|Bi)\w+\.tryFire)")
+JDK = re.compile(r"(?:java|javax|jdk|sun|com\.sun)\.")
 # Who lets a thread sleep, and who waits by that.
 PARKS_A_WHILE = re.compile(r"java\.util\.concurrent\.locks\.LockSupport\.park(?:Nanos|Until)")
 PARKS = re.compile(r"(?:jdk\.internal|sun)\.misc\.Unsafe\.park|java\.util\.concurrent\.locks\.LockSupport\.park")
@@ -66,6 +68,7 @@ WAKES = re.compile(r"java/util/concurrent/(?:locks/(?:Abstract(?:Ownable|Queued(
                    r"|java/lang/(?:ThreadGroup\.threads|Thread\.parkBlocker|ref/Reference\.discovered)")
 OWN = re.compile(r"java/lang/Thread\.(?:target|holder|threadLocals|inheritableThreadLocals"
                  r"|inheritedAccessControlContext|blocker|scopedValueBindings)")
+BY_ANY, BY_ITSELF, UNUSED = range(3)
 REFERENT, PHANTOM = "java/lang/ref/Reference.referent", "java/lang/ref/PhantomReference"
 VIRTUAL, STRING, OF_THE_END = "java/lang/VirtualThread", "java/lang/String", "java/lang/ApplicationShutdownHooks"
 TEXT, LOADED, FRAME, TRACE, SEGMENTS, END = 0x01, 0x02, 0x04, 0x05, (0x0C, 0x1C), 0x2C
@@ -84,6 +87,10 @@ SHORT = 64  # arrays shorter than this have what reads them at hand
 ARRAYS = [struct.Struct(f">{'4xI' * length}").unpack_from for length in range(SHORT)]
 Row = Dict[str, Any]
 Reader = Tuple[int, Callable[..., Tuple[Any, ...]]]
+
+
+COMPILED = re.compile(r"\d+ (\d) \d+ ([^\s(]+)\(")
+OPTIMISED = "4"  # the level of methods in which the JVM takes objects apart
 
 
 class Fault(Exception):
@@ -138,10 +145,9 @@ class Shapes(Dict[int, Optional[Callable[..., Tuple[int, ...]]]]):
 class Heap:
     """What is kept of a heap dump: when it was taken, in seconds; by the identity of an object the values of its
     fields, for each group; of each thread, by its number in the file, its object, its trace, and which objects each of
-    its frames has, or its natives. `of_all` are those that any thread may come to: in static fields, of the JVM. `hooks` has the map of the threads that
-    are started once the JVM ends.
-    `references` has the lower half of each reference, in the order of the file, and `strides` where some of them begin
-    there and here."""
+    its frames has, or its natives. `of_all` are those that any thread may come to: in static fields, of the JVM, and of
+    these `hooks` is the map of the threads that are started once the JVM ends. `references` has the lower half of each
+    reference, in the order of the file, and `strides` where some of them begin there and here."""
 
     def __init__(self, data: mmap.mmap) -> None:
         self.data, self.time = data, 0.0
@@ -355,9 +361,8 @@ class Thread:
 
 class Reach:
     """Who has a path of references to some objects. `into` has, of each object on a path, those that refer to it, `own`
-    the threads that alone use a field of theirs which does, `having` those that have it in a frame, and `of_all` are
-    those that any thread may come to. A compiled frame may have one of which the heap dump doesn't say it: the JVM has
-    then taken the object apart by which alone it has that, for as long as nobody else sees it."""
+    the threads that alone use a field of theirs which does, `having` those that have it in a frame, `of_all` are those
+    that any thread may come to, and `unused` those to which a field refers that nobody uses."""
 
     def __init__(self, heap: Heap, alive: Iterable[int]) -> None:
         self.heap, self.alive = heap, set(alive)
@@ -365,7 +370,8 @@ class Reach:
         self.own: Dict[int, Set[int]] = defaultdict(set)
         self.having: Dict[int, Set[int]] = defaultdict(set)
         self.of_all = {*heap.of_all}
-        self.fields: Dict[int, List[Tuple[int, bool]]] = {}
+        self.unused: Set[int] = set()
+        self.fields: Dict[int, List[Tuple[int, int]]] = {}
         self.known: Dict[int, Optional[Set[int]]] = {}
         for serial, rows in heap.locals.items():
             self.add_root(heap.roots.get(serial, (0, 0))[0], [it for _, it in rows])
@@ -436,9 +442,11 @@ class Reach:
     def add(self, row: Referring) -> bool:
         """Adds to whom on paths an object refers, and returns whether it is a new one there."""
         is_new = False
-        for at, is_own in self.fields_of(row):
+        for at, use in self.fields_of(row):
             other = IDENTITY.unpack_from(self.heap.data, row.at + at)[0]
-            if other in self.into and is_own and row.identity in self.alive:
+            if other in self.into and use == UNUSED:
+                self.unused.add(other)
+            elif other in self.into and use == BY_ITSELF and row.identity in self.alive:
                 self.own[other].add(row.identity)
             elif other in self.into:
                 self.into[other].add(row.identity)
@@ -447,27 +455,28 @@ class Reach:
             self.into[row.identity] = set()
         return is_new
 
-    def fields_of(self, row: Referring) -> Iterable[Tuple[int, bool]]:
-        """Returns where the references of an object stand, but for those by which nobody comes to an object, and which
-        of them only a thread itself uses, if it is one."""
+    def fields_of(self, row: Referring) -> Iterable[Tuple[int, int]]:
+        """Returns where the references of an object stand, and who uses them."""
         if not row.kind:
-            return [(8 * at, False) for at in range(len(row.halves))]
+            return [(8 * at, BY_ANY) for at in range(len(row.halves))]
         if row.kind not in self.fields:
             self.fields[row.kind] = list(self.fields_in(row.kind))
         return self.fields[row.kind]
 
-    def fields_in(self, kind: int) -> Iterator[Tuple[int, bool]]:
+    def fields_in(self, kind: int) -> Iterator[Tuple[int, int]]:
         names = [self.heap.name_of(it) for it in self.heap.lineage(kind)]
         at = 0
         for owner, (name, width) in ((owner, it) for owner, each in zip(names, self.heap.lineage(kind))
                                      for it in self.heap.classes[each][1]):
             field = f"{owner}.{self.heap.text(name)}"
-            if width == REFERENCE and not WAKES.fullmatch(field) and not (field == REFERENT and PHANTOM in names):
-                yield at, OWN.fullmatch(field) is not None
+            is_unused = WAKES.fullmatch(field) or field == REFERENT and PHANTOM in names
+            if width == REFERENCE:
+                yield at, UNUSED if is_unused else BY_ITSELF if OWN.fullmatch(field) else BY_ANY
             at += WIDTHS[width]
 
     def threads_to(self, thing: int) -> Optional[Set[int]]:
-        """Returns the threads that have a path to an object, or None if any thread may have one."""
+        """Returns the threads that have a path to an object, or None if any thread may have one: also where nothing is
+        known to refer to one that lives, as to what the JVM keeps for a class."""
         if thing not in self.known:
             path, seen = [thing], {thing}
             for it in path:  # (which grows meanwhile)
@@ -475,15 +484,18 @@ class Reach:
                 seen |= new
                 path += new
             found = {thread for it in path for some in (self.having, self.own) for thread in some.get(it, ())}
-            self.known[thing] = None if seen & self.of_all else found | seen & self.alive
+            is_whole = all(self.into[it] or any(it in some for some in (self.having, self.own, self.alive, self.unused))
+                           for it in path)
+            self.known[thing] = found | seen & self.alive if is_whole and not seen & self.of_all else None
         return self.known[thing]
 
 
 class Waits:
-    """Who waits for what in a heap dump, as rows."""
+    """Who waits for what in a heap dump, as rows. `optimised` are the methods in which the JVM may have taken objects
+    apart, if that is known: of what a thread of the job has by one of these alone, no heap dump says that."""
 
-    def __init__(self, heap: Heap) -> None:
-        self.heap, self.found = heap, heap.found
+    def __init__(self, heap: Heap, optimised: Optional[Set[str]] = None) -> None:
+        self.heap, self.found, self.optimised = heap, heap.found, optimised
         self.threads: Dict[int, Thread] = {}
         for serial, (identity, trace) in heap.roots.items():
             number, native, blocker = self.found[THREAD].get(identity, (None, 0, 0))
@@ -497,6 +509,9 @@ class Waits:
                 self.having[held].append(thread)
         self.reach = Reach(heap, self.threads)
         self.at = {it.identity: self.object_of(it) for it in self.threads.values()}
+        self.hiding = [it.identity for it in self.threads.values() if not it.top(GETS_TASK)
+                       and not all(JDK.match(name) for name, _ in it.frames)
+                       and any(name in (optimised or ()) for name, _ in it.frames)]
         self.listed = 0
         self.steps: Dict[int, List[int]] = defaultdict(list)
         for identity, (after, _, _) in self.found[STEP].items():
@@ -504,7 +519,8 @@ class Waits:
 
     def rows(self) -> Iterator[Row]:
         waiting = {it for it, at in self.at.items() if at or self.threads[it].top(JOIN)}
-        is_known = self.reach.find(waiting.union(filter(None, self.at.values()))) if waiting else False
+        is_known = waiting and self.optimised is not None and self.reach.find(
+            waiting.union(filter(None, self.at.values())))
         for thread in self.threads.values():
             row = self.row_of(thread)
             some = self.reaching(thread) if is_known and thread.identity in waiting else None
@@ -534,7 +550,7 @@ class Waits:
     def reaching(self, thread: Thread) -> Optional[List[List[Any]]]:
         """Returns who may end the wait of a thread, by what it waits at or by an interrupt, or None if that may be
         anybody. In the place of a worker of a pool that is idle stands who may give it something to do."""
-        found: Set[int] = set()
+        found = {it for it in self.hiding if it != thread.identity}
         todo = [thread]
         seen = {thread.identity}
         for one in todo:  # (which grows meanwhile)
@@ -677,20 +693,27 @@ class Waits:
         return source or 0, executor == 0 and "Compose" not in kind
 
 
+def optimised_in(path: str) -> Optional[Set[str]]:
+    """Returns the methods that are compiled best, as frames have them, or None if it isn't known which."""
+    with open(path, encoding="utf-8", errors="backslashreplace") as file:
+        found = [it.groups() for it in map(COMPILED.match, map(str.strip, file)) if it]
+    return {name.replace("/", "+") for level, name in found if level == OPTIMISED} if found else None
+
+
 def fail(fault: str) -> int:
     print(f"cmh_heap.py: {fault}", file=sys.stderr)
     return 1
 
 
 def main(words: List[str]) -> int:
-    if len(words) != 1 or words[0].startswith("-"):
-        print("usage: cmh_heap.py FILE", file=sys.stderr)
+    if len(words) not in (1, 2) or words[0].startswith("-"):
+        print("usage: cmh_heap.py FILE [CODE]", file=sys.stderr)
         return 2
     try:
         with open(words[0], "rb") as file, mmap.mmap(file.fileno(), 0, access=mmap.ACCESS_READ) as data:
             heap = Heap(data)
             heap.read()
-            rows = list(Waits(heap).rows())
+            rows = list(Waits(heap, *map(optimised_in, words[1:])).rows())
     except (Fault, OSError) as error:
         return fail(f"{words[0]}: {error}")
     except (ValueError, KeyError, IndexError, struct.error):

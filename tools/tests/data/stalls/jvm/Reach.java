@@ -157,6 +157,10 @@ class Reach {
                 startLog(log);
                 start("tracer", () -> trace(log, words[0].equals("offers") ? log : other, !words[0].equals("offers")));
                 break;
+            case "log-class":
+                start("keeper", () -> { rest(); Logs.ALL.get(Reach.class).queue.clear(); });
+                startLog(Logs.ALL.get(Reach.class));
+                break;
             case "log-once": case "log-again":
                 ScheduledExecutorService later = Executors.newScheduledThreadPool(1, it -> new Thread(it, "later"));
                 if (words[0].equals("log-once")) later.schedule(() -> log.queue.clear(), 1, TimeUnit.HOURS);
@@ -164,5 +168,11 @@ class Reach {
                 startLog(log);
                 break;
         }
+    }
+
+    /** What the JVM keeps for a class, where no heap dump shows it. */
+    static class Logs extends ClassValue<Log> {
+        static final Logs ALL = new Logs();
+        protected Log computeValue(Class<?> kind) { return new Log(); }
     }
 }
