@@ -131,13 +131,67 @@ rows(Module, Functions, Code) ->
     end.
 
 %% Where a function of one receive has the reference that each message has to have which that takes, as the compiler has
-%% found out, or nothing.
+%% found out, or nothing; with `once` if each wait there has one of its own, and `down` if a 'DOWN' alone ends it.
 register(Instructions) ->
-    Waits = [wait || Each <- Instructions, is_tuple(Each), lists:member(element(1, Each), [wait, wait_timeout])],
-    case {Waits, [Number || {recv_marker_use, {y, Number}} <- Instructions]} of
-        {[wait], [Number]} -> [Number];
+    Waits = [Each || Each <- Instructions, is_tuple(Each), lists:member(element(1, Each), [wait, wait_timeout])],
+    case {Waits, lists:splitwith(fun(Each) -> not is_use(Each) end, Instructions)} of
+        {[{wait, {f, Loop}}], {Before, [{recv_marker_use, Used}, {label, Loop} | Taken]}} ->
+            Made = [Each || Each <- made(Before), is_entered_here(Loop, Instructions)],
+            Known = [Number || {y, Number} <- [Used | [Each || lists:member(Used, Made), Each <- Made]]],
+            Words = [once || lists:member(Used, Made)] ++ [down || takes_down(Taken)],
+            [Word || Known =/= [], not lists:any(fun is_use/1, Taken), Word <- [hd(Known) | Words]];
         _ -> []
     end.
+
+is_use({recv_marker_use, _}) -> true;
+is_use(_) -> false.
+
+%% Whether no path leads into the receive but that from above it.
+is_entered_here(Loop, Instructions) ->
+    [] =:= [Each || Each <- Instructions, is_tuple(Each), not lists:member(element(1, Each), [loop_rec_end, wait]),
+                    mentions(Each, {f, Loop})].
+
+mentions(Term, Term) -> true;
+mentions(Term, Label) when is_tuple(Term) -> mentions(tuple_to_list(Term), Label);
+mentions([Head | Tail], Label) -> mentions(Head, Label) orelse mentions(Tail, Label);
+mentions(_, _) -> false.
+
+%% The registers with a reference that was made in this call of the function, on the one path to the receive. One that
+%% the function was given may be that of many waits, as of each part of a long answer.
+made(Before) ->
+    Path = lists:takewhile(fun(Each) -> not is_place(Each) end, lists:reverse(Before)),
+    case lists:splitwith(fun(Each) -> not is_bind(Each) end, Path) of
+        {Since, [{recv_marker_bind, _, Made}, {move, Made, Too} | _]} -> lists:foldr(fun kept/2, [Made, Too], Since);
+        {Since, [{recv_marker_bind, _, Made} | _]} -> lists:foldr(fun kept/2, [Made], Since);
+        _ -> []
+    end.
+
+is_place(Each) -> is_tuple(Each) andalso element(1, Each) =:= label.
+
+is_bind({recv_marker_bind, _, _}) -> true;
+is_bind(_) -> false.
+
+%% The registers that have the reference after an instruction.
+kept({move, From, To}, Having) -> [To || lists:member(From, Having)] ++ (Having -- [To]);
+kept({swap, One, Other}, Having) ->
+    [case Each of One -> Other; Other -> One; _ -> Each end || Each <- Having];
+kept({trim, Number, _}, Having) -> [case Each of {y, At} -> {y, At - Number}; _ -> Each end || Each <- Having];
+kept({init_yregs, {list, Gone}}, Having) -> Having -- Gone;
+kept({put_tuple2, To, _}, Having) -> Having -- [To];
+kept({bif, _, _, _, To}, Having) -> Having -- [To];
+kept({put_list, _, _, To}, Having) -> Having -- [To];
+kept({get_tuple_element, _, _, To}, Having) -> Having -- [To];
+kept({line, _}, Having) -> Having;
+kept({test_heap, _, _}, Having) -> Having;
+kept({Name, _, _}, Having) when Name =:= call; Name =:= call_ext -> [Each || {y, _} = Each <- Having];
+kept(send, Having) -> [Each || {y, _} = Each <- Having];
+kept(_, _) -> [].
+
+%% Whether a receive takes messages of the form {'DOWN', _, _, _, _} alone: others are passed over at once.
+takes_down([{loop_rec, _, Message}, {test, is_tagged_tuple, {f, Other}, [Message, 5, {atom, 'DOWN'}]} | Taken]) ->
+    {_, Passed} = lists:splitwith(fun(Each) -> Each =/= {label, Other} end, Taken),
+    case Passed of [_, {loop_rec_end, _} | _] -> true; _ -> false end;
+takes_down(_) -> false.
 
 limit({wait, _}) -> [infinity];
 limit({wait_timeout, _, {integer, Limit}}) -> [Limit];

@@ -15,8 +15,9 @@ from ..moments import APART, PARTS, Reading
 from ..sketch import COMPLETE, LIMIT, REST, RUNS, SYSTEM, Process, Sketch, premise, runs, spoilt, unknown, waits_for_any
 from . import State
 from .base import Premise, Recorder
-from .erlang_calls import ANSWERS, LETS_GO, NO_MAIL, Nodes, place_elsewhere, wait_for_reference, wait_of_call
+from .erlang_calls import ANSWERS, LETS_GO, NO_MAIL, Nodes, place_elsewhere, wait_of_call
 from .erlang_enders import add_enders, stoppers_of, two_of_each
+from .erlang_receives import DOWNS, count_of, wait_for_reference, wait_for_stop
 from .erlang_tasks import ENDS, wait_of_task
 from .erlang_text import PID, Block, NodeReading, readings_of
 
@@ -37,6 +38,8 @@ class ErlangRecorder(Recorder):
                          "mailbox or its dictionary, and by no table"),
         LETS_GO: Premise("a server in its loop that no longer has a call doesn't fail by itself, if its code begins no "
                          "timers"),
+        DOWNS: Premise("the 'DOWN' of a monitor comes once the process that is monitored has ended, and from nobody "
+                       "else"),
         ENDS: Premise("a task answers once, when its function has returned"),
         RESTARTS: Premise("a supervisor that restarts one child alone doesn't give up, as it does where children fail "
                           "again and again"),
@@ -87,14 +90,15 @@ class ErlangRecorder(Recorder):
     def look_at_nodes(self, moment: Nodes) -> None:
         """Finds what holds for all calls of the nodes: what isn't seen of them, and the limits of receives."""
         moment.closures = two_of_each(filter(may_have_any, moment.rows()))
-        moment.limits = {(reading.source, *function): limits for reading in moment.readings
-                         if isinstance(reading, NodeReading) for function, limits in reading.limits.items()}
-        places = (place_elsewhere(reading) for reading in moment.readings if isinstance(reading, NodeReading))
+        nodes = [reading for reading in moment.readings if isinstance(reading, NodeReading)]
+        moment.receives = {(reading.source, *function): receives for reading in nodes
+                           for function, receives in reading.receives.items()}
+        places = map(place_elsewhere, nodes)
         moment.elsewhere = next(filter(None, places), "")
         moment.cut = {reading.source for reading in moment.readings if reading.extent == PARTS}
         for reading in moment.readings:
             for block in reading.rows:
-                if not all(key in moment.by_key for key in block.monitored):
+                if None in moment.watched(block):
                     reading.missing = reading.missing or "it names processes that aren't printed, as those that one " \
                                                          "monitors"
 
@@ -103,7 +107,7 @@ class ErlangRecorder(Recorder):
         groups: DefaultDict[str, Dict[str, None]] = defaultdict(dict)
         for moment in moments:
             for block in moment.rows():
-                names = [moment.name(moment.by_key[key]) for key in block.monitored if key in moment.by_key]
+                names = moment.names(filter(None, moment.watched(block)))
                 groups[f"monitored:{moment.name(block)}"].update(dict.fromkeys(names))
         there = {process.name for process in sketch.processes}
         sketch.groups = {group: [name for name in names if name in there] for group, names in groups.items()}
@@ -127,7 +131,7 @@ class ErlangRecorder(Recorder):
         more: Dict[str, Any] = {"site": block.node.split("@")[-1], "frames": block.frames()}
         if block.fault:
             return spoilt(name, block.fault, site=more["site"])
-        more["count"] = f"{block.pid} {block.count}" if block.count is not None else None
+        more["count"] = count_of(block)
         status = (block.extra("status") or "").strip()
         if block.call is not None and status != "exiting":  # (a message that isn't the answer wakes it too)
             return wait_of_call(block, block.call, moment, more)
@@ -157,6 +161,8 @@ def wait_of_function(block: Block, moment: Nodes, more: Dict[str, Any]) -> Proce
     if top == "gen:do_call" and block.has_limit:
         return runs(moment.name(block), "it waits with a limit", [premise(LIMIT)],
                     **{**more, "operation": "timed gen_server:call"})
+    if top == "proc_lib:stop":
+        return wait_for_stop(block, moment, more)
     if top.startswith("proc_lib:sync_start"):
         return child(block, moment, more, *child_begun(block))
     found = CHILD.search(block.counter) if top.startswith("supervisor:") else None
@@ -189,16 +195,17 @@ def child(block: Block, moment: Nodes, more: Dict[str, Any], pid: str, limit: st
 
 def with_proposal(block: Block, moment: Nodes, more: Dict[str, Any]) -> Process:
     """Returns a process in a wait that isn't known, with those on its stack that may end it."""
-    found = [moment.by_key.get((block.node, pid)) for pid in dict.fromkeys(PID.findall(block.counter))]
+    found = [moment.find((block.node, pid)) for pid in dict.fromkeys(PID.findall(block.counter))]
     names = [moment.name(it) for it in found if it is not None and it is not block]
     is_waiting = block.extra("status") == "waiting"
-    limits, register = moment.limits.get((block.node, *block.function), ([""], "")) if is_waiting else ([""], "")
+    receives = moment.receives.get((block.node, *block.function)) if is_waiting else None
+    limits = receives.limits if receives else [""]
     if all(map(str.isdigit, limits)):
         more["operation"] = f"timed {more['operation']}"
         return runs(moment.name(block), "it waits with a limit", [premise(LIMIT)], **more)
     reason = f"it is in {block.stack[0]}, and the state doesn't say whether it continues by itself"
-    if limits == ["infinity"]:
-        known = wait_for_reference(block, moment, register, more) if register else None
+    if receives and limits == ["infinity"]:
+        known = wait_for_reference(block, moment, receives, more)
         if known is not None:
             return known
         reason = f"it is in {block.stack[0]}, in a receive without a limit, and the state doesn't say who sends to it"

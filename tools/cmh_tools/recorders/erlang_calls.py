@@ -3,12 +3,11 @@ on its stack, in its mailbox, its dictionary or its state, as the node shows the
 """
 from __future__ import annotations
 
-import re
 from typing import Any, Callable, Dict, Iterable, List, Optional, Set, Tuple
 
 from ..sketch import LIMIT, SYSTEM, Process, premise, runs, unknown, waits_for_any
 from .base import Moment
-from .erlang_text import Block, Call, Key, NodeReading, of_elixir
+from .erlang_text import Block, Call, Key, NodeReading, Receives, of_elixir
 
 NO_MAIL = "its mailbox is too long to be read, and may have what it waits for"
 ANSWERS, LETS_GO = "answers", "lets go"
@@ -19,8 +18,8 @@ class Nodes(Moment):
     """The processes of all nodes at one time: by what others know them by, and by the tails of the references that they
     have; their names in the sketch; each answer that is under way, as (sender, receiver); who may end a process, by
     its node and pid; who stands below a supervisor that restarts one alone, beside others that may fail; who has a fun
-    that may have any reference; the limits of the receives in a function, by its node and its name; where a reference
-    may be that no process has, in words, or nothing; and the nodes whose states aren't whole."""
+    that may have any reference; the receives in a function, by its node and its name; where a reference may be that no
+    process has, in words, or nothing; and the nodes whose states aren't whole."""
 
     by_key: Dict[Key, Block]
     has_tail: Dict[str, List[Block]]
@@ -29,9 +28,17 @@ class Nodes(Moment):
     enders: Dict[Key, List[Block]]
     spared: Set[Key]
     closures: List[Block]
-    limits: Dict[Tuple[str, ...], Tuple[List[str], str]]
+    receives: Dict[Tuple[str, ...], Receives]
     elsewhere: str
     cut: Set[str]
+
+    def find(self, key: Key) -> Optional[Block]:
+        """Returns a process by what another one knows it by."""
+        return self.by_key.get(key)
+
+    def watched(self, block: Block) -> List[Optional[Block]]:
+        """Returns those that a process monitors, None for one that isn't in the state."""
+        return list(map(self.find, block.monitored))
 
     def names(self, blocks: Iterable[Block]) -> List[str]:
         """Returns the names of some, each once."""
@@ -47,22 +54,6 @@ def holders(block: Block, moment: Nodes, tails: Set[str]) -> List[Block]:
 def may_keep(server: Block, having: List[Block]) -> bool:
     """Whether a server is in its loop, and may have a caller in its state: an older text doesn't show that."""
     return server.hibernates or server.is_loop() and (server in having or server.extra("references") is None)
-
-
-def wait_for_reference(block: Block, moment: Nodes, register: str, more: Dict[str, Any]) -> Optional[Process]:
-    """Returns a process in a receive of its own that takes messages with one reference alone, or None if nobody is
-    known to have that. Whom it monitors may have it as that of the monitor, and so may a timer of its own."""
-    found = re.search(rf"^y\({register}\) +(#Ref<\d+\.([\d.]+)>)$", block.counter, re.M)
-    having = holders(block, moment, {found[2]}) if found else []
-    if not found or not having or block.is_mail_cut or found[2] in block.messages or "timers" in block.code():
-        return None
-    watched = [moment.by_key[key] for key in block.monitored if key in moment.by_key]
-    if len(watched) < len(block.monitored):
-        return None
-    more.update(objects=[*moment.names(having), found[1]], count=found[1],
-                note=f"receive in {block.frames()[0]}")
-    return waits_for_any(moment.name(block), moment.names(having), [SYSTEM, premise(ANSWERS)], is_open=True,
-                         besides=moment.names([*watched, *moment.closures]), **more)
 
 
 def place_elsewhere(reading: NodeReading) -> str:
@@ -101,12 +92,12 @@ def may_fail(server: Block, moment: Nodes) -> List[Block]:
 def callees(block: Block, moment: Nodes) -> Tuple[List[Optional[Block]], List[str]]:
     """The processes that it has called, None for one that isn't in the state, and their names. A call monitors whom it
     calls, and has the name on its stack; whom it monitors besides, it doesn't wait for."""
-    keys, term, by_key = block.monitored, block.call.whom if block.call else "", moment.by_key
-    own = by_key.get((block.node, term)) or by_key.get(term) or by_key.get(f"{{{term},'{block.node}'}}")
-    if own and own in [by_key.get(key) for key in keys]:
+    term, found = block.call.whom if block.call else "", moment.watched(block)
+    keys: List[Key] = [(block.node, term), term, f"{{{term},'{block.node}'}}"]
+    own = next(filter(None, map(moment.find, keys)), None)
+    if own and own in found:
         return [own], [moment.name(own)]
-    found = [by_key.get(key) for key in keys]
-    return found, [moment.name(it) if it else str(key) for it, key in zip(found, keys)]
+    return found, [moment.name(it) if it else str(key) for it, key in zip(found, block.monitored)]
 
 
 def wait_of_call(block: Block, call: Call, moment: Nodes, more: Dict[str, Any]) -> Process:

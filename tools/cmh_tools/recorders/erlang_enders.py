@@ -77,7 +77,7 @@ def supervised(moment: Nodes) -> Any:
     above: Dict[Block, Block] = {}
     below: Dict[Block, List[Block]] = {}
     for block in filter(Block.is_supervisor, moment.rows()):
-        links = [moment.by_key.get((block.node, pid)) for pid in LINK.findall(block.extra("links") or "")]
+        links = [moment.find((block.node, pid)) for pid in LINK.findall(block.extra("links") or "")]
         children = [it for it in links if it is not None and not {it.pid, it.role}.intersection(block.ancestors()[:1])]
         above.update(dict.fromkeys(children, block))
         below[block] = two_of_each_fate([it for it in children if it.start[0] != REGISTRY])
@@ -107,6 +107,6 @@ def is_spared(block: Block, above: Dict[Block, Block], below: Dict[Block, List[B
 
 def linked_to(block: Block, moment: Nodes) -> List[Block]:
     """Those that take a process along if they fail: linked to it, no supervisors of it, and no registry."""
-    found = [moment.by_key.get((block.node, pid)) for pid in block.linked()]
+    found = [moment.find((block.node, pid)) for pid in block.linked()]
     return [it for it in found if it is not None and it.start[0] != REGISTRY
             and not (it.is_supervisor() and {it.pid, it.role}.intersection(block.ancestors()))]

@@ -59,7 +59,7 @@ def wait_for_tasks(block: Block, moment: Nodes, top: str, more: Dict[str, Any]) 
     references = [reference for _, reference in tasks]
     if any(block.is_answered(references, form) for form in ("{{{0},", "{{'DOWN',{0},")):
         return runs(name, "the answer of a task is in its mailbox", [SYSTEM], **more)
-    found = [moment.by_key.get((block.node, pid)) for pid, _ in tasks]
+    found = [moment.find((block.node, pid)) for pid, _ in tasks]
     there = [it for it in found if it is not None]
     if len(there) < len(tasks):
         return unknown(name, "a task that it waits for isn't in the state", **more)
@@ -81,7 +81,7 @@ def wait_for_stream(block: Block, moment: Nodes, more: Dict[str, Any]) -> Proces
     name = moment.name(block)
     text = re.sub(r"callers=>\[[^]]*\]", "", block.counter)  # (who began it waits for nothing here)
     pids = dict.fromkeys(re.findall(r"<\d+\.\d+\.\d+>", text))
-    found = {pid: moment.by_key.get((block.node, pid)) for pid in pids if pid != block.pid}
+    found = {pid: moment.find((block.node, pid)) for pid in pids if pid != block.pid}
     there = [it for it in found.values() if it is not None]
     gone = next((pid for pid, it in found.items() if it is None), None)
     if gone is not None or not there:

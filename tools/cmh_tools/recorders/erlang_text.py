@@ -10,6 +10,7 @@ from typing import Dict, Iterable, Iterator, List, NamedTuple, Optional, Set, Tu
 from ..files import Refusal, shown
 from ..moments import PARTS, Reading
 from ..sketch import frame
+from .erlang_stack import REGISTER, STOPPING, lost_of_stack, terms_in
 
 HEAD = re.compile(r"(<[\d.]+>) (\S+)$", re.M)
 # The wait of a call has the limit as the first term of its frame.
@@ -38,7 +39,7 @@ LOOPS = re.compile(r"(gen_server:loop|gen_statem:loop_(receive|hibernate)|gen_ev
                    r"|proc_lib:wake_up|erlang:hibernate)/")
 FIRST = re.compile("=(process|keeps|left out|nodes|receives|tables|timers|end) ")
 MARK = re.compile(rf"\n{FIRST.pattern}")
-RECEIVES = re.compile(r"{(\w+|'[^']*'),(\w+|'[^']*'),(\d+),\[([\w,]*)\](?:,(\d+))?}")
+RECEIVES = re.compile(r"{(\w+|'[^']*'),(\w+|'[^']*'),(\d+),\[([\w,]*)\](?:,(\d+)((?:,\w+)*))?}")
 OF_ELIXIR = re.compile(r"'Elixir\.([\w.]+)'")
 FUN = re.compile(r"'-(.*)/\d+-(fun-\d+)-'")
 WORD = r"(\w+|'[^']*')"
@@ -48,10 +49,6 @@ ITEM = re.compile(r"\n{(\w+),(.*)}(?![^\n])")
 OBJECT = re.compile(r"#Ref<.*?>")
 ANY_PID = re.compile(r"<[\d.]+>")
 ANY_WORD = re.compile(r"\w+")
-# Of a stack, its places, and the numbers of the terms that each of them has; and the beginning of a pid or a reference.
-SLOT = re.compile(r"^(?:y\((\d{1,6})\) |Program counter: |0x)", re.M)
-CUT_OFF = re.compile(r"<[\d.]*$", re.M)
-REGISTER = re.compile(r"^y\(\d+\) +(.*)$", re.M)
 COUNTS = {"left out", "nodes", "receives", "timers"}
 SINCE = {"timers": "may_end", "nodes": "closures", "receives": "closures"}  # an item that came with a count
 CUT = "cut"  # in place of what is too long to be read
@@ -69,6 +66,15 @@ class Call(NamedTuple):
     limit: str
     request: str
     whom: str
+
+
+class Receives(NamedTuple):
+    """What is known of the receives in a function: their limits, where the one that it has keeps the reference of all
+    messages that it takes, and of that `once`, if each wait has another one, and `down`, if a 'DOWN' alone ends it."""
+
+    limits: List[str]
+    register: str
+    words: List[str]
 
 
 class Block:
@@ -94,6 +100,7 @@ class Block:
         self.counter = frames_text.partition("\n\n")[0]
         limit, self.has_limit = LIMIT.search(text), WITH_A_LIMIT.search(text) is not None
         self.call = call_of(limit, text) if limit else None
+        self.stopping = terms_in(STOPPING, frames_text)
         waiting = self.counter + (limit[0] if limit else "")
         # The references of the call that it waits in, and their tails.
         self.references = list(dict.fromkeys(OBJECT.findall(waiting)))
@@ -237,16 +244,6 @@ def words_of(text: str) -> List[str]:
     return ANY_WORD.findall(text)
 
 
-def lost_of_stack(text: str) -> str:
-    """Returns what shows that a stack isn't whole, or nothing: each place has its terms from y(0) up."""
-    following = 0
-    for it in SLOT.finditer(text):
-        if it[1] and int(it[1]) != following:
-            return f"its stack has y({it[1]}) where y({following}) is expected"
-        following = following + 1 if it[1] else 0
-    return "a term of its stack is cut off" if CUT_OFF.search(text) else ""
-
-
 @lru_cache(maxsize=KEPT)
 def function_of(module: str, name: str, arity: str) -> Function:
     """Returns a function as many processes share it."""
@@ -330,14 +327,13 @@ def readings_of(path: str, text: str, known: Dict[bytes, Block]) -> List[NodeRea
 
 
 class NodeReading(Reading):
-    """The processes of a node as one state has them, up to its line '=end'."""
+    """The processes of a node as one state has them, up to its line '=end', and the receives in a function, by its
+    module, name and arity."""
 
     def __init__(self, path: str, node: str) -> None:
         super().__init__(path, node, site=node.split("@")[0])
         self.numbers: Dict[str, int] = {}
-        # Of the receives in a function, by its module, name and arity: their limits, and where the one that it has
-        # keeps the reference of all messages that it takes.
-        self.limits: Dict[Tuple[str, ...], Tuple[List[str], str]] = {}
+        self.receives: Dict[Tuple[str, ...], Receives] = {}
 
     @property
     def is_closed(self) -> bool:
@@ -352,7 +348,8 @@ class NodeReading(Reading):
         self.numbers[word] = int(number[1])
         found = list(filter(None, map(RECEIVES.fullmatch, rows)))
         if len(found) == self.numbers[word]:
-            self.limits.update({row.group(1, 2, 3): (row[4].split(","), row[5] or "") for row in found})
+            self.receives.update({row.group(1, 2, 3): Receives(row[4].split(","), row[5] or "",
+                                                               (row[6] or "").split(",")) for row in found})
 
     def close(self) -> None:
         """Says what the text lacks."""

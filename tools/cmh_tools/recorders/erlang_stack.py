@@ -1,0 +1,29 @@
+"""The stacks of Erlang's processes, as the runtime prints them: the terms of each frame below the place in it."""
+from __future__ import annotations
+
+import re
+from typing import List
+
+# Of a stack, its places, and the numbers of the terms that each of them has; and the beginning of a pid or a reference.
+SLOT = re.compile(r"^(?:y\((\d{1,6})\) |Program counter: |0x)", re.M)
+CUT_OFF = re.compile(r"<[\d.]*$", re.M)
+# The frame of Elixir that has the pid of whom it stops.
+STOPPING = re.compile(r"\(proc_lib:stop/3 .*\n(?:y.*\n)*\n\S+ Return addr \S+ \('Elixir\.GenServer':stop/3 \+ \d+\)\n"
+                      r"((?:y.*\n)*)")
+REGISTER = re.compile(r"^y\(\d+\) +(.*)$", re.M)
+
+
+def lost_of_stack(text: str) -> str:
+    """Returns what shows that a stack isn't whole, or nothing: each place has its terms from y(0) up."""
+    following = 0
+    for it in SLOT.finditer(text):
+        if it[1] and int(it[1]) != following:
+            return f"its stack has y({it[1]}) where y({following}) is expected"
+        following = following + 1 if it[1] else 0
+    return "a term of its stack is cut off" if CUT_OFF.search(text) else ""
+
+
+def terms_in(form: re.Pattern[str], frames_text: str) -> List[str]:
+    """Returns the terms of a frame, which a form has as its first group, or none."""
+    found = form.search(frames_text)
+    return REGISTER.findall(found[1]) if found else []
