@@ -35,7 +35,8 @@ print(Modules, Nodes, Seconds) ->
     try
         Missing =:= [] orelse throw({hd(Missing), noconnection}),
         Readers = [{Visit, next(Visit)} || Visit <- Visits],
-        [write(Visit, Reader, first) || {Visit, Reader} <- Readers],
+        Hosts = [Host || {_, Host, _, _} <- Visits], % (a pid of each node, by which the others have its number)
+        [write(Visit, Reader, {first, Hosts}) || {Visit, Reader} <- Readers],
         timer:sleep(round(1000 * Seconds)),
         [write(Visit, Reader, second) || {Visit, Reader} <- Readers],
         0
@@ -208,13 +209,15 @@ read({Modules, Nodes}, Caller, Host, Tag) ->
     process_flag(priority, low),
     Apart = [self(), Host, Caller],
     Caller ! {Tag, self()},
-    receive first -> ok end,
+    Numbers = receive {first, Hosts} -> [number(Other) || Other <- Hosts, node(Other) =/= node()] end,
+    Locks = locks(), % (who has a lock now and after all is read has had it all the time)
     {Taken, Left} = chosen(Modules, Apart),
-    tell(Caller, Tag, counts(Left, Modules, Nodes), fun first/1, Taken),
+    tell(Caller, Tag, counts(Left, Modules, Nodes), fun first/1, Taken, fun() -> tables(Numbers, Locks) end),
     receive second -> ok end,
     Counts = maps:from_list([{P, count(P)} || P <- Taken]),
     {Again, LeftNow} = chosen(Modules, Apart),
-    tell(Caller, Tag, counts(LeftNow, Modules, Nodes), fun(P) -> second(P, Counts) end, Again),
+    tell(Caller, Tag, counts(LeftNow, Modules, Nodes), fun(P) -> second(P, Counts) end, Again,
+         fun() -> tables(Numbers, locks()) end),
     receive never -> ok end.
 
 %% How many modules may keep a term where no process has it, how many processes are left out, how many nodes are
@@ -230,10 +233,29 @@ keeps(Modules) ->
     Kinds = [calls_of_module(Module) || Module <- lists:usort(Modules ++ Loaded)],
     length([Some || Some <- Kinds, [] =/= [Kind || Kind <- Some, lists:member(Kind, [bytes, tables, timers])]]).
 
+%% The number that the pids of another node have on this one.
+number(Other) ->
+    [Number | _] = string:lexemes(pid_to_list(Other), "<."),
+    [Number, " ", atom_to_list(node(Other)), "\n"].
+
+%% The locks of `global`, as its table has them: what is locked, for whom, and the pids that have it, with a reference
+%% of its own each time.
+locks() ->
+    try ets:tab2list(global_locks) of
+        Rows -> [io_lib:format("~0tp~n", [Row]) || Row <- lists:sublist(Rows, ?FOUND)]
+    catch
+        error:_ -> []
+    end.
+
+tables(Numbers, Locks) ->
+    [[io_lib:format("=~s ~b ~ts~n", [Word, length(Rows), node()]) | Rows]
+     || {Word, Rows} <- [{"numbers", Numbers}, {"locks", Locks}]].
+
 %% Sends the text of each process, how many are left out that aren't of the system, and how many are printed.
-tell(Caller, Tag, Others, Text, Taken) ->
+tell(Caller, Tag, Others, Text, Taken, Tables) ->
     Printed = [Call || P <- Taken, {Call, Lines} <- [Text(P)], is_sent(Caller, Tag, Lines)],
     is_sent(Caller, Tag, {code, codes(lists:usort(Printed))}),
+    is_sent(Caller, Tag, Tables()),
     Last = Others ++ [{"timers", timers()}, {"end", length(Printed)}],
     is_sent(Caller, Tag, [io_lib:format("=~s ~b ~ts~n", [Word, Number, node()]) || {Word, Number} <- Last]),
     Caller ! {Tag, done}.

@@ -17,6 +17,7 @@ from . import State
 from .base import Premise, Recorder
 from .erlang_calls import ANSWERS, LETS_GO, NO_MAIL, Nodes, place_elsewhere, wait_of_call
 from .erlang_enders import add_enders, stoppers_of, two_of_each
+from .erlang_locks import LOCKS, locks_of, wait_of_lock
 from .erlang_receives import DOWNS, count_of, wait_for_reference, wait_for_stop
 from .erlang_tasks import ENDS, wait_of_task
 from .erlang_text import PID, Block, NodeReading, readings_of
@@ -41,6 +42,8 @@ class ErlangRecorder(Recorder):
         DOWNS: Premise("the 'DOWN' of a monitor comes once the process that is monitored has ended, and from nobody "
                        "else"),
         ENDS: Premise("a task answers once, when its function has returned"),
+        LOCKS: Premise("a lock of global is free once each process that has it has given it back or ended, and not by "
+                       "a lost connection of nodes"),
         RESTARTS: Premise("a supervisor that restarts one child alone doesn't give up, as it does where children fail "
                           "again and again"),
         OWN_CHILD: Premise("a supervisor that starts or stops a child waits for that child alone"),
@@ -73,6 +76,8 @@ class ErlangRecorder(Recorder):
 
     def prepare(self, moment: Nodes) -> None:
         moment.by_key = {key: block for block in moment.rows() for key in block.keys()}
+        moment.nodes = {(reading.source, f"<{number}"): node for reading in moment.readings
+                        if isinstance(reading, NodeReading) for number, node in reading.nodes.items()}
         moment.name = attrgetter("label")
         moment.answers = []
         moment.has_tail = defaultdict(list)
@@ -93,6 +98,7 @@ class ErlangRecorder(Recorder):
         nodes = [reading for reading in moment.readings if isinstance(reading, NodeReading)]
         moment.receives = {(reading.source, *function): receives for reading in nodes
                            for function, receives in reading.receives.items()}
+        moment.locks = locks_of(nodes)
         places = map(place_elsewhere, nodes)
         moment.elsewhere = next(filter(None, places), "")
         moment.cut = {reading.source for reading in moment.readings if reading.extent == PARTS}
@@ -133,6 +139,8 @@ class ErlangRecorder(Recorder):
             return spoilt(name, block.fault, site=more["site"])
         more["count"] = count_of(block)
         status = (block.extra("status") or "").strip()
+        if block.lock and status != "exiting":
+            return wait_of_lock(block, moment, more)
         if block.call is not None and status != "exiting":  # (a message that isn't the answer wakes it too)
             return wait_of_call(block, block.call, moment, more)
         if status in WORKS:

@@ -19,7 +19,8 @@ class Nodes(Moment):
     have; their names in the sketch; each answer that is under way, as (sender, receiver); who may end a process, by
     its node and pid; who stands below a supervisor that restarts one alone, beside others that may fail; who has a fun
     that may have any reference; the receives in a function, by its node and its name; where a reference may be that no
-    process has, in words, or nothing; and the nodes whose states aren't whole."""
+    process has, in words, or nothing; the nodes whose states aren't whole; nodes, by another one and the number that
+    they have there; and the locks of a node, by it and by what is locked."""
 
     by_key: Dict[Key, Block]
     has_tail: Dict[str, List[Block]]
@@ -31,9 +32,15 @@ class Nodes(Moment):
     receives: Dict[Tuple[str, ...], Receives]
     elsewhere: str
     cut: Set[str]
+    nodes: Dict[Tuple[str, str], str]
+    locks: Dict[Tuple[str, str], Tuple[str, str]]
 
     def find(self, key: Key) -> Optional[Block]:
-        """Returns a process by what another one knows it by."""
+        """Returns a process by what another one knows it by: a pid of another node begins with the number of that."""
+        if isinstance(key, tuple):
+            number, _, rest = key[1].partition(".")
+            node = self.nodes.get((key[0], number))
+            key = (node, f"<0.{rest}") if node else key
         return self.by_key.get(key)
 
     def watched(self, block: Block) -> List[Optional[Block]]:

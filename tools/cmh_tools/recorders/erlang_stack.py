@@ -7,7 +7,8 @@ from typing import List
 # Of a stack, its places, and the numbers of the terms that each of them has; and the beginning of a pid or a reference.
 SLOT = re.compile(r"^(?:y\((\d{1,6})\) |Program counter: |0x)", re.M)
 CUT_OFF = re.compile(r"<[\d.]*$", re.M)
-# The frame of Elixir that has the pid of whom it stops.
+# The frame that has the lock which a process wants, and that of Elixir with the pid of whom it stops.
+LOCKING = re.compile(r"Return addr \S+ \(global:set_lock/4 \+ \d+\)\n((?:y.*\n)*)")
 STOPPING = re.compile(r"\(proc_lib:stop/3 .*\n(?:y.*\n)*\n\S+ Return addr \S+ \('Elixir\.GenServer':stop/3 \+ \d+\)\n"
                       r"((?:y.*\n)*)")
 REGISTER = re.compile(r"^y\(\d+\) +(.*)$", re.M)

@@ -10,7 +10,7 @@ from typing import Dict, Iterable, Iterator, List, NamedTuple, Optional, Set, Tu
 from ..files import Refusal, shown
 from ..moments import PARTS, Reading
 from ..sketch import frame
-from .erlang_stack import REGISTER, STOPPING, lost_of_stack, terms_in
+from .erlang_stack import LOCKING, REGISTER, STOPPING, lost_of_stack, terms_in
 
 HEAD = re.compile(r"(<[\d.]+>) (\S+)$", re.M)
 # The wait of a call has the limit as the first term of its frame.
@@ -33,13 +33,16 @@ SERVES_EVENT = re.compile(r"^y\(\d+\) +{call,{<[\d.]+>,(?:\[alias\|)?#Ref<\d+\.(
 TRACE = re.compile(r'{(\w+|\'[^\']*\'),(\w+|\'[^\']*\'),(\d+),\[(?:{file,"([^"]*)"},{line,(\d+)})?')
 REFERENCE = re.compile(r"#Ref<\d+\.([\d.]+)>")
 WATCHED = re.compile(r"{process,(<\S+?>|{.*?})}")
-OF_SYSTEM = re.compile(r"gen(_server|_statem|_event)?|proc_lib|supervisor|sys|timer|erlang|rpc|'Elixir\.("
+OF_SYSTEM = re.compile(r"gen(_server|_statem|_event)?|global|proc_lib|supervisor|sys|timer|erlang|rpc|'Elixir\.("
                        r"Agent|DynamicSupervisor|Enum|GenServer|Process|Registry|Stream|Supervisor|Task)(\.\w+)*'")
 LOOPS = re.compile(r"(gen_server:loop|gen_statem:loop_(receive|hibernate)|gen_event:fetch_msg|proc_lib:hibernate"
                    r"|proc_lib:wake_up|erlang:hibernate)/")
-FIRST = re.compile("=(process|keeps|left out|nodes|receives|tables|timers|end) ")
+FIRST = re.compile("=(process|keeps|left out|locks|nodes|numbers|receives|tables|timers|end) ")
 MARK = re.compile(rf"\n{FIRST.pattern}")
+# The rows below lines of some words: the receives of a function; the number of another node; who has a lock.
 RECEIVES = re.compile(r"{(\w+|'[^']*'),(\w+|'[^']*'),(\d+),\[([\w,]*)\](?:,(\d+)((?:,\w+)*))?}")
+ROWS = {"receives": RECEIVES, "numbers": re.compile(r"(\d+) (\S+)"),
+        "locks": re.compile(r"{(.*),\[((?:{<[\d.]+>,#Ref<[\d.]+>},?)+)\]}")}
 OF_ELIXIR = re.compile(r"'Elixir\.([\w.]+)'")
 FUN = re.compile(r"'-(.*)/\d+-(fun-\d+)-'")
 WORD = r"(\w+|'[^']*')"
@@ -100,7 +103,7 @@ class Block:
         self.counter = frames_text.partition("\n\n")[0]
         limit, self.has_limit = LIMIT.search(text), WITH_A_LIMIT.search(text) is not None
         self.call = call_of(limit, text) if limit else None
-        self.stopping = terms_in(STOPPING, frames_text)
+        self.lock, self.stopping = terms_in(LOCKING, frames_text), terms_in(STOPPING, frames_text)
         waiting = self.counter + (limit[0] if limit else "")
         # The references of the call that it waits in, and their tails.
         self.references = list(dict.fromkeys(OBJECT.findall(waiting)))
@@ -327,13 +330,15 @@ def readings_of(path: str, text: str, known: Dict[bytes, Block]) -> List[NodeRea
 
 
 class NodeReading(Reading):
-    """The processes of a node as one state has them, up to its line '=end', and the receives in a function, by its
-    module, name and arity."""
+    """The processes of a node as one state has them, up to its line '=end'; the receives in a function, by its module,
+    name and arity; the nodes by the numbers that they have there; and its locks."""
 
     def __init__(self, path: str, node: str) -> None:
         super().__init__(path, node, site=node.split("@")[0])
         self.numbers: Dict[str, int] = {}
         self.receives: Dict[Tuple[str, ...], Receives] = {}
+        self.nodes: Dict[str, str] = {}
+        self.locks: List[Tuple[str, str]] = []
 
     @property
     def is_closed(self) -> bool:
@@ -343,13 +348,17 @@ class NodeReading(Reading):
         """Takes a line '=left out N NODE', '=timers N NODE', '=end N NODE' or another such, with the rows after it."""
         number = re.fullmatch(r"(\d{1,9}) \S+\s*", text.split("\n")[0])
         rows = text.rstrip("\n").split("\n")[1:]
-        if not number or word != "receives" and rows:
+        if not number or word not in ROWS and rows:
             raise Refusal(f"{shown(path)}: '={word} {shown(text[:60].strip())}' has no number and node")
         self.numbers[word] = int(number[1])
-        found = list(filter(None, map(RECEIVES.fullmatch, rows)))
-        if len(found) == self.numbers[word]:
+        found = list(filter(None, map(ROWS[word].fullmatch, rows))) if rows else []
+        if word == "receives" and len(found) == self.numbers[word]:
             self.receives.update({row.group(1, 2, 3): Receives(row[4].split(","), row[5] or "",
                                                                (row[6] or "").split(",")) for row in found})
+        elif word == "numbers":
+            self.nodes.update({row[1]: row[2] for row in found})
+        elif word == "locks":
+            self.locks += [(row[1], row[2]) for row in found]
 
     def close(self) -> None:
         """Says what the text lacks."""
