@@ -18,6 +18,7 @@ from .base import Premise, Recorder
 from .erlang_calls import ANSWERS, LETS_GO, NO_MAIL, Nodes, place_elsewhere, wait_of_call
 from .erlang_enders import add_enders, stoppers_of, two_of_each
 from .erlang_locks import LOCKS, locks_of, wait_of_lock
+from .erlang_names import name_all
 from .erlang_receives import DOWNS, count_of, wait_for_reference, wait_for_stop
 from .erlang_tasks import ENDS, wait_of_task
 from .erlang_text import PID, Block, NodeReading, readings_of
@@ -71,8 +72,7 @@ class ErlangRecorder(Recorder):
         self.labels = {node: own if short.count(own) == 1 else node for node, own in zip(first, short)}
         for reading in readings:
             reading.site = self.labels[reading.source]
-            for block in reading.rows:
-                block.label = f"{reading.site}/{block.own_name()}"
+        name_all(readings)
 
     def prepare(self, moment: Nodes) -> None:
         moment.by_key = {key: block for block in moment.rows() for key in block.keys()}
@@ -220,7 +220,7 @@ def with_proposal(block: Block, moment: Nodes, more: Dict[str, Any]) -> Process:
     if block.is_stack_cut:
         reason += ", as its stack is too long to be read"
     if names:
-        reason += f"; on its stack are {', '.join(names)}"
+        reason += f"; on its stack {'is' if len(names) == 1 else 'are'} {', '.join(names)}"
         more["objects"] = names
         # Who waits for an answer that it has to give doesn't send to it.
         more["candidates"] = [moment.name(it) for it in found if it is not None and it is not block

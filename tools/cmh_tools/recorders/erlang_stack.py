@@ -2,7 +2,7 @@
 from __future__ import annotations
 
 import re
-from typing import List
+from typing import List, Tuple
 
 # Of a stack, its places, and the numbers of the terms that each of them has; and the beginning of a pid or a reference.
 SLOT = re.compile(r"^(?:y\((\d{1,6})\) |Program counter: |0x)", re.M)
@@ -11,6 +11,12 @@ CUT_OFF = re.compile(r"<[\d.]*$", re.M)
 LOCKING = re.compile(r"Return addr \S+ \(global:set_lock/4 \+ \d+\)\n((?:y.*\n)*)")
 STOPPING = re.compile(r"\(proc_lib:stop/3 .*\n(?:y.*\n)*\n\S+ Return addr \S+ \('Elixir\.GenServer':stop/3 \+ \d+\)\n"
                       r"((?:y.*\n)*)")
+# The frame in which a server has called a function of its own, and the message for which.
+CALLBACK = re.compile(r"Return addr \S+ \((?:(gen_server:try_(?:terminate/3|handle_call/4)|gen_statem:terminate/7) |"
+                      r"gen_server:try_dispatch/4 .*\n(?:y.*\n)*\n\S+ Return addr \S+ \(gen_server:handle_msg/6 .*\n"
+                      r"((?:y.*\n)*))")
+CALLBACKS = {"gen_server:try_terminate/3": ("terminate", "2"), "gen_statem:terminate/7": ("terminate", "3"),
+             "gen_server:try_handle_call/4": ("handle_call", "3")}
 REGISTER = re.compile(r"^y\(\d+\) +(.*)$", re.M)
 
 
@@ -28,3 +34,12 @@ def terms_in(form: re.Pattern[str], frames_text: str) -> List[str]:
     """Returns the terms of a frame, which a form has as its first group, or none."""
     found = form.search(frames_text)
     return REGISTER.findall(found[1]) if found else []
+
+
+def callback_of(frames_text: str) -> Tuple[str, ...]:
+    """Returns the name and the arity of the function that a server has called, or nothing: what that calls as the last
+    thing that it does has taken the place of it on the stack."""
+    found = CALLBACK.search(frames_text)
+    if found is None or found[1]:
+        return CALLBACKS[found[1]] if found else ()
+    return "handle_cast" if "{'$gen_cast'," in found[2] else "handle_info", "2"

@@ -10,7 +10,7 @@ from typing import Dict, Iterable, Iterator, List, NamedTuple, Optional, Set, Tu
 from ..files import Refusal, shown
 from ..moments import PARTS, Reading
 from ..sketch import frame
-from .erlang_stack import LOCKING, REGISTER, STOPPING, lost_of_stack, terms_in
+from .erlang_stack import LOCKING, REGISTER, STOPPING, callback_of, lost_of_stack, terms_in
 
 HEAD = re.compile(r"(<[\d.]+>) (\S+)$", re.M)
 # The wait of a call has the limit as the first term of its frame.
@@ -113,6 +113,7 @@ class Block:
             "references", "may_end", "closures"))
         self.count = self.extra("reductions")
         self.start = self.start_of()
+        self.callback = callback_of(frames_text) if self.start[1] == "init" and not self.own else ()
         self.requests = (*UNREAD.findall(self.messages), *self.served(text, frames_text))
         self.tails = tuple(dict.fromkeys(REFERENCE.findall(text)))
         self.stopped = self.stopped_in(frames_text) if self.top().startswith(STOPS) else ()
@@ -163,7 +164,8 @@ class Block:
         return f"{name}/{self.pid[1:-1]}"
 
     def frames(self) -> List[str]:
-        return self.own or [function_name(*self.start)]
+        return self.own or [function_name(self.start[0], *self.callback) if self.callback else
+                            function_name(*self.start)]
 
     def top(self) -> str:
         """The function that it is in, as MODULE:NAME, in Elixir as MODULE.NAME, or nothing."""
