@@ -373,7 +373,7 @@ both(Found, Texts) -> [io_lib:format("~p", [Reference]) || Reference <- Found] +
 %% The processes that it knows, if the code of a module that it runs may send an exit signal.
 may_end(Info) ->
     case lists:member(exits, code_of(Info)) of
-        true -> on_stack(Info, "<0[.][0-9]+[.][0-9]+>");
+        true -> on_stack(Info, "<[0-9]+[.][0-9]+[.][0-9]+>");
         false -> []
     end.
 

@@ -60,8 +60,8 @@ def add_enders(moment: Nodes) -> None:
         enders += halting[block.node]
     moment.spared = {(block.node, block.pid) for block in above if is_spared(block, above, below)}
     for block in moment.rows():
-        for pid in block.may_end():
-            moment.enders[block.node, pid].append(block)
+        for whom in filter(None, [moment.find((block.node, pid)) for pid in block.may_end()]):
+            moment.enders[whom.node, whom.pid].append(block)
 
 
 def by_code(moment: Nodes, word: str) -> DefaultDict[str, List[Block]]:
