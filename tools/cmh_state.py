@@ -54,10 +54,28 @@ PYTHON_RLOCK = getattr(threading, "_PyRLock")
 RLOCKS = (type(threading.RLock()), PYTHON_RLOCK)
 LOCK = type(threading.Lock())
 ROWS = (list, tuple, set, frozenset, collections.deque)
+HOLDERS = (*ROWS, dict, functools.partial, types.CellType, types.MethodType, types.BuiltinMethodType)
 BLOCKS = ("SETUP_WITH", "SETUP_ASYNC_WITH", "SETUP_FINALLY")  # before Python 3.11
+PUTS, GETS = {"put", "put_nowait", "shutdown"}, {"get", "get_nowait", "shutdown"}
+NOTIFIES = {"notify", "notify_all", "notifyAll"}
+WAITING = ("threading", "queue", "_queue", "asyncio.queues", "asyncio.locks")
+WAITING_AT = {  # functions of these, with the names by which such a wait ends, or None for any use
+    "Queue.get": PUTS, "Queue.put": GETS, "Queue.join": {"task_done", "shutdown"}, "Event.wait": {"set"},
+    "Condition.wait": NOTIFIES, "Condition.wait_for": NOTIFIES, "Semaphore.acquire": None, "Lock.acquire": None,
+    "_ContextManagerMixin.__aenter__": None}
+# Modules that call functions of the program by what they find, and packages, of which all may do so.
+DISPATCHES = re.compile(r"(socketserver|http\.server|xmlrpc\.server|wsgiref|asyncore|asynchat|smtpd|sched|cmd|code"
+                        r"|tkinter|multiprocessing\.(managers|pool)|concurrent\.futures\.process)($|\.)")
+PACKAGES = re.compile(r"[/\\](site|dist)-packages[/\\]")
+DYNAMIC = {"eval", "exec", "getattr", "__import__", "import_module", "globals", "vars", "__dict__", "attrgetter",
+           "methodcaller", "get_objects", "get_referrers"}
+AWAITS = ("SEND", "YIELD_VALUE", "YIELD_FROM", "RESUME")  # steps at which an await stands
+ENDINGS = ("POP_TOP", "STORE_", "RETURN_", "RAISE_")  # how steps begin that end a statement
+MADE_BY = ("__new__", "__init__", "__post_init__", "__init_subclass__")  # what a class calls for a new object
 BEGIN = ("BEFORE_WITH", "SETUP_WITH", "BEFORE_ASYNC_WITH", "SETUP_ASYNC_WITH")
 WITH = {dis.opmap[name] for name in BEGIN if name in dis.opmap}
 LEAVES = ("JUMP_ABSOLUTE", "RERAISE")  # and these, of steps after which the next isn't made
+SKIPPED = ("PUSH_NULL", "CACHE", "EXTENDED_ARG", "COPY_FREE_VARS", "RESUME")  # steps that load nothing
 ENDS = ("JUMP_FORWARD", "RETURN_VALUE", "RETURN_CONST", "RAISE_VARARGS")  # steps after which the next isn't made
 STUCK = 5  # seconds
 DEEP = 2000  # frames of a stack at most
@@ -65,6 +83,9 @@ WIDE = 200000  # values that are looked at for tasks and children in all
 CROWD, FEW = 5000, 20  # values within one another, and objects of a class, that are looked at for functions
 CODES = 50000  # functions that are looked at for names in one state; more count as having them
 LEFT = {"codes": CODES}
+REACHED = 3000  # functions that are looked at for names of one thread or task; with more it may come to any
+FAR, SECONDS = 8, 0.5  # steps from what is waited at to a name for it, and the time for all of them
+BLOCKS_MOST = 5_000_000  # of memory: in a larger program nobody looks for names
 NEAR = 3  # steps from a name to a task, future or child that it is taken to reach
 MOST = 50  # of these that are printed for one thread or task
 INHERITED: "weakref.WeakSet" = weakref.WeakSet()  # tasks that were there before the fork
@@ -271,20 +292,42 @@ def called_at(frame, steps):
     """The words of what some steps load, such as self.lock.acquire, with the object that it is an attribute of, and
     itself. If they do more than that, only the last word is known, behind a '?', or none."""
     words, value, owner = [], None, None
+    steps = loads_in(steps)
     for at, step in enumerate(steps):
-        if step.opname in ("PUSH_NULL", "CACHE", "EXTENDED_ARG", "COPY_FREE_VARS", "RESUME"):
-            continue
-        if not words and step.opname.startswith("LOAD_") and "ATTR" not in step.opname:
+        is_name = step.opname.startswith("LOAD_") and "ATTR" not in step.opname
+        if not words and is_name:
             words, value = [str(step.argval)], variable_of(frame, step)
         elif words and step.opname in ("LOAD_ATTR", "LOAD_METHOD"):
             words.append(step.argval)
             owner, value = value, step_into(value, step.argval)
-        elif words and not any(is_call(each.opname) for each in steps[at:]):
+        elif words and is_name and is_subscript(steps[at + 1:at + 2]):
+            is_constant = "CONST" in step.opname
+            words[-1] += f"[{step.argval if type(step.argval) is int or not is_constant else '..'}]"
+            owner, value = value, item_of(value, step.argval if is_constant else variable_of(frame, step))
+        elif words and not any(is_call(each.opname) or is_subscript([each]) for each in steps[at:]):
             break  # (the condition of an argument)
-        else:
-            last = [each for each in steps if each.opname not in ("PUSH_NULL", "CACHE")][-1]
-            return (["?", last.argval] if last.opname in ("LOAD_ATTR", "LOAD_METHOD") else []), None, Method
+        elif not words or not is_subscript([step]):
+            return (["?", steps[-1].argval] if steps[-1].opname in ("LOAD_ATTR", "LOAD_METHOD") else []), None, Method
     return words, owner, value
+
+
+def loads_in(steps):
+    """The steps that load something, one for each name."""
+    rows = [[step._replace(argval=name) for name in step.argval] if type(step.argval) is tuple else [step]
+            for step in steps if step.opname not in SKIPPED]
+    return [step for row in rows for step in row]
+
+
+def is_subscript(steps):
+    return any(step.opname == "BINARY_SUBSCR" for step in steps)
+
+
+def item_of(value, key):
+    """What stands in a list or a table under a key, if no code of the job has to run for it, or a mark."""
+    is_there = type(value) is dict and type(key) in (str, int) or type(value) in (list, tuple) and type(key) is int
+    with contextlib.suppress(LookupError):
+        return value[key] if is_there else Method
+    return Method
 
 
 def step_into(value, name):
@@ -314,20 +357,35 @@ def names_of(steps, constants):
     return (list(names), [step for step in steps if step is not last]) if type(names) is tuple else ([], steps)
 
 
-def call_of(frame):
-    """The call of no Python frame that a frame is in, or None: its words, its object, its number of arguments."""
+def place_of_call(frame):
+    """The steps of a frame, and of the call that it is in: its place, that of its arguments, and what it calls. None if
+    it is in no call, and without a place if its last step isn't known."""
     steps = list(dis.get_instructions(frame.f_code))
     at = next((place for place, step in enumerate(steps) if step.offset == frame.f_lasti), None)
     if at is None or not is_call(steps[at].opname):
-        return {"step": steps[at].opname} if at is not None else None
+        return steps, at, None, None
     at -= steps[at - 1].opname == "PRECALL"
+    start, middle = start_of_call(steps, at)
+    return steps, at, middle, called_at(frame, steps[start:middle]) if start is not None else ([], None, Method)
+
+
+def start_of_call(steps, at):
+    """The places of the first step for what a call calls, and of that for its arguments. None for one that isn't known.
+    """
     pushed = pushed_by(steps[at])
     middle = at if pushed is None or pushed[1] == 0 else first_of(steps, at, pushed[1], True)
-    start = None if middle is None or pushed is None else first_of(steps, middle, pushed[0])
-    words, owner, value = called_at(frame, steps[start:middle]) if start is not None else ([], None, Method)
+    return None if middle is None or pushed is None else first_of(steps, middle, pushed[0]), middle
+
+
+def call_of(frame):
+    """The call of no Python frame that a frame is in, or None: its words, its object, its number of arguments."""
+    steps, at, middle, called = place_of_call(frame)
+    if called is None:
+        return {"step": steps[at].opname} if at is not None else None
+    words, owner, value = called
     if not words:
         return {"words": None}
-    if pushed == (1, 0) and "WITH" in steps[at].opname:
+    if is_block(steps[at]):
         return {"words": ".".join(words), "how": "with", "on": describe(value), "arguments": []}
     row = {"words": ".".join(words), "how": "call", "on": describe(owner), **function_names(value)}
     if steps[at].opname == "CALL_FUNCTION_EX":
@@ -336,6 +394,11 @@ def call_of(frame):
     loads = steps[middle:at]
     names, loads = names_of(loads, frame.f_code.co_consts) if has_names else ([], loads)
     return {**row, "arguments": arguments_of(loads), **({"named": names} if names else {})}
+
+
+def is_block(step):
+    """Whether a step begins a block of `with`."""
+    return pushed_by(step) == (1, 0) and "WITH" in step.opname
 
 
 def bound_of(value):
@@ -661,7 +724,8 @@ def called_by(frame):
         handles = [each for each in [*handles_of(own), *list(getattr(own, "_ready", ()))]
                    if callback_name(getattr(each, "_callback", None))]
         return [part for each in handles for part in (each._callback, each._args)]
-    return [part for each in items_in(work) for part in (each.fn, each.args, each.kwargs)]
+    items = [*items_in(work), *([own] if is_a(own, "concurrent.futures.thread", "_WorkItem") else [])]
+    return [part for each in items for part in (each.fn, each.args, each.kwargs, each.future)]
 
 
 def globals_of(code, names):
@@ -805,7 +869,7 @@ def named_by(names, places):
 def reached(words, frames, start_of, called=()):
     """Yields those of some names that the code of frames of the program from a step on has, or functions that this
     names, some steps far, or that will be called."""
-    ways = [(names_ahead(frame.f_code, start_of(frame)), (frame.f_locals, frame.f_globals))
+    ways = [(names_ahead(frame.f_code, start_of(frame)), (dict(frame.f_locals), frame.f_globals))
             for frame, _ in frames if is_own(frame)]
     values, seen, owners = [*called, *called_later(frames)], set(), {}
     for _ in range(NEAR + 1):
@@ -872,6 +936,333 @@ def cells_in(function):
     return found
 
 
+# Who may end a wait at a queue, a condition or the like: those whose code may still come to a name that the program has
+# for it, and to one by which such a wait ends. These are all of them, and perhaps more.
+
+
+def waited_at(frames):
+    """What a stack waits at, and the names by which that ends, or None for any. Nothing if that isn't known."""
+    found = None
+    for frame, _ in frames:
+        if frame.f_globals.get("__name__") not in WAITING or frame.f_code.co_name in ("run", "_bootstrap_inner"):
+            break
+        function = function_of(frame)
+        found = (frame.f_locals["self"], WAITING_AT[function]) if function in WAITING_AT else ()
+    return found if found is not None else waited_in(frames[0][0]) if frames else ()
+
+
+def waited_in(frame):
+    """The same of a call of no Python frame: of a lock, or of a simple queue."""
+    steps, at, _, (words, owner, value) = place_of_call(frame)
+    if is_block(steps[at]):
+        return (value, None) if type(value) is LOCK else ()
+    if words[-1:] == ["get"] and type(owner) is queue.SimpleQueue:
+        return owner, PUTS
+    return (owner, None) if words[-1:] == ["acquire"] and type(owner) is LOCK else ()
+
+
+class Wakers:
+    """Who may end each of some waits. `stacks` is as `stacks_of_all` returns it. Once the time is over, whoever is left
+    may come to any name."""
+
+    def __init__(self, stacks):
+        self.end = time.monotonic() + 2 * SECONDS
+        self.stacks, self.names, self.functions = stacks, {}, functions_by_name()
+        found = {key: guarded(waited_at, frames) for key, (frames, _) in stacks.items()}
+        self.targets = {key: it for key, it in found.items() if type(it) is tuple and it}
+        frames = [frame for frames, _ in stacks.values() for frame, _ in frames
+                  if not is_standard(frame.f_code.co_filename)]
+        self.aliases = Aliases([*self.targets.values()], frames).found if self.targets else {}
+
+    def of(self, key):
+        """At what one waits, if that is known."""
+        return {"at": self.place_of(*self.targets[key])} if key in self.targets else {}
+
+    def place_of(self, value, words):
+        """What tells a wait from others, by what is waited at and what ends it."""
+        return f"{hex(id(value))} {' '.join(sorted(words or ()))}".strip()
+
+    def rows(self):
+        """Who may end each of these waits, or None if others may too, in one row for all who wait alike."""
+        rows, left = {}, CROWD
+        for value, words in self.targets.values():
+            place, names = self.place_of(value, words), self.aliases[id(value)]
+            if place not in rows:
+                some = [it for it in self.stacks if names is not None and self.may_reach(it, names, words, words is None)]
+                left -= len(some)
+                rows[place] = {"wait": place, "by": None if names is None or None in some or left < 0 else some}
+        return list(rows.values())
+
+    def may_reach(self, key, aliases, words, is_whole):
+        """Whether one may come to one of some names, and to one of some words, if these are needed. Its whole code
+        counts where a block may give back a lock that the code named before."""
+        if (key, is_whole) not in self.names:
+            found = guarded(self.names_from, *self.stacks[key], is_whole)
+            self.names[key, is_whole] = found if type(found) is set else None
+        names = self.names[key, is_whole]
+        return names is None or not (names.isdisjoint(aliases) or words is not None and names.isdisjoint(words))
+
+    def names_from(self, frames, called, is_whole):
+        """The names in the code that some frames may still come to, or in all of theirs. None if that may be any."""
+        ways = [(all_names(frame.f_code) if is_whole else names_left(frame.f_code, frame.f_lasti),
+                 (dict(frame.f_locals), frame.f_globals), frame.f_code) for frame, _ in frames if is_own(frame)]
+        ways += [(all_names(each.gi_code), ({}, {}), each.gi_code) for each in variables_in(frames)
+                 if type(each) is types.GeneratorType]  # (whose end runs too)
+        later = called_later([row for row in frames if row[0].f_code.co_name != "run_forever"])
+        values, names, seen, owners = [*called, *later, *finalizers(variables_in(frames))], set(), set(), {}
+        while ways or values:
+            names.update(*(some for some, _, _ in ways))
+            own = set().union(*(some for some, _, code in ways if not is_standard(code.co_filename)))
+            values += [value for some, places, _ in ways for value in named_by(some, places)]
+            values += [each for name in own for each in self.functions.get(name, ())]
+            values += [part for each in values for part in implied_by(each, names)]
+            add_owners(owners, values)
+            new = {each for each in values if type(each) is types.FunctionType and is_foreign(each)} - seen
+            seen |= new
+            if len(seen) > REACHED or not own.isdisjoint(DYNAMIC) or any(is_dispatcher(it) for it, _ in frames) \
+                    or time.monotonic() > self.end:
+                return None
+            ways = [(all_names(each.__code__), (cells_in(each), each.__globals__, *objects_of(each, owners)),
+                     each.__code__) for each in new]
+            values = []
+        return names
+
+
+def variables_in(frames):
+    """What the functions of the program among some frames have in variables of their own."""
+    return [value for frame, _ in frames if is_own(frame) and frame.f_code.co_name != "<module>"
+            for value in list(frame.f_locals.values())]
+
+
+def finalizers(values):
+    """The functions that run once some values go."""
+    return [kind.__dict__["__del__"] for value in values for kind in kinds_in(value) if "__del__" in kind.__dict__]
+
+
+@functools.lru_cache(maxsize=1000)
+def names_left(code, last):
+    """The names ahead of the call that a step is, with those that its statement has loaded for another call to come.
+    All names of the code within a block, whose end may call anything."""
+    if blocks_at(code, last) or sys.version_info < (3, 9) and not WITH.isdisjoint(code.co_code[::2]):
+        return all_names(code)
+    steps = list(dis.get_instructions(code))
+    starts = [*dis.findlinestarts(code)]
+    lines = [next((line for start, line in reversed(starts) if start <= step.offset and line), 0) for step in steps]
+    at = max([place for place, step in enumerate(steps) if step.offset <= last], default=0)
+    end = next((place for place, step in enumerate(steps) if place > at and step.opname.startswith(ENDINGS)), at)
+    here = range(min(lines[at:end + 1], default=0), lines[at] + 1)
+    start = start_of_step(steps, at)
+    before = [step for step, line in zip(steps[:at if start is None else start], lines) if line in here]
+    return names_ahead(code, steps[at].offset + 1).union(*map(texts_in, before))
+
+
+def start_of_step(steps, at):
+    """The place of the first step of the call or the await that a step is, which has used all that stands from there
+    on. None if that isn't known."""
+    if is_call(steps[at].opname):
+        return start_of_call(steps, at - (steps[at - 1].opname == "PRECALL"))[0]
+    awaits = [place for place in range(at, -1, -1) if steps[place].opname == "GET_AWAITABLE"][:1]
+    return first_of(steps, awaits[0], 1) if awaits and steps[at].opname in AWAITS else at
+
+
+def texts_in(step):
+    values = step.argval if type(step.argval) is tuple else (step.argval,)
+    return {value for value in values if type(value) is str}
+
+
+@functools.lru_cache(maxsize=20000)
+def all_names(code):
+    """All names of a code, and texts that may be some, with those of the functions in it."""
+    values = [each for value in code.co_consts for each in (value if type(value) is tuple else (value,))]
+    names = [*code.co_names, *code.co_varnames, *code.co_freevars, *code.co_cellvars]
+    inner = [all_names(value) for value in values if type(value) is types.CodeType]
+    return frozenset([*names, *(value for value in values if type(value) is str)]).union(*inner)
+
+
+@functools.lru_cache(maxsize=20000)
+def is_standard(path):
+    """Whether a file is of Python's library, or of the interpreter itself."""
+    return path.startswith(("<frozen", os.path.dirname(os.__file__) + os.sep)) and not PACKAGES.search(path)
+
+
+def is_dispatcher(frame):
+    """Whether a frame is of what may call any function of the program: of a package, or of a server."""
+    name = frame.f_globals.get("__name__") or ""
+    return bool(PACKAGES.search(frame.f_code.co_filename) or DISPATCHES.match(name))
+
+
+def called_by_loop(frames):
+    """What the event loop of a stack calls for timers, sockets and signals, whatever the thread waits for, with the
+    classes of protocols, and what the library's own functions have around them."""
+    loop = running_loop(frames)
+    handles = [] if loop is None else [*handles_of(loop), *list(getattr(loop, "_ready", ()))]
+    handles = [each for each in handles if not is_work(getattr(each._callback, "__self__", None))]
+    values = [part for each in handles for part in (each._callback, *(each._args or ()))]
+    kinds = [type(getattr(getattr(each, "__self__", None), "_protocol", None)) for each in values]
+    inner = [part for each in values if type(each) is types.FunctionType for part in inside_function(each)]
+    return spread([*values, *kinds, *inner])
+
+
+def functions_by_name():
+    """The functions of all modules but the library's and this one, by the names that these and their classes have."""
+    found = collections.defaultdict(list)
+    left = [row for name, module in list(sys.modules.items()) for row in list(attributes_of(module).items())
+            if not is_library_module(name)]
+    kinds = set()
+    while left:
+        name, value = left.pop()
+        for each in (value, *wrapped_in(value)):
+            if type(each) is types.FunctionType:
+                found[name].append(each)
+        if issubclass(type(value), type) and value not in kinds and not is_library(value):
+            kinds.add(value)
+            found[value.__name__].append(value)
+            left += list(value.__dict__.items())
+    return found
+
+
+def is_library(kind):
+    """Whether a class is of Python's library."""
+    return is_library_module(kind.__module__)
+
+
+def is_library_module(name):
+    """Whether a module is of Python's library, or this one."""
+    path = str(attributes_of(sys.modules.get(name)).get("__file__", "<frozen"))
+    return name != "__main__" and (is_standard(path) or path == __file__)
+
+
+def wrapped_in(value):
+    """The functions in what stands for one in a class or a module."""
+    if type(value) is property:
+        return [value.fget, value.fset]
+    if type(value) in (staticmethod, classmethod, types.MethodType):
+        return [value.__func__]
+    inner = attributes_of(value).get("__wrapped__", attributes_of(value).get("func"))
+    return [value.func] if type(value) is functools.partial else [inner]
+
+
+def implied_by(value, names):
+    """What is called with a value besides its name: the methods of a class, those that operators call, the callbacks of
+    a future, and the work of a thread that may be begun."""
+    if is_work(value):
+        rows = [*(getattr(value, "_done_callbacks", None) or ()), *(getattr(value, "_callbacks", None) or ())]
+        return spread([each for row in rows for each in (row if type(row) is tuple else (row,))])
+    if issubclass(type(value), type):
+        return [] if is_library(value) else functions_of([value])
+    if issubclass(type(value), threading.Thread):
+        return spread([vars(value), type(value)]) if "start" in names and value.ident is None else []
+    if type(value) in CALLED:
+        return wrapped_in(value)
+    return [each for kind in kinds_in(value) for name, each in list(kind.__dict__.items())
+            if name.startswith("__") and name not in MADE_BY]
+
+
+def kinds_in(value):
+    """The classes of an object that aren't the library's."""
+    return [kind for kind in type.__dict__["__mro__"].__get__(type(value)) if not is_library(kind)]
+
+
+class Aliases:
+    """The names by which the program has what it waits at, by the id of each: variables, attributes, and those of the
+    lists and the like that it lies in. None where it may have it without a name. `rows` are those of `waited_at`."""
+
+    def __init__(self, rows, frames):
+        self.words = {}
+        for value, words in rows:
+            self.words.setdefault(id(value), set()).update(words or ())
+        self.found = {key: set() for key in self.words}
+        self.places = [(frame.f_locals, variables_of(frame.f_code)) for frame in frames]
+        self.objects, self.targets = {id(value): value for value, _ in rows}, {key: {key} for key in self.words}
+        for weak, target in [(weak, id(value)) for value, _ in rows for weak in weakref.getweakrefs(value)]:
+            self.objects[id(weak)], self.targets[id(weak)] = weak, {target}
+        self.keys, self.seen, self.kept = {}, {}, []
+        places = [frame.f_locals for frame in frames if frame.f_locals is not frame.f_globals]
+        self.ours = {id(each) for each in (*rows, rows, self.kept, *places)}
+        end = time.monotonic() + SECONDS
+        for _ in range(FAR):
+            if self.objects and time.monotonic() < end and sys.getallocatedblocks() < BLOCKS_MOST:
+                self.climb()
+        self.add({None: set().union(*self.targets.values(), (key for key, names in self.found.items() if not names))})
+
+    def climb(self):
+        """Adds the names of some objects, and goes on to what holds those that have none."""
+        for place, names in self.places:
+            self.add({name: self.targets.get(id(place.get(name)), ()) for name in names})
+        holders = [it for it in gc.get_referrers(*self.objects.values())
+                   if id(it) not in self.ours and it is not self.objects and [*map(id, it if type(it) is tuple else ())]
+                   != [*self.objects]]
+        if len(holders) > CROWD:
+            return
+        more, targets = {}, {}
+        for holder in holders:
+            some = {id(each) for each in gc.get_referents(holder)} & self.objects.keys()
+            reached = set().union(*(self.targets[each] for each in some))
+            names = self.names_at(holder, some, reached)
+            self.add({None: reached} if names is None else names)
+            if names is not None and is_holder(holder) and not reached <= self.seen.get(id(holder), set()):
+                self.seen[id(holder)] = reached | self.seen.get(id(holder), set())
+                more[id(holder)], targets[id(holder)] = holder, reached
+        self.kept += self.objects.values()
+        self.objects, self.targets = more, targets
+
+    def add(self, names):
+        """Adds names, each for some of what is waited at, or None for other ways to it."""
+        for name, some in names.items():
+            for target in some:
+                known = self.found[target]
+                self.found[target] = None if name is None or known is None else known | {name} - {"self"}
+
+    def names_at(self, holder, some, reached):
+        """The names by which a holder has some objects, each with what that leads to. Or none, if it has them without
+        a name, or None if it isn't known what it does."""
+        if type(holder) is dict:
+            self.keys[id(holder)] = {key: self.targets[id(value)] for key, value in holder.items()
+                                     if id(value) in some and type(key) is str}
+        if type(holder) in (types.MethodType, types.BuiltinMethodType):
+            return None if any(holder.__name__ in self.words.get(each, ()) for each in some) else {}
+        if is_holder(holder) or type(holder).__module__ == __name__:
+            return {}
+        if type(holder) is types.FunctionType:
+            is_place = some == {id(holder.__globals__)}
+            return {} if is_place else dict.fromkeys(all_names(holder.__code__), reached)
+        letters = letters_of(holder)
+        frame = getattr(holder, f"{letters}_frame") if letters else holder
+        if type(frame) is types.FrameType:
+            values = {} if frame.f_code.co_filename == __file__ else frame.f_locals
+            return {name: self.targets.get(id(values.get(name)), ()) for name in variables_of(frame.f_code)}
+        if is_a(holder, "threading", "Thread") or is_a(holder, "concurrent.futures.thread", "_WorkItem"):
+            work = getattr(holder, "fn", getattr(holder, "_target", None))
+            return dict.fromkeys(all_names(work.__code__), reached) if type(work) is types.FunctionType else None
+        return self.attributes_at(holder, some)
+
+    def attributes_at(self, holder, some):
+        """The names of the attributes of a module, a class, or an object of the program that lead to some objects."""
+        is_class, here = issubclass(type(holder), type), attributes_of(holder)
+        found = {name: targets for each in some if is_class or each == id(here)
+                 for name, targets in self.keys.get(each, {}).items()}
+        kinds = type.__dict__["__mro__"].__get__(type(holder))
+        slots = {name: step_into(holder, name) for kind in kinds for name, value in kind.__dict__.items()
+                 if type(value) is types.MemberDescriptorType}
+        found.update({name: self.targets[id(value)] for name, value in [*here.items(), *slots.items()]
+                      if id(value) in some})
+        is_known = is_class or type(holder) in (types.ModuleType, types.SimpleNamespace) or not is_library(type(holder))
+        return found if found and is_known else None
+
+
+def variables_of(code):
+    return {*code.co_varnames, *code.co_freevars, *code.co_cellvars}
+
+
+def is_holder(value):
+    """Whether what holds an object is only a way to it, without a name for it: a list or the like, or what the library
+    makes locks and queues of."""
+    kind = type(value)
+    is_iterator = kind.__module__ in ("builtins", "itertools") and hasattr(kind, "__next__") and not letters_of(value)
+    is_lock = kind.__module__ in WAITING and not issubclass(kind, threading.Thread)
+    return is_iterator or is_lock or issubclass(kind, HOLDERS)
+
+
 # Threads and tasks.
 
 
@@ -913,7 +1304,27 @@ def running_loop(frames):
     return None
 
 
-def thread_rows(before, spent, holders):
+def stacks_of_all():
+    """The frames of each thread and task but this one's, with what will be called besides. By None what signals and
+    event loops call."""
+    found = {ident: (stack_of(frame), []) for ident, frame in sys._current_frames().items()
+             if ident != threading.get_ident()}
+    for task in tasks_of_all():
+        if not task.done():
+            called = spread([each for each, _ in getattr(task, "_callbacks", None) or ()])
+            found[hex(id(task))] = chain_of(task.get_coro()), called
+    handlers = [signal.getsignal(number) for number in signal.valid_signals()]
+    handlers = [each for each in handlers if callable(each) and each is not signal.default_int_handler]
+    loops = [each for frames, _ in found.values() for each in called_by_loop(frames)]
+    found[None] = [], spread([*handlers, *loops])
+    return found
+
+
+def wait_of(wakers, key):
+    return guarded(wakers.of, key) if isinstance(wakers, Wakers) else {}
+
+
+def thread_rows(before, spent, holders, wakers):
     """A row for each thread, and the loops that they run."""
     names, loops, rows = {each.ident: each for each in threading.enumerate()}, {}, []
     now = places()
@@ -933,7 +1344,7 @@ def thread_rows(before, spent, holders):
             "moved": before.get(ident) != now.get(ident), **counts, "holds": guarded(holders.held, frames),
             "ends": guarded(may_end, frames), "cancels": guarded(may_cancel, frames),
             "loop": hex(id(loop)) if loop is not None else None, "call": call,
-            **guarded(inside_thread, frames),
+            **guarded(inside_thread, frames), **wait_of(wakers, ident),
             "frames": shown})
     return rows, loops
 
@@ -1074,7 +1485,7 @@ def parent_of(task):
     return {}
 
 
-def task_row(task, timers, before, holders):
+def task_row(task, timers, before, holders, wakers):
     waiter = getattr(task, "_fut_waiter", None)
     coroutine = task.get_coro()
     chain = chain_of(coroutine)
@@ -1088,7 +1499,7 @@ def task_row(task, timers, before, holders):
         "sets": [hex(id(future)) for future in sets if future is not None], **parent_of(task),
         "holds": guarded(holders.held, chain), "ends": guarded(may_end, chain),
         "cancels": guarded(may_cancel, chain, spread([each for each, _ in getattr(task, "_callbacks", None) or ()])),
-        **guarded(inside_task, coroutine),
+        **guarded(inside_task, coroutine), **wait_of(wakers, hex(id(task))),
         "frames": [guarded(frame_row, *each) for each in chain]}
 
 
@@ -1113,14 +1524,14 @@ def asked_of(loop):
     return rows
 
 
-def task_rows(loops, before, holders):
+def task_rows(loops, before, holders, wakers):
     """A row for each task, and for each loop with the task that has its thread."""
     tasks = [task for task in tasks_of_all() if not task.done()]
     tasks.sort(key=lambda it: (len(it.get_name()), it.get_name()))
     found = {id(task.get_loop()): (task.get_loop(), None) for task in tasks}
     found.update(loops)
     timers = {key: timed(loop) for key, (loop, _) in found.items()}
-    rows = [guarded(task_row, task, timers[id(task.get_loop())], before, holders) for task in tasks]
+    rows = [guarded(task_row, task, timers[id(task.get_loop())], before, holders, wakers) for task in tasks]
     for loop, ident in found.values():
         ident = ident or getattr(loop, "_thread_id", None)
         task = sys.modules["asyncio"].current_task(loop) if "asyncio" in sys.modules else None
@@ -1196,10 +1607,12 @@ def state(number=0):
     natives = {each.ident: each.native_id for each in threading.enumerate()}
     spent = {ident: counts_of(native) for ident, native in natives.items()}
     time.sleep(seconds)
-    holders = Holders()
-    threads, loops = thread_rows(before, spent, holders)
-    tasks = guarded(task_rows, loops, {} if "error" in tasks_before else tasks_before, holders)
-    rows = threads + (tasks if isinstance(tasks, list) else [tasks]) + children_rows()
+    holders, wakers = Holders(), guarded(lambda: Wakers(stacks_of_all()))
+    threads, loops = thread_rows(before, spent, holders, wakers)
+    tasks = guarded(task_rows, loops, {} if "error" in tasks_before else tasks_before, holders, wakers)
+    waits = guarded(wakers.rows) if isinstance(wakers, Wakers) else []
+    rows = [*threads, *(tasks if isinstance(tasks, list) else [tasks]), *(waits if isinstance(waits, list) else []),
+            *children_rows()]
     head = {"version": VERSION, "process": process_name(), "pid": os.getpid(), "parent": os.getppid(),
             "host": os.uname().nodename, "space": guarded(space), "reader": threading.get_native_id() if number else 0,
             "python": sys.version.split()[0], "time": time.strftime("%Y-%m-%dT%H:%M:%S"), "seconds": seconds,

@@ -18,7 +18,7 @@ from typing import Any, Dict, Iterator, List, Optional, Set
 
 from ..files import shown
 from ..moments import APART, GROWN, ONCE, PARTS, WHOLE, Reading
-from ..sketch import ANY, REST, RUNS, Process, Sketch, premise
+from ..sketch import ANY, COMPLETE, REST, RUNS, Process, Sketch, premise
 from . import State
 from .base import Moment, Premise, Recorder
 from .python_frames import is_of_frames, looks_of_frames
@@ -317,4 +317,5 @@ def process_of(subject: Subject, frames: List[Frame], wait: Wait, standing: Opti
                    proposal="all" if operation in NEED_ALL else "any", because=list(wait.because),
                    is_idle=wait.is_idle, count=wait.count, besides=list(dict.fromkeys(wait.besides)),
                    is_collective=operation in NEED_ALL, thread=subject.kernel_thread(),
-                   is_open=wait.is_open or subject.what == "task" and wait.kind == ANY)
+                   is_open=wait.is_open or subject.what == "task" and wait.kind == ANY,
+                   candidates=[*wait.likely, COMPLETE] if wait.likely else [])

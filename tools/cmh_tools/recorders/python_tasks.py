@@ -13,7 +13,7 @@ from .linux_waits import SLEEPS, has_limit
 from .python_cancel import Cancellers
 from .python_names import Names, Standing
 from .python_text import Frame, Look, Row, last_word
-from .python_waits import (Wait, besides_of, by_block, by_work, limited, not_shown, resolve_all, resolve_wait,
+from .python_waits import (Wait, besides_of, by_block, by_names, by_work, limited, resolve_all, resolve_wait,
                            thread_wait, unsure)
 
 EVENTS = "waits for events"  # how a loop is idle
@@ -180,7 +180,7 @@ def task_wait(row: "Row", standing: Standing) -> Wait:
             found = by_permit(standing, each.has.get("self"))
         if each.at == "asyncio.taskgroups.TaskGroup.__aexit__":
             found = resolve_all(standing, each.has["self"]["all"])
-    return found or unsure(not_shown(standing, standing.operation[0] or "await"))
+    return found or by_names(standing)
 
 
 def by_permit(standing: Standing, lock: Any) -> Optional[Wait]:

@@ -59,7 +59,8 @@ class Look:
     """A state of one OS process. `seconds` is the time between the two looks that cmh_state.py takes, `head` its first
     row, `children` the OS processes that it has begun and not seen end. `pools` and `holders` keep what is looked up in
     it again and again: who does the work of each future, and who has each task or child in a variable. `cancelling` has
-    those whose code may cancel any task or future, or set one."""
+    those whose code may cancel any task or future, or set one, and `wakers` by a wait the keys of those whose code comes
+    to a name for what is waited at."""
 
     where: str
     process: str
@@ -71,6 +72,7 @@ class Look:
     tasks: Dict[Any, Row] = field(default_factory=dict)
     loops: Dict[Any, Dict[str, Any]] = field(default_factory=dict)
     asked: Dict[Any, Dict[str, Any]] = field(default_factory=dict)
+    wakers: Dict[Any, Any] = field(default_factory=dict)
     is_whole: bool = True
     by_faulthandler: bool = False
     shown_by: str = ""  # another tool, which shows places alone
@@ -202,6 +204,8 @@ def add_row(look: Look, row: Dict[str, Any], path: str, at: int) -> None:
             look.loops[row["runs"]] = row
         elif "asked" in row:
             look.asked[str(row["asked"])] = row
+        elif "wait" in row:
+            look.wakers[str(row["wait"])] = row["by"]
         elif "child" not in row:
             raise TypeError
         elif row.get("ended") is not True:

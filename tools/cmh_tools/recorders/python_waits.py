@@ -9,6 +9,7 @@ from ..sketch import ALL, ANY, LIMIT, RUNS, SYSTEM, UNKNOWN, premise
 from .python_names import Standing, own_frames, pools_of
 from .python_text import Frame, is_number, last_word
 
+LIKELY = 50  # names that are filled in where people are asked who ends a wait
 BUSY = 0.2  # the part of the time between two looks that one who computes has used at least
 FINISHED = ("FINISHED", "CANCELLED", "CANCELLED_AND_NOTIFIED")
 CHILD, FUTURE, BLOCK = "child", "future", "block"  # premises, beside LIMIT
@@ -18,7 +19,7 @@ CHILD, FUTURE, BLOCK = "child", "future", "block"  # premises, beside LIMIT
 class Wait:
     """How one waits, as a process of a sketch has it. `is_open` says that its list was found by a search, `count` is
     its own, where what it waits for comes once and for all, and `besides` has those that may end its wait in another
-    way."""
+    way. Of an unknown one `likely` has those whose code shows that they may end its wait."""
 
     kind: str
     whom: List[str] = field(default_factory=list)
@@ -28,6 +29,7 @@ class Wait:
     is_idle: bool = False
     count: Optional[str] = None
     besides: List[str] = field(default_factory=list)
+    likely: List[str] = field(default_factory=list)
 
     def has_limit(self) -> bool:
         return self.kind == RUNS and premise(LIMIT) in self.because
@@ -55,8 +57,18 @@ def thread_wait(standing: Standing) -> Wait:
         found = rule(standing)
         if found is not None:
             return found
+    return by_names(standing)
+
+
+def by_names(standing: Standing) -> Wait:
+    """The wait of one of which no state shows who ends it. Those are likely to whose code comes to a name for what it
+    waits at. Code may come to it without a name, so people have to say whether these are all."""
     operation = standing.operation[0]
-    return unsure(not_shown(standing, operation) if operation else "its call isn't known: it may wait or compute")
+    wait = unsure(not_shown(standing, operation) if operation else "its call isn't known: it may wait or compute")
+    keys = standing.look.wakers.get(standing.row.more.get("at"))
+    names = [standing.name_of(key) for key in keys if key != standing.row.key] if isinstance(keys, list) else []
+    wait.likely = names if len(names) <= LIKELY and None not in names else []
+    return wait
 
 
 def not_shown(standing: Standing, operation: str) -> str:

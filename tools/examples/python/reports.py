@@ -85,6 +85,7 @@ class Catalog:
             time.sleep(0.5 if STUCK else 600)
             with self.lock:
                 print("exported", row, flush=True)
+            self.rows.task_done()
 
     def close(self):
         self.rows.join()
