@@ -229,25 +229,6 @@ def pids_of(target: str) -> List[str]:
             if os.path.basename(link_of(f"/proc/{pid}/exe")) == target]
 
 
-def own_number(pid: str) -> str:
-    """The number of a process as it sees it itself, which is another one in a container."""
-    with contextlib.suppress(OSError), open(f"/proc/{pid}/status", encoding="utf-8", errors="replace") as file:
-        return next((line.split()[-1] for line in file if line.startswith("NSpid:")), pid)
-    return pid
-
-
-def start_of(pid: str) -> str:
-    """When a process began, as the kernel counts it."""
-    return stat_of(pid, 19)
-
-
-def stat_of(pid: str, at: int) -> str:
-    """A number that the kernel keeps of a process, by its place behind the name."""
-    with contextlib.suppress(OSError, IndexError), open(f"/proc/{pid}/stat", "rb") as file:
-        return file.read().rpartition(b")")[2].split()[at].decode()
-    return "?"
-
-
 def link_of(path: str) -> str:
     with contextlib.suppress(OSError):
         return os.readlink(path)
