@@ -9,7 +9,7 @@ from .check import describe_fault
 from .command import Parser, notes_path, run
 from .dump import Dump
 from .facts import Facts, read_facts
-from .files import Failure, Refusal, hindrance, read_bytes, read_text, say, shown, write_out, write_texts
+from .files import Failure, Refusal, decoded, hindrance, read_bytes, read_text, say, shown, write_out, write_texts
 from .idle import proposals_of
 from .making import sketch_for
 from .program import identity, judge
@@ -174,7 +174,7 @@ def check_live(it: Parser, asked: Any) -> None:
 
 def make(asked: Any) -> int:
     """Makes a dump and its notes."""
-    facts = read_facts(read_text(asked.facts, True), asked.facts) if asked.facts else Facts()
+    facts = read_facts(decoded(read_bytes(asked.facts), asked.facts), asked.facts) if asked.facts else Facts()
     paths, read, kept = asked.states, read_text, []
     if getattr(asked, "pid", None):
         text = collected(asked)

@@ -83,14 +83,19 @@ def read_input() -> bytes:
     return sys.stdin.buffer.read()
 
 
-def read_text(path: str, may_be_empty: bool = False) -> str:
+def read_text(path: str) -> str:
     """Returns the text of a file. Raises Failure if it can't be read, and Refusal if it is empty, or no UTF-8."""
-    return text_of_bytes(read_bytes(path), path, may_be_empty)
+    return text_of_bytes(read_bytes(path), path)
 
 
-def text_of_bytes(data: bytes, path: str, may_be_empty: bool = False) -> str:
-    if not may_be_empty and (not data or data.isspace()):
+def text_of_bytes(data: bytes, path: str) -> str:
+    if not data or data.isspace():
         raise Refusal(f"{shown(path)}: it is empty")
+    return decoded(data, path)
+
+
+def decoded(data: bytes, path: str) -> str:
+    """Returns the text of some bytes. Raises Refusal if they are no UTF-8."""
     try:
         return data.decode("utf-8-sig")
     except UnicodeDecodeError as error:
