@@ -9,6 +9,7 @@ from .files import shown
 from .idle import has_fact
 from .moments import GROWN, POLLED
 from .places import SPECIAL, VARIABLE, is_like, may_meet
+from .proposals import frame_name
 from .sketch import (ALL, ANY, DONE, ENDED, LIMIT, NEEDED, REST, RUNS, SYSTEM, UNKNOWN, WORK, Process, Sketch,
                      near_name, premise, quote)
 
@@ -34,6 +35,7 @@ class Names:
     def __init__(self, facts: Facts, sketch: Sketch) -> None:
         self.facts, self.groups = facts, sketch.groups
         self.names = {process.name: None for process in sketch.processes}
+        self.at_frames = {name: process.name for process in sketch.processes for name in map(frame_name, process.frames)}
         self.families = families(self.names)
         self.others = [it.name for it in sketch.processes if it.is_there() and it.name not in facts.spared]
         self.holders: Dict[str, Dict[str, None]] = {}
@@ -82,6 +84,8 @@ class Names:
             return f"{quote(word)} names nobody: the state has no {quote(unknown[1] if unknown else word)} of it"
         if filled.endswith(","):
             return f"{quote(filled)} names nobody: names stand with spaces between them, and no commas"
+        if filled in self.at_frames:
+            return f"{quote(filled)} is a place of {quote(self.at_frames[filled])}, and a list has names"
         what = f"{quote(filled)} names nobody{near_name(filled.replace('*', ''), self.families)}"
         if fact.kind != "any":
             return what

@@ -40,7 +40,7 @@ def decide(sketch: Sketch, facts: Facts, what: str = "processes", with_guesses: 
     """Applies facts to a sketch, and all that comes after them. `what` is what its idle processes are called."""
     facts = guessing.supposed(sketch, facts) if with_guesses else facts
     apply(facts, sketch)
-    decide_stuck(sketch, facts)
+    decide_stuck(sketch, facts, not with_guesses)
     add_left_out(sketch)
     shorten_candidates(sketch)
     if with_guesses:

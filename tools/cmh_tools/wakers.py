@@ -13,10 +13,11 @@ from .stuck import Waits
 Lists = Dict[str, List[str]]  # by the name of an unknown one, who may end its wait
 
 
-def decide_stuck(sketch: Sketch, facts: Facts) -> None:
+def decide_stuck(sketch: Sketch, facts: Facts, asks: bool = True) -> None:
     """Decides those unknown ones that are stuck, since all are who may end their waits, but for those who end nobody's
     by the facts. Of one that isn't stuck it isn't known whether it would ever do so, so the others stay unknown. Where
-    only those are free who run, one line is asked for, by which they end nobody's wait."""
+    only such ones are free as come back to a wait with a limit, a line is asked for, if it `asks`: that they end
+    nobody's wait."""
     rest = [it.name for it in sketch.processes if it.frames == [REST] and it.kind == UNKNOWN]
     some = {it.name: it for it in sketch.processes
             if it.kind == UNKNOWN and it.wakers is not None and not it.is_spoilt and not it.doubt}
@@ -27,7 +28,7 @@ def decide_stuck(sketch: Sketch, facts: Facts) -> None:
     stuck = stuck_by(sketch, without)
     for name in without.keys() & stuck:
         decide(some[name], without[name], gone_by(lists[name], facts), facts)
-    running = {it.name for it in sketch.processes if it.kind == RUNS and it.frames != [REST]}
+    running = {it.name for it in sketch.processes if asks and it.kind == RUNS and it.proposal == FREES}
     waiting = {name: [it for it in whom if it not in running] for name, whom in without.items() if name not in stuck}
     waiting = {name: whom for name, whom in waiting.items() if whom}
     for name in waiting.keys() & stuck_by(sketch, waiting):

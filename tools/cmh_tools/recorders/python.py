@@ -314,7 +314,7 @@ def process_of(subject: Subject, frames: List[Frame], wait: Wait, standing: Opti
     own = own_frames(frames)
     note = f"{operation} in {own[0]}" if operation and own else own[0] if own else operation
     return Process(subject.name, wait.kind, wait.whom, wait.reason, subject.job.site, note, own, operation, objects,
-                   proposal="all" if operation in NEED_ALL else "any", because=list(wait.because),
+                   proposal=wait.proposal or ("all" if operation in NEED_ALL else "any"), because=list(wait.because),
                    is_idle=wait.is_idle, count=wait.count, besides=list(dict.fromkeys(wait.besides)),
                    is_collective=operation in NEED_ALL, thread=subject.kernel_thread(),
                    is_open=wait.is_open or subject.what == "task" and wait.kind == ANY,

@@ -19,7 +19,8 @@ CHILD, FUTURE, BLOCK = "child", "future", "block"  # premises, beside LIMIT
 class Wait:
     """How one waits, as a process of a sketch has it. `is_open` says that its list was found by a search, `count` is
     its own, where what it waits for comes once and for all, and `besides` has those that may end its wait in another
-    way. Of an unknown one `likely` has those whose code shows that they may end its wait."""
+    way. Of an unknown one `likely` has those whose code shows that they may end its wait, and `proposal` is the fact that is
+    asked for, if not the usual one."""
 
     kind: str
     whom: List[str] = field(default_factory=list)
@@ -30,6 +31,7 @@ class Wait:
     count: Optional[str] = None
     besides: List[str] = field(default_factory=list)
     likely: List[str] = field(default_factory=list)
+    proposal: str = ""
 
     def has_limit(self) -> bool:
         return self.kind == RUNS and premise(LIMIT) in self.because
@@ -65,7 +67,10 @@ def by_names(standing: Standing) -> Wait:
     waits at. Code may come to it without a name, so people have to say whether these are all."""
     operation = standing.operation[0]
     wait = unsure(not_shown(standing, operation) if operation else "its call isn't known: it may wait or compute")
-    keys = standing.look.wakers.get(standing.row.more.get("at"))
+    at = standing.row.more.get("at")
+    keys = standing.look.wakers.get(at)
+    if at in standing.look.wakers and keys is None and standing.row.more.get("main") is True:
+        wait.proposal = "maybe"  # (a signal's handler may end it, as that of a service that waits to be stopped)
     names = [standing.name_of(key) for key in keys if key != standing.row.key] if isinstance(keys, list) else []
     wait.likely = names if len(names) <= LIKELY and None not in names else []
     return wait
