@@ -988,7 +988,8 @@ class Wakers:
         for value, words in self.targets.values():
             place, names = self.place_of(value, words), self.aliases[id(value)]
             if place not in rows:
-                some = [it for it in self.stacks if names is not None and self.may_reach(it, names, words, words is None)]
+                some = [it for it in self.stacks
+                        if names is not None and self.may_reach(it, names, words, words is None)]
                 left -= len(some)
                 rows[place] = {"wait": place, "by": None if names is None or None in some or left < 0 else some}
         return list(rows.values())

@@ -35,7 +35,7 @@ class Names:
     def __init__(self, facts: Facts, sketch: Sketch) -> None:
         self.facts, self.groups = facts, sketch.groups
         self.names = {process.name: None for process in sketch.processes}
-        self.at_frames = {name: process.name for process in sketch.processes for name in map(frame_name, process.frames)}
+        self.at_frames = {frame_name(each): process.name for process in sketch.processes for each in process.frames}
         self.families = families(self.names)
         self.others = [it.name for it in sketch.processes if it.is_there() and it.name not in facts.spared]
         self.holders: Dict[str, Dict[str, None]] = {}

@@ -59,8 +59,8 @@ class Look:
     """A state of one OS process. `seconds` is the time between the two looks that cmh_state.py takes, `head` its first
     row, `children` the OS processes that it has begun and not seen end. `pools` and `holders` keep what is looked up in
     it again and again: who does the work of each future, and who has each task or child in a variable. `cancelling` has
-    those whose code may cancel any task or future, or set one, and `wakers` by a wait the keys of those whose code comes
-    to a name for what is waited at."""
+    those whose code may cancel any task or future, or set one, and `wakers` by a wait the keys of those whose code
+    comes to a name for what is waited at."""
 
     where: str
     process: str

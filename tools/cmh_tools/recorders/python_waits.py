@@ -19,8 +19,8 @@ CHILD, FUTURE, BLOCK = "child", "future", "block"  # premises, beside LIMIT
 class Wait:
     """How one waits, as a process of a sketch has it. `is_open` says that its list was found by a search, `count` is
     its own, where what it waits for comes once and for all, and `besides` has those that may end its wait in another
-    way. Of an unknown one `likely` has those whose code shows that they may end its wait, and `proposal` is the fact that is
-    asked for, if not the usual one."""
+    way. Of an unknown one `likely` has those whose code shows that they may end its wait, and `proposal` is the fact
+    that is asked for, if not the usual one."""
 
     kind: str
     whom: List[str] = field(default_factory=list)
