@@ -13,7 +13,7 @@ pattern finds isn't whole while more of it may be started: by a goroutine that i
 """
 from __future__ import annotations
 
-from collections import Counter, defaultdict
+from collections import defaultdict
 from typing import DefaultDict, Dict, Iterable, List, Optional, Set, Tuple
 
 from ..files import Refusal
@@ -34,10 +34,9 @@ NOBODY = frozenset(("chan receive (nil chan)", "chan send (nil chan)", "select (
 OF_THE_SYSTEM = frozenset(("IO wait", "syscall"))
 END_OF_MAIN = "waits in the empty select of main"
 YIELD = "runtime.Gosched"
-READER, CHANNELS = "sync.RWMutex.RLock", ("chan ", "select")
+READER = "sync.RWMutex.RLock"
 NAMED = 3  # names in a reason
-FEW = 2  # goroutines in methods of one object, of which each may have the other end of the other's channel
-MANY, MOST = 8, 200  # more who have what stands in a frame of another, or what it waits at, tell nothing of that
+MOST = 200  # more who have what one waits at in a frame tell nothing of it
 WRITERS = "a writer ends this wait, which holds the lock or waits in Lock, and no reader; the state doesn't show which"
 ANOTHER = "another wait"  # beside the objects of one that has left its place between two states
 INTENT = "empty-select"
@@ -45,13 +44,12 @@ INTENT = "empty-select"
 
 class Goroutines(Moment):
     """The goroutines at one time: where each one stands, by its number; by the name of each, those who may start more
-    like it; for each address, the names of those that have it in a frame and don't wait at it, and how
-    many are in a method of what is there; and whether all were stopped when they were read."""
+    like it; for each address, the names of those that have it in a frame and don't wait at it; and whether all were
+    stopped when they were read."""
 
     places: Dict[str, Place]
     starters: Dict[str, List[str]]
     seen: DefaultDict[str, List[str]]
-    receivers: Counter[str]
     is_stopped: bool
 
     def lists(self) -> Iterable[List[str]]:
@@ -110,7 +108,6 @@ class GoRecorder(Recorder):
     def prepare(self, moment: Goroutines) -> None:
         """Finds in whose frames each address stands, and whether all goroutines were stopped when they were read."""
         moment.places = {it.number: Place(it) for it in moment.rows()}
-        moment.receivers = Counter(place.receiver for place in moment.places.values())
         moment.seen = defaultdict(list)
         moment.is_stopped = not any(it.is_elsewhere for it in moment.rows())
         starters = Starters(moment.rows(), moment.places, self.names)
@@ -173,19 +170,15 @@ class GoRecorder(Recorder):
 
     def guess(self, goroutine: Goroutine, place: Place, moment: Goroutines) -> List[str]:
         """Returns who may end a wait, as words of facts for people to complete: its children, if it waits for all of
-        them; who has what it waits at in a frame; and for a channel, which most texts don't show, who has what stands
-        in its own frame, unless these are many, as with what all of a program share. An object whose methods several
-        are in says nothing of which of its channels a wait is at."""
+        them, or who has what it waits at in a frame. Most texts don't show a channel, and an object in a frame says
+        nothing of which of its channels a wait is at."""
         if place.operation in NEEDS_ALL and goroutine.number in self.parents:
             return ["children"]
-        given = place.given if place.operation.startswith(CHANNELS) else []
-        shared = place.receiver if moment.receivers[place.receiver] > FEW else ""
-        at = place.objects or [address for address in given if address != shared]
-        if sum(len(moment.seen[address]) for address in at) > (MOST if place.objects else MANY + 1):
+        if sum(len(moment.seen[address]) for address in place.objects) > MOST:
             return []
-        found = dict.fromkeys(name for address in at for name in moment.seen[address])
+        found = dict.fromkeys(name for address in place.objects for name in moment.seen[address])
         found.pop(self.names[goroutine.number], None)
-        return [*found, COMPLETE] if found and (place.objects or len(found) <= MANY) else []
+        return [*found, COMPLETE] if found else []
 
     def finish(self, sketch: Sketch, moments: List[Goroutines]) -> None:
         """Adds the warnings, and for each creator the group of those that it has created."""

@@ -28,7 +28,6 @@ OPERATIONS = {
     "sync.Mutex.lockSlow": "sync.Mutex.Lock", "sync.runtime_SemacquireMutex": "sync.Mutex.Lock",
     "sync.runtime_Semacquire": "sync.WaitGroup.Wait"}
 METHOD = re.compile(r"[(*)]")
-OF_AN_OBJECT = re.compile(r".*\.\(\*[^()]+\)\.\w+")
 # Idle frames: a goroutine with one of them before the first of the job's own waits for work, and tells of no stall. But
 # for one that accepts connections, it has none of the job's own, and waits for no lock.
 ACCEPTOR, CONNECTION, WATCHER = "waits for a connection", "waits on a connection", "waits for what it watches"
@@ -48,7 +47,6 @@ AT_A_LOCK = re.compile(r"semacquire|sync\.(?!Cond\b).*")
 WRAPPER = re.compile(r".*(?:\.gowrap\d+|·dwrap·\d+)")
 CHANNEL = re.compile(r"runtime\.chan(?:send|recv)")
 LOCK = re.compile(r"sync\.\(\*(?:Mutex|RWMutex|WaitGroup|Cond|Once)\)\.\w+|internal/sync\.\(\*Mutex\)\.\w+")
-GIVEN = re.compile(r"\b0xc[0-9a-f]{9,}\b(?!\?)")  # of the heap, and still there
 CONDITION, WAITS_AT_IT = "sync.(*Cond).Wait", "sync.runtime_notifyListWait"
 NEEDS_ALL = frozenset(("sync.WaitGroup.Wait", "sync.RWMutex.Lock", "golang.org/x/sync/errgroup.Group.Wait"))
 OUTERMOST = ("runtime.goexit", "runtime.main")
@@ -135,8 +133,7 @@ def takes_state(goroutine: Goroutine) -> bool:
 
 class Place:
     """Where a goroutine stands: its frames as facts match them, what it calls there, and how it is idle, if it is.
-    `function` is the topmost of its own, `given` the addresses that this was surely called with, `receiver` that of
-    these whose method it is, and `called` the function whose call is the operation."""
+    `function` is the topmost of its own, and `called` the function whose call is the operation."""
 
     def __init__(self, goroutine: Goroutine) -> None:
         frames = [it for it in goroutine.frames if it.function not in OUTERMOST]
@@ -148,9 +145,6 @@ class Place:
             start = next((at for at, it in enumerate(frames) if package_of(it.function) != "runtime"), 0)
         own = [it for it in frames[start:] if is_jobs(it)]
         self.function = own[0].function if own else ""
-        self.given = GIVEN.findall(own[0].arguments) if own else []
-        is_method = own and OF_AN_OBJECT.fullmatch(own[0].function)
-        self.receiver = self.given[0] if is_method and own[0].arguments.startswith(tuple(self.given[:1])) else ""
         if not own and goroutine.created_by and is_jobs(goroutine.creator):
             own, start = [goroutine.creator], len(frames)
         self.frames = [frame(it.function, it.file, it.line) for it in own or frames[start:]]
