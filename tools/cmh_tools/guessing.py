@@ -10,7 +10,7 @@ from typing import Dict, Iterable, Iterator, List, Set, Tuple
 from .application import apply_guesses, is_end
 from .facts import FREES, HOLDS, OTHERS, STILL, Fact, Facts, word_of
 from .guesses import Line, count_anew, facts_of, guessed, last_number
-from .idle import is_receiver, is_stand_in, there_of
+from .idle import READS, is_receiver, is_stand_in, there_of
 from .places import Place, is_like
 from .proposals import HAS_ENDED, MOST, freeing_nobody, names_of, place_name, propose
 from .sketch import ANY, COMPLETE, ENDED, REST, RUNS, UNKNOWN, Process, Sketch, guess
@@ -34,14 +34,16 @@ def supposed(sketch: Sketch, facts: Facts) -> Facts:
 
 def take(sketch: Sketch, facts: Facts) -> None:
     """Has guesses decide who is unknown and isn't idle, where no fact speaks of it. If some are stuck without those who
-    only wait for their next message, these may have nothing to do, and nothing is guessed of their waits."""
+    only wait for their next message, these may have nothing to do, and nothing is guessed of their waits. Nor is it of
+    one that reads from a socket there."""
     passed_over = {it.name for it in sketch.processes if it.is_idle or is_spoken_of(it, facts)}
     at_rest = receivers(sketch, passed_over)
     trial = replace(sketch, processes=[it.copy() for it in sketch.processes], facts=[*sketch.facts])
     apply_to(trial, facts, passed_over, at_rest)
     idle = {it.name for it in trial.processes if it.is_idle}
     if at_rest and idle.issuperset(stuck_names(trial)):
-        apply_to(sketch, facts, passed_over, [])
+        reading = {it.name for it in sketch.processes if READS.fullmatch(it.operation)}
+        apply_to(sketch, facts, passed_over, [name for name in at_rest if name in reading])
     else:
         sketch.processes, sketch.facts = trial.processes, trial.facts
     count_anew(sketch)
@@ -82,7 +84,7 @@ def spare(sketch: Sketch, spared: Dict[str, Fact], known: Set[str]) -> None:
 def receivers(sketch: Sketch, passed_over: Set[str]) -> List[str]:
     """Returns those who only wait for their next message, at the function that they were started with, and whom nobody
     is known to wait for."""
-    wanted = {name for it in sketch.processes for name in (*it.whom, *it.candidates)}
+    wanted = {name for it in sketch.processes for name in it.whom}
     found = [it.name for it in sketch.processes if it.kind == UNKNOWN and it.name not in passed_over
              and it.name not in wanted and is_receiver(it)]
     return found if len(found) <= MOST else []
@@ -108,7 +110,7 @@ def take_besides(sketch: Sketch) -> None:
     there = there_of(sketch)
     weak = [it for it in sketch.processes if it.name in inside and there.intersection(it.besides) - inside]
     others = dict.fromkeys(name for it in weak for name in it.besides if name in there and name not in inside)
-    if not others or len(others) > MOST or needed_names(sketch).intersection(others):
+    if not others or len(others) > MOST:
         return
     number = last_number(sketch) + 1
     line = freeing_nobody(others)

@@ -12,8 +12,8 @@ from .sketch import ENDED, REST, RUNS, UNKNOWN, WORK, Process, Sketch, distinct_
 from .stuck import Answer, Waits
 
 # Operations of one that waits for its next message, and functions without a name in which one is started.
-RECEIVES = re.compile(r"chan receive|select|receive|consume|(\w+\.)*(\w*(Queue|Deque)\.(get|take\w*|poll)|accept|recv)"
-                      r"|(\w+\.)+(recv\w*|read(into|line|until|exactly)?)")
+RECEIVES = re.compile(r"chan receive|select|receive|consume|(\w+\.)*(\w*(Queue|Deque)\.(get|take\w*|poll)|accept|recv)")
+READS = re.compile(r"(\w+\.)*(\w*socket\w*|SSL\w*|StreamReader)\.(recv|read)\w*", re.I)  # from outside
 NAMELESS = re.compile(r"lambda|\.func\d|Thread\.run|\$\d")
 
 
@@ -73,7 +73,8 @@ def proposals_of(sketch: Sketch, quiet: Collection[str] = ()) -> List[Proposal]:
 
 def is_receiver(process: Process) -> bool:
     """Whether one waits for its next message, at the function that it was started with."""
-    return RECEIVES.fullmatch(process.operation) is not None and all(map(NAMELESS.search, process.frames[1:]))
+    is_reading = RECEIVES.fullmatch(process.operation) or READS.fullmatch(process.operation)
+    return is_reading is not None and all(map(NAMELESS.search, process.frames[1:]))
 
 
 def has_fact(process: Process) -> bool:
