@@ -936,8 +936,8 @@ def cells_in(function):
     return found
 
 
-# Who may end a wait at a queue, a condition or the like: those whose code may still come to a name that the program has
-# for it, and to one by which such a wait ends. These are all of them, and perhaps more.
+# Who is likely to end a wait at a queue, a condition or the like: those whose code may still come to a name that the
+# program has for it, and to one by which such a wait ends. Code may come to it without a name too, so this is a guess.
 
 
 def waited_at(frames):
@@ -962,8 +962,8 @@ def waited_in(frame):
 
 
 class Wakers:
-    """Who may end each of some waits. `stacks` is as `stacks_of_all` returns it. Once the time is over, whoever is left
-    may come to any name."""
+    """Who is likely to end each of some waits. `stacks` is as `stacks_of_all` returns it. Once the time is over, whoever
+    is left may come to any name."""
 
     def __init__(self, stacks):
         self.end = time.monotonic() + 2 * SECONDS
@@ -983,7 +983,7 @@ class Wakers:
         return f"{hex(id(value))} {' '.join(sorted(words or ()))}".strip()
 
     def rows(self):
-        """Who may end each of these waits, or None if others may too, in one row for all who wait alike."""
+        """Who is likely to end each of these waits, or None if anybody may, in one row for all who wait alike."""
         rows, left = {}, CROWD
         for value, words in self.targets.values():
             place, names = self.place_of(value, words), self.aliases[id(value)]
@@ -1115,8 +1115,8 @@ def functions_by_name():
         for each in (value, *wrapped_in(value)):
             if type(each) is types.FunctionType:
                 found[name].append(each)
-        if issubclass(type(value), type) and value not in kinds and not is_library(value):
-            kinds.add(value)
+        if issubclass(type(value), type) and id(value) not in kinds and not is_library(value):
+            kinds.add(id(value))
             found[value.__name__].append(value)
             left += list(value.__dict__.items())
     return found
