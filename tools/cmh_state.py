@@ -962,8 +962,8 @@ def waited_in(frame):
 
 
 class Wakers:
-    """Who is likely to end each of some waits. `stacks` is as `stacks_of_all` returns it. Once the time is over, whoever
-    is left may come to any name."""
+    """Who is likely to end each of some waits. `stacks` is as `stacks_of_all` returns it. Once the time is over,
+    whoever is left may come to any name."""
 
     def __init__(self, stacks):
         self.end = time.monotonic() + 2 * SECONDS

@@ -17,7 +17,6 @@ from .recorders import State, recorder
 from .roots import Roots
 from .sketch import ALL, ANY, COMPLETE, ENDED, UNKNOWN, Process, Sketch, premise, read_sketch
 from .stuck import Waits
-from .wakers import decide_stuck
 
 
 def sketch_for(system: str, paths: Sequence[str], facts: Facts, read: Callable[[str], str] = read_text,
@@ -40,12 +39,10 @@ def decide(sketch: Sketch, facts: Facts, what: str = "processes", with_guesses: 
     """Applies facts to a sketch, and all that comes after them. `what` is what its idle processes are called."""
     facts = guessing.supposed(sketch, facts) if with_guesses else facts
     apply(facts, sketch)
-    decide_stuck(sketch, facts, not with_guesses)
     add_left_out(sketch)
     shorten_candidates(sketch)
     if with_guesses:
         guessing.take(sketch, facts)
-        decide_stuck(sketch, facts)
         add_left_out(sketch)
     add_starters(sketch)
     drop_bystanders(facts, sketch)

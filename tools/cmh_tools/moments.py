@@ -189,7 +189,6 @@ def waiter_of(process: Process, later: Process) -> Process:
     made.likely = {name: process.likely.get(name, False) or later.likely.get(name, False)
                    for name in (*process.likely, *later.likely)}
     made.besides = list(dict.fromkeys([*process.besides, *later.besides]))
-    made.wakers = all_wakers(process, later)
     made.moment = process.moment if process.moment == later.moment else ""
     if UNKNOWN in (process.kind, later.kind):
         made.become_unknown(process.reason if process.kind == UNKNOWN else later.reason)
@@ -201,13 +200,6 @@ def waiter_of(process: Process, later: Process) -> Process:
         made.because = list(dict.fromkeys([*process.because, *later.because]))
         set_list(made, later)
     return made
-
-
-def all_wakers(process: Process, later: Process) -> Optional[Tuple[List[str], str]]:
-    """All who may end the wait of one by one of two states, if each says so."""
-    if process.wakers is None or later.wakers is None:
-        return None
-    return list(dict.fromkeys([*process.wakers[0], *later.wakers[0]])), process.wakers[1]
 
 
 def set_list(process: Process, later: Process) -> None:

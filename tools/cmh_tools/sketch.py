@@ -86,7 +86,6 @@ class Process:
     read, if not as others of its system. `is_spoilt` says that no fact on its place decides it, as where its text in a
     state isn't understood. `thread` is the thread of the kernel that it is all the time, as PID/TID. `choice` says of
     one that waits for one of its list, or for all of it, why that isn't known, and who may end its wait besides.
-    `wakers` has of an unknown one all who may end its wait, and perhaps more, with the premise by which these are all.
     """
 
     name: str
@@ -117,7 +116,6 @@ class Process:
     likely: Dict[str, bool] = field(default_factory=dict)
     thread: str = ""
     choice: Optional[Tuple[str, List[str]]] = None
-    wakers: Optional[Tuple[List[str], str]] = None
 
     def copy(self) -> Process:
         """Returns one whose parts are the same. `dataclasses.replace` takes ten times as long."""

@@ -26,7 +26,7 @@ from .jvm_frames import (AGAIN, BARRIER, CLEANER, COMPUTES, CONDITION, FUTURE, H
                          LIMITED, LIMITS_FUTURES, LONG, MEETS, NEEDS_ALL, OF_ITEMS, OF_QUEUES, POOLED, POOLS_OWN, READS,
                          SLEEP, SOCKETS, TASK, WORKER, YIELDS, Place, caller_of, is_in, is_like, is_of_jvm, place_of,
                          short)
-from .jvm_heap import BY_REFERENCE, REACHES, Heap, Heaps, is_between, read_heap
+from .jvm_heap import Heap, Heaps, is_between, read_heap
 from .jvm_heap import PREMISES as OF_HEAPS
 from .jvm_locks import Locks, monitors_of, objects_of
 from .jvm_text import PARKED, Dump, Thread, stack_of
@@ -103,7 +103,6 @@ class JvmRecorder(Recorder):
         QUEUED: Premise("one that waits to read with a lock that nobody owns is behind one that waits to write"),
         TIMED: Premise("a thread that was woken has used 0.01 ms of processor time or more"),
         **{name: Premise(sentence, interrupter) for name, sentence in OF_HEAPS.items()},
-        **{name: Premise(sentence) for name, sentence in BY_REFERENCE.items()},
     }
 
     def __init__(self) -> None:
@@ -234,11 +233,6 @@ class JvmRecorder(Recorder):
         parked = next((at for it in thread.frames[:1] for kind, at in it.marks if kind == PARKED), "")
         is_jdks = (thread.parked_class or parked).startswith(OF_THE_JDK)
         frail = [premise(UNDISTURBED)] if place.has(INTERRUPTIBLY) else []
-        reach = moment.heaps.reach_of(thread)
-        if owner is not None and is_jdks and frail and reach is not None:
-            process = self.wait_for_owner(name, owner, [premise(REACHES)], moment)
-            process.besides = [it for it in reach if it not in process.whom]
-            return process
         if owner is not None and is_jdks:
             return self.wait_for_owner(name, owner, frail or [SYSTEM], moment)
         if owner is not None:
@@ -255,11 +249,10 @@ class JvmRecorder(Recorder):
         if CONDITION in (thread.parked_class or parked) and not inside_of(thread) and not moment.dump.has_owners:
             return spoilt(name, f"{what}: it may have been signalled, and wait for whoever has the lock: only `jstack "
                           "-l` shows that")
-        if reach is not None:
-            is_any = reach and not NEEDS_ALL.fullmatch(place.call)
-            return unknown(name, f"{what}: the heap shows who may end this wait, and not who would",
-                           candidates=[*moment.heaps.in_order([*reach, name]), COMPLETE] if is_any else [],
-                           wakers=(reach, premise(REACHES)))
+        reach = moment.heaps.reach_of(thread)
+        if reach and not NEEDS_ALL.fullmatch(place.call):
+            return unknown(name, f"{what}: the heap shows who has a reference to it, and not who ends this wait",
+                           candidates=[*moment.heaps.in_order([*reach, name]), COMPLETE])
         workers = moment.workers if TASK.fullmatch(place.call) else []
         return unknown(name, f"{what}: the state doesn't show what ends this wait", candidates=workers)
 
@@ -322,8 +315,6 @@ class JvmRecorder(Recorder):
         count_owned(sketch.processes)
         add_disturbers(sketch, DISTURBED, moments)
         add_inner(sketch, moments)
-        if any(it.wakers is not None for it in sketch.processes):
-            sketch.premises.update(BY_REFERENCE)
         warnings = [line for dump in self.dumps for line in dump.warnings]
         sketch.warnings = list(dict.fromkeys([*warnings, *sketch.warnings]))
         outside = any(place_of(it).idle not in ("", WORKER, CLEANER) for it in moments[0].threads)

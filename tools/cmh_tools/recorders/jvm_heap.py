@@ -25,11 +25,7 @@ KINDS = TASK, QUEUED, READERS, JOIN, FUTURE, POOL, REACH, HOOK, TIMER = (
 ROW = {"thread": LABEL, "frames": [str], "waits": re.compile("|".join(KINDS)), "for": [LABEL], "object?": str,
        "is_full?": bool, "is_direct?": bool, "besides?": [LABEL], "reach?": [LABEL]}
 Label = Tuple[int, int]
-CANCELS, POOLS, COMPLETES, REACHES = "cancels", "pools", "completes", "reaches"
-BY_REFERENCE = {
-    REACHES: "only a thread that has a path of references, by the heap dump, to what a wait is at, or to the thread "
-             "that waits, ends that wait",
-}
+CANCELS, POOLS, COMPLETES = "cancels", "pools", "completes"
 PREMISES = {
     CANCELS: "nobody cancels a task for which a thread waits, nor interrupts a thread that waits for another one",
     POOLS: "a task that stands in the queue of a pool is begun by a thread of that pool",
@@ -41,8 +37,7 @@ PREMISES = {
 class Wait:
     """What a heap shows of the wait of a thread: of which of KINDS it is, whom it waits for, who else has at hand what
     it waits at; whether the pool of a queued task takes no more threads, and whether who computes the first future of
-    a chain also does what follows. `reach` has all who may end it, also by an interrupt or a cancel, if that can't be
-    anybody."""
+    a chain also does what follows. `reach` has those who have a reference to what it waits at, if not anybody may."""
 
     kind: str
     frames: List[str]
@@ -147,8 +142,9 @@ class Heaps:
         return [name for name in map(self.names.__getitem__, self.threads) if name in some]
 
     def reach_of(self, thread: Thread) -> Optional[List[str]]:
-        """Returns the names of all who may end the wait of a thread, or None if it isn't known who they are, or one of
-        them is of the JVM itself, or a thread looks for others without a reference."""
+        """Returns the names of those who have a reference to what a thread waits at, or to the thread: they are likely
+        to end its wait. A thread may come to it by a name too, as to an interned text or a class. None if anybody may
+        have one, or one of the JVM itself has, or a thread looks for others without a reference."""
         wait = self.heap.wait_of(thread) if self.heap and not self.is_searched else None
         if wait is None or wait.reach is None:
             return None
@@ -183,11 +179,8 @@ class Heaps:
                            candidates=[*whom, COMPLETE])
         if wait.kind == FUTURE and not wait.is_direct and not all(self.stands(self.there[it]) for it in wait.whom):
             return unknown(name, f"{whom[0]} computed what it waits for, and has moved since", candidates=whom)
-        reach = self.reach_of(thread)
         because = {QUEUED: [POOLS, CANCELS], FUTURE: [COMPLETES]}.get(wait.kind, [CANCELS])
-        because = because if reach is None else [REACHES]
-        besides = dict.fromkeys([*self.names_of(wait.besides), *(it for it in reach or () if it not in whom)])
-        return waits_for_any(name, whom, [SYSTEM, *map(premise, because)], besides=list(besides))
+        return waits_for_any(name, whom, [SYSTEM, *map(premise, because)], besides=self.names_of(wait.besides))
 
     def stands(self, thread: Thread) -> bool:
         """Whether a thread was at one wait all the time between the two states. One that is blocked at a monitor uses
