@@ -80,7 +80,7 @@ Word = Tuple[str, bool]  # of a line, with whether it stood in quotes
 class Fact:
     """A line of facts. `words` are what follows the kind, but for `group` of 'all of GROUP' and for 'or nobody'. `used`
     says whether it has matched, `took` has the names that each of its words took, and `decided` whom it has decided. Of
-    a guess `at` is its number."""
+    a guess `at` is its number. `lacks` says that a variable had no value where it matched."""
 
     at: int
     text: str
@@ -93,6 +93,7 @@ class Fact:
     took: Dict[str, Dict[str, None]] = field(default_factory=dict)
     decided: List[str] = field(default_factory=list)
     is_guess: bool = False
+    lacks: bool = False
 
     def values(self, process: Process) -> Values:
         """Returns the values of all variables for a process at its place."""
@@ -156,11 +157,12 @@ class Facts:
         return self.first((ALSO,), process)
 
     def holdings(self, process: Process) -> List[Tuple[Fact, str]]:
-        """Returns all that a process holds, each with its fact."""
-        found = [fact for fact in self.facts if fact.kind == HOLDS and fact.place.values(process, True) is not None]
-        for fact in found:
-            fact.used = True
-        return [(fact, fill_in(fact.words[0], fact.values(process))) for fact in found]
+        """Returns all that a process holds, each with its fact. What has a variable without a value is nothing."""
+        found = [(fact, fill_in(fact.words[0], fact.values(process))) for fact in self.facts
+                 if fact.kind == HOLDS and fact.place.values(process, True) is not None]
+        for fact, what in found:
+            fact.used, fact.lacks = True, fact.lacks or VARIABLE.search(what) is not None
+        return [(fact, what) for fact, what in found if not VARIABLE.search(what)]
 
     def find_bystanders(self, sketch: Sketch) -> None:
         """Finds who ends nobody's wait."""
@@ -187,9 +189,11 @@ class Facts:
         return self.by_frame[text]
 
     def unused_lines(self, sketch: Sketch) -> List[str]:
-        """Returns a line for each fact that has matched nothing, or nobody who is unknown."""
-        return [f"{self.path}:{fact.at}: it matches {why_unused(fact, sketch)}" for fact in self.facts
-                if not (fact.used or fact.is_guess)]
+        """Returns a line for each fact that has matched nothing, or nobody who is unknown, or without a value."""
+        lacking = [f"{self.path}:{fact.at}: a variable has no value there: {fact.text}" for fact in self.facts
+                   if fact.lacks]
+        return [*lacking, *(f"{self.path}:{fact.at}: it matches {why_unused(fact, sketch)}" for fact in self.facts
+                            if not (fact.used or fact.is_guess))]
 
     def reason(self, fact: Fact) -> str:
         where = fact.called(self.path)
