@@ -81,8 +81,7 @@ class Capture:
             collector = [sys.executable, f"{HOME}/cmh_linux.py", "--seconds", f"{seconds:g}"]
             collector += ["--stacks"] if self.has_stacks else []
             return [*collector, *(word for pid in self.targets for word in ("--pid", pid))]
-        targets = [",".join(self.targets)] if self.system == "erlang" else self.targets
-        return [recipe(self.system), *targets]
+        return [recipe(self.system), *(nodes_first(self.targets) if self.system == "erlang" else self.targets)]
 
     def held(self) -> List[str]:
         """Returns the processes to which a debugger attaches, by their numbers."""
@@ -93,6 +92,12 @@ class Capture:
     def names(self) -> List[str]:
         """Returns the names of the files that have its states."""
         return [f"{self.system}.{at}.state" for at in range(1, 3 if SYSTEMS[self.system].is_once else 2)]
+
+
+def nodes_first(words: Sequence[str]) -> List[str]:
+    """Returns the words for nodes of Erlang, all of them in one, and those for modules behind it."""
+    nodes = [it for it in words if "@" in it] or words
+    return [",".join(nodes), *(it for it in words if it not in nodes)]
 
 
 def recipe(system: str) -> str:
@@ -180,7 +185,7 @@ def capture_for(system: str, targets: List[str], may_kill: bool, may_dump: bool)
     if system == "jvm" and may_dump:
         return Capture(system, ["--heap", *targets], HEAP)
     if system == "mpi":
-        return capture_of_ranks(targets)
+        return capture_of_ranks([os.path.basename(it) for it in targets])
     if system == "python" and not all(map(answers, targets)):
         return Capture("linux", targets, "a process hasn't loaded cmh_state, so it is read as the kernel sees it, "
                        "which shows no locks of Python's")

@@ -34,8 +34,8 @@ USAGE = """cmh-stall SYSTEM TARGET.. [--seconds S] [--with SYSTEM TARGET..] [--g
        cmh-stall FOLDER [--guesses | --redact]
        cmh-stall"""
 ABOUT = """Takes the state of a system that hangs twice, and says who is stuck. All that it saw is kept in a new folder.
-SYSTEM TARGET is one of: linux PID.., jvm PID, go HOST:PORT, python PID.., erlang NODE.. , mpi PROGRAM, rabbitmq.
-linux with --stacks and jvm with --heap show more, and stop more meanwhile.
+SYSTEM TARGET is one of: linux PID.., jvm PID, go HOST:PORT, python PID.., erlang NODE.. [MODULE..], mpi PROGRAM,
+rabbitmq. linux with --stacks and jvm with --heap show more, and stop more meanwhile.
 With a FOLDER that it made, it says the answer again, with the facts that you have written there. Alone, it says what
 runs here, and the command for each."""
 MORE = """status: 0 no process is stuck, 3 some process is stuck, 5 none is stuck for certain and some are undecided,
