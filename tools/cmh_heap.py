@@ -626,7 +626,7 @@ class Waits:
     def is_for_hook(self, at: int) -> bool:
         """Whether the work of a thread that is started once the JVM ends has a latch itself, so that it opens it."""
         into = self.reach.into
-        works = {work for latch in into[at] for work in into[latch]}
+        works = {work for latch in into.get(at, ()) for work in into[latch]}
         hooks = works.union(*map(into.__getitem__, works)) & self.found[THREAD].keys()
         return any(into[table] & self.heap.hooks for hook in hooks for table in into[hook])
 
