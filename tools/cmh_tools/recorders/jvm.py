@@ -16,6 +16,7 @@ from collections import defaultdict
 from typing import Dict, Iterable, List, Optional, Set, Tuple
 
 from ..files import Refusal
+from ..idle import is_receiver
 from ..moments import APART, ONCE, WHOLE, WOKEN, Reading
 from ..sketch import (COMPLETE, LIMIT, REST, RUNS, SYSTEM, UNKNOWN, Process, Sketch, premise, runs, spoilt,
                       unknown, waits_for_any)
@@ -23,9 +24,9 @@ from . import State
 from .base import Moment, Premise, Recorder
 from .jvm_dumps import read_dumps
 from .jvm_frames import (AGAIN, BARRIER, CLEANER, COMPUTES, CONDITION, FUTURE, HAS_TIMER, INTERRUPTIBLY, INTERRUPTS,
-                         LIMITED, LIMITS_FUTURES, LONG, MEETS, NEEDS_ALL, OF_ITEMS, OF_QUEUES, POOLED, POOLS_OWN, READS,
-                         SLEEP, SOCKETS, TASK, WORKER, YIELDS, Place, caller_of, is_in, is_like, is_of_jvm, place_of,
-                         short)
+                         LIMITED, LIMITS_FUTURES, LONG, MEETS, NEEDS_ALL, OF_ITEMS, OF_QUEUES, POOLED, POOLS_OWN,
+                         READS, SLEEP, SOCKETS, TASK, WORKER, YIELDS, Place, caller_of, is_for_outside, is_in, is_like,
+                         is_of_jvm, looks_on, own_of, place_of, short)
 from .jvm_heap import Heap, Heaps, is_between, read_heap
 from .jvm_heap import PREMISES as OF_HEAPS
 from .jvm_locks import Locks, monitors_of, objects_of
@@ -166,6 +167,8 @@ class JvmRecorder(Recorder):
         here = moment.locks.objects.get(thread.key, [])
         process.objects = here if thread.same_as is None else thread.same_as
         process.proposal = "all" if NEEDS_ALL.fullmatch(place.call) else "any"
+        if process.kind == UNKNOWN and process.proposal == "any" and is_for_outside(thread):
+            process.proposal = "maybe"
         if process.kind == RUNS and self.frees_nobody(thread, place, process, moment):
             process.proposal = "frees"
         process.is_collective = MEETS.fullmatch(place.call) is not None
@@ -180,11 +183,16 @@ class JvmRecorder(Recorder):
 
     def frees_nobody(self, thread: Thread, place: Place, process: Process, moment: Threads) -> bool:
         """Whether one with a limit is likely to end nobody's wait: a main thread that sleeps, one that has something to
-        do again and again alone, or one that waits for the same as others without a limit do."""
+        do again and again alone, one that only looks on by its name, one that waits for its next message, or one that
+        waits for the same as others without a limit do."""
+        if place.has(HAS_TIMER):
+            is_known = moment.heaps.heap is not None
+            return moment.heaps.is_periodic(thread) if is_known else not LIMITS_FUTURES.fullmatch(thread.name)
+        if thread.name == "main" and place.has(SLEEP):
+            return len(own_of(stack_of(thread))) <= 1
         at = moment.locks.objects.get(thread.key, [])[:1]
-        return (thread.name == "main" and process.operation == "timed Thread.sleep"
-                or place.has(HAS_TIMER) and moment.heaps.is_periodic(thread)
-                or at != [] and place.has(OF_ITEMS) and at[0] in moment.waited)
+        return (at != [] and place.has(OF_ITEMS) and at[0] in moment.waited
+                or premise(LIMIT) in process.because and (looks_on(thread) or is_at_inbox(place)))
 
     def set_count(self, process: Process, thread: Thread, place: Place, moment: Threads) -> None:
         """Sets the processor time as its count. Who is blocked at a monitor, or waits with a limit, wakes up by itself
@@ -249,11 +257,11 @@ class JvmRecorder(Recorder):
         if CONDITION in (thread.parked_class or parked) and not inside_of(thread) and not moment.dump.has_owners:
             return spoilt(name, f"{what}: it may have been signalled, and wait for whoever has the lock: only `jstack "
                           "-l` shows that")
-        reach = moment.heaps.reach_of(thread)
+        reach = [] if is_at_inbox(place) else moment.heaps.reach_of(thread)
         if reach and not NEEDS_ALL.fullmatch(place.call):
             return unknown(name, f"{what}: the heap shows who has a reference to it, and not who ends this wait",
                            candidates=[*moment.heaps.in_order([*reach, name]), COMPLETE])
-        workers = moment.workers if TASK.fullmatch(place.call) else []
+        workers = moment.workers if TASK.fullmatch(place.call) and not FUTURE.fullmatch(place.call) else []
         return unknown(name, f"{what}: the state doesn't show what ends this wait", candidates=workers)
 
     def wait_to_read(self, lock: str, what: str, name: str, frail: List[str], moment: Threads) -> Process:
@@ -340,6 +348,11 @@ def is_at_work(thread: Thread) -> bool:
     the wait for that."""
     place = place_of(thread)
     return not place.idle and not TASK.fullmatch(place.call)
+
+
+def is_at_inbox(place: Place) -> bool:
+    """Whether one waits for its next message, at the function that it was started with."""
+    return is_receiver(Process("", UNKNOWN, operation=place.call, frames=place.frames))
 
 
 def inside_of(thread: Thread) -> str:

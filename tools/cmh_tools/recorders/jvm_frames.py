@@ -94,6 +94,17 @@ FINDS_THREADS = re.compile(r"java\.lang\.(?:ThreadGroup\.(?:enumerate|interrupt|
 INTERRUPTIBLY = re.compile(r"java\.util\.concurrent\.locks\..*Interruptibly")
 # Calls that only let others go first: who waits by them looks again and again.
 YIELDS = re.compile(r"java\.lang\.Thread\.(?:yield0?|onSpinWait)")
+# What they are called who only look on, or tidy up, now and then, and a function of the job's own that only sleeps.
+LOOKS_ON = re.compile(r"(?i).*(?:heart.?beat|(?<![a-z])beat|metric|monitor|statistic|stats|watch|health|alive|gauge"
+                      r"|probe|(?<![a-z])ping(?:er)?(?![a-z])|(?<![a-z])tick(?!et)|progress|uptime|sampler|telemetry"
+                      r").*")
+TIDIES_UP = re.compile(r"(?i).*(?:house.?keep|janitor|evict|expir|sweep|reaper|purge|clean|rotat|refresh).*")
+SLEEPS = re.compile(r"(?i)(?:.*\.)?(?:\w*sleep\w*|\w*nap|pause\w*|delay\w*|snooze|doze|rest|idle|wait\w*|await\w*)")
+# Waits for what is likely to be outside of the JVM: a child, a pipe or file, a server; and who else calls such ones.
+OUTSIDE = re.compile(r"java\.lang\.Process(?:Impl)?\.waitFor|java\.io\.File(?:In|Out)putStream\.(?:read|write)Bytes"
+                     r"|sun\.nio\.ch\.(?:NioSocketImpl|SocketChannelImpl)\.(?:read|implRead|connect)"
+                     r"|java\.net\.(?:SocketInputStream\.socketRead0?|PlainSocketImpl\.socketConnect)")
+CALLS_IN = re.compile(r"(?:sun\.net\.www\.http|jdk\.internal\.net\.http|sun\.rmi|org\.apache\.http|okhttp3)\..*")
 # Natives that compute, or that the JVM ends by itself.
 COMPUTES = re.compile(
     r"java\.lang\.(?:Thread|Object|Class|ClassLoader|System|Throwable|String|StringCoding|StringUTF16|StrictMath"
@@ -113,6 +124,7 @@ REAPS = re.compile(r"java\.lang\.ProcessHandleImpl\S*")
 # Those of them that run no code of the job at any time, and so end nobody's wait.
 INSIDE = re.compile(r"Signal Dispatcher|Service Thread|Monitor Deflation Thread|Attach Listener|Sweeper thread"
                     r"|C[12] CompilerThread\d+")
+SHALLOW = 2  # functions of the job's own from where a thread begins to where one sleeps that only looks on
 KEPT = 65536  # methods whose meaning is kept
 
 
@@ -150,6 +162,28 @@ def is_of_jvm(thread: Thread) -> bool:
 def is_inside(thread: Thread) -> bool:
     """Whether a thread of the JVM itself runs no code of the job at any time: it collects, compiles, prints."""
     return not thread.number or INSIDE.fullmatch(thread.name) is not None
+
+
+def own_of(stack: Stack) -> List[str]:
+    """The methods of the job's own in a stack, topmost first, without one that only sleeps."""
+    own = [method for method, _, _ in stack if is_own(method)]
+    return own[1:] if own[1:] and SLEEPS.fullmatch(own[0]) else own
+
+
+def is_for_outside(thread: Thread) -> bool:
+    """Whether a thread waits, deep in its work, for what is likely to be outside of the JVM. One that calls by HTTP or
+    RMI may have called its own."""
+    stack = stack_of(thread)
+    return is_in(OUTSIDE, stack) and not is_in(CALLS_IN, stack) and len(own_of(stack)) > 1
+
+
+def looks_on(thread: Thread) -> bool:
+    """Whether a thread that waits with a limit is likely to do no more than to look on, by what it and its functions
+    are called, or than to tidy up at the function that it was started with."""
+    own = own_of(stack_of(thread))
+    names = [thread.name, *(short(method) for method in own)]
+    return (len(own) <= SHALLOW and any(map(LOOKS_ON.fullmatch, names))
+            or len(own) <= 1 and any(map(TIDIES_UP.fullmatch, names)))
 
 
 def short(method: str) -> str:
