@@ -16,7 +16,6 @@ from collections import defaultdict
 from typing import Dict, Iterable, List, Optional, Set, Tuple
 
 from ..files import Refusal
-from ..idle import is_receiver
 from ..moments import APART, ONCE, WHOLE, WOKEN, Reading
 from ..sketch import (COMPLETE, LIMIT, REST, RUNS, SYSTEM, UNKNOWN, Process, Sketch, premise, runs, spoilt,
                       unknown, waits_for_any)
@@ -24,9 +23,9 @@ from . import State
 from .base import Moment, Premise, Recorder
 from .jvm_dumps import read_dumps
 from .jvm_frames import (AGAIN, BARRIER, CLEANER, COMPUTES, CONDITION, FUTURE, HAS_TIMER, INTERRUPTIBLY, INTERRUPTS,
-                         LIMITED, LIMITS_FUTURES, LONG, MEETS, NEEDS_ALL, OF_ITEMS, OF_QUEUES, POOLED, POOLS_OWN,
-                         READS, SLEEP, SOCKETS, TASK, WORKER, YIELDS, Place, caller_of, is_for_outside, is_in, is_like,
-                         is_of_jvm, looks_on, own_of, place_of, short)
+                         LIMITED, LIMITS_FUTURES, LONG, MEETS, NEEDS_ALL, OF_ITEMS, OF_LOCKS, OF_QUEUES, POOLED,
+                         POOLS_OWN, READS, REENTRANT, SLEEP, SOCKETS, TASK, WORKER, YIELDS, Place, caller_of,
+                         is_at_inbox, is_for_outside, is_in, is_like, is_of_jvm, looks_on, own_of, place_of, short)
 from .jvm_heap import Heap, Heaps, is_between, read_heap
 from .jvm_heap import PREMISES as OF_HEAPS
 from .jvm_locks import Locks, monitors_of, objects_of
@@ -34,7 +33,7 @@ from .jvm_text import PARKED, Dump, Thread, stack_of
 from .jvm_whole import add_disturbers, add_inner, count_owned, kernel_thread
 
 NATIVE, UNDISTURBED, INITIALISER = "native", "undisturbed", "initialiser"
-QUEUED, TIMED = "queued", "processor-time"
+QUEUED, TIMED, LOST = "queued", "processor-time", "lost"
 # On what waits rest that any thread of the job may end: by an interrupt, a cancel, a value, or a larger pool.
 DISTURBED = {premise(name) for name in (UNDISTURBED, *OF_HEAPS)}
 TICKS = (10, 15.625)  # milliseconds in which some operating systems count processor time
@@ -66,6 +65,17 @@ class Threads(Moment):
     counts: bool
     lacks: bool
     heaps: Heaps
+
+    def is_lost(self, thread: Thread, lock: str) -> bool:
+        """Whether the owner of a ReentrantLock has ended with it: nobody owns it, nor takes it or gives it back just
+        now, and all who wait for it have stood since. The first of these would have been woken by a lock that is free.
+        """
+        is_plain = self.dump.has_owners and self.counts and not self.lacks
+        if not is_plain or not lock or not REENTRANT.fullmatch(thread.parked_class):
+            return False
+        here = [it for it in self.threads if lock in self.locks.objects.get(it.key, [])]
+        return thread.has_stood and not any(map(is_locking, self.threads)) and all(
+            it.has_stood and it.parked_class == thread.parked_class for it in here)
 
 
 def has_stood(thread: Thread, moment: Threads) -> str:
@@ -102,6 +112,7 @@ class JvmRecorder(Recorder):
         INITIALISER: Premise("a class that is waited for is the one of its name whose initialiser runs",
                              other_initialiser),
         QUEUED: Premise("one that waits to read with a lock that nobody owns is behind one that waits to write"),
+        LOST: Premise("a ReentrantLock that no thread owns, and that woke nobody, is owned by a thread that has ended"),
         TIMED: Premise("a thread that was woken has used 0.01 ms of processor time or more"),
         **{name: Premise(sentence, interrupter) for name, sentence in OF_HEAPS.items()},
     }
@@ -166,7 +177,7 @@ class JvmRecorder(Recorder):
         process.operation = process.operation or place.call or own
         here = moment.locks.objects.get(thread.key, [])
         process.objects = here if thread.same_as is None else thread.same_as
-        process.proposal = "all" if NEEDS_ALL.fullmatch(place.call) else "any"
+        process.proposal = "all" if NEEDS_ALL.fullmatch(place.call) or process.choice else "any"
         if process.kind == UNKNOWN and process.proposal == "any" and is_for_outside(thread):
             process.proposal = "maybe"
         if process.kind == RUNS and self.frees_nobody(thread, place, process, moment):
@@ -250,6 +261,8 @@ class JvmRecorder(Recorder):
         found = moment.heaps.process_of(thread, name)
         if found is not None:
             return found
+        if moment.is_lost(thread, parked):
+            return waits_for_any(name, [], [premise(LOST), *frail])
         if parked and place.call.lower().endswith("lock"):
             is_plain = not moment.dump.has_owners and not moment.dump.is_file
             more = ": `jstack -l` shows owners, plain `jstack` doesn't" if is_plain else ""
@@ -337,6 +350,11 @@ def has_lock(thread: Thread) -> bool:
     return len(locks) > is_in(SOCKETS, stack_of(thread))
 
 
+def is_locking(thread: Thread) -> bool:
+    """Whether a thread takes a lock of the JDK or gives one back just now, so that it isn't parked."""
+    return thread.state not in ("WAITING", "TIMED_WAITING") and is_in(OF_LOCKS, stack_of(thread))
+
+
 def may_run_task(thread: Thread) -> bool:
     """Whether a thread is one of a pool that may run a task for which another one waits: at work, or idle for a time.
     If one is idle without a limit, no task waits in the queue of its pool."""
@@ -348,11 +366,6 @@ def is_at_work(thread: Thread) -> bool:
     the wait for that."""
     place = place_of(thread)
     return not place.idle and not TASK.fullmatch(place.call)
-
-
-def is_at_inbox(place: Place) -> bool:
-    """Whether one waits for its next message, at the function that it was started with."""
-    return is_receiver(Process("", UNKNOWN, operation=place.call, frames=place.frames))
 
 
 def inside_of(thread: Thread) -> str:

@@ -92,6 +92,9 @@ FINDS_THREADS = re.compile(r"java\.lang\.(?:ThreadGroup\.(?:enumerate|interrupt|
                            r"|Thread\.(?:enumerate|getAllStackTraces|getAllThreads|getThreads))")
 # Waits for a lock that an interrupt ends, also within the JDK's own queues.
 INTERRUPTIBLY = re.compile(r"java\.util\.concurrent\.locks\..*Interruptibly")
+# The classes of a ReentrantLock at which one is parked, and the code of all locks of the JDK.
+REENTRANT = re.compile(r"java\.util\.concurrent\.locks\.ReentrantLock\$(?:Nonfair|Fair)Sync")
+OF_LOCKS = re.compile(r"java\.util\.concurrent\.locks\..*")
 # Calls that only let others go first: who waits by them looks again and again.
 YIELDS = re.compile(r"java\.lang\.Thread\.(?:yield0?|onSpinWait)")
 # What they are called who only look on, or tidy up, now and then, and a function of the job's own that only sleeps.
@@ -124,7 +127,9 @@ REAPS = re.compile(r"java\.lang\.ProcessHandleImpl\S*")
 # Those of them that run no code of the job at any time, and so end nobody's wait.
 INSIDE = re.compile(r"Signal Dispatcher|Service Thread|Monitor Deflation Thread|Attach Listener|Sweeper thread"
                     r"|C[12] CompilerThread\d+")
-SHALLOW = 2  # functions of the job's own from where a thread begins to where one sleeps that only looks on
+# The call of one that waits for its next message, and functions without a name of their own.
+INBOX, NAMELESS = re.compile(r"\w*(?:Queue|Deque)\.(?:take\w*|poll\w*)"), re.compile(r"lambda|\$\d")
+SHALLOW = 2  # functions with a name, from where a thread begins to where one sleeps that only looks on
 KEPT = 65536  # methods whose meaning is kept
 
 
@@ -181,9 +186,14 @@ def looks_on(thread: Thread) -> bool:
     """Whether a thread that waits with a limit is likely to do no more than to look on, by what it and its functions
     are called, or than to tidy up at the function that it was started with."""
     own = own_of(stack_of(thread))
-    names = [thread.name, *(short(method) for method in own)]
-    return (len(own) <= SHALLOW and any(map(LOOKS_ON.fullmatch, names))
-            or len(own) <= 1 and any(map(TIDIES_UP.fullmatch, names)))
+    names, named = [thread.name, *map(short, own)], [method for method in own if not NAMELESS.search(method)]
+    return (len(named) <= SHALLOW and any(map(LOOKS_ON.fullmatch, names))
+            or len(named) <= 1 and any(map(TIDIES_UP.fullmatch, names)))
+
+
+def is_at_inbox(place: Place) -> bool:
+    """Whether one waits for its next message, at the function that it was started with."""
+    return INBOX.fullmatch(place.call) is not None and all(map(NAMELESS.search, place.frames[1:]))
 
 
 def short(method: str) -> str:
