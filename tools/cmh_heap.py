@@ -22,20 +22,21 @@ from dataclasses import dataclass
 from typing import Any, Callable, Dict, Iterable, Iterator, List, NamedTuple, Optional, Sequence, Set, Tuple
 
 # The classes whose objects are kept, also those of classes that derive from them, and which fields of each.
-THREAD, TASK, TIMED, SYNC, HOLDS, ENTRY, WORKER, POOL, QUEUE, NODE, FUTURE, STEP = GROUPS = (
+THREAD, TASK, TIMED, SYNC, HOLDS, ENTRY, WORKER, POOL, QUEUE, NODE, FUTURE, STEP, PART = GROUPS = (
     "java/lang/Thread", "java/util/concurrent/FutureTask", "java/util/TimerTask",
     "java/util/concurrent/locks/ReentrantReadWriteLock$Sync",
     "java/util/concurrent/locks/ReentrantReadWriteLock$Sync$HoldCounter", "java/lang/ThreadLocal$ThreadLocalMap$Entry",
     "java/util/concurrent/ThreadPoolExecutor$Worker", "java/util/concurrent/ThreadPoolExecutor",
     "java/util/concurrent/LinkedBlockingQueue", "java/util/concurrent/LinkedBlockingQueue$Node",
-    "java/util/concurrent/CompletableFuture", "java/util/concurrent/CompletableFuture$Completion")
+    "java/util/concurrent/CompletableFuture", "java/util/concurrent/CompletableFuture$Completion",
+    "java/util/concurrent/CountedCompleter")
 FIELDS = {
     THREAD: ("tid", "eetop", "parkBlocker"), TASK: ("state", "runner", "period", "this$0"),
     TIMED: ("state", "period"),
     SYNC: ("state", "firstReader", "firstReaderHoldCount", "readHolds"), HOLDS: ("count", "tid"),
     ENTRY: ("referent", "value"), WORKER: ("this$0", "thread"),
     POOL: ("workQueue", "corePoolSize", "maximumPoolSize"), QUEUE: ("head", "capacity"), NODE: ("item", "next"),
-    FUTURE: ("result",), STEP: ("dep", "src", "executor")}
+    FUTURE: ("result",), STEP: ("dep", "src", "executor"), PART: ("completer", "spliterator")}
 MOST = 300_000  # objects of one group that are kept; with more, what rests on them isn't printed
 # References that are looked through, objects on paths, looks through all references, and threads in all lists: with
 # more it isn't printed who reaches what.
@@ -51,6 +52,9 @@ POOL_ENDS, TIMER = "java.util.concurrent.ThreadPoolExecutor.awaitTermination", "
 SCHEDULES = "java.util.concurrent.ScheduledThreadPoolExecutor$DelayedWorkQueue.take"
 LATCH = "java.util.concurrent.CountDownLatch.await"
 WRITES = "java.util.concurrent.locks.ReentrantReadWriteLock$WriteLock.lock"
+INVOKES, IN_POOL = "java.util.concurrent.ForkJoinTask.invoke", "java.util.concurrent.ForkJoinWorkerThread.run"
+STREAMS, OF_PARTS = "java/util/stream/", re.compile(r"java\.util\.stream\..*Task\.(?:compute|doCompute)")
+MOST_PARTS = 1000  # parts of all parallel streams
 COMPUTES = re.compile(r"java\.util\.concurrent\.CompletableFuture\$(?:Async(?:Supply|Run)\.run|(?:Uni|Bi)\w+\.tryFire)")
 JDK = re.compile(r"(?:java|javax|jdk|sun|com\.sun)\.")
 # Who lets a thread sleep, and who waits by that.
@@ -512,15 +516,17 @@ class Waits:
         self.hiding = [it.identity for it in self.threads.values() if not it.top(GETS_TASK)
                        and not all(JDK.match(name) for name, _ in it.frames)
                        and any(name in (optimised or ()) for name, _ in it.frames)]
-        self.listed = 0
+        self.listed, self.is_known = 0, False
+        self.parts = {it for it in self.found[PART] if heap.name_of(heap.kinds[it]).startswith(STREAMS)}
         self.steps: Dict[int, List[int]] = defaultdict(list)
         for identity, (after, _, _) in self.found[STEP].items():
             self.steps[after].append(identity)
 
     def rows(self) -> Iterator[Row]:
         waiting = {it for it, at in self.at.items() if at or self.threads[it].top(JOIN)}
-        is_known = waiting and self.optimised is not None and self.reach.find(
-            waiting.union(filter(None, self.at.values())))
+        parts = self.parts if len(self.parts) <= MOST_PARTS else ()
+        self.is_known = is_known = waiting != set() and self.optimised is not None and self.reach.find(
+            waiting.union(filter(None, self.at.values()), parts))
         for thread in self.threads.values():
             row = self.row_of(thread)
             some = self.reaching(thread) if is_known and thread.identity in waiting else None
@@ -576,6 +582,8 @@ class Waits:
             return self.task(thread)
         if thread.blocker in self.found[SYNC] and thread.top(WRITES):
             return self.readers(thread.blocker)
+        if thread.blocker in self.parts and thread.top(INVOKES):
+            return self.stream(thread)
         if thread.top(JOIN):
             joined = thread.objects_in(JOIN, self.found[THREAD])
             others = [self.threads[it].label for it in joined if it in self.threads]
@@ -589,6 +597,31 @@ class Waits:
             futures = thread.objects_in(GET, self.found[FUTURE])
             return self.future(thread, *futures) if len(futures) == 1 else {}
         return {}
+
+    def stream(self, thread: Thread) -> Row:
+        """Returns who runs parts of a parallel stream at whose end a thread of no such pool waits, if no part waits for
+        somebody to run it. The part that ends last ends the stream, and one that fails too. A part that is queued is in
+        an array, one that is done has nothing left, and one that only an optimised method has may be missing."""
+        tree = [it for it in self.parts if thread.blocker in self.parts_above(it)]
+        done = {it for it in tree if self.found[PART][it][1] == 0 or any(
+            self.found[PART][below][0] == it for below in tree)}
+        holders = {it: [other for other in self.having[it] if other is not thread] for it in tree}
+        is_queued = any(not self.reach.into.get(it, {0}) <= self.found[PART].keys() for it in tree)
+        is_run = tree != [] and all(holders[it] for it in tree if it not in done)
+        is_inside = any(name == IN_POOL for name, _ in thread.frames)
+        is_hidden = not self.is_known or any(OF_PARTS.fullmatch(name) for name in self.optimised or ())
+        if is_queued or not is_run or is_inside or is_hidden or PART in self.heap.over:
+            return {}
+        runners = dict.fromkeys(it for some in holders.values() for it in some)
+        return {"waits": "stream", "for": [it.label for it in self.threads.values() if it in runners]}
+
+    def parts_above(self, part: int) -> Set[int]:
+        """Returns the parts of which one is a part."""
+        found: Set[int] = set()
+        while part in self.found[PART] and part not in found:
+            found.add(part)
+            part = self.found[PART][part][0]
+        return found
 
     def besides(self, thing: int, but: Sequence[Thread]) -> List[List[Any]]:
         """Returns who else has an object in its frames."""

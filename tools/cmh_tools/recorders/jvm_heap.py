@@ -20,8 +20,8 @@ from .jvm_text import Dump, Thread, stack_of
 MARK = "# cmh heap "
 BUILT = re.compile(r"\$\$Lambda.*(?=\.)|[+/]0x[0-9a-f]+(?=\.)")  # what jstack and a heap dump write differently
 LABEL = [int, re.compile(r"0x[0-9a-f]{1,16}")]
-KINDS = TASK, QUEUED, READERS, JOIN, FUTURE, POOL, REACH, HOOK, TIMER = (
-    "task", "queued", "readers", "join", "future", "pool", "reach", "hook", "timer")
+KINDS = TASK, QUEUED, READERS, JOIN, FUTURE, POOL, REACH, HOOK, TIMER, STREAM = (
+    "task", "queued", "readers", "join", "future", "pool", "reach", "hook", "timer", "stream")
 ROW = {"thread": LABEL, "frames": [str], "waits": re.compile("|".join(KINDS)), "for": [LABEL], "object?": str,
        "is_full?": bool, "is_direct?": bool, "besides?": [LABEL], "reach?": [LABEL]}
 Label = Tuple[int, int]
@@ -174,6 +174,8 @@ class Heaps:
         if wait.kind == READERS:
             return self.wait_for_readers(wait, name)
         whom = self.names_of(wait.whom)
+        if wait.kind == STREAM:
+            return self.wait_for_parts(wait, name)
         if wait.kind == QUEUED and not wait.is_full:
             return unknown(name, "its task stands in the queue of a pool that may take more threads",
                            candidates=[*whom, COMPLETE])
@@ -194,6 +196,14 @@ class Heaps:
                 return False
             thread = self.threads[owners[0]]
         return True
+
+    def wait_for_parts(self, wait: Wait, name: str) -> Process:
+        """One that waits for the end of a parallel stream waits for all who run its parts, unless one of them fails."""
+        names = self.names_of(wait.whom)
+        if not all(self.stands(self.there[it]) for it in wait.whom):
+            return unknown(name, "those who run this stream have moved since the heap was dumped", candidates=names)
+        why = "whoever runs a part of its stream may end that by failing, and some of these aren't known to be stuck"
+        return waits_for_all(name, names, [SYSTEM], choice=(why, []))
 
     def wait_for_readers(self, wait: Wait, name: str) -> Process:
         """One that waits to write waits for those who read, and still stand where they did when the heap was dumped:
