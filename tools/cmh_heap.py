@@ -22,13 +22,14 @@ from dataclasses import dataclass
 from typing import Any, Callable, Dict, Iterable, Iterator, List, NamedTuple, Optional, Sequence, Set, Tuple
 
 # The classes whose objects are kept, also those of classes that derive from them, and which fields of each.
-THREAD, TASK, TIMED, SYNC, HOLDS, ENTRY, WORKER, POOL, QUEUE, NODE, FUTURE, STEP, PART = GROUPS = (
+THREAD, TASK, TIMED, SYNC, HOLDS, ENTRY, WORKER, POOL, QUEUE, NODE, FUTURE, STEP, SUPPLY, RUN, PART = GROUPS = (
     "java/lang/Thread", "java/util/concurrent/FutureTask", "java/util/TimerTask",
     "java/util/concurrent/locks/ReentrantReadWriteLock$Sync",
     "java/util/concurrent/locks/ReentrantReadWriteLock$Sync$HoldCounter", "java/lang/ThreadLocal$ThreadLocalMap$Entry",
     "java/util/concurrent/ThreadPoolExecutor$Worker", "java/util/concurrent/ThreadPoolExecutor",
     "java/util/concurrent/LinkedBlockingQueue", "java/util/concurrent/LinkedBlockingQueue$Node",
     "java/util/concurrent/CompletableFuture", "java/util/concurrent/CompletableFuture$Completion",
+    "java/util/concurrent/CompletableFuture$AsyncSupply", "java/util/concurrent/CompletableFuture$AsyncRun",
     "java/util/concurrent/CountedCompleter")
 FIELDS = {
     THREAD: ("tid", "eetop", "parkBlocker"), TASK: ("state", "runner", "period", "this$0"),
@@ -36,7 +37,8 @@ FIELDS = {
     SYNC: ("state", "firstReader", "firstReaderHoldCount", "readHolds"), HOLDS: ("count", "tid"),
     ENTRY: ("referent", "value"), WORKER: ("this$0", "thread"),
     POOL: ("workQueue", "corePoolSize", "maximumPoolSize"), QUEUE: ("head", "capacity"), NODE: ("item", "next"),
-    FUTURE: ("result",), STEP: ("dep", "src", "executor"), PART: ("completer", "spliterator")}
+    FUTURE: ("result",), STEP: ("dep", "src", "executor", "snd"), SUPPLY: ("dep",), RUN: ("dep",),
+    PART: ("completer", "spliterator")}
 MOST = 300_000  # objects of one group that are kept; with more, what rests on them isn't printed
 # References that are looked through, objects on paths, looks through all references, and threads in all lists: with
 # more it isn't printed who reaches what.
@@ -54,7 +56,7 @@ LATCH = "java.util.concurrent.CountDownLatch.await"
 WRITES = "java.util.concurrent.locks.ReentrantReadWriteLock$WriteLock.lock"
 INVOKES, IN_POOL = "java.util.concurrent.ForkJoinTask.invoke", "java.util.concurrent.ForkJoinWorkerThread.run"
 STREAMS, OF_PARTS = "java/util/stream/", re.compile(r"java\.util\.stream\..*Task\.(?:compute|doCompute)")
-MOST_PARTS = 1000  # parts of all parallel streams
+MOST_PARTS = 1000  # parts of all parallel streams, and futures of which one needs all
 COMPUTES = re.compile(r"java\.util\.concurrent\.CompletableFuture\$(?:Async(?:Supply|Run)\.run|(?:Uni|Bi)\w+\.tryFire)")
 JDK = re.compile(r"(?:java|javax|jdk|sun|com\.sun)\.")
 # Who lets a thread sleep, and who waits by that.
@@ -519,8 +521,11 @@ class Waits:
         self.listed, self.is_known = 0, False
         self.parts = {it for it in self.found[PART] if heap.name_of(heap.kinds[it]).startswith(STREAMS)}
         self.steps: Dict[int, List[int]] = defaultdict(list)
-        for identity, (after, _, _) in self.found[STEP].items():
+        for identity, (after, *_) in self.found[STEP].items():
             self.steps[after].append(identity)
+        self.works: Dict[int, List[int]] = defaultdict(list)
+        for identity, (after,) in (*self.found[SUPPLY].items(), *self.found[RUN].items()):
+            self.works[after].append(identity)
 
     def rows(self) -> Iterator[Row]:
         waiting = {it for it, at in self.at.items() if at or self.threads[it].top(JOIN)}
@@ -595,7 +600,7 @@ class Waits:
             return {"waits": "timer", "for": []} if self.is_periodic(thread) else {}
         if thread.top(GET):
             futures = thread.objects_in(GET, self.found[FUTURE])
-            return self.future(thread, *futures) if len(futures) == 1 else {}
+            return self.future(thread, next(iter(futures))) if len(futures) == 1 else {}
         return {}
 
     def stream(self, thread: Thread) -> Row:
@@ -634,15 +639,20 @@ class Waits:
             but = [thread, self.threads[runner]]
             return {"waits": "task", "for": [self.threads[runner].label], "object": f"{thread.blocker:#x}",
                     "besides": self.besides(thread.blocker, but)}
-        pools = [] if runner or state or {QUEUE, NODE, WORKER} & self.heap.over else [
-            pool for pool in self.found[POOL] if thread.blocker in self.queued(pool)]
+        row = {} if runner or state else self.in_queue(thread.blocker)
+        return {"waits": "queued", **row, "object": f"{thread.blocker:#x}",
+                "besides": self.besides(thread.blocker, [thread])} if row else {}
+
+    def in_queue(self, work: int) -> Row:
+        """Returns the threads of the pool in whose queue some work stands, and whether it has all that it may have."""
+        pools = [] if {QUEUE, NODE, WORKER} & self.heap.over else [
+            pool for pool in self.found[POOL] if work in self.queued(pool)]
         if len(pools) != 1:
             return {}
         queue, least, most = self.found[POOL][pools[0]]
         workers = self.workers(pools[0])
         is_full = len(workers) >= (least if self.found[QUEUE][queue][1] == UNBOUNDED else most)
-        return {"waits": "queued", "for": workers, "is_full": is_full, "object": f"{thread.blocker:#x}",
-                "besides": self.besides(thread.blocker, [thread])}
+        return {"for": workers, "is_full": is_full}
 
     def workers(self, pool: int) -> List[List[Any]]:
         return [self.threads[it].label for its, it in self.found[WORKER].values() if its == pool and it in self.threads]
@@ -691,22 +701,61 @@ class Waits:
         is_read = readers and is_whole and not state & 0xFFFF
         return {"waits": "readers", "for": [labels[it] for it in readers]} if is_read else {}
 
-    def future(self, thread: Thread, future: int) -> Row:
+    def future(self, thread: Thread, future: int, above: Sequence[int] = ()) -> Row:
         """Returns who computes what a future comes from, at the beginning of its chain, and whether that one also does
-        all that follows."""
+        all that follows; or the threads of the pool in whose queue the work for it stands."""
         chain: List[int] = []
         is_direct = True
-        while self.found[FUTURE].get(future, (1,))[0] == 0 and future not in chain and len(chain) < STEPS:
+        while self.is_open(future) and future not in (*above, *chain) and len(chain) < STEPS:
             chain.append(future)
-            runners = self.computing(future)
+            runners, works, parts = self.computing(future), self.works[future], self.parts_of(future)
+            others = [row for it in (*chain, *works) for row in self.besides(it, [*runners, thread])]
+            queue = self.in_queue(works[0]) if len(works) == 1 and not runners else {}
             if runners:
-                others = [row for it in chain for row in self.besides(it, [*runners, thread])]
                 is_direct = is_direct and not any("Compose" in name for name in runners.values())
                 return {"waits": "future", "for": [it.label for it in runners], "is_direct": is_direct,
                         "besides": others}
+            if queue or parts:
+                row = {"waits": "supplied", **queue} if queue else self.all_of(thread, parts, [*above, *chain])
+                return {**row, "besides": [*others, *row.get("besides", [])]} if row else {}
             future, is_same = self.source(future)
             is_direct = is_direct and is_same
         return {}
+
+    def is_open(self, future: int) -> bool:
+        """Whether a future isn't complete."""
+        found: bool = self.found[FUTURE].get(future, (1,))[0] == 0
+        return found
+
+    def parts_of(self, future: int) -> List[int]:
+        """Returns the two futures that have to be complete before another one is, as that of allOf."""
+        kind, (_, first, _, second) = self.step_to(future)
+        return [first, second] if kind.startswith(f"{FUTURE}$Bi") and first and second else []
+
+    def all_of(self, thread: Thread, parts: List[int], above: Sequence[int]) -> Row:
+        """Returns who computes some futures, if each of them that isn't complete has one who does."""
+        rows = [self.future(thread, it, above) for it in self.leaves_of(parts)]
+        if len(rows) == 1:
+            return rows[0]
+        is_known = rows and all(row.get("waits") == "future" and len(row["for"]) == 1 for row in rows)
+        return {"waits": "futures", "for": [row["for"][0] for row in rows],
+                "is_direct": all(row["is_direct"] for row in rows),
+                "besides": [it for row in rows for it in row["besides"]]} if is_known else {}
+
+    def leaves_of(self, parts: List[int]) -> List[int]:
+        """Returns the futures that aren't complete, and that aren't made of two, of those of which some are made. None
+        if they are too many."""
+        found: List[int] = []
+        seen: Set[int] = set()
+        todo = [*parts]
+        while todo and len(seen) < MOST_PARTS:
+            part = todo.pop()
+            more = self.parts_of(part)
+            if part not in seen and self.is_open(part):
+                found += [] if more else [part]
+                todo += more
+            seen.add(part)
+        return found if not todo else []
 
     def computing(self, future: int) -> Dict[Thread, str]:
         """Returns the threads that are in the function whose value a future gets, and by which method of the JDK."""
@@ -716,14 +765,19 @@ class Waits:
             found.update((thread, name) for name in methods if COMPUTES.fullmatch(name))
         return found
 
+    def step_to(self, future: int) -> Tuple[str, Tuple[int, ...]]:
+        """Returns the class and the fields of the one step that completes a future, or nothing."""
+        steps = self.steps[future] if STEP not in self.heap.over else []
+        if len(steps) != 1:
+            return "", (0, 0, 0, 0)
+        return self.heap.name_of(self.heap.kinds[steps[0]]), tuple(it or 0 for it in self.found[STEP][steps[0]])
+
     def source(self, future: int) -> Tuple[int, bool]:
         """Returns the one future from which another is made, or 0, and whether who completes it makes the other."""
-        steps = self.steps[future]
-        kind = self.heap.name_of(self.heap.kinds[steps[0]]) if len(steps) == 1 and STEP not in self.heap.over else ""
+        kind, (_, source, executor, _) = self.step_to(future)
         if not kind.startswith(f"{FUTURE}$Uni"):
             return 0, False
-        _, source, executor = self.found[STEP][steps[0]]
-        return source or 0, executor == 0 and "Compose" not in kind
+        return source, executor == 0 and "Compose" not in kind
 
 
 def optimised_in(path: str) -> Optional[Set[str]]:

@@ -20,8 +20,8 @@ from .jvm_text import Dump, Thread, stack_of
 MARK = "# cmh heap "
 BUILT = re.compile(r"\$\$Lambda.*(?=\.)|[+/]0x[0-9a-f]+(?=\.)")  # what jstack and a heap dump write differently
 LABEL = [int, re.compile(r"0x[0-9a-f]{1,16}")]
-KINDS = TASK, QUEUED, READERS, JOIN, FUTURE, POOL, REACH, HOOK, TIMER, STREAM = (
-    "task", "queued", "readers", "join", "future", "pool", "reach", "hook", "timer", "stream")
+KINDS = TASK, QUEUED, READERS, JOIN, FUTURE, FUTURES, SUPPLIED, POOL, REACH, HOOK, TIMER, STREAM = (
+    "task", "queued", "readers", "join", "future", "futures", "supplied", "pool", "reach", "hook", "timer", "stream")
 ROW = {"thread": LABEL, "frames": [str], "waits": re.compile("|".join(KINDS)), "for": [LABEL], "object?": str,
        "is_full?": bool, "is_direct?": bool, "besides?": [LABEL], "reach?": [LABEL]}
 Label = Tuple[int, int]
@@ -31,6 +31,7 @@ PREMISES = {
     POOLS: "a task that stands in the queue of a pool is begun by a thread of that pool",
     COMPLETES: "a CompletableFuture is completed by the thread that computes its value",
 }
+RESTS_ON = {QUEUED: [POOLS, CANCELS], SUPPLIED: [POOLS, COMPLETES], FUTURE: [COMPLETES], FUTURES: [COMPLETES]}
 
 
 @dataclass
@@ -176,13 +177,15 @@ class Heaps:
         whom = self.names_of(wait.whom)
         if wait.kind == STREAM:
             return self.wait_for_parts(wait, name)
-        if wait.kind == QUEUED and not wait.is_full:
+        if wait.kind in (QUEUED, SUPPLIED) and not wait.is_full:
             return unknown(name, "its task stands in the queue of a pool that may take more threads",
                            candidates=[*whom, COMPLETE])
-        if wait.kind == FUTURE and not wait.is_direct and not all(self.stands(self.there[it]) for it in wait.whom):
+        is_computed = wait.kind in (FUTURE, FUTURES)
+        if is_computed and not wait.is_direct and not all(self.stands(self.there[it]) for it in wait.whom):
             return unknown(name, f"{whom[0]} computed what it waits for, and has moved since", candidates=whom)
-        because = {QUEUED: [POOLS, CANCELS], FUTURE: [COMPLETES]}.get(wait.kind, [CANCELS])
-        return waits_for_any(name, whom, [SYSTEM, *map(premise, because)], besides=self.names_of(wait.besides))
+        because = RESTS_ON.get(wait.kind, [CANCELS])
+        waits = waits_for_all if wait.kind == FUTURES else waits_for_any
+        return waits(name, whom, [SYSTEM, *map(premise, because)], besides=self.names_of(wait.besides))
 
     def stands(self, thread: Thread) -> bool:
         """Whether a thread was at one wait all the time between the two states. One that is blocked at a monitor uses
