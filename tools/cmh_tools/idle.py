@@ -13,8 +13,9 @@ from .stuck import Answer, Waits
 
 # Operations of one that waits for its next message, and functions without a name in which one is started.
 RECEIVES = re.compile(r"chan receive|select|receive|consume|(\w+\.)*(\w*(Queue|Deque)\.(get|take\w*|poll)|accept|recv)")
-READS = re.compile(r"(\w+\.)*(\w*socket\w*|SSL\w*|StreamReader)\.(recv|read)\w*", re.I)  # from outside
-NAMELESS = re.compile(r"lambda|\.func\d|Thread\.run|\$\d")
+READS = re.compile(r"(\w+\.)*(\w*socket\w*|SSL\w*|StreamReader|gen_tcp|gen_udp)[.:](recv|read)\w*",
+                   re.I)  # from outside
+NAMELESS = re.compile(r"lambda|\.func\d|-fun-\d|Thread\.run|\$\d")
 
 
 def leave_out(sketch: Sketch, what: str) -> None:
