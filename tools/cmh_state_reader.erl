@@ -546,11 +546,14 @@ characters(Stack) ->
         _ -> unicode:characters_to_binary(Stack, latin1)
     end.
 
-%% Which processes are taken, and how many others there are that aren't of the system.
+%% Which processes are taken, and how many others there are that aren't of the system. Who does something for others is
+%% taken always.
+-define(FOR_OTHERS, [erpc]).
+
 chosen(Modules, Apart) ->
     Own = [Module || Module <- Modules, not is_of_otp(Module)],
     {System, Others} = lists:partition(fun is_of_system/1, processes() -- Apart),
-    Found = [P || P <- System, is_of(Own, P)] ++ [P || P <- Others, is_of(Modules, P)],
+    Found = [P || P <- System, is_of(Own, P)] ++ [P || P <- Others, is_of(?FOR_OTHERS ++ Modules, P)],
     Taken = with_callers(Found, Others -- Found),
     Left = length([P || P <- Others -- Taken, is_process_alive(P)]),
     {lists:sort(Taken), Left}.

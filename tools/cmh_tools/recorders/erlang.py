@@ -20,12 +20,18 @@ from .erlang_enders import add_enders, stoppers_of, two_of_each
 from .erlang_locks import LOCKS, locks_of, wait_of_lock
 from .erlang_names import name_all
 from .erlang_receives import DOWNS, count_of, wait_for_reference, wait_for_stop
+from .erlang_remote import wait_for_remote
 from .erlang_tasks import ENDS, wait_of_task
 from .erlang_text import PID, Block, NodeReading, readings_of
 
 CHILD = re.compile(r"{child,(<[\d.]+>),.*?,(infinity|\d+|brutal_kill),(?:worker|supervisor),")
 IDLE = "waits for requests"
 WORKS = ("running", "runnable", "garbage_collecting", "exiting")
+
+# Where a process waits for what comes from outside, with what its program has called.
+READS = {"prim_inet:accept0": "gen_tcp:accept", "prim_inet:recv0": "gen_tcp:recv",
+         "prim_inet:recvfrom0": "gen_udp:recv", "socket:accept_deadline": "socket:accept",
+         "socket:recv_deadline": "socket:recv", "socket:recvfrom_deadline": "socket:recvfrom", "os:get_data": "os:cmd"}
 
 OWN_CHILD, OUTSIDE, RESTARTS = "child", "outside", "restarts"
 
@@ -151,7 +157,9 @@ class ErlangRecorder(Recorder):
         more["operation"] = block.top() if block.is_in_library() else "receive"
         if block.is_loop():
             return unknown(name, IDLE, is_idle=True, **more)
-        return wait_of_task(block, moment, more) or wait_of_function(block, moment, more)
+        ways = wait_of_task, wait_for_remote
+        found = next(filter(None, (way(block, moment, more) for way in ways)), None)
+        return found or wait_of_function(block, moment, more)
 
 
 def may_have_any(block: Block) -> bool:
@@ -173,10 +181,19 @@ def wait_of_function(block: Block, moment: Nodes, more: Dict[str, Any]) -> Proce
         return wait_for_stop(block, moment, more)
     if top.startswith("proc_lib:sync_start"):
         return child(block, moment, more, *child_begun(block))
+    if top in READS:
+        return wait_for_outside(block, moment, {**more, "operation": READS[top]})
     found = CHILD.search(block.counter) if top.startswith("supervisor:") else None
     if found:
         return child(block, moment, more, *found.groups())
     return with_proposal(block, moment, more)
+
+
+def wait_for_outside(block: Block, moment: Nodes, more: Dict[str, Any]) -> Process:
+    """Returns a process that reads from a socket, or waits for a command. A limit of that isn't on its stack."""
+    more["note"] = f"{more['operation']} in {block.frames()[0]}"
+    reason = f"it is in {more['operation']}, and the state doesn't say who is at the other end"
+    return unknown(moment.name(block), reason, proposal="runs", **more)
 
 
 def child_begun(block: Block) -> Tuple[str, str]:

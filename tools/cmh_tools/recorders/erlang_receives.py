@@ -12,7 +12,8 @@ from .erlang_text import PID, Block, Receives
 
 DOWNS = "down"
 # What waits for a reference that it has made itself. So who has the same one later is still at one wait.
-FRESH = ("erpc:call", "gen:do_call", "proc_lib:stop")
+FRESH = ("erpc:call", "erpc:mcall_receive_replies", "erpc:receive_response", "erpc:wait_response", "gen:do_call",
+         "proc_lib:stop")
 
 
 def count_of(block: Block) -> Optional[str]:

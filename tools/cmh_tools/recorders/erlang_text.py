@@ -33,7 +33,8 @@ SERVES_EVENT = re.compile(r"^y\(\d+\) +{call,{<[\d.]+>,(?:\[alias\|)?#Ref<\d+\.(
 TRACE = re.compile(r'{(\w+|\'[^\']*\'),(\w+|\'[^\']*\'),(\d+),\[(?:{file,"([^"]*)"},{line,(\d+)})?')
 REFERENCE = re.compile(r"#Ref<\d+\.([\d.]+)>")
 WATCHED = re.compile(r"{process,(<\S+?>|{.*?})}")
-OF_SYSTEM = re.compile(r"gen(_server|_statem|_event)?|global|proc_lib|supervisor|sys|timer|erlang|rpc|'Elixir\.("
+OF_SYSTEM = re.compile(r"gen(_server|_statem|_event|_tcp|_udp)?|global|erpc|inet6?(_tcp|_udp)?|os|"
+                       r"prim_inet|proc_lib|socket|supervisor|sys|timer|erlang|rpc|'Elixir\.("
                        r"Agent|DynamicSupervisor|Enum|GenServer|Process|Registry|Stream|Supervisor|Task)(\.\w+)*'")
 LOOPS = re.compile(r"(gen_server:loop|gen_statem:loop_(receive|hibernate)|gen_event:fetch_msg|proc_lib:hibernate"
                    r"|proc_lib:wake_up|erlang:hibernate)/")
