@@ -210,14 +210,14 @@ read({Modules, Nodes}, Caller, Host, Tag) ->
     Apart = [self(), Host, Caller],
     Caller ! {Tag, self()},
     Numbers = receive {first, Hosts} -> [number(Other) || Other <- Hosts, node(Other) =/= node()] end,
-    Locks = locks(), % (who has a lock now and after all is read has had it all the time)
+    Locks = {locks(), mnesia()}, % (who has a lock now and after all is read has had it all the time)
     {Taken, Left} = chosen(Modules, Apart),
     tell(Caller, Tag, counts(Left, Modules, Nodes), fun first/1, Taken, fun() -> tables(Numbers, Locks) end),
     receive second -> ok end,
     Counts = maps:from_list([{P, count(P)} || P <- Taken]),
     {Again, LeftNow} = chosen(Modules, Apart),
     tell(Caller, Tag, counts(LeftNow, Modules, Nodes), fun(P) -> second(P, Counts) end, Again,
-         fun() -> tables(Numbers, locks()) end),
+         fun() -> tables(Numbers, {locks(), mnesia()}) end),
     receive never -> ok end.
 
 %% How many modules may keep a term where no process has it, how many processes are left out, how many nodes are
@@ -247,9 +247,37 @@ locks() ->
         error:_ -> []
     end.
 
-tables(Numbers, Locks) ->
+%% The locks of Mnesia that its node gives out, and who wants one. Its tables are read by its locker alone, which waits
+%% for nothing but messages: it is asked if it has none.
+mnesia() ->
+    Locker = whereis(mnesia_locker),
+    case is_pid(Locker) andalso process_info(Locker, [message_queue_len, status, current_function]) of
+        [{_, 0}, {_, waiting}, {_, {mnesia_locker, loop, 1}}] ->
+            lists:append([asked(Locker, Table) || Table <- [mnesia_held_locks, mnesia_lock_queue]]);
+        _ -> []
+    end.
+
+asked(Locker, Table) ->
+    case ets:info(Table, size) of
+        Size when is_integer(Size), Size > 0, Size =< ?FOUND ->
+            Locker ! {get_table, self(), Table},
+            receive {Table, Rows} -> lists:flatmap(fun lock/1, Rows) after 1000 -> [] end;
+        _ -> []
+    end.
+
+%% Who has a lock, or wants it. Other versions of Mnesia have other rows.
+lock({{What, Kind, Who}}) -> lock({What, Kind, Who});
+lock({What, Kind, {tid, _, P}}) -> lock(has, What, Kind, P);
+lock({queue, What, _, Kind, P, _}) -> lock(wants, What, Kind, P);
+lock({What, _, Having}) when is_list(Having) ->
+    [Row || {Kind, {tid, _, P}} <- Having, Row <- lock(has, What, Kind, P)];
+lock(_) -> [].
+
+lock(Word, What, Kind, P) -> [io_lib:format("{~p,~ts,~p,~p}~n", [Word, shortened(What), Kind, P])].
+
+tables(Numbers, {Locks, Held}) ->
     [[io_lib:format("=~s ~b ~ts~n", [Word, length(Rows), node()]) | Rows]
-     || {Word, Rows} <- [{"numbers", Numbers}, {"locks", Locks}]].
+     || {Word, Rows} <- [{"numbers", Numbers}, {"locks", Locks}, {"mnesia", Held}]].
 
 %% Sends the text of each process, how many are left out that aren't of the system, and how many are printed.
 tell(Caller, Tag, Others, Text, Taken, Tables) ->
@@ -546,9 +574,9 @@ characters(Stack) ->
         _ -> unicode:characters_to_binary(Stack, latin1)
     end.
 
-%% Which processes are taken, and how many others there are that aren't of the system. Who does something for others is
-%% taken always.
--define(FOR_OTHERS, [erpc]).
+%% Which processes are taken, and how many others there are that aren't of the system. Who does something for others
+%% (erpc) or has locks that these may want (mnesia_tm) is taken always.
+-define(FOR_OTHERS, [erpc, mnesia_tm]).
 
 chosen(Modules, Apart) ->
     Own = [Module || Module <- Modules, not is_of_otp(Module)],
@@ -560,7 +588,7 @@ chosen(Modules, Apart) ->
 
 %% Whether a module is of an application of Erlang's or Elixir's own. A module of theirs, such as supervisor, chooses no
 %% process of the runtime or of kernel.
--define(SYSTEM, [kernel, stdlib, elixir, logger, iex]).
+-define(SYSTEM, [kernel, stdlib, elixir, logger, iex, mnesia]).
 
 is_of_otp(Module) -> is_one_of(?SYSTEM, Module).
 

@@ -18,6 +18,8 @@ from .base import Premise, Recorder
 from .erlang_calls import ANSWERS, LETS_GO, NO_MAIL, Nodes, place_elsewhere, wait_of_call
 from .erlang_enders import add_enders, stoppers_of, two_of_each
 from .erlang_locks import LOCKS, locks_of, wait_of_lock
+from .erlang_mnesia import ENDS as TRANSACTIONS
+from .erlang_mnesia import rows_of, wait_of_transaction
 from .erlang_names import name_all
 from .erlang_receives import DOWNS, count_of, wait_for_reference, wait_for_stop
 from .erlang_remote import wait_for_remote
@@ -51,6 +53,8 @@ class ErlangRecorder(Recorder):
         ENDS: Premise("a task answers once, when its function has returned"),
         LOCKS: Premise("a lock of global is free once each process that has it has given it back or ended, and not by "
                        "a lost connection of nodes"),
+        TRANSACTIONS: Premise("a lock of Mnesia is free once each transaction that has it has ended, and not by an end "
+                              "of Mnesia"),
         RESTARTS: Premise("a supervisor that restarts one child alone doesn't give up, as it does where children fail "
                           "again and again"),
         OWN_CHILD: Premise("a supervisor that starts or stops a child waits for that child alone"),
@@ -105,6 +109,7 @@ class ErlangRecorder(Recorder):
         moment.receives = {(reading.source, *function): receives for reading in nodes
                            for function, receives in reading.receives.items()}
         moment.locks = locks_of(nodes)
+        moment.held, moment.wanted = (rows_of(nodes, moment, word) for word in ("has", "wants"))
         places = map(place_elsewhere, nodes)
         moment.elsewhere = next(filter(None, places), "")
         moment.cut = {reading.source for reading in moment.readings if reading.extent == PARTS}
@@ -157,7 +162,7 @@ class ErlangRecorder(Recorder):
         more["operation"] = block.top() if block.is_in_library() else "receive"
         if block.is_loop():
             return unknown(name, IDLE, is_idle=True, **more)
-        ways = wait_of_task, wait_for_remote
+        ways = wait_of_task, wait_for_remote, wait_of_transaction
         found = next(filter(None, (way(block, moment, more) for way in ways)), None)
         return found or wait_of_function(block, moment, more)
 

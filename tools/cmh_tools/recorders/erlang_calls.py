@@ -20,7 +20,7 @@ class Nodes(Moment):
     its node and pid; who stands below a supervisor that restarts one alone, beside others that may fail; who has a fun
     that may have any reference; the receives in a function, by its node and its name; where a reference may be that no
     process has, in words, or nothing; the nodes whose states aren't whole; nodes, by another one and the number that
-    they have there; and the locks of a node, by it and by what is locked."""
+    they have there; the locks of a node, by it and by what is locked; and who has locks of Mnesia, or wants one."""
 
     by_key: Dict[Key, Block]
     has_tail: Dict[str, List[Block]]
@@ -34,6 +34,8 @@ class Nodes(Moment):
     cut: Set[str]
     nodes: Dict[Tuple[str, str], str]
     locks: Dict[Tuple[str, str], Tuple[str, str]]
+    held: List[Any]
+    wanted: List[Any]
 
     def find(self, key: Key) -> Optional[Block]:
         """Returns a process by what another one knows it by: a pid of another node begins with the number of that."""

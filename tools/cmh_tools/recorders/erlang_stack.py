@@ -7,8 +7,10 @@ from typing import List, Tuple
 # Of a stack, its places, and the numbers of the terms that each of them has; and the beginning of a pid or a reference.
 SLOT = re.compile(r"^(?:y\((\d{1,6})\) |Program counter: |0x)", re.M)
 CUT_OFF = re.compile(r"<[\d.]*$", re.M)
-# The frame that has the lock which a process wants, and that of Elixir with the pid of whom it stops.
+# The frame that has the lock which a process wants, that of Mnesia with the number of a transaction which is begun
+# again, and that of Elixir with the pid of whom it stops.
 LOCKING = re.compile(r"Return addr \S+ \(global:set_lock/4 \+ \d+\)\n((?:y.*\n)*)")
+RETRYING = re.compile(r"Return addr \S+ \(mnesia_tm:restart/\d+ \+ \d+\)\n((?:y.*\n)*)")
 STOPPING = re.compile(r"\(proc_lib:stop/3 .*\n(?:y.*\n)*\n\S+ Return addr \S+ \('Elixir\.GenServer':stop/3 \+ \d+\)\n"
                       r"((?:y.*\n)*)")
 # The frame in which a server has called a function of its own, and the message for which.

@@ -10,7 +10,7 @@ from typing import Dict, Iterable, Iterator, List, NamedTuple, Optional, Set, Tu
 from ..files import Refusal, shown
 from ..moments import PARTS, Reading
 from ..sketch import frame
-from .erlang_stack import LOCKING, REGISTER, STOPPING, callback_of, lost_of_stack, terms_in
+from .erlang_stack import LOCKING, REGISTER, RETRYING, STOPPING, callback_of, lost_of_stack, terms_in
 
 HEAD = re.compile(r"(<[\d.]+>) (\S+)$", re.M)
 # The wait of a call has the limit as the first term of its frame.
@@ -33,17 +33,19 @@ SERVES_EVENT = re.compile(r"^y\(\d+\) +{call,{<[\d.]+>,(?:\[alias\|)?#Ref<\d+\.(
 TRACE = re.compile(r'{(\w+|\'[^\']*\'),(\w+|\'[^\']*\'),(\d+),\[(?:{file,"([^"]*)"},{line,(\d+)})?')
 REFERENCE = re.compile(r"#Ref<\d+\.([\d.]+)>")
 WATCHED = re.compile(r"{process,(<\S+?>|{.*?})}")
-OF_SYSTEM = re.compile(r"gen(_server|_statem|_event|_tcp|_udp)?|global|erpc|inet6?(_tcp|_udp)?|os|"
+OF_SYSTEM = re.compile(r"gen(_server|_statem|_event|_tcp|_udp)?|global|erpc|inet6?(_tcp|_udp)?|mnesia(_[a-z]+)?|os|"
                        r"prim_inet|proc_lib|socket|supervisor|sys|timer|erlang|rpc|'Elixir\.("
                        r"Agent|DynamicSupervisor|Enum|GenServer|Process|Registry|Stream|Supervisor|Task)(\.\w+)*'")
 LOOPS = re.compile(r"(gen_server:loop|gen_statem:loop_(receive|hibernate)|gen_event:fetch_msg|proc_lib:hibernate"
                    r"|proc_lib:wake_up|erlang:hibernate)/")
-FIRST = re.compile("=(process|keeps|left out|locks|nodes|numbers|receives|tables|timers|end) ")
+FIRST = re.compile("=(process|keeps|left out|locks|mnesia|nodes|numbers|receives|tables|timers|end) ")
 MARK = re.compile(rf"\n{FIRST.pattern}")
-# The rows below lines of some words: the receives of a function; the number of another node; who has a lock.
+# The rows below lines of some words: the receives of a function; the number of another node; who has a lock, or wants
+# one of Mnesia.
 RECEIVES = re.compile(r"{(\w+|'[^']*'),(\w+|'[^']*'),(\d+),\[([\w,]*)\](?:,(\d+)((?:,\w+)*))?}")
 ROWS = {"receives": RECEIVES, "numbers": re.compile(r"(\d+) (\S+)"),
-        "locks": re.compile(r"{(.*),\[((?:{<[\d.]+>,#Ref<[\d.]+>},?)+)\]}")}
+        "locks": re.compile(r"{(.*),\[((?:{<[\d.]+>,#Ref<[\d.]+>},?)+)\]}"),
+        "mnesia": re.compile(r"{(?P<word>has|wants),{(?P<what>.*)},(?P<kind>\w+),(?P<pid><[\d.]+>)}")}
 OF_ELIXIR = re.compile(r"'Elixir\.([\w.]+)'")
 FUN = re.compile(r"'-(.*)/\d+-(fun-\d+)-'")
 WORD = r"(\w+|'[^']*')"
@@ -104,7 +106,8 @@ class Block:
         self.counter = frames_text.partition("\n\n")[0]
         limit, self.has_limit = LIMIT.search(text), WITH_A_LIMIT.search(text) is not None
         self.call = call_of(limit, text) if limit else None
-        self.lock, self.stopping = terms_in(LOCKING, frames_text), terms_in(STOPPING, frames_text)
+        self.lock, self.retrying, self.stopping = (terms_in(form, frames_text)
+                                                   for form in (LOCKING, RETRYING, STOPPING))
         waiting = self.counter + (limit[0] if limit else "")
         # The references of the call that it waits in, and their tails.
         self.references = list(dict.fromkeys(OBJECT.findall(waiting)))
@@ -334,7 +337,7 @@ def readings_of(path: str, text: str, known: Dict[bytes, Block]) -> List[NodeRea
 
 class NodeReading(Reading):
     """The processes of a node as one state has them, up to its line '=end'; the receives in a function, by its module,
-    name and arity; the nodes by the numbers that they have there; and its locks."""
+    name and arity; the nodes by the numbers that they have there; its locks, and those of Mnesia."""
 
     def __init__(self, path: str, node: str) -> None:
         super().__init__(path, node, site=node.split("@")[0])
@@ -342,6 +345,7 @@ class NodeReading(Reading):
         self.receives: Dict[Tuple[str, ...], Receives] = {}
         self.nodes: Dict[str, str] = {}
         self.locks: List[Tuple[str, str]] = []
+        self.mnesia: List[re.Match[str]] = []
 
     @property
     def is_closed(self) -> bool:
@@ -362,6 +366,8 @@ class NodeReading(Reading):
             self.nodes.update({row[1]: row[2] for row in found})
         elif word == "locks":
             self.locks += [(row[1], row[2]) for row in found]
+        elif word == "mnesia":
+            self.mnesia += found
 
     def close(self) -> None:
         """Says what the text lacks."""
