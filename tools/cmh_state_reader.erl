@@ -370,9 +370,9 @@ is_short(Words, Memory) -> Words < ?WORDS andalso Words * min(Memory div 8, ?TER
 text(_, undefined, _, _) -> gone;
 text(P, Info, Before, After) ->
     Lines = [line(Key, lists:keyfind(Key, 1, Info), Info) || Key <- ?ITEMS],
-    More = io_lib:format("{references,~ts}~n{may_end,~ts}~n{closures,~p}~n{code,~0p}~n{strategies,~ts}~n",
+    More = io_lib:format("{references,~ts}~n{may_end,~ts}~n{closures,~p}~n{code,~0p}~n{strategies,~ts}~n~ts",
                          [list(references(Info)), list(may_end(Info)), closures(Info), code_of(Info),
-                          list(strategies(Info))]),
+                          list(strategies(Info)), kept(Info)]),
     {call_of(Info), [io_lib:format("=process ~p ~ts~n", [P, node()]), Before, More, Lines, After]}.
 
 %% The function in which it is.
@@ -397,6 +397,31 @@ references(Info) ->
 
 both(_, cut) -> cut;
 both(Found, Texts) -> [io_lib:format("~p", [Reference]) || Reference <- Found] ++ Texts.
+
+%% How the pids and the references in the state of an idle server lie in each other: all else of it is left away.
+-define(SIGNS, "#Ref<[0-9.]+>|<[0-9]+[.][0-9]+[.][0-9]+>|[{}]|\\[|\\]|\"(?:[^\"\\\\]++|\\\\.)*+\"|'(?:[^'\\\\]++|\\\\.)*+'").
+
+kept(Info) ->
+    case {is_idle(Info), lists:keyfind(backtrace, 1, Info)} of
+        {true, {_, Stack}} when byte_size(Stack) < ?BYTES ->
+            case re:run(Stack, ?SIGNS, [global, {capture, first, binary}]) of
+                {match, Found} when length(Found) < ?SEARCHED -> kept_lines([Sign || [Sign] <- Found, not is_text(Sign)]);
+                _ -> ""
+            end;
+        _ -> ""
+    end.
+
+is_text(<<First, _/binary>>) -> lists:member(First, "\"'").
+
+kept_lines(Signs) ->
+    Text = without_empty(iolist_to_binary(Signs)),
+    [io_lib:format("{kept,~ts}~n", [Text]) || byte_size(Text) < ?CHARACTERS * 10].
+
+without_empty(Text) ->
+    case re:replace(Text, "[{][}]|\\[\\]", "", [global, {return, binary}]) of
+        Text -> Text;
+        Less -> without_empty(Less)
+    end.
 
 %% The processes that it knows, if the code of a module that it runs may send an exit signal.
 may_end(Info) ->

@@ -15,13 +15,14 @@ from ..moments import APART, PARTS, Reading
 from ..sketch import COMPLETE, LIMIT, REST, RUNS, SYSTEM, Process, Sketch, premise, runs, spoilt, unknown, waits_for_any
 from . import State
 from .base import Premise, Recorder
-from .erlang_calls import ANSWERS, LETS_GO, NO_MAIL, Nodes, place_elsewhere, wait_of_call
+from .erlang_calls import ANSWERS, LETS_GO, NO_MAIL, place_elsewhere, wait_of_call
 from .erlang_enders import add_enders, stoppers_of, two_of_each
 from .erlang_locks import LOCKS, locks_of, wait_of_lock
 from .erlang_mnesia import ENDS as TRANSACTIONS
 from .erlang_mnesia import rows_of, wait_of_transaction
 from .erlang_names import name_all
 from .erlang_receives import DOWNS, count_of, wait_for_reference, wait_for_stop
+from .erlang_nodes import Nodes
 from .erlang_remote import wait_for_remote
 from .erlang_tasks import ENDS, wait_of_task
 from .erlang_text import PID, Block, NodeReading, readings_of
@@ -120,7 +121,8 @@ class ErlangRecorder(Recorder):
                                                          "monitors"
 
     def finish(self, sketch: Sketch, moments: List[Nodes]) -> None:
-        """Gives facts a word for those that a process monitors."""
+        """Gives facts a word for those that a process monitors, and says who is likely to end nobody's wait: who goes
+        from one wait with a limit to another one in the function that it began in, as a poller does."""
         groups: DefaultDict[str, Dict[str, None]] = defaultdict(dict)
         for moment in moments:
             for block in moment.rows():

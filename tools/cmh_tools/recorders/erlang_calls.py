@@ -3,55 +3,16 @@ on its stack, in its mailbox, its dictionary or its state, as the node shows the
 """
 from __future__ import annotations
 
-from typing import Any, Callable, Dict, Iterable, List, Optional, Set, Tuple
+from typing import Any, Dict, List, Optional, Set, Tuple
 
 from ..sketch import LIMIT, SYSTEM, Process, premise, runs, unknown, waits_for_any
-from .base import Moment
-from .erlang_text import Block, Call, Key, NodeReading, Receives, of_elixir
+from .erlang_keepers import who_may_answer
+from .erlang_nodes import Nodes
+from .erlang_text import Block, Call, Key, NodeReading, of_elixir
 
 NO_MAIL = "its mailbox is too long to be read, and may have what it waits for"
 ANSWERS, LETS_GO = "answers", "lets go"
 REGISTRY = "'Elixir.Registry.Partition'"
-
-
-class Nodes(Moment):
-    """The processes of all nodes at one time: by what others know them by, and by the tails of the references that they
-    have; their names in the sketch; each answer that is under way, as (sender, receiver); who may end a process, by
-    its node and pid; who stands below a supervisor that restarts one alone, beside others that may fail; who has a fun
-    that may have any reference; the receives in a function, by its node and its name; where a reference may be that no
-    process has, in words, or nothing; the nodes whose states aren't whole; nodes, by another one and the number that
-    they have there; the locks of a node, by it and by what is locked; and who has locks of Mnesia, or wants one."""
-
-    by_key: Dict[Key, Block]
-    has_tail: Dict[str, List[Block]]
-    name: Callable[[Block], str]
-    answers: List[Tuple[str, str]]
-    enders: Dict[Key, List[Block]]
-    spared: Set[Key]
-    closures: List[Block]
-    receives: Dict[Tuple[str, ...], Receives]
-    elsewhere: str
-    cut: Set[str]
-    nodes: Dict[Tuple[str, str], str]
-    locks: Dict[Tuple[str, str], Tuple[str, str]]
-    held: List[Any]
-    wanted: List[Any]
-
-    def find(self, key: Key) -> Optional[Block]:
-        """Returns a process by what another one knows it by: a pid of another node begins with the number of that."""
-        if isinstance(key, tuple):
-            number, _, rest = key[1].partition(".")
-            node = self.nodes.get((key[0], number))
-            key = (node, f"<0.{rest}") if node else key
-        return self.by_key.get(key)
-
-    def watched(self, block: Block) -> List[Optional[Block]]:
-        """Returns those that a process monitors, None for one that isn't in the state."""
-        return list(map(self.find, block.monitored))
-
-    def names(self, blocks: Iterable[Block]) -> List[str]:
-        """Returns the names of some, each once."""
-        return list(dict.fromkeys(map(self.name, blocks)))
 
 
 def holders(block: Block, moment: Nodes, tails: Set[str]) -> List[Block]:
@@ -153,9 +114,9 @@ def wait_for_holders(block: Block, moment: Nodes, called: List[Block], more: Dic
         return unknown(name, f"{moment.name(cut)} has too long a mailbox to be read, and may have its request", **more)
     keepers = [it for it in called if may_keep(it, having) and not it.has_request(tails)]
     if keepers:
-        words = [f"monitored:{moment.name(it)}" for it in keepers if it.monitored]
         others = [it for it in having if it not in keepers]
-        more["candidates"] = words if not others and len(words) == len(called) else moment.names([*called, *others])
+        some = [who for it in keepers for who in who_may_answer(block, it, moment)]
+        more["candidates"] = moment.names([*some, *others])
         return unknown(name, f"{moment.name(keepers[0])} keeps its call in its state, to answer it once something else "
                        "has come", **more)
     because = [SYSTEM, premise(ANSWERS), *([premise(LETS_GO)] if passed else [])]

@@ -7,7 +7,8 @@ import re
 from collections import defaultdict
 from typing import Any, Callable, DefaultDict, Dict, Iterable, Iterator, List, Tuple
 
-from .erlang_calls import REGISTRY, Nodes
+from .erlang_calls import REGISTRY
+from .erlang_nodes import Nodes
 from .erlang_text import Block, Key
 
 MANY = 100  # kinds of processes that are told apart by whom they monitor too

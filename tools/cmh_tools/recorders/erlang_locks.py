@@ -7,7 +7,7 @@ import re
 from typing import Any, Dict, List, Optional, Tuple
 
 from ..sketch import LIMIT, SYSTEM, Process, premise, runs, unknown, waits_for_all, waits_for_any
-from .erlang_calls import Nodes
+from .erlang_nodes import Nodes
 from .erlang_text import Block, NodeReading, of_elixir
 
 LOCKS = "locks"

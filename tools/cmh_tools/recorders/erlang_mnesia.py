@@ -7,7 +7,7 @@ import re
 from typing import Any, Dict, Iterable, List, NamedTuple, Optional
 
 from ..sketch import SYSTEM, Process, premise, unknown, waits_for_all, waits_for_any
-from .erlang_calls import Nodes
+from .erlang_nodes import Nodes
 from .erlang_text import Block, NodeReading, of_elixir
 
 ENDS, RETRIES = "transactions", re.compile(r"mnesia_tm:restart/\d+")

@@ -7,7 +7,8 @@ import re
 from typing import Any, Dict, List, Optional
 
 from ..sketch import LIMIT, SYSTEM, Process, premise, runs, unknown, waits_for_any
-from .erlang_calls import ANSWERS, NO_MAIL, Nodes, holders
+from .erlang_calls import ANSWERS, NO_MAIL, holders
+from .erlang_nodes import Nodes
 from .erlang_text import PID, Block, Receives
 
 DOWNS = "down"

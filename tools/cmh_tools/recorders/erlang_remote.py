@@ -7,7 +7,8 @@ import re
 from typing import Any, Dict, List, Optional
 
 from ..sketch import LIMIT, SYSTEM, Process, premise, runs, unknown, waits_for_all, waits_for_any
-from .erlang_calls import NO_MAIL, Nodes
+from .erlang_calls import NO_MAIL
+from .erlang_nodes import Nodes
 from .erlang_receives import DOWNS
 from .erlang_text import Block
 
