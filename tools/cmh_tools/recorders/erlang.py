@@ -10,6 +10,7 @@ from collections import defaultdict
 from operator import attrgetter
 from typing import Any, DefaultDict, Dict, List, Sequence, Set, Tuple
 
+from ..facts import FREES
 from ..files import Refusal, shown
 from ..moments import APART, PARTS, Reading
 from ..sketch import COMPLETE, LIMIT, REST, RUNS, SYSTEM, Process, Sketch, premise, runs, spoilt, unknown, waits_for_any
@@ -21,8 +22,8 @@ from .erlang_locks import LOCKS, locks_of, wait_of_lock
 from .erlang_mnesia import ENDS as TRANSACTIONS
 from .erlang_mnesia import rows_of, wait_of_transaction
 from .erlang_names import name_all
-from .erlang_receives import DOWNS, count_of, wait_for_reference, wait_for_stop
 from .erlang_nodes import Nodes
+from .erlang_receives import DOWNS, count_of, wait_for_reference, wait_for_stop
 from .erlang_remote import wait_for_remote
 from .erlang_tasks import ENDS, wait_of_task
 from .erlang_text import PID, Block, NodeReading, readings_of
@@ -90,7 +91,7 @@ class ErlangRecorder(Recorder):
         moment.nodes = {(reading.source, f"<{number}"): node for reading in moment.readings
                         if isinstance(reading, NodeReading) for number, node in reading.nodes.items()}
         moment.name = attrgetter("label")
-        moment.answers = []
+        moment.answers, moment.limited = [], {}
         moment.has_tail = defaultdict(list)
         for block in moment.rows():
             for tail in block.tails:
@@ -129,6 +130,9 @@ class ErlangRecorder(Recorder):
                 names = moment.names(filter(None, moment.watched(block)))
                 groups[f"monitored:{moment.name(block)}"].update(dict.fromkeys(names))
         there = {process.name for process in sketch.processes}
+        polling = polling_names(moments)
+        for process in sketch.processes:
+            process.proposal = FREES if process.kind == RUNS and process.name in polling else process.proposal
         sketch.groups = {group: [name for name in names if name in there] for group, names in groups.items()}
         pairs = [pair for moment in moments for pair in moment.answers if there.issuperset(pair)]
         sketch.in_transit = list(dict.fromkeys([*sketch.in_transit, *pairs]))
@@ -136,6 +140,8 @@ class ErlangRecorder(Recorder):
     def wait_of(self, subject: Block, moment: Nodes) -> Process:
         """Returns the process of a block. Who may end it ends any wait of it."""
         made = self.wait_of_block(subject, moment)
+        if premise(LIMIT) in made.because:
+            moment.limited[made.name] = made.frames[-1].split(" (")[0], made.count
         if made.kind != RUNS:
             is_spared = (subject.node, subject.pid) in moment.spared
             made.because += [premise(OUTSIDE), *([premise(RESTARTS)] if is_spared else [])]
@@ -167,6 +173,17 @@ class ErlangRecorder(Recorder):
         ways = wait_of_task, wait_for_remote, wait_of_transaction
         found = next(filter(None, (way(block, moment, more) for way in ways)), None)
         return found or wait_of_function(block, moment, more)
+
+
+def polling_names(moments: List[Nodes]) -> Set[str]:
+    """Returns the names of those that were in another wait with a limit each time, in the function that they began in,
+    and answered no call there."""
+    found = {name for name in (moments[0].limited if moments[1:] else ())
+             if all(name in moment.limited for moment in moments) and "handle_call" not in moments[0].limited[name][0]}
+    for name in list(found):
+        begins, counts = zip(*(moment.limited[name] for moment in moments))
+        found -= {name} if len({*begins}) > 1 or None in counts or len({*counts}) < len(counts) else set()
+    return found
 
 
 def may_have_any(block: Block) -> bool:

@@ -14,7 +14,7 @@ from .erlang_stack import LOCKING, REGISTER, RETRYING, STOPPING, callback_of, lo
 
 HEAD = re.compile(r"(<[\d.]+>) (\S+)$", re.M)
 # The wait of a call has the limit as the first term of its frame.
-CALLS = r"gen_server:call/3|gen_statem:call_dirty/4|'Elixir\.GenServer':call/3|sys:send_system_msg/3"
+CALLS = r"gen_server:call/3|gen_statem:call_dirty/4|gen_event:call1/4|'Elixir\.GenServer':call/3|sys:send_system_msg/3"
 LIMIT = re.compile(
     r"Program counter: \S+ \((?:gen:(?:receive|wait)_response/[23] \+ \d+\)\ny\(0\) +(?P<response>\w+)"
     r"|gen:do_call/4 .*\n(?:y.*\n)*\n\S+ Return addr \S+ "
@@ -22,6 +22,7 @@ LIMIT = re.compile(
 UNREAD = re.compile(r"'\$gen_call',{[^{}]*?#Ref<\d+\.([\d.]+)>")
 REQUEST = re.compile(rf"Return addr \S+ \((?:{CALLS}) \+ \d+\)\ny\(0\).*\ny\(1\) +(.*)\n(?:y\(2\) +(.*))?")
 WITH_A_LIMIT = re.compile(r"\(gen_server:call/2 \+ \d+\)")  # of five seconds
+LIMITED = re.compile(r"^y\(1\) +\d+$", re.M)  # of any other call, as gen:do_call has it
 PID = re.compile(r"<\d+\.\d+\.\d+>")
 STOPS = ("supervisor:", "proc_lib:sync_start", "DynamicSupervisor.")
 ALL_CHILDREN = re.compile(r"\(supervisor:(terminate_children|terminate_dynamic_children|children_map)/\d+ \+ \d+\)"
@@ -104,7 +105,8 @@ class Block:
         self.items.pop("current_stacktrace", None)  # (which is long)
         frames_text = text.partition("Program counter")[2]
         self.counter = frames_text.partition("\n\n")[0]
-        limit, self.has_limit = LIMIT.search(text), WITH_A_LIMIT.search(text) is not None
+        limit, self.has_limit = LIMIT.search(text), any(form.search(part) for form, part in (
+            (WITH_A_LIMIT, text), (LIMITED, self.counter)))
         self.call = call_of(limit, text) if limit else None
         self.lock, self.retrying, self.stopping = (terms_in(form, frames_text)
                                                    for form in (LOCKING, RETRYING, STOPPING))
@@ -230,7 +232,7 @@ class Block:
 
 def call_of(limit: re.Match[str], text: str) -> Call:
     """Returns the call of a process by what LIMIT has found. A call of an event manager has no limit."""
-    function = (limit["call"] or limit["event"] or "gen_server:receive_response").split("/")[0]
+    function = (limit["call"] or limit["event"] or "gen_server:receive_response").split("/")[0].replace("call1", "call")
     request = REQUEST.search(text)
     words = [it or "" for it in request.groups()] if request else ["", ""]
     return shared_call(of_elixir(function).replace(":", "." if "Elixir" in function else ":"),
