@@ -15,13 +15,15 @@ from typing import Any, Dict, List, Optional, Set, Tuple
 
 from ..files import Refusal, shown
 from ..moments import APART, Reading
-from ..sketch import COMPLETE, Process, Sketch, premise, quote, read_json, runs, spoilt, unknown, waits_for_any
+from ..sketch import (COMPLETE, LIMIT, SYSTEM, Process, Sketch, premise, quote, read_json, runs, spoilt, unknown,
+                      waits_for_any)
 from . import State
 from .base import Moment, Premise, Recorder, fits, misfits
+from .rabbitmq_clients import AT, COMPUTES, ELSEWHERE, OPEN, SLEEPING, Activity, Row, activities, ticking_of
 from .rabbitmq_routes import Routes
 
 NEEDED = ("list_connections", "list_channels", "list_consumers", "list_queues", "list_bindings")
-HEADING = re.compile(r"^# rabbitmqctl (\w+).*\n", re.M)
+HEADING = re.compile(r"^# (?:rabbitmqctl (\w+)|(clients)$).*\n", re.M)
 TABLE = [[str, object, object]]  # rows of a name, a type and a value
 ARGUMENTS = (TABLE, re.compile(""))
 CONNECTION = {"pid": str, "client_properties": TABLE}  # one that isn't so has no name
@@ -35,6 +37,7 @@ SHAPES = {
     "list_policies": [{"name": str, "definition?": (str, {str: object})}],
     "eval": ([], {"value": {"statistics": str, "published": [{"channel": str, "queue": str, "number": int}],
                             "taken?": [{"channel": str, "number": int}]}}),
+    "clients": [{"connection": str, "threads": [{"tid": int, "state": str, "call?": str, "at?": str, "count?": int}]}],
 }
 HEARTBEAT = 8  # bytes of the frame, a packet of its own
 READY, MOVES, ROUTED, ACTS, KEEPS, EXPIRES, HANDLES = ("ready", "moves", "routed", "acts", "keeps", "expires",
@@ -56,6 +59,8 @@ class Broker:
 
     def __init__(self, raw: Dict[str, Any]) -> None:
         self.routes = Routes(raw)
+        self.clients: List[Row] = raw["clients"]
+        self.ticking: Dict[int, bool] = {}
         self.warnings: List[str] = []
         self.missing = ""
         self.services: Dict[str, Service] = {}
@@ -95,7 +100,7 @@ class Broker:
             self.warnings.append(f"two connections are called {shown(name)}: what they wait for isn't told apart")
             here.is_double = True
         self.services[key] = self.by_pid[row["pid"]] = here = here or Service(name, self)
-        here.count, here.state = count_of(row), str(row.get("state", ""))
+        here.count, here.state, here.connection = count_of(row), str(row.get("state", "")), row["pid"]
 
     def add_channels(self, rows: List[Dict[str, Any]]) -> None:
         for row in rows:
@@ -124,6 +129,11 @@ class Broker:
     def asked(self) -> Dict[str, Set[str]]:
         """By the name of each that has a message at work, or may have one, from whom that may have come."""
         return {name: self.askers(it) for name, it in self.services.items() if it.is_at_work or not it.acknowledges}
+
+    @functools.cached_property
+    def doing(self) -> Dict[str, Activity]:
+        """What the clients do that run on this machine, by their connections."""
+        return activities(self.clients, self.ticking)
 
     def askers(self, service: Service) -> Set[str]:
         """Returns the names of those from whom a message may have come to a service, also through others."""
@@ -158,7 +168,7 @@ class Service:
         self.is_double, self.acknowledges = False, True
         self.unacknowledged, self.taken = 0, 0  # messages that it has, and those that it got since it connected
         self.count: Optional[str] = None
-        self.state = ""
+        self.state, self.connection = "", ""
 
     def more(self) -> Dict[str, Any]:
         """What tells its wait from the next, and the note."""
@@ -175,6 +185,16 @@ class Service:
     @property
     def is_at_work(self) -> bool:
         return self.unacknowledged > 0
+
+    @functools.cached_property
+    def does(self) -> Activity:
+        """What its client does, if that runs on this machine."""
+        return self.broker.doing.get(self.connection, Activity(OPEN))
+
+    def at_another(self) -> List[str]:
+        """Returns the other service of its process at whose connection its client waits, if it does."""
+        other = self.broker.by_pid.get(self.does.connection)
+        return [process_name(other.name)] if other is not None and other is not self else []
 
     @functools.cached_property
     def may_begin(self) -> bool:
@@ -195,17 +215,30 @@ class Service:
         """The names of those that have published to a queue of which it gets messages."""
         return list(dict.fromkeys(it for queue in self.sources for it in self.broker.senders.get(queue, {})))
 
+    def consumers(self) -> List[str]:
+        """Returns the names of those that consume what it has published."""
+        others = self.broker.services.items()
+        return [name for name, it in others if it is not self and not {*self.sent}.isdisjoint(it.queues)]
+
+    def first_repliers(self) -> List[str]:
+        """Returns the names of those that may be the first to reply to a queue that is known by its name."""
+        return self.consumers() if all(map(self.broker.routes.is_by_name, self.queues)) else []
+
     def may_reply(self) -> List[str]:
         """Returns the names of those that may have a message at work that has come of one of its own: one may reply,
         also directly, at a consumer that the broker doesn't list."""
         return [name for name, askers in self.broker.asked.items() if process_name(self.name) in askers]
 
     def repliers(self, queues: List[str]) -> List[str]:
-        """Returns who may reply in some queues: those that have published there, as far as the broker counts that; or
-        else all others that are at work; or else all others that consume anything."""
+        """Returns who may reply in some queues: the connection at which its client waits; or those that have published
+        there, or whom it has asked, as far as the broker counts that; or else all others that are at work; or else all
+        others that consume anything. Without such queues nobody is known who wasn't asked."""
         known = dict.fromkeys(it for queue in queues for it in self.broker.senders.get(queue, {}))
+        found = self.at_another() or list(known) or [it for it in self.consumers() if it not in self.senders]
+        if found or not queues and self.broker.counts:
+            return found
         others = {name: it for name, it in self.broker.services.items() if it.queues and it is not self}
-        return list(known) or [name for name, it in others.items() if it.is_at_work] or list(others)
+        return [name for name, it in others.items() if it.is_at_work] or list(others)
 
     def by_limit(self) -> List[str]:
         """Returns who stands for the limit of the broker, if that may give it a message. It has none itself."""
@@ -242,7 +275,7 @@ class RabbitmqRecorder(Recorder):
     def read(self, state: State) -> List[Reading]:
         heads = list(HEADING.finditer(state.text))
         ends = [head.start() for head in heads[1:]] + [len(state.text)]
-        lists = [(head[1], "\n" * state.text.count("\n", 0, head.end()) + state.text[head.end():end])
+        lists = [(head[1] or head[2], "\n" * state.text.count("\n", 0, head.end()) + state.text[head.end():end])
                  for head, end in zip(heads, ends)]  # (each in its own lines of the text)
         starts = [at for at, (name, _) in enumerate(lists) if name == NEEDED[0]]
         if not starts:
@@ -250,15 +283,22 @@ class RabbitmqRecorder(Recorder):
         ends = [*starts[1:], len(lists)]
         return [reading_of(state.path, lists[start:end]) for start, end in zip(starts, ends)]
 
+    def begin(self, readings: List[Reading]) -> None:
+        """Sees which threads of clients have come back to the same sleep."""
+        brokers = [it.rows[0].broker for it in readings if it.rows]
+        for broker in brokers:
+            broker.ticking = ticking_of(brokers[0].clients, brokers[-1].clients)
+
     def wait_of(self, subject: Service, moment: Moment) -> Process:
         service, name, more = subject, process_name(subject.name), subject.more()
         if service.is_double:
             return unknown(name, "two connections have this name, so it isn't known which does what", **more)
         if service.state in ("blocked", "blocking"):
             return unknown(name, "the broker blocks it, since its memory or its disk is full", **more)
+        if service.does.is_sure and service.does.kind in (COMPUTES, SLEEPING):
+            return busy(service, name, more)
         if not service.queues:
-            return unknown(name, "it consumes nothing, so the broker can't tell what it waits for", proposal="runs",
-                           **more)
+            return publisher(service, name, more)
         if service.is_at_work:
             return at_work(service, name, more)
         if not service.acknowledges:
@@ -289,16 +329,38 @@ def stand_in(name: str) -> Process:
     return spoilt(name, "it came after the first state")
 
 
+def busy(service: Service, name: str, more: Dict[str, Any]) -> Process:
+    """Returns one whose client, a process of one thread on this machine, sleeps or computes."""
+    if service.does.kind == COMPUTES:
+        return runs(name, "its client computes", [SYSTEM], **more)
+    more.update(operation="timed sleep", count=f"{service.does.switches} switches")
+    return runs(name, "its client sleeps", [premise(LIMIT)], **more)
+
+
+def publisher(service: Service, name: str, more: Dict[str, Any]) -> Process:
+    """Returns one that consumes nothing. Its client may wait at another connection of its own."""
+    other = service.at_another()
+    if other:
+        return unknown(name, f"it consumes nothing, and its client waits at the connection of {other[0]}",
+                       candidates=[*other, COMPLETE], **more)
+    return unknown(name, "it consumes nothing, so the broker can't tell what it waits for", proposal="runs", **more)
+
+
 def at_work(service: Service, name: str, more: Dict[str, Any]) -> Process:
     """Returns one that has a message. If it also reads a queue that is bound by its name alone, it may wait for a reply
-    there: that is another place, for other facts."""
+    there: that is another place, for other facts. So may one whose client waits at a connection."""
     replies = [queue for queue in service.queues if service.broker.routes.is_by_name(queue)]
-    has_replies = 0 < len(replies) < len(service.queues)
-    more.update(operation="reply" if has_replies else "handle", objects=service.places())
-    does = f"may wait for a reply in {shown(replies[0])}" if has_replies else "the broker can't tell what it does"
-    return unknown(name, f"it has a message that isn't acknowledged, and {does}", because=[premise(HANDLES)],
-                   proposal="any" if has_replies else "maybe",
-                   candidates=[*service.repliers(replies), COMPLETE] if has_replies else [], **more)
+    replies, does = replies if len(replies) < len(service.queues) else [], service.does
+    more.update(operation="handle", objects=service.places())
+    why, proposal, found = "the broker can't tell what it does", "maybe", []
+    if does.kind in (COMPUTES, SLEEPING, ELSEWHERE):
+        why, proposal = f"a thread of its client {f'waits in {shown(does.call)}' if does.call else does.kind}", "runs"
+    elif replies or does.kind == AT:
+        found = service.repliers(replies)
+        more["operation"], proposal = "reply", "any" if found else "maybe"
+        why = f"may wait for a reply in {shown(replies[0])}" if replies else "its client waits at a connection"
+    return unknown(name, f"it has a message that isn't acknowledged, and {why}", because=[premise(HANDLES)],
+                   proposal=proposal, candidates=[*found, COMPLETE] if found else [], **more)
 
 
 def wait_of_consumer(service: Service, name: str, more: Dict[str, Any]) -> Process:
@@ -349,7 +411,8 @@ def likely_of(service: Service, name: str) -> Dict[str, bool]:
     broker = service.broker
     likely = {other: False for other, it in broker.services.items() if it.may_begin and it is not service}
     unseen = [] if name in broker.behind_work else [UNSEEN]
-    likely.update(dict.fromkeys([*service.senders, TO_COME, *unseen, *service.by_limit()], True))
+    senders = service.senders or service.first_repliers()
+    likely.update(dict.fromkeys([*senders, TO_COME, *unseen, *service.by_limit()], True))
     return likely
 
 

@@ -1,0 +1,128 @@
+#!/usr/bin/env python3
+"""Reads what the Linux kernel keeps of the clients of a broker that run on this machine: of each thread, whether it
+sleeps, runs, or waits at the socket of its connection. `take-rabbitmq` calls it.
+
+    rabbitmqctl -q list_connections pid peer_host peer_port host port --formatter json | cmh_clients.py
+
+It prints a line for each connection whose client is here and can be read, as a list of JSON. A socket that several
+processes have is left out. Nothing is stopped, no signal is sent, and nothing is written. It needs Python 3.8.
+"""
+from __future__ import annotations
+
+import contextlib
+import json
+import os
+import socket
+import struct
+import sys
+from typing import Dict, Iterable, Iterator, List, Sequence, Tuple
+
+from cmh_linux import EPOLLS, Machine, Row, Sockets, TcpRow, address, inode_of, int32, try_lines
+
+Files = Dict[int, List[int]]  # the processes that have a socket, by its number
+POINTERS = {"ppoll": 2, "select": 4, "pselect6": 4, "epoll_pwait2": 3, "futex": 3, "rt_sigtimedwait": 2}
+NUMBERS = {"poll": 2, **dict.fromkeys(EPOLLS[:2], 3)}  # which argument is a limit in milliseconds, -1 for none
+SLEEPS = ("nanosleep", "clock_nanosleep")
+ITSELF = "itself"
+
+
+def ends_of(row: Row) -> Tuple[str, str]:
+    """Returns the client's end of a connection, and the broker's, as the kernel's are written."""
+    return f"{host_of(row['peer_host'])}:{row['peer_port']}", f"{host_of(row['host'])}:{row['port']}"
+
+
+def host_of(numbers: Sequence[int]) -> str:
+    """Returns an address, given as four bytes, or as eight numbers. One of IPv4 within IPv6 is that of IPv4."""
+    if len(numbers) == 4:
+        return ".".join(map(str, numbers))
+    data = struct.pack(">8H", *numbers)
+    is_mapped = data[:12] == bytes(10) + b"\xff\xff"
+    return ".".join(map(str, data[12:])) if is_mapped else f"[{socket.inet_ntop(socket.AF_INET6, data)}]"
+
+
+def sockets_here() -> Dict[Tuple[str, str], int]:
+    """Returns the numbers of the sockets of this machine, by their two ends."""
+    rows = [TcpRow(line) for name in ("tcp", "tcp6") for line in try_lines(f"/proc/self/net/{name}")[1:]]
+    return {(address(row.at), address(row.to)): row.inode for row in rows if row.inode}
+
+
+def files_of(numbers: Iterable[int]) -> Files:
+    """Returns which processes have some sockets, as far as this user may see that."""
+    found: Files = {number: [] for number in numbers}
+    for pid in filter(str.isdigit, os.listdir("/proc")):
+        with contextlib.suppress(OSError):
+            for number in {inode_of(it) for it in links_of(f"/proc/{pid}/fd")}.intersection(found):
+                found[number].append(int(pid))
+    return found
+
+
+def links_of(folder: str) -> Iterator[str]:
+    for name in os.listdir(folder):
+        with contextlib.suppress(FileNotFoundError):
+            yield os.readlink(f"{folder}/{name}")
+
+
+def has_limit(call: str, args: Sequence[int]) -> bool:
+    """Whether a wait ends by itself."""
+    if call in NUMBERS:
+        return int32(args[NUMBERS[call]]) >= 0
+    return call in SLEEPS or call in POINTERS and args[POINTERS[call]] != 0
+
+
+class Process:
+    """A client's process, as it is read."""
+
+    def __init__(self, row: Row, sockets: Sockets) -> None:
+        self.row, self.sockets = row, sockets
+        self.own = {inode_of(it[0]) for it in row["fds"].values()} - {0}
+
+    def thread(self, thread: Row, connections: Dict[int, str]) -> Row:
+        """Returns what a thread does: its call, whether that has a limit, and at what it waits."""
+        found = {key: thread[key] for key in ("tid", "state", "call") if key in thread}
+        if "args" in thread:
+            found["limit"] = has_limit(thread["call"], [int(it, 16) for it in thread["args"]])
+            found["at"] = self.place(thread, connections)
+            found["count"] = thread["counts"][0]
+        return found
+
+    def place(self, thread: Row, connections: Dict[int, str]) -> str:
+        """Returns at what a thread waits: a connection, what only its own process ends, or nothing for what else there
+        is."""
+        files = [self.row["fds"].get(str(fd), [""]) for fd, *_ in thread.get("set", ())]
+        found = [connections[inode_of(it[0])] for it in files if inode_of(it[0]) in connections]
+        others = [it for it in files if inode_of(it[0]) not in connections]
+        is_own = thread["call"] == "futex" or bool(files) and all(map(self.is_own, others))
+        return "" if not is_own or found[1:] else found[0] if found else ITSELF
+
+    def is_own(self, it: Sequence[str]) -> bool:
+        """Whether the other end of a file is of the process itself, as that by which it wakes itself."""
+        peers = self.sockets.rows.get(inode_of(it[0]), {}).get("peers", ())
+        return it[0] == "anon_inode:[eventfd]" or bool(peers) and self.own.issuperset(peers)
+
+
+def clients(rows: List[Row]) -> Iterator[Row]:
+    """Yields what is known of the clients of some connections."""
+    here = sockets_here()
+    connections = {here[ends_of(row)]: row["pid"] for row in rows if ends_of(row) in here}
+    owners = {number: pids[0] for number, pids in files_of(connections).items() if len(pids) == 1}
+    machine = Machine()
+    found: Dict[int, Row] = {}
+    for pid in {*owners.values()}:
+        with contextlib.suppress(OSError):
+            found[pid] = machine.process(pid) or {}
+    found = {pid: row for pid, row in found.items() if "threads" in row and "unreadable" not in row}
+    sockets = Sockets([*found.values()])
+    for number, pid in owners.items():
+        if pid in found:
+            it = Process(found[pid], sockets)
+            yield {"connection": connections[number], "process": pid,
+                   "threads": [it.thread(thread, connections) for thread in it.row["threads"]]}
+
+
+def main() -> int:
+    print(json.dumps([*clients(json.load(sys.stdin))]).replace("}, {\"connection", "}\n,{\"connection"))
+    return 0
+
+
+if __name__ == "__main__":
+    sys.exit(main())

@@ -1,0 +1,61 @@
+"""What the clients of a RabbitMQ broker do that run on its machine, by what the kernel shows of their threads.
+
+A process with one thread does one thing at a time: it sleeps or computes, or it waits at a connection, which may be
+another one of its own, or for something else. Of one with several threads that isn't known, but likely.
+"""
+from __future__ import annotations
+
+from typing import Any, Dict, List, NamedTuple
+
+Row = Dict[str, Any]
+
+SLEEPS = ("nanosleep", "clock_nanosleep")
+ITSELF = "itself"  # at what only its own process ends, as a mutex
+COMPUTES, SLEEPING, AT, ELSEWHERE, OPEN = "computes", "sleeps", "at a connection", "elsewhere", "open"
+
+
+class Activity(NamedTuple):
+    """What a client does: the connection at which it waits, if it does, whether that is known by its only thread, and
+    what counts how often it has slept."""
+
+    kind: str
+    connection: str = ""
+    is_sure: bool = False
+    switches: str = ""
+    call: str = ""
+
+
+def activities(rows: List[Row], ticking: Dict[int, bool]) -> Dict[str, Activity]:
+    """Returns what clients do, by their connections. `ticking` has the threads that come back to the same sleep."""
+    return {row["connection"]: activity_of(row["threads"], ticking) for row in rows}
+
+
+def activity_of(threads: List[Row], ticking: Dict[int, bool]) -> Activity:
+    living = [it for it in threads if it["state"] not in "ZX"]
+    if len(living) == 1:
+        return single(living[0])._replace(is_sure=True)
+    rest = [single(it) for it in living if it["tid"] not in ticking and it.get("at") != ITSELF]
+    kinds = {it.kind for it in rest}
+    first = next((kind for kind in (COMPUTES, ELSEWHERE, SLEEPING, OPEN) if kind in kinds), "")
+    if first or not rest:
+        return Activity(first or OPEN)
+    return rest[0] if len({it.connection for it in rest}) == 1 else Activity(OPEN)
+
+
+def single(thread: Row) -> Activity:
+    """Returns what a thread does."""
+    call = thread.get("call", "")
+    if thread["state"] == "R" or call == "running":
+        return Activity(COMPUTES)
+    if call in SLEEPS:
+        return Activity(SLEEPING, switches=str(thread.get("count")))
+    if thread.get("at", ITSELF) not in ("", ITSELF):
+        return Activity(AT, thread["at"])
+    return Activity(ELSEWHERE if thread["state"] in "SD" and call else OPEN, call=call)
+
+
+def ticking_of(first: List[Row], later: List[Row]) -> Dict[int, bool]:
+    """Returns the threads that have come back to the same sleep between two states, as heartbeats do."""
+    counts = {it["tid"]: it.get("count") for row in later for it in row["threads"] if it.get("call") in SLEEPS}
+    return {it["tid"]: True for row in first for it in row["threads"]
+            if it.get("call") in SLEEPS and counts.get(it["tid"], it.get("count")) != it.get("count")}
