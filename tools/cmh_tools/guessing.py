@@ -17,6 +17,7 @@ from .sketch import ANY, COMPLETE, ENDED, REST, RUNS, UNKNOWN, Process, Sketch, 
 from .stuck import Waits
 
 WAITS = ("any", "all", "holds")  # proposals for one that waits, for whomever
+OUTSIDE = "outside"  # the proposal for one that goes on by the outside, and is likely to end nobody's wait
 OPEN = f" {COMPLETE}"  # the end of a line that isn't whole
 ACCEPTS = re.compile(r"(.*[.:])?(accept\d?|serve_forever)(/\d+)?")
 
@@ -39,20 +40,23 @@ def take(sketch: Sketch, facts: Facts) -> None:
     passed_over = {it.name for it in sketch.processes if it.is_idle or is_spoken_of(it, facts)}
     at_rest = receivers(sketch, passed_over)
     trial = replace(sketch, processes=[it.copy() for it in sketch.processes], facts=[*sketch.facts])
-    apply_to(trial, facts, passed_over, at_rest)
+    spared = apply_to(trial, facts, passed_over, at_rest)
     idle = {it.name for it in trial.processes if it.is_idle}
     if at_rest and idle.issuperset(stuck_names(trial)):
         reading = {it.name for it in sketch.processes if READS.fullmatch(it.operation)}
         apply_to(sketch, facts, passed_over, [name for name in at_rest if name in reading])
     else:
         sketch.processes, sketch.facts = trial.processes, trial.facts
+        feed(sketch, facts, spared)
     count_anew(sketch)
 
 
-def apply_to(sketch: Sketch, facts: Facts, passed_over: Set[str], at_rest: List[str]) -> None:
-    """Has guesses decide who is unknown. Of those who are at rest it is guessed that they end nobody's wait."""
+def apply_to(sketch: Sketch, facts: Facts, passed_over: Set[str], at_rest: List[str]) -> Dict[str, Fact]:
+    """Has guesses decide who is unknown. Of those who are at rest it is guessed that they end nobody's wait. Returns
+    the guesses of all who end nobody's."""
     asked = [*filled_in(sketch, passed_over)]
-    accepting = [it for it in sketch.processes if it.kind == UNKNOWN and it.name not in passed_over and is_acceptor(it)]
+    accepting = [it for it in sketch.processes if it.kind == UNKNOWN and it.name not in passed_over
+                 and (is_acceptor(it) or it.proposal == OUTSIDE)]
     asked += [(f"{place_words(*place)} -> runs", names) for place, names in places_of(accepting).items()]
     asked += ended_by_others(sketch, passed_over.union(at_rest, (name for _, names in asked for name in names)))
     bystanders = [*likely_bystanders(sketch, accepting)]
@@ -63,6 +67,15 @@ def apply_to(sketch: Sketch, facts: Facts, passed_over: Set[str], at_rest: List[
     apply_guesses(replace(facts, guesses=found, spared=spared), sketch)
     spare(sketch, spared, known)
     doubt_lone_ones(sketch)
+    return spared
+
+
+def feed(sketch: Sketch, facts: Facts, spared: Dict[str, Fact]) -> None:
+    """Guesses of those at rest that the others end their waits, if these are likely to feed them."""
+    fed = [it for it in sketch.processes if it.kind == UNKNOWN and it.is_fed and it.name in spared]
+    lines = [(f"{place_words(*place)} -> any {OTHERS}", names) for place, names in places_of(fed).items()]
+    if lines and stuck_names(sketch):
+        apply_guesses(replace(facts, guesses=facts_of(lines, last_number(sketch) + 1), spared=spared), sketch)
 
 
 def spare(sketch: Sketch, spared: Dict[str, Fact], known: Set[str]) -> None:
