@@ -18,10 +18,12 @@ from typing import DefaultDict, Dict, Iterable, List, Optional, Set, Tuple
 
 from ..files import Refusal
 from ..moments import APART, CUT, ONCE, Reading
-from ..sketch import COMPLETE, LIMIT, SYSTEM, UNKNOWN, Process, Sketch, premise, runs, spoilt, unknown, waits_for_any
+from ..sketch import (COMPLETE, LIMIT, RUNS, SYSTEM, UNKNOWN, Process, Sketch, premise, runs, spoilt, unknown,
+                      waits_for_any)
 from . import State
 from .base import Moment, Premise, Recorder
 from .go_frames import NEEDS_ALL, Place, entry_of, is_at_another, is_jobs, is_of_runtime, takes_state
+from .go_likely import Likely
 from .go_starters import MAIN, UNSEEN, Starters, unseen_starter
 from .go_text import ADDRESS, TAKER, Dump, Goroutine, read_dumps
 
@@ -51,6 +53,7 @@ class Goroutines(Moment):
     starters: Dict[str, List[str]]
     seen: DefaultDict[str, List[str]]
     is_stopped: bool
+    likely: Likely
 
     def lists(self) -> Iterable[List[str]]:
         """The lists of those who may start more, each once."""
@@ -110,6 +113,7 @@ class GoRecorder(Recorder):
         moment.places = {it.number: Place(it) for it in moment.rows()}
         moment.seen = defaultdict(list)
         moment.is_stopped = not any(it.is_elsewhere for it in moment.rows())
+        moment.likely = Likely(moment.rows())
         starters = Starters(moment.rows(), moment.places, self.names)
         moment.starters = {self.names[it.number]: starters.of(it) for it in moment.rows()}
         for it in moment.rows():
@@ -125,9 +129,7 @@ class GoRecorder(Recorder):
         place = moment.places[goroutine.number]
         process = self.wait_at(goroutine, place, name, moment)
         process.site, process.proposal = SITE, "all" if place.operation in NEEDS_ALL else "any"
-        is_sleeping_main = goroutine.number == MAIN and process.operation == "timed sleep"
-        if is_sleeping_main or any(it.function == TAKER for it in goroutine.frames):
-            process.proposal = "frees"
+        self.guess_of(process, goroutine, place, moment)
         process.frames, process.operation = place.frames, process.operation or place.operation
         process.meeting = next(iter(place.objects), name) if place.operation in NEEDS_ALL else ""
         process.objects = [*place.objects, *self.values(goroutine), *filter(None, [self.again.get(id(goroutine))])]
@@ -139,6 +141,17 @@ class GoRecorder(Recorder):
         if process.kind == UNKNOWN and (goroutine.state in OF_THE_SYSTEM or not moment.is_stopped):
             process.moment = APART
         return process
+
+    def guess_of(self, process: Process, goroutine: Goroutine, place: Place, moment: Goroutines) -> None:
+        """Says what is likely of one whose wait no text shows, or who runs: whether it is fed by others, goes on by the
+        outside, or frees nobody."""
+        is_sleeping_main = goroutine.number == MAIN and process.operation == "timed sleep"
+        is_lone = is_sleeping_main or any(it.function == TAKER for it in goroutine.frames)
+        if process.kind == UNKNOWN:
+            process.proposal = moment.likely.proposal(goroutine, place) or process.proposal
+            process.is_fed = moment.likely.is_fed(goroutine, place)
+        elif is_lone or process.kind == RUNS and moment.likely.is_timed(goroutine):
+            process.proposal = "frees"
 
     def values(self, goroutine: Goroutine) -> List[str]:
         """What facts may name of a goroutine, the same in all states."""
@@ -174,6 +187,9 @@ class GoRecorder(Recorder):
         nothing of which of its channels a wait is at."""
         if place.operation in NEEDS_ALL and goroutine.number in self.parents:
             return ["children"]
+        started = moment.likely.children(goroutine, place)
+        if started:
+            return [*map(self.names.__getitem__, started), COMPLETE]
         if sum(len(moment.seen[address]) for address in place.objects) > MOST:
             return []
         found = dict.fromkeys(name for address in place.objects for name in moment.seen[address])

@@ -1,0 +1,107 @@
+"""What is likely of a Go program's goroutines, where its text doesn't show the other ends of waits: for guesses."""
+from __future__ import annotations
+
+import re
+from collections import defaultdict
+from typing import DefaultDict, List, Pattern, Set
+
+from .go_frames import NEEDS_ALL, Place, is_own
+from .go_starters import MAIN
+from .go_text import TAKER, Goroutine
+
+# Words of functions that go on by a timer or a signal, and free nobody, and how words begin of those that take from a
+# channel what others there give.
+TIMED = re.compile(
+    "heart|(?:heart)?beats?|tick(?:s|er|ing)?|pulse|metrics?|stats|statistics|telemetry|report(?:s|er|ing)?|uptime|cron"
+    "|monitor(?:s|ing)?|watchdog|janitor|sweep(?:s|er)?|reap(?:s|er)?|evict(?:s|or|ion)?|clean(?:s|er|up)?|health|alive"
+    "|refresh(?:es|er)?|reload(?:s|er)?|signals?|sighup|ping(?:s|er)?|keepalive|probes?")
+TAKES = re.compile(
+    "(?:consum|collect|receiv|recv|drain|work|process|handl|sink|aggregat|merg|join|a?wait|pump|dispatch|deliver|writ"
+    "|print|read|client|customer|subscri|listen|watch|ship|pick|pack|stor|sav|persist|index|pars|transform|encod|decod"
+    "|send|notif|mail|publish|upload|download|fetch|assembl|bill|sort|render)[a-z]*")
+WORD = re.compile(r"[A-Z]+(?![a-z])|[A-Z]?[a-z]+")
+CLOSURE = re.compile(r"func\d+|\d+|gowrap\d+")
+SLEEP, SHORT = "time.Sleep", 60 * 10 ** 9  # nanoseconds: a heartbeat sleeps no longer
+BY_TIMERS = ("chan receive", "select", "sleep")
+BY_SYSTEM = ("IO wait", "syscall")
+BLOCKED = ("chan send", "semacquire", "sync.Mutex.Lock", "sync.RWMutex.Lock", "sync.RWMutex.RLock")
+ACCEPTS = ("net.(*TCPListener).Accept", "net.(*UnixListener).Accept")
+SIGNALS, SERVES = "os/signal.signal_recv", ("net/http.(*conn).serve", "google.golang.org/grpc.(*Server).handleStream")
+
+
+class Likely:
+    """What is likely of the goroutines of a state. `standing` has by each function the numbers of those that stand in
+    it, and `minutes` is how long somebody has waited who isn't at its next message."""
+
+    def __init__(self, goroutines: List[Goroutine]) -> None:
+        self.rows, self.has_signals, self.has_handlers = goroutines, False, False
+        self.minutes = max((it.minutes for it in goroutines if it.state in BLOCKED and it.number != MAIN), default=0)
+        self.standing: DefaultDict[str, Set[str]] = defaultdict(set)
+        for it in goroutines:
+            functions = {frame.function for frame in it.frames}
+            is_server = it.number == MAIN and not functions.isdisjoint(ACCEPTS)
+            self.has_handlers = self.has_handlers or is_server or is_handler(it) and TAKER not in functions
+            self.has_signals = self.has_signals or SIGNALS in functions
+            for function in functions:
+                self.standing[function].add(it.number)
+
+    def is_timed(self, goroutine: Goroutine) -> bool:
+        """Whether a goroutine is likely to be one that only wakes now and then, as a heartbeat: by the name of its
+        function, or since it sleeps for a short time where it was started, or has come back there while others have
+        waited for minutes."""
+        own = [it.function for it in goroutine.frames if is_own(it)]
+        if goroutine.state not in BY_TIMERS or not own:
+            return False
+        is_short = 0 < sleep_of(goroutine) <= SHORT or goroutine.minutes == 0 and self.minutes > 1
+        return has_word(own[0], TIMED) or len(own) == 1 and is_short
+
+    def proposal(self, goroutine: Goroutine, place: Place) -> str:
+        """Returns what to propose of one whose wait isn't known, if it goes on by a timer, a signal or the outside."""
+        is_main_at_signals = goroutine.number == MAIN and goroutine.state in BY_TIMERS[:2] and self.has_signals
+        if self.is_timed(goroutine) or is_main_at_signals and len(place.frames) == 1:
+            return "outside"
+        if goroutine.state in BY_SYSTEM:
+            return "runs" if len(place.frames) > 1 else "outside"
+        return ""
+
+    def is_fed(self, goroutine: Goroutine, place: Place) -> bool:
+        """Whether one that waits for its next message is likely to get it from those that are there: one whose
+        creator's function others stand in, or that answers a request, or one that was given what it waits at, where no
+        requests from outside are served."""
+        if goroutine.state != "chan receive" or self.is_timed(goroutine):
+            return False
+        if is_handler(goroutine):
+            return True
+        by_creator = self.standing[goroutine.created_by] - {MAIN, goroutine.number}
+        last = next((it for it in reversed(goroutine.frames) if is_own(it)), goroutine.creator)
+        is_given = last.arguments != "" or has_word(place.function, TAKES)
+        return bool(by_creator) or is_given and not self.has_handlers
+
+    def children(self, goroutine: Goroutine, place: Place) -> List[str]:
+        """Returns the numbers of those whom one that waits for all of some has likely started, where the text doesn't
+        say which goroutine has started whom: those that its function has started, if it alone stands there."""
+        if goroutine.state != "semacquire" or place.operation not in NEEDS_ALL or place.operation.endswith("Lock"):
+            return []
+        own = [it.function for it in goroutine.frames if is_own(it)]
+        for function in own:
+            found = [it.number for it in self.rows if it.created_by == function and not it.parent]
+            if found:
+                return found if len(self.standing[function]) == 1 else []
+        return []
+
+
+def is_handler(goroutine: Goroutine) -> bool:
+    """Whether a goroutine answers a request by code of the job."""
+    return any(it.function in SERVES for it in goroutine.frames) and any(map(is_own, goroutine.frames))
+
+
+def has_word(function: str, pattern: Pattern[str]) -> bool:
+    """Whether a word of the name of a function is like a pattern. That of a closure is of the function around it."""
+    parts = [it for it in function.split("/")[-1].split(".")[1:] if not CLOSURE.fullmatch(it)]
+    return any(pattern.fullmatch(word.lower()) for word in WORD.findall(parts[-1] if parts else ""))
+
+
+def sleep_of(goroutine: Goroutine) -> int:
+    """Returns for how many nanoseconds a goroutine sleeps, if the text has it for certain, or else 0."""
+    found = next((it.arguments for it in goroutine.frames if it.function == SLEEP), "")
+    return int(found, 16) if re.fullmatch(r"0x[0-9a-f]+", found) else 0
