@@ -220,6 +220,13 @@ class Service:
         others = self.broker.services.items()
         return [name for name, it in others if it is not self and not {*self.sent}.isdisjoint(it.queues)]
 
+    def has_asked(self, name: str) -> bool:
+        """Whether one who consumes what it has published may have a question of it: a message is there that is ready or
+        at work."""
+        routes = self.broker.routes
+        return any(routes.ready.get(queue) or routes.taken.get(queue) for queue in self.broker.services[name].queues
+                   if queue in self.sent)
+
     def first_repliers(self) -> List[str]:
         """Returns the names of those that may be the first to reply to a queue that is known by its name."""
         return self.consumers() if all(map(self.broker.routes.is_by_name, self.queues)) else []
@@ -231,10 +238,10 @@ class Service:
 
     def repliers(self, queues: List[str]) -> List[str]:
         """Returns who may reply in some queues: the connection at which its client waits; or those that have published
-        there, or whom it has asked, as far as the broker counts that; or else all others that are at work; or else all
+        there, or that may have a question of it, as far as the broker counts that; or else all others that are at work; or else all
         others that consume anything. Without such queues nobody is known who wasn't asked."""
         known = dict.fromkeys(it for queue in queues for it in self.broker.senders.get(queue, {}))
-        found = self.at_another() or list(known) or [it for it in self.consumers() if it not in self.senders]
+        found = self.at_another() or list(known) or [it for it in self.consumers() if self.has_asked(it)]
         if found or not queues and self.broker.counts:
             return found
         others = {name: it for name, it in self.broker.services.items() if it.queues and it is not self}
