@@ -4,7 +4,7 @@ from __future__ import annotations
 import re
 from typing import Container, Dict, Iterable, List, Optional, Set, Tuple
 
-from .facts import HOLDS, OTHERS, RELATIVES, Fact, Facts, families, fill_in
+from .facts import HOLDS, OTHERS, RELATIVES, Fact, Facts, families, fill_in, has_others, is_others
 from .files import shown
 from .idle import has_fact
 from .moments import GROWN, POLLED
@@ -70,7 +70,7 @@ class Names:
         found: Dict[str, None] = {}
         for key, word in zip(fact.words, words):
             names = dict.fromkeys(self.of_word(word))
-            if word != OTHERS:  # (they may be many, and the word says who they are)
+            if not is_others(word):  # (they may be many, and the word says who they are)
                 fact.took.setdefault(key, {}).update(names)
             if not names and not fact.or_nobody:
                 return [], f"{self.facts.path}:{fact.at}: {self.lack(fact, key, word)}"
@@ -109,13 +109,15 @@ class Names:
             return self.others
         if VARIABLE.search(word):  # (it has no value, and stands for no text)
             return []
+        if is_others(word):
+            return [name for name in self.others if name.startswith(f"{word[len(OTHERS) + 1:]}/")]
         if ":" in word and any(group.startswith(f"{word.split(':')[0]}:") for group in self.groups):
             return [name for group, names in self.groups.items() if is_like(word, group) for name in names]
         return [name for name in self.names if is_like(word, name)] if SPECIAL.search(word) else []
 
     def is_open(self, fact: Fact, process: Process) -> bool:
         """Whether one who isn't in the state may belong to the list that a fact gives a process."""
-        return any(name not in self.names and name != OTHERS for name in self.words(fact, process))
+        return any(name not in self.names and not is_others(name) for name in self.words(fact, process))
 
 
 class Application:
@@ -205,7 +207,7 @@ class Application:
         """Sets whom one waits for by a fact. One that only waits again may have been sent what it will see next time:
         no count tells, but the line `still`."""
         whom, fault = ([], "") if fact.kind == "nobody" else self.names.of_fact(fact, process)
-        if not fault and whom == [process.name] and OTHERS in fact.words and self.facts.spared:
+        if not fault and whom == [process.name] and has_others(fact.words) and (self.facts.spared or process.scope):
             fault = "nobody else is there but those who are likely to end nobody's wait"
         if not fault and fact.kind == "all" and not process.is_collective and len(self.meetings.get(fact.at, ())) > 1:
             fault = (f"line {fact.at} of the facts names one list for several that may wait at different objects: 'of "
@@ -217,7 +219,7 @@ class Application:
                 process.become_unknown(fault)
             return
         process.because = [] if was_timed else process.because
-        for spared in self.facts.spared.values() if OTHERS in fact.words else ():
+        for spared in self.facts.spared.values() if has_others(fact.words) else ():
             spared.used = True
             spared.decided.append(process.name)
             because.append(self.facts.reason(spared))

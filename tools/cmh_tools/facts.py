@@ -99,7 +99,8 @@ class Fact:
         """Returns the values of all variables for a process at its place."""
         arguments = dict(it.split("=", 1) for it in process.objects if "=" in it)
         found = self.place.values(process, self.kind == HOLDS) or {}
-        return {"self": process.name, **arguments, **found}
+        scope = {"process": process.scope} if process.scope else {}
+        return {"self": process.name, **scope, **arguments, **found}
 
     def has_variables(self) -> bool:
         """Whether its names may be others for each one that waits."""
@@ -118,6 +119,15 @@ class Fact:
 def is_variable(word: str) -> bool:
     """Whether a word may name others for each one that waits."""
     return word in RELATIVES or VARIABLE.search(word) is not None
+
+
+def is_others(word: str) -> bool:
+    """Whether a word stands for all others, or for those of one process of the system: others:PROCESS."""
+    return word.split(":")[0] == OTHERS
+
+
+def has_others(words: Iterable[str]) -> bool:
+    return any(map(is_others, words))
 
 
 def fill_in(word: str, values: Values) -> str:
@@ -176,7 +186,7 @@ class Facts:
 
     def first(self, kinds: Tuple[str, ...], process: Process) -> Optional[Fact]:
         for fact in self.at_frame(process.frames[0] if process.frames else ""):
-            is_meant = process.is_there() or OTHERS not in fact.words
+            is_meant = process.is_there() or not has_others(fact.words)
             if is_meant and fact.kind in kinds and fact.place.values(process) is not None:
                 fact.used = True
                 return fact

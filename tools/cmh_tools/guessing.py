@@ -18,6 +18,7 @@ from .stuck import Waits
 
 WAITS = ("any", "all", "holds")  # proposals for one that waits, for whomever
 OUTSIDE = "outside"  # the proposal for one that goes on by the outside, and is likely to end nobody's wait
+OF_PROCESS = f"{OTHERS}:{{process}}"  # the others of its own scope
 OPEN = f" {COMPLETE}"  # the end of a line that isn't whole
 ACCEPTS = re.compile(r"(.*[.:])?(accept\d?|serve_forever)(/\d+)?")
 
@@ -148,8 +149,9 @@ def ended_by_others(sketch: Sketch, passed_over: Set[str]) -> Iterator[Line]:
     """Yields a line for each other wait: any of those who are there ends it. One that may not wait at all has none."""
     some = [it for it in sketch.processes if it.kind == UNKNOWN and it.name not in passed_over and it.frames
             and it.proposal in WAITS]
-    for place, names in places_of(some).items():
-        yield f"{place_words(*place)} -> any {OTHERS}", names
+    for word, those in ((OTHERS, [it for it in some if not it.scope]), (OF_PROCESS, [it for it in some if it.scope])):
+        for place, names in places_of(those).items():
+            yield f"{place_words(*place)} -> any {word}", names
 
 
 def places_of(processes: Iterable[Process]) -> Dict[Tuple[str, str], List[str]]:

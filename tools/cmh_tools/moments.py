@@ -169,7 +169,8 @@ def runner_of(process: Process, later: Process) -> Process:
 def ticks(process: Process, later: Process) -> bool:
     """Whether one has come back to a wait with a limit, as a heartbeat does."""
     counts = process.count, later.count
-    return premise(LIMIT) in process.because and None not in counts and counts[0] != counts[1]
+    may_end_some = "none" in (process.proposal, later.proposal)
+    return premise(LIMIT) in process.because and None not in counts and counts[0] != counts[1] and not may_end_some
 
 
 def is_placed_runner(process: Process) -> bool:

@@ -24,7 +24,8 @@ LEFT_OUT = f"{REST} -> runs"
 HAS_ENDED = " -> ended"
 FORMS = ("# any: one of them is enough; all: each has to come; a guess: leave out who can't end the wait",
          "# -> runs: a timer, a user or the outside ends it; -> nobody: nothing does")
-ASKED = ("any", "all", "runs", "outside", "maybe")  # proposals that are lines on the place of one
+ASKED = ("any", "all", "runs", "outside", "nobody", "maybe")  # proposals that are lines on the place of one
+ALONE = {"runs": "runs", "outside": "runs", "nobody": "nobody"}  # words of facts without names
 FEW, MOST = 50, 20  # kinds of waits at one place whose names are compared, and words in a guess
 
 
@@ -141,8 +142,8 @@ def line_of(some: List[Process], words: Sequence[str], mark: Sequence[str] = ())
     of = ["of", word_of(one.name)] if one.is_idle and not mark else []
     operation = [word_of(one.operation)] if one.operation else []
     guess = words or [COMPLETE]
-    proposal = {"all": "all", "runs": "runs", "outside": "runs"}.get(one.proposal, "any")
-    fact = [proposal] if proposal == "runs" else [proposal, *map(word_of, guess)]
+    proposal = ALONE.get(one.proposal) or ("all" if one.proposal == "all" else "any")
+    fact = [proposal] if one.proposal in ALONE else [proposal, *map(word_of, guess)]
     return " ".join([word_of(place_name(one)), *mark, *of, *operation, "->", *fact])
 
 

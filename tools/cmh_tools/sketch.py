@@ -43,10 +43,10 @@ NUMBERED = re.compile(rf"{GUESS} (\d+)")
 LIMIT = "limit"  # the premise that a wait with a limit ends
 INNER = "inner"  # the premise that threads of a runtime, such as one that finalizes, end nobody's wait
 MANY = 65_536  # names in all lists; with more, equal lists are one
-TEXTS = ("site", "note", "operation", "thread")
+TEXTS = ("site", "note", "operation", "thread", "scope")
 LISTS = ("frames", "objects", "because", "besides", "candidates", "spared")
 FLAGS = {"idle": "is_idle", "stays": "stays", "spoilt": "is_spoilt"}
-PROPOSALS = ("any", "all", "holds", "still", "ended", "runs", "outside", "maybe", "frees", "none")
+PROPOSALS = ("any", "all", "holds", "still", "ended", "runs", "outside", "nobody", "maybe", "frees", "none")
 KEYS = {"name", *KINDS, *TEXTS, *LISTS, *FLAGS, "count", "proposal"}
 TOP_KEYS = {"processes", "lists", "in_transit", "system", "as_of", "warnings", "premises", "facts", "readings",
             "machine", "times", "idle", "readers", "inner"}
@@ -66,10 +66,10 @@ class Process:
     what the system counts (reductions, context switches), as text. Two states show the same wait if these four are the
     same. `proposal` is the fact that people are asked for where it is unknown: 'any', 'all' of an operation that needs
     all, 'holds' if nobody is known to hold what ends it, 'still' if only a count of its waits is missing, 'ended' of
-    one that stands for others who may not be there, 'runs' of one that is likely to go on by itself, 'outside' of
-    one that does so by a timer or the outside and is likely to end nobody's wait, 'maybe' of one that may not wait at
-    all, so that nothing is guessed, or 'none'. Of one that runs 'frees' says that it is likely to
-    end nobody's wait.
+    one that stands for others who may not be there, 'runs' of one that is likely to go on by itself, 'outside' of one
+    that is likely to wait for the outside, as to be stopped, and to end nobody's wait, 'nobody' if nobody is likely to
+    end its wait, 'maybe' of one that may not wait at all, so that nothing is guessed, or 'none'. Of one that runs
+    'frees' says that it is likely to end nobody's wait, and 'none' that it may end some.
     `candidates` are words of facts that the state suggests for it: names, groups, or of 'holds' what is to be held.
     `ends` is of one that facts on who holds what may decide: what may end its wait, by name, each with a regular
     expression for what is held. Each of them needs a holder, since one without may be anybody's: then it waits for any
@@ -88,6 +88,8 @@ class Process:
     state isn't understood. `thread` is the thread of the kernel that it is all the time, as PID/TID. `choice` says of
     one that waits for one of its list, or for all of it, why that isn't known, and who may end its wait besides.
     `is_fed` says of one that waits for its next message that this is likely to come from those who are there.
+    `scope` is the beginning of the names of those who alone can end its wait, if that is known, as of the threads of
+    one process of the system: what stands before the '/'.
     """
 
     name: str
@@ -117,6 +119,7 @@ class Process:
     starters: Dict[str, List[str]] = field(default_factory=dict)
     likely: Dict[str, bool] = field(default_factory=dict)
     thread: str = ""
+    scope: str = ""
     choice: Optional[Tuple[str, List[str]]] = None
     is_fed: bool = False
 
