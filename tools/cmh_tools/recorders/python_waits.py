@@ -270,7 +270,21 @@ def resolve_all(standing: Standing, values: List[Any], is_any: bool = False) -> 
     if is_any or len(left) == 1:
         made = Wait(ANY if is_any else left[0].kind, whom, **more)
         return made if is_any_safe(left, is_any) else None
-    return Wait(ALL, whom, **more) if all(wait.kind == ALL or len(wait.whom) == 1 for wait in left) else None
+    return all_of(left, more)
+
+
+def all_of(waits: List[Wait], more: Dict[str, Any]) -> Optional[Wait]:
+    """The wait for all of these, if it can be written as one list. One for any of several adds nothing to one for some
+    of these alone, as for the work that the threads of one pool keep, and for that which one of them has begun."""
+    needed = {name for wait in waits if wait.kind == ALL or len(wait.whom) == 1 for name in wait.whom}
+    wide = [set(wait.whom) for wait in waits if wait.kind == ANY and len(wait.whom) > 1]
+    wide = [some for some in wide if not some & needed]
+    if not wide:
+        whom = dict.fromkeys(name for wait in waits for name in wait.whom if name in needed)
+        return Wait(ALL, list(whom), **more)
+    least = min(wide, key=len)
+    is_one = not needed and all(some >= least for some in wide)
+    return Wait(ANY, [name for name in dict.fromkeys(waits[0].whom) if name in least], **more) if is_one else None
 
 
 def is_any_safe(waits: List[Wait], is_any: bool) -> bool:
