@@ -1477,6 +1477,23 @@ def timed(loop):
     return found
 
 
+def completed_in(coroutine):
+    """What the as_completed of a chain of awaits has yet to see done, if it has no limit, or nothing."""
+    chain = coroutines_of(coroutine)
+    frames = [getattr(each, "cr_frame", None) for each in chain]
+    inner = [each for each in frames if each is not None and each.f_code.co_name == "_wait_for_one"]
+    queues = [each.f_locals.get("done") for each in inner]
+    inside = [part for each in (chain if sys.version_info >= (3, 11) else frames) for part in gc.get_referents(each)]
+    for each in inside if queues else ():
+        is_one = type(each) is types.GeneratorType and each.gi_code.co_name == "as_completed"
+        if is_one and each.gi_frame is not None and is_standard(each.gi_code.co_filename):
+            here = each.gi_frame.f_locals
+            has_none = here.get("timeout_handle", 0) is None
+            if here.get("done") is queues[0] and has_none and type(here.get("todo")) is set:
+                return {"completes": describe(here["todo"])}
+    return {}
+
+
 def parent_of(task):
     """The task whose TaskGroup this one is of: if it fails, that one and all others of the group are cancelled."""
     for callback, _ in getattr(task, "_callbacks", None) or ():
@@ -1500,7 +1517,7 @@ def task_row(task, timers, before, holders, wakers):
         "sets": [hex(id(future)) for future in sets if future is not None], **parent_of(task),
         "holds": guarded(holders.held, chain), "ends": guarded(may_end, chain),
         "cancels": guarded(may_cancel, chain, spread([each for each, _ in getattr(task, "_callbacks", None) or ()])),
-        **guarded(inside_task, coroutine), **wait_of(wakers, hex(id(task))),
+        **guarded(inside_task, coroutine), **guarded(completed_in, coroutine), **wait_of(wakers, hex(id(task))),
         "frames": [guarded(frame_row, *each) for each in chain]}
 
 

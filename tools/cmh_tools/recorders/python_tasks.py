@@ -174,6 +174,8 @@ def task_wait(row: "Row", standing: Standing) -> Wait:
     for each in standing.standard:
         if each.at in ("asyncio.tasks.sleep", "asyncio.tasks.wait_for") and each.has.get("timeout", 0) is not None:
             return limited("it sleeps, or waits with a limit")
+        if each.at.endswith("._wait_for_one") and isinstance(row.more.get("completes"), list):
+            found = resolve_all(standing, row.more["completes"], True)
         if each.at == "asyncio.tasks._wait":
             found = resolve_wait(standing, each)
         if each.at in ("asyncio.locks.Lock.acquire", "asyncio.locks.Semaphore.acquire"):
