@@ -524,7 +524,8 @@ def taken_by(frame, steps, stored):
     module = frame.f_globals.get("__name__")
     others = [each for each in list(frame.f_globals.values())
               if issubclass(type(each), (type, types.FunctionType)) and each.__module__ == module]
-    others = functions_of([*others, type(owner)]) if is_own(frame) else []
+    others = [each for each in functions_of(others) if not is_library_module(str(getattr(each, "__module__", "")))]
+    others = [*others, *functions_of([type(owner)])] if is_own(frame) else []
     is_same = names.isdisjoint(stored) and not stored_elsewhere(shared, others)
     return value if is_same else None
 
