@@ -84,6 +84,8 @@ CROWD, FEW = 5000, 20  # values within one another, and objects of a class, that
 CODES = 50000  # functions that are looked at for names in one state; more count as having them
 LEFT = {"codes": CODES}
 REACHED = 3000  # functions that are looked at for names of one thread or task; with more it may come to any
+NO_ROOM = 8192  # bytes of a pipe in which the next page of what is written may find no place
+SIGNALLED = "signals"  # by which what signals call stands among threads and tasks
 FAR, SECONDS = 8, 0.5  # steps from what is waited at to a name for it, and the time for all of them
 BLOCKS_MOST = 5_000_000  # of memory: in a larger program nobody looks for names
 NEAR = 3  # steps from a name to a task, future or child that it is taken to reach
@@ -115,6 +117,23 @@ def owner_of(lock):
     return getattr(lock, "owner", None) or 0
 
 
+def is_full(pipe):
+    """Whether a pipe that a child writes to has no room, as far as its other end shows it."""
+    with contextlib.suppress(AttributeError, OSError, ValueError, ImportError):
+        fcntl, termios = __import__("fcntl"), __import__("termios")
+        number, has = pipe.fileno(), bytearray(4)
+        fcntl.ioctl(number, termios.FIONREAD, has)
+        return int.from_bytes(has, sys.byteorder) >= fcntl.fcntl(number, fcntl.F_GETPIPE_SZ) - NO_ROOM
+    return False
+
+
+def has_gone(lock):
+    """Whether a lock that knows its owner has one that is no thread which runs Python code now. This thread may have
+    the number of one that has ended."""
+    owner, idents = owner_of(lock), sys._current_frames().keys() - {threading.get_ident()}
+    return bool(owner) and owner not in idents and owner_of(lock) == owner
+
+
 def describe_future(value, row):
     if is_a(value, "concurrent.futures._base", "Future"):
         return {**row, "type": "Future", "state": value._state}
@@ -134,7 +153,7 @@ def describe_known(value, row):
         calls = {"calls": callback_name(value.function)} if isinstance(value, threading.Timer) else {}
         return {**row, "type": "Thread", "ident": value.ident, "name": value.name, **calls}
     if type(value) in RLOCKS or type(value).__name__ == "_ModuleLock":
-        return {**row, "owner": owner_of(value)}
+        return {**row, "owner": owner_of(value), "gone": has_gone(value)}
     if type(value) is queue.Queue or issubclass(type(value), queue.Queue):
         return {**row, "size": len(getattr(value, "queue", ())), "most": value.maxsize}
     if type(value) is queue.SimpleQueue:
@@ -1275,6 +1294,13 @@ def places():
             for ident, frame in sys._current_frames().items() if ident != own}
 
 
+def native_of(thread):
+    """The number that the kernel has for a thread. A main thread that was forked may have its parent's still."""
+    native, tasks = getattr(thread, "native_id", None), "/proc/self/task"
+    is_stale = native is not None and os.path.isdir(tasks) and not os.path.isdir(f"{tasks}/{native}")
+    return os.getpid() if is_stale and thread is threading.main_thread() else native
+
+
 def counts_of(native):
     """The nanoseconds of processor time of a thread, how often it has stopped to wait, and whether it sleeps in the
     kernel now. None where not shown."""
@@ -1334,7 +1360,7 @@ def thread_rows(before, spent, holders, wakers):
         if ident == threading.get_ident():
             continue
         frames, thread = stack_of(frame), names.get(ident)
-        native = getattr(thread, "native_id", None)
+        native = native_of(thread)
         call, shown = guarded(call_of, frame), [guarded(frame_row, *each) for each in frames]
         counts = between(spent.get(ident, (None,) * 3), counts_of(native) if native else (None,) * 3)
         loop = running_loop(frames)
@@ -1581,15 +1607,24 @@ def has_ended(pid):
 def alarm_row():
     """The seconds to the next alarm of this process with who gets it, and who is told of a child that ends."""
     return {"alarm": signal.getitimer(signal.ITIMER_REAL)[0], "on_alarm": handler_name(signal.SIGALRM),
-            "on_child": handler_name(signal.SIGCHLD), "foreign_timer": has_foreign_timer()}
+            "on_child": handler_name(signal.SIGCHLD), "foreign_timer": has_foreign_timer(),
+            "others": None if foreign_threads() is None else len(foreign_threads())}
 
 
 def has_foreign_timer():
     """Whether a thread that isn't Python's blocks all signals, as that of faulthandler.dump_traceback_later does. None
     where that isn't shown."""
-    known = {str(each.native_id) for each in threading.enumerate()}
+    others = foreign_threads()
+    return None if others is None else any(map(is_blocked, others))
+
+
+def foreign_threads():
+    """The numbers of the threads of this process that run no Python code now, as far as the module threading knows. One
+    that isn't Python's may come back to it. None where that isn't shown."""
+    idents = sys._current_frames().keys()
+    known = {str(native_of(each)) for each in threading.enumerate() if each.ident in idents}
     try:
-        return any(is_blocked(number) for number in os.listdir("/proc/self/task") if number not in known)
+        return [number for number in os.listdir("/proc/self/task") if number not in known]
     except OSError:
         return None
 
@@ -1623,7 +1658,7 @@ def state(number=0):
     forget_numbers()
     LEFT["codes"] = CODES
     before, tasks_before = places(), guarded(task_places)
-    natives = {each.ident: each.native_id for each in threading.enumerate()}
+    natives = {each.ident: native_of(each) for each in threading.enumerate()}
     spent = {ident: counts_of(native) for ident, native in natives.items()}
     time.sleep(seconds)
     holders, wakers = Holders(), guarded(lambda: Wakers(stacks_of_all()))

@@ -25,7 +25,7 @@ from .python_frames import is_of_frames, looks_of_frames
 from .python_names import MOST, NEED_ALL, Names, Standing, lasting_objects, operation_of, own_frames
 from .python_tasks import CANCEL, TASKS, Job, foreign_callbacks
 from .python_text import Frame, Look, Row, is_number, looks_of
-from .python_waits import BLOCK, CHILD, FUTURE, Wait, unsure
+from .python_waits import BLOCK, CHILD, DEAD, FUTURE, Wait, unsure
 
 ALARM = "alarm"
 NOT_UNDERSTOOD = (AttributeError, KeyError, TypeError, ValueError, IndexError, RecursionError)
@@ -157,6 +157,7 @@ class PythonRecorder(Recorder):
         CHILD: Premise("a child ends with its main thread, and nobody kills it"),
         BLOCK: Premise("a block that has taken a lock gives it back itself, and the name that it had for it is still "
                        "that of this lock", release_of),
+        DEAD: Premise("nobody gives back an RLock of a thread that has ended"),
         FUTURE: Premise("who has begun or keeps the work of a future ends it, and nobody else does"),
     }
 

@@ -12,7 +12,7 @@ from .python_text import Frame, is_number, last_word
 LIKELY = 50  # names that are filled in where people are asked who ends a wait
 BUSY = 0.2  # the part of the time between two looks that one who computes has used at least
 FINISHED = ("FINISHED", "CANCELLED", "CANCELLED_AND_NOTIFIED")
-CHILD, FUTURE, BLOCK = "child", "future", "block"  # premises, beside LIMIT
+CHILD, FUTURE, BLOCK, DEAD = "child", "future", "block", "dead"  # premises, beside LIMIT
 
 
 @dataclass
@@ -156,9 +156,19 @@ def by_lock(standing: Standing) -> Optional[Wait]:
         return None
     owner = lock["owner"]
     if owner == standing.row.key or owner not in standing.look.threads:
-        return unsure("its lock had no owner that is in the state")
+        return by_dead_owner(standing, lock)
     whom = holders(standing, owner)
     return Wait(ANY, whom, is_open=len(whom) > 1)
+
+
+def by_dead_owner(standing: Standing, lock: Dict[str, Any]) -> Wait:
+    """The wait for an RLock of whose owner the state has nothing. It has ended if the state has all threads."""
+    is_dead = lock.get("type") == "RLock" and lock.get("gone") is True and lock["owner"] != standing.row.key
+    if is_dead and standing.look.head.get("others") == 0 and standing.look.is_whole:
+        return Wait(ANY, [], because=[premise(DEAD)])
+    wait = unsure("its lock had no owner that is in the state")
+    wait.proposal = "nobody" if is_dead else "maybe"
+    return wait
 
 
 def by_block(standing: Standing, lock: Dict[str, Any], most: int = 1) -> Optional[Wait]:
