@@ -89,11 +89,31 @@ class Standing:
         too whose code may cancel any task or future, unless it is no work. None if they are too many."""
         found = holders_in(self.look)
         keys = dict.fromkeys([*found.get(what, ()), *found[None], *(cancelling_in(self.look) if is_work else ())])
+        keys = dict.fromkeys(actor_of(self.look, key) for key in keys)
         return None if len(keys) > MOST else [self.name_of(key) for key in keys if key != self.row.key]
 
     @property
     def operation(self) -> Tuple[str, List[str]]:
         return operation_of(self)
+
+
+def main_task(row: Row) -> Any:
+    """The key of the task for which a thread runs an event loop, or None."""
+    found = next((each.has.get("future") for each in row.frames if each.at.endswith(".run_until_complete")), None)
+    return found.get("id") if isinstance(found, dict) else None
+
+
+def is_idle_loop(frames: List[Frame]) -> bool:
+    """Whether the thread of an event loop waits for events."""
+    return len(frames) > 1 and frames[0].at.startswith("selectors.") and frames[1].at.endswith("._run_once")
+
+
+def actor_of(look: Look, key: Any) -> Any:
+    """The key of who acts where a thread would: of one that waits for events the task for which it runs its loop."""
+    row = look.threads.get(key)
+    if row is None or not is_idle_loop(row.frames):
+        return key
+    return main_task(row) if main_task(row) in look.tasks else key
 
 
 def holders_in(look: Look) -> Dict[Any, List[Any]]:

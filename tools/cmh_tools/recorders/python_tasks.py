@@ -11,7 +11,7 @@ from ..sketch import ALL, ANY, RUNS, UNKNOWN, WORK, premise
 from .linux_text import Owner, Thread
 from .linux_waits import SLEEPS, has_limit
 from .python_cancel import Cancellers
-from .python_names import Names, Standing
+from .python_names import Names, Standing, is_idle_loop
 from .python_text import Frame, Look, Row, last_word
 from .python_waits import (Wait, besides_of, by_block, by_names, by_work, limited, resolve_all, resolve_wait,
                            thread_wait, unsure)
@@ -76,6 +76,7 @@ class Job:
             return Wait(ANY, [self.name_of(loop["current"])])
         found = self.wait_of_loop(standing)
         if found is not None:
+            found.is_idle = is_idle_loop(row.frames)  # (it serves the loop's other tasks all the same)
             return found
         if is_idle_loop(row.frames) and not has_moved:
             return Wait(UNKNOWN, reason=EVENTS, because=[], is_idle=True)
@@ -207,11 +208,6 @@ def in_kernel(row: Row) -> Optional[Wait]:
     if thread.call in SLEEPS:
         return limited("it sleeps")
     return limited("it waits with a limit") if has_limit(thread) else None
-
-
-def is_idle_loop(frames: List[Frame]) -> bool:
-    """Whether the thread of an event loop waits for events."""
-    return len(frames) > 1 and frames[0].at.startswith("selectors.") and frames[1].at.endswith("._run_once")
 
 
 def idle_wait(standing: Standing) -> Optional[Wait]:
