@@ -63,6 +63,22 @@ WAITING_AT = {  # functions of these, with the names by which such a wait ends, 
     "Queue.get": PUTS, "Queue.put": GETS, "Queue.join": {"task_done", "shutdown"}, "Event.wait": {"set"},
     "Condition.wait": NOTIFIES, "Condition.wait_for": NOTIFIES, "Semaphore.acquire": None, "Lock.acquire": None,
     "_ContextManagerMixin.__aenter__": None}
+# Words that end waits of others: by themselves, and those of objects of some classes.
+ENDING = {"notify", "notify_all", "notifyAll", "task_done", "put_nowait", "get_nowait", "set_result", "set_exception",
+          "sendall", "send_bytes", "recv_bytes", "run_coroutine_threadsafe", "call_soon_threadsafe", "call_soon",
+          "create_task", "ensure_future", "start_new_thread", "Thread", "Timer", "Process", "Popen", "submit", "_exit",
+          "interrupt_main", "raise_signal", "pthread_kill", "all_tasks"}
+ENDING_AT = (
+    (("queue", "_queue", "asyncio.queues", "multiprocessing.queues"), {"put", "get", "shutdown", "close"}),
+    (("threading", "asyncio.locks", "multiprocessing.synchronize", "_thread"),
+     {"set", "release", "wait", "abort", "reset", "start"}),
+    (("concurrent.futures._base", "concurrent.futures.thread", "concurrent.futures.process", "asyncio.futures",
+      "_asyncio", "asyncio.tasks"), {"cancel", "map", "shutdown"}),
+    (("multiprocessing.process", "multiprocessing.context", "multiprocessing.pool", "subprocess"),
+     {"start", "kill", "terminate", "send_signal", "communicate", "apply", "map", "close"}),
+    (("multiprocessing.connection", "socket", "ssl", "asyncio.streams"),
+     {"send", "recv", "recv_into", "write", "read", "close", "shutdown"}),
+    (("multiprocessing.managers",), None))
 # Modules that call functions of the program by what they find, and packages, of which all may do so.
 DISPATCHES = re.compile(r"(socketserver|http\.server|xmlrpc\.server|wsgiref|asyncore|asynchat|smtpd|sched|cmd|code"
                         r"|tkinter|multiprocessing\.(managers|pool)|concurrent\.futures\.process)($|\.)")
@@ -163,7 +179,7 @@ def describe_known(value, row):
     if is_a(value, "multiprocessing.process", "BaseProcess"):
         return {**row, "type": "Process", "pid": getattr(value._popen, "pid", None), "name": value.name}
     if is_a(value, "subprocess", "Popen"):
-        return {**row, "type": "Popen", "pid": value.pid}
+        return {**row, "type": "Popen", "pid": value.pid, "full": any(map(is_full, (value.stdout, value.stderr)))}
     if is_a(value, "socket", "socket"):
         return {**row, "limit": value.gettimeout()}
     if is_a(value, "threading", "Condition"):
@@ -987,7 +1003,7 @@ class Wakers:
 
     def __init__(self, stacks):
         self.end = time.monotonic() + 2 * SECONDS
-        self.stacks, self.names, self.functions = stacks, {}, functions_by_name()
+        self.stacks, self.names, self.functions, self.endings = stacks, {}, functions_by_name(), {}
         found = {key: guarded(waited_at, frames) for key, (frames, _) in stacks.items()}
         self.targets = {key: it for key, it in found.items() if type(it) is tuple and it}
         frames = [frame for frames, _ in stacks.values() for frame, _ in frames
@@ -1011,20 +1027,39 @@ class Wakers:
                 some = [it for it in self.stacks
                         if names is not None and self.may_reach(it, names, words, words is None)]
                 left -= len(some)
-                rows[place] = {"wait": place, "by": None if names is None or None in some or left < 0 else some}
+                by = [it for it in some if it != SIGNALLED]
+                rows[place] = {"wait": place, "by": None if names is None or None in some or left < 0 else by,
+                               "signals": SIGNALLED in some or self.is_set_by_signal(value, words)}
         return list(rows.values())
+
+    def sleepers(self):
+        """The words by which those who sleep or wait with a limit may end waits of others, or None for any."""
+        rows = []
+        for key, (frames, _) in self.stacks.items():
+            if frames and guarded(has_limit, frames[0][0]) is True:
+                self.may_reach(key, (), None, False)
+                names, words = self.names[key, False], self.endings.get(key)
+                is_known = names is not None and words is not None and not any(map(is_in_block, frames))
+                rows.append({"sleeper": key, "ends": sorted(names & (words | ENDING)) if is_known else None})
+        return rows
+
+    def is_set_by_signal(self, value, words):
+        """Whether a signal calls a method of what is waited at that ends the wait."""
+        return any(type(each) in (types.MethodType, types.BuiltinMethodType) and each.__self__ is value
+                   and each.__name__ in (words or ()) for each in self.stacks[SIGNALLED][1])
 
     def may_reach(self, key, aliases, words, is_whole):
         """Whether one may come to one of some names, and to one of some words, if these are needed. Its whole code
         counts where a block may give back a lock that the code named before."""
         if (key, is_whole) not in self.names:
-            found = guarded(self.names_from, *self.stacks[key], is_whole)
+            found = guarded(self.names_from, *self.stacks[key], is_whole, self.endings.setdefault(key, set()))
             self.names[key, is_whole] = found if type(found) is set else None
         names = self.names[key, is_whole]
         return names is None or not (names.isdisjoint(aliases) or words is not None and names.isdisjoint(words))
 
-    def names_from(self, frames, called, is_whole):
-        """The names in the code that some frames may still come to, or in all of theirs. None if that may be any."""
+    def names_from(self, frames, called, is_whole, endings):
+        """The names in the code that some frames may still come to, or in all of theirs. None if that may be any. Adds
+        to `endings` the words that end waits at the objects that they come to."""
         ways = [(all_names(frame.f_code) if is_whole else names_left(frame.f_code, frame.f_lasti),
                  (dict(frame.f_locals), frame.f_globals), frame.f_code) for frame, _ in frames if is_own(frame)]
         ways += [(all_names(each.gi_code), ({}, {}), each.gi_code) for each in variables_in(frames)
@@ -1038,6 +1073,7 @@ class Wakers:
             values += [each for name in own for each in self.functions.get(name, ())]
             values += [part for each in values for part in implied_by(each, names)]
             add_owners(owners, values)
+            endings.update(word for kind in {type(each) for each in values} for word in words_at(kind))
             new = {each for each in values if type(each) is types.FunctionType and is_foreign(each)} - seen
             seen |= new
             if len(seen) > REACHED or not own.isdisjoint(DYNAMIC) or any(is_dispatcher(it) for it, _ in frames) \
@@ -1047,6 +1083,29 @@ class Wakers:
                      each.__code__) for each in new]
             values = []
         return names
+
+
+@functools.lru_cache(maxsize=20000)
+def words_at(kind):
+    """The words that end waits at objects of a class."""
+    modules = {str(each.__module__) for each in type.__dict__["__mro__"].__get__(kind)}
+    found = [words for names, words in ENDING_AT if not modules.isdisjoint(names)]
+    return frozenset().union(*(PUTS | GETS | {"set", "release"} if words is None else words for words in found))
+
+
+def has_limit(frame):
+    """Whether a frame sleeps, or is one of the library that waits with a limit."""
+    if is_own(frame):
+        called = place_of_call(frame)[3]
+        return called is not None and called[2] is time.sleep
+    limits = [frame.f_locals.get(name) for name in ("timeout", "delay")]
+    return any(isinstance(each, (int, float)) for each in limits)
+
+
+def is_in_block(row):
+    """Whether a frame is in a block of `with`, whose end may end waits."""
+    frame, _ = row
+    return is_own(frame) and bool(blocks_at(frame.f_code, frame.f_lasti))
 
 
 def variables_in(frames):
@@ -1112,11 +1171,11 @@ def is_dispatcher(frame):
     return bool(PACKAGES.search(frame.f_code.co_filename) or DISPATCHES.match(name))
 
 
-def called_by_loop(frames):
-    """What the event loop of a stack calls for timers, sockets and signals, whatever the thread waits for, with the
-    classes of protocols, and what the library's own functions have around them."""
-    loop = running_loop(frames)
-    handles = [] if loop is None else [*handles_of(loop), *list(getattr(loop, "_ready", ()))]
+def called_by_loop(loop):
+    """What an event loop calls for timers and sockets, whatever its thread waits for, with the classes of protocols,
+    and what the library's own functions have around them."""
+    signalled = signals_of(loop) if hasattr(loop, "_signal_handlers") else []
+    handles = [each for each in [*handles_of(loop), *list(getattr(loop, "_ready", ()))] if each not in signalled]
     handles = [each for each in handles if not is_work(getattr(each._callback, "__self__", None))]
     values = [part for each in handles for part in (each._callback, *(each._args or ()))]
     kinds = [type(getattr(getattr(each, "__self__", None), "_protocol", None)) for each in values]
@@ -1254,7 +1313,9 @@ class Aliases:
             return {name: self.targets.get(id(values.get(name)), ()) for name in variables_of(frame.f_code)}
         if is_a(holder, "threading", "Thread") or is_a(holder, "concurrent.futures.thread", "_WorkItem"):
             work = getattr(holder, "fn", getattr(holder, "_target", None))
-            return dict.fromkeys(all_names(work.__code__), reached) if type(work) is types.FunctionType else None
+            work = work.__func__ if type(work) is types.MethodType else work
+            names = dict.fromkeys(all_names(work.__code__), reached) if type(work) is types.FunctionType else {}
+            return {**names, **(self.attributes_at(holder, some) or {})} or None
         return self.attributes_at(holder, some)
 
     def attributes_at(self, holder, some):
@@ -1333,8 +1394,8 @@ def running_loop(frames):
 
 
 def stacks_of_all():
-    """The frames of each thread and task but this one's, with what will be called besides. By None what signals and
-    event loops call."""
+    """The frames of each thread and task but this one's, with what will be called besides. By None what event loops
+    call, and by SIGNALLED what signals do."""
     found = {ident: (stack_of(frame), []) for ident, frame in sys._current_frames().items()
              if ident != threading.get_ident()}
     for task in tasks_of_all():
@@ -1343,9 +1404,16 @@ def stacks_of_all():
             found[hex(id(task))] = chain_of(task.get_coro()), called
     handlers = [signal.getsignal(number) for number in signal.valid_signals()]
     handlers = [each for each in handlers if callable(each) and each is not signal.default_int_handler]
-    loops = [each for frames, _ in found.values() for each in called_by_loop(frames)]
-    found[None] = [], spread([*handlers, *loops])
+    loops = list(filter(None, (running_loop(frames) for frames, _ in found.values())))
+    handlers += [part for each in loops for handle in handlers_in(each) for part in (handle._callback, *handle._args)]
+    found[None] = [], [each for loop in loops for each in called_by_loop(loop)]
+    found[SIGNALLED] = [], spread(handlers)
     return found
+
+
+def handlers_in(loop):
+    """What a loop calls for all signals."""
+    return list(getattr(loop, "_signal_handlers", {}).values())
 
 
 def wait_of(wakers, key):
@@ -1664,9 +1732,9 @@ def state(number=0):
     holders, wakers = Holders(), guarded(lambda: Wakers(stacks_of_all()))
     threads, loops = thread_rows(before, spent, holders, wakers)
     tasks = guarded(task_rows, loops, {} if "error" in tasks_before else tasks_before, holders, wakers)
-    waits = guarded(wakers.rows) if isinstance(wakers, Wakers) else []
-    rows = [*threads, *(tasks if isinstance(tasks, list) else [tasks]), *(waits if isinstance(waits, list) else []),
-            *children_rows()]
+    waits = [guarded(each) for each in (wakers.rows, wakers.sleepers)] if isinstance(wakers, Wakers) else []
+    rows = [*threads, *(tasks if isinstance(tasks, list) else [tasks]), *children_rows(),
+            *(row for some in waits if isinstance(some, list) for row in some)]
     head = {"version": VERSION, "process": process_name(), "pid": os.getpid(), "parent": os.getppid(),
             "host": os.uname().nodename, "space": guarded(space), "reader": threading.get_native_id() if number else 0,
             "python": sys.version.split()[0], "time": time.strftime("%Y-%m-%dT%H:%M:%S"), "seconds": seconds,

@@ -18,7 +18,7 @@ from typing import Any, Dict, Iterator, List, Optional, Set
 
 from ..files import shown
 from ..moments import APART, GROWN, ONCE, PARTS, WHOLE, Reading
-from ..sketch import ANY, COMPLETE, REST, RUNS, Process, Sketch, premise
+from ..sketch import ANY, COMPLETE, LIMIT, REST, RUNS, Process, Sketch, premise
 from . import State
 from .base import Moment, Premise, Recorder
 from .python_frames import is_of_frames, looks_of_frames
@@ -67,6 +67,9 @@ class Jobs(Moment):
     enders: Dict[Any, List[Any]]
 
 
+PLAIN = re.compile(r"threading\.(Thread\.)?(_bootstrap|_bootstrap_inner|run)$|multiprocessing\.(process|popen_fork)\."
+                   r"|asyncio\.|runpy\.")  # frames of the library that call the function of a thread, a child or a task
+SHALLOW = 3  # frames of a main thread that isn't deep in its work
 KILLS = {"kill", "killpg"}  # calls that end any process, by its number
 ENDS = re.compile(r"(_thread\.interrupt_main|_signal\.(raise_signal|pthread_kill)"
                   r"|posix\.(kill|killpg|_exit|abort|exec\w+))$")
@@ -203,7 +206,10 @@ class PythonRecorder(Recorder):
         looks = moment.rows()
         mains = {look.place(): self.names.of(look, row.key) for look in looks for row in look.threads.values()
                  if row.more.get("main") is True}
-        moment.jobs = [Job(look, self.names, mains, timer_of(look)) for look in looks]
+        children: Dict[Any, List[str]] = defaultdict(list)
+        for look in looks:
+            children[look.place(look.head.get("parent"))] += filter(None, [mains.get(look.place())])
+        moment.jobs = [Job(look, self.names, mains, timer_of(look), children[look.place()]) for look in looks]
         moment.enders = enders_of(moment.jobs)
 
     def processes(self, moment: Jobs) -> Iterator[Subject]:
@@ -290,15 +296,37 @@ def is_vouched(thread: Optional[Row], is_held: bool, subject: Subject) -> bool:
 def wait_of_thread(subject: Subject) -> Process:
     standing = subject.job.standing(subject.row, subject.row.frames)
     process = process_of(subject, subject.row.frames, subject.job.wait_of_thread(subject.row, standing), standing)
-    if subject.row.more.get("main") is True and process.operation == "timed time.sleep":
-        process.proposal = "frees"
+    process.proposal = proposal_of(process, subject)
     return process
+
+
+def proposal_of(process: Process, subject: Subject) -> str:
+    """Returns for one that sleeps or waits with a limit whether it is likely to end nobody's wait, as a heartbeat."""
+    if process.kind != RUNS or premise(LIMIT) not in process.because:
+        return process.proposal
+    words = subject.job.look.sleepers.get(subject.key)
+    if isinstance(words, list):
+        inner = [each.kind != "standard" for each in subject.row.frames]
+        outer = subject.row.frames[inner.index(True):] if any(inner) else []
+        is_plain = all(each.kind != "standard" or PLAIN.match(each.at) for each in outer)
+        return "frees" if not words and outer and is_plain else "none"
+    is_main = subject.row.more.get("main") is True and process.operation == "timed time.sleep"
+    return "frees" if is_main and is_at_rest(subject) else process.proposal
+
+
+def is_at_rest(subject: Subject) -> bool:
+    """Whether a main thread that sleeps stands in what the program is run for, and isn't deep in its work: in that of a
+    child it may do anything."""
+    own = [each for each in subject.row.frames if each.kind != "standard"]
+    return own[-1:] == [each for each in own if each.at.endswith(".<module>")] and len(own) <= SHALLOW
 
 
 def wait_of_task(subject: Subject) -> Process:
     frames = subject.job.frames_of_task(subject.row)
     standing = subject.job.standing(subject.row, frames)
-    return process_of(subject, frames, subject.job.wait_of_task(subject.row, standing), standing)
+    process = process_of(subject, frames, subject.job.wait_of_task(subject.row, standing), standing)
+    process.proposal = proposal_of(process, subject)
+    return process
 
 
 def wait_of_asked(subject: Subject) -> Process:
@@ -319,4 +347,5 @@ def process_of(subject: Subject, frames: List[Frame], wait: Wait, standing: Opti
                    is_idle=wait.is_idle, count=wait.count, besides=list(dict.fromkeys(wait.besides)),
                    is_collective=operation in NEED_ALL, thread=subject.kernel_thread(),
                    is_open=wait.is_open or subject.what == "task" and wait.kind == ANY,
-                   candidates=[*wait.likely, COMPLETE] if wait.likely else [])
+                   candidates=[*wait.likely, COMPLETE] if wait.likely else [],
+                   scope=subject.job.names.processes[subject.job.look.place()] if wait.is_inside else "")

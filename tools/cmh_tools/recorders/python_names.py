@@ -59,7 +59,8 @@ def label(row: "Row") -> str:
 
 @dataclass
 class Standing:
-    """Where a thread or a task stands: what the rules for waits look at."""
+    """Where a thread or a task stands: what the rules for waits look at. `children` are the main threads of those that
+    its OS process has begun."""
 
     look: Look
     row: Row
@@ -67,6 +68,7 @@ class Standing:
     name_of: Any
     mains: Dict[Any, Any]
     tasks_on: Dict[Any, Any] = field(default_factory=dict)
+    children: List[str] = field(default_factory=list)
 
     @property
     def call(self) -> Dict[str, Any]:

@@ -34,10 +34,11 @@ GETS = re.compile(r"(multiprocessing\.)?queues?\.\w+\.get$|threading\.Condition\
 
 class Job:
     """One look at an OS process, with the waits of its threads, its tasks, and the coroutines that a loop has been
-    handed. `timer` is what one of its timers will call to end a wait or the process, if one will."""
+    handed. `timer` is what one of its timers will call to end a wait or the process, if one will, and `children` are
+    the main threads of those that it has begun."""
 
-    def __init__(self, look: Look, names: Names, mains: Dict[Any, Any], timer: str = "") -> None:
-        self.look, self.names, self.mains, self.timer = look, names, mains, timer
+    def __init__(self, look: Look, names: Names, mains: Dict[Any, Any], timer: str, children: List[str]) -> None:
+        self.look, self.names, self.mains, self.timer, self.children = look, names, mains, timer, children
         self.site = names.sites[look.place()]
         self.cancellers = Cancellers(look)
         tasks: Dict[str, List[Any]] = {}
@@ -51,7 +52,7 @@ class Job:
         return self.names.of(self.look, key)
 
     def standing(self, row: "Row", frames: List[Frame]) -> Standing:
-        return Standing(self.look, row, frames, self.name_of, self.mains, self.tasks_on)
+        return Standing(self.look, row, frames, self.name_of, self.mains, self.tasks_on, self.children)
 
     def loop_of(self, row: "Row") -> Optional[Dict[str, Any]]:
         key = row.more.get("loop")
@@ -213,6 +214,8 @@ def in_kernel(row: Row) -> Optional[Wait]:
 def idle_wait(standing: Standing) -> Optional[Wait]:
     """The wait of a worker of a pool, or of a feeder of a queue, that has nothing to do; else None."""
     inner: List[Frame] = []
+    if any(each.at.endswith("Pool._handle_workers") for each in standing.frames):
+        return Wait(UNKNOWN, reason=WORK, because=[], is_idle=True)
     for each in standing.frames:
         if WORKERS.match(each.at):
             words = standing.call.get("words")

@@ -3,12 +3,16 @@ from __future__ import annotations
 
 import re
 from dataclasses import dataclass, field
-from typing import Any, Dict, List, Optional
+from typing import Any, Dict, Iterator, List, Optional
 
 from ..sketch import ALL, ANY, LIMIT, RUNS, SYSTEM, UNKNOWN, premise
-from .python_names import Standing, own_frames, pools_of
-from .python_text import Frame, is_number, last_word
+from .python_names import Standing, main_task, own_frames, pools_of
+from .python_text import Frame, Look, is_number, last_word
 
+CHILDREN = re.compile(r"subprocess\.Popen\.(wait|_wait)$")
+WAITS = re.compile(r"(os|posix)\.(wait|waitpid|wait3|wait4|waitid)$")
+INNER = re.compile(r"multiprocessing\.pool\.(Thread)?Pool\._handle_(tasks|workers)$")  # of the pool alone
+PAUSES = re.compile(r"signal\.(pause|sigwait\w*)$")  # of a thread that waits to be stopped
 LIKELY = 50  # names that are filled in where people are asked who ends a wait
 BUSY = 0.2  # the part of the time between two looks that one who computes has used at least
 FINISHED = ("FINISHED", "CANCELLED", "CANCELLED_AND_NOTIFIED")
@@ -20,7 +24,7 @@ class Wait:
     """How one waits, as a process of a sketch has it. `is_open` says that its list was found by a search, `count` is
     its own, where what it waits for comes once and for all, and `besides` has those that may end its wait in another
     way. Of an unknown one `likely` has those whose code shows that they may end its wait, and `proposal` is the fact
-    that is asked for, if not the usual one."""
+    that is asked for, if not the usual one. `is_inside` says that only its own OS process can end it."""
 
     kind: str
     whom: List[str] = field(default_factory=list)
@@ -32,6 +36,7 @@ class Wait:
     besides: List[str] = field(default_factory=list)
     likely: List[str] = field(default_factory=list)
     proposal: str = ""
+    is_inside: bool = False
 
     def has_limit(self) -> bool:
         return self.kind == RUNS and premise(LIMIT) in self.because
@@ -67,13 +72,54 @@ def by_names(standing: Standing) -> Wait:
     waits at. Code may come to it without a name, so people have to say whether these are all."""
     operation = standing.operation[0]
     wait = unsure(not_shown(standing, operation) if operation else "its call isn't known: it may wait or compute")
-    at = standing.row.more.get("at")
-    keys = standing.look.wakers.get(at)
-    if at in standing.look.wakers and keys is None and standing.row.more.get("main") is True:
-        wait.proposal = "maybe"  # (a signal's handler may end it, as that of a service that waits to be stopped)
-    names = [standing.name_of(key) for key in keys if key != standing.row.key] if isinstance(keys, list) else []
+    at, look = standing.row.more.get("at"), standing.look
+    keys = look.wakers.get(at)
+    is_main = is_first(standing)
+    found = [standing.name_of(key) for key in acting_keys(look, keys)] if isinstance(keys, list) else [None]
+    names = [name for name in dict.fromkeys(found) if name != standing.name_of(standing.row.key)]
     wait.likely = names if len(names) <= LIKELY and None not in names else []
+    wait.is_inside = at is not None
+    if is_main and (at in look.stopped or PAUSES.match(operation)) or operation == "Server.accepter":
+        wait.proposal = "outside"  # (as a service that waits to be stopped)
+    elif any(map(CHILDREN.match, [each.at for each in standing.standard])) or WAITS.match(operation):
+        guess_child(standing, wait)
+    elif is_main and at in look.wakers and not wait.likely and not operation.startswith("Lock."):
+        wait.proposal = "maybe"
+    elif not names:
+        wait.proposal = "nobody"
     return wait
+
+
+def guess_child(standing: Standing, wait: Wait) -> None:
+    """Guesses that a child that isn't in the states ends by itself, unless it writes into a pipe that has no room: then
+    those may read from it who have it. A call that names no child waits for any that is in the states."""
+    own = [each.has.get("self") for each in standing.standard if CHILDREN.match(each.at)]
+    child: Any = own[0] if own and isinstance(own[0], dict) else {}
+    wait.likely = [] if child else standing.children
+    others = standing.others_with(child.get("id"), False) if child.get("full") is True else []
+    wait.likely = wait.likely or [name for name in others or () if name]
+    wait.proposal = "" if wait.likely else "nobody" if child.get("full") is True else "runs"
+
+
+def is_first(standing: Standing) -> bool:
+    """Whether it is the main thread of a program, but of no child of multiprocessing, or the main task."""
+    main = next((row for row in standing.look.threads.values() if row.more.get("main") is True), None)
+    is_main = main is not None and standing.row.key in (main.key, main_task(main))
+    return is_main and standing.look.process == "MainProcess"
+
+
+def acting_keys(look: Look, keys: List[Any]) -> Iterator[Any]:
+    """Yields those of some keys who act by themselves: in the place of a thread that runs an event loop for a task that
+    task, and none that waits to be stopped."""
+    for key in keys:
+        row = look.threads.get(key)
+        if row is not None and any(INNER.match(each.at) for each in row.frames):
+            continue
+        is_loop = row is not None and row.more.get("loop") is not None
+        key = main_task(row) if row is not None and is_loop else key
+        row = look.threads.get(key) or look.tasks.get(key)
+        if not (is_loop and row is None or row is not None and row.more.get("at") in look.stopped):
+            yield key
 
 
 def not_shown(standing: Standing, operation: str) -> str:
