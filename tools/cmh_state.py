@@ -1008,7 +1008,8 @@ class Wakers:
         self.targets = {key: it for key, it in found.items() if type(it) is tuple and it}
         frames = [frame for frames, _ in stacks.values() for frame, _ in frames
                   if not is_standard(frame.f_code.co_filename)]
-        self.aliases = Aliases([*self.targets.values()], frames).found if self.targets else {}
+        aliases = Aliases([*self.targets.values()], frames) if self.targets else None
+        self.aliases, self.nameless = (aliases.found, aliases.nameless) if aliases else ({}, set())
 
     def of(self, key):
         """At what one waits, if that is known."""
@@ -1029,7 +1030,8 @@ class Wakers:
                 left -= len(some)
                 by = [it for it in some if it != SIGNALLED]
                 rows[place] = {"wait": place, "by": None if names is None or None in some or left < 0 else by,
-                               "signals": SIGNALLED in some or self.is_set_by_signal(value, words)}
+                               "signals": SIGNALLED in some or self.is_set_by_signal(value, words),
+                               "nameless": id(value) in self.nameless}
         return list(rows.values())
 
     def sleepers(self):
@@ -1256,14 +1258,17 @@ class Aliases:
         self.objects, self.targets = {id(value): value for value, _ in rows}, {key: {key} for key in self.words}
         for weak, target in [(weak, id(value)) for value, _ in rows for weak in weakref.getweakrefs(value)]:
             self.objects[id(weak)], self.targets[id(weak)] = weak, {target}
-        self.keys, self.seen, self.kept = {}, {}, []
+        self.keys, self.seen, self.kept, self.is_whole = {}, {}, [], True
         places = [frame.f_locals for frame in frames if frame.f_locals is not frame.f_globals]
         self.ours = {id(each) for each in (*rows, rows, self.kept, *places)}
         end = time.monotonic() + SECONDS
         for _ in range(FAR):
             if self.objects and time.monotonic() < end and sys.getallocatedblocks() < BLOCKS_MOST:
                 self.climb()
-        self.add({None: set().union(*self.targets.values(), (key for key, names in self.found.items() if not names))})
+        left = set().union(*self.targets.values())
+        none = {key for key, names in self.found.items() if names is not None and not names}
+        self.nameless = none - left if self.is_whole else set()  # (as of an event that is made to wait for ever)
+        self.add({None: left | none})
 
     def climb(self):
         """Adds the names of some objects, and goes on to what holds those that have none."""
@@ -1273,6 +1278,7 @@ class Aliases:
                    if id(it) not in self.ours and it is not self.objects and [*map(id, it if type(it) is tuple else ())]
                    != [*self.objects]]
         if len(holders) > CROWD:
+            self.is_whole = False
             return
         more, targets = {}, {}
         for holder in holders:

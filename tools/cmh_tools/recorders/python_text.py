@@ -60,9 +60,9 @@ class Look:
     row, `children` the OS processes that it has begun and not seen end. `pools` and `holders` keep what is looked up in
     it again and again: who does the work of each future, and who has each task or child in a variable. `cancelling` has
     those whose code may cancel any task or future, or set one, and `wakers` by a wait the keys of those whose code
-    comes to a name for what is waited at. `stopped` has the waits that a signal's handler is likely to end, and
-    `sleepers` by the keys of those who sleep or wait with a limit the words in their code that may end others' waits.
-    """
+    comes to a name for what is waited at. `stopped` has the waits that a signal's handler is likely to end, or,
+    as `endless`, nobody, since nothing has a name for what is waited at, and `sleepers` by the keys of those who sleep
+    or wait with a limit the words in their code that may end others' waits."""
 
     where: str
     process: str
@@ -76,6 +76,7 @@ class Look:
     asked: Dict[Any, Dict[str, Any]] = field(default_factory=dict)
     wakers: Dict[Any, Any] = field(default_factory=dict)
     stopped: Set[str] = field(default_factory=set)
+    endless: Set[str] = field(default_factory=set)
     sleepers: Dict[Any, Any] = field(default_factory=dict)
     is_whole: bool = True
     by_faulthandler: bool = False
@@ -210,7 +211,8 @@ def add_row(look: Look, row: Dict[str, Any], path: str, at: int) -> None:
             look.asked[str(row["asked"])] = row
         elif "wait" in row:
             look.wakers[str(row["wait"])] = row["by"]
-            look.stopped.update([str(row["wait"])] if row.get("signals") is True else ())
+            look.stopped.update([str(row["wait"])] if True in (row.get("signals"), row.get("nameless")) else ())
+            look.endless.update([str(row["wait"])] if row.get("nameless") is True else ())
         elif "sleeper" in row:
             look.sleepers[row["sleeper"]] = row["ends"]
         elif "child" not in row:

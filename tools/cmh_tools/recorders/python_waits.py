@@ -73,13 +73,14 @@ def by_names(standing: Standing) -> Wait:
     operation = standing.operation[0]
     wait = unsure(not_shown(standing, operation) if operation else "its call isn't known: it may wait or compute")
     at, look = standing.row.more.get("at"), standing.look
-    keys = look.wakers.get(at)
     is_main = is_first(standing)
+    keys = look.wakers.get(at) if is_main or at not in look.stopped else None
     found = [standing.name_of(key) for key in acting_keys(look, keys)] if isinstance(keys, list) else [None]
     names = [name for name in dict.fromkeys(found) if name != standing.name_of(standing.row.key)]
     wait.likely = names if len(names) <= LIKELY and None not in names else []
     wait.is_inside = at is not None
-    if is_main and (at in look.stopped or PAUSES.match(operation)) or operation == "Server.accepter":
+    is_stopped = is_main and (at in look.stopped or PAUSES.match(operation) is not None)
+    if is_stopped or at in look.endless or operation == "Server.accepter":
         wait.proposal = "outside"  # (as a service that waits to be stopped)
     elif any(map(CHILDREN.match, [each.at for each in standing.standard])) or WAITS.match(operation):
         guess_child(standing, wait)
