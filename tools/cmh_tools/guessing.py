@@ -11,6 +11,7 @@ from .application import apply_guesses, is_end
 from .facts import FREES, HOLDS, OTHERS, STILL, Fact, Facts, word_of
 from .guesses import Line, count_anew, facts_of, guessed, last_number
 from .idle import READS, is_receiver, is_stand_in, there_of
+from .moments import GROWN
 from .places import Place, is_like
 from .proposals import HAS_ENDED, MOST, freeing_nobody, names_of, place_name, propose
 from .sketch import ANY, COMPLETE, ENDED, REST, RUNS, UNKNOWN, Process, Sketch, guess
@@ -56,17 +57,19 @@ def apply_to(sketch: Sketch, facts: Facts, passed_over: Set[str], at_rest: List[
     """Has guesses decide who is unknown. Of those who are at rest it is guessed that they end nobody's wait. Returns
     the guesses of all who end nobody's."""
     asked = [*filled_in(sketch, passed_over)]
-    accepting = [it for it in sketch.processes if it.kind == UNKNOWN and it.name not in passed_over
-                 and (is_acceptor(it) or it.proposal == OUTSIDE)]
-    asked += [(f"{place_words(*place)} -> runs", names) for place, names in places_of(accepting).items()]
+    open_ones = [it for it in sketch.processes if it.kind == UNKNOWN and it.name not in passed_over]
+    accepting = [it for it in open_ones if is_acceptor(it) or it.proposal == OUTSIDE]
+    woken = [it for it in open_ones if it.doubt == GROWN and it not in accepting]
+    for some in (accepting, woken):
+        asked += [(f"{place_words(*place)} -> runs", names) for place, names in places_of(some).items()]
     asked += ended_by_others(sketch, passed_over.union(at_rest, (name for _, names in asked for name in names)))
-    bystanders = [*likely_bystanders(sketch, accepting)]
+    bystanders = [*likely_bystanders(sketch, [*accepting, *woken])]
     bystanders += [(freeing_nobody(at_rest), at_rest)] if at_rest else []
     number = last_number(sketch) + len(facts.facts) + 2
     found, spared = facts_of(asked, number), facts_of(bystanders, number + len(asked))
     known = {it.name for it in sketch.processes if it.kind != UNKNOWN}
     apply_guesses(replace(facts, guesses=found, spared=spared), sketch)
-    spare(sketch, spared, known)
+    spare(sketch, {name: fact for name, fact in spared.items() if name not in {it.name for it in woken}}, known)
     doubt_lone_ones(sketch)
     return spared
 

@@ -21,7 +21,7 @@ from .linux_text import ENDED as GONE
 from .linux_text import READS, WRITES, Machine, Owner, Row, Thread, readings_of, rows_of
 from .linux_unread import Branches
 from .linux_waits import (ACCEPTS, CONNECTS, EPOLLS, FIFO, FILES, FORKS, FRONT, GROUP, MOVES, OPENS, PIPE, READ,
-                          REMOTE, RESTS, SETS, SIGCHLD, SIGINT, SLEEPS, SUSPENDS, UNTIMED, WRITE, Ends, choice_of,
+                          FOR_SIGNALS, REMOTE, RESTS, SETS, SIGCHLD, SIGINT, SLEEPS, SUSPENDS, UNTIMED, WRITE, Ends, choice_of,
                           ends_of, ends_of_connect, ends_of_set, ends_of_wait, has_limit, int32, note_of, threads_of,
                           timed_parents)
 
@@ -196,7 +196,7 @@ class LinuxRecorder(Recorder):
         if ends.operation == BARRIER:
             more.update(is_collective=True, meeting=meeting_of(thread), proposal="all")
         if ends.why:
-            return unknown(name, ends.why, **more)
+            return unknown(name, ends.why, **{"proposal": "outside" if thread.call in FOR_SIGNALS else "any", **more})
         because += [SYSTEM, premise(SIGNALS), premise(ABOVE)]
         because += [premise(OUTSIDE)] if self.outside == "container" and not ends.is_exact else []
         strangers = [] if ends.is_exact else self.strangers(thread, moment)

@@ -22,6 +22,7 @@ SLEEPS = ("nanosleep", "clock_nanosleep")
 OPENS = ("open", "openat", "openat2")
 FORKS = ("clone", "clone3", "fork", "vfork")
 SUSPENDS = ("pause", "rt_sigsuspend")
+FOR_SIGNALS = (*SUSPENDS, "rt_sigtimedwait")
 LIMITS = {"poll": 2, "ppoll": 2, "select": 4, "pselect6": 4, "epoll_wait": 3, "epoll_pwait": 3, "epoll_pwait2": 3,
           "futex": 3, "rt_sigtimedwait": 2, "semtimedop": 3, "mq_timedsend": 4, "mq_timedreceive": 4,
           "io_getevents": 4}  # at which argument a call has its limit (that of recvmmsg ends no wait for the first)
