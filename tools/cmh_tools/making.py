@@ -2,7 +2,7 @@
 from __future__ import annotations
 
 from dataclasses import replace
-from typing import Callable, Dict, List, Sequence, Tuple
+from typing import Callable, Dict, List, Sequence, Set, Tuple
 
 from . import guesses, guessing
 from .application import add_left_out, apply, drop_bystanders
@@ -144,12 +144,28 @@ def record(system: str, states: List[State]) -> Sketch:
 def doubt_choices(sketch: Sketch) -> None:
     """Leaves who waits for one of several, or for all of them, unknown where some of these may be stuck and others
     aren't. Where all are it is stuck as well, and where none is it isn't."""
-    some = [it for it in sketch.processes if it.choice is not None and it.kind == ALL]
-    waits = Waits(sketch) if some else None
-    surely, perhaps = ({waits.processes[at].name for at in waits.answer(unknown_in).members()} if waits else set()
-                       for unknown_in in (False, True))
+    some = [it for it in sketch.processes if it.choice is not None and it.kind in (ANY, ALL)]
+    surely, perhaps = (stuck_names(sketch, False), perhaps_stuck(sketch, some)) if some else (set(), set())
     for it in some:
         if it.choice is not None and perhaps.intersection(it.whom) and set(it.whom) - surely:
             why, besides = it.choice
-            it.candidates, it.besides = [*it.whom, COMPLETE], besides
+            it.candidates, it.besides = it.candidates or [*it.whom, COMPLETE], besides
             it.become_unknown(why)
+        else:
+            it.candidates = []
+
+
+def perhaps_stuck(sketch: Sketch, some: List[Process]) -> Set[str]:
+    """Returns the names of those who may be stuck: some wait for all of their lists then."""
+    kinds = [it.kind for it in some]
+    for it in some:
+        it.kind = ALL
+    found = stuck_names(sketch, True)
+    for it, kind in zip(some, kinds):
+        it.kind = kind
+    return found
+
+
+def stuck_names(sketch: Sketch, unknown_in: bool) -> Set[str]:
+    waits = Waits(sketch)
+    return {waits.processes[at].name for at in waits.answer(unknown_in).members()}
