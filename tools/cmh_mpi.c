@@ -21,10 +21,10 @@
 
 enum { THREADS = 32, COMMS = 128, OPEN = 128, PLACES = 4096, OWN = 64, NAME = 32, WORDS = 24 };
 /* What a call or a request waits for: its partner; all of a communicator, its root, or as the root all; those before
-   it; some of them; what isn't known. Then all, or any, of its requests. A poll has found nothing. KEPT is a request
-   that stays when it ends. */
-enum kind { NONE, RECEIVE, SEND, ALL, FROM_ROOT, TO_ROOT, BEFORE, SOME, OTHER, ALL_OF, ANY_OF, POLL, KEPT = 16 };
-enum { WORLD = 0, NOT_KNOWN = -1 };
+   it; some of them; what isn't known. Then all, or any, of its requests. A poll has found nothing. On a window it waits
+   for who has locked the same target, or EVERY one. KEPT is a request that stays when it ends. */
+enum kind { NONE, RECEIVE, SEND, ALL, FROM_ROOT, TO_ROOT, BEFORE, SOME, OTHER, ALL_OF, ANY_OF, POLL, LOCK, KEPT = 16 };
+enum { WORLD = 0, NOT_KNOWN = -1, EVERY = -9, SEVERAL = -10 };
 
 struct operation { uint64_t handle, number; int32_t kind, comm, partner, tag; };
 struct record {
@@ -33,12 +33,16 @@ struct record {
     int32_t thread, depth, requests, index;
     struct operation now, open[OPEN];
 };
-struct comm { uint64_t handle, id, number, parent, made; int32_t size, rank, is_inter, root; char name[NAME]; };
+struct comm { /* `held` counts the locks of a window that this rank has or wants: of a target, and alone, or SEVERAL */
+    uint64_t handle, id, number, parent, made;
+    int32_t size, rank, is_inter, root, held, target, is_alone, unused;
+    char name[NAME];
+};
 struct file { /* cmh_mpi_reader.py has the same */
     char magic[8];
     uint64_t request[2][WORDS];
-    int32_t pid, rank, size, level, standard, any_source, any_tag, opened, lost, threads[2][OWN];
-    struct comm comm[COMMS]; /* communicators, and open files, whose calls have numbers of their own */
+    int32_t pid, rank, size, level, asked, standard, any_source, any_tag, opened, lost, threads[2][OWN];
+    struct comm comm[COMMS]; /* communicators, and open windows and files, whose calls have numbers of their own */
     struct record record[THREADS];
     struct operation known[PLACES]; /* the requests that have been begun, each at the place of its handle */
     int32_t ranks[]; /* of each communicator in turn, with room for all ranks of the world */
@@ -88,8 +92,8 @@ static __attribute__((noinline)) struct record *new_record(void) {
 static inline struct record *me(void) { return mine ? mine : new_record(); }
 
 /* Communicators: one is learned when it is made, or first used. Its id is the same in all of its ranks, since it comes
-   of that of its parent, the parent's number of collective calls and its ranks, and 0 if these aren't known. A file has
-   the ranks of the communicator that it was opened with. */
+   of that of its parent, the parent's number of collective calls and its ranks, and 0 if these aren't known. A file or
+   a window has the ranks of the communicator that it was opened with. */
 static int forget(MPI_Comm comm, int key, void *at, void *extra) {
     (void)comm, (void)key, (void)extra;
     if ((intptr_t)at > WORLD)
@@ -143,7 +147,7 @@ static int index_of(struct record *r, MPI_Comm comm) {
     r->index = at >= 0 ? at : WORLD;
     return at;
 }
-/* Learns what a collective call has made, a communicator or a file. */
+/* Learns what a collective call has made, a communicator, a file or a window. */
 static void learn_made(struct record *r, int error, MPI_Comm comm, uint64_t handle) {
     if (file && !error && r->now.comm >= 0)
         learn(comm, handle, file->comm[r->now.comm].id, r->now.number);
@@ -171,8 +175,8 @@ static inline void enter(struct record *r, const char *name, int kind, int at, i
                          const MPI_Request *requests, uint64_t caller) {
     if (!file)
         return;
-    struct operation it = {0, kind >= ALL ? meet(name, at, partner) : 0, kind, at, partner, tag};
-    r->calls += kind != POLL;
+    struct operation it = {0, kind >= ALL && kind <= OTHER ? meet(name, at, partner) : 0, kind, at, partner, tag};
+    r->calls += kind != POLL && kind != LOCK;
     lock();
     WRITE(r->sequence, r->sequence + 1);
     __atomic_thread_fence(__ATOMIC_RELEASE);
@@ -216,12 +220,13 @@ static inline void end(struct record *r, int number, const int *places) {
     unlock();
 }
 /* A poll: nothing is known of its requests until it finds nothing, and that is no step. */
-static inline void look(struct record *r, const char *name, int number, const MPI_Request *requests, uint64_t caller) {
-    int is_same = r->now.kind == POLL && r->caller == caller && r->requests == number;
+static inline void look(struct record *r, const char *name, int at_comm, int partner, int tag, int number,
+                        const MPI_Request *requests, uint64_t caller) {
+    int is_same = r->now.kind == POLL && r->caller == caller && r->requests == number && r->now.partner == partner;
     for (int at = 0; is_same && at < number && at < OPEN; at++)
         is_same = r->open[at].handle == BITS(requests[at]);
     if (!is_same)
-        enter(r, name, POLL, NOT_KNOWN, -1, -1, number, requests, caller);
+        enter(r, name, POLL, at_comm, partner, tag, number, requests, caller);
 }
 static inline void looked(struct record *r, int found, int number, const int *places) {
     r->polls += !found;
@@ -230,6 +235,16 @@ static inline void looked(struct record *r, int found, int number, const int *pl
     end(r, number, places);
     r->calls++;
     leave(r);
+}
+
+/* A lock of a window is wanted, or has been given back. */
+static void hold(struct record *r, int by) {
+    struct comm *it = r->now.kind == LOCK && r->now.comm >= 0 ? &file->comm[r->now.comm] : &(struct comm){0};
+    lock();
+    if (by > 0)
+        it->target = it->held ? SEVERAL : r->now.partner, it->is_alone = r->now.tag;
+    it->held += by;
+    unlock();
 }
 
 /* Arguments are a row of (type, name): TYPES makes a declaration of it, and NAMES what is handed on. */
@@ -276,11 +291,20 @@ static inline void looked(struct record *r, int found, int number, const int *pl
     CALL(name, row, enter(r, TEXT(#name), kind, NOT_KNOWN, -1, -1, number, request, HERE), \
          (end(r, ended, places), leave(r)))
 #define LOOKS(name, number, requests, found, ended, places, row) \
-    CALL(name, row, look(r, TEXT(#name), number, requests, HERE), looked(r, found, ended, places))
+    CALL(name, row, look(r, TEXT(#name), NOT_KNOWN, -1, -1, number, requests, HERE), looked(r, found, ended, places))
+#define PROBES(name, row) \
+    CALL(name, FROM FLAG row, look(r, TEXT(#name), AT, source, tag, 0, NULL, HERE), looked(r, *flag, 0, NULL))
 #define MAKES(name, row) \
     CALL(name, row MADE, ENTER(name, ALL, AT, 0, 0), (learn_made(r, error, *made, BITS(*made)), leave(r)))
-#define OPENS(name, by, row) \
-    CALL(name, row, ENTER(name, OTHER, NOT_KNOWN, -1, -1), (file ? file->opened += by : 0, leave(r)))
+#define OPENS(name, kind, by, row) \
+    CALL(name, row, ENTER(name, kind, AT, 0, 0), \
+         (learn_made(r, error, comm, BITS(*it)), file ? file->opened += by : 0, leave(r)))
+#define CLOSES(name, kind, by, row) \
+    CALL(name, row, ENTER(name, kind, find(BITS(*it)), 0, 0), \
+         (forget(MPI_COMM_NULL, 0, (void *)(intptr_t)r->now.comm, NULL), file ? file->opened -= by : 0, leave(r)))
+#define LOCKS(name, target, is_alone, wanted, given, row) \
+    CALL(name, row ON, (ENTER(name, LOCK, find(BITS(it)), target, is_alone), hold(r, wanted)), \
+         (hold(r, -given), leave(r)))
 /* Collective calls on a file, of which MPI says that they needn't wait for all. */
 #define MEETS_AT(name, row) CALL(name, (MPI_File, it) row, ENTER(name, OTHER, find(BITS(it)), 0, 0), leave(r))
 #define BEGINS_AT(name, row) \
@@ -298,7 +322,10 @@ static inline void looked(struct record *r, int found, int number, const int *pl
 #define ROOT (int, root)
 #define MADE (MPI_Comm *, made)
 #define PORT (const char *, port)
-#define WIN (MPI_Win *, win)
+#define WIN (MPI_Win *, it)
+#define ON (MPI_Win, it)
+#define TARGET (int, target)
+#define ASSERT (int, assert)
 #define INFO (MPI_Info, info)
 #define FLAG (int *, flag)
 #define STATUS (MPI_Status *, status)
@@ -347,6 +374,12 @@ int MPI_Sendrecv(TYPES(OUT (int, dest)(int, tag) IN (int, source)(int, other_tag
     return error ? error : later;
 }
 
+/* What replaces a message waits for both halves, as for requests of which isn't known whether they are complete. */
+#define HALF(kind, partner, tag) (struct operation){0, 0, partner == MPI_PROC_NULL ? NONE : kind, AT, partner, tag}
+CALL(Sendrecv_replace, DATA(void)(int, dest)(int, tag)(int, source)(int, other_tag) COMM STATUS,
+     (enter(r, TEXT("Sendrecv_replace"), ALL_OF, NOT_KNOWN, -1, -1, 0, NULL, HERE), r->open[0] = HALF(SEND, dest, tag),
+      r->open[1] = HALF(RECEIVE, source, other_tag), WRITE(r->requests, 2)), leave(r))
+
 WAITS(Wait, ALL_OF, 1, 1, NULL, REQUEST STATUS)
 WAITS(Waitall, ALL_OF, n, n, NULL, REQUESTS STATUS)
 WAITS(Waitany, ANY_OF, n, 1, index, REQUESTS (int *, index) STATUS)
@@ -356,8 +389,7 @@ LOOKS(Testall, n, request, *flag, n, NULL, REQUESTS FLAG STATUS)
 LOOKS(Testany, n, request, *flag, 1, index, REQUESTS (int *, index) FLAG STATUS)
 LOOKS(Testsome, n, request, *done, *done, indices, REQUESTS (int *, done)(int *, indices) STATUS)
 LOOKS(Request_get_status, 1, &request, *flag, 0, NULL, (MPI_Request, request) FLAG STATUS)
-LOOKS(Iprobe, 0, NULL, *flag, 0, NULL, FROM FLAG STATUS)
-LOOKS(Improbe, 0, NULL, *flag, 0, NULL, FROM FLAG MESSAGE STATUS)
+PROBES(Iprobe, STATUS) PROBES(Improbe, MESSAGE STATUS)
 CALL(Request_free, REQUEST, (file ? drop(BITS(*request), 0) : (void)0), (void)0)
 
 MEETS(Barrier, Ibarrier, ALL, 0, )
@@ -397,7 +429,6 @@ MAKES(Dist_graph_create_adjacent, COMM (int, n)(const int *, sources)(const int 
       (const int *, targets)(const int *, others) INFO (int, order))
 
 UNKNOWN(Bsend, OUT TO) UNKNOWN(Mrecv, IN MESSAGE STATUS) UNKNOWN(Buffer_detach, (void *, buffer)(int *, size))
-UNKNOWN(Sendrecv_replace, DATA(void)(int, dest)(int, tag)(int, source)(int, other_tag) COMM STATUS)
 UNKNOWN(Comm_create_group, COMM (MPI_Group, group)(int, tag) MADE)
 UNKNOWN(Comm_free, (MPI_Comm *, comm)) UNKNOWN(Comm_disconnect, (MPI_Comm *, comm))
 UNKNOWN(Comm_accept, PORT INFO ROOT COMM MADE) UNKNOWN(Comm_connect, PORT INFO ROOT COMM MADE)
@@ -410,16 +441,22 @@ UNKNOWN(Intercomm_merge, COMM (int, high) MADE)
 UNKNOWN(Lookup_name, (const char *, name) INFO (char *, port))
 UNKNOWN(Publish_name, (const char *, name) INFO PORT)
 
-/* Calls on a window aren't seen: who has one open may be in such a call. */
-OPENS(Win_create, 1, (void *, base)(MPI_Aint, size)(int, unit) INFO COMM WIN)
-OPENS(Win_allocate, 1, (MPI_Aint, size)(int, unit) INFO COMM (void *, base)WIN)
-OPENS(Win_allocate_shared, 1, (MPI_Aint, size)(int, unit) INFO COMM (void *, base)WIN)
-OPENS(Win_create_dynamic, 1, INFO COMM WIN) OPENS(Win_free, -1, WIN)
+/* Calls on a window, but for those that put or get. Its fence needs all, unless it says that it ends nothing. */
+OPENS(Win_create, ALL, 1, (void *, base)(MPI_Aint, size)(int, unit) INFO COMM WIN)
+OPENS(Win_allocate, ALL, 1, (MPI_Aint, size)(int, unit) INFO COMM (void *, base)WIN)
+OPENS(Win_allocate_shared, ALL, 1, (MPI_Aint, size)(int, unit) INFO COMM (void *, base)WIN)
+OPENS(Win_create_dynamic, ALL, 1, INFO COMM WIN) CLOSES(Win_free, ALL, 1, WIN)
+CALL(Win_fence, ASSERT ON, ENTER(Win_fence, assert & MPI_MODE_NOPRECEDE ? SOME : ALL, find(BITS(it)), 0, 0), leave(r))
+LOCKS(Win_lock, target, type == MPI_LOCK_EXCLUSIVE, 1, 0, (int, type) TARGET ASSERT)
+LOCKS(Win_lock_all, EVERY, 0, 1, 0, ASSERT)
+LOCKS(Win_unlock, target, 0, 0, 1, TARGET) LOCKS(Win_unlock_all, EVERY, 0, 0, 1, )
+LOCKS(Win_flush, target, 0, 0, 0, TARGET) LOCKS(Win_flush_all, EVERY, 0, 0, 0, )
+LOCKS(Win_flush_local, target, 0, 0, 0, TARGET) LOCKS(Win_flush_local_all, EVERY, 0, 0, 0, )
+LOCKS(Win_start, EVERY, 0, 0, 0, (MPI_Group, group) ASSERT) LOCKS(Win_complete, EVERY, 0, 0, 0, )
+LOCKS(Win_wait, EVERY, 0, 0, 0, )
 
-CALL(File_open, COMM (const char *, name)(int, mode) INFO (MPI_File *, it), ENTER(File_open, OTHER, AT, 0, 0),
-     (learn_made(r, error, comm, BITS(*it)), leave(r)))
-CALL(File_close, (MPI_File *, it), ENTER(File_close, OTHER, find(BITS(*it)), 0, 0),
-     (forget(MPI_COMM_NULL, 0, (void *)(intptr_t)r->now.comm, NULL), leave(r)))
+OPENS(File_open, OTHER, 0, COMM (const char *, name)(int, mode) INFO (MPI_File *, it))
+CLOSES(File_close, OTHER, 0, (MPI_File *, it))
 MEETS_AT(File_set_size, (MPI_Offset, size)) MEETS_AT(File_preallocate, (MPI_Offset, size))
 MEETS_AT(File_set_info, INFO) MEETS_AT(File_set_atomicity, (int, flag)) MEETS_AT(File_sync, )
 MEETS_AT(File_set_view, (MPI_Offset, offset) TYPE OTHER_TYPE (const char *, form) INFO)
@@ -457,7 +494,7 @@ static void keep_threads(int32_t *threads) {
     if (folder)
         closedir(folder);
 }
-static void begin_record(void) {
+static void begin_record(int asked) {
     int size, minor, made = memfd_create("cmh_mpi", MFD_CLOEXEC);
     PMPI_Comm_size(MPI_COMM_WORLD, &size);
     size_t own = sizeof(struct file) + size * sizeof(int32_t), all = own + (COMMS - 1) * size * sizeof(int32_t);
@@ -468,20 +505,20 @@ static void begin_record(void) {
         close(made);
         return;
     }
-    it->pid = getpid(), it->size = size, it->any_source = MPI_ANY_SOURCE, it->any_tag = MPI_ANY_TAG;
+    it->pid = getpid(), it->size = size, it->asked = asked, it->any_source = MPI_ANY_SOURCE, it->any_tag = MPI_ANY_TAG;
     PMPI_Comm_rank(MPI_COMM_WORLD, &it->rank);
     PMPI_Query_thread(&it->level);
     PMPI_Get_version(&it->standard, &minor);
     for (int rank = 0; rank < size; rank++)
         it->ranks[rank] = rank;
-    it->comm[WORLD] = (struct comm){BITS((MPI_Comm){MPI_COMM_WORLD}), 1, 0, 0, 0, size, it->rank, 0, 0, ""};
+    it->comm[WORLD] = (struct comm){BITS((MPI_Comm){MPI_COMM_WORLD}), 1, 0, 0, 0, size, it->rank, 0, 0, 0, 0, 0, 0, ""};
     keep_request(it);
     memcpy(it->threads[0], before, sizeof before);
     keep_threads(it->threads[1]);
-    memcpy(it->magic, "cmh_mpi2", 8);
+    memcpy(it->magic, "cmh_mpi3", 8);
     file = it, memory = made;
 }
-CALL(Init, (int *, count)(char ***, words), keep_threads(before), error ? (void)0 : begin_record())
+CALL(Init, (int *, count)(char ***, words), keep_threads(before), error ? (void)0 : begin_record(MPI_THREAD_SINGLE))
 CALL(Init_thread, (int *, count)(char ***, words)(int, wanted)(int *, given), keep_threads(before),
-     error ? (void)0 : begin_record())
+     error ? (void)0 : begin_record(wanted))
 CALL(Finalize, , ENTER(Finalize, OTHER, NOT_KNOWN, -1, -1), (leave(r), close(memory)))

@@ -28,11 +28,11 @@ Row = Dict[str, Any]
 
 # What cmh_mpi.c writes, in its order: a head, communicators, the records of threads, requests that have been begun, and
 # for each communicator its ranks of the world.
-MAGIC, LINK = b"cmh_mpi2", "/memfd:cmh_mpi (deleted)"
+MAGIC, LINK = b"cmh_mpi3", "/memfd:cmh_mpi (deleted)"
 COMMS, THREADS, OPEN, PLACES, WORDS, OWN = 128, 32, 128, 4096, 24, 64
-NUMBERS = ("pid", "rank", "size", "level", "standard", "any_source", "any_tag", "opened", "lost")
+NUMBERS = ("pid", "rank", "size", "level", "asked", "standard", "any_source", "any_tag", "opened", "lost")
 HEAD = struct.Struct(f"@8s{2 * WORDS}Q{len(NUMBERS)}i{2 * OWN}i0Q")
-COMM = struct.Struct("=QQQQQ4i32s")
+COMM = struct.Struct("=QQQQQ8i32s")
 RECORD = struct.Struct("=QQQQ32s4i")
 OPERATION = struct.Struct("=QQ4i")
 RECORD_SIZE = RECORD.size + (1 + OPEN) * OPERATION.size
@@ -48,6 +48,10 @@ LIMITS: Dict[str, Dict[int, Tuple[int, bool]]] = {
     "aarch64": {22: (3, True), 72: (4, False), 73: (2, False), 98: (3, False)},
 }
 SLEEPS = {"x86_64": (35, 230), "aarch64": (101, 115)}
+# A wait without a limit at a futex that no other process sees: the number of the call, and what its operation is then.
+FUTEX, PRIVATE_WAITS = {"x86_64": 202, "aarch64": 98}, (0x80, 0x89)
+CLOCK_REALTIME = 0x100  # of an operation
+ALARMS = sum(1 << number - 1 for number in (14, 26, 27, 29))  # SIGALRM, SIGVTALRM, SIGPROF, SIGIO
 TRIES = 50  # to read a record that is being written
 RANK = re.compile(rb"(?:OMPI_COMM_WORLD_RANK|PMIX?_RANK|MV2_COMM_WORLD_RANK|SLURM_PROCID)=(\d{1,9})(?:\0|$)")
 FORTRAN = re.compile(r"/lib(mpi_mpifh|mpi_usempi\w*|mpifort|fmpich)\b[^/]*$", re.M)
@@ -114,6 +118,12 @@ def inner_number(path: str, number: int) -> int:
     return int(numbers[1]) if numbers else number
 
 
+def has_alarms(pid: int) -> bool:
+    """Whether a process has a timer, or takes signals that one of its own or a file may send, as SIGALRM."""
+    caught = re.search(rb"^SigCgt:\s*([0-9a-f]+)$", slurp(f"/proc/{pid}/status"), re.M)
+    return bool(slurp(f"/proc/{pid}/timers")) or caught is None or bool(int(caught[1], 16) & ALARMS)
+
+
 # One rank
 
 
@@ -155,11 +165,12 @@ class Rank:
         return rows[:used[-1] + 1]
 
     def comm(self, at: int) -> Row:
-        handle, own_id, number, parent, made, size, rank, is_inter, root, name = COMM.unpack_from(
+        handle, own_id, number, parent, made, size, rank, is_inter, root, *locks, _, name = COMM.unpack_from(
             self.data, HEAD.size + at * COMM.size)
         row: Row = {"id": f"{own_id:x}" if handle else "0", "number": number, "size": size, "rank": rank,
                     "inter": is_inter, "root": root, "name": text_of(name), "parent": f"{parent:x}", "made": made,
                     "is_used": handle or made or size}
+        row.update(zip(("held", "target", "alone"), locks) if locks[0] else {})
         ranks = self.again(RANKS_AT + 4 * at * self.numbers["size"], 4 * size) if handle and size else b""
         numbers = [it[0] for it in struct.iter_unpack("=i", ranks)] or None
         return row if numbers == list(range(size)) else {**row, "ranks": numbers}
@@ -192,16 +203,16 @@ class Rank:
         return {"thread": thread, "fault": "its record couldn't be read in one piece"}
 
     def row_of(self, data: bytes) -> Row:
-        _, calls, polls, caller, name, thread, _, requests, _ = RECORD.unpack_from(data)
+        sequence, calls, polls, caller, name, thread, _, requests, _ = RECORD.unpack_from(data)
         _, number, kind, comm, partner, tag = OPERATION.unpack_from(data, RECORD.size)
         row: Row = {"thread": thread, "calls": calls, "polls": polls, "name": text_of(name), "kind": kind,
-                    "caller": caller}
+                    "caller": caller, "entered": sequence // 2}
         if kind in (ALL_OF, ANY_OF, POLL):
             row["requests"] = [self.request(data, at) for at in range(min(requests, OPEN))]
             row["more"] = max(0, requests - OPEN)
-        else:
+        if kind not in (ALL_OF, ANY_OF) and not row.get("requests"):
             row.update({"number": number, "comm": comm, "tag": tag,
-                        "partner": self.partner(partner) if kind == RECEIVE else partner})
+                        "partner": self.partner(partner) if kind in (RECEIVE, POLL) else partner})
         return row
 
     def partner(self, number: int) -> Any:
@@ -243,12 +254,15 @@ def row_of_record(rank: Rank) -> Row:
     # The threads are looked at before and after their records: who hasn't moved between stood there meanwhile.
     states = [stat_of_thread(rank.pid, tid) for tid in threads_of(rank.pid)]
     records = rank.records()
+    plain = {name_of(rank.pid)[:15], *(row["called"] for row in states if row["tid"] == rank.pid)}
     rank.data = rank.again(0, RANKS_AT) or rank.data
     threads = [{**row, **records.get(row["inner"], {})} for row in states
                if row["inner"] in records or row["inner"] not in rank.own]
-    numbers = {key: rank.numbers[key] for key in ("rank", "size", "level", "standard", "opened", "lost")}
+    named = {row["called"] for row in states if row["inner"] in rank.own} - plain
+    numbers = {key: rank.numbers[key] for key in ("rank", "size", "level", "asked", "standard", "opened", "lost")}
     comms = rank.comms()
     return {"pid": rank.pid, **numbers, "full": len(comms) == COMMS, "fortran": is_fortran(rank.pid),
+            "alarms": has_alarms(rank.pid), "named": sorted(named),
             "comms": comms, "begun": rank.begun(), "any_tag": rank.numbers["any_tag"], "threads": threads}
 
 
@@ -268,15 +282,24 @@ def stat_of_thread(pid: int, tid: int) -> Row:
     """Returns a thread: its number as it sees itself, its state, and the call of the kernel that it is in."""
     folder = f"/proc/{pid}/task/{tid}"
     fields, call = stat_of(f"{folder}/stat"), slurp(f"{folder}/syscall").split()
-    row: Row = {"tid": tid, "inner": inner_number(folder, tid), "state": fields[0] if fields else "X"}
+    row: Row = {"tid": tid, "inner": inner_number(folder, tid), "state": fields[0] if fields else "X",
+                "called": text_of(slurp(f"{folder}/comm").strip()), "switches": switches_of(folder)}
     if len(call) > 6 and call[0].isdigit():
         row["call"] = name_of_call(int(call[0]), [int(it, 16) for it in call[1:7]])
     return row
 
 
+def switches_of(folder: str) -> int:
+    """Returns how often a thread has given up its processor, or lost it: not at all during one wait."""
+    return sum(map(int, re.findall(rb"^(?:non)?voluntary_ctxt_switches:\s*(\d+)$", slurp(f"{folder}/status"), re.M)))
+
+
 def name_of_call(number: int, words: Sequence[int]) -> str:
-    """Returns "sleep" or "limit" of a call of the kernel that ends by itself, and its number of any other one."""
+    """Returns "sleep" or "limit" of a call of the kernel that ends by itself, "private" of a wait that threads of the
+    process alone end, and its number of any other one."""
     machine = platform.machine()
+    if number == FUTEX.get(machine) and words[1] & ~CLOCK_REALTIME in PRIVATE_WAITS and not words[3]:
+        return "private"
     if number in SLEEPS.get(machine, ()):
         return "sleep"
     at, is_number = LIMITS.get(machine, {}).get(number, (0, False))

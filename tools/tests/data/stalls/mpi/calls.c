@@ -3,9 +3,12 @@
    `record NAME stuck|slow` keeps the state of one, as cmh_mpi.so shows it. */
 #include <mpi.h>
 #include <pthread.h>
+#include <semaphore.h>
+#include <signal.h>
 #include <stdlib.h>
 #include <string.h>
 #include <time.h>
+#include <unistd.h>
 
 enum { TAG = 7, LATER = 8, MANY = 100000 };
 static int rank, size, is_slow, it;
@@ -290,6 +293,76 @@ static void exchange(void) {
         MPI_Sendrecv(out, n, MPI_DOUBLE, 1 - rank, TAG, in, n, MPI_DOUBLE, 1 - rank, TAG, world, MPI_STATUS_IGNORE);
 }
 
+/* Rank 1 has the lock of rank 0's window for itself, which rank 2 wants, and waits for a message of that, or computes.
+   Rank 3 hasn't come to the barrier either: it waits for rank 1. */
+static void locks(void) {
+    int *place;
+    MPI_Win win;
+    MPI_Win_allocate(sizeof *place, sizeof *place, MPI_INFO_NULL, world, &place, &win);
+    if (rank == 2)
+        receive(1, LATER);
+    if (rank == 1 || rank == 2)
+        MPI_Win_lock(MPI_LOCK_EXCLUSIVE, 0, 0, win);
+    if (rank == 1) {
+        send(2, LATER);
+        be_late();
+        receive(2, TAG);
+    } else if (rank == 2)
+        send(1, TAG);
+    if (rank == 1 || rank == 2)
+        MPI_Win_unlock(0, win);
+    if (rank == 3)
+        receive(1, TAG);
+    MPI_Win_free(&win);
+}
+/* All meet at a fence of a window, which rank 2 has skipped: it waits for rank 0, or computes. */
+static void fence(void) {
+    int *place;
+    MPI_Win win;
+    MPI_Win_allocate(sizeof *place, sizeof *place, MPI_INFO_NULL, world, &place, &win);
+    for (int round = 0; round < 3; round++) {
+        if (rank == 2 && round == 2) {
+            be_late();
+            receive(0, TAG);
+        }
+        MPI_Win_fence(0, win);
+        MPI_Put(&rank, 1, MPI_INT, next(), 0, 1, MPI_INT, win);
+    }
+}
+/* Both receive from each other. A thread of each waits for its turn to send, which an alarm gives it, or nobody. */
+static sem_t turn;
+static void give(int number) { number ? (void)sem_post(&turn) : (void)0; }
+static void *send_in_turn(void *unused) {
+    sem_wait(&turn);
+    send(1 - rank, TAG);
+    return unused;
+}
+static void parked(void) {
+    pthread_t sender;
+    sem_init(&turn, 0, 0);
+    if (is_slow)
+        signal(SIGALRM, give), alarm(600);
+    pthread_create(&sender, NULL, send_in_turn, NULL);
+    receive(1 - rank, TAG);
+}
+/* Ranks 1 and 2 wait for each other, or rank 1 computes. The others exchange with all. Each has a heartbeat, of which
+   it has said to MPI_Init that it doesn't call MPI. */
+static void *beat(void *unused) {
+    for (;;)
+        usleep(200000);
+    return unused;
+}
+static void asked(void) {
+    pthread_t heartbeat;
+    int numbers[4] = {1, 1, 1, 1}, at[4] = {0, 1, 2, 3}, out[4] = {0}, in[4];
+    pthread_create(&heartbeat, NULL, beat, NULL);
+    if (rank == 1)
+        be_late();
+    if (rank == 1 || rank == 2)
+        receive(3 - rank, TAG);
+    MPI_Alltoallv(out, numbers, at, MPI_INT, in, numbers, at, MPI_INT, world);
+}
+
 static const struct { const char *name; int ranks, level; void (*work)(void); } JOBS[] = {
     {"send_ring", 4, 0, send_ring}, {"wrong_source", 4, 0, wrong_source}, {"mismatch", 3, 0, mismatch},
     {"waitall", 3, 0, waitall}, {"waitany", 3, 0, waitany}, {"any_source", 3, 0, any_source}, {"grid", 4, 0, grid},
@@ -297,7 +370,8 @@ static const struct { const char *name; int ranks, level; void (*work)(void); } 
     {"threads", 2, MPI_THREAD_MULTIPLE, threads}, {"funneled", 2, 0, funneled},
     {"window", 2, 0, window}, {"reduce", 4, 0, reduce}, {"persistent", 4, 0, persistent},
     {"freed", 4, 0, freed}, {"freed_twice", 4, 0, freed_twice}, {"file", 3, 0, file},
-    {"file_ordered", 3, 0, file_ordered},
+    {"file_ordered", 3, 0, file_ordered}, {"locks", 4, 0, locks}, {"fence", 3, 0, fence},
+    {"parked", 2, MPI_THREAD_MULTIPLE, parked}, {"asked", 4, MPI_THREAD_FUNNELED, asked},
     {"transfer", 2, 0, transfer}, {"transfer_begun", 2, 0, transfer_begun}, {"exchange", 2, 0, exchange},
     {0},
 };

@@ -141,6 +141,38 @@ static void meetings(void) {
     TRY_BEGUN("Iscan", Iscan(one, all, 2, MPI_INT, MPI_SUM, WORLD, &r), rank ? 121 : 10);
 }
 
+static void put(MPI_Win win) { MPI_Put(&rank, 1, MPI_INT, other, 0, 1, MPI_INT, win); }
+/* Each side puts its rank into the window of the other one, in turn by each way. */
+static void windows(MPI_Win win, int *base) {
+    MPI_Group all, one;
+    int got = -1;
+    *base = -1;
+    MPI_Win_fence(MPI_MODE_NOPRECEDE, win);
+    put(win);
+    MPI_Win_fence(0, win);
+    WANTED("Win_fence", *base, other);
+    MPI_Win_fence(MPI_MODE_NOSUCCEED, win);
+    MPI_Win_lock(MPI_LOCK_EXCLUSIVE, other, 0, win);
+    put(win);
+    MPI_Win_flush(other, win), MPI_Win_flush_local(other, win);
+    MPI_Win_unlock(other, win);
+    MPI_Barrier(WORLD);
+    MPI_Win_lock_all(0, win);
+    MPI_Get(&got, 1, MPI_INT, other, 0, 1, MPI_INT, win);
+    MPI_Win_flush_all(win), MPI_Win_flush_local_all(win);
+    MPI_Win_unlock_all(win);
+    WANTED("Win_lock_all", got, rank);
+    MPI_Comm_group(WORLD, &all);
+    MPI_Group_incl(all, 1, &other, &one);
+    *base = -1;
+    MPI_Barrier(WORLD);
+    MPI_Win_post(one, 0, win), MPI_Win_start(one, 0, win);
+    put(win);
+    MPI_Win_complete(win), MPI_Win_wait(win);
+    WANTED("Win_wait", *base, other);
+    MPI_Group_free(&one), MPI_Group_free(&all);
+}
+
 static void communicators(void) {
     int value = rank, sum, two = 2, ring = 1, number, kept = 1, size;
     MPI_Comm it, part;
@@ -183,6 +215,7 @@ static void communicators(void) {
     MPI_Win win;
     int *base;
     MPI_Win_allocate(sizeof(int), sizeof(int), MPI_INFO_NULL, WORLD, &base, &win);
+    windows(win, base);
     MPI_Win_free(&win);
     MPI_Comm_disconnect(&it);
 }
