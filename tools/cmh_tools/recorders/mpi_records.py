@@ -13,31 +13,44 @@ from typing import Any, Dict, Iterable, Iterator, List, Optional, Tuple, Union
 
 from ..files import Refusal, shown
 from ..moments import APART, PARTS, Reading
-from ..sketch import (ENDED, DONE, LIMIT, SYSTEM, Process, frame, premise, quote, runs, spoilt, unknown, waits_for_all,
-                      waits_for_any)
+from ..sketch import ALL as WAITS_FOR_ALL
+from ..sketch import (ANY, DONE, ENDED, LIMIT, SYSTEM, Process, frame, premise, quote, runs, spoilt, unknown,
+                      waits_for_all, waits_for_any)
 from . import State
 from .base import Moment, Premise, Recorder, misfits
 
 MARK, VERSION = "cmh-mpi ", 1
 EXPECTED = "lines of cmh_mpi_reader.py are expected"
-RECEIVE, SEND, ALL, FROM_ROOT, TO_ROOT, BEFORE, SOME, OTHER, ALL_OF, ANY_OF, POLL = range(1, 12)
-SERIALIZED = 2  # the least level of MPI_Init_thread by which several threads may call MPI
+RECEIVE, SEND, ALL, FROM_ROOT, TO_ROOT, BEFORE, SOME, OTHER, ALL_OF, ANY_OF, POLL, LOCK = range(1, 13)
+FUNNELS, SERIALIZED = 1, 2  # levels of MPI_Init_thread: the last by which one thread alone may call MPI, and the next
+EVERY, SEVERAL = -9, -10  # targets of locks: all of a window, and more than the record has
 NEW_CALLS = 4  # the standard from which on there are calls that cmh_mpi.c doesn't know
 ANY_SOURCE = "any"
+# Calls on a window that take a lock, and those that wait for a group.
+NEIGHBORS = "Neighbor_", "Ineighbor_"  # how calls begin that wait for some of a communicator
+TAKES, GROUPED = ("Win_lock", "Win_lock_all"), ("Win_start", "Win_complete", "Win_wait")
+UNSEEN = "it can't be seen which of its requests are complete: run the reader as root"
+NEW_CALL = "it may be in a call that came with MPI 4, which leaves no record"
+RETURNS = "it comes back to calls on a window, and may look for a value there"
 BY_ITSELF = {"sleep": "it sleeps", "limit": "it waits with a limit"}
+PARKED = "private"  # the call of one that waits without a limit at a futex of its process alone
 MESSAGE = [int, int, (int, str), int]
 REQUEST = [int, int, (int, str), int, int, (int, type(None))]
 THREAD = {"tid": int, "inner": int, "state": str, "call?": str, "calls?": int, "polls?": int, "name?": str,
           "kind?": int, "number?": int, "comm?": int, "partner?": (int, str), "tag?": int, "requests?": [object],
-          "more?": int, "place?": [object], "fault?": str}
+          "more?": int, "place?": [object], "fault?": str, "called?": str, "switches?": int,
+          "entered?": int}
 COMM = {"id": str, "number": int, "size": int, "rank": int, "inter": int, "root": int, "name": str,
-        "ranks?": ([int], type(None)), "parent?": str, "made?": int}
+        "ranks?": ([int], type(None)), "parent?": str, "made?": int, "held?": int, "target?": int,
+        "alone?": int}
 RANK = {"pid": int, "rank": int, "size": int, "level": int, "standard": int, "opened": int, "lost": int, "full": bool,
-        "fortran": (bool, type(None)), "comms": [COMM], "threads": [THREAD], "any_tag?": int, "begun?": [object]}
+        "fortran": (bool, type(None)), "comms": [COMM], "threads": [THREAD], "any_tag?": int, "begun?": [object],
+        "alarms?": bool, "asked?": int, "named?": [str]}
 SHAPES = {"threads": RANK, "fault": {"pid": int, "fault": str, "rank?": int}, "ended": {"pid": int, "ended": bool},
           "reading": {"reading": int, "time": [float, float]}, "end": {"end": (int, str), "ranks?": int}}
 
 FUNNELED, FINALIZED, COMPUTES, MEET, LATE = "funneled", "finalize", "computes", "meet", "late"
+WOKEN, KEPT_BY = "woken", "kept"
 
 
 @dataclass(eq=False)
@@ -49,15 +62,15 @@ class Rank:
     host: str
 
     def __post_init__(self) -> None:
-        self.pid = int(self.row["pid"])
+        self.pid, self.level = int(self.row["pid"]), max(self.row.get("level", 0), self.row.get("asked", 0))
         self.fault = str(self.row.get("fault", "")) or fault_of(self.row)
         self.comms: List[Dict[str, Any]] = self.row.get("comms", [])
         self.by_id = {it["id"]: it for it in self.comms if it["id"] != "0"}
         there = [it for it in self.row.get("threads", []) if it["state"] not in ("X", "Z")]
         callers = [it for it in there if "calls" in it or "fault" in it]
-        self.is_threaded = self.row.get("level", 0) >= SERIALIZED or len(callers) > 1
         first = [it for it in there if it["tid"] == self.pid]
         main = callers if len(callers) == 1 else first or callers or there
+        self.is_threaded = self.level >= SERIALIZED or len(callers) > 1 or any(map(is_parked, main[:1]))
         self.others = [it for it in there if it not in main[:1]]
         self.threads = [Thread(self, it, f"/{it['tid']}" if at else "")
                         for at, it in enumerate([*main[:1], *(self.others if self.is_threaded else [])])]
@@ -81,25 +94,61 @@ class Rank:
         """Whether it is in no call of MPI, or only looks into one now and then."""
         return all(it.kind in (0, POLL) for it in self.threads)
 
+    def is_in(self, name: str) -> bool:
+        """Whether it is in a call."""
+        return any(it.kind and it.row["name"] == name for it in self.threads)
+
+    def may_have(self, comm: Dict[str, Any], target: int) -> bool:
+        """Whether it has a lock of a target of a window, or of EVERY one, or wants it, or that isn't known."""
+        own = self.by_id.get(comm["id"], {})
+        return self.is_hidden() or own.get("held", 0) > 0 and (
+            target == EVERY or own["target"] in (target, EVERY, SEVERAL))
+
+    def bars(self, comm: Dict[str, Any], target: int, is_alone: bool) -> bool:
+        """Whether it surely has a lock of a window that another one can't have beside."""
+        own = self.by_id.get(comm["id"], {})
+        is_there = own.get("held", 0) > 0 and own["target"] != SEVERAL and not any(
+            it.row["name"] in TAKES for it in self.at(comm, LOCK))
+        return is_there and bool(is_alone or own["alone"]) and (target == EVERY or own["target"] in (target, EVERY))
+
+    def has_no_strangers(self) -> bool:
+        """Whether no timer or signal of its own may wake a thread, nor one of those that MPI_Init has begun that has a
+        name, so that another library has it."""
+        return self.row.get("alarms") is False and not self.row.get("named")
+
+    def is_hidden(self) -> bool:
+        """Whether its record hasn't all of its calls."""
+        return bool(self.fault or self.row.get("full") or any("fault" in it for it in self.row.get("threads", [])))
+
+    def at(self, comm: Dict[str, Any], *kinds: int) -> List[Thread]:
+        """Its threads that are in calls of some kinds on a communicator, or a window."""
+        own = self.by_id.get(comm["id"])
+        return [it for it in self.threads if it.kind in kinds and self.comms[it.row["comm"]:][:1] == [own]]
+
     def in_finalize(self) -> bool:
         return any(it.row.get("name") == "Finalize" and it.kind == OTHER for it in self.threads)
 
 
 @dataclass(eq=False)
 class Thread:
-    """A thread of a rank, with its record."""
+    """A thread of a rank, with its record. `returns` says that it has made no call since the first reading but some on
+    windows."""
 
     rank: Rank
     row: Dict[str, Any]
     suffix: str
 
     def __post_init__(self) -> None:
-        self.name = self.rank.name + self.suffix
+        self.name, self.returns = self.rank.name + self.suffix, False
         self.kind = int(self.row.get("kind", 0))
         self.calls = int(self.row.get("calls", 0))
 
     def operation(self) -> str:
         return f"MPI_{self.row['name']}" if self.kind else ""
+
+    def is_new(self) -> bool:
+        """Whether it is another thread of a rank, and has made no call of MPI so far."""
+        return "calls" not in self.row and self.suffix != ""
 
     def more(self) -> Dict[str, Any]:
         """What tells its wait from the next, and the note."""
@@ -110,9 +159,15 @@ class Thread:
                 "objects": [f"call-{self.calls}", *values], "count": str(self.calls),
                 "note": " ".join(filter(None, words)), "thread": f"{self.rank.pid}/{self.row['tid']}"}
 
+    def last_call(self) -> Dict[str, Any]:
+        """The place of the last call of one that is outside of MPI, or what it is called if it has made none."""
+        place, called = self.row.get("place"), self.row.get("called")
+        last = f"after {frame(*place)}" if place else called if self.is_new() else "after MPI_Init"
+        return {"frames": [last] if last else [], "note": last or ""}
+
     def partners(self) -> List[str]:
         """The other side of its message, or of the one request for which it polls, as a value for facts."""
-        rows = [self.row] if self.kind in (RECEIVE, SEND) else requests_of(self) if self.kind == POLL else []
+        rows = [self.row] if self.kind in (RECEIVE, SEND) else looked_for(self) if self.kind == POLL else []
         ranks = [rank_of(self.rank, row) for row in rows if row["kind"] in (RECEIVE, SEND)]
         key = "from" if rows and rows[0]["kind"] == RECEIVE else "to"
         return [f"{key}={ranks[0]}"] if len(ranks) == 1 and ranks[0] >= 0 else []
@@ -121,16 +176,21 @@ class Thread:
         """The number of a collective call, or the tag of a message, in words."""
         if self.kind in (RECEIVE, SEND):
             return f"tag {self.row['tag']}"
-        return f"number {self.row['number']}" if ALL <= self.kind <= SOME or of_file(self.row) else ""
+        if self.kind == LOCK and self.row["partner"] >= 0:
+            return f"of {self.row['partner']}"
+        return f"number {self.row['number']}" if ALL <= self.kind <= OTHER and name_of(self.row) else ""
 
 
 @dataclass
 class Need:
-    """What a call or a request needs: all of `whom`, or any of it, or `why` it isn't known."""
+    """What a call or a request needs: all of `whom`, or any of it, or `why` it isn't known. `choice` says why it isn't
+    known which of them it waits for: for one, for some or for all. `likely` are those whom a guess would name."""
 
     whom: List[str] = field(default_factory=list)
     needs_all: bool = False
     why: str = ""
+    choice: str = ""
+    likely: List[str] = field(default_factory=list)
     because: List[str] = field(default_factory=list)
     is_open: bool = False
 
@@ -153,10 +213,24 @@ class Late:
     why: str = ""
 
 
-def many_threads(thread: Thread, moment: Job) -> str:
-    """Returns what shows that another thread of a rank may send for it, or nothing."""
-    going = [it["tid"] for it in thread.rank.others if it["state"] == "R" or it.get("call") in BY_ITSELF]
-    return f"thread {going[0]} of it goes on by itself, and may send for it" if going else ""
+def is_parked(row: Dict[str, Any]) -> bool:
+    """Whether a thread is outside of MPI, and only another one of its process can wake it."""
+    return not row.get("kind") and row.get("call") == PARKED
+
+
+def going_on(rank: Rank) -> List[Dict[str, Any]]:
+    """Returns the other threads of a rank that go on by themselves, and may send for it. A job that hasn't asked for a
+    level has said nothing of its threads."""
+    has_said = rank.row.get("asked") == FUNNELS == rank.level
+    return [it for it in rank.others if it["state"] == "R" or it.get("call") in BY_ITSELF] if not has_said else []
+
+
+def doubted(thread: Thread, process: Process, going: List[Dict[str, Any]]) -> Process:
+    """Returns one of whose rank other threads go on. By a guess they call no MPI, but for one that sleeps once."""
+    proposal = "all" if process.kind == WAITS_FOR_ALL else "any"
+    is_likely = all(it["state"] == "R" or it.get("ticks") for it in going)
+    return unknown(thread.name, f"thread {going[0]['tid']} of it goes on by itself, and may send for it",
+                   proposal=proposal if is_likely else "none", candidates=process.whom, **thread.more())
 
 
 class RecordsRecorder(Recorder):
@@ -165,11 +239,13 @@ class RecordsRecorder(Recorder):
     NAME, IDLE, MOMENT = "mpi", "ranks", APART
     MOMENT_CLASS = Job
     PREMISES = {
-        FUNNELED: Premise("only one thread of a rank calls MPI, as the job has said to MPI_Init", many_threads, True),
+        FUNNELED: Premise("only one thread of a rank calls MPI, as the job has said to MPI_Init"),
         FINALIZED: Premise("MPI_Finalize returns once all ranks have come to it"),
         COMPUTES: Premise("a rank that computes doesn't look for a message between its steps"),
         MEET: Premise("ranks that are at different collective calls of a communicator don't meet"),
-        LATE: Premise("a collective call to which all but one have come waits for that one"),
+        LATE: Premise("a collective call waits for none but ranks that haven't come to it"),
+        WOKEN: Premise("no signal and no thread that MPI_Init has begun wakes a thread of the job"),
+        KEPT_BY: Premise("a lock of a window is kept by its target, or by the first rank there or of all"),
     }
 
     def read(self, state: State) -> List[Reading]:
@@ -199,6 +275,11 @@ class RecordsRecorder(Recorder):
                 if before != f"{rank.pid} on {rank.host}":
                     raise Refusal(f"{shown(reading.path)}: rank {rank.number} is process {rank.pid} on {rank.host} "
                                   f"here, and {before} before: states of one job are expected, each once")
+        for one, later in pairs_of((it.name, it) for rank in ranks for it in rank.threads):
+            align(one, later)
+        rows = (((rank.number, it["tid"]), it) for rank in ranks for it in rank.row.get("threads", []))
+        for was, now in pairs_of(rows):
+            note_ticks(was, now)
         size = max([rank.row.get("size", 0) for rank in ranks] + [max(pids, default=-1) + 1])
         missing = [it for it in range(size) if it not in pids]
         if missing:
@@ -225,12 +306,18 @@ class RecordsRecorder(Recorder):
         if fault:
             return spoilt(thread.name, fault, site=thread.rank.host, thread=thread.more()["thread"])
         made = self.wait_of_thread(thread, moment)
-        if thread.rank.others and not thread.rank.is_threaded:
-            made.because.append(premise(FUNNELED))
+        if not thread.rank.others or thread.rank.is_threaded:
+            return made
+        going = going_on(thread.rank)
+        made = doubted(thread, made, going) if going and made.kind in (ANY, WAITS_FOR_ALL) else made
+        made.because.append(premise(FUNNELED))
         return made
 
     def wait_of_thread(self, thread: Thread, moment: Job) -> Process:
         more = thread.more()
+        if thread.returns:
+            more.update(frames=[], operation="", note="", objects=more["objects"][:1], count=None)
+            return unknown(thread.name, RETURNS, proposal="none", **more)
         if thread.kind == 0:
             return outside(thread, more)
         if thread.kind == POLL:
@@ -241,11 +328,39 @@ class RecordsRecorder(Recorder):
             need = need_of_requests(thread, moment)
         else:
             need = need_of(thread, moment, thread.row)
-        if need.why:
-            proposal = "all" if thread.kind in (ALL, ALL_OF) or of_file(thread.row) else "any"
-            return unknown(thread.name, need.why, proposal=proposal, candidates=need.whom, **more)
-        make = waits_for_all if need.needs_all else waits_for_any
+        if need.why or need.choice and not need.whom:
+            proposal = "any" if thread.kind in (RECEIVE, SEND, ANY_OF) else "all"
+            return unknown(thread.name, need.why or need.choice, proposal=proposal, candidates=need.whom, **more)
+        make = waits_for_all if need.needs_all and not need.choice else waits_for_any
+        if need.choice:
+            more.update(choice=(need.choice, []), proposal="any" if need.choice == UNSEEN else "all",
+                        candidates=need.likely)
         return make(thread.name, need.whom, need.because, is_open=need.is_open, **more)
+
+
+def pairs_of(some: Iterable[Tuple[Any, Any]]) -> Iterator[Tuple[Any, Any]]:
+    """Yields what later readings have by a key, each with what the first one has by it."""
+    first: Dict[Any, Any] = {}
+    for key, it in some:
+        one = first.setdefault(key, it)
+        if one is not it:
+            yield one, it
+
+
+def align(one: Thread, later: Thread) -> None:
+    """Has one who polls in turn for several things, and has found nothing between two readings, stand at one place in
+    both. Notes who has made calls on windows alone between, which don't count."""
+    was, now = one.row, later.row
+    if one.calls == later.calls and one.kind == later.kind == POLL:
+        now.update({key: was[key] for key in ("name", "place", "requests", "comm", "partner", "tag") if key in was})
+    elif one.calls == later.calls and was.get("entered") != now.get("entered"):
+        one.returns = later.returns = True
+
+
+def note_ticks(was: Dict[str, Any], now: Dict[str, Any]) -> None:
+    """Notes of a thread that it has slept several times between two readings, as a heartbeat does."""
+    if was.get("switches") != now.get("switches") and {was.get("call"), now.get("call")} & {*BY_ITSELF}:
+        was["ticks"] = now["ticks"] = True
 
 
 def fault_of(row: Dict[str, Any]) -> str:
@@ -268,13 +383,19 @@ def gone(rank: Rank) -> Process:
 def outside(thread: Thread, more: Dict[str, Any]) -> Process:
     """Returns a thread that is in no call of MPI."""
     name, call = thread.name, thread.row.get("call", "")
-    if "calls" not in thread.row and thread.suffix:
-        return unknown(name, "it has made no call of MPI so far, and may", proposal="none", **more)
     hidden = hidden_calls(thread.rank.row)
-    if hidden:
-        return unknown(name, hidden, proposal="none", **more)
+    more.update(thread.last_call())
+    if is_parked(thread.row) and not hidden and can_be_woken_by_its_own(thread):
+        more.update(count=f"{thread.calls}/{thread.row['switches']}", operation="" if thread.is_new() else "futex")
+        others = [it for it in thread.rank.names() if it != name]
+        return waits_for_any(name, others, [SYSTEM, premise(WOKEN)], **more)
+    if thread.is_new():
+        return new_thread(thread, more)
     if call in BY_ITSELF:
         more["operation"] = "timed sleep" if call == "sleep" else "timed wait"
+    if hidden:
+        return unknown(name, hidden, proposal="runs" if goes_on(thread, hidden) else "none", **more)
+    if call in BY_ITSELF:
         return runs(name, BY_ITSELF[call], [premise(LIMIT)], **more)
     if thread.row["state"] == "R":
         return runs(name, "it computes", [SYSTEM, premise(COMPUTES)], **more)
@@ -282,19 +403,48 @@ def outside(thread: Thread, more: Dict[str, Any]) -> Process:
     return unknown(name, f"it waits outside of MPI, {where}: cmh-dump linux shows more", proposal="none", **more)
 
 
+def goes_on(thread: Thread, hidden: str) -> bool:
+    """Whether one that may be in a call that leaves no record is likely to go on by itself: it sleeps, or computes and
+    has no window at which it could look for a value."""
+    return thread.row.get("call") in BY_ITSELF or thread.row["state"] == "R" and hidden == NEW_CALL
+
+
+def can_be_woken_by_its_own(thread: Thread) -> bool:
+    """Whether nobody but other threads of its process, which are there, can wake a thread."""
+    return thread.rank.has_no_strangers() and "switches" in thread.row and len(thread.rank.names()) > 1
+
+
+def new_thread(thread: Thread, more: Dict[str, Any]) -> Process:
+    """Returns another thread of a rank that has made no call of MPI so far. By a guess it never does, unless it
+    computes or sleeps once."""
+    row, others = thread.row, [it for it in thread.rank.names() if it != thread.name]
+    more["count"] = None
+    goes_on = (row["state"] == "R" or row.get("call") in BY_ITSELF) and not row.get("ticks")
+    if goes_on or is_parked(row) and not thread.rank.has_no_strangers() or not more["frames"]:
+        more["proposal"] = "none"
+    elif is_parked(row):
+        more["candidates"] = others
+    else:
+        more.update(proposal="ended", site=None)
+    return unknown(thread.name, "it has made no call of MPI so far, and may", **more)
+
+
 def hidden_calls(row: Dict[str, Any]) -> str:
     """Returns which calls a rank may be in that leave no record, or nothing."""
     if row["opened"] > 0:
-        return "it has a window of MPI open, and may be in a call on it"
-    return "it may be in a call that came with MPI 4, which leaves no record" if row["standard"] >= NEW_CALLS else ""
+        return "it has a window of MPI open, and may be in a call that puts or gets, or wait for a value there"
+    return NEW_CALL if row["standard"] >= NEW_CALLS else ""
 
 
 def polls(thread: Thread, moment: Job, more: Dict[str, Any]) -> Process:
     """Returns a thread whose last call has looked for something and found nothing."""
-    needs = [need_of(thread, moment, row) for row in requests_of(thread)]
+    rows = looked_for(thread)
+    needs = [need_of(thread, moment, row) for row in rows]
     whom = list(dict.fromkeys(name for need in needs for name in need.whom))
     more["count"] = None  # (a fact decides it only if nothing moves: it may look for something else in the next step)
-    return unknown(thread.name, f"it polls with {thread.operation()}, and may do so in a loop", candidates=whom, **more)
+    needs_all = len(rows) == 1 and rows[0]["kind"] not in (RECEIVE, SEND) or thread.row["name"] == "Testall"
+    return unknown(thread.name, f"it polls with {thread.operation()}, and may do so in a loop", candidates=whom,
+                   proposal="all" if needs_all else "any", **more)
 
 
 def finalizes(thread: Thread, moment: Job, more: Dict[str, Any]) -> Process:
@@ -310,20 +460,63 @@ def finalizes(thread: Thread, moment: Job, more: Dict[str, Any]) -> Process:
 def need_of(thread: Thread, moment: Job, row: Dict[str, Any]) -> Need:
     """Returns what a call, or a request, of a thread needs."""
     kind, comms = row["kind"], thread.rank.comms
-    if kind == OTHER and not of_file(row) or not 0 <= row["comm"] < len(comms):
+    if kind == OTHER and not name_of(row).startswith(("File_", *NEIGHBORS)) or not 0 <= row["comm"] < len(comms):
         return Need(why=f"the record doesn't say whom {thread.operation()} waits for")
     comm = comms[row["comm"]]
-    if kind in (RECEIVE, SEND):
+    if kind in (RECEIVE, SEND, POLL):
         return need_of_message(thread, moment, comm, row)
     if comm["id"] == "0" or comm["inter"]:
-        return Need(why="the record doesn't tell its communicator from others of these ranks")
-    return need_of_meeting(thread, moment, comm, row)
+        return Need(elsewhere(thread, moment, comm),
+                    why="the record doesn't tell its communicator from others of these ranks")
+    return need_of_window(thread, moment, comm, row) if kind == LOCK else need_of_meeting(thread, moment, comm, row)
+
+
+def elsewhere(thread: Thread, moment: Job, comm: Dict[str, Any]) -> List[str]:
+    """Those of a communicator who aren't in the same call as a thread."""
+    some = [moment.ranks[it] for it in ranks_of(comm) or [] if it in moment.ranks]
+    return [name for it in some if it is not thread.rank and not it.is_in(thread.row["name"]) for name in it.names()]
+
+
+def need_of_window(thread: Thread, moment: Job, comm: Dict[str, Any], row: Dict[str, Any]) -> Need:
+    """Returns what a call needs that waits for the lock of a window, or for the other side of an access."""
+    target, ranks = row["partner"], ranks_of(comm) or []
+    if target not in (EVERY, *range(len(ranks))) or any(it not in moment.ranks for it in ranks):
+        return Need(why="the record doesn't say which ranks its window has, or one of them isn't in the state")
+    some = [moment.ranks[it] for it in ranks]
+    others = [it for it in some if it is not thread.rank]
+    if row["name"] in GROUPED:
+        return Need(names_of(it for it in others if not it.at(comm, ALL, SOME)),
+                    why="the record doesn't say which ranks its group has")
+    holders = [it for it in others if it.may_have(comm, target)]
+    likely = names_of(it for it in holders if not it.at(comm, LOCK))
+    if row["name"] not in TAKES or not any(it.bars(comm, target, row["tag"]) for it in others):
+        return Need(likely or [it for it in names_of(some if target == EVERY else some[target:][:1])
+                               if it != thread.name], why="by the records no other rank has a lock that it waits for")
+    names = [it for it in names_of([*holders, *keepers_of(some, target)]) if it != thread.name]
+    choice = "the record doesn't show which of those that have locks of its window it waits for" if names[1:] else ""
+    return Need(names, choice != "", because=[SYSTEM, premise(KEPT_BY)], choice=choice, likely=likely)
+
+
+def names_of(ranks: Iterable[Rank]) -> List[str]:
+    return [name for it in dict.fromkeys(ranks) for name in it.names()]
+
+
+def keepers_of(ranks: List[Rank], target: int) -> List[Rank]:
+    """Returns those that may have to look after the lock of a target of a window."""
+    if target == EVERY:
+        return ranks
+    first = next(it for it in ranks if it.host == ranks[target].host)
+    return [ranks[target], first, ranks[0]]
+
+
+def name_of(row: Dict[str, Any]) -> str:
+    """The name of a collective call, or of that which a request is of, as far as it is known."""
+    return str(row.get("meeting", row.get("name", ""))) if row.get("number", 0) > 0 else ""
 
 
 def of_file(row: Dict[str, Any]) -> bool:
     """Whether a call, or a request, is a collective one on a file."""
-    return row.get("kind") == OTHER and row.get("number", 0) > 0 and str(
-        row.get("meeting", row.get("name", ""))).startswith("File_")
+    return row.get("kind") == OTHER and name_of(row).startswith("File_")
 
 
 def ranks_of(comm: Dict[str, Any]) -> Optional[List[int]]:
@@ -421,11 +614,11 @@ def need_of_meeting(thread: Thread, moment: Job, comm: Dict[str, Any], row: Dict
     come = [moment.ranks[it] for it in ranks if it in moment.ranks and it not in late.ranks]
     away = next(filter(Rank.is_away, come), None) if "meeting" in row else None
     if away is not None:
-        return Need(away.names(), why=f"rank {away.number} has begun the same call, and goes on with it only when it "
-                    "calls MPI again")
+        return Need(names_of(moment.ranks[it] for it in late.ranks) or away.names(),
+                    why=f"rank {away.number} has begun the same call, and goes on with it only when it calls MPI again")
     is_root = comm["rank"] == root
-    if kind == OTHER:
-        return Need([name for it in late.ranks for name in moment.ranks[it].names()],
+    if of_file(row):
+        return Need(names_of(moment.ranks[it] for it in late.ranks),
                     why="MPI doesn't say whether a collective call on a file waits for those that haven't come to it")
     if kind == FROM_ROOT and not is_root and ranks[root:root + 1] and ranks[root] in late.ranks:
         return all_of([ranks[root]], moment, late)
@@ -446,20 +639,21 @@ def all_of(ranks: List[int], moment: Job, late: Late) -> Need:
     if len(ranks) == 1:
         return Need(names[0], len(names[0]) == 1, because=because, is_open=late.is_open)
     if any(len(some) > 1 for some in names):
-        return Need([name for some in names for name in some], why="one that hasn't come has several threads, and any "
-                    "of them may come for it")
+        return Need([name for some in names for name in some], True, because=because, is_open=late.is_open,
+                    choice="one that hasn't come has several threads, and any of them may come for it")
     return Need([some[0] for some in names], True, because=because, is_open=late.is_open)
 
 
 def one_of(moment: Job, late: Late) -> Need:
-    """The need of a call that may go on without some of those that are late: if one alone is, it waits for that."""
-    if len(late.ranks) == 1 and not late.is_open:
-        need = all_of(late.ranks, moment, late)
-        need.because.append(premise(LATE))
+    """The need of a call that may go on without some of those that are late: it waits for one at least."""
+    need = all_of(late.ranks, moment, late)
+    if need.why:
         return need
-    names = [name for it in late.ranks for name in moment.ranks[it].names()]
-    return Need(names, why="the record doesn't show which of the ranks that haven't come it waits for" if names else
-                "all ranks of its communicator have come")
+    need.because.append(premise(LATE))
+    if len(late.ranks) > 1 or late.is_open:
+        need.needs_all, need.is_open = True, late.is_open
+        need.choice = "the record doesn't show which of the ranks that haven't come it waits for"
+    return need
 
 
 # Requests
@@ -470,6 +664,13 @@ def requests_of(thread: Thread) -> List[Dict[str, Any]]:
     keys = ("kind", "comm", "partner", "tag", "number", "complete")
     rows = [dict(zip(keys, it)) for it in thread.row.get("requests", [])]
     return [{**row, "meeting": row_name(thread, row)} for row in rows if row["kind"] and row["complete"] != 1]
+
+
+def looked_for(thread: Thread) -> List[Dict[str, Any]]:
+    """Returns the requests for which one polls, or the message for which it looks as a receive."""
+    if thread.row.get("requests") or "comm" not in thread.row:
+        return requests_of(thread)
+    return [{**thread.row, "kind": RECEIVE}]
 
 
 def row_name(thread: Thread, row: Dict[str, Any]) -> str:
@@ -493,25 +694,24 @@ def need_of_requests(thread: Thread, moment: Job) -> Need:
         return Need(whom, why=odd.why)
     because = list(dict.fromkeys(reason for it in needs for reason in it.because))
     is_open = any(it.is_open for it in needs)
-    if all(it.whom == needs[0].whom and it.needs_all == needs[0].needs_all for it in needs) and (
-            thread.kind == ALL_OF or number == len(rows)):
-        return Need(needs[0].whom, needs[0].needs_all, because=because, is_open=is_open)
-    if thread.kind == ANY_OF:
-        return any_of_requests(needs, whom, because, number - len(rows))
-    if any(row["complete"] is None for row in rows):
-        return Need(whom, why="it can't be seen which of its requests are complete: run the reader as root")
-    if any(len(it.whom) > 1 and not it.needs_all for it in needs):
-        return Need(whom, why="one of its requests may be ended by any of several, and others by another one")
-    return Need(whom, True, because=because, is_open=is_open)
-
-
-def any_of_requests(needs: List[Need], whom: List[str], because: List[str], done: int) -> Need:
-    """The need of a call that any of several requests ends."""
-    if done:
+    if all((it.whom, it.needs_all, it.choice) == (needs[0].whom, needs[0].needs_all, needs[0].choice) for it in needs
+           ) and (thread.kind == ALL_OF or number == len(rows)):
+        return Need(whom, needs[0].needs_all, because=because, is_open=is_open, choice=needs[0].choice)
+    if thread.kind == ANY_OF and number > len(rows):
         return Need(whom, why="one of its requests is complete, so it may be about to go on")
-    if any(len(it.whom) > 1 and it.needs_all for it in needs):
-        return Need(whom, why="one of its requests is of a collective call, and needs all of several")
-    return Need(whom, because=because)
+    choice = next(choices_of(thread, rows, needs), "")
+    return Need(whom, thread.kind == ALL_OF or choice != "", because=because, is_open=is_open, choice=choice)
+
+
+def choices_of(thread: Thread, rows: List[Dict[str, Any]], needs: List[Need]) -> Iterator[str]:
+    """Yields why it isn't known which of those that its requests need a call waits for."""
+    yield from (it.choice for it in needs if it.choice)
+    if thread.kind == ANY_OF and any(len(it.whom) > 1 and it.needs_all for it in needs):
+        yield "one of its requests is of a collective call, and needs all of several"
+    if thread.kind == ALL_OF and any(row["complete"] is None for row in rows):
+        yield UNSEEN
+    if thread.kind == ALL_OF and any(len(it.whom) > 1 and not it.needs_all for it in needs):
+        yield "one of its requests may be ended by any of several, and others by another one"
 
 
 # Text
