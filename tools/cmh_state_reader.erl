@@ -119,14 +119,45 @@ write(Visit, Reader, Which) ->
 %% The limits of the receives of some functions, as their code has them: a number, `infinity` if it has none, or `any`
 %% if it is computed.
 receives(Codes, Node) ->
-    Rows = [Row || {Module, Functions, Code} <- Codes, Row <- rows(Module, Functions, Code)],
-    [io_lib:format("=receives ~b ~ts~n", [length(Rows), Node]) | [io_lib:format("~0tp~n", [Row]) || Row <- Rows]].
+    Found = [Each || {Module, Functions, Code} <- Codes, Each <- functions(Module, Functions, Code)],
+    Receives = [list_to_tuple([Module, Name, Arity, lists:usort(lists:flatmap(fun limit/1, Instructions))
+                               | register(Instructions)])
+                || {Module, Name, Arity, Instructions} <- Found],
+    Asks = [{Module, Name, Arity, Asked} || {Module, Name, Arity, Instructions} <- Found,
+                                            [_ | _] = Asked <- [asked_in(Instructions)]],
+    [[io_lib:format("=~s ~b ~ts~n", [Word, length(Rows), Node]) | [io_lib:format("~0tp~n", [Row]) || Row <- Rows]]
+     || {Word, Rows} <- [{"receives", Receives}, {"asks", Asks}]].
 
-rows(Module, Functions, Code) ->
+%% The names to which a function sends as the last thing before a receive of its own.
+asked_in(Instructions) -> lists:usort(asked_before(Instructions, [])).
+
+asked_before([], _) -> [];
+asked_before([{label, _}, {loop_rec, _, _} | Rest], Before) -> names_in(Before) ++ asked_before(Rest, []);
+asked_before([Each | Rest], Before) ->
+    asked_before(Rest, case is_place(Each) of true -> []; false -> [Each | Before] end).
+
+names_in([]) -> [];
+names_in([Each | Before]) -> [Name || is_send(Each), Name <- name_in(Before)] ++ names_in(Before).
+
+%% The name that is in the first register, if it has been put there just before.
+name_in([{move, {atom, Name}, {x, 0}} | _]) -> [Name];
+name_in([Each | Before]) when is_tuple(Each) ->
+    Quiet = [line, move, put_list, put_map_assoc, put_tuple2, test_heap],
+    case lists:member(element(1, Each), Quiet) andalso not mentions(Each, {x, 0}) of
+        true -> name_in(Before);
+        false -> []
+    end;
+name_in(_) -> [].
+
+is_send(send) -> true;
+is_send({call_ext, _, {extfunc, Module, Name, _}}) ->
+    lists:member({Module, Name}, [{erlang, send}, {gen_server, cast}, {gen_statem, cast}, {'Elixir.GenServer', cast}]);
+is_send(_) -> false.
+
+functions(Module, Functions, Code) ->
     case catch beam_disasm:file(Code) of
         {beam_file, Module, _, _, _, Parts} ->
-            [list_to_tuple([Module, Name, Arity, lists:usort(lists:flatmap(fun limit/1, Instructions))
-                            | register(Instructions)])
+            [{Module, Name, Arity, Instructions}
              || {function, Name, Arity, _, Instructions} <- Parts, lists:member({Name, Arity}, Functions)];
         _ -> []
     end.

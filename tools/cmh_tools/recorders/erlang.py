@@ -18,6 +18,7 @@ from . import State
 from .base import Premise, Recorder
 from .erlang_calls import ANSWERS, LETS_GO, NO_MAIL, place_elsewhere, wait_of_call
 from .erlang_enders import add_enders, stoppers_of, two_of_each
+from .erlang_keepers import is_awake
 from .erlang_locks import LOCKS, locks_of, wait_of_lock
 from .erlang_mnesia import ENDS as TRANSACTIONS
 from .erlang_mnesia import rows_of, wait_of_transaction
@@ -110,6 +111,8 @@ class ErlangRecorder(Recorder):
         nodes = [reading for reading in moment.readings if isinstance(reading, NodeReading)]
         moment.receives = {(reading.source, *function): receives for reading in nodes
                            for function, receives in reading.receives.items()}
+        moment.asks = {(reading.source, *function): names for reading in nodes
+                       for function, names in reading.asks.items()}
         moment.locks = locks_of(nodes)
         moment.held, moment.wanted = (rows_of(nodes, moment, word) for word in ("has", "wants"))
         places = map(place_elsewhere, nodes)
@@ -242,9 +245,17 @@ def child(block: Block, moment: Nodes, more: Dict[str, Any], pid: str, limit: st
     return waits_for_any(name, [moment.name(other)], [SYSTEM, premise(OWN_CHILD)], **more)
 
 
+def asked_by(block: Block, moment: Nodes) -> List[Block]:
+    """Returns those to whose names it has sent before its receive, but for servers without a request."""
+    names = moment.asks.get((block.node, *block.function), [])
+    found = [moment.find(f"{{{name},'{block.node}'}}") for name in names]
+    return [it for it in found if it is not None and it is not block and is_awake(it)]
+
+
 def with_proposal(block: Block, moment: Nodes, more: Dict[str, Any]) -> Process:
     """Returns a process in a wait that isn't known, with those on its stack that may end it."""
     found = [moment.find((block.node, pid)) for pid in dict.fromkeys(PID.findall(block.counter))]
+    asked = asked_by(block, moment)
     names = [moment.name(it) for it in found if it is not None and it is not block]
     is_waiting = block.extra("status") == "waiting"
     receives = moment.receives.get((block.node, *block.function)) if is_waiting else None
@@ -263,9 +274,12 @@ def with_proposal(block: Block, moment: Nodes, more: Dict[str, Any]) -> Process:
     if names:
         reason += f"; on its stack {'is' if len(names) == 1 else 'are'} {', '.join(names)}"
         more["objects"] = names
+    if asked:
+        reason += f"; it has sent to {', '.join(moment.names(asked))}"
+    if names or asked:
         # Who waits for an answer that it has to give doesn't send to it.
-        more["candidates"] = [moment.name(it) for it in found if it is not None and it is not block
-                              and not set(block.tails).intersection(it.awaited)]
+        more["candidates"] = moment.names(it for it in [*found, *asked] if it is not None and it is not block
+                                          and not set(block.tails).intersection(it.awaited))
         # Where a limit may end the receive, or a timer that its own code begins, these are no guess.
         is_open = limits != ["infinity"] or block.is_stack_cut or "timers" in block.code()
         more["candidates"] += [COMPLETE] if is_open else []

@@ -39,12 +39,13 @@ OF_SYSTEM = re.compile(r"gen(_server|_statem|_event|_tcp|_udp)?|global|erpc|inet
                        r"Agent|DynamicSupervisor|Enum|GenServer|Process|Registry|Stream|Supervisor|Task)(\.\w+)*'")
 LOOPS = re.compile(r"(gen_server:loop|gen_statem:loop_(receive|hibernate)|gen_event:fetch_msg|proc_lib:hibernate"
                    r"|proc_lib:wake_up|erlang:hibernate)/")
-FIRST = re.compile("=(process|keeps|left out|locks|mnesia|nodes|numbers|receives|tables|timers|end) ")
+FIRST = re.compile("=(process|asks|keeps|left out|locks|mnesia|nodes|numbers|receives|tables|timers|end) ")
 MARK = re.compile(rf"\n{FIRST.pattern}")
-# The rows below lines of some words: the receives of a function; the number of another node; who has a lock, or wants
-# one of Mnesia.
+# The rows below lines of some words: the receives of a function, and whom it has sent to before; the number of another
+# node; who has a lock, or wants one of Mnesia.
 RECEIVES = re.compile(r"{(\w+|'[^']*'),(\w+|'[^']*'),(\d+),\[([\w,]*)\](?:,(\d+)((?:,\w+)*))?}")
-ROWS = {"receives": RECEIVES, "numbers": re.compile(r"(\d+) (\S+)"),
+ASKS = re.compile(r"{(\w+|'[^']*'),(\w+|'[^']*'),(\d+),\[(.*)\]}")
+ROWS = {"receives": RECEIVES, "asks": ASKS, "numbers": re.compile(r"(\d+) (\S+)"),
         "locks": re.compile(r"{(.*),\[((?:{<[\d.]+>,#Ref<[\d.]+>},?)+)\]}"),
         "mnesia": re.compile(r"{(?P<word>has|wants),{(?P<what>.*)},(?P<kind>\w+),(?P<pid><[\d.]+>)}")}
 OF_ELIXIR = re.compile(r"'Elixir\.([\w.]+)'")
@@ -339,7 +340,8 @@ def readings_of(path: str, text: str, known: Dict[bytes, Block]) -> List[NodeRea
 
 class NodeReading(Reading):
     """The processes of a node as one state has them, up to its line '=end'; the receives in a function, by its module,
-    name and arity; the nodes by the numbers that they have there; its locks, and those of Mnesia."""
+    name and arity; the nodes by the numbers that they have there; its locks, and those of Mnesia; and the
+    names to which a function has sent before it receives."""
 
     def __init__(self, path: str, node: str) -> None:
         super().__init__(path, node, site=node.split("@")[0])
@@ -348,6 +350,7 @@ class NodeReading(Reading):
         self.nodes: Dict[str, str] = {}
         self.locks: List[Tuple[str, str]] = []
         self.mnesia: List[re.Match[str]] = []
+        self.asks: Dict[Tuple[str, ...], List[str]] = {}
 
     @property
     def is_closed(self) -> bool:
@@ -368,6 +371,8 @@ class NodeReading(Reading):
             self.nodes.update({row[1]: row[2] for row in found})
         elif word == "locks":
             self.locks += [(row[1], row[2]) for row in found]
+        elif word == "asks":
+            self.asks.update({row.group(1, 2, 3): row[4].split(",") for row in found})
         elif word == "mnesia":
             self.mnesia += found
 
