@@ -13,8 +13,9 @@ from .stuck import Answer, Waits
 
 # Operations of one that waits for its next message, and functions without a name in which one is started.
 RECEIVES = re.compile(r"chan receive|select|receive|consume|(\w+\.)*(\w*(Queue|Deque)\.(get|take\w*|poll)|accept|recv)")
-READS = re.compile(r"(\w+\.)*(\w*socket\w*|SSL\w*|StreamReader|gen_tcp|gen_udp)[.:](recv|read)\w*",
-                   re.I)  # from outside
+# From outside: from a socket, or by what Java puts before one.
+READS = re.compile(r"(\w+\.)*(\w*socket\w*|SSL\w*|StreamReader|gen_tcp|gen_udp|(Buffered|InputStream)Reader"
+                   r"|(Data|Object)InputStream|Socket\$SocketInputStream)[.:](recv|read)\w*", re.I)
 NAMELESS = re.compile(r"lambda|\.func\d|-fun-\d|Thread\.run|\$\d")
 
 
