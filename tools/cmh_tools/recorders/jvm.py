@@ -24,8 +24,9 @@ from .base import Moment, Premise, Recorder
 from .jvm_dumps import read_dumps
 from .jvm_frames import (AGAIN, BARRIER, CLEANER, COMPUTES, CONDITION, FUTURE, HAS_TIMER, INTERRUPTIBLY, INTERRUPTS,
                          LIMITED, LIMITS_FUTURES, LONG, MEETS, NEEDS_ALL, OF_ITEMS, OF_LOCKS, OF_QUEUES, POOLED,
-                         POOLS_OWN, READS, REENTRANT, SLEEP, SOCKETS, TASK, WORKER, YIELDS, Place, caller_of,
-                         is_at_inbox, is_for_outside, is_in, is_like, is_of_jvm, looks_on, own_of, place_of, short)
+                         POOLS_OWN, READS, READS_PIPE, REENTRANT, SLEEP, SOCKETS, TASK, WORKER, YIELDS, Place,
+                         caller_of, is_at_inbox, is_for_outside, is_in, is_like, is_of_jvm, looks_on, own_of, place_of,
+                         short)
 from .jvm_heap import Heap, Heaps, is_between, read_heap
 from .jvm_heap import PREMISES as OF_HEAPS
 from .jvm_locks import Locks, monitors_of, objects_of
@@ -378,7 +379,8 @@ def wait_with_limit(place: Place, name: str) -> Process:
     """A wait with a limit, or with one that only waits again."""
     if place.has(AGAIN):
         why = f"{place.call} waits with a limit, again and again, and the state doesn't show what for"
-        return unknown(name, why, operation=place.call)
+        is_piped = place.has(READS_PIPE) and not place.call.startswith("Piped")
+        return unknown(name, why, operation="PipedInputStream.read" if is_piped else place.call)
     if place.has(LONG):
         return unknown(name, f"{place.call} has a limit that the state doesn't show, and it may be one of centuries",
                        operation=place.call)

@@ -72,6 +72,7 @@ LONG = re.compile(r"java\.util\.concurrent\.\w+\.awaitTermination")
 # Waits with a limit that only wait again.
 AGAIN = re.compile(r"java\.io\.Piped(?:InputStream|Reader)\.(?:read|receive|awaitSpace)"
                    r"|java\.util\.concurrent\.\w+\.close")
+READS_PIPE = re.compile(r"java\.io\.PipedInputStream\.read")
 SLEEP = re.compile(r"java\.lang\.Thread\.sleep\w*")
 LIMITED = re.compile(r"java\.(?:lang\.\w+|util\.concurrent\.locks\.LockSupport)\.(?:sleep\w*|parkNanos)")
 # Calls that end once all of several have come, or have released a lock.
@@ -99,7 +100,7 @@ OF_LOCKS = re.compile(r"java\.util\.concurrent\.locks\..*")
 YIELDS = re.compile(r"java\.lang\.Thread\.(?:yield0?|onSpinWait)")
 # What they are called who only look on, or tidy up, now and then, and a function of the job's own that only sleeps.
 LOOKS_ON = re.compile(r"(?i).*(?:heart.?beat|(?<![a-z])beat|metric|monitor|statistic|stats|watch|health|alive|gauge"
-                      r"|probe|(?<![a-z])ping(?:er)?(?![a-z])|(?<![a-z])tick(?!et)|progress|uptime|sampler|telemetry"
+                      r"|probe|(?<![a-z])ping(?:er)?(?![a-z])|(?<![a-z])tick(?!et)|progress|uptime|sampler|telemetry|validat"
                       r").*")
 TIDIES_UP = re.compile(r"(?i).*(?:house.?keep|janitor|evict|expir|sweep|reaper|purge|clean|rotat|refresh).*")
 SLEEPS = re.compile(r"(?i)(?:.*\.)?(?:\w*sleep\w*|\w*nap|pause\w*|delay\w*|snooze|doze|rest|idle|wait\w*|await\w*)")
@@ -184,11 +185,13 @@ def is_for_outside(thread: Thread) -> bool:
 
 def looks_on(thread: Thread) -> bool:
     """Whether a thread that waits with a limit is likely to do no more than to look on, by what it and its functions
-    are called, or than to tidy up at the function that it was started with."""
+    are called, or than to tidy up at the function that it was started with. So is a daemon whose function has no name.
+    """
     own = own_of(stack_of(thread))
     names, named = [thread.name, *map(short, own)], [method for method in own if not NAMELESS.search(method)]
     return (len(named) <= SHALLOW and any(map(LOOKS_ON.fullmatch, names))
-            or len(named) <= 1 and any(map(TIDIES_UP.fullmatch, names)))
+            or len(named) <= 1 and any(map(TIDIES_UP.fullmatch, names))
+            or thread.is_daemon and own != [] and not named and not is_in(POOLED, stack_of(thread)))
 
 
 def is_at_inbox(place: Place) -> bool:

@@ -17,7 +17,7 @@ from ..files import Refusal, shown
 START, OWNERS, LIST = "Full thread dump ", "Locked ownable", "_java_thread_list="
 LISTED = re.compile(rf"{LIST}\w+, length=(\d{{1,9}}), elements={{\s*")
 HEADER = re.compile(
-    r'"(?P<name>.*)"(?: #(?P<number>\d+))?(?: \[\d+\])?(?: daemon)?(?: prio=\d+)?(?: os_prio=-?\d+)?'
+    r'"(?P<name>.*)"(?: #(?P<number>\d+))?(?: \[\d+\])?(?P<daemon> daemon)?(?: prio=\d+)?(?: os_prio=-?\d+)?'
     r"(?: cpu=(?P<cpu>\d+(?:\.\d+)?)ms)?(?: elapsed=(?P<elapsed>\d+(?:\.\d+)?)s)?(?: allocated=\S+)?"
     r"(?: defined_classes=\d+)? tid=(?P<tid>\w+)(?: nid=(?:(?P<nid>0x[0-9a-f]{1,8}|\d{1,10})|\w+))?"
     r"(?P<status> [^\[]*)?(?:\[\w+\])?\s*"
@@ -94,6 +94,7 @@ class Thread:
     cpu: Optional[str] = None
     elapsed: str = ""
     is_virtual: bool = False
+    is_daemon: bool = False
     frames: List[Frame] = field(default_factory=list)
     stack: Stack = ()
     owned: Dict[str, str] = field(default_factory=dict)
@@ -330,6 +331,6 @@ class PrintReader:
         native = found["nid"] or ""
         native = str(int(native, 16)) if native.startswith("0x") else native
         thread = Thread(found["name"], key, at, number, found["tid"], native, status=status,
-                        cpu=found["cpu"], elapsed=found["elapsed"] or "")
+                        cpu=found["cpu"], elapsed=found["elapsed"] or "", is_daemon=bool(found["daemon"]))
         self.dump.threads.append(thread)
         return thread
