@@ -23,10 +23,10 @@ from . import State
 from .base import Moment, Premise, Recorder
 from .jvm_dumps import read_dumps
 from .jvm_frames import (AGAIN, BARRIER, CLEANER, COMPUTES, CONDITION, FUTURE, HAS_TIMER, INTERRUPTIBLY, INTERRUPTS,
-                         LIMITED, LIMITS_FUTURES, LONG, MEETS, NEEDS_ALL, OF_ITEMS, OF_LOCKS, OF_QUEUES, POOLED,
+                         LATCH, LIMITED, LIMITS_FUTURES, LONG, MEETS, NEEDS_ALL, OF_ITEMS, OF_LOCKS, OF_QUEUES, POOLED,
                          POOLS_OWN, READS, READS_PIPE, REENTRANT, SLEEP, SOCKETS, TASK, WORKER, YIELDS, Place,
                          caller_of, is_at_inbox, is_for_outside, is_in, is_like, is_of_jvm, looks_on, own_of, place_of,
-                         short)
+                         short, tries_again)
 from .jvm_heap import Heap, Heaps, is_between, read_heap
 from .jvm_heap import PREMISES as OF_HEAPS
 from .jvm_locks import Locks, monitors_of, objects_of
@@ -178,9 +178,10 @@ class JvmRecorder(Recorder):
         process.operation = process.operation or place.call or own
         here = moment.locks.objects.get(thread.key, [])
         process.objects = here if thread.same_as is None else thread.same_as
-        process.proposal = "all" if NEEDS_ALL.fullmatch(place.call) or process.choice else "any"
-        if process.kind == UNKNOWN and process.proposal == "any" and is_for_outside(thread):
-            process.proposal = "maybe"
+        needs_all = NEEDS_ALL.fullmatch(place.call) and not (LATCH.fullmatch(place.call) and process.candidates)
+        process.proposal = "all" if needs_all or process.choice else "any"
+        if process.kind == UNKNOWN and (is_for_outside(thread) or moment.heaps.is_alone(thread)):
+            process.proposal, process.candidates = "maybe", []
         if process.kind == RUNS and self.frees_nobody(thread, place, process, moment):
             process.proposal = "frees"
         process.is_collective = MEETS.fullmatch(place.call) is not None
@@ -208,8 +209,9 @@ class JvmRecorder(Recorder):
 
     def set_count(self, process: Process, thread: Thread, place: Place, moment: Threads) -> None:
         """Sets the processor time as its count. Who is blocked at a monitor, or waits with a limit, wakes up by itself
-        and uses some, so that it counts nothing there."""
-        is_again = place.has(AGAIN) or thread.state == "BLOCKED"
+        and uses some, so that it counts nothing there. Nor does it of one that sleeps before it tries again: it isn't
+        to be taken for a heartbeat."""
+        is_again = place.has(AGAIN) or thread.state == "BLOCKED" or place.has(SLEEP) and tries_again(thread)
         if process.moment == ONCE or is_again or not thread.cpu or not moment.counts:
             return
         process.count = f"cpu {thread.cpu}"
@@ -271,8 +273,8 @@ class JvmRecorder(Recorder):
         if CONDITION in (thread.parked_class or parked) and not inside_of(thread) and not moment.dump.has_owners:
             return spoilt(name, f"{what}: it may have been signalled, and wait for whoever has the lock: only `jstack "
                           "-l` shows that")
-        reach = [] if is_at_inbox(place) else moment.heaps.reach_of(thread)
-        if reach and not NEEDS_ALL.fullmatch(place.call):
+        reach = None if is_at_inbox(place) else moment.heaps.reach_of(thread)
+        if reach is not None and (LATCH.fullmatch(place.call) or not NEEDS_ALL.fullmatch(place.call)):
             return unknown(name, f"{what}: the heap shows who has a reference to it, and not who ends this wait",
                            candidates=[*moment.heaps.in_order([*reach, name]), COMPLETE])
         workers = moment.workers if TASK.fullmatch(place.call) and not FUTURE.fullmatch(place.call) else []

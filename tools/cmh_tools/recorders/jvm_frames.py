@@ -79,6 +79,7 @@ LIMITED = re.compile(r"java\.(?:lang\.\w+|util\.concurrent\.locks\.LockSupport)\
 NEEDS_ALL = re.compile(r"(?:CountDownLatch|CyclicBarrier|Phaser)\.\w+|\w+\.(?:invokeAll|awaitTermination|close)"
                        r"|StructuredTaskScope\w*\.join\w*|.*WriteLock\.lock\w*")
 READS = re.compile(r"ReentrantReadWriteLock\$ReadLock\.lock\w*")
+LATCH = re.compile(r"CountDownLatch\.await")
 # Operations that need all of a group to come to them.
 MEETS = re.compile(r"CyclicBarrier\.await|Phaser\.arriveAndAwaitAdvance")
 # Calls that end once a task has run, and the frames of threads of pools, which run tasks.
@@ -100,9 +101,10 @@ OF_LOCKS = re.compile(r"java\.util\.concurrent\.locks\..*")
 YIELDS = re.compile(r"java\.lang\.Thread\.(?:yield0?|onSpinWait)")
 # What they are called who only look on, or tidy up, now and then, and a function of the job's own that only sleeps.
 LOOKS_ON = re.compile(r"(?i).*(?:heart.?beat|(?<![a-z])beat|metric|monitor|statistic|stats|watch|health|alive|gauge"
-                      r"|probe|(?<![a-z])ping(?:er)?(?![a-z])|(?<![a-z])tick(?!et)|progress|uptime|sampler|telemetry|validat"
-                      r").*")
+                      r"|probe|(?<![a-z])ping(?:er)?(?![a-z])|(?<![a-z])tick(?!et)|progress|uptime|sampler|telemetry"
+                      r"|validat).*")
 TIDIES_UP = re.compile(r"(?i).*(?:house.?keep|janitor|evict|expir|sweep|reaper|purge|clean|rotat|refresh).*")
+TRIES_AGAIN = re.compile(r"(?i).*(?:retr(?:y|ies)|again|reconnect|back.?off|attempt).*")
 SLEEPS = re.compile(r"(?i)(?:.*\.)?(?:\w*sleep\w*|\w*nap|pause\w*|delay\w*|snooze|doze|rest|idle|wait\w*|await\w*)")
 # Waits for what is likely to be outside of the JVM: a child, a pipe or file, a server; and who else calls such ones.
 OUTSIDE = re.compile(r"java\.lang\.Process(?:Impl)?\.waitFor|java\.io\.File(?:In|Out)putStream\.(?:read|write)Bytes"
@@ -181,6 +183,13 @@ def is_for_outside(thread: Thread) -> bool:
     RMI may have called its own."""
     stack = stack_of(thread)
     return is_in(OUTSIDE, stack) and not is_in(CALLS_IN, stack) and len(own_of(stack)) > 1
+
+
+def tries_again(thread: Thread) -> bool:
+    """Whether a thread that sleeps now and then is likely to be at work: deep in its functions, or by their names."""
+    own = own_of(stack_of(thread))
+    named = [method for method in own if not NAMELESS.search(method)]
+    return len(named) > SHALLOW and not looks_on(thread) or any(map(TRIES_AGAIN.fullmatch, map(short, named)))
 
 
 def looks_on(thread: Thread) -> bool:

@@ -144,13 +144,23 @@ class Heaps:
 
     def reach_of(self, thread: Thread) -> Optional[List[str]]:
         """Returns the names of those who have a reference to what a thread waits at, or to the thread: they are likely
-        to end its wait. A thread may come to it by a name too, as to an interned text or a class. None if anybody may
-        have one, or one of the JVM itself has, or a thread looks for others without a reference."""
-        wait = self.heap.wait_of(thread) if self.heap and not self.is_searched else None
-        if wait is None or wait.reach is None:
+        to end its wait, but for those for whom nobody has one. A thread may come to it by a name too, as to an interned
+        text or a class. None if anybody may have one, or one of the JVM itself has, or a thread looks for others
+        without a reference."""
+        reach = self.labels_of(thread)
+        some = [self.there.get(it) for it in reach or ()]
+        if reach is None or any(it is None or is_of_jvm(it) for it in some):
             return None
-        some = [self.there.get(it) for it in wait.reach]
-        return None if any(it is None or is_of_jvm(it) for it in some) else self.names_of(wait.reach)
+        return self.names_of([it for it, other in zip(reach, some) if other is None or self.labels_of(other) != []])
+
+    def labels_of(self, thread: Thread) -> Optional[List[Label]]:
+        """Returns who has a reference to what a thread waits at, if the heap says it."""
+        wait = self.heap.wait_of(thread) if self.heap and not self.is_searched else None
+        return wait.reach if wait is not None else None
+
+    def is_alone(self, thread: Thread) -> bool:
+        """Whether main waits for what nobody else has: that may be by intent, until the JVM ends."""
+        return thread.name == "main" and self.labels_of(thread) == []
 
     def workers_of(self, thread: Thread) -> List[str]:
         """Returns the threads of the pool for whose end a thread waits, if the heap shows these."""
