@@ -70,8 +70,9 @@ class Threads(Moment):
     def is_lost(self, thread: Thread, lock: str) -> bool:
         """Whether the owner of a ReentrantLock has ended with it: nobody owns it, nor takes it or gives it back just
         now, and all who wait for it have stood since. The first of these would have been woken by a lock that is free.
+        A state in which nobody owns any lock may lack them all.
         """
-        is_plain = self.dump.has_owners and self.counts and not self.lacks
+        is_plain = any(it.owned for it in self.threads) and self.counts and not self.lacks
         if not is_plain or not lock or not REENTRANT.fullmatch(thread.parked_class):
             return False
         here = [it for it in self.threads if lock in self.locks.objects.get(it.key, [])]
