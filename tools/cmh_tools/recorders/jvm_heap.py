@@ -176,7 +176,7 @@ class Heaps:
     def process_of(self, thread: Thread, name: str) -> Optional[Process]:
         """Returns what a thread waits for without a limit, as a process, or None if the heap doesn't say it."""
         wait = self.heap.wait_of(thread) if self.heap else None
-        if wait is not None and wait.kind == HOOK:
+        if wait is not None and (wait.kind == HOOK or wait.kind == JOIN and wait.whom == [label_of(thread)]):
             return unknown(name, "waits for the end of the JVM", is_idle=True)
         if wait is None or not wait.whom or wait.kind in (POOL, REACH):
             return None
