@@ -226,7 +226,7 @@ class JvmRecorder(Recorder):
         if thread.state == "BLOCKED":
             return self.wait_for_monitor(thread, name, moment)
         if has_limit:
-            process = wait_with_limit(place, name)
+            process = wait_with_limit(place, name, moment.counts and thread.has_ticked)
             process.candidates = moment.heaps.workers_of(thread) if process.kind == UNKNOWN else []
             return process
         if thread.state == "WAITING":
@@ -378,13 +378,14 @@ def inside_of(thread: Thread) -> str:
     return caller.rpartition(".")[0] + "." if caller.startswith(OF_QUEUES) else ""
 
 
-def wait_with_limit(place: Place, name: str) -> Process:
-    """A wait with a limit, or with one that only waits again."""
+def wait_with_limit(place: Place, name: str, has_ticked: bool) -> Process:
+    """A wait with a limit, or with one that only waits again. A limit that has ended between two states is no long one.
+    """
     if place.has(AGAIN):
         why = f"{place.call} waits with a limit, again and again, and the state doesn't show what for"
         is_piped = place.has(READS_PIPE) and not place.call.startswith("Piped")
         return unknown(name, why, operation="PipedInputStream.read" if is_piped else place.call)
-    if place.has(LONG):
+    if place.has(LONG) and not has_ticked:
         return unknown(name, f"{place.call} has a limit that the state doesn't show, and it may be one of centuries",
                        operation=place.call)
     why = "sleeps" if place.has(SLEEP) else "waits for a timer" if place.has(HAS_TIMER) else "waits with a limit"
@@ -479,3 +480,5 @@ def follow(first: Dump, later: Dump) -> None:
         thread.same_as = old.same_as
         if thread.cpu is not None and thread.cpu == old.cpu:
             thread.has_stood = old.has_stood = True
+        elif thread.cpu is not None:
+            thread.has_ticked = old.has_ticked = True

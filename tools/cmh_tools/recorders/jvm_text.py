@@ -79,8 +79,8 @@ class Thread:
     JVMs too, and `native` is its number in the kernel; `at` is where it was read. `parked_class` is the class of what
     it is parked at, and `owned` has the class of each lock that it owns, if `lists_owned` says that these are printed.
     By another state, if its frames are the same there, `same_as` has the objects that it waited at in the first one,
-    and `has_stood` says that it has used no processor time. `is_closed` says that no more frames may follow in its
-    text, and `stack` is what `stack_of` has found."""
+    `has_stood` says that it has used no processor time, and `has_ticked` that it has used some. `is_closed` says that
+    no more frames may follow in its text, and `stack` is what `stack_of` has found."""
 
     name: str
     key: str
@@ -103,6 +103,7 @@ class Thread:
     parked_class: str = ""
     same_as: Optional[List[str]] = None
     has_stood: bool = False
+    has_ticked: bool = False
     is_closed: bool = False
     fault: str = ""
 
