@@ -190,6 +190,8 @@ def describe_known(value, row):
         return {**row, "left": value._value, "most": getattr(value, "_bound_value", None)}
     if is_a(value, "asyncio.taskgroups", "TaskGroup"):
         return {**row, "all": [describe(task) for task in value._tasks if not task.done()]}
+    if is_a(value, "multiprocessing.synchronize", "SemLock"):
+        return {**row, "semaphore": semaphore_of(value, maps_of_semaphores()), "left": value._semlock._get_value()}
     return None
 
 
@@ -1669,6 +1671,29 @@ def children_rows():
              "ended": has_ended(getattr(child._popen, "pid", None))} for child in children]
 
 
+def maps_of_semaphores():
+    """Where the kernel has semaphores in memory: for each start and end what tells it from those of all processes."""
+    with contextlib.suppress(OSError), open("/proc/self/maps") as file:
+        rows = [line.split() for line in file if "/sem." in line]
+        return [(*(int(each, 16) for each in row[0].split("-")), f"{row[3]} {row[4]}") for row in rows]
+    return []
+
+
+def semaphore_of(lock, maps):
+    """What tells a lock of multiprocessing from all others of the machine, or None."""
+    handle = lock._semlock.handle
+    return next((name for start, end, name in maps if start <= handle < end), None)
+
+
+def taken_rows():
+    """The locks and semaphores of multiprocessing that this process has taken and not given back itself."""
+    module = sys.modules.get("multiprocessing.util")
+    found = [each for each in list(getattr(module, "_afterfork_registry", {}).values())
+             if is_a(each, "multiprocessing.synchronize", "SemLock") and each._semlock._count() > 0]
+    maps = maps_of_semaphores() if found else []
+    return [{"semaphore": semaphore_of(each, maps), "count": each._semlock._count()} for each in found]
+
+
 def has_ended(pid):
     """Whether a child is there only until somebody asks for its status."""
     try:
@@ -1739,6 +1764,7 @@ def state(number=0):
     threads, loops = thread_rows(before, spent, holders, wakers)
     tasks = guarded(task_rows, loops, {} if "error" in tasks_before else tasks_before, holders, wakers)
     waits = [guarded(each) for each in (wakers.rows, wakers.sleepers)] if isinstance(wakers, Wakers) else []
+    waits.append(guarded(taken_rows))
     rows = [*threads, *(tasks if isinstance(tasks, list) else [tasks]), *children_rows(),
             *(row for some in waits if isinstance(some, list) for row in some)]
     head = {"version": VERSION, "process": process_name(), "pid": os.getpid(), "parent": os.getppid(),

@@ -83,6 +83,15 @@ def timer_of(look: Look) -> str:
     return next(filter(ENDS.match, calls), "")
 
 
+def takers_on(host: str, looks: List[Look], names: Names) -> Dict[str, List[Any]]:
+    """Returns by each lock of multiprocessing that processes of a machine have taken the names in these."""
+    found: Dict[str, List[Any]] = defaultdict(list)
+    for look in looks if host else ():
+        for what in look.semaphores if look.place()[0] == host else ():
+            found[what] += [names.of(look, key) for key in (*look.threads, *look.tasks)]
+    return found
+
+
 def enders_of(jobs: List[Job]) -> Dict[Any, List[Any]]:
     """Returns those whose code may end an OS process: their own one, or any if it kills by number."""
     found: Dict[Any, List[Any]] = defaultdict(list)
@@ -209,7 +218,9 @@ class PythonRecorder(Recorder):
         children: Dict[Any, List[str]] = defaultdict(list)
         for look in looks:
             children[look.place(look.head.get("parent"))] += filter(None, [mains.get(look.place())])
-        moment.jobs = [Job(look, self.names, mains, timer_of(look), children[look.place()]) for look in looks]
+        takers = {look.place()[0]: takers_on(look.place()[0], looks, self.names) for look in looks}
+        moment.jobs = [Job(look, self.names, mains, timer_of(look), children[look.place()], takers[look.place()[0]])
+                       for look in looks]
         moment.enders = enders_of(moment.jobs)
 
     def processes(self, moment: Jobs) -> Iterator[Subject]:

@@ -60,7 +60,7 @@ def label(row: "Row") -> str:
 @dataclass
 class Standing:
     """Where a thread or a task stands: what the rules for waits look at. `children` are the main threads of those that
-    its OS process has begun."""
+    its OS process has begun, and `takers` has by locks of multiprocessing those in the processes that have one."""
 
     look: Look
     row: Row
@@ -69,6 +69,7 @@ class Standing:
     mains: Dict[Any, Any]
     tasks_on: Dict[Any, Any] = field(default_factory=dict)
     children: List[str] = field(default_factory=list)
+    takers: Dict[str, List[Any]] = field(default_factory=dict)
 
     @property
     def call(self) -> Dict[str, Any]:

@@ -35,10 +35,13 @@ GETS = re.compile(r"(multiprocessing\.)?queues?\.\w+\.get$|threading\.Condition\
 class Job:
     """One look at an OS process, with the waits of its threads, its tasks, and the coroutines that a loop has been
     handed. `timer` is what one of its timers will call to end a wait or the process, if one will, and `children` are
-    the main threads of those that it has begun."""
+    the main threads of those that it has begun. `takers` has by locks of multiprocessing those whose process has one.
+    """
 
-    def __init__(self, look: Look, names: Names, mains: Dict[Any, Any], timer: str, children: List[str]) -> None:
+    def __init__(self, look: Look, names: Names, mains: Dict[Any, Any], timer: str, children: List[str],
+                 takers: Dict[str, List[Any]]) -> None:
         self.look, self.names, self.mains, self.timer, self.children = look, names, mains, timer, children
+        self.takers = takers
         self.site = names.sites[look.place()]
         self.cancellers = Cancellers(look)
         tasks: Dict[str, List[Any]] = {}
@@ -52,7 +55,7 @@ class Job:
         return self.names.of(self.look, key)
 
     def standing(self, row: "Row", frames: List[Frame]) -> Standing:
-        return Standing(self.look, row, frames, self.name_of, self.mains, self.tasks_on, self.children)
+        return Standing(self.look, row, frames, self.name_of, self.mains, self.tasks_on, self.children, self.takers)
 
     def loop_of(self, row: "Row") -> Optional[Dict[str, Any]]:
         key = row.more.get("loop")

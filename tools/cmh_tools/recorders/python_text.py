@@ -62,7 +62,8 @@ class Look:
     those whose code may cancel any task or future, or set one, and `wakers` by a wait the keys of those whose code
     comes to a name for what is waited at. `stopped` has the waits that a signal's handler is likely to end, or,
     as `endless`, nobody, since nothing has a name for what is waited at, and `sleepers` by the keys of those who sleep
-    or wait with a limit the words in their code that may end others' waits."""
+    or wait with a limit the words in their code that may end others' waits. `semaphores` has the locks of
+    multiprocessing that it has taken."""
 
     where: str
     process: str
@@ -78,6 +79,7 @@ class Look:
     stopped: Set[str] = field(default_factory=set)
     endless: Set[str] = field(default_factory=set)
     sleepers: Dict[Any, Any] = field(default_factory=dict)
+    semaphores: Set[str] = field(default_factory=set)
     is_whole: bool = True
     by_faulthandler: bool = False
     shown_by: str = ""  # another tool, which shows places alone
@@ -213,6 +215,8 @@ def add_row(look: Look, row: Dict[str, Any], path: str, at: int) -> None:
             look.wakers[str(row["wait"])] = row["by"]
             look.stopped.update([str(row["wait"])] if True in (row.get("signals"), row.get("nameless")) else ())
             look.endless.update([str(row["wait"])] if row.get("nameless") is True else ())
+        elif "semaphore" in row:
+            look.semaphores.add(str(row["semaphore"]))
         elif "sleeper" in row:
             look.sleepers[row["sleeper"]] = row["ends"]
         elif "child" not in row:

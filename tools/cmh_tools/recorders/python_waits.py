@@ -9,6 +9,7 @@ from ..sketch import ALL, ANY, LIMIT, RUNS, SYSTEM, UNKNOWN, premise
 from .python_names import Standing, main_task, own_frames, pools_of
 from .python_text import Frame, Look, is_number, last_word
 
+SEMAPHORES = re.compile(r"multiprocessing\.synchronize\.\w+\.__enter__$")
 CHILDREN = re.compile(r"subprocess\.Popen\.(wait|_wait)$")
 WAITS = re.compile(r"(os|posix)\.(wait|waitpid|wait3|wait4|waitid)$")
 INNER = re.compile(r"multiprocessing\.pool\.(Thread)?Pool\._handle_(tasks|workers)$")  # of the pool alone
@@ -84,11 +85,25 @@ def by_names(standing: Standing) -> Wait:
         wait.proposal = "outside"  # (as a service that waits to be stopped)
     elif any(map(CHILDREN.match, [each.at for each in standing.standard])) or WAITS.match(operation):
         guess_child(standing, wait)
+    elif semaphore_in(standing):
+        found = standing.takers.get(semaphore_in(standing), [])
+        wait.likely = [name for name in found if name != standing.name_of(standing.row.key)][:LIKELY]
+        wait.proposal = "" if wait.likely else "nobody"
     elif is_main and at in look.wakers and not wait.likely and not operation.startswith("Lock."):
         wait.proposal = "maybe"
     elif not names:
         wait.proposal = "nobody"
     return wait
+
+
+def semaphore_in(standing: Standing) -> str:
+    """Returns the lock of multiprocessing that one waits for, or nothing: the reader's lock of a queue is one too."""
+    top = standing.frames[0] if standing.frames else None
+    is_block = top is not None and SEMAPHORES.match(top.at) is not None
+    lock: Any = top.has.get("self") if top is not None and is_block else standing.call.get("on")
+    is_lock = isinstance(lock, dict) and lock.get("type") in ("Lock", "RLock") and lock.get("left") == 0
+    is_taking = is_block or last_word(standing.call) == "acquire"
+    return str(lock["semaphore"]) if is_lock and is_taking and lock.get("semaphore") else ""
 
 
 def guess_child(standing: Standing, wait: Wait) -> None:
