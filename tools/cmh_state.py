@@ -1585,6 +1585,9 @@ def completed_in(coroutine):
     chain = coroutines_of(coroutine)
     frames = [getattr(each, "cr_frame", None) for each in chain]
     inner = [each for each in frames if each is not None and each.f_code.co_name == "_wait_for_one"]
+    own = inner[0].f_locals.get("self") if inner else None  # (from Python 3.13 on)
+    if is_a(own, "asyncio.tasks", "_AsCompletedIterator") and own._timeout_handle is None:
+        return {"completes": describe(own._todo)}
     queues = [each.f_locals.get("done") for each in inner]
     inside = [part for each in (chain if sys.version_info >= (3, 11) else frames) for part in gc.get_referents(each)]
     for each in inside if queues else ():
