@@ -1027,8 +1027,7 @@ class Wakers:
         for value, words in self.targets.values():
             place, names = self.place_of(value, words), self.aliases[id(value)]
             if place not in rows:
-                some = [it for it in self.stacks
-                        if names is not None and self.may_reach(it, names, words, words is None)]
+                some = [it for it in self.stacks if names is not None and self.may_reach(it, names, words)]
                 left -= len(some)
                 by = [it for it in some if it != SIGNALLED]
                 rows[place] = {"wait": place, "by": None if names is None or None in some or left < 0 else by,
@@ -1040,9 +1039,8 @@ class Wakers:
         """The words by which those who sleep or wait with a limit may end waits of others, or None for any."""
         rows = []
         for key, (frames, _) in self.stacks.items():
-            if frames and guarded(has_limit, frames[0][0]) is True:
-                self.may_reach(key, (), None, False)
-                names, words = self.names[key, False], self.endings.get(key)
+            if frames and time.monotonic() < self.end and guarded(has_limit, frames[0][0]) is True:
+                names, words = self.names_of(key), self.endings.get(key)
                 is_known = names is not None and words is not None and not any(map(is_in_block, frames))
                 rows.append({"sleeper": key, "ends": sorted(names & (words | ENDING)) if is_known else None})
         return rows
@@ -1052,20 +1050,26 @@ class Wakers:
         return any(type(each) in (types.MethodType, types.BuiltinMethodType) and each.__self__ is value
                    and each.__name__ in (words or ()) for each in self.stacks[SIGNALLED][1])
 
-    def may_reach(self, key, aliases, words, is_whole):
-        """Whether one may come to one of some names, and to one of some words, if these are needed. Its whole code
-        counts where a block may give back a lock that the code named before."""
-        if (key, is_whole) not in self.names:
-            found = guarded(self.names_from, *self.stacks[key], is_whole, self.endings.setdefault(key, set()))
-            self.names[key, is_whole] = found if type(found) is set else None
-        names = self.names[key, is_whole]
-        return names is None or not (names.isdisjoint(aliases) or words is not None and names.isdisjoint(words))
+    def may_reach(self, key, aliases, words):
+        """Whether one may come to one of some names, and to one of some words. Without these it may give back a lock, by
+        its code or at the end of a block."""
+        names = self.names_of(key)
+        if names is None or names.isdisjoint(aliases):
+            return names is None
+        some = {"release"} if words is None else words
+        return not names.isdisjoint(some) or words is None and any(map(is_in_block, self.stacks[key][0]))
 
-    def names_from(self, frames, called, is_whole, endings):
-        """The names in the code that some frames may still come to, or in all of theirs. None if that may be any. Adds
-        to `endings` the words that end waits at the objects that they come to."""
-        ways = [(all_names(frame.f_code) if is_whole else names_left(frame.f_code, frame.f_lasti),
-                 (dict(frame.f_locals), frame.f_globals), frame.f_code) for frame, _ in frames if is_own(frame)]
+    def names_of(self, key):
+        if key not in self.names:
+            found = guarded(self.names_from, *self.stacks[key], self.endings.setdefault(key, set()))
+            self.names[key] = found if type(found) is set else None
+        return self.names[key]
+
+    def names_from(self, frames, called, endings):
+        """The names in the code that some frames may still come to. None if that may be any. Adds to `endings` the words
+        that end waits at the objects that they come to."""
+        ways = [(names_left(frame.f_code, frame.f_lasti), (dict(frame.f_locals), frame.f_globals), frame.f_code)
+                for frame, _ in frames if is_own(frame)]
         ways += [(all_names(each.gi_code), ({}, {}), each.gi_code) for each in variables_in(frames)
                  if type(each) is types.GeneratorType]  # (whose end runs too)
         later = called_later([row for row in frames if row[0].f_code.co_name != "run_forever"])
@@ -1108,8 +1112,9 @@ def has_limit(frame):
 
 def is_in_block(row):
     """Whether a frame is in a block of `with`, whose end may end waits."""
-    frame, _ = row
-    return is_own(frame) and bool(blocks_at(frame.f_code, frame.f_lasti))
+    code, last = row[0].f_code, row[0].f_lasti
+    is_old = sys.version_info < (3, 9) and not WITH.isdisjoint(code.co_code[::2])
+    return is_own(row[0]) and (is_old or bool(blocks_at(code, last)))
 
 
 def variables_in(frames):
