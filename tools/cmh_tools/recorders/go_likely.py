@@ -57,20 +57,24 @@ class Likely:
 
     def proposal(self, goroutine: Goroutine, place: Place) -> str:
         """Returns what to propose of one whose wait isn't known, if it goes on by a timer, a signal or the outside."""
-        is_main_at_signals = goroutine.number == MAIN and goroutine.state in BY_TIMERS[:2] and self.has_signals
-        if self.is_timed(goroutine) or is_main_at_signals and len(place.frames) == 1:
+        if self.is_timed(goroutine) or self.is_at_signals(goroutine, place):
             return "outside"
         if goroutine.state in BY_SYSTEM:
             return "runs" if len(place.frames) > 1 else "outside"
         return ""
 
+    def is_at_signals(self, goroutine: Goroutine, place: Place) -> bool:
+        """Whether it is main that waits for a signal, as a service does that ends by one."""
+        return goroutine.number == MAIN and goroutine.state in BY_TIMERS[:2] and self.has_signals \
+            and len(place.frames) == 1
+
     def is_fed(self, goroutine: Goroutine, place: Place) -> bool:
-        """Whether one that waits for its next message is likely to get it from those that are there: one whose
-        creator's function others stand in, or that answers a request, or one that was given what it waits at, where no
-        requests from outside are served."""
-        if goroutine.state != "chan receive" or self.is_timed(goroutine):
+        """Whether one that waits for its next message is likely to get it from those that are there: main, one that
+        answers a request, one whose creator's function others stand in, or one that was given what it waits at, where
+        no requests from outside are served."""
+        if goroutine.state != "chan receive" or self.is_timed(goroutine) or self.is_at_signals(goroutine, place):
             return False
-        if is_handler(goroutine):
+        if goroutine.number == MAIN or is_handler(goroutine):
             return True
         by_creator = self.standing[goroutine.created_by] - {MAIN, goroutine.number}
         last = next((it for it in reversed(goroutine.frames) if is_own(it)), goroutine.creator)
