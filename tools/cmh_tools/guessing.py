@@ -38,19 +38,41 @@ def supposed(sketch: Sketch, facts: Facts) -> Facts:
 def take(sketch: Sketch, facts: Facts) -> None:
     """Has guesses decide who is unknown and isn't idle, where no fact speaks of it. If some are stuck without those who
     only wait for their next message, these may have nothing to do, and nothing is guessed of their waits. Nor is it of
-    one that reads from a socket there."""
+    one that reads from a socket there. If all who are stuck may have nothing to do, who ticks may feed them."""
     passed_over = {it.name for it in sketch.processes if it.is_idle or is_spoken_of(it, facts)}
     at_rest = receivers(sketch, passed_over)
-    trial = replace(sketch, processes=[it.copy() for it in sketch.processes], facts=[*sketch.facts])
+    trial = copy_of(sketch)
     spared = apply_to(trial, facts, passed_over, at_rest)
+    inside = stuck_names(trial)
     idle = {it.name for it in trial.processes if it.is_idle}
-    if at_rest and idle.issuperset(stuck_names(trial)):
+    calm = idle.union(it.name for it in trial.processes if it.may_rest)
+    if (at_rest or calm - idle) and calm.issuperset(inside):
         reading = {it.name for it in sketch.processes if READS.fullmatch(it.operation)}
-        apply_to(sketch, facts, passed_over, [name for name in at_rest if name in reading])
+        take_at_rest(sketch, facts, passed_over, [name for name in at_rest if name in reading])
     else:
         sketch.processes, sketch.facts = trial.processes, trial.facts
         feed(sketch, facts, spared)
     count_anew(sketch)
+
+
+def copy_of(sketch: Sketch) -> Sketch:
+    return replace(sketch, processes=[it.copy() for it in sketch.processes], facts=[*sketch.facts])
+
+
+def take_at_rest(sketch: Sketch, facts: Facts, passed_over: Set[str], at_rest: List[str]) -> None:
+    """Has guesses decide who is unknown where all may have nothing to do: who ticks may feed them. If some are stuck
+    without it, nothing is guessed of those who may have nothing to do."""
+    for it in sketch.processes:
+        if it.may_rest and it.proposal in (FREES, OUTSIDE):
+            it.proposal = "any" if it.kind == RUNS else "runs"
+    trial = copy_of(sketch)
+    apply_to(trial, facts, passed_over, at_rest)
+    calm = {it.name for it in trial.processes if it.may_rest}
+    inside = stuck_names(trial)
+    if calm and inside and calm.issuperset(inside):
+        apply_to(sketch, facts, passed_over | inside, at_rest)
+    else:
+        sketch.processes, sketch.facts = trial.processes, trial.facts
 
 
 def apply_to(sketch: Sketch, facts: Facts, passed_over: Set[str], at_rest: List[str]) -> Dict[str, Fact]:

@@ -87,7 +87,8 @@ class Process:
     read, if not as others of its system. `is_spoilt` says that no fact on its place decides it, as where its text in a
     state isn't understood. `thread` is the thread of the kernel that it is all the time, as PID/TID. `choice` says of
     one that waits for one of its list, or for all of it, why that isn't known, and who may end its wait besides.
-    `is_fed` says of one that waits for its next message that this is likely to come from those who are there.
+    `is_fed` says of one that waits for its next message that this is likely to come from those who are there, and
+    `may_rest` of a wait that those stand at too who have nothing to do, or of one who only ticks.
     `scope` is the beginning of the names of those who alone can end its wait, if that is known, as of the threads of
     one process of the system: what stands before the '/'.
     """
@@ -122,6 +123,7 @@ class Process:
     scope: str = ""
     choice: Optional[Tuple[str, List[str]]] = None
     is_fed: bool = False
+    may_rest: bool = False
 
     def copy(self) -> Process:
         """Returns one whose parts are the same. `dataclasses.replace` takes ten times as long."""
