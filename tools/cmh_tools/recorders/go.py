@@ -23,7 +23,7 @@ from ..sketch import (COMPLETE, LIMIT, RUNS, SYSTEM, UNKNOWN, Process, Sketch, p
 from . import State
 from .base import Moment, Premise, Recorder
 from .go_frames import NEEDS_ALL, Place, entry_of, is_at_another, is_jobs, is_of_runtime, takes_state
-from .go_likely import Likely
+from .go_likely import Likely, may_rest
 from .go_starters import MAIN, UNSEEN, Starters, unseen_starter
 from .go_text import ADDRESS, TAKER, Dump, Goroutine, read_dumps
 
@@ -150,8 +150,11 @@ class GoRecorder(Recorder):
         if process.kind == UNKNOWN:
             process.proposal = moment.likely.proposal(goroutine, place) or process.proposal
             process.is_fed = moment.likely.is_fed(goroutine, place)
-        elif is_lone or process.kind == RUNS and moment.likely.is_timed(goroutine):
+            process.may_rest = may_rest(goroutine, place)
+        elif is_lone:
             process.proposal = "frees"
+        elif process.kind == RUNS and moment.likely.is_timed(goroutine):
+            process.proposal, process.may_rest = "frees", True
 
     def values(self, goroutine: Goroutine) -> List[str]:
         """What facts may name of a goroutine, the same in all states."""
@@ -187,7 +190,7 @@ class GoRecorder(Recorder):
         nothing of which of its channels a wait is at."""
         if place.operation in NEEDS_ALL and goroutine.number in self.parents:
             return ["children"]
-        started = moment.likely.children(goroutine, place)
+        started = [it for it in moment.likely.children(goroutine, place) if not moment.places[it].idle]
         if started:
             return [*map(self.names.__getitem__, started), COMPLETE]
         if sum(len(moment.seen[address]) for address in place.objects) > MOST:

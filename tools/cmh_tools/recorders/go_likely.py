@@ -23,6 +23,7 @@ WORD = re.compile(r"[A-Z]+(?![a-z])|[A-Z]?[a-z]+")
 CLOSURE = re.compile(r"func\d+|\d+|gowrap\d+")
 SLEEP, SHORT = "time.Sleep", 60 * 10 ** 9  # nanoseconds: a heartbeat sleeps no longer
 BY_TIMERS = ("chan receive", "select", "sleep")
+RESTS = ("chan receive", "select", "sync.Cond.Wait", "sync.WaitGroup.Wait")  # waits of those with nothing to do
 BY_SYSTEM = ("IO wait", "syscall")
 BLOCKED = ("chan send", "semacquire", "sync.Mutex.Lock", "sync.RWMutex.Lock", "sync.RWMutex.RLock")
 ACCEPTS = ("net.(*TCPListener).Accept", "net.(*UnixListener).Accept")
@@ -97,6 +98,11 @@ class Likely:
 def is_handler(goroutine: Goroutine) -> bool:
     """Whether a goroutine answers a request by code of the job."""
     return any(it.function in SERVES for it in goroutine.frames) and any(map(is_own, goroutine.frames))
+
+
+def may_rest(goroutine: Goroutine, place: Place) -> bool:
+    """Whether a goroutine stands where one does that has nothing to do, and answers no request."""
+    return not {goroutine.state, place.operation}.isdisjoint(RESTS) and not is_handler(goroutine)
 
 
 def has_word(function: str, pattern: Pattern[str]) -> bool:
