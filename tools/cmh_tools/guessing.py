@@ -171,15 +171,12 @@ def filled_in(sketch: Sketch, passed_over: Set[str]) -> Iterator[Line]:
 
 
 def ended_by_others(sketch: Sketch, passed_over: Set[str]) -> Iterator[Line]:
-    """Yields a line for each other wait: any of those who are there ends it, or a collective one needs all of them. One
-    that may not wait at all has none."""
+    """Yields a line for each other wait: any of those who are there ends it. One that may not wait at all has none."""
     some = [it for it in sketch.processes if it.kind == UNKNOWN and it.name not in passed_over and it.frames
             and it.proposal in WAITS]
-    together = {place_words(*place) for place in places_of(it for it in some if it.is_collective)}
     for others, those in ((OTHERS, [it for it in some if not it.scope]), (OF_PROCESS, [it for it in some if it.scope])):
         for place, names in places_of(those).items():
-            word = "all" if {place_words(*place)} == together else "any"
-            yield f"{place_words(*place)} -> {word} {others}", names
+            yield f"{place_words(*place)} -> any {others}", names
 
 
 def places_of(processes: Iterable[Process]) -> Dict[Tuple[str, str], List[str]]:

@@ -25,6 +25,8 @@ SLEEP, SHORT = "time.Sleep", 60 * 10 ** 9  # nanoseconds: a heartbeat sleeps no 
 BY_TIMERS = ("chan receive", "select", "sleep")
 RESTS = ("chan receive", "select", "sync.Cond.Wait", "sync.WaitGroup.Wait")  # waits of those with nothing to do
 BY_SYSTEM = ("IO wait", "syscall")
+READS, SHALLOW = "internal/poll.(*FD).Read", 2  # of a socket, and frames down to where one reads its next message
+ASKS = re.compile(r"net/http\.(?:Client\.\w+|Get|Head|Post|PostForm|Transport\.RoundTrip)")  # who asks a server
 BLOCKED = ("chan send", "semacquire", "sync.Mutex.Lock", "sync.RWMutex.Lock", "sync.RWMutex.RLock")
 ACCEPTS = ("net.(*TCPListener).Accept", "net.(*UnixListener).Accept")
 SIGNALS, SERVES = "os/signal.signal_recv", ("net/http.(*conn).serve", "google.golang.org/grpc.(*Server).handleStream")
@@ -61,8 +63,9 @@ class Likely:
         if self.is_timed(goroutine) or self.is_at_signals(goroutine, place):
             return "outside"
         if goroutine.state in BY_SYSTEM:
-            return "runs" if len(place.frames) > 1 else "outside"
-        return ""
+            is_reading = any(it.function == READS for it in goroutine.frames)
+            return "outside" if len(place.frames) <= (SHALLOW if is_reading else 1) else "runs"
+        return "runs" if ASKS.fullmatch(place.operation) else ""
 
     def is_at_signals(self, goroutine: Goroutine, place: Place) -> bool:
         """Whether it is main that waits for a signal, as a service does that ends by one."""
