@@ -97,6 +97,11 @@ class Rank:
         """Which half of a call that sends and receives it is in, where the library's own frames show it."""
         return next((half for it in self.frames for form, half in HALVES if re.match(form, it["function"])), "")
 
+    def is_together(self) -> bool:
+        """Whether it is in a call that needs all of a communicator, or of the world."""
+        operation = self.operation()
+        return operation == "MPI_Finalize" or COLLECTIVES.search(operation) is not None
+
     def name(self) -> str:
         return f"rank-{self.number}"
 
@@ -128,10 +133,13 @@ class Rank:
 
 
 class Ranks(Moment):
-    """The ranks at one time, by their numbers. `working` has the names of those that haven't come to MPI_Finalize."""
+    """The ranks at one time, by their numbers. `working` has the names of those that haven't come to MPI_Finalize, and
+    `late` of those that aren't in the one collective call in which all others are, if there is one: a guess says that
+    it needs them."""
 
     ranks: Dict[int, Rank]
     working: List[str]
+    late: List[str]
 
 
 def other_thread(rank: Rank, moment: Ranks) -> str:
@@ -203,6 +211,9 @@ class MpiRecorder(Recorder):
     def prepare(self, moment: Ranks) -> None:
         moment.ranks = {rank.number: rank for rank in moment.rows()}
         moment.working = [it.name() for it in moment.ranks.values() if it.operation() != "MPI_Finalize"]
+        places = {it.name(): it.more()["note"] for it in moment.ranks.values() if it.is_together()}
+        moment.late = [it.name() for it in moment.ranks.values() if len({*places.values()}) == 1 and it.name() not in
+                       places]
 
     def wait_of(self, subject: Rank, moment: Ranks) -> Process:
         rank, more = subject, subject.more()
@@ -234,7 +245,8 @@ class MpiRecorder(Recorder):
         if POLLS.search(operation):
             return unknown(name, f"it polls with {operation}, and may do so in a loop", **more)
         if more["is_collective"]:
-            return unknown(name, "the state doesn't say which ranks its communicator has", proposal="all", **more)
+            return unknown(name, "the state doesn't say which ranks its communicator has", proposal="all",
+                           candidates=moment.late, **more)
         key = PARTNERS.get(operation[4:])
         partner = re.search(rf"\b{key}=(-?\d{{1,9}})\b", rank.arguments) if key else None
         if partner is None:
