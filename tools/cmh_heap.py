@@ -34,7 +34,8 @@ THREAD, TASK, TIMED, SYNC, HOLDS, ENTRY, WORKER, POOL, QUEUE, NODE, FUTURE, STEP
 FIELDS = {
     THREAD: ("tid", "eetop", "parkBlocker"), TASK: ("state", "runner", "period", "this$0"),
     TIMED: ("state", "period"),
-    SYNC: ("state", "firstReader", "firstReaderHoldCount", "readHolds"), HOLDS: ("count", "tid"),
+    SYNC: ("state", "firstReader", "firstReaderHoldCount", "readHolds", "exclusiveOwnerThread"),
+    HOLDS: ("count", "tid"),
     ENTRY: ("referent", "value"), WORKER: ("this$0", "thread"),
     POOL: ("workQueue", "corePoolSize", "maximumPoolSize"), QUEUE: ("head", "capacity"), NODE: ("item", "next"),
     FUTURE: ("result",), STEP: ("dep", "src", "executor", "snd"), SUPPLY: ("dep",), RUN: ("dep",),
@@ -53,7 +54,7 @@ JOIN, AWAIT, GET = ("java.lang.Thread.join", "java.util.concurrent.FutureTask.aw
 POOL_ENDS, TIMER = "java.util.concurrent.ThreadPoolExecutor.awaitTermination", "java.util.TimerThread.mainLoop"
 SCHEDULES = "java.util.concurrent.ScheduledThreadPoolExecutor$DelayedWorkQueue.take"
 LATCH = "java.util.concurrent.CountDownLatch.await"
-WRITES = "java.util.concurrent.locks.ReentrantReadWriteLock$WriteLock.lock"
+WRITES, READS = (f"java.util.concurrent.locks.ReentrantReadWriteLock${it}Lock.lock" for it in ("Write", "Read"))
 INVOKES, IN_POOL = "java.util.concurrent.ForkJoinTask.invoke", "java.util.concurrent.ForkJoinWorkerThread.run"
 STREAMS, OF_PARTS = "java/util/stream/", re.compile(r"java\.util\.stream\..*Task\.(?:compute|doCompute)")
 MOST_PARTS = 1000  # parts of all parallel streams, and futures of which one needs all
@@ -585,6 +586,8 @@ class Waits:
         """Returns what a thread waits for, or nothing if the heap doesn't show it for certain."""
         if thread.blocker in self.found[TASK] and thread.top(AWAIT):
             return self.task(thread)
+        if thread.blocker in self.found[SYNC] and self.is_lost(thread):
+            return {"waits": "lost", "for": []}
         if thread.blocker in self.found[SYNC] and thread.top(WRITES):
             return self.readers(thread.blocker)
         if thread.blocker in self.parts and thread.top(INVOKES):
@@ -684,9 +687,23 @@ class Waits:
             tasks.add(task)
         return tasks
 
+    def is_lost(self, thread: Thread) -> bool:
+        """Whether one that wrote or read under a lock has ended with it, as that one alone gives it back: who writes
+        keeps out all others, and who reads those that want to write."""
+        state, first, number, _, owner = self.found[SYNC][thread.blocker]
+        is_written = bool(state & 0xFFFF) and self.has_ended(owner) and (thread.top(WRITES) or thread.top(READS))
+        return is_written or thread.top(WRITES) and state >> 16 > 0 and number > 0 and self.has_ended(first)
+
+    def has_ended(self, thing: int) -> bool:
+        """Whether an object is a thread that no longer runs. A virtual one is none that the heap shows to run."""
+        if thing not in self.found[THREAD]:
+            return False
+        names = map(self.heap.name_of, self.heap.lineage(self.heap.kinds[thing]))
+        return self.found[THREAD][thing][1] == 0 and VIRTUAL not in names
+
     def readers(self, lock: int) -> Row:
         """Returns who reads under a lock, if all of its readers are found: their counts make the lock's own."""
-        state, first, number, holds = self.found[SYNC][lock]
+        state, first, number, holds, _ = self.found[SYNC][lock]
         if not state or {ENTRY, HOLDS} & self.heap.over:
             return {}
         counts: Dict[int, int] = defaultdict(int)

@@ -20,8 +20,9 @@ from .jvm_text import Dump, Thread, stack_of
 MARK = "# cmh heap "
 BUILT = re.compile(r"\$\$Lambda.*(?=\.)|[+/]0x[0-9a-f]+(?=\.)")  # what jstack and a heap dump write differently
 LABEL = [int, re.compile(r"0x[0-9a-f]{1,16}")]
-KINDS = TASK, QUEUED, READERS, JOIN, FUTURE, FUTURES, SUPPLIED, POOL, REACH, HOOK, TIMER, STREAM = (
-    "task", "queued", "readers", "join", "future", "futures", "supplied", "pool", "reach", "hook", "timer", "stream")
+KINDS = TASK, QUEUED, READERS, JOIN, FUTURE, FUTURES, SUPPLIED, POOL, REACH, HOOK, TIMER, STREAM, LOST = (
+    "task", "queued", "readers", "join", "future", "futures", "supplied", "pool", "reach", "hook", "timer", "stream",
+    "lost")
 ROW = {"thread": LABEL, "frames": [str], "waits": re.compile("|".join(KINDS)), "for": [LABEL], "object?": str,
        "is_full?": bool, "is_direct?": bool, "besides?": [LABEL], "reach?": [LABEL]}
 Label = Tuple[int, int]
@@ -178,6 +179,8 @@ class Heaps:
         wait = self.heap.wait_of(thread) if self.heap else None
         if wait is not None and (wait.kind == HOOK or wait.kind == JOIN and wait.whom == [label_of(thread)]):
             return unknown(name, "waits for the end of the JVM", is_idle=True)
+        if wait is not None and wait.kind == LOST:
+            return waits_for_any(name, [], [SYSTEM])
         if wait is None or not wait.whom or wait.kind in (POOL, REACH):
             return None
         if not all(it in self.there for it in [*wait.whom, *wait.besides]):

@@ -10,8 +10,8 @@ import java.util.concurrent.SynchronousQueue;
 import java.util.concurrent.TimeUnit;
 
 /** Fetchers take from a bounded queue and put the links that they find back into it. A caller waits for an answer that
- * one of them gives. Beside them stand those that such a program often has, each of which wakes up too rarely to be seen
- * to do so: a scheduler, a timer, and threads that look on. "alive" has one fetcher that is slow. */
+ * one of them gives. Beside them stand those that such a program often has, each of which wakes up too rarely to be
+ * seen to do so: a scheduler, a timer, and threads that look on. "alive" has one fetcher that is slow. */
 public class Crawler {
     private final BlockingQueue<String> frontier = new ArrayBlockingQueue<>(4);
     private final CompletableFuture<String> answer = new CompletableFuture<>();

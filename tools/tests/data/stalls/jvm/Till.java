@@ -3,20 +3,25 @@ import java.util.concurrent.ExecutorService;
 import java.util.concurrent.Executors;
 import java.util.concurrent.atomic.AtomicInteger;
 import java.util.concurrent.locks.ReentrantLock;
+import java.util.concurrent.locks.ReentrantReadWriteLock;
 
-/** A loader has a lock when it meets a price that is none. It dies of that without giving the lock back, for which three
- * tills of a pool wait, and a clerk who may be interrupted. In "alive" it reads for long. */
+/** A loader has a lock when it meets a price that is none, and dies of that with the lock. Three tills of a pool wait
+ * for it, and a clerk who may be interrupted. It also reads under another lock: a pricer wants to write there, and a
+ * viewer behind that to read. In "alive" it reads for long. */
 public class Till {
     static final ReentrantLock STOCK = new ReentrantLock();
+    static final ReentrantReadWriteLock PRICES = new ReentrantReadWriteLock();
     static final CountDownLatch STARTED = new CountDownLatch(1);
 
     static void load(String price, boolean isLong) throws Exception {
         STOCK.lock();
+        PRICES.readLock().lock();
         STARTED.countDown();
         if (isLong) {
             Thread.sleep(300_000);
         }
         Integer.parseInt(price);
+        PRICES.readLock().unlock();
         STOCK.unlock();
     }
 
@@ -58,6 +63,9 @@ public class Till {
             tills.submit(Till::sell);
         }
         start("clerk", Till::count);
+        start("pricer", () -> PRICES.writeLock().lock());
+        Thread.sleep(200);
+        start("viewer", () -> PRICES.readLock().lock());
         start("heartbeat", () -> {
             for (;;) {
                 Thread.sleep(700);
