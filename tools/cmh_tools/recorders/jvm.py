@@ -49,7 +49,8 @@ class Threads(Moment):
     key at which barrier one waits, if the state shows that of all who wait at one, `limited` are the keys of those
     whose wait has a limit, and `breakers` of those at a barrier; `waited` has at what some wait without a limit in a
     queue; `counts` says that processor times tell one wait from the next, `lacks` that threads may be missing, and
-    `heaps` has what a heap dump shows."""
+    `heaps` has what a heap dump shows. `moved` has at what some wait who haven't stood, or in another way than for a
+    ReentrantLock, and `shows_owners` says that whoever owns one is shown: where nobody owns any, none may be."""
 
     dump: Dump
     threads: List[Thread]
@@ -66,18 +67,14 @@ class Threads(Moment):
     counts: bool
     lacks: bool
     heaps: Heaps
+    moved: Set[str]
+    shows_owners: bool
 
     def is_lost(self, thread: Thread, lock: str) -> bool:
         """Whether the owner of a ReentrantLock has ended with it: nobody owns it, nor takes it or gives it back just
         now, and all who wait for it have stood since. The first of these would have been woken by a lock that is free.
-        A state in which nobody owns any lock may lack them all.
         """
-        is_plain = any(it.owned for it in self.threads) and self.counts and not self.lacks
-        if not is_plain or not lock or not REENTRANT.fullmatch(thread.parked_class):
-            return False
-        here = [it for it in self.threads if lock in self.locks.objects.get(it.key, [])]
-        return thread.has_stood and not any(map(is_locking, self.threads)) and all(
-            it.has_stood and it.parked_class == thread.parked_class for it in here)
+        return self.shows_owners and REENTRANT.fullmatch(thread.parked_class) is not None and lock not in self.moved
 
 
 def has_stood(thread: Thread, moment: Threads) -> str:
@@ -163,6 +160,10 @@ class JvmRecorder(Recorder):
         moment.waited = {at for it in moment.threads if it.state == "WAITING" and place_of(it).has(OF_ITEMS)
                          for at in moment.locks.objects.get(it.key, [])}
         moment.heaps = Heaps(self.heap, moment.threads, self.names, moment.locks)
+        moment.moved = {at for it in moment.threads if not (it.has_stood and REENTRANT.fullmatch(it.parked_class))
+                        for at in moment.locks.objects.get(it.key, [])}
+        moment.shows_owners = (moment.counts and not moment.lacks and any(it.owned for it in moment.threads)
+                               and not any(map(is_locking, moment.threads)))
 
     def processes(self, moment: Threads) -> Iterable[Thread]:
         held: Set[str] = moment.locks.wanted_holders()
