@@ -1036,12 +1036,14 @@ class Wakers:
         return list(rows.values())
 
     def sleepers(self):
-        """The words by which those who sleep or wait with a limit may end waits of others, or None for any."""
+        """The words by which those who sleep or wait with a limit, again and again, may end waits of others. None for
+        those of whom that isn't known."""
         rows = []
         for key, (frames, _) in self.stacks.items():
             if frames and time.monotonic() < self.end and guarded(has_limit, frames[0][0]) is True:
                 names, words = self.names_of(key), self.endings.get(key)
-                is_known = names is not None and words is not None and not any(map(is_in_block, frames))
+                is_known = names is not None and words is not None and not any(map(is_in_block, frames)) \
+                    and any(is_in_loop(frame.f_code, frame.f_lasti) for frame, _ in frames if is_own(frame))
                 rows.append({"sleeper": key, "ends": sorted(names & (words | ENDING)) if is_known else None})
         return rows
 
@@ -1051,8 +1053,8 @@ class Wakers:
                    and each.__name__ in (words or ()) for each in self.stacks[SIGNALLED][1])
 
     def may_reach(self, key, aliases, words):
-        """Whether one may come to one of some names, and to one of some words. Without these it may give back a lock, by
-        its code or at the end of a block."""
+        """Whether one may come to one of some names, and to one of some words. Without these it may give back a lock,
+        by its code or at the end of a block."""
         names = self.names_of(key)
         if names is None or names.isdisjoint(aliases):
             return names is None
@@ -1066,8 +1068,8 @@ class Wakers:
         return self.names[key]
 
     def names_from(self, frames, called, endings):
-        """The names in the code that some frames may still come to. None if that may be any. Adds to `endings` the words
-        that end waits at the objects that they come to."""
+        """The names in the code that some frames may still come to. None if that may be any. Adds to `endings` the
+        words that end waits at the objects that they come to."""
         ways = [(names_left(frame.f_code, frame.f_lasti), (dict(frame.f_locals), frame.f_globals), frame.f_code)
                 for frame, _ in frames if is_own(frame)]
         ways += [(all_names(each.gi_code), ({}, {}), each.gi_code) for each in variables_in(frames)
@@ -1108,6 +1110,12 @@ def has_limit(frame):
         return called is not None and called[2] is time.sleep
     limits = [frame.f_locals.get(name) for name in ("timeout", "delay")]
     return any(isinstance(each, (int, float)) for each in limits)
+
+
+def is_in_loop(code, last):
+    """Whether a code comes back to a step. One that doesn't may do next whatever it has been made for."""
+    return any(step.offset >= last >= step.argval for step in dis.get_instructions(code)
+               if step.opcode in (*dis.hasjrel, *dis.hasjabs))
 
 
 def is_in_block(row):

@@ -69,6 +69,7 @@ class Jobs(Moment):
 
 PLAIN = re.compile(r"threading\.(Thread\.)?(_bootstrap|_bootstrap_inner|run)$|multiprocessing\.(process|popen_fork)\."
                    r"|asyncio\.|runpy\.")  # frames of the library that call the function of a thread, a child or a task
+NEXT = re.compile(r"\w*Queue\.get")  # the operation of one that waits for its next message
 SHALLOW = 3  # frames of a main thread that isn't deep in its work
 KILLS = {"kill", "killpg"}  # calls that end any process, by its number
 ENDS = re.compile(r"(_thread\.interrupt_main|_signal\.(raise_signal|pthread_kill)"
@@ -352,6 +353,8 @@ def process_of(subject: Subject, frames: List[Frame], wait: Wait, standing: Opti
     if wait.has_limit():
         operation, objects = f"timed {operation or 'wait'}", lasting_objects(standing) if standing else []
     own = own_frames(frames)
+    if wait.proposal == "nobody" and wait.is_inside and NEXT.fullmatch(operation) and len(own) == 1:
+        wait.proposal = ""  # (it waits for its next message, and may have nothing to do)
     note = f"{operation} in {own[0]}" if operation and own else own[0] if own else operation
     return Process(subject.name, wait.kind, wait.whom, wait.reason, subject.job.site, note, own, operation, objects,
                    proposal=wait.proposal or ("all" if operation in NEED_ALL else "any"), because=list(wait.because),

@@ -89,7 +89,7 @@ def by_names(standing: Standing) -> Wait:
         found = standing.takers.get(semaphore_in(standing), [])
         wait.likely = [name for name in found if name != standing.name_of(standing.row.key)][:LIKELY]
         wait.proposal = "" if wait.likely else "nobody"
-    elif is_main and at in look.wakers and not wait.likely and not operation.startswith("Lock."):
+    elif at in look.stopped or is_main and at in look.wakers and not wait.likely and not operation.startswith("Lock."):
         wait.proposal = "maybe"
     elif not names:
         wait.proposal = "nobody"
