@@ -1014,8 +1014,10 @@ class Wakers:
         self.aliases, self.nameless = (aliases.found, aliases.nameless) if aliases else ({}, set())
 
     def of(self, key):
-        """At what one waits, if that is known."""
-        return {"at": self.place_of(*self.targets[key])} if key in self.targets else {}
+        """At what one waits, if that is known, and whether its code comes back to it."""
+        frames = [frame for frame, _ in self.stacks[key][0] if is_own(frame)] if key in self.targets else []
+        again = any(is_in_loop(frame.f_code, frame.f_lasti) for frame in frames)
+        return {"at": self.place_of(*self.targets[key]), "again": again} if key in self.targets else {}
 
     def place_of(self, value, words):
         """What tells a wait from others, by what is waited at and what ends it."""

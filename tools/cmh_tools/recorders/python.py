@@ -353,7 +353,8 @@ def process_of(subject: Subject, frames: List[Frame], wait: Wait, standing: Opti
     if wait.has_limit():
         operation, objects = f"timed {operation or 'wait'}", lasting_objects(standing) if standing else []
     own = own_frames(frames)
-    if wait.proposal == "nobody" and wait.is_inside and NEXT.fullmatch(operation) and len(own) == 1:
+    again = subject.row.more.get("again", not operation.startswith("SimpleQueue")) if wait.is_inside else False
+    if wait.proposal == "nobody" and again is not False and NEXT.fullmatch(operation) and len(own) == 1:
         wait.proposal = ""  # (it waits for its next message, and may have nothing to do)
     note = f"{operation} in {own[0]}" if operation and own else own[0] if own else operation
     return Process(subject.name, wait.kind, wait.whom, wait.reason, subject.job.site, note, own, operation, objects,
