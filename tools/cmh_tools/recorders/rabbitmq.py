@@ -42,6 +42,7 @@ SHAPES = {
 HEARTBEAT = 8  # bytes of the frame, a packet of its own
 READY, MOVES, ROUTED, ACTS, KEEPS, EXPIRES, HANDLES = ("ready", "moves", "routed", "acts", "keeps", "expires",
                                                        "handles")
+BUSY = (COMPUTES, SLEEPING, ELSEWHERE)  # what a thread of one does that is likely at work
 FINE = "fine"  # the statistics that count who publishes to which queue
 TO_COME, UNSEEN, TIMEOUT = "other-publishers", "unseen-work", "consumer-timeout"
 STAND_INS = {  # who stands for what no state shows, and for what
@@ -304,15 +305,15 @@ class RabbitmqRecorder(Recorder):
             return unknown(name, "the broker blocks it, since its memory or its disk is full", **more)
         if service.does.is_sure and service.does.kind in (COMPUTES, SLEEPING):
             return busy(service, name, more)
+        if service.is_at_work and service.queues:
+            return at_work(service, name, more)
+        if service.does.is_sure and service.does.kind == ELSEWHERE:
+            return unknown(name, f"its client waits in {shown(service.does.call)}, and at no connection",
+                           proposal="runs", **{**more, "objects": service.places()})
         if not service.queues:
             return publisher(service, name, more)
-        if service.is_at_work:
-            return at_work(service, name, more)
         if not service.acknowledges:
-            more.update(operation="take", objects=service.places())
-            return unknown(name, "it needn't acknowledge, so the broker can't tell whether it is at work",
-                           besides=service.by_limit(), candidates=[*service.senders, COMPLETE],
-                           proposal="any" if service.senders else "maybe", **more)
+            return may_have_taken(service, name, more)
         return wait_of_consumer(service, name, more)
 
     def finish(self, sketch: Sketch, moments: List[Moment]) -> None:
@@ -353,6 +354,16 @@ def publisher(service: Service, name: str, more: Dict[str, Any]) -> Process:
     return unknown(name, "it consumes nothing, so the broker can't tell what it waits for", proposal="runs", **more)
 
 
+def may_have_taken(service: Service, name: str, more: Dict[str, Any]) -> Process:
+    """Returns one that needn't acknowledge what it takes."""
+    is_busy = service.does.kind in BUSY
+    proposal = "runs" if is_busy else "any" if service.senders else "maybe"
+    more.update(operation="take", objects=service.places())
+    return unknown(name, "it needn't acknowledge, so the broker can't tell whether it is at work",
+                   besides=service.by_limit(), candidates=[] if is_busy else [*service.senders, COMPLETE],
+                   proposal=proposal, **more)
+
+
 def at_work(service: Service, name: str, more: Dict[str, Any]) -> Process:
     """Returns one that has a message. If it also reads a queue that is bound by its name alone, it may wait for a reply
     there: that is another place, for other facts. So may one whose client waits at a connection."""
@@ -360,7 +371,7 @@ def at_work(service: Service, name: str, more: Dict[str, Any]) -> Process:
     replies, does = replies if len(replies) < len(service.queues) else [], service.does
     more.update(operation="handle", objects=service.places())
     why, proposal, found = "the broker can't tell what it does", "maybe", []
-    if does.kind in (COMPUTES, SLEEPING, ELSEWHERE):
+    if does.kind in BUSY:
         why, proposal = f"a thread of its client {f'waits in {shown(does.call)}' if does.call else does.kind}", "runs"
     elif replies or does.kind == AT:
         found = service.repliers(replies)
