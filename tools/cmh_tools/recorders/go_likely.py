@@ -19,6 +19,8 @@ TAKES = re.compile(
     "(?:consum|collect|receiv|recv|drain|work|process|handl|sink|aggregat|merg|join|a?wait|pump|dispatch|deliver|writ"
     "|print|read|client|customer|subscri|listen|watch|ship|pick|pack|stor|sav|persist|index|pars|transform|encod|decod"
     "|send|notif|mail|publish|upload|download|fetch|assembl|bill|sort|render)[a-z]*")
+CALLS = re.compile("(?:call|ask|request|quer|invok|rpc|exchang|lookup)[a-z]*")
+SHALLOW = 2  # frames of one that takes its next job
 WORD = re.compile(r"[A-Z]+(?![a-z])|[A-Z]?[a-z]+")
 CLOSURE = re.compile(r"func\d+|\d+|gowrap\d+")
 SLEEP, SHORT = "time.Sleep", 60 * 10 ** 9  # nanoseconds: a heartbeat sleeps no longer
@@ -104,8 +106,11 @@ def is_handler(goroutine: Goroutine) -> bool:
 
 
 def may_rest(goroutine: Goroutine, place: Place) -> bool:
-    """Whether a goroutine stands where one does that has nothing to do, and answers no request."""
-    return not {goroutine.state, place.operation}.isdisjoint(RESTS) and not is_handler(goroutine)
+    """Whether a goroutine stands where one does that has nothing to do: not deep in its work, within a call of another,
+    or where a request is answered."""
+    is_shallow = goroutine.number == MAIN or len(place.frames) <= SHALLOW
+    is_at_work = has_word(place.function, CALLS) or is_handler(goroutine)
+    return not {goroutine.state, place.operation}.isdisjoint(RESTS) and is_shallow and not is_at_work
 
 
 def has_word(function: str, pattern: Pattern[str]) -> bool:
