@@ -12,12 +12,14 @@ from __future__ import annotations
 import contextlib
 import json
 import os
+import platform
 import socket
 import struct
 import sys
-from typing import Dict, Iterable, Iterator, List, Sequence, Tuple
+from collections import Counter
+from typing import Dict, Iterable, Iterator, List, Sequence, Tuple, Union
 
-from cmh_linux import EPOLLS, Machine, Row, Sockets, TcpRow, address, inode_of, int32, try_lines
+from cmh_linux import EPOLLS, Machine, Row, Sockets, TcpRow, address, inode_of, int32, read_all, try_lines
 
 Files = Dict[int, List[int]]  # the processes that have a socket, by its number
 POINTERS = {"ppoll": 2, "select": 4, "pselect6": 4, "epoll_pwait2": 3, "futex": 3, "rt_sigtimedwait": 2}
@@ -31,8 +33,12 @@ def ends_of(row: Row) -> Tuple[str, str]:
     return f"{host_of(row['peer_host'])}:{row['peer_port']}", f"{host_of(row['host'])}:{row['port']}"
 
 
-def host_of(numbers: Sequence[int]) -> str:
-    """Returns an address, given as four bytes, or as eight numbers. One of IPv4 within IPv6 is that of IPv4."""
+def host_of(numbers: Union[str, Sequence[int]]) -> str:
+    """Returns an address, given as text, as four bytes, or as eight numbers. One of IPv4 within IPv6 is that of IPv4.
+    """
+    if isinstance(numbers, str):
+        it = numbers.replace("::ffff:", "", 1) if "." in numbers else numbers
+        return f"[{it}]" if ":" in it else it
     if len(numbers) == 4:
         return ".".join(map(str, numbers))
     data = struct.pack(">8H", *numbers)
@@ -75,6 +81,7 @@ class Process:
     def __init__(self, row: Row, sockets: Sockets) -> None:
         self.row, self.sockets = row, sockets
         self.own = {inode_of(it[0]) for it in row["fds"].values()} - {0}
+        self.pipes = Counter(it[0] for it in row["fds"].values() if it[0].startswith("pipe:["))
 
     def thread(self, thread: Row, connections: Dict[int, str]) -> Row:
         """Returns what a thread does: its call, whether that has a limit, and at what it waits."""
@@ -97,7 +104,8 @@ class Process:
     def is_own(self, it: Sequence[str]) -> bool:
         """Whether the other end of a file is of the process itself, as that by which it wakes itself."""
         peers = self.sockets.rows.get(inode_of(it[0]), {}).get("peers", ())
-        return it[0] == "anon_inode:[eventfd]" or bool(peers) and self.own.issuperset(peers)
+        is_to_itself = it[0] == "anon_inode:[eventfd]" or self.pipes[it[0]] > 1
+        return is_to_itself or bool(peers) and self.own.issuperset(peers)
 
 
 def clients(rows: List[Row]) -> Iterator[Row]:
@@ -105,12 +113,8 @@ def clients(rows: List[Row]) -> Iterator[Row]:
     here = sockets_here()
     connections = {here[ends_of(row)]: row["pid"] for row in rows if ends_of(row) in here}
     owners = {number: pids[0] for number, pids in files_of(connections).items() if len(pids) == 1}
-    machine = Machine()
-    found: Dict[int, Row] = {}
-    for pid in {*owners.values()}:
-        with contextlib.suppress(OSError):
-            found[pid] = machine.process(pid) or {}
-    found = {pid: row for pid, row in found.items() if "threads" in row and "unreadable" not in row}
+    read = read_all(Machine(), list({*owners.values()}))
+    found = {row["pid"]: row for row in read if "threads" in row and "unreadable" not in row}
     sockets = Sockets([*found.values()])
     for number, pid in owners.items():
         if pid in found:
@@ -120,7 +124,8 @@ def clients(rows: List[Row]) -> Iterator[Row]:
 
 
 def main() -> int:
-    print(json.dumps([*clients(json.load(sys.stdin))]).replace("}, {\"connection", "}\n,{\"connection"))
+    rows = json.load(sys.stdin) if platform.machine() in ("x86_64", "aarch64") else []  # (whose calls are known)
+    print(json.dumps([*clients(rows)]).replace("}, {\"connection", "}\n,{\"connection"))
     return 0
 
 
