@@ -22,7 +22,7 @@ from dataclasses import dataclass
 from typing import Any, Callable, Dict, Iterable, Iterator, List, NamedTuple, Optional, Sequence, Set, Tuple
 
 # The classes whose objects are kept, also those of classes that derive from them, and which fields of each.
-THREAD, TASK, TIMED, SYNC, HOLDS, ENTRY, WORKER, POOL, QUEUE, NODE, FUTURE, STEP, SUPPLY, RUN, PART = GROUPS = (
+THREAD, TASK, TIMED, SYNC, HOLDS, ENTRY, WORKER, POOL, QUEUE, NODE, FUTURE, STEP, SUPPLY, RUN, PART, MUTEX = GROUPS = (
     "java/lang/Thread", "java/util/concurrent/FutureTask", "java/util/TimerTask",
     "java/util/concurrent/locks/ReentrantReadWriteLock$Sync",
     "java/util/concurrent/locks/ReentrantReadWriteLock$Sync$HoldCounter", "java/lang/ThreadLocal$ThreadLocalMap$Entry",
@@ -30,7 +30,7 @@ THREAD, TASK, TIMED, SYNC, HOLDS, ENTRY, WORKER, POOL, QUEUE, NODE, FUTURE, STEP
     "java/util/concurrent/LinkedBlockingQueue", "java/util/concurrent/LinkedBlockingQueue$Node",
     "java/util/concurrent/CompletableFuture", "java/util/concurrent/CompletableFuture$Completion",
     "java/util/concurrent/CompletableFuture$AsyncSupply", "java/util/concurrent/CompletableFuture$AsyncRun",
-    "java/util/concurrent/CountedCompleter")
+    "java/util/concurrent/CountedCompleter", "java/util/concurrent/locks/ReentrantLock$Sync")
 FIELDS = {
     THREAD: ("tid", "eetop", "parkBlocker"), TASK: ("state", "runner", "period", "this$0"),
     TIMED: ("state", "period"),
@@ -39,7 +39,7 @@ FIELDS = {
     ENTRY: ("referent", "value"), WORKER: ("this$0", "thread"),
     POOL: ("workQueue", "corePoolSize", "maximumPoolSize"), QUEUE: ("head", "capacity"), NODE: ("item", "next"),
     FUTURE: ("result",), STEP: ("dep", "src", "executor", "snd"), SUPPLY: ("dep",), RUN: ("dep",),
-    PART: ("completer", "spliterator")}
+    PART: ("completer", "spliterator"), MUTEX: ("state", "exclusiveOwnerThread")}
 MOST = 300_000  # objects of one group that are kept; with more, what rests on them isn't printed
 # References that are looked through, objects on paths, looks through all references, and threads in all lists: with
 # more it isn't printed who reaches what.
@@ -54,6 +54,7 @@ JOIN, AWAIT, GET = ("java.lang.Thread.join", "java.util.concurrent.FutureTask.aw
 POOL_ENDS, TIMER = "java.util.concurrent.ThreadPoolExecutor.awaitTermination", "java.util.TimerThread.mainLoop"
 SCHEDULES = "java.util.concurrent.ScheduledThreadPoolExecutor$DelayedWorkQueue.take"
 LATCH = "java.util.concurrent.CountDownLatch.await"
+LOCKS = "java.util.concurrent.locks.ReentrantLock.lock"
 WRITES, READS = (f"java.util.concurrent.locks.ReentrantReadWriteLock${it}Lock.lock" for it in ("Write", "Read"))
 INVOKES, IN_POOL = "java.util.concurrent.ForkJoinTask.invoke", "java.util.concurrent.ForkJoinWorkerThread.run"
 STREAMS, OF_PARTS = "java/util/stream/", re.compile(r"java\.util\.stream\..*Task\.(?:compute|doCompute)")
@@ -586,7 +587,7 @@ class Waits:
         """Returns what a thread waits for, or nothing if the heap doesn't show it for certain."""
         if thread.blocker in self.found[TASK] and thread.top(AWAIT):
             return self.task(thread)
-        if thread.blocker in self.found[SYNC] and self.is_lost(thread):
+        if self.is_lost(thread):
             return {"waits": "lost", "for": []}
         if thread.blocker in self.found[SYNC] and thread.top(WRITES):
             return self.readers(thread.blocker)
@@ -688,8 +689,11 @@ class Waits:
         return tasks
 
     def is_lost(self, thread: Thread) -> bool:
-        """Whether one that wrote or read under a lock has ended with it, as that one alone gives it back: who writes
-        keeps out all others, and who reads those that want to write."""
+        """Whether one that had a lock, or wrote or read under it, has ended with it, as that one alone gives it back.
+        Who has it, or writes, keeps out all others, and who reads those that want to write."""
+        taken, owner = self.found[MUTEX].get(thread.blocker, (0, 0))
+        if taken or thread.blocker not in self.found[SYNC]:
+            return bool(taken) and self.has_ended(owner) and thread.top(LOCKS)
         state, first, number, _, owner = self.found[SYNC][thread.blocker]
         is_written = bool(state & 0xFFFF) and self.has_ended(owner) and (thread.top(WRITES) or thread.top(READS))
         return is_written or thread.top(WRITES) and state >> 16 > 0 and number > 0 and self.has_ended(first)

@@ -34,7 +34,7 @@ from .jvm_text import PARKED, Dump, Thread, stack_of
 from .jvm_whole import add_disturbers, add_inner, count_owned, kernel_thread
 
 NATIVE, UNDISTURBED, INITIALISER = "native", "undisturbed", "initialiser"
-QUEUED, TIMED, LOST = "queued", "processor-time", "lost"
+QUEUED, TIMED = "queued", "processor-time"
 # On what waits rest that any thread of the job may end: by an interrupt, a cancel, a value, or a larger pool.
 DISTURBED = {premise(name) for name in (UNDISTURBED, *OF_HEAPS)}
 TICKS = (10, 15.625)  # milliseconds in which some operating systems count processor time
@@ -71,9 +71,9 @@ class Threads(Moment):
     shows_owners: bool
 
     def is_lost(self, thread: Thread, lock: str) -> bool:
-        """Whether the owner of a ReentrantLock has ended with it: nobody owns it, nor takes it or gives it back just
-        now, and all who wait for it have stood since. The first of these would have been woken by a lock that is free.
-        """
+        """Whether the owner of a ReentrantLock is likely to have ended with it: nobody owns it, nor takes it or gives it
+        back just now, and all who wait for it have stood since. The first of these would have been woken by a lock that
+        is free. A virtual thread may own it, which isn't shown."""
         return self.shows_owners and REENTRANT.fullmatch(thread.parked_class) is not None and lock not in self.moved
 
 
@@ -111,7 +111,6 @@ class JvmRecorder(Recorder):
         INITIALISER: Premise("a class that is waited for is the one of its name whose initialiser runs",
                              other_initialiser),
         QUEUED: Premise("one that waits to read with a lock that nobody owns is behind one that waits to write"),
-        LOST: Premise("a ReentrantLock that no thread owns, and that woke nobody, is owned by a thread that has ended"),
         TIMED: Premise("a thread that was woken has used 0.01 ms of processor time or more"),
         **{name: Premise(sentence, interrupter) for name, sentence in OF_HEAPS.items()},
     }
@@ -181,7 +180,8 @@ class JvmRecorder(Recorder):
         here = moment.locks.objects.get(thread.key, [])
         process.objects = here if thread.same_as is None else thread.same_as
         needs_all = NEEDS_ALL.fullmatch(place.call) and not (LATCH.fullmatch(place.call) and process.candidates)
-        process.proposal = "all" if needs_all or process.choice else "any"
+        if process.proposal != "nobody":
+            process.proposal = "all" if needs_all or process.choice else "any"
         if process.kind == UNKNOWN and (is_for_outside(thread) or moment.heaps.is_alone(thread)):
             process.proposal, process.candidates = "maybe", []
         if process.kind == RUNS and self.frees_nobody(thread, place, process, moment):
@@ -267,7 +267,8 @@ class JvmRecorder(Recorder):
         if found is not None:
             return found
         if moment.is_lost(thread, parked):
-            return waits_for_any(name, [], [premise(LOST), *frail])
+            return unknown(name, f"{what}: no thread owns {parked}, and it woke nobody, as if its owner had ended",
+                           proposal="nobody")
         if parked and place.call.lower().endswith("lock"):
             is_plain = not moment.dump.has_owners and not moment.dump.is_file
             more = ": `jstack -l` shows owners, plain `jstack` doesn't" if is_plain else ""
