@@ -119,14 +119,19 @@ write(Visit, Reader, Which) ->
 %% The limits of the receives of some functions, as their code has them: a number, `infinity` if it has none, or `any`
 %% if it is computed.
 receives(Codes, Node) ->
-    Found = [Each || {Module, Functions, Code} <- Codes, Each <- functions(Module, Functions, Code)],
+    Known = [{Module, Functions, Parts} || {Module, Functions, Code} <- Codes, Parts <- [parts(Module, Code)]],
+    Found = [{Module, Name, Arity, Instructions} || {Module, Functions, Parts} <- Known,
+                                                    {{Name, Arity}, Instructions} <- Parts,
+                                                    lists:member({is_in, Name, Arity}, Functions)],
+    Quiet = [{Module, Name, Arity} || {Module, Functions, Parts} <- Known, {sleeps, Name, Arity} <- Functions,
+                                      is_quiet(Module, {Name, Arity}, Parts)],
     Receives = [list_to_tuple([Module, Name, Arity, lists:usort(lists:flatmap(fun limit/1, Instructions))
                                | register(Instructions)])
                 || {Module, Name, Arity, Instructions} <- Found],
     Asks = [{Module, Name, Arity, Asked} || {Module, Name, Arity, Instructions} <- Found,
                                             [_ | _] = Asked <- [asked_in(Instructions)]],
     [[io_lib:format("=~s ~b ~ts~n", [Word, length(Rows), Node]) | [io_lib:format("~0tp~n", [Row]) || Row <- Rows]]
-     || {Word, Rows} <- [{"receives", Receives}, {"asks", Asks}]].
+     || {Word, Rows} <- [{"receives", Receives}, {"asks", Asks}, {"quiet", Quiet}]].
 
 %% The names to which a function sends as the last thing before a receive of its own.
 asked_in(Instructions) -> lists:usort(asked_before(Instructions, [])).
@@ -154,13 +159,47 @@ is_send({call_ext, _, {extfunc, Module, Name, _}}) ->
     lists:member({Module, Name}, [{erlang, send}, {gen_server, cast}, {gen_statem, cast}, {'Elixir.GenServer', cast}]);
 is_send(_) -> false.
 
-functions(Module, Functions, Code) ->
+parts(Module, Code) ->
     case catch beam_disasm:file(Code) of
         {beam_file, Module, _, _, _, Parts} ->
-            [{Module, Name, Arity, Instructions}
-             || {function, Name, Arity, _, Instructions} <- Parts, lists:member({Name, Arity}, Functions)];
+            [{{Name, Arity}, Instructions} || {function, Name, Arity, _, Instructions} <- Parts];
         _ -> []
     end.
+
+%% Whether a function comes back to itself, and neither sends nor calls what may: as one that writes to a log now and
+%% then does.
+is_quiet(Module, Function, Parts) ->
+    {Name, Arity} = Function,
+    Own = proplists:get_value(Function, Parts, []),
+    Back = [Each || Each <- Own, is_tuple(Each), lists:member(element(1, Each), [call_last, call_only]),
+                    element(3, Each) =:= {Module, Name, Arity}],
+    Back =/= [] andalso are_quiet([Function], [], Parts).
+
+are_quiet([], _, _) -> true;
+are_quiet([Function | Rest], Seen, Parts) ->
+    Own = proplists:get_value(Function, Parts, [send]),
+    Called = [{Name, Arity} || Each <- Own, {_, Name, Arity} <- [called(Each)]] -- [Function | Seen],
+    not lists:any(fun is_loud/1, Own) andalso are_quiet(lists:usort(Called ++ Rest), [Function | Seen], Parts).
+
+called(Each) when is_tuple(Each), tuple_size(Each) > 2 ->
+    case lists:member(element(1, Each), [call, call_last, call_only]) of true -> element(3, Each); false -> none end;
+called(_) -> none.
+
+-define(QUIET, [calendar, io, io_lib, lists, logger, maps, string, 'Elixir.DateTime', 'Elixir.Enum', 'Elixir.IO',
+                'Elixir.Inspect', 'Elixir.Integer', 'Elixir.List', 'Elixir.Logger', 'Elixir.Map', 'Elixir.String',
+                'Elixir.String.Chars', 'Elixir.System']).
+-define(QUIET_CALLS, [{erlang, Name} || Name <- [memory, monotonic_time, process_info, processes, statistics,
+                                                 system_info, system_time, whereis]]
+                     ++ [{timer, sleep}, {'Elixir.Process', sleep}, {'Elixir.Process', info}]).
+
+is_loud({Call, _, {extfunc, Module, Name, _}}) when Call =:= call_ext; Call =:= call_ext_only -> is_loud(Module, Name);
+is_loud({call_ext_last, _, {extfunc, Module, Function, _}, _}) -> is_loud(Module, Function);
+is_loud(Each) when is_tuple(Each) ->
+    lists:member(element(1, Each), [apply, apply_last, call_fun, call_fun2, loop_rec, wait, wait_timeout]);
+is_loud(Each) -> Each =:= send.
+
+is_loud(Module, Function) ->
+    not lists:member(Module, ?QUIET) andalso not lists:member({Module, Function}, ?QUIET_CALLS).
 
 %% Where a function of one receive has the reference that each message has to have which that takes, as the compiler has
 %% found out, or nothing; with `once` if each wait there has one of its own, and `down` if a 'DOWN' alone ends it.
@@ -312,7 +351,7 @@ tables(Numbers, {Locks, Held}) ->
 
 %% Sends the text of each process, how many are left out that aren't of the system, and how many are printed.
 tell(Caller, Tag, Others, Text, Taken, Tables) ->
-    Printed = [Call || P <- Taken, {Call, Lines} <- [Text(P)], is_sent(Caller, Tag, Lines)],
+    Printed = [Call || P <- Taken, {Calls, Lines} <- [Text(P)], is_sent(Caller, Tag, Lines), Call <- Calls],
     is_sent(Caller, Tag, {code, codes(lists:usort(Printed))}),
     is_sent(Caller, Tag, Tables()),
     Last = Others ++ [{"timers", timers()}, {"end", length(Printed)}],
@@ -321,8 +360,8 @@ tell(Caller, Tag, Others, Text, Taken, Tables) ->
 
 %% The code of the functions in which processes are, by module, if it is the one that is loaded.
 codes(Calls) ->
-    Modules = lists:usort([Module || {Module, _, _} <- Calls, not is_of_otp(Module)]),
-    [{Module, [{Name, Arity} || {Of, Name, Arity} <- Calls, Of =:= Module], Code}
+    Modules = lists:usort([Module || {_, Module, _, _} <- Calls, not is_of_otp(Module)]),
+    [{Module, [{Word, Name, Arity} || {Word, Of, Name, Arity} <- Calls, Of =:= Module], Code}
      || Module <- lists:sublist(Modules, ?MODULES), {_, Code, _} <- [code:get_object_code(Module)],
         byte_size(Code) < ?BYTES, is_loaded(Module, Code), not erlang:check_old_code(Module)].
 
@@ -404,13 +443,15 @@ text(P, Info, Before, After) ->
     More = io_lib:format("{references,~ts}~n{may_end,~ts}~n{closures,~p}~n{code,~0p}~n{strategies,~ts}~n~ts",
                          [list(references(Info)), list(may_end(Info)), closures(Info), code_of(Info),
                           list(strategies(Info)), kept(Info)]),
-    {call_of(Info), [io_lib:format("=process ~p ~ts~n", [P, node()]), Before, More, Lines, After]}.
+    {calls_of(Info), [io_lib:format("=process ~p ~ts~n", [P, node()]), Before, More, Lines, After]}.
 
-%% The function in which it is.
-call_of(Info) ->
+%% The function in which it is, and that from which it sleeps.
+calls_of(Info) ->
     case lists:keyfind(current_stacktrace, 1, Info) of
-        {_, [{Module, Name, Arity, _} | _]} -> {Module, Name, Arity};
-        _ -> {none, none, 0}
+        {_, [{Sleep, sleep, 1, _}, {Module, Name, Arity, _} | Out]} when Sleep =:= timer; Sleep =:= 'Elixir.Process' ->
+            [{sleeps, Module, Name, Arity} || lists:all(fun({Other, _, _, _}) -> is_of_otp(Other) end, Out)];
+        {_, [{Module, Name, Arity, _} | _]} -> [{is_in, Module, Name, Arity}];
+        _ -> []
     end.
 
 list(cut) -> "cut";
@@ -436,7 +477,8 @@ kept(Info) ->
     case {is_idle(Info), lists:keyfind(backtrace, 1, Info)} of
         {true, {_, Stack}} when byte_size(Stack) < ?BYTES ->
             case re:run(Stack, ?SIGNS, [global, {capture, first, binary}]) of
-                {match, Found} when length(Found) < ?SEARCHED -> kept_lines([Sign || [Sign] <- Found, not is_text(Sign)]);
+                {match, Found} when length(Found) < ?SEARCHED ->
+                    kept_lines([Sign || [Sign] <- Found, not is_text(Sign)]);
                 _ -> ""
             end;
         _ -> ""

@@ -113,6 +113,7 @@ class ErlangRecorder(Recorder):
                            for function, receives in reading.receives.items()}
         moment.asks = {(reading.source, *function): names for reading in nodes
                        for function, names in reading.asks.items()}
+        moment.quiet = {(reading.source, name) for reading in nodes for name in reading.quiet}
         moment.locks = locks_of(nodes)
         moment.held, moment.wanted = (rows_of(nodes, moment, word) for word in ("has", "wants"))
         places = map(place_elsewhere, nodes)
@@ -200,7 +201,9 @@ def wait_of_function(block: Block, moment: Nodes, more: Dict[str, Any]) -> Proce
     """Returns a process that stands in a function of a library, or in a `receive` of its own."""
     top = block.top()
     if top in ("timer:sleep", "Process.sleep"):
-        return runs(moment.name(block), "it sleeps", [premise(LIMIT)], **{**more, "operation": f"timed {top}"})
+        is_quiet = (block.node, "".join(block.stack[1:2]).split(" (")[0]) in moment.quiet
+        return runs(moment.name(block), "it sleeps", [premise(LIMIT)], proposal=FREES if is_quiet else "any",
+                    **{**more, "operation": f"timed {top}"})
     if top == "gen:do_call" and block.has_limit:
         return runs(moment.name(block), "it waits with a limit", [premise(LIMIT)],
                     **{**more, "operation": "timed gen_server:call"})

@@ -12,10 +12,10 @@ class Nodes(Moment):
     have; their names in the sketch; each answer that is under way, as (sender, receiver); of those that wait with a
     limit the function that they began in, and the count of their wait; who may end a process, by its node and pid; who
     stands below a supervisor that restarts one alone, beside others that may fail; who has a fun that may have any
-    reference; the receives in a function, by its node and its name, and whom it has asked before; where a reference may
-    be that no process has, in words, or nothing; the nodes whose states aren't whole; nodes, by another one and the
-    number that they have there; the locks of a node, by it and by what is locked; and who has locks of Mnesia, or wants
-    one."""
+    reference; the receives in a function, by its node and its name, and whom it has asked before; the functions from
+    which those sleep who end nobody's wait, by their node; where a reference may be that no process has, in words, or
+    nothing; the nodes whose states aren't whole; nodes, by another one and the number that they have there; the locks
+    of a node, by it and by what is locked; and who has locks of Mnesia, or wants one."""
 
     by_key: Dict[Key, Block]
     has_tail: Dict[str, List[Block]]
@@ -30,6 +30,7 @@ class Nodes(Moment):
     cut: Set[str]
     nodes: Dict[Tuple[str, str], str]
     asks: Dict[Tuple[str, ...], List[str]]
+    quiet: Set[Tuple[str, str]]
     locks: Dict[Tuple[str, str], Tuple[str, str]]
     held: List[Any]
     wanted: List[Any]

@@ -39,13 +39,14 @@ OF_SYSTEM = re.compile(r"gen(_server|_statem|_event|_tcp|_udp)?|global|erpc|inet
                        r"Agent|DynamicSupervisor|Enum|GenServer|Process|Registry|Stream|Supervisor|Task)(\.\w+)*'")
 LOOPS = re.compile(r"(gen_server:loop|gen_statem:loop_(receive|hibernate)|gen_event:fetch_msg|proc_lib:hibernate"
                    r"|proc_lib:wake_up|erlang:hibernate)/")
-FIRST = re.compile("=(process|asks|keeps|left out|locks|mnesia|nodes|numbers|receives|tables|timers|end) ")
+FIRST = re.compile("=(process|asks|keeps|left out|locks|mnesia|nodes|numbers|quiet|receives|tables|timers|end) ")
 MARK = re.compile(rf"\n{FIRST.pattern}")
 # The rows below lines of some words: the receives of a function, and whom it has sent to before; the number of another
 # node; who has a lock, or wants one of Mnesia.
 RECEIVES = re.compile(r"{(\w+|'[^']*'),(\w+|'[^']*'),(\d+),\[([\w,]*)\](?:,(\d+)((?:,\w+)*))?}")
 ASKS = re.compile(r"{(\w+|'[^']*'),(\w+|'[^']*'),(\d+),\[(.*)\]}")
-ROWS = {"receives": RECEIVES, "asks": ASKS, "numbers": re.compile(r"(\d+) (\S+)"),
+QUIET = re.compile(r"{(\w+|'[^']*'),(\w+|'[^']*'),(\d+)}")
+ROWS = {"receives": RECEIVES, "asks": ASKS, "quiet": QUIET, "numbers": re.compile(r"(\d+) (\S+)"),
         "locks": re.compile(r"{(.*),\[((?:{<[\d.]+>,#Ref<[\d.]+>},?)+)\]}"),
         "mnesia": re.compile(r"{(?P<word>has|wants),{(?P<what>.*)},(?P<kind>\w+),(?P<pid><[\d.]+>)}")}
 OF_ELIXIR = re.compile(r"'Elixir\.([\w.]+)'")
@@ -340,8 +341,8 @@ def readings_of(path: str, text: str, known: Dict[bytes, Block]) -> List[NodeRea
 
 class NodeReading(Reading):
     """The processes of a node as one state has them, up to its line '=end'; the receives in a function, by its module,
-    name and arity; the nodes by the numbers that they have there; its locks, and those of Mnesia; and the
-    names to which a function has sent before it receives."""
+    name and arity; the nodes by the numbers that they have there; its locks, and those of Mnesia; the
+    names to which a function has sent before it receives; and the functions from which one sleeps that end no wait."""
 
     def __init__(self, path: str, node: str) -> None:
         super().__init__(path, node, site=node.split("@")[0])
@@ -351,6 +352,7 @@ class NodeReading(Reading):
         self.locks: List[Tuple[str, str]] = []
         self.mnesia: List[re.Match[str]] = []
         self.asks: Dict[Tuple[str, ...], List[str]] = {}
+        self.quiet: List[str] = []
 
     @property
     def is_closed(self) -> bool:
@@ -373,6 +375,8 @@ class NodeReading(Reading):
             self.locks += [(row[1], row[2]) for row in found]
         elif word == "asks":
             self.asks.update({row.group(1, 2, 3): row[4].split(",") for row in found})
+        elif word == "quiet":
+            self.quiet += [function_name(*row.group(1, 2, 3)) for row in found]
         elif word == "mnesia":
             self.mnesia += found
 

@@ -1,6 +1,6 @@
 %% A telephone exchange of processes with names, which send each other messages of their own. A switch asks billing for
 %% credit, billing asks the rater for a tariff, and the rater asks the switch for a route. Beside them are a log, one that
-%% counts, one that sweeps now and then, and the lines.
+%% counts, one that sweeps now and then, one that reports, and the lines.
 -module(exchange).
 -export([open/1, run/1]).
 
@@ -8,7 +8,8 @@
 open(Kind) ->
     [register(Name, spawn(?MODULE, run, [What]))
      || {Name, What} <- [{switch, {switch, []}}, {billing, {billing, #{}}}, {rater, {rater, Kind}}, {log, {log, 0}},
-                         {counter, {counter, 0}}, {sweeper, sweeper}, {line_1, {line, 1}}, {line_2, {line, 2}}]],
+                         {counter, {counter, 0}}, {sweeper, sweeper}, {reporter, reporter},
+                         {line_1, {line, 1}}, {line_2, {line, 2}}]],
     ok.
 
 run({switch, Calls}) -> switch(Calls);
@@ -17,6 +18,7 @@ run({rater, Kind}) -> rater(Kind);
 run({log, Number}) -> log(Number);
 run({counter, Number}) -> counter(Number);
 run(sweeper) -> sweeper();
+run(reporter) -> reporter();
 run({line, Number}) -> line(Number).
 
 line(Number) ->
@@ -75,6 +77,11 @@ counter(Number) ->
     after 500 ->
         counter(Number)
     end.
+
+reporter() ->
+    timer:sleep(20000),
+    io:format("~b processes~n", [length(processes())]),
+    reporter().
 
 sweeper() ->
     timer:sleep(15000),
