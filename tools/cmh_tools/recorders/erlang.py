@@ -10,7 +10,6 @@ from collections import defaultdict
 from operator import attrgetter
 from typing import Any, DefaultDict, Dict, List, Sequence, Set, Tuple
 
-from ..facts import FREES
 from ..files import Refusal, shown
 from ..moments import APART, PARTS, Reading
 from ..sketch import COMPLETE, LIMIT, REST, RUNS, SYSTEM, Process, Sketch, premise, runs, spoilt, unknown, waits_for_any
@@ -136,7 +135,7 @@ class ErlangRecorder(Recorder):
         there = {process.name for process in sketch.processes}
         polling = polling_names(moments)
         for process in sketch.processes:
-            process.proposal = FREES if process.kind == RUNS and process.name in polling else process.proposal
+            process.proposal = "frees" if process.kind == RUNS and process.name in polling else process.proposal
         sketch.groups = {group: [name for name in names if name in there] for group, names in groups.items()}
         pairs = [pair for moment in moments for pair in moment.answers if there.issuperset(pair)]
         sketch.in_transit = list(dict.fromkeys([*sketch.in_transit, *pairs]))
@@ -202,7 +201,7 @@ def wait_of_function(block: Block, moment: Nodes, more: Dict[str, Any]) -> Proce
     top = block.top()
     if top in ("timer:sleep", "Process.sleep"):
         is_quiet = (block.node, "".join(block.stack[1:2]).split(" (")[0]) in moment.quiet
-        return runs(moment.name(block), "it sleeps", [premise(LIMIT)], proposal=FREES if is_quiet else "any",
+        return runs(moment.name(block), "it sleeps", [premise(LIMIT)], proposal="frees" if is_quiet else "any",
                     **{**more, "operation": f"timed {top}"})
     if top == "gen:do_call" and block.has_limit:
         return runs(moment.name(block), "it waits with a limit", [premise(LIMIT)],
