@@ -110,7 +110,8 @@ class Names:
         if VARIABLE.search(word):  # (it has no value, and stands for no text)
             return []
         if is_others(word):
-            return [name for name in self.others if name.startswith(f"{word[len(OTHERS) + 1:]}/")]
+            some = [name for name in self.others if name.startswith(f"{word[len(OTHERS) + 1:]}/")]
+            return some or self.others  # (all, where another system calls them otherwise)
         if ":" in word and any(group.startswith(f"{word.split(':')[0]}:") for group in self.groups):
             return [name for group, names in self.groups.items() if is_like(word, group) for name in names]
         return [name for name in self.names if is_like(word, name)] if SPECIAL.search(word) else []

@@ -32,7 +32,8 @@ class Redaction:
         return replace(it, name=self.names.of(it.name), whom=self.names.all(it.whom), site=site, note="",
                        frames=self.frames.all(it.frames), objects=self.objects.all(it.objects), count=None, thread="",
                        reason="not shown" if it.kind == UNKNOWN else it.reason, besides=self.names.all(it.besides),
-                       spared=self.names.all(it.spared), because=list(map(self.because, it.because)), candidates=[])
+                       spared=self.names.all(it.spared), because=list(map(self.because, it.because)), candidates=[],
+                       scope="")
 
     def because(self, reason: str) -> str:
         return f"fact {self.facts.of(reason[5:])}" if reason.startswith("fact ") else reason
