@@ -39,6 +39,8 @@ READS = {"prim_inet:accept0": "gen_tcp:accept", "prim_inet:recv0": "gen_tcp:recv
 
 OWN_CHILD, OUTSIDE, RESTARTS = "child", "outside", "restarts"
 
+HANDLES = re.compile(r"[:.](handle_(call|cast|info|continue|event)|init|terminate)/\d")  # callbacks for one message
+
 
 class ErlangRecorder(Recorder):
     """The processes of a node are read one after the other, and all nodes before one is read again."""
@@ -135,7 +137,10 @@ class ErlangRecorder(Recorder):
         there = {process.name for process in sketch.processes}
         polling = polling_names(moments)
         for process in sketch.processes:
-            process.proposal = "frees" if process.kind == RUNS and process.name in polling else process.proposal
+            if process.kind == RUNS and process.frames and HANDLES.search(process.frames[-1]):
+                process.proposal = "any"  # (who sleeps in the middle of a message counts anew for each that comes)
+            elif process.kind == RUNS and process.name in polling:
+                process.proposal = "frees"
         sketch.groups = {group: [name for name in names if name in there] for group, names in groups.items()}
         pairs = [pair for moment in moments for pair in moment.answers if there.issuperset(pair)]
         sketch.in_transit = list(dict.fromkeys([*sketch.in_transit, *pairs]))
