@@ -27,7 +27,7 @@ ACCEPTS = re.compile(r"(.*[.:])?(accept\d?|serve_forever)(/\d+)?")
 def supposed(sketch: Sketch, facts: Facts) -> Facts:
     """Returns the facts with those behind them that are guessed before they are applied: that nobody is there for whom
     another one stands, that none of those matters that the state may lack, and that nothing moves."""
-    absent = [it for it in sketch.processes if is_stand_in(it) or it.frames == [REST]]
+    absent = [it for it in sketch.processes if is_stand_in(it) and not it.is_likely or it.frames == [REST]]
     lines = [f"{word_of(it.frames[0])} of {word_of(it.name)}{HAS_ENDED}" for it in absent]
     number = last_number(sketch) + 1
     found = [fact for fact in map(guessed, lines, range(number, number + len(lines))) if fact is not None]

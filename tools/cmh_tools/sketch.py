@@ -88,7 +88,8 @@ class Process:
     state isn't understood. `thread` is the thread of the kernel that it is all the time, as PID/TID. `choice` says of
     one that waits for one of its list, or for all of it, why that isn't known, and who may end its wait besides.
     `is_fed` says of one that waits for its next message that this is likely to come from those who are there, and
-    `may_rest` of a wait that those stand at too who have nothing to do, or of one who only ticks.
+    `may_rest` of a wait that those stand at too who have nothing to do, or of one who only ticks. `is_likely` says of
+    one that stands for others that these are likely to be there.
     `scope` is the beginning of the names of those who alone can end its wait, if that is known, as of the threads of
     one process of the system: what stands before the '/'.
     """
@@ -124,6 +125,7 @@ class Process:
     choice: Optional[Tuple[str, List[str]]] = None
     is_fed: bool = False
     may_rest: bool = False
+    is_likely: bool = False
 
     def copy(self) -> Process:
         """Returns one whose parts are the same. `dataclasses.replace` takes ten times as long."""

@@ -44,7 +44,7 @@ READY, MOVES, ROUTED, ACTS, KEEPS, EXPIRES, HANDLES = ("ready", "moves", "routed
                                                        "handles")
 BUSY = (COMPUTES, SLEEPING, ELSEWHERE)  # what a thread of one does that is likely at work
 FINE = "fine"  # the statistics that count who publishes to which queue
-TO_COME, UNSEEN, TIMEOUT = "other-publishers", "unseen-work", "consumer-timeout"
+TO_COME, UNSEEN, TIMEOUT, OWN_LIMITS = "other-publishers", "unseen-work", "consumer-timeout", "message-limits"
 STAND_INS = {  # who stands for what no state shows, and for what
     TO_COME: "stands for whoever will publish to a queue to which no channel that it has open has published: a mailer "
              "that hasn't published to 'receipts' yet, or one that opens a channel for each message",
@@ -52,6 +52,8 @@ STAND_INS = {  # who stands for what no state shows, and for what
             "or on a message that it has acknowledged already",
     TIMEOUT: "stands for the broker's limit, 30 minutes if nobody has set another one, after which a message that "
              "isn't acknowledged goes to another consumer of its queue",
+    OWN_LIMITS: "stands for limits that messages have of their own, by which they come as dead ones from a queue that "
+                "nobody reads, and that has no limit itself",
 }
 
 
@@ -203,7 +205,7 @@ class Service:
         its first message at work, or it gets dead messages, with which it may do what it has done with none before."""
         routes, has_finished = self.broker.routes, self.taken > self.unacknowledged
         return not has_finished and (self.is_at_work or not self.sent) \
-            or any(routes.comes(queue) or routes.mover(queue) for queue in self.queues)
+            or any(routes.comes(it) or routes.mover(it) or routes.may_expire(it) for it in self.queues)
 
     @functools.cached_property
     def sources(self) -> List[str]:
@@ -223,10 +225,11 @@ class Service:
 
     def has_asked(self, name: str) -> bool:
         """Whether one who consumes what it has published may have a question of it: a message is there that is ready or
-        at work."""
+        at work, or where it waits to come back."""
         routes = self.broker.routes
-        return any(routes.ready.get(queue) or routes.taken.get(queue) for queue in self.broker.services[name].queues
-                   if queue in self.sent)
+        queues = [it for it in self.broker.services[name].queues if it in self.sent]
+        return any(routes.ready.get(it) or routes.taken.get(it) for queue in queues
+                   for it in (queue, *routes.feeders(queue)))
 
     def first_repliers(self) -> List[str]:
         """Returns the names of those that may be the first to reply to a queue that is known by its name."""
@@ -249,8 +252,11 @@ class Service:
         return [name for name, it in others.items() if it.is_at_work] or list(others)
 
     def by_limit(self) -> List[str]:
-        """Returns who stands for the limit of the broker, if that may give it a message. It has none itself."""
-        return [TIMEOUT] if any(map(self.broker.routes.taken.get, self.sources)) else []
+        """Returns who stands for the limit of the broker, and for those of messages, if these may give it a message. It
+        has none itself."""
+        routes = self.broker.routes
+        own = [OWN_LIMITS] if any(map(routes.may_expire, self.queues)) else []
+        return [TIMEOUT, *own] if any(map(routes.taken.get, self.sources)) else own
 
 
 def process_name(name: str) -> str:
@@ -333,7 +339,8 @@ def stand_in(name: str) -> Process:
     """Returns one whom others name, and who isn't in the first state: one who stands for what no state shows, or one
     who has come since."""
     if name in STAND_INS:
-        return unknown(name, STAND_INS[name], frames=[name], is_idle=True, proposal="ended")
+        is_likely = name == OWN_LIMITS  # (else the messages of such a queue would be lost)
+        return unknown(name, STAND_INS[name], frames=[name], is_idle=True, proposal="ended", is_likely=is_likely)
     return spoilt(name, "it came after the first state")
 
 

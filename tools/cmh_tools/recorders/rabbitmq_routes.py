@@ -24,6 +24,7 @@ class Routes:
                                       if isinstance(row["messages_ready"], int)}
         self.taken = {str(row["name"]): row["messages_unacknowledged"] for row in raw["list_queues"]}
         self.active: Dict[str, List[str]] = {}
+        self.consumed = {str(row["queue_name"]) for row in raw["list_consumers"]}
         self.kinds = {str(row["name"]): str(row["type"]) for row in raw["list_exchanges"]}
         self.bound: Dict[str, List[Tuple[str, str]]] = {}
         self.fed: Dict[str, str] = {}  # what hands messages to an exchange by itself
@@ -112,9 +113,17 @@ class Routes:
         """Returns what hands messages to a queue by itself, or nothing: a queue that has some, whether or not they have
         a limit of their own."""
         for other in self.feeders(queue):
-            if self.ready.get(other) != 0 and not self.is_sure(other, queue):
+            if self.ready.get(other) != 0 and not self.is_sure(other, queue) and not self.keeps(other):
                 return f"queue {shown(other)} hands on dead messages to queue {shown(queue)}, which it reads"
         return ""
+
+    def may_expire(self, queue: str) -> bool:
+        """Whether messages come to a queue if they have limits of their own in another one."""
+        return any(self.ready.get(other) != 0 and self.keeps(other) for other in self.feeders(queue))
+
+    def keeps(self, queue: str) -> bool:
+        """Whether a queue keeps messages that have no limit of their own: it has none, and nobody refuses them."""
+        return queue not in self.consumed and not any(key in self.settings[queue] for key in LIMITS)
 
     def comes(self, queue: str) -> bool:
         """Whether a message comes to a queue once its time in another one is over."""
