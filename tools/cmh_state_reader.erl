@@ -516,8 +516,8 @@ start_of(Info) ->
 
 %% What the modules that it runs call, as their files say: `exits` if they may end a process, `stops` if they may have
 %% a supervisor end one, or stop a supervisor, `replies`, `tables` if they may keep a term in one, `timers` if they may
-%% begin one, or if a server in its loop has a limit, `bytes` if they make terms of these, `halts` if they may end or
-%% restart the node. What ends others may stand in a module that these call.
+%% begin one, or if a server in its loop has a limit, `bytes` if they make terms of these, `halts` if they may end,
+%% restart or disconnect the node. What ends others may stand in a module that these call.
 code_of(Info) ->
     {_, Stack} = lists:keyfind(current_stacktrace, 1, Info),
     Own = start_of(Info) ++ [Module || {Module, _, _, _} <- Stack],
@@ -569,7 +569,9 @@ kind_of({erlang, exit, Arity}) when Arity > 1 -> [exits];
 kind_of({'Elixir.Process', exit, _}) -> [exits];
 kind_of({'Elixir.Task', shutdown, _}) -> [exits];
 kind_of({init, Name, _}) -> [halts || lists:member(Name, [reboot, restart, stop])];
-kind_of({erlang, halt, _}) -> [halts];
+kind_of({erlang, Name, _}) when Name =:= disconnect_node; Name =:= halt -> [halts];
+kind_of({'Elixir.Node', Name, _}) when Name =:= disconnect; Name =:= stop -> [halts];
+kind_of({net_kernel, stop, _}) -> [halts];
 kind_of({'Elixir.System', Name, _}) -> [halts || lists:member(Name, [halt, restart, stop])];
 kind_of({_, terminate_child, _}) -> [stops];
 kind_of({Module, stop, _}) -> [stops || lists:member(Module, ?STOP)];
