@@ -475,20 +475,20 @@ both(Found, Texts) -> [io_lib:format("~p", [Reference]) || Reference <- Found] +
 
 kept(Info) ->
     case {is_idle(Info), lists:keyfind(backtrace, 1, Info)} of
-        {true, {_, Stack}} when byte_size(Stack) < ?BYTES ->
-            case re:run(Stack, ?SIGNS, [global, {capture, first, binary}]) of
-                {match, Found} when length(Found) < ?SEARCHED ->
-                    kept_lines([Sign || [Sign] <- Found, not is_text(Sign)]);
-                _ -> ""
-            end;
+        {true, {_, Stack}} when byte_size(Stack) < ?BYTES -> kept_lines(binary:match(Stack, <<"#Ref<">>), Stack);
+        _ -> ""
+    end.
+
+kept_lines(nomatch, _) -> "";
+kept_lines(_, Stack) ->
+    case re:run(Stack, ?SIGNS, [global, {capture, first, binary}]) of
+        {match, Found} when length(Found) < ?SEARCHED ->
+            Text = without_empty(iolist_to_binary([Sign || [Sign] <- Found, not is_text(Sign)])),
+            [io_lib:format("{kept,~ts}~n", [Text]) || byte_size(Text) < ?CHARACTERS * 10];
         _ -> ""
     end.
 
 is_text(<<First, _/binary>>) -> lists:member(First, "\"'").
-
-kept_lines(Signs) ->
-    Text = without_empty(iolist_to_binary(Signs)),
-    [io_lib:format("{kept,~ts}~n", [Text]) || byte_size(Text) < ?CHARACTERS * 10].
 
 without_empty(Text) ->
     case re:replace(Text, "[{][}]|\\[\\]", "", [global, {return, binary}]) of
