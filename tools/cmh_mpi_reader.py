@@ -48,8 +48,9 @@ LIMITS: Dict[str, Dict[int, Tuple[int, bool]]] = {
     "aarch64": {22: (3, True), 72: (4, False), 73: (2, False), 98: (3, False)},
 }
 SLEEPS = {"x86_64": (35, 230), "aarch64": (101, 115)}
-# A wait without a limit at a futex that no other process sees: the number of the call, and what its operation is then.
-FUTEX, PRIVATE_WAITS = {"x86_64": 202, "aarch64": 98}, (0x80, 0x89)
+# A wait without a limit at a futex: the number of the call, and what its operation is then, of one that no other
+# process sees, or may see, as that of a join: its value is the number of the joined thread.
+FUTEX, WAITS = {"x86_64": 202, "aarch64": 98}, {0x80: "private", 0x89: "private", 0: "shared", 9: "shared"}
 CLOCK_REALTIME = 0x100  # of an operation
 ALARMS = sum(1 << number - 1 for number in (14, 26, 27, 29))  # SIGALRM, SIGVTALRM, SIGPROF, SIGIO
 TRIES = 50  # to read a record that is being written
@@ -119,9 +120,11 @@ def inner_number(path: str, number: int) -> int:
 
 
 def has_alarms(pid: int) -> bool:
-    """Whether a process has a timer, or takes signals that one of its own or a file may send, as SIGALRM."""
-    caught = re.search(rb"^SigCgt:\s*([0-9a-f]+)$", slurp(f"/proc/{pid}/status"), re.M)
-    return bool(slurp(f"/proc/{pid}/timers")) or caught is None or bool(int(caught[1], 16) & ALARMS)
+    """Whether a process has a timer, or takes signals that one of its own or a file may send, as SIGALRM, or whether
+    that can't be read."""
+    path, caught = f"/proc/{pid}/timers", re.search(rb"^SigCgt:\s*([0-9a-f]+)$", slurp(f"/proc/{pid}/status"), re.M)
+    has_timer = not os.access(path, os.R_OK) or slurp(path) != b""
+    return has_timer or caught is None or int(caught[1], 16) & ALARMS != 0
 
 
 # One rank
@@ -296,10 +299,11 @@ def switches_of(folder: str) -> int:
 
 def name_of_call(number: int, words: Sequence[int]) -> str:
     """Returns "sleep" or "limit" of a call of the kernel that ends by itself, "private" of a wait that threads of the
-    process alone end, and its number of any other one."""
+    process alone end, "shared" with its value of another one at a futex, and its number of any other call."""
     machine = platform.machine()
-    if number == FUTEX.get(machine) and words[1] & ~CLOCK_REALTIME in PRIVATE_WAITS and not words[3]:
-        return "private"
+    kind = WAITS.get(words[1] & ~CLOCK_REALTIME) if number == FUTEX.get(machine) and not words[3] else None
+    if kind:
+        return kind if kind == "private" else f"{kind} {words[2] & 0xffffffff}"
     if number in SLEEPS.get(machine, ()):
         return "sleep"
     at, is_number = LIMITS.get(machine, {}).get(number, (0, False))

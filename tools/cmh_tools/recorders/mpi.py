@@ -212,8 +212,8 @@ class MpiRecorder(Recorder):
         moment.ranks = {rank.number: rank for rank in moment.rows()}
         moment.working = [it.name() for it in moment.ranks.values() if it.operation() != "MPI_Finalize"]
         places = {it.name(): it.more()["note"] for it in moment.ranks.values() if it.is_together()}
-        moment.late = [it.name() for it in moment.ranks.values() if len({*places.values()}) == 1 and it.name() not in
-                       places]
+        is_one = len({*places.values()}) == 1
+        moment.late = [it.name() for it in moment.ranks.values() if is_one and it.name() not in places]
 
     def wait_of(self, subject: Rank, moment: Ranks) -> Process:
         rank, more = subject, subject.more()

@@ -70,7 +70,8 @@ class Rank:
         callers = [it for it in there if "calls" in it or "fault" in it]
         first = [it for it in there if it["tid"] == self.pid]
         main = callers if len(callers) == 1 else first or callers or there
-        self.is_threaded = self.level >= SERIALIZED or len(callers) > 1 or any(map(is_parked, main[:1]))
+        self.is_threaded = self.level >= SERIALIZED or len(callers) > 1 or any(
+            is_parked(it) or joined_by(it, there) for it in main[:1])
         self.others = [it for it in there if it not in main[:1]]
         self.threads = [Thread(self, it, f"/{it['tid']}" if at else "")
                         for at, it in enumerate([*main[:1], *(self.others if self.is_threaded else [])])]
@@ -218,6 +219,12 @@ def is_parked(row: Dict[str, Any]) -> bool:
     return not row.get("kind") and row.get("call") == PARKED
 
 
+def joined_by(row: Dict[str, Any], rows: List[Dict[str, Any]]) -> str:
+    """Returns the number of the thread for whose end one waits, as the kernel writes it, or nothing."""
+    call = str(row.get("call", ""))
+    return next((str(it["tid"]) for it in rows if call == f"shared {it['inner']}" and not row.get("kind")), "")
+
+
 def going_on(rank: Rank) -> List[Dict[str, Any]]:
     """Returns the other threads of a rank that go on by themselves, and may send for it. A job that hasn't asked for a
     level has said nothing of its threads."""
@@ -349,11 +356,15 @@ def pairs_of(some: Iterable[Tuple[Any, Any]]) -> Iterator[Tuple[Any, Any]]:
 
 def align(one: Thread, later: Thread) -> None:
     """Has one who polls in turn for several things, and has found nothing between two readings, stand at one place in
-    both. Notes who has made calls on windows alone between, which don't count."""
+    both. One who hasn't even looked is outside of MPI. Notes who has made calls on windows alone between, which don't
+    count."""
     was, now = one.row, later.row
-    if one.calls == later.calls and one.kind == later.kind == POLL:
+    is_same, looks = one.calls == later.calls, one.kind == later.kind == POLL
+    if is_same and looks and "entered" in was and all(was.get(it) == now.get(it) for it in ("polls", "entered")):
+        one.kind = later.kind = was["kind"] = now["kind"] = 0
+    elif is_same and looks:
         now.update({key: was[key] for key in ("name", "place", "requests", "comm", "partner", "tag") if key in was})
-    elif one.calls == later.calls and was.get("entered") != now.get("entered"):
+    elif is_same and was.get("entered") != now.get("entered"):
         one.returns = later.returns = True
 
 
@@ -385,22 +396,32 @@ def outside(thread: Thread, more: Dict[str, Any]) -> Process:
     name, call = thread.name, thread.row.get("call", "")
     hidden = hidden_calls(thread.rank.row)
     more.update(thread.last_call())
+    others = [it for it in thread.rank.threads if it is not thread]
+    joined = joined_by(thread.row, [it.row for it in others])
+    if joined and "switches" in thread.row:
+        return parked(thread, [it for it in others if str(it.row["tid"]) == joined], "pthread_join", [SYSTEM], more)
     if is_parked(thread.row) and not hidden and can_be_woken_by_its_own(thread):
-        more.update(count=f"{thread.calls}/{thread.row['switches']}", operation="" if thread.is_new() else "futex")
-        others = [it for it in thread.rank.names() if it != name]
-        return waits_for_any(name, others, [SYSTEM, premise(WOKEN)], **more)
+        return parked(thread, others, "futex", [SYSTEM, premise(WOKEN)], more)
     if thread.is_new():
         return new_thread(thread, more)
     if call in BY_ITSELF:
         more["operation"] = "timed sleep" if call == "sleep" else "timed wait"
     if hidden:
-        return unknown(name, hidden, proposal="runs" if goes_on(thread, hidden) else "none", **more)
+        likely = [it.name for it in others] if is_parked(thread.row) else []
+        proposal = "any" if likely else "runs" if goes_on(thread, hidden) else "none"
+        return unknown(name, hidden, proposal=proposal, candidates=likely, **more)
     if call in BY_ITSELF:
         return runs(name, BY_ITSELF[call], [premise(LIMIT)], **more)
     if thread.row["state"] == "R":
         return runs(name, "it computes", [SYSTEM, premise(COMPUTES)], **more)
     where = f"in call {shown(call)} of the kernel" if call else f"in state {shown(thread.row['state'])}"
     return unknown(name, f"it waits outside of MPI, {where}: cmh-dump linux shows more", proposal="none", **more)
+
+
+def parked(thread: Thread, whom: List[Thread], operation: str, because: List[str], more: Dict[str, Any]) -> Process:
+    """Returns a thread that waits for others of its process. A new one has one place, whatever it does."""
+    more.update(count=f"{thread.calls}/{thread.row['switches']}", operation="" if thread.is_new() else operation)
+    return waits_for_any(thread.name, [it.name for it in whom], because, **more)
 
 
 def goes_on(thread: Thread, hidden: str) -> bool:
@@ -416,14 +437,16 @@ def can_be_woken_by_its_own(thread: Thread) -> bool:
 
 def new_thread(thread: Thread, more: Dict[str, Any]) -> Process:
     """Returns another thread of a rank that has made no call of MPI so far. By a guess it never does, unless it
-    computes or sleeps once."""
-    row, others = thread.row, [it for it in thread.rank.names() if it != thread.name]
+    computes or sleeps once: then it goes on if the rank's first thread waits outside of MPI for another one."""
+    row, rank = thread.row, thread.rank
+    first, rows = rank.threads[0].row, [it.row for it in rank.threads]
     more["count"] = None
-    goes_on = (row["state"] == "R" or row.get("call") in BY_ITSELF) and not row.get("ticks")
-    if goes_on or is_parked(row) and not thread.rank.has_no_strangers() or not more["frames"]:
+    if not more["frames"] or is_parked(row) and not rank.has_no_strangers():
         more["proposal"] = "none"
     elif is_parked(row):
-        more["candidates"] = others
+        more["candidates"] = [it for it in rank.names() if it != thread.name]
+    elif (row["state"] == "R" or row.get("call") in BY_ITSELF) and not row.get("ticks"):
+        more["proposal"] = "runs" if is_parked(first) or joined_by(first, rows) else "none"
     else:
         more.update(proposal="ended", site=None)
     return unknown(thread.name, "it has made no call of MPI so far, and may", **more)

@@ -329,7 +329,8 @@ static void fence(void) {
         MPI_Put(&rank, 1, MPI_INT, next(), 0, 1, MPI_INT, win);
     }
 }
-/* Both receive from each other. A thread of each waits for its turn to send, which an alarm gives it, or nobody. */
+/* A thread of each waits for its turn to send, which an alarm gives it, or nobody. Rank 0 receives from rank 1, which
+   waits for its thread first. */
 static sem_t turn;
 static void give(int number) { number ? (void)sem_post(&turn) : (void)0; }
 static void *send_in_turn(void *unused) {
@@ -343,6 +344,8 @@ static void parked(void) {
     if (is_slow)
         signal(SIGALRM, give), alarm(600);
     pthread_create(&sender, NULL, send_in_turn, NULL);
+    if (rank == 1)
+        pthread_join(sender, NULL);
     receive(1 - rank, TAG);
 }
 /* Ranks 1 and 2 wait for each other, or rank 1 computes. The others exchange with all. Each has a heartbeat, of which
