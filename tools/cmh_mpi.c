@@ -19,7 +19,7 @@
 #include <sys/syscall.h>
 #include <unistd.h>
 
-enum { THREADS = 32, COMMS = 128, OPEN = 128, PLACES = 4096, OWN = 64, NAME = 32, WORDS = 24 };
+enum { THREADS = 32, COMMS = 128, OPEN = 128, PLACES = 4096, OWN = 64, NAME = 32, WORDS = 24, LAST = 4 };
 /* What a call or a request waits for: its partner; all of a communicator, its root, or as the root all; those before
    it; some of them; what isn't known. Then all, or any, of its requests. A poll has found nothing. On a window it waits
    for who has locked the same target, or EVERY one. KEPT is a request that stays when it ends. */
@@ -36,7 +36,7 @@ struct record {
 struct comm { /* `held` counts the locks of a window that this rank has or wants: of a target, and alone, or SEVERAL */
     uint64_t handle, id, number, parent, made;
     int32_t size, rank, is_inter, root, held, target, is_alone, unused;
-    char name[NAME];
+    char name[LAST][NAME]; /* of the last collective calls, each at the place of its number */
 };
 struct file { /* cmh_mpi_reader.py has the same */
     char magic[8];
@@ -165,7 +165,7 @@ static inline void drop(uint64_t handle, int mask) {
 static inline uint64_t meet(const char *name, int at, int root) {
     if (!file || at < 0)
         return 0;
-    memcpy(file->comm[at].name, name, NAME);
+    memcpy(file->comm[at].name[(file->comm[at].number + 1) % LAST], name, NAME);
     file->comm[at].root = root;
     WRITE(file->comm[at].number, file->comm[at].number + 1);
     return file->comm[at].number;
@@ -511,7 +511,7 @@ static void begin_record(int asked) {
     PMPI_Get_version(&it->standard, &minor);
     for (int rank = 0; rank < size; rank++)
         it->ranks[rank] = rank;
-    it->comm[WORLD] = (struct comm){BITS((MPI_Comm){MPI_COMM_WORLD}), 1, 0, 0, 0, size, it->rank, 0, 0, 0, 0, 0, 0, ""};
+    it->comm[WORLD] = (struct comm){.handle = BITS((MPI_Comm){MPI_COMM_WORLD}), .id = 1, .size = size, .rank = it->rank};
     keep_request(it);
     memcpy(it->threads[0], before, sizeof before);
     keep_threads(it->threads[1]);

@@ -32,7 +32,7 @@ MAGIC, LINK = b"cmh_mpi3", "/memfd:cmh_mpi (deleted)"
 COMMS, THREADS, OPEN, PLACES, WORDS, OWN = 128, 32, 128, 4096, 24, 64
 NUMBERS = ("pid", "rank", "size", "level", "asked", "standard", "any_source", "any_tag", "opened", "lost")
 HEAD = struct.Struct(f"@8s{2 * WORDS}Q{len(NUMBERS)}i{2 * OWN}i0Q")
-COMM = struct.Struct("=QQQQQ8i32s")
+COMM, LAST = struct.Struct("=QQQQQ8i32s32s32s32s"), 4
 RECORD = struct.Struct("=QQQQ32s4i")
 OPERATION = struct.Struct("=QQ4i")
 RECORD_SIZE = RECORD.size + (1 + OPEN) * OPERATION.size
@@ -168,11 +168,13 @@ class Rank:
         return rows[:used[-1] + 1]
 
     def comm(self, at: int) -> Row:
-        handle, own_id, number, parent, made, size, rank, is_inter, root, *locks, _, name = COMM.unpack_from(
+        handle, own_id, number, parent, made, size, rank, is_inter, root, *rest = COMM.unpack_from(
             self.data, HEAD.size + at * COMM.size)
+        locks, names = rest[:3], [text_of(rest[-LAST:][(number - back) % LAST]) for back in range(LAST)]
         row: Row = {"id": f"{own_id:x}" if handle else "0", "number": number, "size": size, "rank": rank,
-                    "inter": is_inter, "root": root, "name": text_of(name), "parent": f"{parent:x}", "made": made,
+                    "inter": is_inter, "root": root, "name": names[0], "parent": f"{parent:x}", "made": made,
                     "is_used": handle or made or size}
+        row.update({"past": names[1:number]} if number > 1 else {})
         row.update(zip(("held", "target", "alone"), locks) if locks[0] else {})
         ranks = self.again(RANKS_AT + 4 * at * self.numbers["size"], 4 * size) if handle and size else b""
         numbers = [it[0] for it in struct.iter_unpack("=i", ranks)] or None

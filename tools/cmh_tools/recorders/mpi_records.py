@@ -7,6 +7,7 @@ communicator, or another one at its number. Of what waits for several requests, 
 from __future__ import annotations
 
 import json
+import re
 from collections import Counter
 from dataclasses import dataclass, field
 from typing import Any, Dict, Iterable, Iterator, List, Optional, Tuple, Union
@@ -42,7 +43,7 @@ THREAD = {"tid": int, "inner": int, "state": str, "call?": str, "calls?": int, "
           "entered?": int}
 COMM = {"id": str, "number": int, "size": int, "rank": int, "inter": int, "root": int, "name": str,
         "ranks?": ([int], type(None)), "parent?": str, "made?": int, "held?": int, "target?": int,
-        "alone?": int}
+        "alone?": int, "past?": [str]}
 RANK = {"pid": int, "rank": int, "size": int, "level": int, "standard": int, "opened": int, "lost": int, "full": bool,
         "fortran": (bool, type(None)), "comms": [COMM], "threads": [THREAD], "any_tag?": int, "begun?": [object],
         "alarms?": bool, "asked?": int, "named?": [str]}
@@ -602,18 +603,31 @@ def find_late(moment: Job, comm: Dict[str, Any], number: int, name: str, root: i
         found.is_open = found.is_open or rank is None
         if rank and late:
             found.ranks.append(it)
-            found.differs = found.differs or rank.by_id.get(comm["id"], comm)["number"] == number
+            found.differs = found.differs or rank.by_id.get(comm["id"], comm)["number"] >= number
     return found
 
 
 def is_late(rank: Rank, comm: Dict[str, Any], number: int, name: str, root: int) -> bool:
-    """Whether a rank, by its count in a communicator, hasn't come to a call."""
+    """Whether a rank, by its count in a communicator, hasn't come to a call, or has made another one in its place."""
     own = rank.by_id.get(comm["id"])
     if rank.fault or own is None:
         return bool(rank.fault) or has_yet_to_make(rank, comm)
     if own["number"] < number:
         return True
-    return own["number"] == number and name != "" and (own["name"], own["root"]) != (name, root)
+    if own["number"] == number:
+        return name != "" and (own["name"], own["root"]) != (name, root)
+    return "" not in {name, past_name(own, number)} and family(past_name(own, number)) != family(name)
+
+
+def family(name: str) -> str:
+    """A collective call with all that some libraries let meet: Igather, Gather and Gatherv."""
+    return re.sub(r"^i(?=[a-z])|(?<=[lr])[vw]$|_block$", "", name.lower())
+
+
+def past_name(comm: Dict[str, Any], number: int) -> str:
+    """The name of a call before the last one of a communicator, if its record still has that."""
+    past: List[str] = comm.get("past", [])
+    return next(iter(past[comm["number"] - number - 1:]), "")
 
 
 def has_yet_to_make(rank: Rank, comm: Dict[str, Any]) -> bool:
