@@ -37,7 +37,8 @@ class Names:
         self.names = {process.name: None for process in sketch.processes}
         self.at_frames = {frame_name(each): process.name for process in sketch.processes for each in process.frames}
         self.families = families(self.names)
-        self.others = [it.name for it in sketch.processes if it.is_there() and it.name not in facts.spared]
+        self.others = [it.name for it in sketch.processes if it.is_there() and it.name not in facts.spared
+                       and not (it.kind == RUNS and it.proposal == "nobody")]
         self.holders: Dict[str, Dict[str, None]] = {}
         self.holding: Dict[str, Dict[int, Fact]] = {}  # the facts by which something is held, by their lines
         self.lists: Dict[Tuple[str, Tuple[str, ...]], Tuple[List[str], str]] = {}

@@ -16,6 +16,8 @@ RECEIVES = re.compile(r"chan receive|select|receive|consume|(\w+\.)*(\w*(Queue|D
 # From outside: from a socket, or by what Java puts before one.
 READS = re.compile(r"(\w+\.)*(\w*socket\w*|SSL\w*|StreamReader|gen_tcp|gen_udp|(Buffered|InputStream)Reader"
                    r"|(Data|Object)InputStream|Socket\$SocketInputStream)[.:](recv|read)\w*", re.I)
+# Functions of a native program's own that wait at a condition for the next thing to do.
+TAKES = re.compile(r"(\w+::)*(take|pop|get|dequeue|next|receive|recv|poll|fetch|(a?wait|wait_for)_?(work|job|task))(_\w+)?")
 NAMELESS = re.compile(r"lambda|\.func\d|-fun-\d|Thread\.run|\$\d")
 
 
@@ -75,6 +77,8 @@ def proposals_of(sketch: Sketch, quiet: Collection[str] = ()) -> List[Proposal]:
 
 def is_receiver(process: Process) -> bool:
     """Whether one waits for its next message, at the function that it was started with."""
+    if process.operation == "futex":
+        return 1 < len(process.frames) <= 3 and TAKES.fullmatch(process.frames[0].partition(" (")[0]) is not None
     is_reading = RECEIVES.fullmatch(process.operation) or READS.fullmatch(process.operation)
     return is_reading is not None and all(map(NAMELESS.search, process.frames[1:]))
 

@@ -28,7 +28,7 @@ BY_TIMERS = ("chan receive", "select", "sleep")
 RESTS = ("chan receive", "select", "sync.Cond.Wait", "sync.WaitGroup.Wait")  # waits of those with nothing to do
 BY_SYSTEM = ("IO wait", "syscall")
 READS, SHALLOW = "internal/poll.(*FD).Read", 2  # of a socket, and frames down to where one reads its next message
-ASKS = re.compile(r"net/http\.(?:Client\.\w+|Get|Head|Post|PostForm|Transport\.RoundTrip)")  # who asks a server
+ASKS = "net/http.(*persistConn).roundTrip"  # who has asked a server, and waits for its answer
 BLOCKED = ("chan send", "semacquire", "sync.Mutex.Lock", "sync.RWMutex.Lock", "sync.RWMutex.RLock")
 ACCEPTS = ("net.(*TCPListener).Accept", "net.(*UnixListener).Accept")
 SIGNALS, SERVES = "os/signal.signal_recv", ("net/http.(*conn).serve", "google.golang.org/grpc.(*Server).handleStream")
@@ -67,7 +67,7 @@ class Likely:
         if goroutine.state in BY_SYSTEM:
             is_reading = any(it.function == READS for it in goroutine.frames)
             return "outside" if len(place.frames) <= (SHALLOW if is_reading else 1) else "runs"
-        return "runs" if ASKS.fullmatch(place.operation) else ""
+        return "runs" if any(it.function == ASKS for it in goroutine.frames) else ""
 
     def is_at_signals(self, goroutine: Goroutine, place: Place) -> bool:
         """Whether it is main that waits for a signal, as a service does that ends by one."""

@@ -20,10 +20,10 @@ from .linux_stacks import BARRIER, STACK, add_stacks, ends_of_futex, hint, meeti
 from .linux_text import ENDED as GONE
 from .linux_text import READS, WRITES, Machine, Owner, Row, Thread, readings_of, rows_of
 from .linux_unread import Branches
-from .linux_waits import (ACCEPTS, CONNECTS, EPOLLS, FIFO, FILES, FORKS, FRONT, GROUP, MOVES, OPENS, PIPE, READ,
-                          FOR_SIGNALS, REMOTE, RESTS, SETS, SIGCHLD, SIGINT, SLEEPS, SUSPENDS, UNTIMED, WRITE, Ends, choice_of,
-                          ends_of, ends_of_connect, ends_of_set, ends_of_wait, has_limit, int32, note_of, threads_of,
-                          timed_parents)
+from .linux_waits import (ACCEPTS, CONNECTS, EPOLLS, FIFO, FILES, FOR_SIGNALS, FORKS, FRONT, GROUP, MOVES, OPENS, PIPE,
+                          READ, REMOTE, RESTS, SETS, SIGCHLD, SIGINT, SLEEPS, SUSPENDS, UNTIMED, WRITE, Ends, choice_of,
+                          ends_of, ends_of_connect, ends_of_set, ends_of_wait, has_limit, int32, note_of, only_sleeps,
+                          threads_of, timed_parents)
 
 SIGNALS_OF_KERNEL = {14: "SIGALRM", 29: "SIGIO"}  # which come unseen: an alarm, an event at a descriptor
 NO_FACT = ", and no fact on its place decides that"
@@ -177,7 +177,8 @@ class LinuxRecorder(Recorder):
             more["operation"], more["note"] = f"timed {thread.call}", whole_note(thread, ends)
             why = "it sleeps" if thread.call in SLEEPS else "it waits with a limit"
             is_main = thread.tid == thread.owner.pid and thread.call in SLEEPS and len(thread.owner.threads) > 1
-            return runs(thread.name, why, [premise(LIMIT)], **more, proposal="frees" if is_main else "any")
+            proposal = "nobody" if only_sleeps(thread.owner) else "frees" if is_main else "any"
+            return runs(thread.name, why, [premise(LIMIT)], **more, proposal=proposal)
         return self.decided(thread, moment, ends, more)
 
     def decided(self, thread: Thread, moment: Computer, ends: Ends, more: Dict[str, Any]) -> Process:
