@@ -18,7 +18,7 @@ from typing import Any, Dict, Iterator, List, Optional, Set
 
 from ..files import shown
 from ..moments import APART, GROWN, ONCE, PARTS, WHOLE, Reading
-from ..sketch import ANY, COMPLETE, LIMIT, REST, RUNS, Process, Sketch, premise
+from ..sketch import ANY, COMPLETE, LIMIT, REST, RUNS, UNKNOWN, Process, Sketch, premise
 from . import State
 from .base import Moment, Premise, Recorder
 from .python_frames import is_of_frames, looks_of_frames
@@ -309,6 +309,8 @@ def wait_of_thread(subject: Subject) -> Process:
     standing = subject.job.standing(subject.row, subject.row.frames)
     process = process_of(subject, subject.row.frames, subject.job.wait_of_thread(subject.row, standing), standing)
     process.proposal = proposal_of(process, subject)
+    if process.kind == UNKNOWN and process.operation == "Connection.recv" and not process.candidates:
+        process.candidates = [*subject.job.children, COMPLETE] if subject.job.children else []
     return process
 
 
