@@ -20,6 +20,7 @@ from .stuck import Waits
 WAITS = ("any", "all", "holds")  # proposals for one that waits, for whomever
 OUTSIDE = "outside"  # the proposal for one that goes on by the outside, and is likely to end nobody's wait
 OF_PROCESS = f"{OTHERS}:{{process}}"  # the others of its own scope
+FED = 3  # how far behind others who are stuck those at rest are looked for
 OPEN = f" {COMPLETE}"  # the end of a line that isn't whole
 ACCEPTS = re.compile(r"(.*[.:])?(accept\d?|serve_forever)(/\d+)?")
 
@@ -78,7 +79,7 @@ def take_at_rest(sketch: Sketch, facts: Facts, passed_over: Set[str], at_rest: L
 def apply_to(sketch: Sketch, facts: Facts, passed_over: Set[str], at_rest: List[str]) -> Dict[str, Fact]:
     """Has guesses decide who is unknown. Of those who are at rest it is guessed that they end nobody's wait. Returns
     the guesses of all who end nobody's."""
-    asked = [*filled_in(sketch, passed_over)]
+    asked = [*filled_in(sketch, passed_over.union(at_rest))]
     open_ones = [it for it in sketch.processes if it.kind == UNKNOWN and it.name not in passed_over]
     accepting = [it for it in open_ones if is_acceptor(it) or it.proposal == OUTSIDE]
     woken = [it for it in open_ones if it.doubt == GROWN and it not in accepting]
@@ -97,11 +98,31 @@ def apply_to(sketch: Sketch, facts: Facts, passed_over: Set[str], at_rest: List[
 
 
 def feed(sketch: Sketch, facts: Facts, spared: Dict[str, Fact]) -> None:
-    """Guesses of those at rest that the others end their waits, if these are likely to feed them."""
-    fed = [it for it in sketch.processes if it.kind == UNKNOWN and it.is_fed and it.name in spared]
-    lines = [(f"{place_words(*place)} -> any {OTHERS}", names) for place, names in places_of(fed).items()]
-    if lines and stuck_names(sketch):
+    """Guesses of those at rest that the others end their waits, if these are likely to feed them, or that those do whom
+    the state has filled in, if all of these are stuck."""
+    for _ in range(FED):
+        inside = stuck_names(sketch)
+        some = [it for it in sketch.processes if it.kind == UNKNOWN and it.name in spared] if inside else []
+        places = places_of(it for it in some if it.is_fed)
+        lines = [(f"{place_words(*place)} -> any {OTHERS}", names) for place, names in places.items()]
+        lines += [(fed_by(it), [it.name]) for it in some if not it.is_fed and is_fed_by(it, sketch, inside)]
+        if not lines:
+            return
         apply_guesses(replace(facts, guesses=facts_of(lines, last_number(sketch) + 1), spared=spared), sketch)
+
+
+def is_fed_by(process: Process, sketch: Sketch, names: Set[str]) -> bool:
+    """Whether all whom the state has filled in for one that waits are some of these, but for itself."""
+    words = [word for word in process.candidates if word != COMPLETE]
+    found = {it.name for it in sketch.processes if any(is_like(word, it.name) for word in words)} - {process.name}
+    return bool(found) and found <= names
+
+
+def fed_by(process: Process) -> str:
+    """Returns the line that those end the wait of a process whom the state has filled in."""
+    words = [word for word in process.candidates if word != COMPLETE]
+    place = [word_of(place_name(process)), "of", *map(word_of, filter(None, [process.name, process.operation]))]
+    return " ".join([*place, "-> any", *map(word_of, words)])
 
 
 def spare(sketch: Sketch, spared: Dict[str, Fact], known: Set[str]) -> None:
@@ -123,9 +144,9 @@ def spare(sketch: Sketch, spared: Dict[str, Fact], known: Set[str]) -> None:
 def receivers(sketch: Sketch, passed_over: Set[str]) -> List[str]:
     """Returns those who only wait for their next message, at the function that they were started with, and whom nobody
     is known to wait for."""
-    wanted = {name for it in sketch.processes for name in it.whom}
+    wanted, needed = {name for it in sketch.processes for name in it.whom}, needed_names(sketch)
     found = [it.name for it in sketch.processes if it.kind == UNKNOWN and it.name not in passed_over
-             and it.name not in wanted and is_receiver(it)]
+             and it.name not in (needed if it.operation == "futex" else wanted) and is_receiver(it)]
     return found if len(found) <= MOST else []
 
 

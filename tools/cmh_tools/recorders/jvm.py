@@ -276,7 +276,7 @@ class JvmRecorder(Recorder):
         if CONDITION in (thread.parked_class or parked) and not inside_of(thread) and not moment.dump.has_owners:
             return spoilt(name, f"{what}: it may have been signalled, and wait for whoever has the lock: only `jstack "
                           "-l` shows that")
-        reach = None if is_at_inbox(place) else moment.heaps.reach_of(thread)
+        reach = moment.heaps.reach_of(thread)
         if reach is not None and (LATCH.fullmatch(place.call) or not NEEDS_ALL.fullmatch(place.call)):
             return unknown(name, f"{what}: the heap shows who has a reference to it, and not who ends this wait",
                            candidates=[*moment.heaps.in_order([*reach, name]), COMPLETE])
