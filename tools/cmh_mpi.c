@@ -511,7 +511,7 @@ static void begin_record(int asked) {
     PMPI_Get_version(&it->standard, &minor);
     for (int rank = 0; rank < size; rank++)
         it->ranks[rank] = rank;
-    it->comm[WORLD] = (struct comm){.handle = BITS((MPI_Comm){MPI_COMM_WORLD}), .id = 1, .size = size, .rank = it->rank};
+    it->comm[WORLD] = (struct comm){BITS((MPI_Comm){MPI_COMM_WORLD}), .id = 1, .size = size, .rank = it->rank};
     keep_request(it);
     memcpy(it->threads[0], before, sizeof before);
     keep_threads(it->threads[1]);

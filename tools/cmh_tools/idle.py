@@ -17,7 +17,8 @@ RECEIVES = re.compile(r"chan receive|select|receive|consume|(\w+\.)*(\w*(Queue|D
 READS = re.compile(r"(\w+\.)*(\w*socket\w*|SSL\w*|StreamReader|gen_tcp|gen_udp|(Buffered|InputStream)Reader"
                    r"|(Data|Object)InputStream|Socket\$SocketInputStream)[.:](recv|read)\w*", re.I)
 # Functions of a native program's own that wait at a condition for the next thing to do.
-TAKES = re.compile(r"(\w+::)*(take|pop|get|dequeue|next|receive|recv|poll|fetch|(a?wait|wait_for)_?(work|job|task))(_\w+)?")
+TAKES = re.compile(r"(\w+::)*(take|pop|get|dequeue|next|receive|recv|poll|fetch|(a?wait|wait_for)_?(work|job|task))"
+                   r"(_\w+)?")
 NAMELESS = re.compile(r"lambda|\.func\d|-fun-\d|Thread\.run|\$\d")
 
 

@@ -69,8 +69,8 @@ class Process:
     one that stands for others who may not be there, 'runs' of one that is likely to go on by itself, 'outside' of one
     that is likely to wait for the outside, as to be stopped, and to end nobody's wait, 'nobody' if nobody is likely to
     end its wait, 'maybe' of one that may not wait at all, so that nothing is guessed, or 'none'. Of one that runs
-    'frees' says that it is likely to end nobody's wait, 'nobody' that it ends none but those that have it alone in their
-    lists, and 'none' that it may end some.
+    'frees' says that it is likely to end nobody's wait, 'nobody' that it ends none but those that have it alone in
+    their lists, and 'none' that it may end some.
     `candidates` are words of facts that the state suggests for it: names, groups, or of 'holds' what is to be held.
     `ends` is of one that facts on who holds what may decide: what may end its wait, by name, each with a regular
     expression for what is held. Each of them needs a holder, since one without may be anybody's: then it waits for any

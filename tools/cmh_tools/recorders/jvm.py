@@ -71,9 +71,9 @@ class Threads(Moment):
     shows_owners: bool
 
     def is_lost(self, thread: Thread, lock: str) -> bool:
-        """Whether the owner of a ReentrantLock is likely to have ended with it: nobody owns it, nor takes it or gives it
-        back just now, and all who wait for it have stood since. The first of these would have been woken by a lock that
-        is free. A virtual thread may own it, which isn't shown."""
+        """Whether the owner of a ReentrantLock is likely to have ended with it: nobody owns it, nor takes it or gives
+        it back just now, and all who wait for it have stood since. The first of these would have been woken by a lock
+        that is free. A virtual thread may own it, which isn't shown."""
         return self.shows_owners and REENTRANT.fullmatch(thread.parked_class) is not None and lock not in self.moved
 
 
