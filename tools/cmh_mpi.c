@@ -374,12 +374,6 @@ int MPI_Sendrecv(TYPES(OUT (int, dest)(int, tag) IN (int, source)(int, other_tag
     return error ? error : later;
 }
 
-/* What replaces a message waits for both halves, as for requests of which isn't known whether they are complete. */
-#define HALF(kind, partner, tag) (struct operation){0, 0, partner == MPI_PROC_NULL ? NONE : kind, AT, partner, tag}
-CALL(Sendrecv_replace, DATA(void)(int, dest)(int, tag)(int, source)(int, other_tag) COMM STATUS,
-     (enter(r, TEXT("Sendrecv_replace"), ALL_OF, NOT_KNOWN, -1, -1, 0, NULL, HERE), r->open[0] = HALF(SEND, dest, tag),
-      r->open[1] = HALF(RECEIVE, source, other_tag), WRITE(r->requests, 2)), leave(r))
-
 WAITS(Wait, ALL_OF, 1, 1, NULL, REQUEST STATUS)
 WAITS(Waitall, ALL_OF, n, n, NULL, REQUESTS STATUS)
 WAITS(Waitany, ANY_OF, n, 1, index, REQUESTS (int *, index) STATUS)
@@ -429,6 +423,7 @@ MAKES(Dist_graph_create_adjacent, COMM (int, n)(const int *, sources)(const int 
       (const int *, targets)(const int *, others) INFO (int, order))
 
 UNKNOWN(Bsend, OUT TO) UNKNOWN(Mrecv, IN MESSAGE STATUS) UNKNOWN(Buffer_detach, (void *, buffer)(int *, size))
+UNKNOWN(Sendrecv_replace, DATA(void)(int, dest)(int, tag)(int, source)(int, other_tag) COMM STATUS)
 UNKNOWN(Comm_create_group, COMM (MPI_Group, group)(int, tag) MADE)
 UNKNOWN(Comm_free, (MPI_Comm *, comm)) UNKNOWN(Comm_disconnect, (MPI_Comm *, comm))
 UNKNOWN(Comm_accept, PORT INFO ROOT COMM MADE) UNKNOWN(Comm_connect, PORT INFO ROOT COMM MADE)

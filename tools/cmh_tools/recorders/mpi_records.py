@@ -251,7 +251,7 @@ class RecordsRecorder(Recorder):
         FINALIZED: Premise("MPI_Finalize returns once all ranks have come to it"),
         COMPUTES: Premise("a rank that computes doesn't look for a message between its steps"),
         MEET: Premise("ranks that are at different collective calls of a communicator don't meet"),
-        LATE: Premise("a collective call waits for none but ranks that haven't come to it"),
+        LATE: Premise("a collective call to which all but one have come waits for that one"),
         WOKEN: Premise("no signal and no thread that MPI_Init has begun wakes a thread of the job"),
         KEPT_BY: Premise("a lock of a window is kept by its target, or by the first rank there or of all"),
     }
@@ -682,15 +682,14 @@ def all_of(ranks: List[int], moment: Job, late: Late) -> Need:
 
 
 def one_of(moment: Job, late: Late) -> Need:
-    """The need of a call that may go on without some of those that are late: it waits for one at least."""
-    need = all_of(late.ranks, moment, late)
-    if need.why:
+    """The need of a call that may go on without some of those that are late: if one alone is, it waits for that."""
+    if len(late.ranks) == 1 and not late.is_open:
+        need = all_of(late.ranks, moment, late)
+        need.because.append(premise(LATE))
         return need
-    need.because.append(premise(LATE))
-    if len(late.ranks) > 1 or late.is_open:
-        need.needs_all, need.is_open = True, late.is_open
-        need.choice = "the record doesn't show which of the ranks that haven't come it waits for"
-    return need
+    names = [name for it in late.ranks for name in moment.ranks[it].names()]
+    return Need(names, why="the record doesn't show which of the ranks that haven't come it waits for" if names else
+                "all ranks of its communicator have come")
 
 
 # Requests
