@@ -108,6 +108,7 @@ NEAR = 3  # steps from a name to a task, future or child that it is taken to rea
 MOST = 50  # of these that are printed for one thread or task
 INHERITED: "weakref.WeakSet" = weakref.WeakSet()  # tasks that were there before the fork
 SIGNALS = 0x7ffbfeff  # of the mask of blocked ones, but SIGKILL and SIGSTOP
+STOP = b"\0"  # ends the thread that prints: what faulthandler writes has no such byte, whatever functions are called
 SETTLE = 0.05  # seconds from the signal to the first look: the signal wakes the main thread, which then waits again
 # What tells one object from a later one at its place: by place, a weak reference and a number.
 NUMBERS: "dict[int, tuple[weakref.ref, int]]" = {}
@@ -1833,7 +1834,7 @@ class Printer:
 
     def serve(self):
         pause = float(os.environ.get("CMH_STATE_PAUSE", "5"))
-        while b"stop" not in self.read():
+        while STOP not in self.read():
             self.signals += 1
             time.sleep(SETTLE)
             self.answer()
@@ -1856,7 +1857,7 @@ class Printer:
     def stop(self):
         """Before a fork, so that the child begins with no lock that this thread has. Where what it prints can't be
         written, the fork doesn't wait for it."""
-        os.write(self.write_end, b"stop")
+        os.write(self.write_end, STOP)
         self.thread.join(STUCK)
 
     def open_in_child(self):
