@@ -761,7 +761,8 @@ def called_by(frame):
         return [vars(own)]
     if frame.f_code.co_name == "run_forever":
         handles = [each for each in [*handles_of(own), *list(getattr(own, "_ready", ()))]
-                   if callback_name(getattr(each, "_callback", None))]
+                   if callback_name(getattr(each, "_callback", None))
+                   or ends_more(getattr(getattr(each, "_callback", None), "__self__", None))]
         return [part for each in handles for part in (each._callback, each._args)]
     items = [*items_in(work), *([own] if is_a(own, "concurrent.futures.thread", "_WorkItem") else [])]
     return [part for each in items for part in (each.fn, each.args, each.kwargs, each.future)]
@@ -1560,10 +1561,11 @@ def handlers_of(loop):
 
 def foreign_name(callback, is_timer):
     """The name of what a loop calls and that isn't known to cancel nobody: a function of the program, or one of asyncio
-    that the program has put there. Of a timer that wakes or cancels a task or a future the row of that says so."""
+    that the program has put there. Of a timer that wakes or cancels a task, or ends a future that it awaits, the row of
+    that says so."""
     name = callback_name(callback)
     on = getattr(callback, "__self__", None)
-    if name or callback is None or is_timer and is_work(on):
+    if name or callback is None or is_timer and is_work(on) and not ends_more(on):
         return name
     if is_work(on):
         return f"{type(on).__name__}.{callback.__name__}"
@@ -1571,6 +1573,14 @@ def foreign_name(callback, is_timer):
         return "functools.partial"
     own = getattr(callback, "__qualname__", "?")
     return "" if own.split(".")[-1].startswith(("_", "<")) else f"{type(on).__module__}.{own}"
+
+
+def ends_more(future):
+    """Whether others may wait for a future of asyncio than tasks that await it by itself, or it cancels others."""
+    is_task = is_a(future, "asyncio.tasks", "Task")
+    called = [each for each, _ in getattr(future, "_callbacks", None) or () if not is_task]
+    return is_a(future, "asyncio.tasks", "_GatheringFuture") or is_a(future, "asyncio.futures", "Future") and any(
+        not is_a(getattr(each, "__self__", None), "asyncio.tasks", "Task") for each in called)
 
 
 def callback_name(callback):
