@@ -44,7 +44,12 @@ LIBRARIES = re.compile(r"(threading|queue|concurrent\.futures|multiprocessing|su
                        r"|logging|importlib\._bootstrap|_frozen_importlib)($|\.)")
 LOCALS = ("self", "timeout", "fs", "fut", "future", "return_when", "work_queue", "executor_reference")
 WORDS = ("ALL_COMPLETED", "FIRST_COMPLETED", "FIRST_EXCEPTION")
-CANCELS = {"cancel", "all_tasks", "set_result", "set_exception"}
+# Names by which a task or a future ends, or by which somebody else may begin the work that a pool keeps.
+CANCELS = {"cancel", "all_tasks", "set_result", "set_exception", "shutdown", "_work_queue", "_threads_queues",
+           "_max_workers"}
+RELEASES = {"release", "_release_save"}
+LOADS, ATTRIBUTES = ("LOAD_", "STORE_ATTR"), ("LOAD_ATTR", "LOAD_METHOD")  # how steps begin that name something
+CANCELLING: "set[str]" = set()  # as `find_cancelling` has found them for this state
 FINAL = (signal.SIGINT, signal.SIGTERM)  # signals that end a program
 FATAL = {"_exit", "abort", "kill", "killpg", "interrupt_main", "pthread_kill", "raise_signal",
          "execl", "execle", "execlp", "execlpe", "execv", "execve", "execvp", "execvpe"}
@@ -828,16 +833,17 @@ def attributes_in(value):
 
 
 @functools.lru_cache(maxsize=1000)
-def names_ahead(code, last):
-    """The names of the steps of a code from one on, or from the first one that these go back to, and those of the
-    functions that they make."""
+def names_ahead(code, last, kinds=LOADS):
+    """The names of the steps of some kinds of a code from one on, or from the first one that these go back to, and
+    those of the functions that they make."""
     steps, start = list(dis.get_instructions(code)), last
     jumps = [(step.offset, step.argval) for step in steps if step.opcode in (*dis.hasjrel, *dis.hasjabs)]
     while any(at >= start > target for at, target in jumps):
         start = min(target for at, target in jumps if at >= start)
-    loads = [step.argval for step in steps if step.offset >= start and step.opname.startswith("LOAD_")]
+    ahead = [step for step in steps if step.offset >= start]
+    loads = [step.argval for step in ahead if step.opname.startswith(kinds)]
     values = [each for value in loads for each in (value if type(value) is tuple else (value,))]
-    inner = [names_ahead(value, 0) for value in values if type(value) is types.CodeType]
+    inner = [names_ahead(step.argval, 0, kinds) for step in ahead if type(step.argval) is types.CodeType]
     return frozenset(value for value in values if type(value) is str).union(*inner)
 
 
@@ -906,17 +912,19 @@ def named_by(names, places):
     return spread(found + [each[name] for each in kinds for name in names if name in each])
 
 
-def reached(words, frames, start_of, called=()):
+def reached(words, frames, start_of, called=(), methods=frozenset()):
     """Yields those of some names that the code of frames of the program from a step on has, or functions that this
-    names, some steps far, or that will be called."""
+    names, some steps far, or that will be called. Yields too those of some methods that this code names."""
     ways = [(names_ahead(frame.f_code, start_of(frame)), (dict(frame.f_locals), frame.f_globals))
             for frame, _ in frames if is_own(frame)]
+    own = [names_ahead(frame.f_code, start_of(frame), ATTRIBUTES) for frame, _ in frames if is_own(frame)]
     values, seen, owners = [*called, *called_later(frames)], set(), {}
     for _ in range(NEAR + 1):
         values += [value for names, places in ways for value in named_by(names, places)]
         add_owners(owners, values)
         names = {value.__name__ for value in values if type(value) in CALLED}
         yield from words.intersection(names.union(*(names for names, _ in ways)))
+        yield from methods.intersection(set().union(*own))
         new = {value for value in values if type(value) is types.FunctionType and is_foreign(value)} - seen
         seen |= new
         LEFT["codes"] -= len(new)
@@ -925,6 +933,7 @@ def reached(words, frames, start_of, called=()):
             return
         ways = [(names_ahead(each.__code__, 0), (cells_in(each), each.__globals__, *objects_of(each, owners)))
                 for each in new]
+        own = [shared_names(each.__code__) for each in new]
         values = []
 
 
@@ -944,7 +953,21 @@ def from_start(frame):
 
 def may_cancel(frames, called=()):
     """Whether these frames may still come to what ends the wait for a task or a future of others."""
-    return any(reached(CANCELS, frames, from_step, [*called, *spread(finalized())]))
+    return any(reached(CANCELS, frames, from_step, [*called, *spread(finalized())], CANCELLING))
+
+
+def find_cancelling():
+    """Keeps the names of the functions of the program that may come to what ends a task or a future, by the names in
+    their code: whoever names one as an attribute may have an object of any class."""
+    CANCELLING.clear()
+    codes = {name: [each.__code__ for each in some if type(each) is types.FunctionType]
+             for name, some in functions_by_name().items() if not name.startswith("__")}
+    codes = {name: [code for code in some if not PACKAGES.search(code.co_filename)] for name, some in codes.items()}
+    shared = {name: frozenset().union(*map(shared_names, some)) for name, some in codes.items()}
+    new = {name for name, some in codes.items() if any(not CANCELS.isdisjoint(all_names(code)) for code in some)}
+    while new:
+        CANCELLING.update(new)
+        new = {name for name, some in shared.items() if name not in CANCELLING and not some.isdisjoint(CANCELLING)}
 
 
 def finalized():
@@ -955,7 +978,7 @@ def finalized():
 
 def may_release(frames):
     """Whether these frames may give back a lock, or have done so."""
-    return any(reached({"release"}, frames, from_start))
+    return any(reached(RELEASES, frames, from_start))
 
 
 def may_end(frames):
@@ -1178,6 +1201,13 @@ def all_names(code):
     names = [*code.co_names, *code.co_varnames, *code.co_freevars, *code.co_cellvars]
     inner = [all_names(value) for value in values if type(value) is types.CodeType]
     return frozenset([*names, *(value for value in values if type(value) is str)]).union(*inner)
+
+
+@functools.lru_cache(maxsize=20000)
+def shared_names(code):
+    """The names of globals and attributes in a code, and in the functions in it."""
+    inner = [shared_names(value) for value in code.co_consts if type(value) is types.CodeType]
+    return frozenset(code.co_names).union(*inner)
 
 
 @functools.lru_cache(maxsize=20000)
@@ -1784,7 +1814,7 @@ def state(number=0):
     seconds = float(os.environ.get("CMH_STATE_SECONDS", "0.25"))
     began = time.time()
     forget_numbers()
-    LEFT["codes"] = CODES
+    LEFT["codes"] = CODES if guarded(find_cancelling) is None else -1
     before, tasks_before = places(), guarded(task_places)
     natives = {each.ident: native_of(each) for each in threading.enumerate()}
     spent = {ident: counts_of(native) for ident, native in natives.items()}
