@@ -91,9 +91,13 @@ class Standing:
         """The names of the other threads and tasks that have a task, a future or a child in a variable. Those count
         too whose code may cancel any task or future, unless it is no work. None if they are too many."""
         found = holders_in(self.look)
-        keys = dict.fromkeys([*found.get(what, ()), *found[None], *(cancelling_in(self.look) if is_work else ())])
-        keys = dict.fromkeys(actor_of(self.look, key) for key in keys)
-        return None if len(keys) > MOST else [self.name_of(key) for key in keys if key != self.row.key]
+        return self.others_of([*found.get(what, ()), *found[None], *(cancelling_in(self.look) if is_work else ())])
+
+    def others_of(self, keys: List[Any]) -> Optional[List[str]]:
+        """The names of those of some threads and tasks, or of who acts for them, that aren't this one. None if they are
+        too many."""
+        some = dict.fromkeys(actor_of(self.look, key) for key in keys)
+        return None if len(some) > MOST else [self.name_of(key) for key in some if key != self.row.key]
 
     @property
     def operation(self) -> Tuple[str, List[str]]:

@@ -6,7 +6,7 @@ from dataclasses import dataclass, field
 from typing import Any, Dict, Iterator, List, Optional
 
 from ..sketch import ALL, ANY, LIMIT, RUNS, SYSTEM, UNKNOWN, premise
-from .python_names import Standing, main_task, own_frames, pools_of
+from .python_names import Standing, cancelling_in, main_task, own_frames, pools_of
 from .python_text import Frame, Look, is_number, last_word
 
 SEMAPHORES = re.compile(r"multiprocessing\.synchronize\.\w+\.__enter__$")
@@ -388,10 +388,12 @@ def with_holders(standing: Standing, value: Dict[str, Any], wait: Optional[Wait]
 
 def wait_for_work(standing: Standing, key: Any) -> Optional[Wait]:
     """The wait for who sets a future: the task or coroutine behind it, the thread that has begun its work, or any of
-    the pool that keeps it. Whoever has its future may cancel work, but for that which a thread has begun."""
+    the pool that keeps it. Whoever has its future may cancel work. Once a thread has begun it, only those may end it
+    whose code sets results or errors."""
     begun, kept = pools_of(standing.look)
     if begun.get(key) in standing.look.threads:
-        return Wait(ANY, [standing.name_of(begun[key])], because=[premise(FUTURE)])
+        made = Wait(ANY, [standing.name_of(begun[key])], because=[premise(FUTURE)])
+        return besides_of(made, standing.others_of(cancelling_in(standing.look)))
     if key in standing.look.asked or key in begun:
         made = Wait(ANY, [standing.name_of(begun.get(key, key))], because=[premise(FUTURE)])
         return besides_of(made, standing.others_with(key))
