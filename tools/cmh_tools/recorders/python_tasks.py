@@ -7,13 +7,13 @@ from __future__ import annotations
 import re
 from typing import Any, Dict, List, Optional
 
-from ..sketch import ALL, ANY, RUNS, UNKNOWN, WORK, premise
+from ..sketch import ALL, ANY, RUNS, UNKNOWN, premise
 from .linux_text import Owner, Thread
 from .linux_waits import SLEEPS, has_limit
 from .python_cancel import Cancellers
 from .python_names import Names, Standing, is_idle_loop
-from .python_text import Frame, Look, Row, last_word
-from .python_waits import (Wait, besides_of, by_block, by_names, by_work, limited, resolve_all, resolve_wait,
+from .python_text import Frame, Look, Row
+from .python_waits import (Wait, besides_of, by_block, by_names, by_work, idle_wait, limited, resolve_all, resolve_wait,
                            thread_wait, unsure)
 
 EVENTS = "waits for events"  # how a loop is idle
@@ -22,14 +22,6 @@ CANCEL, TASKS = "cancel", "tasks"  # premises
 RUN = re.compile(r"asyncio\.(base_events\.(\w+\.)?(run_forever|run_until_complete|_run_once)|runners\.(\w+\.)?run"
                  r"|events\.(\w+\.)?_run)$")
 STEP = re.compile(r"asyncio\.(events\.Handle\._run$|runners\.)")
-WORKERS = re.compile(r"concurrent\.futures\.(thread\._worker|process\.(_process_worker|_ExecutorManagerThread\.run))$"
-                     r"|multiprocessing\.pool\.(worker|(Thread)?Pool\._handle_(tasks|results|workers))$"
-                     r"|multiprocessing\.queues\.Queue\._feed$|logging\.handlers\.QueueListener\._monitor$")
-GETS = re.compile(r"(multiprocessing\.)?queues?\.\w+\.get$|threading\.Condition\.wait$|selectors\."
-                  r"|multiprocessing\.connection\.(wait$|.*\.(recv|recv_bytes|_recv|_recv_bytes|poll|_poll)$)"
-                  r"|multiprocessing\.synchronize\.\w+\.__enter__$|multiprocessing\.pool\.\w+\._wait_for_updates$"
-                  r"|concurrent\.futures\.process\._ExecutorManagerThread\.wait_result_broken_or_wakeup$"
-                  r"|logging\.handlers\.QueueListener\.dequeue$|multiprocessing\.process\.")
 
 
 class Job:
@@ -212,19 +204,3 @@ def in_kernel(row: Row) -> Optional[Wait]:
     if thread.call in SLEEPS:
         return limited("it sleeps")
     return limited("it waits with a limit") if has_limit(thread) else None
-
-
-def idle_wait(standing: Standing) -> Optional[Wait]:
-    """The wait of a worker of a pool, or of a feeder of a queue, that has nothing to do; else None."""
-    inner: List[Frame] = []
-    if any(each.at.endswith("Pool._handle_workers") for each in standing.frames):
-        return Wait(UNKNOWN, reason=WORK, because=[], is_idle=True)
-    for each in standing.frames:
-        if WORKERS.match(each.at):
-            words = standing.call.get("words")
-            is_idle = inner or words is None or last_word(standing.call) == "get"
-            return Wait(UNKNOWN, reason=WORK, because=[], is_idle=True) if is_idle else None
-        if not GETS.match(each.at):
-            return None
-        inner.append(each)
-    return None

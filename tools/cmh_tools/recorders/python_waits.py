@@ -2,10 +2,10 @@
 from __future__ import annotations
 
 import re
-from dataclasses import dataclass, field
+from dataclasses import dataclass, field, replace
 from typing import Any, Dict, Iterator, List, Optional
 
-from ..sketch import ALL, ANY, LIMIT, RUNS, SYSTEM, UNKNOWN, premise
+from ..sketch import ALL, ANY, LIMIT, RUNS, SYSTEM, UNKNOWN, WORK, premise
 from .python_names import Standing, cancelling_in, main_task, own_frames, pools_of
 from .python_text import Frame, Look, is_number, last_word
 
@@ -14,6 +14,14 @@ CHILDREN = re.compile(r"subprocess\.Popen\.(wait|_wait)$")
 WAITS = re.compile(r"(os|posix)\.(wait|waitpid|wait3|wait4|waitid)$")
 INNER = re.compile(r"multiprocessing\.pool\.(Thread)?Pool\._handle_(tasks|workers)$")  # of the pool alone
 PAUSES = re.compile(r"signal\.(pause|sigwait\w*)$")  # of a thread that waits to be stopped
+WORKERS = re.compile(r"concurrent\.futures\.(thread\._worker|process\.(_process_worker|_ExecutorManagerThread\.run))$"
+                     r"|multiprocessing\.pool\.(worker|(Thread)?Pool\._handle_(tasks|results|workers))$"
+                     r"|multiprocessing\.queues\.Queue\._feed$|logging\.handlers\.QueueListener\._monitor$")
+GETS = re.compile(r"(multiprocessing\.)?queues?\.\w+\.get$|threading\.Condition\.wait$|selectors\."
+                  r"|multiprocessing\.connection\.(wait$|.*\.(recv|recv_bytes|_recv|_recv_bytes|poll|_poll)$)"
+                  r"|multiprocessing\.synchronize\.\w+\.__enter__$|multiprocessing\.pool\.\w+\._wait_for_updates$"
+                  r"|concurrent\.futures\.process\._ExecutorManagerThread\.wait_result_broken_or_wakeup$"
+                  r"|logging\.handlers\.QueueListener\.dequeue$|multiprocessing\.process\.")
 LIKELY = 50  # names that are filled in where people are asked who ends a wait
 BUSY = 0.2  # the part of the time between two looks that one who computes has used at least
 FINISHED = ("FINISHED", "CANCELLED", "CANCELLED_AND_NOTIFIED")
@@ -224,10 +232,13 @@ def by_lock(standing: Standing) -> Optional[Wait]:
 
 
 def by_dead_owner(standing: Standing, lock: Dict[str, Any]) -> Wait:
-    """The wait for an RLock of whose owner the state has nothing. It has ended if the state has all threads."""
+    """The wait for an RLock of whose owner the state has nothing. It has ended if the state has all threads. A thread
+    that begins later may have its number, and gives the lock back then, so all who may begin one may end the wait."""
     is_dead = lock.get("type") == "RLock" and lock.get("gone") is True and lock["owner"] != standing.row.key
     if is_dead and standing.look.head.get("others") == 0 and standing.look.is_whole:
-        return Wait(ANY, [], because=[premise(DEAD)])
+        rows = [*standing.look.threads.values(), *standing.look.tasks.values()]
+        others = [row.key for row in rows if idle_wait(replace(standing, row=row, frames=row.frames)) is None]
+        return besides_of(Wait(ANY, [], because=[premise(DEAD)]), standing.others_of(others))
     wait = unsure("its lock had no owner that is in the state")
     wait.proposal = "nobody" if is_dead else "maybe"
     return wait
@@ -412,4 +423,20 @@ def by_work(standing: Standing) -> Optional[Wait]:
     seconds = standing.look.seconds
     if is_number(spent) and seconds > 0 and spent >= BUSY * seconds * 1e9:
         return Wait(RUNS, reason="it computes")
+    return None
+
+
+def idle_wait(standing: Standing) -> Optional[Wait]:
+    """The wait of a worker of a pool, or of a feeder of a queue, that has nothing to do; else None."""
+    inner: List[Frame] = []
+    if any(each.at.endswith("Pool._handle_workers") for each in standing.frames):
+        return Wait(UNKNOWN, reason=WORK, because=[], is_idle=True)
+    for each in standing.frames:
+        if WORKERS.match(each.at):
+            words = standing.call.get("words")
+            is_idle = inner or words is None or last_word(standing.call) == "get"
+            return Wait(UNKNOWN, reason=WORK, because=[], is_idle=True) if is_idle else None
+        if not GETS.match(each.at):
+            return None
+        inner.append(each)
     return None
