@@ -16,6 +16,7 @@ import signal
 import sys
 import threading
 import time
+import types
 from concurrent import futures
 
 LONG = 600
@@ -284,6 +285,40 @@ def nest_closed():
     pool = futures.ThreadPoolExecutor(1)
     start("closer", close_late, pool)
     pool.submit(submit, pool, []).result()
+
+
+# The same, where the closer comes to the pool by the attributes of several objects.
+
+
+class Stage:
+    def __init__(self):
+        self.pool = futures.ThreadPoolExecutor(1)
+
+    def stop(self):
+        self.pool.shutdown(cancel_futures=True)
+
+
+def stop_late(desk):
+    time.sleep(LONG)
+    for each in desk.application.stages.values():
+        each.stop()
+
+
+def nest_in_stage():
+    desk = types.SimpleNamespace(application=types.SimpleNamespace(stages={"first": Stage()}))
+    start("closer", stop_late, desk)
+    pool = desk.application.stages["first"].pool
+    pool.submit(submit, pool, []).result()
+
+
+# The same, where a task waits for it, and a timer of its loop cancels the future that it waits for.
+
+
+async def nest_in_loop():
+    loop, pool = asyncio.get_running_loop(), futures.ThreadPoolExecutor(1)
+    work = loop.run_in_executor(pool, submit, pool, [])
+    loop.call_later(LONG, work.cancel)
+    await asyncio.wait([work])
 
 
 # The same, where the work stands in a list of a class, and the canceller has that by a method of its own alone.
@@ -759,6 +794,8 @@ JOBS = {
     "kept": lambda: nest(False),
     "kept_cancelled": lambda: nest(True),
     "kept_closed": nest_closed,
+    "kept_in_stage": nest_in_stage,
+    "kept_in_loop": lambda: asyncio.run(nest_in_loop()),
     "watchdog": lambda: join_locked(True),
     "no_watchdog": lambda: join_locked(False),
     "alarm": lambda: ask(True),
