@@ -1493,7 +1493,8 @@ def thread_rows(before, spent, holders, wakers):
             "thread": ident, "name": thread.name if thread else f"foreign-{ident}", "native": native,
             "daemon": thread.daemon if thread else True, "main": thread is threading.main_thread(),
             "moved": before.get(ident) != now.get(ident), **counts, "holds": guarded(holders.held, frames),
-            "ends": guarded(may_end, frames), "cancels": guarded(may_cancel, frames),
+            "ends": guarded(may_end, frames),
+            "cancels": guarded(lambda frames, loop: may_cancel(frames, accepted_in(loop)), frames, loop),
             "loop": hex(id(loop)) if loop is not None else None, "call": call,
             **guarded(inside_thread, frames), **wait_of(wakers, ident),
             "frames": shown})
@@ -1571,7 +1572,8 @@ def handles_of(loop):
 def callbacks_of(loop):
     """The names of what timers of a loop will call, or sockets, that may cancel a task."""
     found = {foreign_name(each._callback, True) for each in timers_of(loop)}
-    found |= {foreign_name(each._callback, False) or protocol_of(each._callback) for each in readers_of(loop)}
+    found |= {foreign_name(each._callback, False) or protocol_of(each._callback) or acceptor_of(each)
+              for each in readers_of(loop)}
     return sorted(filter(None, found))
 
 
@@ -1579,9 +1581,38 @@ def protocol_of(callback):
     """The name of the program's protocol that a transport calls, if its code may cancel a task, or nothing."""
     protocol = getattr(getattr(callback, "__self__", None), "_protocol", None)
     kind = type(protocol)
-    if LIBRARIES.match(kind.__module__) or not any(reached(CANCELS, [], from_step, functions_of([kind]))):
+    if LIBRARIES.match(kind.__module__) \
+            or not any(reached(CANCELS, [], from_step, functions_of([kind]), CANCELLING)):
         return ""
     return f"{kind.__module__}.{kind.__qualname__}"
+
+
+def accepted_by(handle):
+    """What a loop may call for a new connection, if a handle accepts some: functions of what makes its protocol."""
+    factory = factory_of(handle)
+    inner = inside_function(factory) if type(factory) is types.FunctionType else []
+    values = spread([factory, *inner])
+    return functions_of([*values, *map(type, values)]) if factory is not None else []
+
+
+def factory_of(handle):
+    """What makes the protocols of new connections, if a handle accepts some, or None."""
+    is_one = getattr(handle._callback, "__name__", "") == "_accept_connection" and handle._args
+    return handle._args[0] if is_one else None
+
+
+def accepted_in(loop):
+    """The same of all handles of a loop."""
+    return [each for handle in readers_of(loop) for each in accepted_by(handle)] if hasattr(loop, "_selector") else []
+
+
+def acceptor_of(handle):
+    """The name of what takes new connections for a loop, if its code may cancel a task, or nothing."""
+    called = accepted_by(handle)
+    if not called or not any(reached(CANCELS, [], from_step, called, CANCELLING)):
+        return ""
+    factory = factory_of(handle)
+    return f"{factory.__module__}.{getattr(factory, '__qualname__', type(factory).__name__)}".replace(".<locals>", "")
 
 
 def handlers_of(loop):
