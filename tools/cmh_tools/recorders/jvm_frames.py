@@ -56,7 +56,12 @@ RUN_WORKER = "java.util.concurrent.ForkJoinPool.runWorker"  # in which workers o
 HAS_TIMER = re.compile(r"java\.util\.TimerThread\.mainLoop|java\.util\.concurrent\.DelayScheduler\.loop"
                        r"|java\.util\.concurrent\.ScheduledThreadPoolExecutor\$DelayedWorkQueue\.(?:take|poll)")
 # Waits for work of one that has a task to run later, if they have a limit.
-HAS_TASK = re.compile(r"io\.netty\.util\.concurrent\.\w*EventExecutor\.takeTask")
+HAS_TASK = re.compile(r"io\.netty\.util\.concurrent\.\w*EventExecutor\.takeTask"
+                      r"|java\.util\.concurrent\.DelayQueue\.(?:take|poll)")
+# The workers of pools that end after a time, and run nothing of the job's then: those of the pool that all share are by
+# their name of the class that the JDK has for them.
+ENDS_UNSEEN = re.compile(r"java\.util\.concurrent\.ThreadPoolExecutor\.getTask")
+SHARED_WORKER = re.compile(r"ForkJoinPool\.commonPool-worker-\d+")
 # The JDK's own timers, which complete a CompletableFuture once its limit is over.
 LIMITS_FUTURES = re.compile(r"CompletableFutureDelayScheduler|.*-delayScheduler")
 FUTURE = re.compile(r"CompletableFuture\.\w+")

@@ -8,7 +8,8 @@ from typing import Collection, Dict, List, Optional, Protocol, Sequence
 from ..files import shown
 from ..moments import ONCE
 from ..sketch import ALL, ANY, INNER, REST, RUNS, UNKNOWN, Process, Sketch
-from .jvm_frames import FROM_OUTSIDE, HAS_TASK, HAS_TIMER, is_in, is_inside, is_of_jvm, place_of
+from .jvm_frames import (CARRIER, CLEANER, ENDS_UNSEEN, FROM_OUTSIDE, HAS_TASK, HAS_TIMER, LIMITED, SHARED_WORKER,
+                         has_jobs, is_in, is_inside, is_of_jvm, place_of)
 from .jvm_text import Dump, Thread, stack_of
 
 FEW = 3  # of those who may disturb, which all who can be disturbed name
@@ -57,9 +58,8 @@ def add_disturbers(sketch: Sketch, reasons: Collection[str], moments: Sequence[W
 
 def disturbers(sketch: Sketch, moments: Sequence[Whole]) -> List[str]:
     """Returns the names of the job's threads that aren't at rest, those that run first."""
-    threads = {id(it): moment.names[it.key] for moment in moments for it in moment.threads if not is_of_jvm(it)}
-    names = set(threads.values())
-    awake = {threads[id(it)] for moment in moments for it in moment.threads if id(it) in threads and not is_at_rest(it)}
+    names = {moment.names[it.key] for moment in moments for it in moment.threads if not is_of_jvm(it)}
+    awake = {moment.names[it.key] for moment in moments for it in awake_of(moment)}
     some = [it for it in sketch.processes if it.name in awake
             or it.name in names and not (it.is_idle and it.kind == UNKNOWN)]
     found = [it.name for kind in ORDER for it in some if it.kind == kind]
@@ -69,15 +69,33 @@ def disturbers(sketch: Sketch, moments: Sequence[Whole]) -> List[str]:
 def newcomer(moments: Sequence[Whole]) -> Optional[str]:
     """Returns the name of a thread of the job that isn't at rest and has come after the first state, or None."""
     before = {it.key for it in moments[0].threads}
-    return next((moment.names[it.key] for moment in moments[1:] for it in moment.threads
-                 if it.key not in before and not is_of_jvm(it) and not is_at_rest(it)), None)
+    return next((moment.names[it.key] for moment in moments[1:] for it in awake_of(moment) if it.key not in before),
+                None)
+
+
+def awake_of(moment: Whole) -> List[Thread]:
+    """Returns the job's threads that aren't at rest. Workers of pools that end after a time are, but for the last one:
+    the JVM ends with the last thread that is no daemon, and the job's hooks run then."""
+    own = [it for it in moment.threads if not is_of_jvm(it)]
+    stays = any(not it.is_daemon and not has_limit(it) for it in own)
+    return [it for it in own if not is_at_rest(it) or not (stays or it.is_daemon) and has_limit(it)]
 
 
 def is_at_rest(thread: Thread) -> bool:
-    """Whether a thread is idle until another thread of the job gives it something to do."""
-    place = place_of(thread)
-    has_task = place.has(HAS_TIMER) or is_in(HAS_TASK, stack_of(thread))
-    return bool(place.idle) and place.idle not in FROM_OUTSIDE and (thread.state == "WAITING" or not has_task)
+    """Whether a thread is idle until another thread of the job gives it something to do. One with a limit isn't, but
+    for a worker of a pool that then ends without running code of the job."""
+    place, stack = place_of(thread), stack_of(thread)
+    if not place.idle or place.idle in FROM_OUTSIDE or place.idle == CLEANER:
+        return False
+    if not has_limit(thread):
+        return thread.state in ("WAITING", "") or place.idle == CARRIER
+    ends = is_in(ENDS_UNSEEN, stack) or SHARED_WORKER.fullmatch(thread.name) is not None
+    return ends and not has_jobs(stack) and not place.has(HAS_TIMER) and not is_in(HAS_TASK, stack)
+
+
+def has_limit(thread: Thread) -> bool:
+    """Whether the wait of a thread has a limit."""
+    return thread.state == "TIMED_WAITING" or not thread.state and place_of(thread).has(LIMITED)
 
 
 def add_inner(sketch: Sketch, moments: Sequence[Whole]) -> None:
