@@ -130,6 +130,9 @@ OF_THE_JVM = re.compile(
     r"|Surrogate Locker Thread.*|VirtualThread-un\w+|MasterPoller|(?:Read|Write|Sub)-?Poller.*|JVMCI.*|JFR .*"
     r"|RMI (?!TCP Accept).*|GC Daemon|Secondary finalizer|Keep-Alive-Timer|JDWP .*|Java2D .*|AWT-Shutdown"
 )
+# Threads that run whatever tasks they are given, and what the JVM calls those of its own pools.
+FOR_TASKS = re.compile(POOLED.pattern + r"|java\.util\.TimerThread\.mainLoop")
+OF_ITS_POOLS = re.compile(r"VirtualThread-un\w+|RMI (?:Scheduler|TCP Connection)\(\d.*")
 # What they call who end a child, and then run what the job has left for that end (Process.onExit).
 REAPS = re.compile(r"java\.lang\.ProcessHandleImpl\S*")
 # Those of them that run no code of the job at any time, and so end nobody's wait.
@@ -165,8 +168,10 @@ def has_jobs(stack: Stack) -> bool:
 
 
 def is_of_jvm(thread: Thread) -> bool:
-    """Whether a thread is of the JVM itself, and runs no code of the job, nor will once a child ends."""
-    if has_jobs(stack_of(thread)) or is_in(REAPS, stack_of(thread)):
+    """Whether a thread is of the JVM itself, and runs no code of the job, nor will once a child ends. A timer or a
+    worker of a pool may be the job's by most names."""
+    stack = stack_of(thread)
+    if has_jobs(stack) or is_in(REAPS, stack) or is_in(FOR_TASKS, stack) and not OF_ITS_POOLS.fullmatch(thread.name):
         return False
     inside = thread.number is None and not thread.state and not thread.frames
     return inside or OF_THE_JVM.fullmatch(thread.name) is not None
