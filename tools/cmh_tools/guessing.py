@@ -5,7 +5,7 @@ from __future__ import annotations
 
 import re
 from dataclasses import replace
-from typing import Dict, Iterable, Iterator, List, Set, Tuple
+from typing import Dict, Iterable, Iterator, List, Optional, Set, Tuple
 
 from .application import apply_guesses, is_end
 from .facts import FREES, HOLDS, OTHERS, STILL, Fact, Facts, word_of
@@ -77,9 +77,11 @@ def take_at_rest(sketch: Sketch, facts: Facts, passed_over: Set[str], at_rest: L
 
 
 def apply_to(sketch: Sketch, facts: Facts, passed_over: Set[str], at_rest: List[str]) -> Dict[str, Fact]:
-    """Has guesses decide who is unknown. Of those who are at rest it is guessed that they end nobody's wait. Returns
-    the guesses of all who end nobody's."""
+    """Has guesses decide who is unknown. Of those who are at rest it is guessed that they end nobody's wait, and of one
+    that was woken for its next message that it ends none for which the state has filled in others, if nobody is there
+    who would give it more. Returns the guesses of all who end nobody's."""
     asked = [*filled_in(sketch, passed_over.union(at_rest))]
+    filled = {name for _, names in asked for name in names}
     open_ones = [it for it in sketch.processes if it.kind == UNKNOWN and it.name not in passed_over]
     accepting = [it for it in open_ones if is_acceptor(it) or it.proposal == OUTSIDE]
     woken = [it for it in open_ones if it.doubt == GROWN and it not in accepting]
@@ -92,7 +94,11 @@ def apply_to(sketch: Sketch, facts: Facts, passed_over: Set[str], at_rest: List[
     found, spared = facts_of(asked, number), facts_of(bystanders, number + len(asked))
     known = {it.name for it in sketch.processes if it.kind != UNKNOWN}
     apply_guesses(replace(facts, guesses=found, spared=spared), sketch)
+    fed = {it.name for it in woken if is_receiver(it)}
+    busy = {it.name for it in [*accepting, *woken]} - fed
     spare(sketch, {name: fact for name, fact in spared.items() if name not in {it.name for it in woken}}, known)
+    if all(it.name in spared.keys() - busy for it in sketch.processes if it.kind in (RUNS, UNKNOWN)):
+        spare(sketch, {name: fact for name, fact in spared.items() if name in fed}, known, filled)
     doubt_lone_ones(sketch)
     return spared
 
@@ -125,12 +131,13 @@ def fed_by(process: Process) -> str:
     return " ".join([*place, "-> any", *map(word_of, words)])
 
 
-def spare(sketch: Sketch, spared: Dict[str, Fact], known: Set[str]) -> None:
-    """Takes those out of lists of several who are likely to end nobody's wait. What is `known` without guesses keeps
-    them apart, so that it can be had again."""
+def spare(sketch: Sketch, spared: Dict[str, Fact], known: Set[str], only: Optional[Set[str]] = None) -> None:
+    """Takes those out of lists of several who are likely to end nobody's wait, or out of those of some processes only.
+    What is `known` without guesses keeps them apart, so that it can be had again."""
     rows = {row["at"]: row for row in sketch.facts}
     for process in sketch.processes if spared else ():
-        gone = [name for name in process.whom if name in spared] if process.kind == ANY else []
+        is_meant = process.kind == ANY and (only is None or process.name in only)
+        gone = [name for name in process.whom if name in spared] if is_meant else []
         if not 0 < len(gone) < len(process.whom):
             continue
         process.whom = [name for name in process.whom if name not in spared]
