@@ -72,8 +72,9 @@ class Broker:
             self.add_connection(row)
         self.add_channels(raw["list_channels"])
         owners = {row["pid"]: self.by_pid.get(row["connection"]) for row in raw["list_channels"]}
+        numbers = {row["pid"]: row["messages_unacknowledged"] for row in raw["list_channels"]}
         for row in raw["list_consumers"]:
-            self.add_consumer(row, owners.get(row["channel_pid"]))
+            self.add_consumer(row, owners.get(row["channel_pid"]), numbers.get(row["channel_pid"], 0))
         counts = raw["eval"]["value"] if raw["eval"] else {}
         published = counts.get("published", [])
         self.counts = (counts.get("statistics") == FINE and "taken" in counts
@@ -111,14 +112,17 @@ class Broker:
             if service is not None:
                 service.unacknowledged += row["messages_unacknowledged"]
 
-    def add_consumer(self, row: Dict[str, Any], service: Optional[Service]) -> None:
-        """Adds a consumer to its service. That of a connection that isn't listed has ended, or came meanwhile."""
+    def add_consumer(self, row: Dict[str, Any], service: Optional[Service], number: int) -> None:
+        """Adds a consumer to its service, whose channel has a number of messages. That of a connection that isn't
+        listed has ended, or came meanwhile."""
         queue = str(row["queue_name"])
         if service is None:
             self.miss(f"a consumer of {shown(queue)} is of no service that is listed")
             return
         service.queues.append(queue)
         service.acknowledges = service.acknowledges and bool(row["ack_required"])
+        if row["ack_required"] and number and self.routes.taken.get(queue):
+            service.held.append(queue)
         if row.get("active", True) is False:
             service.standby.append(queue)
         else:
@@ -168,6 +172,7 @@ class Service:
         self.queues: List[str] = []
         self.sent: List[str] = []  # those to which it has published, as far as the broker counts that
         self.standby: List[str] = []  # those of which another consumer is the active one
+        self.held: List[str] = []  # those of which it may have a message
         self.is_double, self.acknowledges = False, True
         self.unacknowledged, self.taken = 0, 0  # messages that it has, and those that it got since it connected
         self.count: Optional[str] = None
@@ -240,10 +245,16 @@ class Service:
         also directly, at a consumer that the broker doesn't list."""
         return [name for name, askers in self.broker.asked.items() if process_name(self.name) in askers]
 
+    def replies(self) -> List[str]:
+        """Returns the queues where it may wait for a reply while it has a message: those that are bound by their names
+        alone, if others aren't, and of which it has none."""
+        named = [it for it in self.queues if self.broker.routes.is_by_name(it)]
+        return [it for it in named if it not in self.held] if len(named) < len(self.queues) else []
+
     def repliers(self, queues: List[str]) -> List[str]:
         """Returns who may reply in some queues: the connection at which its client waits; or those that have published
-        there, or that may have a question of it, as far as the broker counts that; or else all others that are at work; or else all
-        others that consume anything. Without such queues nobody is known who wasn't asked."""
+        there, or that may have a question of it, as far as the broker counts that; or else all others that are at work;
+        or else all others that consume anything. Without such queues nobody is known who wasn't asked."""
         known = dict.fromkeys(it for queue in queues for it in self.broker.senders.get(queue, {}))
         found = self.at_another() or list(known) or [it for it in self.consumers() if self.has_asked(it)]
         if found or not queues and self.broker.counts:
@@ -372,10 +383,9 @@ def may_have_taken(service: Service, name: str, more: Dict[str, Any]) -> Process
 
 
 def at_work(service: Service, name: str, more: Dict[str, Any]) -> Process:
-    """Returns one that has a message. If it also reads a queue that is bound by its name alone, it may wait for a reply
-    there: that is another place, for other facts. So may one whose client waits at a connection."""
-    replies = [queue for queue in service.queues if service.broker.routes.is_by_name(queue)]
-    replies, does = replies if len(replies) < len(service.queues) else [], service.does
+    """Returns one that has a message. It may wait for another one: that is another place, for other facts. So may one
+    whose client waits at a connection."""
+    replies, does = service.replies(), service.does
     more.update(operation="handle", objects=service.places())
     why, proposal, found = "the broker can't tell what it does", "maybe", []
     if does.kind in BUSY:
