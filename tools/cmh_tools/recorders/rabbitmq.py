@@ -75,6 +75,10 @@ class Broker:
         numbers = {row["pid"]: row["messages_unacknowledged"] for row in raw["list_channels"]}
         for row in raw["list_consumers"]:
             self.add_consumer(row, owners.get(row["channel_pid"]), numbers.get(row["channel_pid"], 0))
+        consuming = {row["channel_pid"] for row in raw["list_consumers"]}
+        for pid, service in owners.items():
+            if service is not None and numbers[pid] and pid not in consuming:
+                service.has_got = True
         counts = raw["eval"]["value"] if raw["eval"] else {}
         published = counts.get("published", [])
         self.counts = (counts.get("statistics") == FINE and "taken" in counts
@@ -123,6 +127,8 @@ class Broker:
         service.acknowledges = service.acknowledges and bool(row["ack_required"])
         if row["ack_required"] and number and self.routes.taken.get(queue):
             service.held.append(queue)
+        elif number and row["ack_required"]:
+            service.beside.append(queue)
         if row.get("active", True) is False:
             service.standby.append(queue)
         else:
@@ -173,6 +179,8 @@ class Service:
         self.sent: List[str] = []  # those to which it has published, as far as the broker counts that
         self.standby: List[str] = []  # those of which another consumer is the active one
         self.held: List[str] = []  # those of which it may have a message
+        self.beside: List[str] = []  # those of which it has none, on a channel that has some
+        self.has_got = False  # whether a channel of it that consumes nothing has a message, of any queue
         self.is_double, self.acknowledges = False, True
         self.unacknowledged, self.taken = 0, 0  # messages that it has, and those that it got since it connected
         self.count: Optional[str] = None
@@ -213,6 +221,11 @@ class Service:
             or any(routes.comes(it) or routes.mover(it) or routes.may_expire(it) for it in self.queues)
 
     @functools.cached_property
+    def may_answer(self) -> bool:
+        """Whether it has published to queues, or may begin to."""
+        return bool(self.sent) or self.may_begin
+
+    @functools.cached_property
     def sources(self) -> List[str]:
         """The queues that it reads, and those that may hand on messages to them."""
         feeders = self.broker.routes.feeders
@@ -236,6 +249,10 @@ class Service:
         return any(routes.ready.get(it) or routes.taken.get(it) for queue in queues
                    for it in (queue, *routes.feeders(queue)))
 
+    def pending(self) -> List[str]:
+        """Returns the names of those that may have a question of it."""
+        return [it for it in self.consumers() if self.has_asked(it)]
+
     def first_repliers(self) -> List[str]:
         """Returns the names of those that may be the first to reply to a queue that is known by its name."""
         return self.consumers() if all(map(self.broker.routes.is_by_name, self.queues)) else []
@@ -249,18 +266,53 @@ class Service:
         """Returns the queues where it may wait for a reply while it has a message: those that are bound by their names
         alone, if others aren't, and of which it has none."""
         named = [it for it in self.queues if self.broker.routes.is_by_name(it)]
-        return [it for it in named if it not in self.held] if len(named) < len(self.queues) else []
+        found = [it for it in named if it not in self.held] if len(named) < len(self.queues) else []
+        return [it for it in found if it in self.free] or found
+
+    @functools.cached_property
+    def free(self) -> List[str]:
+        """The queues at which a channel of its own waits that has no message, while another one has some."""
+        passed_over = {*self.held, *self.beside, *self.standby}
+        return [it for it in self.queues if it not in passed_over and not self.broker.routes.ready.get(it)]
 
     def repliers(self, queues: List[str]) -> List[str]:
         """Returns who may reply in some queues: the connection at which its client waits; or those that have published
         there, or that may have a question of it, as far as the broker counts that; or else all others that are at work;
-        or else all others that consume anything. Without such queues nobody is known who wasn't asked."""
-        known = dict.fromkeys(it for queue in queues for it in self.broker.senders.get(queue, {}))
-        found = self.at_another() or list(known) or [it for it in self.consumers() if self.has_asked(it)]
+        or else all others that consume anything. Without such queues it is who gives it what it waits for beside its
+        work, and nobody is known who wasn't asked."""
+        known = dict.fromkeys(it for queue in queues for it in (*self.broker.senders.get(queue, {}),
+                                                                *self.token_givers(queue)))
+        found = self.at_another() or list(known) or (self.givers() if self.free and not queues else self.pending())
         if found or not queues and self.broker.counts:
             return found
         others = {name: it for name, it in self.broker.services.items() if it.queues and it is not self}
         return [name for name, it in others.items() if it.is_at_work] or list(others)
+
+    def givers(self) -> List[str]:
+        """Returns the names of those that may give it a message beside its work: a token, or a reply to what it has
+        asked; or else another one that they have sent before, unless they wait for it themselves."""
+        services, senders = self.broker.services, self.broker.senders
+        tokens = [it for queue in self.free for it in self.token_givers(queue)]
+        known = {it for queue in self.free for it in senders.get(queue, {})} - {process_name(self.name)}
+        asked = [it for it in self.pending() if services[it].may_answer]
+        found = [*tokens, *(it for it in asked if it in known)]
+        if not found and not known.issuperset(asked) and not all(map(senders.get, self.free)):
+            found = asked
+        asking = {it for queue in self.held for it in senders.get(queue, {})}
+        return list(dict.fromkeys(found)) or sorted(known.difference(asking, self.consumers()))
+
+    def token_givers(self, queue: str) -> List[str]:
+        """Returns the names of the others that may give back what goes around by a queue, as a lock: those that have a
+        message of it beside their work, or that have published there and are at work. Somebody else who publishes there
+        sends work, and so may one who isn't there any more."""
+        others = {name: it for name, it in self.broker.services.items() if it is not self}
+        senders = [it for it in self.broker.senders.get(queue, {}) if it in others]
+        if any({queue, *self.queues}.isdisjoint(others[it].queues) for it in senders):
+            return []
+        holders = [name for name, it in others.items() if queue in it.held and (senders or it.held[1:] or it.has_got)] \
+            or [name for name, it in others.items() if it.has_got]
+        working = [it for it in senders if others[it].is_at_work or not others[it].acknowledges]
+        return [*(working or senders), *(holders if self.broker.routes.taken.get(queue) else [])]
 
     def by_limit(self) -> List[str]:
         """Returns who stands for the limit of the broker, and for those of messages, if these may give it a message. It
