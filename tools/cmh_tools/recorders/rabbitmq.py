@@ -64,6 +64,7 @@ class Broker:
         self.routes = Routes(raw)
         self.clients: List[Row] = raw["clients"]
         self.ticking: Dict[int, bool] = {}
+        self.moved: Set[str] = set()  # the names of those that have carried something between the states
         self.warnings: List[str] = []
         self.missing = ""
         self.services: Dict[str, Service] = {}
@@ -133,6 +134,11 @@ class Broker:
             service.standby.append(queue)
         else:
             self.routes.active.setdefault(queue, []).append(process_name(service.name))
+
+    def moved_until(self, later: Broker) -> Set[str]:
+        """Returns the names of those that have carried something until a later state."""
+        return {name for name, it in self.services.items()
+                if it.count != later.services.get(name, it).count}
 
     def miss(self, why: str) -> None:
         self.warnings.append(why)
@@ -283,6 +289,7 @@ class Service:
         known = dict.fromkeys(it for queue in queues for it in (*self.broker.senders.get(queue, {}),
                                                                 *self.token_givers(queue)))
         found = self.at_another() or list(known) or (self.givers() if self.free and not queues else self.pending())
+        found = found or self.tellers()
         if found or not queues and self.broker.counts:
             return found
         others = {name: it for name, it in self.broker.services.items() if it.queues and it is not self}
@@ -300,6 +307,18 @@ class Service:
             found = asked
         asking = {it for queue in self.held for it in senders.get(queue, {})}
         return list(dict.fromkeys(found)) or sorted(known.difference(asking, self.consumers()))
+
+    def tellers(self) -> List[str]:
+        """Returns the names of those others that may tell it of an event, where it waits for one to which nobody has
+        published yet: those that are at work, and haven't sent what it works at. An event's queue has a key, and it is
+        read for a while only, as others of its family show. One that goes from message to message has no more that it
+        might tell of."""
+        routes, senders = self.broker.routes, self.broker.senders
+        events = [it for it in self.free if not routes.is_by_name(it) and it not in senders and routes.is_resting(it)]
+        working = {name: it for name, it in self.broker.services.items() if it is not self and it.is_at_work}
+        ended = {name for name, it in working.items() if not it.may_answer or name in self.broker.moved
+                 and not any(map(routes.ready.get, it.queues))}
+        return [name for name in working if name not in ended | self.broker.askers(self)] if events else []
 
     def token_givers(self, queue: str) -> List[str]:
         """Returns the names of the others that may give back what goes around by a queue, as a lock: those that have a
@@ -361,10 +380,11 @@ class RabbitmqRecorder(Recorder):
         return [reading_of(state.path, lists[start:end]) for start, end in zip(starts, ends)]
 
     def begin(self, readings: List[Reading]) -> None:
-        """Sees which threads of clients have come back to the same sleep."""
+        """Sees which threads of clients have come back to the same sleep, and which services have moved."""
         brokers = [it.rows[0].broker for it in readings if it.rows]
         for broker in brokers:
             broker.ticking = ticking_of(brokers[0].clients, brokers[-1].clients)
+            broker.moved = brokers[0].moved_until(brokers[-1])
 
     def wait_of(self, subject: Service, moment: Moment) -> Process:
         service, name, more = subject, process_name(subject.name), subject.more()
@@ -427,10 +447,12 @@ def publisher(service: Service, name: str, more: Dict[str, Any]) -> Process:
 def may_have_taken(service: Service, name: str, more: Dict[str, Any]) -> Process:
     """Returns one that needn't acknowledge what it takes."""
     is_busy = service.does.kind in BUSY
-    proposal = "runs" if is_busy else "any" if service.senders else "maybe"
+    asked = [it for it in service.pending() if service.broker.services[it].may_answer]
+    found = service.senders or (asked if service.does.kind == AT else [])
+    proposal = "runs" if is_busy else "any" if found else "maybe"
     more.update(operation="take", objects=service.places())
     return unknown(name, "it needn't acknowledge, so the broker can't tell whether it is at work",
-                   besides=service.by_limit(), candidates=[] if is_busy else [*service.senders, COMPLETE],
+                   besides=service.by_limit(), candidates=[] if is_busy else [*found, COMPLETE],
                    proposal=proposal, **more)
 
 

@@ -58,6 +58,11 @@ class Routes:
         """Whether messages come to a queue by its name alone."""
         return all(source == "" for source, _ in self.bound.get(queue, []))
 
+    def is_resting(self, queue: str) -> bool:
+        """Whether nobody reads another queue of the same family, which differs in the last part of its name."""
+        family = family_of(queue)
+        return family != "" and any(family_of(it) == family for it in self.settings.keys() - self.consumed)
+
     def ends(self, queue: str) -> Tuple[Dict[str, str], str]:
         """Returns the keys by which messages come to a queue, each with the expression for those that are used, and
         what keeps them from being known. The name of the queue itself is one only if it has no other. A key that
@@ -157,6 +162,11 @@ class Routes:
         """Whether messages with this key of their own may be in a queue."""
         return any(self.kind(source) not in BY_KEY or re.fullmatch(self.expression(source, bound), key) is not None
                    for source, bound in self.bound.get(queue, []))
+
+
+def family_of(queue: str) -> str:
+    """Returns the name of a queue without its last part: `progress.` of `progress.worker-1`."""
+    return re.sub(r"[^.:/]+$", "", queue)
 
 
 def table_of(rows: Any) -> Dict[str, Any]:
