@@ -11,6 +11,7 @@ from __future__ import annotations
 
 import functools
 import re
+from collections import Counter
 from typing import Any, Dict, List, Optional, Set, Tuple
 
 from ..files import Refusal, shown
@@ -76,24 +77,30 @@ class Broker:
         numbers = {row["pid"]: row["messages_unacknowledged"] for row in raw["list_channels"]}
         for row in raw["list_consumers"]:
             self.add_consumer(row, owners.get(row["channel_pid"]), numbers.get(row["channel_pid"], 0))
-        consuming = {row["channel_pid"] for row in raw["list_consumers"]}
+        queues = {row["channel_pid"]: str(row["queue_name"]) for row in raw["list_consumers"]}
         for pid, service in owners.items():
-            if service is not None and numbers[pid] and pid not in consuming:
-                service.has_got = True
+            if service is not None and pid not in queues:
+                service.has_got = service.has_got or numbers[pid] > 0
         counts = raw["eval"]["value"] if raw["eval"] else {}
         published = counts.get("published", [])
         self.counts = (counts.get("statistics") == FINE and "taken" in counts
                        and any(row["channel"] in owners for row in published))
         self.senders: Dict[str, Dict[str, bool]] = {}  # who has published to a queue, by name
-        for row in published:
-            service = owners.get(row["channel"])
-            if service is not None and row["number"]:
-                self.senders.setdefault(row["queue"], {})[process_name(service.name)] = True
-                service.sent.append(row["queue"])
+        self.add_published(published, owners)
         for row in counts.get("taken", []):
             service = owners.get(row["channel"])
             if service is not None:
                 service.taken += row["number"]
+                service.balance[queues.get(row["channel"], "")] += row["number"]
+
+    def add_published(self, rows: List[Dict[str, Any]], owners: Dict[str, Optional[Service]]) -> None:
+        """Adds what channels have published to queues, by their services."""
+        for row in rows:
+            service = owners.get(row["channel"])
+            if service is not None and row["number"]:
+                self.senders.setdefault(row["queue"], {})[process_name(service.name)] = True
+                service.sent.append(row["queue"])
+                service.balance[row["queue"]] -= row["number"]
 
     def add_connection(self, row: Dict[str, Any]) -> None:
         """Adds a connection to the services. Two of one name are one service, of which little is known."""
@@ -186,6 +193,7 @@ class Service:
         self.standby: List[str] = []  # those of which another consumer is the active one
         self.held: List[str] = []  # those of which it may have a message
         self.beside: List[str] = []  # those of which it has none, on a channel that has some
+        self.balance: Counter[str] = Counter()  # how many more messages it got of a queue than it published there
         self.has_got = False  # whether a channel of it that consumes nothing has a message, of any queue
         self.is_double, self.acknowledges = False, True
         self.unacknowledged, self.taken = 0, 0  # messages that it has, and those that it got since it connected
@@ -323,10 +331,10 @@ class Service:
     def token_givers(self, queue: str) -> List[str]:
         """Returns the names of the others that may give back what goes around by a queue, as a lock: those that have a
         message of it beside their work, or that have published there and are at work. Somebody else who publishes there
-        sends work, and so may one who isn't there any more."""
+        sends work, and so may one who isn't there any more, or one of them if it gives more than it gets."""
         others = {name: it for name, it in self.broker.services.items() if it is not self}
         senders = [it for it in self.broker.senders.get(queue, {}) if it in others]
-        if any({queue, *self.queues}.isdisjoint(others[it].queues) for it in senders):
+        if self.balance[queue] < 0 or any({queue, *self.queues}.isdisjoint(others[it].queues) for it in senders):
             return []
         holders = [name for name, it in others.items() if queue in it.held and (senders or it.held[1:] or it.has_got)] \
             or [name for name, it in others.items() if it.has_got]
