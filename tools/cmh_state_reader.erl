@@ -351,8 +351,8 @@ tables(Numbers, {Locks, Held}) ->
 
 %% Sends the text of each process, how many are left out that aren't of the system, and how many are printed.
 tell(Caller, Tag, Others, Text, Taken, Tables) ->
-    Printed = [Call || P <- Taken, {Calls, Lines} <- [Text(P)], is_sent(Caller, Tag, Lines), Call <- Calls],
-    is_sent(Caller, Tag, {code, codes(lists:usort(Printed))}),
+    Printed = [Calls || P <- Taken, {Calls, Lines} <- [Text(P)], is_sent(Caller, Tag, Lines)],
+    is_sent(Caller, Tag, {code, codes(lists:usort(lists:append(Printed)))}),
     is_sent(Caller, Tag, Tables()),
     Last = Others ++ [{"timers", timers()}, {"end", length(Printed)}],
     is_sent(Caller, Tag, [io_lib:format("=~s ~b ~ts~n", [Word, Number, node()]) || {Word, Number} <- Last]),
