@@ -23,6 +23,9 @@
 -define(OF_ELIXIR, ['Elixir.Agent.Server', 'Elixir.DynamicSupervisor', 'Elixir.Registry.Partition',
                     'Elixir.Task.Supervised', supervisor]).
 
+%% The applications of Erlang's or Elixir's own.
+-define(SYSTEM, [kernel, stdlib, elixir, logger, iex, mnesia]).
+
 print(Modules, Nodes) -> print(Modules, Nodes, 5).
 
 %% All nodes are read before one is read again. Returns a status for halt: 0, or 1 after a line on standard error.
@@ -585,8 +588,8 @@ kind_of({Module, Name, _}) when Module =:= erlang; Module =:= 'Elixir.Process' -
     [timers || lists:member(Name, [send_after, start_timer])];
 kind_of(Call) -> [replies || is_reply(Call)].
 
-%% Whether its stack has a fun that may answer a caller: with terms of its own, which aren't printed, and of a module
-%% that calls a reply.
+%% Whether its stack has a fun that may answer a caller: with terms of its own, which aren't printed. By what module it
+%% answers isn't known, so that it doesn't matter whether its own one calls a reply.
 closures(Info) ->
     case on_stack(Info, "#Fun<[^<>]+[.][0-9]+[.][0-9]+>") of
         cut -> cut;
@@ -600,7 +603,8 @@ may_reply(Text) ->
         Indices -> lists:member(binary_to_integer(Index), Indices)
     end.
 
-%% The numbers of the funs of a module that have terms of their own, if it calls a reply; `any` if its code isn't there.
+%% The numbers of the funs of a module that have terms of their own; `any` if its code isn't there. Erlang's own ones
+%% have no fun of a program in theirs, other than those of Elixir, and what is typed in a shell.
 with_terms(Module) ->
     Key = {?MODULE, funs, Module},
     case get(Key) of
@@ -609,16 +613,18 @@ with_terms(Module) ->
     end.
 
 funs_of(Module) when is_atom(Module) ->
-    case code:get_object_code(Module) of
-        {_, Code, _} ->
-            case beam_lib:chunks(Code, [imports, "FunT"]) of
-                {ok, {_, [{imports, Imports}, {_, <<_:32, Table/binary>>}]}} ->
-                    [Index || <<_:96, Index:32, Free:32, _:32>> <= Table, Free > 0, lists:any(fun is_reply/1, Imports)];
-                _ -> any
-            end;
-        error -> any
+    case Module =/= erl_eval andalso is_one_of(?SYSTEM -- [elixir], Module) of
+        true -> [];
+        false -> funs_in(code:get_object_code(Module))
     end;
 funs_of(_) -> any.
+
+funs_in({_, Code, _}) ->
+    case beam_lib:chunks(Code, ["FunT"]) of
+        {ok, {_, [{_, <<_:32, Table/binary>>}]}} -> [Index || <<_:96, Index:32, Free:32, _:32>> <= Table, Free > 0];
+        _ -> any
+    end;
+funs_in(error) -> any.
 
 is_reply({Module, reply, _}) -> lists:member(Module, [gen, gen_server, gen_statem, 'Elixir.GenServer']);
 is_reply(_) -> false.
@@ -688,8 +694,6 @@ chosen(Modules, Apart) ->
 
 %% Whether a module is of an application of Erlang's or Elixir's own. A module of theirs, such as supervisor, chooses no
 %% process of the runtime or of kernel.
--define(SYSTEM, [kernel, stdlib, elixir, logger, iex, mnesia]).
-
 is_of_otp(Module) -> is_one_of(?SYSTEM, Module).
 
 %% What compiles programs keeps nothing of theirs.
