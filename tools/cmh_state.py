@@ -774,7 +774,10 @@ def called_by(frame):
 
 
 def globals_of(code, names):
-    return [names[name] for name in code.co_names if name in names]
+    """The globals that a code names, and what it may name as variables of other modules of the program."""
+    found = [names[name] for name in code.co_names if name in names]
+    others = [vars(each) for each in found if type(each) is types.ModuleType and not is_library_module(each.__name__)]
+    return found + [inner[name] for inner in others for name in code.co_names if name in inner]
 
 
 def is_work(value):
