@@ -42,7 +42,7 @@ def wait_for_reference(block: Block, moment: Nodes, receive: Receives, more: Dic
         more.update(objects=[*moment.names(watched), found[1]], note=note)
         return waits_for_any(name, moment.names(watched), [SYSTEM, premise(DOWNS)], **more)
     having = holders(block, moment, {found[2]})
-    if not having or "timers" in block.code():
+    if not having or moment.elsewhere or "timers" in block.code():
         return None
     more.update(objects=[*moment.names(having), found[1]], note=note)
     return waits_for_any(name, moment.names(having), [SYSTEM, premise(ANSWERS)], is_open=True,
