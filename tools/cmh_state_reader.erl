@@ -338,15 +338,26 @@ asked(Locker, Table) ->
         _ -> []
     end.
 
-%% Who has a lock, or wants it. Other versions of Mnesia have other rows.
+%% Who has a lock, or wants it, and whose transaction that is: another one may take part in it. Other versions of Mnesia
+%% have other rows.
 lock({{What, Kind, Who}}) -> lock({What, Kind, Who});
-lock({What, Kind, {tid, _, P}}) -> lock(has, What, Kind, P);
-lock({queue, What, _, Kind, P, _}) -> lock(wants, What, Kind, P);
+lock({What, Kind, {tid, _, P}}) -> lock(has, What, Kind, [P]);
+lock({queue, What, {tid, _, Owner}, Kind, P, _}) -> lock(wants, What, Kind, [P, Owner]);
 lock({What, _, Having}) when is_list(Having) ->
-    [Row || {Kind, {tid, _, P}} <- Having, Row <- lock(has, What, Kind, P)];
+    [Row || {Kind, {tid, _, P}} <- Having, Row <- lock(has, What, Kind, [P])];
 lock(_) -> [].
 
-lock(Word, What, Kind, P) -> [io_lib:format("{~p,~ts,~p,~p}~n", [Word, shortened(What), Kind, P])].
+lock(Word, What, Kind, Pids) ->
+    [io_lib:format("{~p,~ts,~p,~ts}~n", [Word, key(What), Kind, lists:join(",", [pid_to_list(P) || P <- Pids])])].
+
+%% What is locked, as a text that is no other one's: a long key is told by a sum of it.
+key(What) ->
+    Text = shortened(What),
+    case {string:find(Text, "..."), What} of
+        {nomatch, _} -> Text;
+        {_, {Table, Key}} -> shortened({Table, {sum, binary:decode_unsigned(erlang:md5(term_to_binary(Key)))}});
+        _ -> Text
+    end.
 
 tables(Numbers, {Locks, Held}) ->
     [[io_lib:format("=~s ~b ~ts~n", [Word, length(Rows), node()]) | Rows]

@@ -13,25 +13,27 @@ from .erlang_text import Block, NodeReading, of_elixir
 ENDS, RETRIES = "transactions", re.compile(r"mnesia_tm:restart/\d+")
 QUEUES = re.compile(r"mnesia_locker:(l_req_rec|receive_wlocks|send_requests|rlock_get_reply)/\d+")
 OPERATION, WHOLE = "mnesia:transaction", "'______WHOLETABLE_____'"
+CUT = "..."  # in an older text of a long key, which may be that of another one
 READS, WRITES = {"read"}, {"write", "read_write"}
 
 
 class Row(NamedTuple):
-    """Who has a lock or wants it: the node that gives it out, the table and the key in it, its kind, and the process,
-    if that is in the state."""
+    """Who has a lock or wants it: the node that gives it out, the table and the key in it, its kind, the process, if that
+    is in the state, and the pid of the one whose transaction it is."""
 
     node: str
     table: str
     key: str
     kind: str
     who: Optional[Block]
+    owner: str
 
     def excludes(self, wanted: Row) -> bool:
         """Whether who has this lock keeps another one from what that wants."""
         is_same = self.key == wanted.key or WHOLE in (self.key, wanted.key)
         kinds = {self.kind, wanted.kind}
         return (self.node, self.table) == (wanted.node, wanted.table) and is_same and kinds <= READS | WRITES \
-            and kinds != READS and self.who is not wanted.who
+            and kinds != READS and self.owner != wanted.owner
 
 
 def rows_of(readings: Iterable[NodeReading], moment: Nodes, word: str) -> List[Row]:
@@ -41,7 +43,8 @@ def rows_of(readings: Iterable[NodeReading], moment: Nodes, word: str) -> List[R
         for row in reading.mnesia:
             table, _, key = row["what"].partition(",")
             who = moment.find((reading.source, row["pid"]))
-            found += [Row(reading.source, table, key, row["kind"], who)] if row["word"] == word else []
+            made = Row(reading.source, table, key, row["kind"], who, row["owner"] or row["pid"])
+            found += [made] if row["word"] == word else []
     return found
 
 
@@ -74,7 +77,7 @@ def wait_in_queue(block: Block, moment: Nodes, more: Dict[str, Any]) -> Optional
         return None
     more.update(operation=OPERATION, note=f"{OPERATION} in {block.frames()[0]}")
     having = [row for row in moment.held if any(row.excludes(it) for it in wanted)]
-    if not having or any(row.who is None for row in having):
+    if not having or any(row.who is None or CUT in row.key for row in [*having, *wanted]):
         return unknown(name, "who has the lock that it wants isn't in the state", **more)
     names = moment.names(row.who for row in having if row.who is not None)
     more["objects"] = [*names, *(of_elixir(f"{{{it.table},{it.key}}}") for it in wanted)]

@@ -48,7 +48,8 @@ ASKS = re.compile(r"{(\w+|'[^']*'),(\w+|'[^']*'),(\d+),\[(.*)\]}")
 QUIET = re.compile(r"{(\w+|'[^']*'),(\w+|'[^']*'),(\d+)}")
 ROWS = {"receives": RECEIVES, "asks": ASKS, "quiet": QUIET, "numbers": re.compile(r"(\d+) (\S+)"),
         "locks": re.compile(r"{(.*),\[((?:{<[\d.]+>,#Ref<[\d.]+>},?)+)\]}"),
-        "mnesia": re.compile(r"{(?P<word>has|wants),{(?P<what>.*)},(?P<kind>\w+),(?P<pid><[\d.]+>)}")}
+        "mnesia": re.compile(r"{(?P<word>has|wants),{(?P<what>.*)},(?P<kind>\w+),"
+                              r"(?P<pid><[\d.]+>)(?:,(?P<owner><[\d.]+>))?}")}
 OF_ELIXIR = re.compile(r"'Elixir\.([\w.]+)'")
 FUN = re.compile(r"'-(.*)/\d+-(fun-\d+)-'")
 WORD = r"(\w+|'[^']*')"
