@@ -88,7 +88,8 @@ def apply_to(sketch: Sketch, facts: Facts, passed_over: Set[str], at_rest: List[
     for some in (accepting, woken):
         asked += [(f"{place_words(*place)} -> runs", names) for place, names in places_of(some).items()]
     asked += ended_by_others(sketch, passed_over.union(at_rest, (name for _, names in asked for name in names)))
-    bystanders = [*likely_bystanders(sketch, [*accepting, *woken])]
+    likely = likely_bystanders(sketch, [*accepting, *woken])
+    bystanders = [it for it in likely if facts.bystanders.keys().isdisjoint(it[1])]
     bystanders += [(freeing_nobody(at_rest), at_rest)] if at_rest else []
     number = last_number(sketch) + len(facts.facts) + 2
     found, spared = facts_of(asked, number), facts_of(bystanders, number + len(asked))
@@ -114,7 +115,8 @@ def feed(sketch: Sketch, facts: Facts, spared: Dict[str, Fact]) -> None:
         lines += [(fed_by(it), [it.name]) for it in some if not it.is_fed and is_fed_by(it, sketch, inside)]
         if not lines:
             return
-        apply_guesses(replace(facts, guesses=facts_of(lines, last_number(sketch) + 1), spared=spared), sketch)
+        number = max([last_number(sketch), *(fact.at for fact in spared.values())]) + 1
+        apply_guesses(replace(facts, guesses=facts_of(lines, number), spared=spared), sketch)
 
 
 def is_fed_by(process: Process, sketch: Sketch, names: Set[str]) -> bool:
