@@ -531,14 +531,16 @@ start_of(Info) ->
 %% What the modules that it runs call, as their files say: `exits` if they may end a process, `stops` if they may have
 %% a supervisor end one, or stop a supervisor, `replies`, `tables` if they may keep a term in one, `timers` if they may
 %% begin one, or if a server in its loop has a limit, `bytes` if they make terms of these, `halts` if they may end,
-%% restart or disconnect the node. What ends others may stand in a module that these call.
+%% restart or disconnect the node, or replace its code, `far` if they may do so on another node. What ends others may
+%% stand in a module that these call.
 code_of(Info) ->
     {_, Stack} = lists:keyfind(current_stacktrace, 1, Info),
     Own = start_of(Info) ++ [Module || {Module, _, _, _} <- Stack],
     Limits = [timers || is_idle(Info), [] =/= on_top(Info, "^y[(][0-9]+[)] +[0-9]+$")],
     Modules = lists:usort(Own),
     Called = lists:usort(lists:flatmap(fun modules_called/1, Modules)),
-    Ends = [Kind || Kind <- lists:flatmap(fun calls_of_module/1, Called), lists:member(Kind, [exits, halts, stops])],
+    Ends = [Kind || Kind <- lists:flatmap(fun calls_of_module/1, Called),
+                    lists:member(Kind, [exits, far, halts, stops])],
     lists:usort(Limits ++ lists:flatmap(fun calls_of_module/1, Modules) ++ Ends).
 
 on_top(Info, Form) ->
@@ -550,9 +552,9 @@ on_top(Info, Form) ->
     end.
 
 %% One without a file may call anything, if it is loaded.
--define(ANY, [bytes, exits, halts, replies, stops, tables, timers]).
--define(STOP, [application, gen_server, proc_lib, 'Elixir.Application', 'Elixir.DynamicSupervisor', 'Elixir.GenServer',
-               'Elixir.PartitionSupervisor', 'Elixir.Supervisor']).
+-define(ANY, [bytes, exits, far, halts, replies, stops, tables, timers]).
+-define(STOP, [application, gen_event, gen_server, gen_statem, proc_lib, 'Elixir.Application',
+               'Elixir.DynamicSupervisor', 'Elixir.GenServer', 'Elixir.PartitionSupervisor', 'Elixir.Supervisor']).
 
 calls_of_module(Module) -> element(1, calls(Module)).
 
@@ -571,13 +573,54 @@ calls(Module) ->
 imports_of(Module) ->
     case code:get_object_code(Module) of
         {_, Code, _} ->
-            case beam_lib:chunks(Code, [imports]) of
-                {ok, {_, [{imports, Imports}]}} ->
-                    {lists:usort(lists:flatmap(fun kind_of/1, Imports)), lists:usort([Of || {Of, _, _} <- Imports])};
+            case beam_lib:chunks(Code, [imports, atoms, "LitT"], [allow_missing_chunks]) of
+                {ok, {_, [{imports, Imports}, {atoms, Atoms}, {_, Literals}]}} when is_list(Imports), is_list(Atoms) ->
+                    Calls = Imports ++ funs_among(literals(Literals)),
+                    Kinds = lists:flatmap(fun kind_of/1, Calls) ++ named(Calls, [Atom || {_, Atom} <- Atoms]),
+                    {lists:usort(Kinds), lists:usort([Of || {Of, _, _} <- Calls])};
                 _ -> {?ANY, []}
             end;
         error -> {[Kind || Kind <- ?ANY, erlang:module_loaded(Module)], []}
     end.
+
+%% The constants of a module, which may be compressed.
+literals(<<0:32, _:32, Table/binary>>) -> [binary_to_term(Each) || <<Size:32, Each:Size/binary>> <= Table];
+literals(<<_:32, Packed/binary>>) ->
+    <<_:32, Table/binary>> = zlib:uncompress(Packed),
+    [binary_to_term(Each) || <<Size:32, Each:Size/binary>> <= Table];
+literals(_) -> [].
+
+%% The functions of other modules that lie in some constants, as `fun init:stop/0`.
+funs_among([]) -> [];
+funs_among([[Head | Tail] | Terms]) -> funs_among([Head, Tail | Terms]);
+funs_among([Term | Terms]) when is_tuple(Term) -> funs_among(tuple_to_list(Term) ++ Terms);
+funs_among([Term | Terms]) when is_map(Term) -> funs_among(maps:to_list(Term) ++ Terms);
+funs_among([Term | Terms]) when is_function(Term) ->
+    [list_to_tuple([element(2, erlang:fun_info(Term, Key)) || Key <- [module, name, arity]]) | funs_among(Terms)];
+funs_among([_ | Terms]) -> funs_among(Terms).
+
+%% What a module may do that has others called by their names: end them, if it has these, and on any node if `far`.
+-define(ENDING, [{init, stop}, {init, restart}, {init, reboot}, {erlang, halt}, {erlang, disconnect_node},
+                 {erlang, exit}, {net_kernel, stop}, {code, purge}, {code, load_file}, {code, load_binary},
+                 {code, load_abs}, {code, atomic_load}, {application, stop}, {supervisor, terminate_child},
+                 {gen_server, stop}, {gen_statem, stop}, {proc_lib, stop}, {sys, terminate}, {'Elixir.System', halt},
+                 {'Elixir.System', stop}, {'Elixir.Process', exit}]).
+
+named(Calls, Atoms) ->
+    Far = lists:any(fun is_far/1, Calls),
+    Kinds = [Kind || Far orelse lists:any(fun is_by_name/1, Calls), {Module, Name} <- ?ENDING,
+                     lists:member(Module, Atoms), lists:member(Name, Atoms), Kind <- kind_of({Module, Name, 2})],
+    Kinds ++ [far || Far].
+
+is_far({Module, _, _}) when Module =:= rpc; Module =:= erpc -> true;
+is_far({erlang, Name, Arity}) ->
+    Arity > 3 andalso lists:member(Name, [spawn, spawn_link, spawn_monitor, spawn_opt, spawn_request]);
+is_far({'Elixir.Node', Name, _}) -> lists:member(Name, [spawn, spawn_link, spawn_monitor]);
+is_far(_) -> false.
+
+is_by_name({erlang, apply, _}) -> true;
+is_by_name({timer, Name, _}) -> lists:prefix("apply", atom_to_list(Name));
+is_by_name(_) -> false.
 
 kind_of({erlang, exit, Arity}) when Arity > 1 -> [exits];
 kind_of({'Elixir.Process', exit, _}) -> [exits];
@@ -586,8 +629,16 @@ kind_of({init, Name, _}) -> [halts || lists:member(Name, [reboot, restart, stop]
 kind_of({erlang, Name, _}) when Name =:= disconnect_node; Name =:= halt -> [halts];
 kind_of({'Elixir.Node', Name, _}) when Name =:= disconnect; Name =:= stop -> [halts];
 kind_of({net_kernel, stop, _}) -> [halts];
+%% What runs code that is replaced ends.
+kind_of({code, Name, _}) when Name =:= purge; Name =:= load_file; Name =:= load_binary; Name =:= load_abs;
+                              Name =:= atomic_load -> [halts];
+kind_of({erlang, purge_module, _}) -> [halts];
+kind_of({c, Name, _}) -> [halts || lists:member(Name, [c, l, lm, nc, nl])];
+kind_of({release_handler, _, _}) -> [halts];
+kind_of({'Elixir.Code', Name, _}) -> [halts || lists:prefix("compile_", atom_to_list(Name))];
 kind_of({'Elixir.System', Name, _}) -> [halts || lists:member(Name, [halt, restart, stop])];
 kind_of({_, terminate_child, _}) -> [stops];
+kind_of({sys, terminate, _}) -> [stops];
 kind_of({Module, stop, _}) -> [stops || lists:member(Module, ?STOP)];
 kind_of({erlang, Name, _}) when Name =:= binary_to_term; Name =:= list_to_ref -> [bytes];
 kind_of({application, set_env, _}) -> [tables];

@@ -66,10 +66,12 @@ def add_enders(moment: Nodes) -> None:
 
 
 def by_code(moment: Nodes, word: str) -> DefaultDict[str, List[Block]]:
-    """Those whose code has a word, by their node."""
+    """Those whose code has a word, by the node on which they may do so: their own, or any if it is `far`."""
     found: DefaultDict[str, List[Block]] = defaultdict(list)
+    far = two_of_each_fate([block for block in moment.rows() if {word, "far"} <= {*block.code()}])
     for reading in moment.readings:
-        found[reading.source] = two_of_each_fate([block for block in reading.rows if word in block.code()])
+        own = two_of_each_fate([block for block in reading.rows if word in block.code()])
+        found[reading.source] = own + [it for it in far if it.node != reading.source]
     return found
 
 

@@ -217,7 +217,8 @@ class Block:
         return ANY_PID.findall(self.items.get("may_end", ""))
 
     def code(self) -> List[str]:
-        """What the modules that it runs call: `bytes`, `exits`, `replies`, `stops`, `tables`, `timers`."""
+        """What the modules that it runs call: `bytes`, `exits`, `far`, `halts`, `replies`, `stops`, `tables`, `timers`.
+        """
         return words_of(self.items.get("code", ""))
 
     def is_supervisor(self) -> bool:
