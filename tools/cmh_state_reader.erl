@@ -531,8 +531,8 @@ start_of(Info) ->
 %% What the modules that it runs call, as their files say: `exits` if they may end a process, `stops` if they may have
 %% a supervisor end one, or stop a supervisor, `replies`, `tables` if they may keep a term in one, `timers` if they may
 %% begin one, or if a server in its loop has a limit, `bytes` if they make terms of these, `halts` if they may end,
-%% restart or disconnect the node, or replace its code, `far` if they may do so on another node. What ends others may
-%% stand in a module that these call.
+%% restart or disconnect the node, or replace its code, `far` if they may do so on another node, `leaves` if a server
+%% may stop by itself. What ends others may stand in a module that these call.
 code_of(Info) ->
     {_, Stack} = lists:keyfind(current_stacktrace, 1, Info),
     Own = start_of(Info) ++ [Module || {Module, _, _, _} <- Stack],
@@ -552,7 +552,7 @@ on_top(Info, Form) ->
     end.
 
 %% One without a file may call anything, if it is loaded.
--define(ANY, [bytes, exits, far, halts, replies, stops, tables, timers]).
+-define(ANY, [bytes, exits, far, halts, leaves, replies, stops, tables, timers]).
 -define(STOP, [application, gen_event, gen_server, gen_statem, proc_lib, 'Elixir.Application',
                'Elixir.DynamicSupervisor', 'Elixir.GenServer', 'Elixir.PartitionSupervisor', 'Elixir.Supervisor']).
 
@@ -575,20 +575,29 @@ imports_of(Module) ->
         {_, Code, _} ->
             case beam_lib:chunks(Code, [imports, atoms, "LitT"], [allow_missing_chunks]) of
                 {ok, {_, [{imports, Imports}, {atoms, Atoms}, {_, Literals}]}} when is_list(Imports), is_list(Atoms) ->
-                    Calls = Imports ++ funs_among(literals(Literals)),
-                    Kinds = lists:flatmap(fun kind_of/1, Calls) ++ named(Calls, [Atom || {_, Atom} <- Atoms]),
-                    {lists:usort(Kinds), lists:usort([Of || {Of, _, _} <- Calls])};
+                    Constants = unpacked(Literals),
+                    Calls = Imports ++ funs_among(terms_of(Constants)),
+                    Names = [Atom || {_, Atom} <- Atoms],
+                    Own = named(Calls, Names) ++ [leaves || may_leave(Calls, Names, Constants)],
+                    {lists:usort(lists:flatmap(fun kind_of/1, Calls) ++ Own), lists:usort([Of || {Of, _, _} <- Calls])};
                 _ -> {?ANY, []}
             end;
         error -> {[Kind || Kind <- ?ANY, erlang:module_loaded(Module)], []}
     end.
 
+%% Whether a server may stop by itself, once it has another message: its callback returns {stop, ..}, or it exits.
+may_leave(Calls, Names, Constants) ->
+    lists:member({erlang, exit, 1}, Calls) orelse lists:member(stop, Names)
+        orelse binary:match(Constants, <<"stop">>) =/= nomatch.
+
 %% The constants of a module, which may be compressed.
-literals(<<0:32, _:32, Table/binary>>) -> [binary_to_term(Each) || <<Size:32, Each:Size/binary>> <= Table];
-literals(<<_:32, Packed/binary>>) ->
+unpacked(<<0:32, _:32, Table/binary>>) -> Table;
+unpacked(<<_:32, Packed/binary>>) ->
     <<_:32, Table/binary>> = zlib:uncompress(Packed),
-    [binary_to_term(Each) || <<Size:32, Each:Size/binary>> <= Table];
-literals(_) -> [].
+    Table;
+unpacked(_) -> <<>>.
+
+terms_of(Constants) -> [binary_to_term(Each) || <<Size:32, Each:Size/binary>> <= Constants].
 
 %% The functions of other modules that lie in some constants, as `fun init:stop/0`.
 funs_among([]) -> [];

@@ -185,8 +185,9 @@ class Block:
         return bool(self.stack) and LOOPS.match(self.stack[0]) is not None
 
     def is_asleep(self) -> bool:
-        """Whether it is a server that waits for a request, has none, and isn't woken by a timer of its code."""
-        return self.is_loop() and "timers" not in self.code() and self.messages == "[]"
+        """Whether it is a server that waits for a request, has none, isn't woken by a timer of its code, and isn't
+        stopped by that either."""
+        return self.is_loop() and {"timers", "leaves"}.isdisjoint(self.code()) and self.messages == "[]"
 
     def is_in_library(self) -> bool:
         return OF_SYSTEM.fullmatch(self.function[0]) is not None
@@ -217,8 +218,8 @@ class Block:
         return ANY_PID.findall(self.items.get("may_end", ""))
 
     def code(self) -> List[str]:
-        """What the modules that it runs call: `bytes`, `exits`, `far`, `halts`, `replies`, `stops`, `tables`, `timers`.
-        """
+        """What the modules that it runs call: `bytes`, `exits`, `far`, `halts`, `leaves`, `replies`, `stops`, `tables`,
+        `timers`."""
         return words_of(self.items.get("code", ""))
 
     def is_supervisor(self) -> bool:
