@@ -18,8 +18,8 @@ READS, WRITES = {"read"}, {"write", "read_write"}
 
 
 class Row(NamedTuple):
-    """Who has a lock or wants it: the node that gives it out, the table and the key in it, its kind, the process, if that
-    is in the state, and the pid of the one whose transaction it is."""
+    """Who has a lock or wants it: the node that gives it out, the table and the key in it, its kind, the process, if
+    that is in the state, and the pid of the one whose transaction it is."""
 
     node: str
     table: str
