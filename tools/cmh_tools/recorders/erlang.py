@@ -195,9 +195,10 @@ def polling_names(moments: List[Nodes]) -> Set[str]:
 
 
 def may_have_any(block: Block) -> bool:
-    """Whether a process may have a reference that its text doesn't show: in a fun, or in what it hibernates with, which
-    it may hand on to any code; or where its text isn't understood."""
-    return bool(block.fault) or block.extra("closures") == "true" or block.hibernates
+    """Whether a process may have a reference that its text doesn't show: in a fun, or in the state with which it
+    hibernates, if its code answers callers; or where its text isn't understood."""
+    return bool(block.fault) or block.extra("closures") == "true" or block.hibernates and (
+        "replies" in block.code() or block.extra("code") is None)
 
 
 def wait_of_function(block: Block, moment: Nodes, more: Dict[str, Any]) -> Process:
