@@ -276,6 +276,11 @@ class Service:
         also directly, at a consumer that the broker doesn't list."""
         return [name for name, askers in self.broker.asked.items() if process_name(self.name) in askers]
 
+    @functools.cached_property
+    def may_get_replies(self) -> bool:
+        """Whether some of its queues are bound by their names alone, and others aren't."""
+        return len({*map(self.broker.routes.is_by_name, self.queues)}) > 1
+
     def replies(self) -> List[str]:
         """Returns the queues where it may wait for a reply while it has a message: those that are bound by their names
         alone, if others aren't, and of which it has none."""
@@ -468,13 +473,13 @@ def at_work(service: Service, name: str, more: Dict[str, Any]) -> Process:
     """Returns one that has a message. It may wait for another one: that is another place, for other facts. So may one
     whose client waits at a connection."""
     replies, does = service.replies(), service.does
-    more.update(operation="handle", objects=service.places())
+    more.update(operation="reply" if service.may_get_replies else "handle", objects=service.places())
     why, proposal, found = "the broker can't tell what it does", "maybe", []
     if does.kind in BUSY:
         why, proposal = f"a thread of its client {f'waits in {shown(does.call)}' if does.call else does.kind}", "runs"
     elif replies or does.kind == AT:
         found = service.repliers(replies)
-        more["operation"], proposal = "reply", "any" if found else "maybe"
+        proposal = "any" if found else "maybe"
         why = f"may wait for a reply in {shown(replies[0])}" if replies else "its client waits at a connection"
     return unknown(name, f"it has a message that isn't acknowledged, and {why}", because=[premise(HANDLES)],
                    proposal=proposal, candidates=[*found, COMPLETE] if found else [], **more)

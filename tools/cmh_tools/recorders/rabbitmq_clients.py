@@ -32,6 +32,8 @@ def activities(rows: List[Row], ticking: Dict[int, bool]) -> Dict[str, Activity]
 
 def activity_of(threads: List[Row], ticking: Dict[int, bool]) -> Activity:
     living = [it for it in threads if it["state"] not in "ZX"]
+    if any(it["state"] in "Tt" for it in living):  # (somebody holds it)
+        return Activity(OPEN)
     if len(living) == 1:
         return single(living[0])._replace(is_sure=True)
     rest = [single(it) for it in living if it["tid"] not in ticking and it.get("at") != ITSELF]
