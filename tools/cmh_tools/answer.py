@@ -9,6 +9,7 @@ from typing import Any, Dict, Iterable, List, Optional
 
 from . import VERSION
 from .findings import NOT_STUCK, STUCK, UNDECIDED, Findings, Verdicts
+from .proposals import freeing_nobody
 from .program import identity
 from .reasons import Reason
 from .sketch import ALL, ANY, ENDED, FACT, PREMISE, number_of_guess
@@ -37,7 +38,7 @@ def answer(found: Findings, noted: Optional[str] = None, at: Optional[int] = Non
         "still_stuck": names(found, found.left_over),
         "unknown": unknown_rows(found),
         "proposals": proposal_rows(found),
-        "limits": [{"fact": line, "names": [it.name for it in some]} for line, some in found.limited()],
+        "limits": limit_rows(found),
         "premises": [{"name": it.name, "text": it.text, "processes": it.number} for it in reasons(found, PREMISE)],
         "facts": fact_rows(found),
         "guesses": guess_rows(found),
@@ -177,6 +178,13 @@ def fact_rows(found: Findings) -> List[Tree]:
     counts = {it.name: it.number for it in reasons(found, FACT)}
     return [{"at": row["at"], "text": row["text"], "took": row["took"], "processes": counts.get(row["at"], 0)}
             for row in found.dump.sketch.facts if not number_of_guess(row)]
+
+
+def limit_rows(found: Findings) -> List[Dict[str, Any]]:
+    """The lines of facts on those that stood with a limit, and on those who are likely to end nobody's wait."""
+    rows = [{"fact": line, "names": [it.name for it in some]} for line, some in found.limited()]
+    in_vain, bystanders = found.in_vain
+    return rows + ([{"fact": freeing_nobody(bystanders), "names": bystanders}] if in_vain else [])
 
 
 def guess_rows(found: Findings) -> List[Tree]:
