@@ -4,6 +4,7 @@ from __future__ import annotations
 import re
 from typing import Container, Dict, Iterable, List, Optional, Set, Tuple
 
+from .bounds import take_bounds
 from .facts import HOLDS, OTHERS, RELATIVES, Fact, Facts, families, fill_in, has_others, is_others
 from .files import shown
 from .idle import has_fact
@@ -139,6 +140,8 @@ class Application:
         self.meet(found)
         self.decide_all(found, found)
         self.settle(self.sketch.processes)
+        take_bounds(self.sketch, self.facts)
+        self.note_facts()
         self.sketch.warnings += self.facts.unused_lines(self.sketch)
 
     def guess(self) -> None:
@@ -148,7 +151,8 @@ class Application:
         self.meet([*found, *((process, self.facts.wait(process)) for process in decided)])
         guessed = [it for it in found if it[1] is not None and it[1].is_guess]
         self.decide_all(found, guessed)
-        self.settle([process for process, _ in guessed], {row["at"] for row in self.sketch.facts})
+        self.settle([process for process, _ in guessed])
+        self.note_facts({row["at"] for row in self.sketch.facts})
 
     def meet(self, found: Found) -> None:
         """Notes who is at which collective operation, each with the fact on its wait."""
@@ -170,13 +174,15 @@ class Application:
         """Returns those whom facts may decide, each with the fact on its wait, if there is one."""
         return [(process, self.facts.wait(process)) for process in self.sketch.processes if self.is_undecided(process)]
 
-    def settle(self, processes: List[Process], known: Container[str] = ()) -> None:
-        """Does for some processes what comes after their waits, and has the facts in the sketch that were used, but for
-        those that are known there."""
+    def settle(self, processes: List[Process]) -> None:
+        """Does for some processes what comes after their waits."""
         for process in processes:
             self.widen(process)
         for process in processes:
             self.settle_doubt(process)
+
+    def note_facts(self, known: Container[str] = ()) -> None:
+        """Has the facts in the sketch that were used, but for those that are known there."""
         path, guesses = self.facts.path, [*self.facts.guesses.values(), *self.facts.spared.values()]
         found = [*self.facts.facts, *filter(None, [self.facts.still]), *{it.at: it for it in guesses}.values()]
         self.sketch.facts += [fact.row(path) for fact in found if fact.used and fact.called(path) not in known]

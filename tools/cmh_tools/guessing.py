@@ -15,7 +15,7 @@ from .moments import GROWN
 from .places import Place, is_like
 from .proposals import HAS_ENDED, MOST, freeing_nobody, names_of, place_name, propose
 from .sketch import ANY, COMPLETE, ENDED, REST, RUNS, UNKNOWN, Process, Sketch, guess
-from .stuck import Waits
+from .stuck import stuck_names
 
 WAITS = ("any", "all", "holds")  # proposals for one that waits, for whomever
 OUTSIDE = "outside"  # the proposal for one that goes on by the outside, and is likely to end nobody's wait
@@ -157,11 +157,6 @@ def receivers(sketch: Sketch, passed_over: Set[str]) -> List[str]:
     found = [it.name for it in sketch.processes if it.kind == UNKNOWN and it.name not in passed_over
              and it.name not in (needed if it.operation == "futex" else wanted) and is_receiver(it)]
     return found if len(found) <= MOST else []
-
-
-def stuck_names(sketch: Sketch) -> Set[str]:
-    waits = Waits(sketch)
-    return {waits.processes[at].name for at in waits.answer(False).members()}
 
 
 def doubt_lone_ones(sketch: Sketch) -> None:

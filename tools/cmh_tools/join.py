@@ -115,7 +115,7 @@ def rename(sketch: Sketch, names: Dict[str, str], premises: Dict[str, str]) -> S
     reasons = {premise(name): premise(new) for name, new in premises.items()}
     processes = [replace(it, name=names[it.name], whom=[names[name] for name in it.whom],
                          besides=[names[name] for name in it.besides if name in names],
-                         spared=[names[name] for name in it.spared],
+                         spared=[names[name] for name in it.spared], bound=None,
                          candidates=[names.get(word, word) for word in it.candidates],
                          because=[reasons.get(reason, reason) for reason in it.because]) for it in sketch.processes]
     return replace(sketch, processes=processes, in_transit=[(names[a], names[b]) for a, b in sketch.in_transit],

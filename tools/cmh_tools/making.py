@@ -16,7 +16,7 @@ from .proposals import MOST, shorten_candidates
 from .recorders import State, recorder
 from .roots import Roots
 from .sketch import ALL, ANY, COMPLETE, ENDED, UNKNOWN, Process, Sketch, premise, read_sketch
-from .stuck import Waits
+from .stuck import Waits, stuck_names
 
 
 def sketch_for(system: str, paths: Sequence[str], facts: Facts, read: Callable[[str], str] = read_text,
@@ -165,7 +165,3 @@ def perhaps_stuck(sketch: Sketch, some: List[Process]) -> Set[str]:
         it.kind = kind
     return found
 
-
-def stuck_names(sketch: Sketch, unknown_in: bool) -> Set[str]:
-    waits = Waits(sketch)
-    return {waits.processes[at].name for at in waits.answer(unknown_in).members()}

@@ -191,6 +191,8 @@ def waiter_of(process: Process, later: Process) -> Process:
                    for name in (*process.likely, *later.likely)}
     made.besides = list(dict.fromkeys([*process.besides, *later.besides]))
     made.moment = process.moment if process.moment == later.moment else ""
+    made.bound = None if None in (process.bound, later.bound) else [
+        *dict.fromkeys([*(process.bound or ()), *(later.bound or ())])]
     if UNKNOWN in (process.kind, later.kind):
         made.become_unknown(process.reason if process.kind == UNKNOWN else later.reason)
         made.because = [reason for reason in dict.fromkeys([*process.because, *later.because])

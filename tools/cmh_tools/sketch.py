@@ -92,7 +92,9 @@ class Process:
     `may_rest` of a wait that those stand at too who have nothing to do, or of one who only ticks. `is_likely` says of
     one that stands for others that these are likely to be there.
     `scope` is the beginning of the names of those who alone can end its wait, if that is known, as of the threads of
-    one process of the system: what stands before the '/'.
+    one process of the system: what stands before the '/'. `bound` has of one that is unknown all who may end its wait,
+    by the premises `bound_by`, though some of them may not: it is stuck if all of these are. It is None where anybody
+    may.
     """
 
     name: str
@@ -123,6 +125,8 @@ class Process:
     likely: Dict[str, bool] = field(default_factory=dict)
     thread: str = ""
     scope: str = ""
+    bound: Optional[List[str]] = None
+    bound_by: List[str] = field(default_factory=list)
     choice: Optional[Tuple[str, List[str]]] = None
     is_fed: bool = False
     may_rest: bool = False

@@ -210,3 +210,9 @@ class Answer:
             picks = [other for other in there if self.inside[other]] or (there if not self.inside[at] else [])
             self.picks[at] = [min(picks)] if picks else []
         return self.picks[at]
+
+
+def stuck_names(sketch: Sketch, unknown_in: bool = False) -> Set[str]:
+    """Returns the names of those who are stuck where the unknown ones are, or else where none of them is."""
+    waits = Waits(sketch)
+    return {waits.processes[at].name for at in waits.answer(unknown_in).members()}

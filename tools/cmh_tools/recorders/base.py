@@ -122,6 +122,8 @@ class Recorder:
         sketch = Sketch([], system=self.NAME)
         for subject in self.processes(moment):
             process = self.wait_of(subject, moment)
+            for name in premises_in(tuple(process.bound_by)):
+                sketch.premises[name] = table[name].sentence
             for name in premises_in(tuple(process.because)):
                 sketch.premises[name] = table[name].sentence
                 broken = table[name].breaks(subject, moment)
