@@ -27,7 +27,7 @@ from .jvm_frames import (AGAIN, BARRIER, CLEANER, COMPUTES, CONDITION, FUTURE, H
                          POOLS_OWN, READS, READS_PIPE, REENTRANT, SLEEP, SOCKETS, TASK, WORKER, YIELDS, Place,
                          caller_of, is_at_inbox, is_for_outside, is_in, is_like, is_of_jvm, looks_on, own_of, place_of,
                          short, tries_again)
-from .jvm_heap import Heap, Heaps, is_between, read_heap
+from .jvm_heap import REACHES, Heap, Heaps, is_between, read_heap
 from .jvm_heap import PREMISES as OF_HEAPS
 from .jvm_locks import Locks, monitors_of, objects_of
 from .jvm_text import PARKED, Dump, Thread, stack_of
@@ -279,7 +279,8 @@ class JvmRecorder(Recorder):
         reach = moment.heaps.reach_of(thread)
         if reach is not None and (LATCH.fullmatch(place.call) or not NEEDS_ALL.fullmatch(place.call)):
             return unknown(name, f"{what}: the heap shows who has a reference to it, and not who ends this wait",
-                           candidates=[*moment.heaps.in_order([*reach, name]), COMPLETE])
+                           candidates=[*moment.heaps.in_order([*reach, name]), COMPLETE],
+                           bound=[it for it in reach if it != name] or None, bound_by=[premise(REACHES)])
         workers = moment.workers if TASK.fullmatch(place.call) and not FUTURE.fullmatch(place.call) else []
         return unknown(name, f"{what}: the state doesn't show what ends this wait", candidates=workers)
 

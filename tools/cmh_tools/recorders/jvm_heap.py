@@ -26,11 +26,13 @@ KINDS = TASK, QUEUED, READERS, JOIN, FUTURE, FUTURES, SUPPLIED, POOL, REACH, HOO
 ROW = {"thread": LABEL, "frames": [str], "waits": re.compile("|".join(KINDS)), "for": [LABEL], "object?": str,
        "is_full?": bool, "is_direct?": bool, "besides?": [LABEL], "reach?": [LABEL]}
 Label = Tuple[int, int]
-CANCELS, POOLS, COMPLETES = "cancels", "pools", "completes"
+CANCELS, POOLS, COMPLETES, REACHES = "cancels", "pools", "completes", "reaches"
 PREMISES = {
     CANCELS: "nobody cancels a task for which a thread waits, nor interrupts a thread that waits for another one",
     POOLS: "a task that stands in the queue of a pool is begun by a thread of that pool",
     COMPLETES: "a CompletableFuture is completed by the thread that computes its value",
+    REACHES: "a thread that has no reference in the heap to what another one waits at, nor to that thread, doesn't end "
+             "its wait",
 }
 RESTS_ON = {QUEUED: [POOLS, CANCELS], SUPPLIED: [POOLS, COMPLETES], FUTURE: [COMPLETES], FUTURES: [COMPLETES]}
 
