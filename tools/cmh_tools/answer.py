@@ -9,7 +9,6 @@ from typing import Any, Dict, Iterable, List, Optional
 
 from . import VERSION
 from .findings import NOT_STUCK, STUCK, UNDECIDED, Findings, Verdicts
-from .proposals import freeing_nobody
 from .program import identity
 from .reasons import Reason
 from .sketch import ALL, ANY, ENDED, FACT, PREMISE, number_of_guess
@@ -181,10 +180,8 @@ def fact_rows(found: Findings) -> List[Tree]:
 
 
 def limit_rows(found: Findings) -> List[Dict[str, Any]]:
-    """The lines of facts on those that stood with a limit, and on those who are likely to end nobody's wait."""
-    rows = [{"fact": line, "names": [it.name for it in some]} for line, some in found.limited()]
-    in_vain, bystanders = found.in_vain
-    return rows + ([{"fact": freeing_nobody(bystanders), "names": bystanders}] if in_vain else [])
+    """The lines of facts on those that stood with a limit."""
+    return [{"fact": line, "names": [it.name for it in some]} for line, some in found.limited()]
 
 
 def guess_rows(found: Findings) -> List[Tree]:

@@ -2,11 +2,13 @@
 from __future__ import annotations
 
 from dataclasses import replace
-from typing import List
+from typing import List, Set
 
-from .facts import Fact, Facts
+from .facts import FREES, Fact, Facts
+from .files import shown
 from .moments import GROWN
-from .sketch import ANY, UNKNOWN, Process, Sketch
+from .proposals import ask_to_spare
+from .sketch import ANY, RUNS, UNKNOWN, Process, Sketch
 from .stuck import stuck_names
 
 
@@ -41,4 +43,26 @@ def bounded(process: Process, used: List[Fact], facts: Facts) -> Process:
     made = process.copy()
     made.doubt = ""
     made.decide(ANY, [*process.bound_by, *map(facts.reason, used)], whom)
+    return made
+
+
+def doubt_vain_waits(sketch: Sketch) -> None:
+    """Leaves those unknown that would be stuck if some ended nobody's wait who are likely to end none: as a heartbeat
+    that shares the end of a pipe with all threads of its process, and need not write into it."""
+    likely = {it.name for it in sketch.processes if it.kind == RUNS and it.proposal == FREES}
+    lists = {it.name: [name for name in it.whom if name not in likely] for it in sketch.processes
+             if likely and it.kind == ANY}
+    some = {it.name: lists[it.name] for it in sketch.processes if 0 < len(lists.get(it.name, ())) < len(it.whom)}
+    if not some:
+        return
+    trial = [replace(it, whom=some[it.name]) if it.name in some else it for it in sketch.processes]
+    vain = stuck_names(replace(sketch, processes=trial), True) - stuck_names(sketch, True)
+    sketch.processes = [doubted(it, likely) if it.name in vain and it.name in some else it for it in sketch.processes]
+
+
+def doubted(process: Process, likely: Set[str]) -> Process:
+    others = [name for name in process.whom if name in likely]
+    made = process.copy()
+    made.become_unknown(f"{shown(others[0])}, which is likely to end nobody's wait, may end its wait")
+    ask_to_spare(made, others)
     return made

@@ -7,7 +7,7 @@ from typing import Callable, Dict, Iterable, Iterator, List, Optional, Sequence,
 from .dump import Dump
 from .files import shown
 from .findings import COME, MESSAGE, NOT_STUCK, STUCK, UNDECIDED, Findings, Waiters
-from .proposals import freeing_nobody, legend
+from .proposals import legend
 from .reasons import more_lines, rests_lines, rows
 from .sketch import ALL, ANY, DONE, ENDED, RUNS, UNKNOWN, Process
 from .terminal import PLAIN, AsItIs, Painted, Style, fill, laid_out, painted
@@ -15,7 +15,6 @@ from .terminal import PLAIN, AsItIs, Painted, Style, fill, laid_out, painted
 LINES, NAMES = 8, 5  # as many lines and names are shown; the others are counted
 UNSAID = "it isn't said why"
 IF_GUESSES = ", if guesses hold"
-UNLESS = ", unless those who are named last end nobody's wait"
 ALL_IDLE = "All that was read is idle. Idle ones that wait for each other look so too, so it isn't known whether " \
     "these are stuck. If one should have work, say by a fact whom it waits for."
 GOES_ON = {MESSAGE: "has a message in transit to it", COME: "no longer waits for any process"}
@@ -189,8 +188,7 @@ class Explanation(Findings):
         if self.worst() == NOT_STUCK and self.are_all_idle():
             lines.append(ALL_IDLE)
         elif self.worst() == NOT_STUCK:
-            unless = UNLESS if self.in_vain[0] else ""
-            lines.append(painted(f"Nobody is stuck{'' if self.status() == 0 else IF_GUESSES}{unless}.", NOT_STUCK))
+            lines.append(painted(f"Nobody is stuck{'' if self.status() == 0 else IF_GUESSES}.", NOT_STUCK))
         if self.worst() == UNDECIDED:
             lines.append("It isn't known whether a process is stuck: that depends on the unknown ones.")
         if self.dump.sketch.as_of:
@@ -307,7 +305,7 @@ class Explanation(Findings):
         words = "; ".join(f"{number:,}: {reason}" for reason, number in why.most_common())
         if running:
             lines.append(f"  {number_of(len(running), 'runs', 'run')}" + (f" ({words})" if set(why) - {UNSAID} else ""))
-        return lines + self.followers() + self.supposed_lines() + self.limited_lines() + self.in_vain_lines()
+        return lines + self.followers() + self.supposed_lines() + self.limited_lines()
 
     def followers(self) -> List[str]:
         """Those that others hang on, with these, and others that go on by themselves."""
@@ -339,15 +337,6 @@ class Explanation(Findings):
                  "after its limit needs none:"]
         return lines + self.first([AsItIs(f"  {shown(text)}  # {self.some([shown(it.name) for it in some])}")
                                    for text, some in rows], ("place", "places"))
-
-    def in_vain_lines(self) -> List[str]:
-        """Those that hang on none but who is likely to end nobody's wait, with the fact that says it."""
-        some, names = self.in_vain
-        if not some:
-            return []
-        them = self.some([self.name(at) for at in some])
-        return [f"{number_of(len(some))} may be stuck, if these end nobody's wait, as is likely: {them}",
-                AsItIs(f"  {shown(freeing_nobody(names))}")]
 
     def goes_on_words(self, at: int) -> str:
         """Returns why one goes on by itself."""

@@ -1,12 +1,9 @@
 """What is known of a dump with both its answers, by index: the text, the JSON and the pictures are all made of this."""
 from __future__ import annotations
 
-import functools
-from dataclasses import replace
 from typing import Callable, Dict, Iterator, List, NamedTuple, Optional, Tuple
 
 from .dump import Dump
-from .facts import FREES
 from .files import shown
 from .idle import proposals_of, quiet
 from .guesses import without_guesses
@@ -210,20 +207,3 @@ class Findings(Verdicts):
         with these."""
         some = [it for it in self.processes(self.running()) if is_limited_still(it)]
         return lines_of(some, self.dump.sketch) if some else []
-
-    @functools.cached_property
-    def in_vain(self) -> Tuple[List[int], List[str]]:
-        """Returns those that may be stuck if some end nobody's wait who are likely to end none, and these by name: as
-        of a heartbeat that shares the end of a pipe with all threads of its process."""
-        likely = {it.name for it in self.processes(self.running()) if it.proposal == FREES}
-        made = list(self.waits.processes)
-        for at in self.well if likely else ():
-            rest = [name for name in made[at].whom if name not in likely]
-            if made[at].kind == ANY and 0 < len(rest) < len(made[at].whom):
-                made[at] = replace(made[at], whom=rest)
-        if made == self.waits.processes:
-            return [], []
-        answer = Waits(replace(self.dump.sketch, processes=made)).answer(True)
-        found = [at for at in answer.members() if not self.high.inside[at]]
-        names = dict.fromkeys(name for at in found for name in self.waits.processes[at].whom if name in likely)
-        return found, list(names)

@@ -5,6 +5,7 @@ from __future__ import annotations
 from dataclasses import replace
 from typing import Dict, Iterable, List, Optional, Tuple
 
+from .bounds import doubt_vain_waits
 from .facts import Fact, read_facts
 from .files import Refusal
 from .sketch import NUMBERED, Process, Sketch, guess, number_of_guess
@@ -71,7 +72,9 @@ def reasons_of(sketch: Sketch) -> List[str]:
 
 def without_guesses(sketch: Sketch) -> Sketch:
     """Returns the sketch in which those are unknown again that guesses have decided."""
-    return replace(sketch, processes=list(map(without_guess, sketch.processes)))
+    made = replace(sketch, processes=list(map(without_guess, sketch.processes)))
+    doubt_vain_waits(made)
+    return made
 
 
 def without_guess(process: Process) -> Process:

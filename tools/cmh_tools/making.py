@@ -7,12 +7,13 @@ from typing import Callable, Dict, List, Sequence, Set, Tuple
 from . import guesses, guessing
 from .application import add_left_out, apply, drop_bystanders
 from .command import read_any
-from .facts import FREES, Facts
+from .bounds import doubt_vain_waits
+from .facts import Facts
 from .files import Refusal, read_text, shown
 from .idle import leave_out, there_of
 from .join import join_sketches
 from .moments import STOOD, UNCOUNTED, both
-from .proposals import MOST, shorten_candidates
+from .proposals import ask_to_spare, shorten_candidates
 from .recorders import State, recorder
 from .roots import Roots
 from .sketch import ALL, ANY, COMPLETE, ENDED, UNKNOWN, Process, Sketch, premise, read_sketch
@@ -54,6 +55,7 @@ def decide(sketch: Sketch, facts: Facts, what: str = "processes", with_guesses: 
     if with_guesses:
         guessing.take_besides(sketch)
     doubt_stuck(sketch)
+    doubt_vain_waits(sketch)
     reasons = guesses.reasons_of(sketch)
     if reasons:
         doubt_without_guesses(sketch, replace(sketch, processes=bare), reasons)
@@ -114,15 +116,11 @@ def doubt_stuck(sketch: Sketch) -> None:
             ask_to_spare(process, [name for name in others if name not in asked])
 
 
-def ask_to_spare(process: Process, others: List[str]) -> None:
-    """Asks for the fact that some end nobody's wait, who may end that of a process besides."""
-    process.proposal, process.candidates = (FREES, others) if 0 < len(others) <= MOST else ("none", [])
-
-
 def doubt_without_guesses(sketch: Sketch, bare: Sketch, reasons: List[str]) -> None:
     """Lets those rest on the guesses too that would be unknown without them, as in `bare`, since one who waits or has
     ended by a guess alone may free them besides."""
     doubt_stuck(bare)
+    doubt_vain_waits(bare)
     for process, other in zip(sketch.processes, bare.processes):
         if other.kind == UNKNOWN != process.kind and not process.is_guessed():
             process.because = [*process.because, *reasons]

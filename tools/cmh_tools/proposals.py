@@ -90,6 +90,11 @@ def propose(sketch: Sketch, quiet: Collection[str] = ()) -> List[Proposal]:
     return found
 
 
+def ask_to_spare(process: Process, others: List[str]) -> None:
+    """Asks for the fact that some end nobody's wait, who may end that of a process besides."""
+    process.proposal, process.candidates = (FREES, others) if 0 < len(others) <= MOST else ("none", [])
+
+
 def freeing_nobody(names: Iterable[str], place: str = "*") -> str:
     """Returns the line that some end nobody's wait."""
     return f"{word_of(place)} of {' or '.join(map(word_of, names))} -> {FREES} nobody"
