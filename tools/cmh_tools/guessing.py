@@ -79,13 +79,16 @@ def take_at_rest(sketch: Sketch, facts: Facts, passed_over: Set[str], at_rest: L
 def apply_to(sketch: Sketch, facts: Facts, passed_over: Set[str], at_rest: List[str]) -> Dict[str, Fact]:
     """Has guesses decide who is unknown. Of those who are at rest it is guessed that they end nobody's wait, and of one
     that was woken for its next message that it ends none for which the state has filled in others, if nobody is there
-    who would give it more. Returns the guesses of all who end nobody's."""
+    who would give it more. Who reads from outside what may end waits here goes on. Returns the guesses of all who end
+    nobody's."""
     asked = [*filled_in(sketch, passed_over.union(at_rest))]
     filled = {name for _, names in asked for name in names}
     open_ones = [it for it in sketch.processes if it.kind == UNKNOWN and it.name not in passed_over]
     accepting = [it for it in open_ones if is_acceptor(it) or it.proposal == OUTSIDE]
     woken = [it for it in open_ones if it.doubt == GROWN and it not in accepting]
-    for some in (accepting, woken):
+    hearing = hearing_names(sketch)
+    heard = [it for it in open_ones if it.name in hearing]
+    for some in (accepting, woken, heard):
         asked += [(f"{place_words(*place)} -> runs", names) for place, names in places_of(some).items()]
     asked += ended_by_others(sketch, passed_over.union(at_rest, (name for _, names in asked for name in names)))
     likely = likely_bystanders(sketch, [*accepting, *woken])
@@ -153,10 +156,18 @@ def spare(sketch: Sketch, spared: Dict[str, Fact], known: Set[str], only: Option
 def receivers(sketch: Sketch, passed_over: Set[str]) -> List[str]:
     """Returns those who only wait for their next message, at the function that they were started with, and whom nobody
     is known to wait for."""
-    wanted, needed = {name for it in sketch.processes for name in it.whom}, needed_names(sketch)
+    needed, wanted = needed_names(sketch), {name for it in sketch.processes for name in it.whom}
+    hearing = hearing_names(sketch)
     found = [it.name for it in sketch.processes if it.kind == UNKNOWN and it.name not in passed_over
-             and it.name not in (needed if it.operation == "futex" else wanted) and is_receiver(it)]
+             and it.name not in (needed if it.operation == "futex" else wanted) and is_receiver(it)
+             and it.name not in hearing]
     return found if len(found) <= MOST else []
+
+
+def hearing_names(sketch: Sketch) -> Set[str]:
+    """Returns the names of those who read from outside, and may end waits by what they read, as the state says."""
+    ending = {name for it in sketch.processes if it.kind == UNKNOWN for name in it.bound or ()}
+    return {it.name for it in sketch.processes if it.name in ending and READS.fullmatch(it.operation)}
 
 
 def doubt_lone_ones(sketch: Sketch) -> None:
