@@ -280,7 +280,7 @@ class JvmRecorder(Recorder):
         if reach is not None and (LATCH.fullmatch(place.call) or not NEEDS_ALL.fullmatch(place.call)):
             return unknown(name, f"{what}: the heap shows who has a reference to it, and not who ends this wait",
                            candidates=[*moment.heaps.in_order([*reach, name]), COMPLETE],
-                           bound=[it for it in reach if it != name] or None, bound_by=[premise(REACHES)])
+                           bound=moment.heaps.bound_of(thread) or None, bound_by=[premise(REACHES)])
         workers = moment.workers if TASK.fullmatch(place.call) and not FUTURE.fullmatch(place.call) else []
         return unknown(name, f"{what}: the state doesn't show what ends this wait", candidates=workers)
 

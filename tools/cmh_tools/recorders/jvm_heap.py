@@ -8,7 +8,7 @@ from __future__ import annotations
 import json
 import re
 from dataclasses import dataclass, field
-from typing import Any, Dict, List, Optional, Tuple
+from typing import Any, Dict, List, Optional, Set, Tuple
 
 from ..files import Refusal, shown
 from ..sketch import COMPLETE, SYSTEM, Process, premise, unknown, waits_for_all, waits_for_any
@@ -128,13 +128,14 @@ def is_between(heap: Heap, dumps: List[Dump]) -> bool:
 
 class Heaps:
     """What a heap says of the threads of one state, with the locks there. `there` has these by their labels, `names`
-    their names by key."""
+    their names by key, and `bounded` has the names of those of whom it says who else may end their wait."""
 
     def __init__(self, heap: Optional[Heap], threads: List[Thread], names: Dict[str, str], locks: Locks) -> None:
         self.heap, self.names, self.locks = heap, names, locks
         self.threads = {it.key: it for it in threads}
         labels = [(label_of(it), it) for it in threads] if heap else []
         self.there: Dict[Label, Thread] = {label: it for label, it in labels if label}
+        self.bounded: Set[str] = set()
         self.is_searched = any(is_in(FINDS_THREADS, stack_of(it)) for it in threads)
 
     def names_of(self, labels: List[Label]) -> List[str]:
@@ -145,16 +146,29 @@ class Heaps:
         some = set(names)
         return [name for name in map(self.names.__getitem__, self.threads) if name in some]
 
-    def reach_of(self, thread: Thread) -> Optional[List[str]]:
-        """Returns the names of those who have a reference to what a thread waits at, or to the thread: they are likely
-        to end its wait, but for those for whom nobody has one. A thread may come to it by a name too, as to an interned
-        text or a class. None if anybody may have one, or one of the JVM itself has, or a thread looks for others
-        without a reference."""
+    def enders_of(self, thread: Thread) -> Optional[List[Thread]]:
+        """Returns those who have a reference to what a thread waits at, or to the thread. A thread may come to it by a
+        name too, as to an interned text or a class. None if anybody may have one, or one of the JVM itself has, or a
+        thread looks for others without a reference."""
         reach = self.labels_of(thread)
-        some = [self.there.get(it) for it in reach or ()]
-        if reach is None or any(it is None or is_of_jvm(it) for it in some):
-            return None
-        return self.names_of([it for it, other in zip(reach, some) if other is None or self.labels_of(other) != []])
+        some = [it for it in map(self.there.get, reach or ()) if it is not None and not is_of_jvm(it)]
+        return [it for it in some if it is not thread] if reach is not None and len(some) == len(reach) else None
+
+    def reach_of(self, thread: Thread) -> Optional[List[str]]:
+        """Returns the names of those who are likely to end the wait of a thread: who have a reference, but for those
+        for whom nobody has one."""
+        some = self.enders_of(thread)
+        return None if some is None else [self.names[it.key] for it in some if self.labels_of(it) != []]
+
+    def bound_of(self, thread: Thread) -> List[str]:
+        """Returns the names of all who may end the wait of a thread: who have a reference, but for those at what nobody
+        has but they. One that joins another, or waits for a task, goes on without a reference to it."""
+        return [self.names[it.key] for it in self.enders_of(thread) or () if not self.is_lost(it)]
+
+    def is_lost(self, thread: Thread) -> bool:
+        """Whether a thread waits at what nobody else has."""
+        wait = self.heap.wait_of(thread) if self.heap else None
+        return wait is not None and wait.kind == REACH and wait.reach == []
 
     def labels_of(self, thread: Thread) -> Optional[List[Label]]:
         """Returns who has a reference to what a thread waits at, if the heap says it."""
@@ -198,9 +212,14 @@ class Heaps:
         is_computed = wait.kind in (FUTURE, FUTURES)
         if is_computed and not wait.is_direct and not all(self.stands(self.there[it]) for it in wait.whom):
             return unknown(name, f"{whom[0]} computed what it waits for, and has moved since", candidates=whom)
-        because = RESTS_ON.get(wait.kind, [CANCELS])
+        because = [SYSTEM, *map(premise, RESTS_ON.get(wait.kind, [CANCELS]))]
         waits = waits_for_all if wait.kind == FUTURES else waits_for_any
-        return waits(name, whom, [SYSTEM, *map(premise, because)], besides=self.names_of(wait.besides))
+        enders = self.enders_of(thread)
+        if enders is not None:
+            because.append(premise(REACHES))
+            self.bounded.add(name)
+        others = [self.names[it.key] for it in enders or ()]
+        return waits(name, whom, because, besides=list(dict.fromkeys([*self.names_of(wait.besides), *others])))
 
     def stands(self, thread: Thread) -> bool:
         """Whether a thread was at one wait all the time between the two states. One that is blocked at a monitor uses

@@ -10,6 +10,7 @@ from ..moments import ONCE
 from ..sketch import ALL, ANY, INNER, REST, RUNS, UNKNOWN, Process, Sketch
 from .jvm_frames import (CARRIER, CLEANER, ENDS_UNSEEN, FROM_OUTSIDE, HAS_TASK, HAS_TIMER, LIMITED, SHARED_WORKER,
                          has_jobs, is_in, is_inside, is_of_jvm, place_of)
+from .jvm_heap import Heaps
 from .jvm_text import Dump, Thread, stack_of
 
 FEW = 3  # of those who may disturb, which all who can be disturbed name
@@ -23,6 +24,7 @@ class Whole(Protocol):
     threads: List[Thread]
     names: Dict[str, str]
     lacks: bool
+    heaps: Heaps
 
 
 def count_owned(processes: List[Process]) -> None:
@@ -42,14 +44,15 @@ def count_owned(processes: List[Process]) -> None:
 
 def add_disturbers(sketch: Sketch, reasons: Collection[str], moments: Sequence[Whole]) -> None:
     """Adds who may end a wait besides, where it rests on a reason that any thread of the job may break: all of these
-    that aren't at rest. The first such wait has them all, and the others have that one and a few. So all become unknown
-    if anybody isn't stuck, and many take linear time."""
+    that aren't at rest, but where the heap shows who may. The first such wait has them all, and the others have that
+    one and a few. So all become unknown if anybody isn't stuck, and many take linear time."""
     frail = [it for it in sketch.processes if it.kind in (ANY, ALL) and not set(reasons).isdisjoint(it.because)]
     new = newcomer(moments) if frail else None
     if new is not None:
         for process in frail:
             process.become_unknown(f"{shown(new)}, which came after the first state, may end its wait too")
             process.proposal = "none"
+    frail = [it for it in frail if not all(it.name in moment.heaps.bounded for moment in moments)]
     names = disturbers(sketch, moments) if frail and new is None else []
     for process in frail if names else []:
         some = names if process is frail[0] else [*names[:FEW], frail[0].name]
