@@ -22,7 +22,8 @@ from dataclasses import dataclass
 from typing import Any, Callable, Dict, Iterable, Iterator, List, NamedTuple, Optional, Sequence, Set, Tuple
 
 # The classes whose objects are kept, also those of classes that derive from them, and which fields of each.
-THREAD, TASK, TIMED, SYNC, HOLDS, ENTRY, WORKER, POOL, QUEUE, NODE, FUTURE, STEP, SUPPLY, RUN, PART, MUTEX = GROUPS = (
+(THREAD, TASK, TIMED, SYNC, HOLDS, ENTRY, WORKER, POOL, QUEUE, NODE, FUTURE, STEP, SUPPLY, RUN, PART, MUTEX,
+ ADAPTER) = GROUPS = (
     "java/lang/Thread", "java/util/concurrent/FutureTask", "java/util/TimerTask",
     "java/util/concurrent/locks/ReentrantReadWriteLock$Sync",
     "java/util/concurrent/locks/ReentrantReadWriteLock$Sync$HoldCounter", "java/lang/ThreadLocal$ThreadLocalMap$Entry",
@@ -30,16 +31,18 @@ THREAD, TASK, TIMED, SYNC, HOLDS, ENTRY, WORKER, POOL, QUEUE, NODE, FUTURE, STEP
     "java/util/concurrent/LinkedBlockingQueue", "java/util/concurrent/LinkedBlockingQueue$Node",
     "java/util/concurrent/CompletableFuture", "java/util/concurrent/CompletableFuture$Completion",
     "java/util/concurrent/CompletableFuture$AsyncSupply", "java/util/concurrent/CompletableFuture$AsyncRun",
-    "java/util/concurrent/CountedCompleter", "java/util/concurrent/locks/ReentrantLock$Sync")
+    "java/util/concurrent/CountedCompleter", "java/util/concurrent/locks/ReentrantLock$Sync",
+    "java/util/concurrent/Executors$RunnableAdapter")
 FIELDS = {
-    THREAD: ("tid", "eetop", "parkBlocker"), TASK: ("state", "runner", "period", "this$0"),
+    THREAD: ("tid", "eetop", "parkBlocker"), TASK: ("state", "runner", "period", "this$0", "callable"),
     TIMED: ("state", "period"),
     SYNC: ("state", "firstReader", "firstReaderHoldCount", "readHolds", "exclusiveOwnerThread"),
     HOLDS: ("count", "tid"),
     ENTRY: ("referent", "value"), WORKER: ("this$0", "thread"),
     POOL: ("workQueue", "corePoolSize", "maximumPoolSize"), QUEUE: ("head", "capacity"), NODE: ("item", "next"),
     FUTURE: ("result",), STEP: ("dep", "src", "executor", "snd"), SUPPLY: ("dep",), RUN: ("dep",),
-    PART: ("completer", "spliterator"), MUTEX: ("state", "exclusiveOwnerThread")}
+    PART: ("completer", "spliterator"), MUTEX: ("state", "exclusiveOwnerThread"),
+    ADAPTER: ("task",)}
 MOST = 300_000  # objects of one group that are kept; with more, what rests on them isn't printed
 # References that are looked through, objects on paths, looks through all references, and threads in all lists: with
 # more it isn't printed who reaches what.
@@ -47,11 +50,12 @@ MOST_REFERENCES, MOST_ON_PATHS, MOST_SWEEPS, MOST_LISTED = 50_000_000, 20_000, 1
 STRIDE = 1 << 17  # bytes of a heap dump whose references are looked through together
 UNBOUNDED, SCHEDULED = 2 ** 31 - 1, 1
 SHOWN = 12  # frames of a row
-STEPS = 100  # futures of a chain
+STEPS = 100  # futures of a chain, and tasks whose classes are looked for
 FREED = 1 << 26  # bytes after which what was read leaves the memory
 JOIN, AWAIT, GET = ("java.lang.Thread.join", "java.util.concurrent.FutureTask.awaitDone",
                     "java.util.concurrent.CompletableFuture.waitingGet")
 POOL_ENDS, TIMER = "java.util.concurrent.ThreadPoolExecutor.awaitTermination", "java.util.TimerThread.mainLoop"
+SCHEDULER = "java/util/concurrent/ScheduledThreadPoolExecutor"
 SCHEDULES = "java.util.concurrent.ScheduledThreadPoolExecutor$DelayedWorkQueue.take"
 LATCH = "java.util.concurrent.CountDownLatch.await"
 LOCKS = "java.util.concurrent.locks.ReentrantLock.lock"
@@ -85,6 +89,7 @@ OF_ALL, OF_NATIVES = (0x01, 0xFF), (0x02, 0x04, 0x06)  # roots of the JVM's, and
 ROOTS = {0x01: 16, 0x02: 16, LOCAL: 16, 0x04: 12, 0x05: 8, 0x06: 12, 0x07: 8, OF_THREAD: 16, 0xFF: 8}
 REFERENCE = 2
 WIDTHS = {REFERENCE: 8, 4: 1, 5: 2, 6: 4, 7: 8, 8: 1, 9: 2, 10: 4, 11: 8}
+LETTERS = {REFERENCE: "L", 4: "Z", 5: "C", 6: "F", 7: "D", 8: "B", 9: "S", 10: "I", 11: "J"}
 FORMATS = {REFERENCE: struct.Struct(">Q"), 10: struct.Struct(">i"), 11: struct.Struct(">q")}
 RECORD, NUMBER, IDENTITY = struct.Struct(">BII"), struct.Struct(">I"), struct.Struct(">Q")
 HEAD = struct.Struct(">B12xQI")  # of an object: its tag, its class and size; of an array its length, and what follows
@@ -334,6 +339,22 @@ class Heap:
                 at += WIDTHS[width]
         return Layout(group, [own.get(name) or below.get(name) for name in FIELDS[group]])
 
+    def kind_of(self, identity: int) -> int:
+        """Returns the class of an object, which is looked for if it isn't kept, or 0 if it isn't found."""
+        mark = bytes([INSTANCE]) + IDENTITY.pack(identity)
+        at = self.data.find(mark) if identity not in self.kinds else -1
+        while 0 <= at <= len(self.data) - HEAD.size:
+            _, kind, size = HEAD.unpack_from(self.data, at)
+            if kind in self.classes and size == sum(
+                    WIDTHS[width] for it in self.lineage(kind) for _, width in self.classes[it][1]):
+                return int(kind)
+            at = self.data.find(mark, at + 1)
+        return self.kinds.get(identity, 0)
+
+    def letters_of(self, kind: int) -> str:
+        """Returns of which kinds the fields of a class are, in the order of the alphabet: 'L' of a reference."""
+        return "".join(sorted(LETTERS[width] for it in self.lineage(kind) for _, width in self.classes[it][1]))
+
     def text(self, identity: int) -> str:
         at, length = self.texts.get(identity, (0, 0))
         return self.data[at:at + length].decode(errors="backslashreplace")
@@ -536,7 +557,8 @@ class Waits:
             waiting.union(filter(None, self.at.values()), parts))
         for thread in self.threads.values():
             row = self.row_of(thread)
-            some = self.reaching(thread) if is_known and thread.identity in waiting else None
+            is_meant = thread.identity in waiting and self.at[thread.identity] not in self.found[THREAD]
+            some = self.reaching(thread) if is_known and is_meant else None  # (the end of a thread ends a wait at it)
             if some is not None and not row and self.at[thread.identity] and not thread.top(GETS_TASK):
                 row = {"waits": "reach", "for": some}
             elif some is not None and row:
@@ -601,7 +623,7 @@ class Waits:
             pools = thread.objects_in(POOL_ENDS, self.found[POOL])
             return {"waits": "pool", "for": self.workers(*pools)} if len(pools) == 1 else {}
         if thread.top(TIMER) or thread.top(SCHEDULES):
-            return {"waits": "timer", "for": []} if self.is_periodic(thread) else {}
+            return {"waits": "timer", "for": [], **self.tasks_of(thread)} if self.is_periodic(thread) else {}
         if thread.top(GET):
             futures = thread.objects_in(GET, self.found[FUTURE])
             return self.future(thread, next(iter(futures))) if len(futures) == 1 else {}
@@ -638,7 +660,7 @@ class Waits:
 
     def task(self, thread: Thread) -> Row:
         """Returns who runs a task, or the threads of the pool in whose queue it stands."""
-        state, runner, _, _ = self.found[TASK][thread.blocker]
+        state, runner = self.found[TASK][thread.blocker][:2]
         if runner in self.threads:
             but = [thread, self.threads[runner]]
             return {"waits": "task", "for": [self.threads[runner].label], "object": f"{thread.blocker:#x}",
@@ -664,11 +686,33 @@ class Waits:
     def is_periodic(self, thread: Thread) -> bool:
         """Whether all that a thread has to do later it does again and again: the tasks of its pool, or of all timers.
         """
-        pools = {pool for pool, it in self.found[WORKER].values() if it == thread.identity}
-        tasks = [(state, period) for state, _, period, pool in self.found[TASK].values() if not state and pool in pools]
+        periods = [self.found[TIMED if thread.top(TIMER) else TASK][it][1 if thread.top(TIMER) else 2]
+                   for it in self.to_do(thread)]
+        return periods != [] and all(periods)
+
+    def to_do(self, thread: Thread) -> List[int]:
+        """Returns what a thread has to do later: the tasks of its pool, or of all timers."""
+        pools = self.pools_of(thread)
         if thread.top(TIMER):
-            tasks = [(state, period) for state, period in self.found[TIMED].values() if state == SCHEDULED]
-        return tasks != [] and all(period for _, period in tasks)
+            return [it for it, (state, _) in self.found[TIMED].items() if state == SCHEDULED]
+        return [it for it, (state, _, _, pool, _) in self.found[TASK].items() if not state and pool in pools]
+
+    def pools_of(self, thread: Thread) -> Set[int]:
+        return {pool for pool, it in self.found[WORKER].values() if it == thread.identity}
+
+    def tasks_of(self, thread: Thread) -> Row:
+        """Returns the methods that run what a thread has to do later, as 'Job$$Lambda$7+0x1f.run(LI)', with the kinds
+        of what a lambda has, if no class but the JDK's own calls them."""
+        is_timer, works = thread.top(TIMER), self.to_do(thread)
+        runners = [] if is_timer else [self.heap.kinds[it] for it in (*works, *self.pools_of(thread))]
+        calls = [(it, "run") if is_timer else (self.found[TASK][it][4], "call") for it in works]
+        calls = [(self.found[ADAPTER][it][0], "run") if it in self.found[ADAPTER] else (it, name) for it, name in calls]
+        is_plain = all(self.heap.name_of(it).startswith(SCHEDULER) for it in runners)
+        if not is_plain or not 0 < len(calls) <= STEPS or {ADAPTER, TASK, TIMED, WORKER} & self.heap.over:
+            return {}
+        kinds = {(self.heap.kind_of(it or 0), name) for it, name in calls}
+        named = sorted(f"{self.heap.name_of(it)}.{name}({self.heap.letters_of(it)})" for it, name in kinds)
+        return {"tasks": named} if all(it for it, _ in kinds) else {}
 
     def is_for_hook(self, at: int) -> bool:
         """Whether the work of a thread that is started once the JVM ends has a latch itself, so that it opens it."""
