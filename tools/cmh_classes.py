@@ -1,0 +1,348 @@
+"""Reads the class files of a JVM that runs: from the folders and archives of its class path, as `cmh_code.py` follows
+them. Where a class may come from elsewhere, or has changed since, it raises Fault. It runs `jcmd`, and only reads.
+"""
+from __future__ import annotations
+
+import os
+import re
+import stat
+import struct
+import subprocess
+import time
+import zipfile
+from typing import Any, Dict, Iterator, List, NamedTuple, Set, Tuple
+
+MOST_FILES = 30_000  # on the class path, with its folders
+ABOUT = "META-INF/MANIFEST.MF"
+SLACK = 0.05  # seconds by which a file may seem newer than the JVM's start, which is counted in hundredths
+# The loaders of the JDK's own.
+LOADER = re.compile(r'<bootstrap>|"(?:platform|app)", jdk\.internal\.loader\.ClassLoaders\$\w+'
+                    r"|(?:jdk\.internal|sun)\.reflect\.DelegatingClassLoader.*")
+# Settings by which classes come from elsewhere than the class path, or are changed.
+ELSEWHERE = re.compile(r"jdk\.module\.(?:path|main|patch\..*|upgrade\.path)|java\.system\.class\.loader"
+                       r"|jdk\.boot\.class\.path\.append|java\.(?:ext|endorsed)\.dirs")
+CHANGES = re.compile(r"-javaagent|-agent(?:lib|path)|-Xrun|-Xbootclasspath|--patch-module"
+                     r"|-Djava\.security\.manager")
+LAMBDAS = "java/lang/invoke/LambdaMetafactory"
+TYPE = re.compile(r"\[*(?:[BCDFIJSZV]|L[^;]+;)")
+# Sizes of constants by their tags, and the lengths of instructions; 0 where that stands in the instruction.
+SIZES = {3: 4, 4: 4, 5: 8, 6: 8, 7: 2, 8: 2, 9: 4, 10: 4, 11: 4, 12: 4, 15: 3, 16: 2, 17: 4, 18: 4, 19: 2, 20: 2}
+LENGTHS = [1] * 202
+for _length, _codes in ((2, (16, 18, *range(21, 26), *range(54, 59), 169, 188)), (0, (170, 171, 196)), (4, (197,)),
+                        (3, (17, 19, 20, 132, *range(153, 169), *range(178, 185), 187, 189, 192, 193, 198, 199)),
+                        (5, (185, 186, 200, 201))):
+    for _code in _codes:
+        LENGTHS[_code] = _length
+BRANCHES, FAR = {*range(153, 169), 198, 199}, {200, 201}
+AASTORE, GETSTATIC, PUTSTATIC, GETFIELD, PUTFIELD = 83, 178, 179, 180, 181
+VIRTUAL, SPECIAL, STATIC, INTERFACE, DYNAMICALLY, NEW, CAST = 182, 183, 184, 185, 186, 187, 192
+BY_HANDLE = {5: VIRTUAL, 6: STATIC, 7: SPECIAL, 8: SPECIAL, 9: INTERFACE}
+IS_STATIC, IS_FINAL, IS_NATIVE, IS_INTERFACE, IS_ABSTRACT = 8, 16, 0x100, 0x200, 0x400
+U2, U4, S2, S4 = (struct.Struct(it) for it in (">H", ">I", ">h", ">i"))
+
+
+class Fault(Exception):
+    """Nothing is known of any thread, or of one."""
+
+
+# What is raised by a file that isn't as expected.
+BROKEN = (Fault, ValueError, KeyError, IndexError, OSError, RecursionError, struct.error, zipfile.BadZipFile)
+
+
+class Call(NamedTuple):
+    """What an instruction calls: by which one, of which class, by which name and types."""
+
+    how: int
+    owner: str
+    name: str
+    types: str
+
+
+class Lambda(NamedTuple):
+    """A lambda that is made: the method of its interface, that interface, what it calls, and of which kinds the values
+    are that it takes with it, in the order of the alphabet: 'L' of a reference."""
+
+    name: str
+    of: str
+    call: Call
+    letters: str
+
+
+class Method(NamedTuple):
+    """A method of the program's. One that is abstract or native has no code."""
+
+    owner: str
+    name: str
+    types: str
+    flags: int
+    code: bytes
+
+
+class ClassFile:
+    """A class file: its own name, the classes from which it derives, its methods, and the lambdas that it makes."""
+
+    def __init__(self, data: bytes) -> None:
+        self.data, self.pool = data, [(0, 0)]
+        if data[:4] != b"\xca\xfe\xba\xbe":
+            raise Fault("this is no class file")
+        at, number = 10, self.u2(8)
+        while len(self.pool) < number:
+            tag = data[at]
+            self.pool.append((tag, at + 1))
+            self.pool += [(0, 0)] * (tag in (5, 6))
+            at += 3 + self.u2(at + 1) if tag == 1 else 1 + SIZES[tag]
+        self.is_interface = bool(self.u2(at) & IS_INTERFACE)
+        self.name, above = self.text(self.u2(at + 2)), self.u2(at + 4)
+        self.above = [self.text(it) for it in (above, *self.numbers(at + 6)) if it]
+        at += 8 + 2 * self.u2(at + 6)
+        self.finals: Set[str] = set()
+        self.fields: List[str] = []
+        self.methods: Dict[Tuple[str, str], Method] = {}
+        self.makers: List[Tuple[int, List[int]]] = []
+        at = self.read_members(at, self.add_field)
+        at = self.read_members(at, self.add_method)
+        for name, there in self.attributes(at):
+            if name == "BootstrapMethods":
+                self.read_makers(there)
+
+    def u2(self, at: int) -> int:
+        number: int = U2.unpack_from(self.data, at)[0]
+        return number
+
+    def numbers(self, at: int) -> List[int]:
+        """Returns numbers before which their count stands."""
+        return [self.u2(at + 2 + 2 * it) for it in range(self.u2(at))]
+
+    def text(self, index: int) -> str:
+        """Returns a text, or that of a class, or of what has one alone."""
+        tag, at = self.pool[index]
+        return self.data[at + 2:at + 2 + self.u2(at)].decode(errors="replace") if tag == 1 else self.text(self.u2(at))
+
+    def pair(self, index: int) -> Tuple[int, int]:
+        """Returns the two numbers of a constant."""
+        at = self.pool[index][1]
+        return self.u2(at), self.u2(at + 2)
+
+    def call(self, how: int, index: int) -> Call:
+        """Returns a method or a field. What is called dynamically has the number of its maker in place of a class."""
+        owner, what = self.pair(index)
+        name, types = map(self.text, self.pair(what))
+        return Call(how, str(owner) if how == DYNAMICALLY else self.text(owner), name, types)
+
+    def attributes(self, at: int) -> Iterator[Tuple[str, int]]:
+        """Yields attributes, each with where it begins, and at last where they end, without a name."""
+        number = self.u2(at)
+        at += 2
+        for _ in range(number):
+            yield self.text(self.u2(at)), at + 6
+            at += 6 + U4.unpack_from(self.data, at + 2)[0]
+        yield "", at
+
+    def read_members(self, at: int, add: Any) -> int:
+        """Adds fields or methods, and returns where they end."""
+        number = self.u2(at)
+        at += 2
+        for _ in range(number):
+            parts = dict(self.attributes(at + 6))
+            add(self.u2(at), self.text(self.u2(at + 2)), self.text(self.u2(at + 4)), parts.get("Code", 0))
+            at = parts[""]
+        return at
+
+    def add_field(self, flags: int, name: str, types: str, _: int) -> None:
+        self.finals.update([name] if flags & IS_FINAL else [])
+        self.fields += [] if flags & IS_STATIC else [types]
+
+    def add_method(self, flags: int, name: str, types: str, at: int) -> None:
+        length = U4.unpack_from(self.data, at + 4)[0] if at else 0
+        self.methods[name, types] = Method(self.name, name, types, flags, self.data[at + 8:at + 8 + length])
+
+    def read_makers(self, at: int) -> None:
+        number = self.u2(at)
+        at += 2
+        for _ in range(number):
+            self.makers.append((self.u2(at), self.numbers(at + 2)))
+            at += 4 + 2 * self.u2(at + 2)
+
+    def handle(self, index: int) -> Call:
+        """Returns what a handle calls."""
+        at = self.pool[index][1]
+        if self.data[at] not in BY_HANDLE:
+            raise Fault("a handle of a field")
+        return self.call(BY_HANDLE[self.data[at]], self.u2(at + 1))
+
+    def made(self, call: Call) -> Tuple[str, List[int]]:
+        """Returns the class that makes what is called dynamically, and what that is given."""
+        handle, given = self.makers[int(call.owner)]
+        return self.handle(handle).owner, given
+
+    def lambdas(self) -> Iterator[Lambda]:
+        """Yields all lambdas that the class makes, whether some code of it does so or not."""
+        for index, (tag, _) in enumerate(self.pool):
+            call = self.call(DYNAMICALLY, index) if tag == 18 else None
+            if call is not None and self.made(call)[0] == LAMBDAS:
+                yield self.lambda_of(call)
+
+    def lambda_of(self, call: Call) -> Lambda:
+        taken = [it[0].replace("[", "L") for it in TYPE.findall(call.types.partition(")")[0][1:])]
+        interface, called = call.types.rpartition(")L")[2].rstrip(";"), self.handle(self.made(call)[1][1])
+        return Lambda(call.name, interface, called, "".join(sorted(taken)))
+
+    def named(self) -> Iterator[str]:
+        """Yields all methods that the class names, as 'java/lang/System.exit'."""
+        for index, (tag, _) in enumerate(self.pool):
+            if tag in (10, 11):
+                call = self.call(0, index)
+                yield f"{call.owner}.{call.name}"
+
+
+def steps(code: bytes) -> Iterator[Tuple[int, int, List[int]]]:
+    """Yields where each instruction stands, which it is, and to where it may jump."""
+    at = 0
+    while at < len(code):
+        what = code[at]
+        targets, length = [], LENGTHS[what]
+        if what in BRANCHES:
+            targets = [at + S2.unpack_from(code, at + 1)[0]]
+        elif what in FAR:
+            targets = [at + S4.unpack_from(code, at + 1)[0]]
+        elif not length:
+            targets, length = switch(code, at) if what != 196 else ([], 6 if code[at + 1] == 132 else 4)
+        if length <= 0:
+            raise Fault("a switch has no length")
+        yield at, what, targets
+        at += length
+
+
+def switch(code: bytes, at: int) -> Tuple[List[int], int]:
+    """Returns to where a switch may jump, and its length. One by a table has its bounds, the other a count of pairs."""
+    begin, is_table = at + 4 - at % 4, code[at] == 170
+    low, high = struct.unpack_from(">ii", code, begin + 4) if is_table else (1, S4.unpack_from(code, begin + 4)[0])
+    first, width = (begin + 12, 4) if is_table else (begin + 8, 8)
+    jumps = [begin, *(first + width * (it + 1) - 4 for it in range(high - low + 1))]
+    return [at + S4.unpack_from(code, it)[0] for it in jumps], first + width * (high - low + 1) - at
+
+
+# What a process has
+
+
+def ask(pid: str, what: str) -> str:
+    """Returns what a JVM says to a command."""
+    try:
+        ran = subprocess.run(["jcmd", pid, what], stdout=subprocess.PIPE, stderr=subprocess.DEVNULL, timeout=60,
+                             check=False)
+    except (OSError, subprocess.TimeoutExpired) as error:
+        raise Fault(f"jcmd {what}: {error}") from error
+    said = ran.stdout.decode(errors="backslashreplace")
+    if ran.returncode or "Unknown diagnostic command" in said:
+        raise Fault(f"this JVM doesn't say {what}")
+    return said
+
+
+def settings_of(pid: str) -> Dict[str, str]:
+    """Returns the settings of a JVM that runs no code but that of its class path, as far as it shows."""
+    rows = [it.partition("=") for it in ask(pid, "VM.system_properties").split("\n") if "=" in it]
+    settings = {name: re.sub(r"\\(u[0-9A-Fa-f]{4}|.)", unescaped, value) for name, _, value in rows}
+    odd = next(filter(ELSEWHERE.fullmatch, settings), "")
+    loaders = re.findall(r"\+-- (.*)", ask(pid, "VM.classloaders"))
+    with open(f"/proc/{pid}/maps", encoding="utf-8", errors="backslashreplace") as file:
+        is_changed = "libinstrument" in file.read() or CHANGES.search(ask(pid, "VM.command_line")) is not None
+    if odd or is_changed or not loaders or not all(map(LOADER.fullmatch, loaders)):
+        raise Fault(f"classes may come from elsewhere than its class path: {odd or 'by an agent or another loader'}")
+    if any(os.readlink(f"/proc/{pid}/{it}") != os.readlink(f"/proc/self/{it}") for it in ("ns/mnt", "root")):
+        raise Fault("its files are those of another container")
+    return settings
+
+
+def unescaped(found: "re.Match[str]") -> str:
+    return chr(int(found[1][1:], 16)) if len(found[1]) > 1 else found[1]
+
+
+def start_of(pid: str) -> float:
+    """Returns when a process was started, in seconds."""
+    with open(f"/proc/{pid}/stat", encoding="utf-8", errors="backslashreplace") as file:
+        ticks = int(file.read().rpartition(")")[2].split()[19])
+    return time.time() - time.clock_gettime(time.CLOCK_BOOTTIME) + ticks / os.sysconf("SC_CLK_TCK")
+
+
+class Path:
+    """The class path of a process: its folders and archives, none of which has changed since the process began. `here`
+    is the folder in which it was started."""
+
+    def __init__(self, settings: Dict[str, str], here: str, start: float) -> None:
+        self.start, self.version = start, int(settings["java.specification.version"])
+        self.here, self.entries = here, settings["java.class.path"].split(":")
+        self.seen: Set[str] = set()
+        self.number = 0
+
+    def files(self) -> Iterator[Tuple[str, bytes]]:
+        """Yields all class files, in the order in which the JVM looks for them, each with the class that it has to have
+        by its name."""
+        for entry in self.entries:
+            yield from self.files_at(os.path.join(self.here, entry))
+
+    def files_at(self, path: str) -> Iterator[Tuple[str, bytes]]:
+        real = os.path.realpath(path)
+        if real in self.seen:
+            return
+        self.seen.add(real)
+        self.check(real)
+        yield from self.in_folder(real) if os.path.isdir(real) else self.in_archive(real)
+
+    def check(self, path: str) -> None:
+        """Raises Fault if a file isn't there, or has changed."""
+        found = os.stat(path)
+        if not stat.S_ISDIR(found.st_mode) and max(found.st_mtime, found.st_ctime) > self.start + SLACK:
+            raise Fault(f"{path} is newer than the process")
+        self.count()
+
+    def count(self) -> None:
+        self.number += 1
+        if self.number > MOST_FILES:
+            raise Fault(f"its class path has more than {MOST_FILES:,} classes")
+
+    def in_folder(self, path: str) -> Iterator[Tuple[str, bytes]]:
+        for folder, folders, names in os.walk(path):
+            if any(os.path.islink(f"{folder}/{it}") for it in folders):
+                raise Fault(f"{folder} has a link to a folder")
+            self.count()
+            for it in (f"{folder}/{name}" for name in sorted(names) if name.endswith(".class")):
+                self.check(it)
+                with open(it, "rb") as file:
+                    yield os.path.relpath(it, path)[:-6], file.read()
+
+    def in_archive(self, path: str) -> Iterator[Tuple[str, bytes]]:
+        with zipfile.ZipFile(path) as archive:
+            names = archive.namelist()
+            about = archive.read(ABOUT).decode(errors="replace") if ABOUT in names else ""
+            about = re.sub(r"\r?\n ", "", about)
+            is_multiple = re.search(r"(?im)^Multi-Release: *true", about) is not None
+            rows = [(*version_of(name), name) for name in names if name.endswith(".class")]
+            for version, short, name in sorted(rows, key=lambda row: -row[0]):
+                self.count()
+                if not version or is_multiple and version <= self.version:
+                    yield short, archive.read(name)
+        more = re.search(r"(?im)^Class-Path: *(.*)", about)
+        if len(set(names)) < len(names) or more and re.search("[:%]", more[1]):
+            raise Fault(f"{path} has a file twice, or names others by an address")
+        for it in more[1].split() if more else ():
+            yield from self.files_at(os.path.join(os.path.dirname(path), it))
+
+
+def version_of(name: str) -> Tuple[int, str]:
+    """Returns for which version of the JDK on a class of an archive is, or 0 if it is for all, and its own name."""
+    found = re.match(r"META-INF/versions/(\d+)/", name)
+    return (int(found[1]), name[found.end():-6]) if found else (0, name[:-6])
+
+
+def classes_of(pid: str) -> Iterator[Tuple[str, bytes]]:
+    """Yields the names and the class files of a process that runs no code but that of its class path."""
+    settings, here = settings_of(pid), os.readlink(f"/proc/{pid}/cwd")
+    if os.path.realpath(settings["user.dir"]) != here:
+        raise Fault("it isn't known in which folder it was started")
+    return Path(settings, here, start_of(pid)).files()
+
+
+def loaded_by(pid: str) -> List[str]:
+    """Returns the names of the classes that a process has loaded, without the addresses of those that were made."""
+    lines = (re.sub(r"^[|\s-]+", "", it) for it in ask(pid, "VM.class_hierarchy").split("\n")[1:])
+    return [it.partition("/")[0].replace(".", "/") for it in lines if it]
