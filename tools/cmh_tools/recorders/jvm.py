@@ -21,13 +21,14 @@ from ..sketch import (COMPLETE, LIMIT, REST, RUNS, SYSTEM, UNKNOWN, Process, Ske
                       unknown, waits_for_any)
 from . import State
 from .base import Moment, Premise, Recorder
+from .jvm_code import CODE, SENTENCE, Code, read_code
 from .jvm_dumps import read_dumps
 from .jvm_frames import (AGAIN, BARRIER, CLEANER, COMPUTES, CONDITION, FUTURE, HAS_TIMER, INTERRUPTIBLY, INTERRUPTS,
                          LATCH, LIMITED, LIMITS_FUTURES, LONG, MEETS, NEEDS_ALL, OF_ITEMS, OF_LOCKS, OF_QUEUES, POOLED,
                          POOLS_OWN, READS, READS_PIPE, REENTRANT, SLEEP, SOCKETS, TASK, WORKER, YIELDS, Place,
                          caller_of, is_at_inbox, is_for_outside, is_in, is_like, is_of_jvm, looks_on, own_of, place_of,
                          short, tries_again)
-from .jvm_heap import REACHES, Heap, Heaps, is_between, read_heap
+from .jvm_heap import Heap, Heaps, is_between, read_heap
 from .jvm_heap import PREMISES as OF_HEAPS
 from .jvm_locks import Locks, monitors_of, objects_of
 from .jvm_text import PARKED, Dump, Thread, stack_of
@@ -113,16 +114,19 @@ class JvmRecorder(Recorder):
         QUEUED: Premise("one that waits to read with a lock that nobody owns is behind one that waits to write"),
         TIMED: Premise("a thread that was woken has used 0.01 ms of processor time or more"),
         **{name: Premise(sentence, interrupter) for name, sentence in OF_HEAPS.items()},
+        CODE: Premise(SENTENCE),
     }
 
     def __init__(self) -> None:
         self.dumps: List[Dump] = []
         self.names: Dict[str, str] = {}
         self.heap: Optional[Heap] = None
+        self.code: Optional[Code] = None
 
     def read(self, state: State) -> List[Reading]:
         found = read_dumps(state.path, state.text)
         self.heap = read_heap(state.path, state.text) or self.heap
+        self.code = read_code(state.path, state.text) or self.code
         self.dumps += found
         return [Reading(dump.path, self.NAME, [dump], missing_of(dump), WHOLE, machine=dump.machine, time=dump.time)
                 for dump in found]
@@ -139,6 +143,9 @@ class JvmRecorder(Recorder):
             self.dumps[0].warnings.append(f"{self.heap.at}: the heap wasn't dumped between the two states, so nothing "
                                           "is taken from it: take-jvm --heap does that")
             self.heap = None
+        if self.code and self.code.warning:
+            self.dumps[0].warnings.append(f"{self.code.at}: {self.code.warning}")
+        self.code = self.code if self.heap else None
 
     def prepare(self, moment: Threads) -> None:
         moment.dump, = moment.rows()
@@ -158,7 +165,7 @@ class JvmRecorder(Recorder):
         moment.lacks = any(reading.missing for reading in moment.readings)
         moment.waited = {at for it in moment.threads if it.state == "WAITING" and place_of(it).has(OF_ITEMS)
                          for at in moment.locks.objects.get(it.key, [])}
-        moment.heaps = Heaps(self.heap, moment.threads, self.names, moment.locks)
+        moment.heaps = Heaps(self.heap, self.code, moment.threads, self.names, moment.locks)
         moment.moved = {at for it in moment.threads if not (it.has_stood and REENTRANT.fullmatch(it.parked_class))
                         for at in moment.locks.objects.get(it.key, [])}
         moment.shows_owners = (moment.counts and not moment.lacks and any(it.owned for it in moment.threads)
@@ -278,9 +285,10 @@ class JvmRecorder(Recorder):
                           "-l` shows that")
         reach = moment.heaps.reach_of(thread)
         if reach is not None and (LATCH.fullmatch(place.call) or not NEEDS_ALL.fullmatch(place.call)):
+            bound, because = moment.heaps.bound_of(thread, TASK.fullmatch(place.call) is not None)
             return unknown(name, f"{what}: the heap shows who has a reference to it, and not who ends this wait",
                            candidates=[*moment.heaps.in_order([*reach, name]), COMPLETE],
-                           bound=moment.heaps.bound_of(thread) or None, bound_by=[premise(REACHES)])
+                           bound=bound or None, bound_by=list(map(premise, because)))
         workers = moment.workers if TASK.fullmatch(place.call) and not FUTURE.fullmatch(place.call) else []
         return unknown(name, f"{what}: the state doesn't show what ends this wait", candidates=workers)
 

@@ -5,7 +5,6 @@ between two states shows what a thread waits for that has stood at one wait from
 """
 from __future__ import annotations
 
-import json
 import re
 from dataclasses import dataclass, field
 from typing import Any, Dict, List, Optional, Set, Tuple
@@ -13,19 +12,18 @@ from typing import Any, Dict, List, Optional, Set, Tuple
 from ..files import Refusal, shown
 from ..sketch import COMPLETE, SYSTEM, Process, premise, unknown, waits_for_all, waits_for_any
 from .base import misfits
+from .jvm_code import CODE, Code
 from .jvm_frames import FINDS_THREADS, is_in, is_of_jvm
 from .jvm_locks import Locks
+from .jvm_rows import LABEL, Label, frames_of, key_of, label_of, plain, trees_in
 from .jvm_text import Dump, Thread, stack_of
 
 MARK = "# cmh heap "
-BUILT = re.compile(r"\$\$Lambda.*(?=\.)|[+/]0x[0-9a-f]+(?=\.)")  # what jstack and a heap dump write differently
-LABEL = [int, re.compile(r"0x[0-9a-f]{1,16}")]
 KINDS = TASK, QUEUED, READERS, JOIN, FUTURE, FUTURES, SUPPLIED, POOL, REACH, HOOK, TIMER, STREAM, LOST = (
     "task", "queued", "readers", "join", "future", "futures", "supplied", "pool", "reach", "hook", "timer", "stream",
     "lost")
 ROW = {"thread": LABEL, "frames": [str], "waits": re.compile("|".join(KINDS)), "for": [LABEL], "object?": str,
-       "is_full?": bool, "is_direct?": bool, "besides?": [LABEL], "reach?": [LABEL]}
-Label = Tuple[int, int]
+       "is_full?": bool, "is_direct?": bool, "besides?": [LABEL], "reach?": [LABEL], "tasks?": [str]}
 CANCELS, POOLS, COMPLETES, REACHES = "cancels", "pools", "completes", "reaches"
 PREMISES = {
     CANCELS: "nobody cancels a task for which a thread waits, nor interrupts a thread that waits for another one",
@@ -69,55 +67,28 @@ class Heap:
 
 def read_heap(path: str, text: str) -> Optional[Heap]:
     """Returns the heap of a text, or None if it has none. Raises Refusal if its rows aren't whole."""
-    lines = enumerate(text.split("\n"), 1) if MARK in text else ()
-    rows = [(number, line[len(MARK):]) for number, line in lines if line.startswith(MARK)]
+    rows = trees_in(path, text, MARK, "heap")
     if not rows:
         return None
-    heap = Heap(f"{shown(path)}:{rows[0][0]}")
-    trees = [tree_of(f"{shown(path)}:{number}", line) for number, line in rows]
-    head, end = trees[0], trees[-1]
-    if set(head) != {"version", "time"} or head["version"] != 1 or end != {"end": len(trees) - 2}:
+    heap, head, end = Heap(rows[0][0]), rows[0][1], rows[-1][1]
+    if set(head) != {"version", "time"} or head["version"] != 1 or end != {"end": len(rows) - 2}:
         raise Refusal(f"{heap.at}: rows of the heap are missing, or there are two heaps: take the state anew by "
                       "take-jvm --heap")
     heap.time = head["time"] if isinstance(head["time"], (int, float)) else 0.0
-    for (number, _), row in zip(rows[1:-1], trees[1:-1]):
+    for at, row in rows[1:-1]:
         odd = next(misfits(row, ROW), None)
         if odd is not None:
-            raise Refusal(f"{shown(path)}:{number}: this row of the heap isn't understood at '{shown(odd)}'")
+            raise Refusal(f"{at}: this row of the heap isn't understood at '{shown(odd)}'")
         heap.waits[key_of(row["thread"])] = wait_of_row(row)
     return heap
 
 
-def tree_of(at: str, line: str) -> Dict[str, Any]:
-    try:
-        tree = json.loads(line)
-    except (ValueError, RecursionError) as error:
-        raise Refusal(f"{at}: this row of the heap is no JSON: {shown(str(error))}") from error
-    return tree if isinstance(tree, dict) else {}
-
-
 def wait_of_row(row: Dict[str, Any]) -> Wait:
     whom, besides = (list(map(key_of, row.get(key, []))) for key in ("for", "besides"))
-    frames = [BUILT.sub("", it) for it in row["frames"]]
+    frames = list(map(plain, row["frames"]))
     reach = row["for"] if row["waits"] == REACH else row.get("reach")
     return Wait(row["waits"], frames, whom, besides, row.get("is_full", False), row.get("is_direct", False),
                 None if reach is None else list(map(key_of, reach)))
-
-
-def key_of(label: List[Any]) -> Label:
-    return label[0], int(label[1], 16)
-
-
-def label_of(thread: Thread) -> Optional[Label]:
-    """Returns by what a heap knows a thread, or None if the text doesn't say it."""
-    is_known = thread.number and re.fullmatch(r"0x[0-9a-f]{1,16}", thread.identity)
-    return (int(thread.number or 0), int(thread.identity, 16)) if is_known else None
-
-
-def frames_of(thread: Thread) -> List[str]:
-    """Returns the frames of a thread as rows of a heap have them: those without a line have a negative number there."""
-    return [BUILT.sub("", f"{it.method}:{-3 if it.native else -1 if it.line is None else it.line}")
-            for it in thread.frames]
 
 
 def is_between(heap: Heap, dumps: List[Dump]) -> bool:
@@ -130,8 +101,9 @@ class Heaps:
     """What a heap says of the threads of one state, with the locks there. `there` has these by their labels, `names`
     their names by key, and `bounded` has the names of those of whom it says who else may end their wait."""
 
-    def __init__(self, heap: Optional[Heap], threads: List[Thread], names: Dict[str, str], locks: Locks) -> None:
-        self.heap, self.names, self.locks = heap, names, locks
+    def __init__(self, heap: Optional[Heap], code: Optional[Code], threads: List[Thread], names: Dict[str, str],
+                 locks: Locks) -> None:
+        self.heap, self.code, self.names, self.locks = heap, code, names, locks
         self.threads = {it.key: it for it in threads}
         labels = [(label_of(it), it) for it in threads] if heap else []
         self.there: Dict[Label, Thread] = {label: it for label, it in labels if label}
@@ -160,10 +132,17 @@ class Heaps:
         some = self.enders_of(thread)
         return None if some is None else [self.names[it.key] for it in some if self.labels_of(it) != []]
 
-    def bound_of(self, thread: Thread) -> List[str]:
-        """Returns the names of all who may end the wait of a thread: who have a reference, but for those at what nobody
-        has but they. One that joins another, or waits for a task, goes on without a reference to it."""
-        return [self.names[it.key] for it in self.enders_of(thread) or () if not self.is_lost(it)]
+    def bound_of(self, thread: Thread, is_task: bool) -> Tuple[List[str], List[str]]:
+        """Returns the names of all who may end the wait of a thread, and by which premises: who have a reference, but
+        for those at what nobody has but they, and those whose code ends none. One that joins another, or waits for a
+        task, goes on without a reference to it."""
+        some = [it for it in self.enders_of(thread) or () if not self.is_lost(it)]
+        found = [it for it in some if not self.frees_nobody(it, is_task)]
+        return [self.names[it.key] for it in found], [REACHES, *([CODE] if len(found) < len(some) else [])]
+
+    def frees_nobody(self, thread: Thread, is_task: bool = True) -> bool:
+        """Whether the code of a thread ends nobody's wait, nor that for a task."""
+        return self.code is not None and self.code.frees_nobody(thread, is_task)
 
     def is_lost(self, thread: Thread) -> bool:
         """Whether a thread waits at what nobody else has."""
@@ -216,9 +195,9 @@ class Heaps:
         waits = waits_for_all if wait.kind == FUTURES else waits_for_any
         enders = self.enders_of(thread)
         if enders is not None:
-            because.append(premise(REACHES))
+            because += map(premise, [REACHES, *([CODE] if any(map(self.frees_nobody, enders)) else [])])
             self.bounded.add(name)
-        others = [self.names[it.key] for it in enders or ()]
+        others = [self.names[it.key] for it in enders or () if not self.frees_nobody(it)]
         return waits(name, whom, because, besides=list(dict.fromkeys([*self.names_of(wait.besides), *others])))
 
     def stands(self, thread: Thread) -> bool:

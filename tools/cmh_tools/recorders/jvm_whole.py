@@ -7,7 +7,8 @@ from typing import Collection, Dict, List, Optional, Protocol, Sequence
 
 from ..files import shown
 from ..moments import ONCE
-from ..sketch import ALL, ANY, INNER, REST, RUNS, UNKNOWN, Process, Sketch
+from ..sketch import ALL, ANY, INNER, REST, RUNS, UNKNOWN, Process, Sketch, premise
+from .jvm_code import CODE, SENTENCE
 from .jvm_frames import (CARRIER, CLEANER, ENDS_UNSEEN, FROM_OUTSIDE, HAS_TASK, HAS_TIMER, LIMITED, SHARED_WORKER,
                          has_jobs, is_in, is_inside, is_of_jvm, place_of)
 from .jvm_heap import Heaps
@@ -45,7 +46,8 @@ def count_owned(processes: List[Process]) -> None:
 def add_disturbers(sketch: Sketch, reasons: Collection[str], moments: Sequence[Whole]) -> None:
     """Adds who may end a wait besides, where it rests on a reason that any thread of the job may break: all of these
     that aren't at rest, but where the heap shows who may. The first such wait has them all, and the others have that
-    one and a few. So all become unknown if anybody isn't stuck, and many take linear time."""
+    one and a few. So all become unknown if anybody isn't stuck, and many take linear time. Whose code ends nobody's
+    wait doesn't."""
     frail = [it for it in sketch.processes if it.kind in (ANY, ALL) and not set(reasons).isdisjoint(it.because)]
     new = newcomer(moments) if frail else None
     if new is not None:
@@ -54,9 +56,14 @@ def add_disturbers(sketch: Sketch, reasons: Collection[str], moments: Sequence[W
             process.proposal = "none"
     frail = [it for it in frail if not all(it.name in moment.heaps.bounded for moment in moments)]
     names = disturbers(sketch, moments) if frail and new is None else []
-    for process in frail if names else []:
+    noisy = {moment.names[it.key] for moment in moments for it in moment.threads if not moment.heaps.frees_nobody(it)}
+    quiet = [name for name in names if name != REST and name not in noisy]
+    names = [name for name in names if name not in quiet]
+    sketch.premises.update({CODE: SENTENCE} if quiet else {})
+    for process in frail if names or quiet else []:
         some = names if process is frail[0] else [*names[:FEW], frail[0].name]
         process.besides = list(dict.fromkeys([*process.besides, *some]))
+        process.because = [*process.because, *map(premise, [CODE] if quiet else [])]
 
 
 def disturbers(sketch: Sketch, moments: Sequence[Whole]) -> List[str]:
