@@ -1,8 +1,9 @@
 """Who is stuck by those alone who may end its wait: where a state has all of these, and not which of them will."""
 from __future__ import annotations
 
+from collections import defaultdict
 from dataclasses import replace
-from typing import List, Set
+from typing import Dict, List, Set
 
 from .facts import FREES, Fact, Facts
 from .files import shown
@@ -18,11 +19,28 @@ def take_bounds(sketch: Sketch, facts: Facts) -> None:
     found = {it.name: (it, used_for(it, facts)) for it in sketch.processes if is_bound(it, facts)}
     trial = [bounded(*found[it.name], facts) if it.name in found else it for it in sketch.processes]
     inside = stuck_names(replace(sketch, processes=trial)) if found else set()
+    inside -= resting([it for it in trial if it.name in inside], set(found))
     sketch.processes = [new if new.name in inside else old for old, new in zip(sketch.processes, trial)]
     for name, (_, used) in found.items():
         for fact in used if name in inside else ():
             fact.used = True
             fact.decided.append(name)
+
+
+def resting(stuck: List[Process], found: Set[str]) -> Set[str]:
+    """Returns those of the stuck who may wait for work that nobody has for them: who stand where those do too who have
+    nothing to do, if all for whom they wait, and all who wait for them, do so as well."""
+    rest = {it.name for it in stuck if it.may_rest and it.name in found}
+    beside: Dict[str, Set[str]] = defaultdict(set)
+    for name, other in ((it.name, other) for it in stuck if rest for other in it.whom):
+        beside[name].add(other)
+        beside[other].add(name)
+    awake = [name for name in beside if name not in rest]
+    for name in awake:  # (which grows meanwhile)
+        new = beside[name] & rest
+        rest -= new
+        awake += new
+    return rest
 
 
 def is_bound(process: Process, facts: Facts) -> bool:
