@@ -285,6 +285,8 @@ class Path:
         if real in self.seen:
             return
         self.seen.add(real)
+        self.check_way(path)
+        self.check_way(real)
         self.check(real)
         yield from self.in_folder(real) if os.path.isdir(real) else self.in_archive(real)
 
@@ -295,6 +297,16 @@ class Path:
             raise Fault(f"{path} is newer than the process")
         self.count()
 
+    def check_way(self, path: str) -> None:
+        """Raises Fault if a link or a folder on the way to a file has come there since. What is added to a folder
+        changes both of its times, and to move it one alone."""
+        while path not in ("", "/"):
+            found = os.lstat(path)
+            is_moved = found.st_ctime > self.start + SLACK and found.st_ctime != found.st_mtime
+            if is_moved or stat.S_ISLNK(found.st_mode) and found.st_ctime > self.start + SLACK:
+                raise Fault(f"{path} has come there after the process began")
+            path = os.path.dirname(path)
+
     def count(self) -> None:
         self.number += 1
         if self.number > MOST_FILES:
@@ -304,6 +316,7 @@ class Path:
         for folder, folders, names in os.walk(path):
             if any(os.path.islink(f"{folder}/{it}") for it in folders):
                 raise Fault(f"{folder} has a link to a folder")
+            self.check_way(folder)
             self.count()
             for it in (f"{folder}/{name}" for name in sorted(names) if name.endswith(".class")):
                 self.check(it)

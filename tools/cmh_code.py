@@ -28,7 +28,8 @@ JDK = re.compile(r"(?:java|javax|jdk|sun|com/sun|org/w3c/dom|org/xml/sax|org/iet
 DYNAMIC = re.compile(r"java/lang/reflect/Proxy\..*|java/lang/System\.set(?:Out|Err|SecurityManager)"
                      r"|.*\.define(?:Class|HiddenClass|AnonymousClass)\w*"
                      r"|java/lang/(?:ModuleLayer\..*|ClassLoader\.<init>)"
-                     r"|java/(?:net/URL|security/Secure)ClassLoader\..*|java/util/ServiceLoader\..*")
+                     r"|java/(?:net/URL|security/Secure)ClassLoader\..*|java/util/ServiceLoader\..*"
+                     r"|java/lang/invoke/MethodHandleProxies\..*|javax/management/JMX\..*|java/(?:rmi|beans)/.*")
 # Types of the JDK whose methods no method in HARMLESS calls, though the program has classes and lambdas of them.
 PASSIVE = re.compile(r"java/lang/(?:Object|Record|Enum|Runnable|Cloneable|AutoCloseable|Thread)"
                      r"|java/io/(?:Closeable|Serializable)|com/sun/net/httpserver/\w+"

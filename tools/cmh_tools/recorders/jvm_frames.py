@@ -87,8 +87,9 @@ READS = re.compile(r"ReentrantReadWriteLock\$ReadLock\.lock\w*")
 LATCH = re.compile(r"CountDownLatch\.await")
 # Operations that need all of a group to come to them.
 MEETS = re.compile(r"CyclicBarrier\.await|Phaser\.arriveAndAwaitAdvance")
-# Calls that end once a task has run, and the frames of threads of pools, which run tasks.
+# Calls that end once a task has run, the code of tasks, and the frames of threads of pools, which run tasks.
 TASK = re.compile(r"(?:FutureTask|CompletableFuture|ForkJoinTask)\.(?:get|join)")
+OF_TASKS = re.compile(r"java\.util\.concurrent\.(?:FutureTask|CompletableFuture|ForkJoinTask)\..*")
 POOLED = re.compile(r"java\.util\.concurrent\.(?:ThreadPoolExecutor\$Worker|ForkJoinWorkerThread)\.run")
 BARRIER = re.compile(r"java\.util\.concurrent\.CyclicBarrier\.(?:await|dowait)")
 # Calls that interrupt other threads.
