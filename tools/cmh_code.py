@@ -172,10 +172,11 @@ def is_quiet(what: str, given: List[str]) -> bool:
 
 class Walk:
     """All code that a thread may come to from some methods. It raises Fault where that isn't known to be harmless.
-    `begun` has the classes that are initialised: those whose methods it is in, and from which they derive."""
+    `has_tasks` says that it runs tasks for others, and `begun` has the classes that are initialised: those whose
+    methods it is in, and from which they derive."""
 
-    def __init__(self, program: Program) -> None:
-        self.program = program
+    def __init__(self, program: Program, has_tasks: bool) -> None:
+        self.program, self.has_tasks = program, has_tasks
         self.begun: Set[str] = set()
         self.todo: List[Method] = []
         self.seen: Set[int] = set()
@@ -302,6 +303,10 @@ class Reading:
             raise Fault(f"{self.method.owner}.{self.method.name} may put references where others find them")
 
     def name_class(self, what: int, name: str) -> None:
+        """Takes the name of a class. Who waits for a task gets what that throws, and all that this has."""
+        kinds = self.walk.program.kinds.get(name, ()) if what == NEW and self.walk.has_tasks else ()
+        if any(map(OF_THROWABLES.fullmatch, kinds)):
+            raise Fault(f"{self.method.owner}.{self.method.name} may throw a {name} to others")
         if what == NEW:
             self.walk.initialise(name)
         else:
@@ -367,7 +372,7 @@ def threads_in(text: str) -> Iterator[Thread]:
 
 def walk_of(program: Program, thread: Thread, tasks: List[str]) -> None:
     """Follows the code of a thread. Raises Fault if that isn't known to end nobody's wait."""
-    walk = Walk(program)
+    walk = Walk(program, tasks != [])
     names = [tuple(name.replace(".", "/").rpartition("/")[::2]) for name, _ in thread.frames]
     own = [at for at, (name, _) in enumerate(names) if not JDK.fullmatch(name)]
     if tasks and not own:

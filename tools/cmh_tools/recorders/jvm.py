@@ -289,7 +289,8 @@ class JvmRecorder(Recorder):
             bound, because = moment.heaps.bound_of(thread, place.has(OF_TASKS))
             return unknown(name, f"{what}: the heap shows who has a reference to it, and not who ends this wait",
                            candidates=[*moment.heaps.in_order([*reach, name]), COMPLETE],
-                           bound=bound or None, bound_by=list(map(premise, because)))
+                           bound=None if moment.lacks else bound or None,
+                           bound_by=list(map(premise, because)))
         workers = moment.workers if TASK.fullmatch(place.call) and not FUTURE.fullmatch(place.call) else []
         return unknown(name, f"{what}: the state doesn't show what ends this wait", candidates=workers)
 

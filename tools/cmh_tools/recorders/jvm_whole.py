@@ -54,7 +54,7 @@ def add_disturbers(sketch: Sketch, reasons: Collection[str], moments: Sequence[W
         for process in frail:
             process.become_unknown(f"{shown(new)}, which came after the first state, may end its wait too")
             process.proposal = "none"
-    frail = [it for it in frail if not all(it.name in moment.heaps.bounded for moment in moments)]
+    frail = [it for it in frail if any(moment.lacks or it.name not in moment.heaps.bounded for moment in moments)]
     names = disturbers(sketch, moments) if frail and new is None else []
     noisy = {moment.names[it.key] for moment in moments for it in moment.threads if not moment.heaps.frees_nobody(it)}
     quiet = [name for name in names if name != REST and name not in noisy]
