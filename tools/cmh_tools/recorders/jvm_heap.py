@@ -30,7 +30,7 @@ PREMISES = {
     POOLS: "a task that stands in the queue of a pool is begun by a thread of that pool",
     COMPLETES: "a CompletableFuture is completed by the thread that computes its value",
     REACHES: "a thread that has no reference in the heap to what another one waits at, nor to that thread, doesn't end "
-             "its wait",
+             "its wait: it has no weak one of native code either, nor looks for threads by name or group",
 }
 RESTS_ON = {QUEUED: [POOLS, CANCELS], SUPPLIED: [POOLS, COMPLETES], FUTURE: [COMPLETES], FUTURES: [COMPLETES]}
 
