@@ -23,7 +23,7 @@ from typing import Any, Callable, Dict, Iterable, Iterator, List, NamedTuple, Op
 
 # The classes whose objects are kept, also those of classes that derive from them, and which fields of each.
 (THREAD, TASK, TIMED, SYNC, HOLDS, ENTRY, WORKER, POOL, QUEUE, NODE, FUTURE, STEP, SUPPLY, RUN, PART, MUTEX,
- ADAPTER) = GROUPS = (
+ ADAPTER, GROUP, HOLDER, CONDITION, LONG_CONDITION) = GROUPS = (
     "java/lang/Thread", "java/util/concurrent/FutureTask", "java/util/TimerTask",
     "java/util/concurrent/locks/ReentrantReadWriteLock$Sync",
     "java/util/concurrent/locks/ReentrantReadWriteLock$Sync$HoldCounter", "java/lang/ThreadLocal$ThreadLocalMap$Entry",
@@ -32,9 +32,12 @@ from typing import Any, Callable, Dict, Iterable, Iterator, List, NamedTuple, Op
     "java/util/concurrent/CompletableFuture", "java/util/concurrent/CompletableFuture$Completion",
     "java/util/concurrent/CompletableFuture$AsyncSupply", "java/util/concurrent/CompletableFuture$AsyncRun",
     "java/util/concurrent/CountedCompleter", "java/util/concurrent/locks/ReentrantLock$Sync",
-    "java/util/concurrent/Executors$RunnableAdapter")
+    "java/util/concurrent/Executors$RunnableAdapter", "java/lang/ThreadGroup", "java/lang/Thread$FieldHolder",
+    "java/util/concurrent/locks/AbstractQueuedSynchronizer$ConditionObject",
+    "java/util/concurrent/locks/AbstractQueuedLongSynchronizer$ConditionObject")
 FIELDS = {
-    THREAD: ("tid", "eetop", "parkBlocker"), TASK: ("state", "runner", "period", "this$0", "callable"),
+    THREAD: ("tid", "eetop", "parkBlocker", "holder", "group"),
+    TASK: ("state", "runner", "period", "this$0", "callable"),
     TIMED: ("state", "period"),
     SYNC: ("state", "firstReader", "firstReaderHoldCount", "readHolds", "exclusiveOwnerThread"),
     HOLDS: ("count", "tid"),
@@ -42,7 +45,8 @@ FIELDS = {
     POOL: ("workQueue", "corePoolSize", "maximumPoolSize"), QUEUE: ("head", "capacity"), NODE: ("item", "next"),
     FUTURE: ("result",), STEP: ("dep", "src", "executor", "snd"), SUPPLY: ("dep",), RUN: ("dep",),
     PART: ("completer", "spliterator"), MUTEX: ("state", "exclusiveOwnerThread"),
-    ADAPTER: ("task",)}
+    ADAPTER: ("task",), GROUP: ("parent",), HOLDER: ("group",), CONDITION: ("this$0",), LONG_CONDITION: ("this$0",)}
+OF_PATHS = GROUP, HOLDER, CONDITION, LONG_CONDITION  # what says more of who may end a wait
 MOST = 300_000  # objects of one group that are kept; with more, what rests on them isn't printed
 # References that are looked through, objects on paths, looks through all references, and threads in all lists: with
 # more it isn't printed who reaches what.
@@ -65,6 +69,7 @@ STREAMS, OF_PARTS = "java/util/stream/", re.compile(r"java\.util\.stream\..*Task
 MOST_PARTS = 1000  # parts of all parallel streams, and futures of which one needs all
 COMPUTES = re.compile(r"java\.util\.concurrent\.CompletableFuture\$(?:Async(?:Supply|Run)\.run|(?:Uni|Bi)\w+\.tryFire)")
 JDK = re.compile(r"(?:java|javax|jdk|sun|com\.sun)\.")
+NATIVE = -3  # the line of a native method, of whose arguments no heap dump has all
 # Who lets a thread sleep, and who waits by that.
 PARKS_A_WHILE = re.compile(r"java\.util\.concurrent\.locks\.LockSupport\.park(?:Nanos|Until)")
 PARKS = re.compile(r"(?:jdk\.internal|sun)\.misc\.Unsafe\.park|java\.util\.concurrent\.locks\.LockSupport\.park")
@@ -73,15 +78,23 @@ WAITS, GETS_TASK, CLEANS = ("java.lang.Object.wait", "java.lang.Object.wait0"), 
 TAKES = re.compile(r"java\.util\.concurrent\.(?!Scheduled)\w+(?:\$\w+)?\.take\w*")
 # Fields by which nobody comes to an object: nodes of those who wait, whom others only wake up; the list of all threads;
 # what a phantom refers to; and what the collector keeps for itself. A thread alone uses some fields of its own.
-WAKES = re.compile(r"java/util/concurrent/(?:locks/(?:Abstract(?:Ownable|Queued(?:Long)?)Synchronizer(?:\$Node)?"
+WAKES = re.compile(r"java/util/concurrent/(?:locks/(?:AbstractQueued(?:Long)?Synchronizer(?:\$Node)?"
                    r"|StampedLock\$W?Node)|SynchronousQueue\$\S+|LinkedTransferQueue\$Node|Exchanger\$Node"
                    r"|Phaser\$QNode|FutureTask\$WaitNode|CompletableFuture\$Signaller|ForkJoinTask\$Aux)"
-                   r"\.(?:thread|waiter|parked|exclusiveOwnerThread)"
+                   r"\.(?:thread|waiter|parked)"
                    r"|java/lang/(?:ThreadGroup\.threads|Thread\.parkBlocker|ref/Reference\.discovered)")
 OWN = re.compile(r"java/lang/Thread\.(?:target|holder|threadLocals|inheritableThreadLocals"
                  r"|inheritedAccessControlContext|blocker|scopedValueBindings)")
 BY_ANY, BY_ITSELF, UNUSED = range(3)
 REFERENT, PHANTOM = "java/lang/ref/Reference.referent", "java/lang/ref/PhantomReference"
+# The owner of a lock of the JDK's, for whom only a class that derives from such a lock can ask.
+OWNER = "java/util/concurrent/locks/AbstractOwnableSynchronizer.exclusiveOwnerThread"
+ASKED = {"java/util/concurrent/locks/ReentrantLock", "java/util/concurrent/locks/ReentrantReadWriteLock"}
+# While these run for a call that has not begun, no frame has the arguments of that.
+BEFORE_CALLS = re.compile(r".*\.(?:<clinit>|loadClass)|java\.lang\.invoke\.MethodHandleNatives\.link\w+")
+# Classes without a name, of which no heap dump has the data: those of the JDK's own have none of the job's.
+HIDDEN, OF_THE_JDK = re.compile(r".*[+/.]0x[0-9a-f]+"), re.compile(
+    r"(?:javax?|jdk|sun|com/sun)/.*|.*\$\$(?:Lambda|StringConcat|TypeSwitch)\b.*")
 VIRTUAL, STRING, OF_THE_END = "java/lang/VirtualThread", "java/lang/String", "java/lang/ApplicationShutdownHooks"
 TEXT, LOADED, FRAME, TRACE, SEGMENTS, END = 0x01, 0x02, 0x04, 0x05, (0x0C, 0x1C), 0x2C
 LOCAL, OF_THREAD, CLASS, INSTANCE, OBJECTS, VALUES = 0x03, 0x08, 0x20, 0x21, 0x22, 0x23
@@ -402,6 +415,7 @@ class Reach:
         self.unused: Set[int] = set()
         self.fields: Dict[int, List[Tuple[int, int]]] = {}
         self.known: Dict[int, Optional[Set[int]]] = {}
+        self.asks: Optional[bool] = None  # whether a class of the job's derives from a lock that knows its owner
         for serial, rows in heap.locals.items():
             self.add_root(heap.roots.get(serial, (0, 0))[0], [it for _, it in rows])
         for serial, held in heap.natives.items():
@@ -416,7 +430,8 @@ class Reach:
     def find(self, some: Iterable[int]) -> bool:
         """Finds all paths to some objects, and returns whether these are all. A virtual thread has no frames here."""
         kinds = map(self.heap.name_of, {*self.heap.kinds.values()})
-        if not self.heap.keeps_references or THREAD in self.heap.over or VIRTUAL in kinds:
+        is_whole = self.heap.keeps_references and not self.heap.over & {THREAD, *OF_PATHS}
+        if not is_whole or VIRTUAL in kinds or any(map(is_hidden, map(self.heap.name_of, self.heap.classes))):
             return False
         new = set(some)
         self.into = {it: set() for it in new}
@@ -498,10 +513,18 @@ class Reach:
         for owner, (name, width) in ((owner, it) for owner, each in zip(names, self.heap.lineage(kind))
                                      for it in self.heap.classes[each][1]):
             field = f"{owner}.{self.heap.text(name)}"
-            is_unused = WAKES.fullmatch(field) or field == REFERENT and PHANTOM in names
+            is_unused = (WAKES.fullmatch(field) or field == REFERENT and PHANTOM in names
+                         or field == OWNER and not self.is_asked(names[0]))
             if width == REFERENCE:
                 yield at, UNUSED if is_unused else BY_ITSELF if OWN.fullmatch(field) else BY_ANY
             at += WIDTHS[width]
+
+    def is_asked(self, kind: str) -> bool:
+        """Whether code of the job may ask the locks of a class for their owners."""
+        if self.asks is None:
+            own = [it for it in self.heap.classes if not is_jdks(self.heap.name_of(it))]
+            self.asks = any(ASKED.intersection(map(self.heap.name_of, self.heap.lineage(it))) for it in own)
+        return self.asks or not is_jdks(kind)
 
     def threads_to(self, thing: int) -> Optional[Set[int]]:
         """Returns the threads that have a path to an object, or None if any thread may have one: also where nothing is
@@ -519,6 +542,15 @@ class Reach:
         return self.known[thing]
 
 
+def is_jdks(kind: str) -> bool:
+    return JDK.match(kind.replace("/", ".")) is not None
+
+
+def is_hidden(kind: str) -> bool:
+    """Whether a class has no name, and isn't one that the JDK makes."""
+    return HIDDEN.fullmatch(kind) is not None and OF_THE_JDK.fullmatch(kind) is None
+
+
 class Waits:
     """Who waits for what in a heap dump, as rows. `optimised` are the methods in which the JVM may have taken objects
     apart, if that is known: of what a thread of the job has by one of these alone, no heap dump says that."""
@@ -527,7 +559,7 @@ class Waits:
         self.heap, self.found, self.optimised = heap, heap.found, optimised
         self.threads: Dict[int, Thread] = {}
         for serial, (identity, trace) in heap.roots.items():
-            number, native, blocker = self.found[THREAD].get(identity, (None, 0, 0))
+            number, native, blocker = self.found[THREAD].get(identity, (None, 0, 0))[:3]
             if number is not None and native:
                 frames = [heap.frame(it) for it in heap.traces.get(trace, []) if it in heap.frames]
                 here = heap.locals.get(serial, [])
@@ -540,7 +572,8 @@ class Waits:
         self.at = {it.identity: self.object_of(it) for it in self.threads.values()}
         self.hiding = [it.identity for it in self.threads.values() if not it.top(GETS_TASK)
                        and not all(JDK.match(name) for name, _ in it.frames)
-                       and any(name in (optimised or ()) for name, _ in it.frames)]
+                       and any(name in (optimised or ()) or BEFORE_CALLS.fullmatch(name)
+                               or line == NATIVE and not JDK.match(name) for name, line in it.frames)]
         self.listed, self.is_known = 0, False
         self.parts = {it for it in self.found[PART] if heap.name_of(heap.kinds[it]).startswith(STREAMS)}
         self.steps: Dict[int, List[int]] = defaultdict(list)
@@ -554,7 +587,7 @@ class Waits:
         waiting = {it for it, at in self.at.items() if at or self.threads[it].top(JOIN)}
         parts = self.parts if len(self.parts) <= MOST_PARTS else ()
         self.is_known = is_known = waiting != set() and self.optimised is not None and self.reach.find(
-            waiting.union(filter(None, self.at.values()), parts))
+            waiting.union(self.at.values(), map(self.lock_of, self.at.values()), parts) - {0})
         for thread in self.threads.values():
             row = self.row_of(thread)
             is_meant = thread.identity in waiting and self.at[thread.identity] not in self.found[THREAD]
@@ -589,8 +622,9 @@ class Waits:
         todo = [thread]
         seen = {thread.identity}
         for one in todo:  # (which grows meanwhile)
-            some = [self.reach.threads_to(it) for it in (self.at[one.identity], one.identity) if it]
-            if None in some or self.listed > MOST_LISTED:
+            at = self.at[one.identity]
+            some = [self.reach.threads_to(it) for it in (at, self.lock_of(at), one.identity) if it]
+            if None in some or self.listed > MOST_LISTED or at in self.heap.classes or self.is_in_group(one):
                 return None
             new = {it for each in some for it in each or ()} - seen
             seen |= new
@@ -598,6 +632,20 @@ class Waits:
             found |= {it for it in new if not self.is_at_rest(self.threads[it])}
         self.listed += len(found)
         return [thread.label for it, thread in self.threads.items() if it in found]
+
+    def lock_of(self, at: int) -> int:
+        """Returns the lock of a condition, or 0: one that was signalled still stands there until it gets the lock."""
+        lock: int = self.found[CONDITION].get(at, self.found[LONG_CONDITION].get(at, (0,)))[0] or 0
+        return lock
+
+    def is_in_group(self, thread: Thread) -> bool:
+        """Whether a thread is in a group of threads that the job has made, by which it may be interrupted: all but the
+        first group, and those beside it, stand below that."""
+        holder, group = self.found[THREAD][thread.identity][3:]
+        groups = self.found[GROUP]
+        group, = self.found[HOLDER].get(holder, (group,))
+        above, = groups.get(group, (-1,))
+        return above != 0 and groups.get(above, (-1,)) != (0,)
 
     def is_at_rest(self, thread: Thread) -> bool:
         """Whether a thread of a pool waits without a limit until somebody has a task for it."""

@@ -19,6 +19,7 @@ from .jvm_rows import LABEL, Label, frames_of, key_of, label_of, plain, trees_in
 from .jvm_text import Dump, Thread, stack_of
 
 MARK = "# cmh heap "
+WAITS, NAMED = re.compile(r"java\.lang\.Object\.wait0?"), re.compile(r"java\.lang\.(?:String|Class(?: for .*)?)")
 KINDS = TASK, QUEUED, READERS, JOIN, FUTURE, FUTURES, SUPPLIED, POOL, REACH, HOOK, TIMER, STREAM, LOST = (
     "task", "queued", "readers", "join", "future", "futures", "supplied", "pool", "reach", "hook", "timer", "stream",
     "lost")
@@ -39,7 +40,8 @@ RESTS_ON = {QUEUED: [POOLS, CANCELS], SUPPLIED: [POOLS, COMPLETES], FUTURE: [COM
 class Wait:
     """What a heap shows of the wait of a thread: of which of KINDS it is, whom it waits for, who else has at hand what
     it waits at; whether the pool of a queued task takes no more threads, and whether who computes the first future of
-    a chain also does what follows. `reach` has those who have a reference to what it waits at, if not anybody may."""
+    a chain also does what follows. `reach` has those who have a reference to what it waits at, if not anybody may, with
+    the thread that it joins."""
 
     kind: str
     frames: List[str]
@@ -88,7 +90,20 @@ def wait_of_row(row: Dict[str, Any]) -> Wait:
     frames = list(map(plain, row["frames"]))
     reach = row["for"] if row["waits"] == REACH else row.get("reach")
     return Wait(row["waits"], frames, whom, besides, row.get("is_full", False), row.get("is_direct", False),
-                None if reach is None else list(map(key_of, reach)))
+                None if reach is None else list(dict.fromkeys(map(key_of, reach))))
+
+
+def is_named(thread: Thread) -> bool:
+    """Whether a thread is, or may be, in Object.wait() at what others come to by its name: a text or a class."""
+    if not is_in(WAITS, stack_of(thread)[:1]):
+        return False
+    shown = [it for it in thread.monitors[:1] if it] or list(filter(None, thread.monitors))
+    return not shown or any(map(NAMED.fullmatch, shown))
+
+
+def waits_for_class(thread: Thread, locks: Locks) -> bool:
+    """Whether a thread waits until another one has initialised a class."""
+    return locks.class_of(thread) != "" or thread.state == "RUNNABLE" and "in Object.wait" in thread.status
 
 
 def is_between(heap: Heap, dumps: List[Dump]) -> bool:
@@ -109,6 +124,7 @@ class Heaps:
         self.there: Dict[Label, Thread] = {label: it for label, it in labels if label}
         self.bounded: Set[str] = set()
         self.is_searched = any(is_in(FINDS_THREADS, stack_of(it)) for it in threads)
+        self.calling = [label_of(it) for it in threads if heap and waits_for_class(it, locks)]
 
     def names_of(self, labels: List[Label]) -> List[str]:
         return [self.names[self.there[it].key] for it in labels if it in self.there]
@@ -145,14 +161,19 @@ class Heaps:
         return self.code is not None and self.code.frees_nobody(thread, is_task)
 
     def is_lost(self, thread: Thread) -> bool:
-        """Whether a thread waits at what nobody else has."""
+        """Whether a thread waits without a limit at what nobody else has."""
         wait = self.heap.wait_of(thread) if self.heap else None
-        return wait is not None and wait.kind == REACH and wait.reach == []
+        is_meant = wait is not None and wait.kind == REACH and thread.state == "WAITING"
+        return is_meant and self.labels_of(thread) == []
 
     def labels_of(self, thread: Thread) -> Optional[List[Label]]:
-        """Returns who has a reference to what a thread waits at, if the heap says it."""
+        """Returns who has a reference to what a thread waits at, if the heap says it. One that calls what waits for a
+        class may have one: no heap dump has the arguments of a call that has not begun."""
         wait = self.heap.wait_of(thread) if self.heap and not self.is_searched else None
-        return wait.reach if wait is not None else None
+        is_known = wait is not None and (wait.kind == JOIN or not is_named(thread)) and None not in self.calling
+        if wait is None or wait.reach is None or not is_known:
+            return None
+        return list(dict.fromkeys([*wait.reach, *filter(None, self.calling)]))
 
     def is_alone(self, thread: Thread) -> bool:
         """Whether main waits for what nobody else has: that may be by intent, until the JVM ends."""

@@ -77,7 +77,8 @@ Stack = Tuple[Tuple[str, str, Optional[int]], ...]
 class Thread:
     """A thread of one state. `key` tells it from others of its JVM, `identity`, if it isn't empty, from those of other
     JVMs too, and `native` is its number in the kernel; `at` is where it was read. `parked_class` is the class of what
-    it is parked at, and `owned` has the class of each lock that it owns, if `lists_owned` says that these are printed.
+    it is parked at, `monitors` has the class of each monitor under its frames, or nothing where that isn't shown, and
+    `owned` has the class of each lock that it owns, if `lists_owned` says that these are printed.
     By another state, if its frames are the same there, `same_as` has the objects that it waited at in the first one,
     `has_stood` says that it has used no processor time, and `has_ticked` that it has used some. `is_closed` says that
     no more frames may follow in its text, and `stack` is what `stack_of` has found."""
@@ -101,6 +102,7 @@ class Thread:
     lists_owned: bool = False
     waits_for_owner: Optional[str] = None
     parked_class: str = ""
+    monitors: List[str] = field(default_factory=list)
     same_as: Optional[List[str]] = None
     has_stood: bool = False
     has_ticked: bool = False
@@ -205,6 +207,8 @@ def add_mark(thread: Thread, marks: Dict[str, Any]) -> bool:
     thread.waits_for_owner = marks.get("owner") or thread.waits_for_owner
     if kind == PARKED:
         thread.parked_class = marks.get("class") or ""
+    elif kind != CLASS_INIT:
+        thread.monitors.append(marks.get("class") or "")
     return True
 
 
@@ -226,7 +230,7 @@ def fill(thread: Thread, pattern: Thread, objects: List[str]) -> None:
     names = {f"{at:#x}": it for at, it in enumerate(objects)}
     thread.state, thread.detail, thread.is_closed = pattern.state, pattern.detail, pattern.is_closed
     thread.waits_for_owner, thread.parked_class = pattern.waits_for_owner, pattern.parked_class
-    thread.lists_owned = pattern.lists_owned
+    thread.lists_owned, thread.monitors = pattern.lists_owned, pattern.monitors
     thread.owned = {names[it]: name for it, name in pattern.owned.items()}
     thread.frames = [it.with_marks([(kind, names.get(object_, object_)) for kind, object_ in it.marks])
                      if it.marks else it for it in pattern.frames]
