@@ -37,6 +37,9 @@ import types
 import warnings
 import weakref
 
+with contextlib.suppress(ImportError):
+    import cmh_quiet
+
 MARK = "cmh-state "
 VERSION = 1
 # Modules whose frames are looked into, and the names of what such a frame waits for and for how long.
@@ -63,11 +66,15 @@ HOLDERS = (*ROWS, dict, functools.partial, types.CellType, types.MethodType, typ
 BLOCKS = ("SETUP_WITH", "SETUP_ASYNC_WITH", "SETUP_FINALLY")  # before Python 3.11
 PUTS, GETS = {"put", "put_nowait", "shutdown"}, {"get", "get_nowait", "shutdown"}
 NOTIFIES = {"notify", "notify_all", "notifyAll"}
+COMPLETES = {"set_result", "set_exception", "cancel"}
 WAITING = ("threading", "queue", "_queue", "asyncio.queues", "asyncio.locks")
 WAITING_AT = {  # functions of these, with the names by which such a wait ends, or None for any use
     "Queue.get": PUTS, "Queue.put": GETS, "Queue.join": {"task_done", "shutdown"}, "Event.wait": {"set"},
     "Condition.wait": NOTIFIES, "Condition.wait_for": NOTIFIES, "Semaphore.acquire": None, "Lock.acquire": None,
     "_ContextManagerMixin.__aenter__": None}
+# The operations of a queue of multiprocessing, with the names by which a wait in each ends, and how many are looked at.
+SHARED = {"put": GETS, "get": PUTS, "join": {"task_done"}}
+QUEUES = 20
 # Words that end waits of others: by themselves, and those of objects of some classes.
 ENDING = {"notify", "notify_all", "notifyAll", "task_done", "put_nowait", "get_nowait", "set_result", "set_exception",
           "sendall", "send_bytes", "recv_bytes", "run_coroutine_threadsafe", "call_soon_threadsafe", "call_soon",
@@ -196,6 +203,8 @@ def describe_known(value, row):
         return {**row, "left": value._value, "most": getattr(value, "_bound_value", None)}
     if is_a(value, "asyncio.taskgroups", "TaskGroup"):
         return {**row, "all": [describe(task) for task in value._tasks if not task.done()]}
+    if is_a(value, "multiprocessing.queues", "Queue"):
+        return {**row, "queue": semaphore_of(value._sem, maps_of_semaphores())}
     if is_a(value, "multiprocessing.synchronize", "SemLock"):
         return {**row, "semaphore": semaphore_of(value, maps_of_semaphores()), "left": value._semlock._get_value()}
     return None
@@ -1027,6 +1036,28 @@ def waited_in(frame):
     return (owner, None) if words[-1:] == ["acquire"] and type(owner) is LOCK else ()
 
 
+def shared_queues():
+    """The queues of multiprocessing that this process has, or None if they are more than can be looked at."""
+    module = sys.modules.get("multiprocessing.util")
+    found = [each for each in list(getattr(module, "_afterfork_registry", {}).values())
+             if is_a(each, "multiprocessing.queues", "Queue")]
+    return found if len(found) <= QUEUES else None
+
+
+def awaited_futures(keys):
+    """The bare futures that the tasks with some of these keys await in the program's own code, by these, as `waited_at`
+    has them. Of those that the library awaits it isn't known who ends them."""
+    tasks = {hex(id(task)): task for task in tasks_of_all()}
+    rows = [(key, getattr(task, "_fut_waiter", None)) for key, task in tasks.items() if key in keys]
+    return {key: (value, COMPLETES) for key, value in rows if is_bare_future(value)}
+
+
+def is_bare_future(value):
+    """Whether it is a future of asyncio that its library makes for nobody but the program."""
+    module = sys.modules.get("asyncio.futures")
+    return type(value) in (getattr(module, "Future", None), getattr(module, "_PyFuture", None)) and module is not None
+
+
 class Wakers:
     """Who is likely to end each of some waits. `stacks` is as `stacks_of_all` returns it. Once the time is over,
     whoever is left may come to any name."""
@@ -1035,10 +1066,14 @@ class Wakers:
         self.end = time.monotonic() + 2 * SECONDS
         self.stacks, self.names, self.functions, self.endings = stacks, {}, functions_by_name(), {}
         found = {key: guarded(waited_at, frames) for key, (frames, _) in stacks.items()}
+        found.update(awaited_futures({key for key, it in found.items() if type(it) is not tuple and stacks[key][0]
+                                      and is_own(stacks[key][0][0][0])}))
         self.targets = {key: it for key, it in found.items() if type(it) is tuple and it}
         frames = [frame for frames, _ in stacks.values() for frame, _ in frames
                   if not is_standard(frame.f_code.co_filename)]
-        aliases = Aliases([*self.targets.values()], frames) if self.targets else None
+        self.shared = shared_queues()
+        rows = [*self.targets.values(), *((value, None) for value in self.shared or ())]
+        aliases = Aliases(rows, frames) if rows else None
         self.aliases, self.nameless = (aliases.found, aliases.nameless) if aliases else ({}, set())
 
     def of(self, key):
@@ -1057,13 +1092,32 @@ class Wakers:
         for value, words in self.targets.values():
             place, names = self.place_of(value, words), self.aliases[id(value)]
             if place not in rows:
-                some = [it for it in self.stacks if names is not None and self.may_reach(it, names, words)]
+                some = self.reaching(value, words)
                 left -= len(some)
                 by = [it for it in some if it != SIGNALLED]
                 rows[place] = {"wait": place, "by": None if names is None or None in some or left < 0 else by,
                                "signals": SIGNALLED in some or self.is_set_by_signal(value, words),
                                "nameless": id(value) in self.nameless}
         return list(rows.values())
+
+    def reaching(self, value, words):
+        """Whose code may come to a name for an object and to one of some words, None among them for anybody's."""
+        names = self.aliases[id(value)]
+        return [it for it in self.stacks if self.may_reach(it, names, words)] if names is not None else [None]
+
+    def shared_rows(self):
+        """Who is likely to end a wait of any process in each queue of multiprocessing that this one has, or None if
+        anybody may: also what a signal calls."""
+        maps = maps_of_semaphores() if self.shared else []
+        return [{"queue": semaphore_of(value._sem, maps), "in": operation,
+                 "by": None if {None, SIGNALLED}.intersection(some) else some}
+                for value in self.shared or () for operation, words in SHARED.items()
+                for some in [self.reaching(value, words)]]
+
+    def quiet_rows(self):
+        """Who ends nobody's wait by all code that it may come to, where somebody waits."""
+        is_wanted = "cmh_quiet" in globals() and (self.targets or self.shared)
+        return [cmh_quiet.quiet_row(self.stacks, sys.modules[__name__])] if is_wanted else []
 
     def sleepers(self):
         """The words by which those who sleep or wait with a limit, again and again, may end waits of others. None for
@@ -1261,9 +1315,9 @@ def is_library(kind):
 
 
 def is_library_module(name):
-    """Whether a module is of Python's library, or this one."""
+    """Whether a module is of Python's library, or this one, or what this one asks."""
     path = str(attributes_of(sys.modules.get(name)).get("__file__", "<frozen"))
-    return name != "__main__" and (is_standard(path) or path == __file__)
+    return name != "__main__" and (is_standard(path) or path == __file__ or name == "cmh_quiet")
 
 
 def wrapped_in(value):
@@ -1312,7 +1366,8 @@ class Aliases:
             self.objects[id(weak)], self.targets[id(weak)] = weak, {target}
         self.keys, self.seen, self.kept, self.is_whole = {}, {}, [], True
         places = [frame.f_locals for frame in frames if frame.f_locals is not frame.f_globals]
-        self.ours = {id(each) for each in (*rows, rows, self.kept, *places)}
+        registry = getattr(sys.modules.get("multiprocessing.util"), "_afterfork_registry", None)
+        self.ours = {id(each) for each in (*rows, rows, self.kept, *places, registry, getattr(registry, "data", None))}
         end = time.monotonic() + SECONDS
         for _ in range(FAR):
             if self.objects and time.monotonic() < end and sys.getallocatedblocks() < BLOCKS_MOST:
@@ -1359,7 +1414,7 @@ class Aliases:
                                      if id(value) in some and type(key) is str}
         if type(holder) in (types.MethodType, types.BuiltinMethodType):
             return None if any(holder.__name__ in self.words.get(each, ()) for each in some) else {}
-        if is_holder(holder) or type(holder).__module__ == __name__:
+        if is_holder(holder) or type(holder).__module__ == __name__ or self.is_of_library(holder, some):
             return {}
         if type(holder) is types.FunctionType:
             is_place = some == {id(holder.__globals__)}
@@ -1375,6 +1430,16 @@ class Aliases:
             names = dict.fromkeys(all_names(work.__code__), reached) if type(work) is types.FunctionType else {}
             return {**names, **(self.attributes_at(holder, some) or {})} or None
         return self.attributes_at(holder, some)
+
+    def is_of_library(self, holder, some):
+        """Whether a holder is only what has a task await one of some futures, by their ids, or what the library calls
+        once a queue of multiprocessing goes."""
+        if is_a(holder, "multiprocessing.util", "Finalize"):
+            names = {name for each in some for name in self.keys.get(each, {})}
+            return names <= {"_weakref"} and some <= {id(attributes_of(holder)), id(holder._weakref)}
+        if type(holder).__module__ not in ("_asyncio", "asyncio.tasks"):
+            return False
+        return type(holder).__name__ == "FutureIter" or id(getattr(holder, "_fut_waiter", None)) in some
 
     def attributes_at(self, holder, some):
         """The names of the attributes of a module, a class, or an object of the program that lead to some objects."""
@@ -1482,9 +1547,8 @@ def thread_rows(before, spent, holders, wakers):
     """A row for each thread, and the loops that they run."""
     names, loops, rows = {each.ident: each for each in threading.enumerate()}, {}, []
     now = places()
-    for ident, frame in reversed(list(sys._current_frames().items())):  # the oldest first
-        if ident == threading.get_ident():
-            continue
+    own = threading.get_ident()  # (whose frame here would keep itself, and those of all threads, until it is collected)
+    for ident, frame in [row for row in reversed(list(sys._current_frames().items())) if row[0] != own]:  # oldest first
         frames, thread = stack_of(frame), names.get(ident)
         native = native_of(thread)
         call, shown = guarded(call_of, frame), [guarded(frame_row, *each) for each in frames]
@@ -1813,7 +1877,7 @@ def has_foreign_timer():
 def foreign_threads():
     """The numbers of the threads of this process that run no Python code now, as far as the module threading knows. One
     that isn't Python's may come back to it. None where that isn't shown."""
-    idents = sys._current_frames().keys()
+    idents = set(sys._current_frames())
     known = {str(native_of(each)) for each in threading.enumerate() if each.ident in idents}
     try:
         return [number for number in os.listdir("/proc/self/task") if number not in known]
@@ -1856,11 +1920,14 @@ def state(number=0):
     holders, wakers = Holders(), guarded(lambda: Wakers(stacks_of_all()))
     threads, loops = thread_rows(before, spent, holders, wakers)
     tasks = guarded(task_rows, loops, {} if "error" in tasks_before else tasks_before, holders, wakers)
-    waits = [guarded(each) for each in (wakers.rows, wakers.sleepers)] if isinstance(wakers, Wakers) else []
+    is_known = isinstance(wakers, Wakers)
+    looks = (wakers.rows, wakers.shared_rows, wakers.sleepers, wakers.quiet_rows) if is_known else ()
+    waits = [*map(guarded, looks)]
     waits.append(guarded(taken_rows))
     rows = [*threads, *(tasks if isinstance(tasks, list) else [tasks]), *children_rows(),
             *(row for some in waits if isinstance(some, list) for row in some)]
-    head = {"version": VERSION, "process": process_name(), "pid": os.getpid(), "parent": os.getppid(),
+    queues = len(wakers.shared) if is_known and wakers.shared is not None else None
+    head = {"version": VERSION, "queues": queues, "process": process_name(), "pid": os.getpid(), "parent": os.getppid(),
             "host": os.uname().nodename, "space": guarded(space), "reader": threading.get_native_id() if number else 0,
             "python": sys.version.split()[0], "time": time.strftime("%Y-%m-%dT%H:%M:%S"), "seconds": seconds,
             "began": began, "ended": time.time(), "signal": number, **guarded(alarm_row),

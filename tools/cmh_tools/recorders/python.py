@@ -11,6 +11,7 @@ Several OS processes are read one after the other, and need two states each.
 """
 from __future__ import annotations
 
+import functools
 import re
 from collections import defaultdict
 from dataclasses import dataclass
@@ -25,7 +26,7 @@ from .python_frames import is_of_frames, looks_of_frames
 from .python_names import MOST, NEED_ALL, Names, Standing, lasting_objects, operation_of, own_frames
 from .python_tasks import CANCEL, TASKS, Job, foreign_callbacks
 from .python_text import Frame, Look, Row, is_number, looks_of
-from .python_waits import BLOCK, CHILD, DEAD, FUTURE, Wait, unsure
+from .python_waits import BLOCK, CHILD, DEAD, FUTURE, NEXT, QUIET, Wait, ending_in, unsure, waits_for_next
 
 ALARM = "alarm"
 NOT_UNDERSTOOD = (AttributeError, KeyError, TypeError, ValueError, IndexError, RecursionError)
@@ -69,8 +70,9 @@ class Jobs(Moment):
 
 PLAIN = re.compile(r"threading\.(Thread\.)?(_bootstrap|_bootstrap_inner|run)$|multiprocessing\.(process|popen_fork)\."
                    r"|asyncio\.|runpy\.")  # frames of the library that call the function of a thread, a child or a task
-NEXT = re.compile(r"\w*Queue\.get")  # the operation of one that waits for its next message
 SHALLOW = 3  # frames of a main thread that isn't deep in its work
+HARMLESS = {"close"}  # what one that ticks names where it closes a file, and would seldom name to end a wait
+FEEDS = re.compile(r"multiprocessing\.queues\.(\w+\.)?_feed$")
 KILLS = {"kill", "killpg"}  # calls that end any process, by its number
 ENDS = re.compile(r"(_thread\.interrupt_main|_signal\.(raise_signal|pthread_kill)"
                   r"|posix\.(kill|killpg|_exit|abort|exec\w+))$")
@@ -91,6 +93,28 @@ def takers_on(host: str, looks: List[Look], names: Names) -> Dict[str, List[Any]
         for what in look.semaphores if look.place()[0] == host else ():
             found[what] += [names.of(look, key) for key in (*look.threads, *look.tasks)]
     return found
+
+
+def sharers_on(host: str, looks: List[Look], names: Names) -> Dict[Any, Optional[List[Any]]]:
+    """Returns by each queue of multiprocessing on a machine, and the operation of one that waits there, the names of
+    those who may end such a wait, or None if anybody may. Nothing if a process doesn't say it of all its queues."""
+    found: Dict[Any, Optional[List[Any]]] = {}
+    here = [look for look in looks if look.place()[0] == host]
+    if not host or any(look.head.get("queues") != len({what for what, _ in look.queues} - {None}) for look in here):
+        return found
+    for look in here:
+        for what, keys in look.queues.items():
+            before, is_known = found.get(what, []), isinstance(keys, list) and look.head.get("others") == 0
+            new = [names.of(look, key) for key in [*keys, *(feeding(look) if what[1] == "get" else [])]] if is_known \
+                else [None]
+            found[what] = None if before is None or None in new else [*dict.fromkeys([*before, *new])]
+    return found
+
+
+def feeding(look: Look) -> List[Any]:
+    """Returns the threads of a process that write what was put into a queue of multiprocessing, if they have some."""
+    return [row.key for row in look.threads.values() if any(FEEDS.match(each.at) for each in row.frames)
+            and not (len(row.frames) > 1 and FEEDS.match(row.frames[1].at))]
 
 
 def enders_of(jobs: List[Job]) -> Dict[Any, List[Any]]:
@@ -171,6 +195,8 @@ class PythonRecorder(Recorder):
         BLOCK: Premise("a block that has taken a lock gives it back itself, and the name that it had for it is still "
                        "that of this lock", release_of),
         DEAD: Premise("nobody gives back an RLock of a thread that has ended"),
+        QUIET: Premise("whoever only ticks, prints, or shows numbers to who asks, by all code that it may come to, "
+                       "ends no wait at a lock, a queue, an event or a future, and no extension of Python's does"),
         FUTURE: Premise("who has begun or keeps the work of a future ends it, and nobody else does"),
     }
 
@@ -220,9 +246,16 @@ class PythonRecorder(Recorder):
         for look in looks:
             children[look.place(look.head.get("parent"))] += filter(None, [mains.get(look.place())])
         takers = {look.place()[0]: takers_on(look.place()[0], looks, self.names) for look in looks}
-        moment.jobs = [Job(look, self.names, mains, timer_of(look), children[look.place()], takers[look.place()[0]])
-                       for look in looks]
+        sharers = {look.place()[0]: sharers_on(look.place()[0], looks, self.names) for look in looks}
+        rows = [ending_in(look, functools.partial(self.names.of, look)) for look in looks]
+        is_whole = self.is_one_host(looks) and not any(reading.missing for reading in moment.readings)
+        ending = [name for some in rows for name in some or ()] if is_whole and None not in rows else None
+        moment.jobs = [Job(look, self.names, mains, timer_of(look), children[look.place()], takers[look.place()[0]],
+                           sharers[look.place()[0]], ending) for look in looks]
         moment.enders = enders_of(moment.jobs)
+
+    def is_one_host(self, looks: List[Look]) -> bool:
+        return len({look.place()[0] for look in looks}) == 1
 
     def processes(self, moment: Jobs) -> Iterator[Subject]:
         for job in moment.jobs:
@@ -323,7 +356,7 @@ def proposal_of(process: Process, subject: Subject) -> str:
         inner = [each.kind != "standard" for each in subject.row.frames]
         outer = subject.row.frames[inner.index(True):] if any(inner) else []
         is_plain = all(each.kind != "standard" or PLAIN.match(each.at) for each in outer)
-        return "frees" if not words and outer and is_plain else "none"
+        return "frees" if HARMLESS.issuperset(map(str, words)) and outer and is_plain else "none"
     is_main = subject.row.more.get("main") is True and process.operation == "timed time.sleep"
     return "frees" if is_main and is_at_rest(subject) else process.proposal
 
@@ -365,4 +398,6 @@ def process_of(subject: Subject, frames: List[Frame], wait: Wait, standing: Opti
                    is_collective=operation in NEED_ALL, thread=subject.kernel_thread(),
                    is_open=wait.is_open or subject.what == "task" and wait.kind == ANY,
                    candidates=[*wait.likely, COMPLETE] if wait.likely else [],
+                   may_rest=standing is not None and waits_for_next(standing),
+                   bound=wait.bound, bound_by=[premise(QUIET)] if wait.bound is not None else [],
                    scope=subject.job.names.processes[subject.job.look.place()] if wait.is_inside else "")

@@ -60,7 +60,8 @@ def label(row: "Row") -> str:
 @dataclass
 class Standing:
     """Where a thread or a task stands: what the rules for waits look at. `children` are the main threads of those that
-    its OS process has begun, and `takers` has by locks of multiprocessing those in the processes that have one."""
+    its OS process has begun, `takers` has by locks of multiprocessing those in the processes that have one,
+    `sharers` by its queues and operations those who are likely to end such a wait, and `ending` all who may."""
 
     look: Look
     row: Row
@@ -70,6 +71,8 @@ class Standing:
     tasks_on: Dict[Any, Any] = field(default_factory=dict)
     children: List[str] = field(default_factory=list)
     takers: Dict[str, List[Any]] = field(default_factory=dict)
+    sharers: Dict[Any, Optional[List[Any]]] = field(default_factory=dict)
+    ending: Optional[List[str]] = None
 
     @property
     def call(self) -> Dict[str, Any]:

@@ -27,13 +27,16 @@ STEP = re.compile(r"asyncio\.(events\.Handle\._run$|runners\.)")
 class Job:
     """One look at an OS process, with the waits of its threads, its tasks, and the coroutines that a loop has been
     handed. `timer` is what one of its timers will call to end a wait or the process, if one will, and `children` are
-    the main threads of those that it has begun. `takers` has by locks of multiprocessing those whose process has one.
+    the main threads of those that it has begun. `takers` has by locks of multiprocessing those whose process has one,
+    and `sharers` by its queues and operations those of all processes who are likely to end such a wait. `ending` has
+    all who may end one, or is None.
     """
 
     def __init__(self, look: Look, names: Names, mains: Dict[Any, Any], timer: str, children: List[str],
-                 takers: Dict[str, List[Any]]) -> None:
+                 takers: Dict[str, List[Any]], sharers: Dict[Any, Optional[List[Any]]],
+                 ending: Optional[List[str]]) -> None:
         self.look, self.names, self.mains, self.timer, self.children = look, names, mains, timer, children
-        self.takers = takers
+        self.takers, self.sharers, self.ending = takers, sharers, ending
         self.site = names.sites[look.place()]
         self.cancellers = Cancellers(look)
         tasks: Dict[str, List[Any]] = {}
@@ -47,7 +50,8 @@ class Job:
         return self.names.of(self.look, key)
 
     def standing(self, row: "Row", frames: List[Frame]) -> Standing:
-        return Standing(self.look, row, frames, self.name_of, self.mains, self.tasks_on, self.children, self.takers)
+        return Standing(self.look, row, frames, self.name_of, self.mains, self.tasks_on, self.children, self.takers,
+                        self.sharers, self.ending)
 
     def loop_of(self, row: "Row") -> Optional[Dict[str, Any]]:
         key = row.more.get("loop")

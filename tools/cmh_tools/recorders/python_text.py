@@ -63,7 +63,9 @@ class Look:
     comes to a name for what is waited at. `stopped` has the waits that a signal's handler is likely to end, or,
     as `endless`, nobody, since nothing has a name for what is waited at, and `sleepers` by the keys of those who sleep
     or wait with a limit the words in their code that may end others' waits. `semaphores` has the locks of
-    multiprocessing that it has taken."""
+    multiprocessing that it has taken, and `queues` by a queue of multiprocessing and an operation the keys of those
+    who are likely to end such a wait. `quiet` has the keys of those that end nobody's wait by their code, or is None
+    where others than threads and tasks may."""
 
     where: str
     process: str
@@ -80,6 +82,8 @@ class Look:
     endless: Set[str] = field(default_factory=set)
     sleepers: Dict[Any, Any] = field(default_factory=dict)
     semaphores: Set[str] = field(default_factory=set)
+    queues: Dict[Tuple[Any, Any], Any] = field(default_factory=dict)
+    quiet: Optional[Set[Any]] = None
     is_whole: bool = True
     by_faulthandler: bool = False
     shown_by: str = ""  # another tool, which shows places alone
@@ -215,6 +219,10 @@ def add_row(look: Look, row: Dict[str, Any], path: str, at: int) -> None:
             look.wakers[str(row["wait"])] = row["by"]
             look.stopped.update([str(row["wait"])] if True in (row.get("signals"), row.get("nameless")) else ())
             look.endless.update([str(row["wait"])] if row.get("nameless") is True else ())
+        elif "quiet" in row:
+            look.quiet = {*row["quiet"]} if row["loops"] is True else None
+        elif "queue" in row:
+            look.queues[row["queue"], row["in"]] = row["by"]
         elif "semaphore" in row:
             look.semaphores.add(str(row["semaphore"]))
         elif "sleeper" in row:

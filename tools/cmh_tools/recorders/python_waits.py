@@ -6,9 +6,11 @@ from dataclasses import dataclass, field, replace
 from typing import Any, Dict, Iterator, List, Optional
 
 from ..sketch import ALL, ANY, LIMIT, RUNS, SYSTEM, UNKNOWN, WORK, premise
-from .python_names import Standing, cancelling_in, main_task, own_frames, pools_of
+from .python_names import MOST, Standing, cancelling_in, is_idle_loop, main_task, own_frames, pools_of
 from .python_text import Frame, Look, is_number, last_word
 
+NEXT = re.compile(r"\w*Queue\.get")  # the operation of one that waits for its next message
+SHARED = re.compile(r"multiprocessing\.queues\.(?:Joinable)?Queue\.(put|get|join)$")
 SEMAPHORES = re.compile(r"multiprocessing\.synchronize\.\w+\.__enter__$")
 CHILDREN = re.compile(r"subprocess\.Popen\.(wait|_wait)$")
 WAITS = re.compile(r"(os|posix)\.(wait|waitpid|wait3|wait4|waitid)$")
@@ -25,7 +27,7 @@ GETS = re.compile(r"(multiprocessing\.)?queues?\.\w+\.get$|threading\.Condition\
 LIKELY = 50  # names that are filled in where people are asked who ends a wait
 BUSY = 0.2  # the part of the time between two looks that one who computes has used at least
 FINISHED = ("FINISHED", "CANCELLED", "CANCELLED_AND_NOTIFIED")
-CHILD, FUTURE, BLOCK, DEAD = "child", "future", "block", "dead"  # premises, beside LIMIT
+CHILD, FUTURE, BLOCK, DEAD, QUIET = "child", "future", "block", "dead", "quiet"  # premises, beside LIMIT
 
 
 @dataclass
@@ -46,6 +48,7 @@ class Wait:
     likely: List[str] = field(default_factory=list)
     proposal: str = ""
     is_inside: bool = False
+    bound: Optional[List[str]] = None
 
     def has_limit(self) -> bool:
         return self.kind == RUNS and premise(LIMIT) in self.because
@@ -85,9 +88,11 @@ def by_names(standing: Standing) -> Wait:
     is_main = is_first(standing)
     keys = look.wakers.get(at) if is_main or at not in look.stopped else None
     found = [standing.name_of(key) for key in acting_keys(look, keys)] if isinstance(keys, list) else [None]
+    found = standing.sharers.get(shared_in(standing)) or found
     names = [name for name in dict.fromkeys(found) if name != standing.name_of(standing.row.key)]
     wait.likely = names if len(names) <= LIKELY and None not in names else []
     wait.is_inside = at is not None
+    wait.bound = bound_of(standing, at)
     is_stopped = is_main and (at in look.stopped or PAUSES.match(operation) is not None)
     if is_stopped or at in look.endless or operation == "Server.accepter":
         wait.proposal = "outside"  # (as a service that waits to be stopped)
@@ -102,6 +107,44 @@ def by_names(standing: Standing) -> Wait:
     elif not names:
         wait.proposal = "nobody"
     return wait
+
+
+def bound_of(standing: Standing, at: Any) -> Optional[List[str]]:
+    """All who may end a wait, by the premise QUIET: the other threads and tasks of its OS process, or at a queue of
+    multiprocessing those of all processes. None where that isn't known, and where a signal's handler is likely to.
+    Where nobody may, it may have been made so, as the wait of a program's first task, or of a worker that has nothing
+    to do."""
+    is_shared = shared_in(standing) is not None
+    names = standing.ending if is_shared else ending_in(standing.look, standing.name_of)
+    if names is None or at is None and not is_shared or at in standing.look.stopped or at in standing.look.endless:
+        return None
+    found = [name for name in names if name != standing.name_of(standing.row.key)]
+    return None if not found and (is_first(standing) or waits_for_next(standing)) else found
+
+
+def ending_in(look: Look, name_of: Any) -> Optional[List[str]]:
+    """The threads and tasks of an OS process that may end waits there, or None if others may too: all but those whose
+    code ends none, and threads that wait for the events of a loop, which calls nothing that does."""
+    if look.quiet is None or look.head.get("others") != 0 or look.asked or not look.is_whole:
+        return None
+    keys = [row.key for row in look.threads.values() if not is_idle_loop(row.frames)] + [*look.tasks]
+    names = [name_of(key) for key in keys if key not in look.quiet]
+    return None if None in names or len(names) > MOST else names
+
+
+def shared_in(standing: Standing) -> Any:
+    """Returns the queue of multiprocessing at which one waits, with its operation, or None."""
+    for each in standing.standard:
+        found = SHARED.match(each.at)
+        own: Any = each.has.get("self")
+        if found:
+            return own.get("queue") if isinstance(own, dict) else None, found[1]
+    return None
+
+
+def waits_for_next(standing: Standing) -> bool:
+    """Whether one waits for its next message at the function that it was started with."""
+    return NEXT.fullmatch(standing.operation[0]) is not None and len(own_frames(standing.frames)) == 1
 
 
 def semaphore_in(standing: Standing) -> str:
