@@ -7,6 +7,7 @@ from typing import Dict, List, Set
 
 from .facts import FREES, Fact, Facts
 from .files import shown
+from .idle import is_receiver
 from .moments import GROWN
 from .proposals import ask_to_spare
 from .sketch import ANY, RUNS, UNKNOWN, Process, Sketch
@@ -28,9 +29,9 @@ def take_bounds(sketch: Sketch, facts: Facts) -> None:
 
 
 def resting(stuck: List[Process], found: Set[str]) -> Set[str]:
-    """Returns those of the stuck who may wait for work that nobody has for them: who stand where those do too who have
-    nothing to do, if all for whom they wait, and all who wait for them, do so as well."""
-    rest = {it.name for it in stuck if it.may_rest and it.name in found}
+    """Returns those of the stuck who may wait for work that nobody has for them: who wait for their next message, if
+    all for whom they wait, and all who wait for them, do so as well."""
+    rest = {it.name for it in stuck if it.name in found and is_receiver(it)}
     beside: Dict[str, Set[str]] = defaultdict(set)
     for name, other in ((it.name, other) for it in stuck if rest for other in it.whom):
         beside[name].add(other)

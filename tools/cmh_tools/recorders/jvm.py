@@ -193,7 +193,6 @@ class JvmRecorder(Recorder):
             process.proposal, process.candidates = "maybe", []
         if process.kind == RUNS and self.frees_nobody(thread, place, process, moment):
             process.proposal = "frees"
-        process.may_rest = thread.state == "WAITING" and is_at_inbox(place)
         process.is_collective = MEETS.fullmatch(place.call) is not None
         process.meeting = moment.meetings.get(thread.key, "")
         if process.proposal == "all" and not process.is_collective:

@@ -26,7 +26,7 @@ from .python_frames import is_of_frames, looks_of_frames
 from .python_names import MOST, NEED_ALL, Names, Standing, lasting_objects, operation_of, own_frames
 from .python_tasks import CANCEL, TASKS, Job, foreign_callbacks
 from .python_text import Frame, Look, Row, is_number, looks_of
-from .python_waits import BLOCK, CHILD, DEAD, FUTURE, NEXT, QUIET, Wait, ending_in, unsure, waits_for_next
+from .python_waits import BLOCK, CHILD, DEAD, FUTURE, NEXT, QUIET, Wait, ending_in, unsure
 
 ALARM = "alarm"
 NOT_UNDERSTOOD = (AttributeError, KeyError, TypeError, ValueError, IndexError, RecursionError)
@@ -398,6 +398,5 @@ def process_of(subject: Subject, frames: List[Frame], wait: Wait, standing: Opti
                    is_collective=operation in NEED_ALL, thread=subject.kernel_thread(),
                    is_open=wait.is_open or subject.what == "task" and wait.kind == ANY,
                    candidates=[*wait.likely, COMPLETE] if wait.likely else [],
-                   may_rest=standing is not None and waits_for_next(standing),
                    bound=wait.bound, bound_by=[premise(QUIET)] if wait.bound is not None else [],
                    scope=subject.job.names.processes[subject.job.look.place()] if wait.is_inside else "")
