@@ -23,6 +23,7 @@ import weakref
 
 VERSIONS = ((3, 11), (3, 12), (3, 13))  # whose steps are known
 MOST = 400  # functions that are looked at for one thread or task
+FROZEN = 2000  # objects that Python itself hides from a look at all, at most; a program that hides its own has more
 BLOCKS_MOST = 5_000_000  # of memory: in a larger program nobody is looked at
 # Methods and functions of the library, by their names, that end no such wait and call nothing of the program.
 LOGS = {"debug", "info", "warning", "error", "exception", "critical", "isEnabledFor"}
@@ -36,23 +37,26 @@ HARMLESS = LOGS | PRINTS | {
     "accept", "recv", "send", "sendall", "read", "readline", "readlines", "drain", "listen", "bind", "create_server",
     "setsockopt", "settimeout", "getpeername", "getsockname", "is_closing", "get_extra_info", "close", "wait_closed",
     "open", "makefile", "fileno", "isatty", "tell", "seek", "truncate",
-    "encode", "decode", "format", "join", "split", "rsplit", "splitlines", "strip", "lstrip", "rstrip", "partition",
+    "encode", "decode", "join", "split", "rsplit", "splitlines", "strip", "lstrip", "rstrip", "partition",
     "rpartition", "replace", "startswith", "endswith", "upper", "lower", "title", "ljust", "rjust", "center", "zfill",
     "isdigit", "find", "count", "index", "hex", "items", "keys", "values", "append", "appendleft", "extend", "insert",
     "copy", "most_common", "bit_length", "to_bytes", "from_bytes", "dumps", "random", "uniform", "randint", "sqrt",
+    "send_response", "send_header", "end_headers", "log_message", "send_error",
     "floor", "ceil", "log10", "log2", "fmean", "getrusage", "uuid4", "wait"}
-TOUCHING = {"join", "extend", "writelines", "close", "dumps", "fmean", "open"}  # what may run an iterator or an opener
+# What may run an iterator, or an opener.
+TOUCHING = {"send", "join", "extend", "writelines", "close", "dumps", "fmean", "open"}
 OF_BUILTINS = {"abs", "bool", "bytes", "chr", "divmod", "float", "format", "hash", "hex", "id", "int", "isinstance",
                "issubclass", "len", "object", "oct", "ord", "pow", "print", "range", "repr", "round", "str", "super",
-               "open", "bytearray", "complex", "slice"}
+               "type", "open", "bytearray", "complex", "slice"}
 ITERATING = {"all", "any", "dict", "enumerate", "frozenset", "list", "max", "min", "reversed", "set", "sorted", "sum",
              "tuple", "zip"}
-CALLED_BACK = {"key", "default", "object_hook", "target", "callback", "func", "initializer", "cls", "opener", "hook"}
+CALLED_BACK = {"key", "default", "object_hook", "target", "callback", "func", "initializer", "cls", "opener", "hook",
+               "file"}
 DYNAMIC = {"__dict__", "__globals__", "__code__", "__func__", "__self__", "__wrapped__", "modules",
            "f_locals", "f_globals", "f_back", "gi_frame", "cr_frame"}
 SETTING = {"setattr", "delattr", "__dict__", "vars"}  # names by which any attribute may come to stand for anything
 # Steps that aren't followed: what they run isn't named in the code.
-REFUSED = {"LOAD_BUILD_CLASS", "BEFORE_ASYNC_WITH", "GET_AITER", "GET_ANEXT", "IMPORT_STAR",
+REFUSED = {"LOAD_BUILD_CLASS", "BEFORE_ASYNC_WITH", "MATCH_CLASS", "GET_AITER", "GET_ANEXT", "IMPORT_STAR",
            "LOAD_FROM_DICT_OR_GLOBALS"}
 TOUCHES = {"FOR_ITER", "UNPACK_SEQUENCE", "UNPACK_EX", "LIST_EXTEND", "SET_UPDATE", "DICT_UPDATE", "DICT_MERGE",
            "CONTAINS_OP", "GET_YIELD_FROM_ITER", "CALL_FUNCTION_EX"}
@@ -64,6 +68,7 @@ MADE_BY = {"__new__", "__init__", "__post_init__", "__init_subclass__", "__set_n
            "__prepare__"}
 WAKING = {"TaskStepMethWrapper", "TaskWakeupMethWrapper", "task_wakeup", "_release_waiter"}  # what loops call for tasks
 OF_BLOCKS = {"__enter__", "__exit__"}
+SERVES = "socketserver.BaseServer.serve_forever"
 BEGINS = {"threading.Thread._bootstrap", "threading.Thread._bootstrap_inner", "threading.Thread.run"}
 ENDS = {"threading.Event.wait", "threading.Condition.wait", "socket.socket.accept", "asyncio.tasks.sleep",
         "asyncio.streams.StreamReader.readline", "asyncio.streams.StreamReader.readuntil",
@@ -77,12 +82,18 @@ OF_CLASSES = ("dataclasses.py", "enum.py", "typing.py", "reprlib.py", "contextli
 PLAIN_HANDLERS = {"StreamHandler", "_StderrHandler", "FileHandler", "NullHandler", "RotatingFileHandler",
                   "TimedRotatingFileHandler", "WatchedFileHandler"}
 ITERATORS = (map, filter, itertools.starmap, itertools.takewhile, itertools.dropwhile, itertools.accumulate,
-             itertools.groupby, type(iter(int, 1)))
+             itertools.groupby, itertools.filterfalse, type(iter(int, 1)))
+KEPT = {"ExitStack", "AsyncExitStack", "closing", "aclosing", "redirect_stdout", "redirect_stderr"}  # of contextlib
+FILES = {"write", "writelines", "read", "readline", "readinto", "flush", "close", "seek", "tell"}
+MADE = {"Counter", "deque", "OrderedDict", "date", "datetime", "timedelta", "Path", "PurePath", "PosixPath", "Decimal"}
+ENDS_ALL = {"SystemExit", "KeyboardInterrupt", "GeneratorExit", "BaseException"}  # that end an event loop too
+SUSPENDING = (types.GeneratorType, types.CoroutineType, types.AsyncGeneratorType)
 SUSPENDED = ((types.GeneratorType, "gi_frame"), (types.CoroutineType, "cr_frame"),
              (types.AsyncGeneratorType, "ag_frame"))
 
 
 PLAIN = (types.FunctionType, staticmethod, classmethod, property, types.ModuleType)  # what a class or a module has
+OWNERS = (type, types.ModuleType, type(None))  # to which functions are bound that nobody else has
 PLAIN_OWNERS = (dict, list, set, frozenset, str, bytes, tuple, collections.deque, collections.Counter,
                 collections.OrderedDict, type(os.environ))  # whose methods call nothing but what values have for Python
 # Those of the library's objects whose methods call none of what they keep for others to call.
@@ -129,13 +140,33 @@ class Program:
             self.stored.update(step.argval for step in dis.get_instructions(code) if step.opname == "STORE_ATTR")
         self.sets_any = any(SETTING.intersection(code.co_names) for code in self.own_codes(codes))
         self.special, self.known = names_of_special(), {}
+        self.look_at_objects(codes)
         self.there = {id(frame) for frames, _ in stacks.values() for frame, _ in frames}
+
+    def look_at_objects(self, codes):
+        """Adds what the objects that there are have by names that no code shows, and what the library's bases have."""
+        for value in gc.get_objects():
+            if not isinstance(value, (type, types.ModuleType)) and any(map(self.may_act, gc.get_referents(value))):
+                rows = list(self.state.attributes_of(value).items())
+                self.stored.update(name for name, each in rows if type(name) is str and self.may_act(each))
+        self.late = {step.argval for code in self.own_codes(codes) for step in dis.get_instructions(code)
+                     if step.opname == "STORE_GLOBAL" or step.opname == "STORE_ATTR" and code.co_name not in MADE_BY}
+        bases = [each for kind in self.kinds.values() for each in kind.__mro__ if self.state.is_library(each)]
+        self.inherited = {name for each in bases if each is not object for name in each.__dict__} - HARMLESS
+        self.sets_any |= any(name in ("__getattr__", "__getattribute__") and type(value) is not types.FunctionType
+                             for kind in self.kinds.values() for name, value in list(kind.__dict__.items()))
+
+    def may_act(self, value):
+        """Whether a value is a function or the like of the program, or one that is bound to something."""
+        is_bound = type(value) in (types.BuiltinMethodType, types.MethodType) and value.__name__ not in HARMLESS
+        return self.is_called_back(value) or is_bound and not isinstance(value.__self__, OWNERS)
 
     def add(self, name, value):
         """Adds what a name of a module or a class stands for. Returns the names of a class."""
         inner = [each for each in (value, *self.state.wrapped_in(value)) if type(each) is types.FunctionType]
         self.functions[name] += inner
         if issubclass(type(value), type):
+            self.stored.update([name] if name != value.__name__ else ())
             is_new = id(value) not in self.kinds and not self.state.is_library(value)
             self.kinds.update({id(value): value} if is_new else {})
             return [*value.__dict__.items()] if is_new else []
@@ -154,12 +185,15 @@ class Program:
     def is_plain(self):
         """Whether nothing of the program is called that no code names: hooks of the library, and what runs once an
         object goes."""
-        hooks = [sys.excepthook is sys.__excepthook__, threading.excepthook is threading.__excepthook__,
+        hooks = [self.prints_plainly(), gc.get_freeze_count() < FROZEN, sys.excepthook is sys.__excepthook__,
+                 threading.excepthook is threading.__excepthook__,
                  sys.unraisablehook is sys.__unraisablehook__, not gc.callbacks, threading.gettrace() is None,
                  threading.getprofile() is None, self.is_of_library(warnings.showwarning)]
         finals = [each.func for each in list(weakref.finalize._registry.values())]
         owners = [getattr(each, "__self__", None) for each in finals]
         are_plain = all(each is None or isinstance(each, (type, types.ModuleType)) for each in owners)
+        weak = [each.__callback__ for each in gc.get_objects() if issubclass(type(each), weakref.ref)]
+        are_plain = are_plain and not any(map(self.is_called_back, weak))
         return all(hooks) and are_plain and all(map(self.is_of_library, finals)) and not self.is_patched()
 
     def is_of_library(self, function):
@@ -173,16 +207,20 @@ class Program:
         values = [value for module in modules for value in list(self.state.attributes_of(module).values())]
         inner = [each for kind in values if type(kind) is type and kind.__module__.split(".")[0] in PATCHED
                  for each in list(kind.__dict__.values())]
-        return any(type(each) is types.FunctionType and not self.is_of_library(each) for each in [*values, *inner])
+        return any(map(self.is_called_back, [*values, *inner]))
 
     def is_quiet(self, key):
         """Whether one ends nobody's wait. One that waits for work, or for what it is to write, does what others give
         it."""
         frames, called = self.stacks[key]
-        return is_idle([frame for frame, _ in frames]) or self.comes_to_nothing(lambda look: look.begin(frames, called))
+        return is_idle([frame for frame, _ in frames]) or self.comes_to_nothing(
+            lambda look: look.begin(frames, called, isinstance(key, str)))
 
     def are_quiet(self, loops):
         """Whether what event loops call by themselves ends nobody's wait."""
+        loops = list(loops)
+        if any(loop._exception_handler is not None for loop in loops) or loops and not self.logs_plainly():
+            return False
         handles = [(loop, handle) for loop in loops for handle in [*self.state.handles_of(loop), *loop._ready]]
         return self.comes_to_nothing(lambda look: [look.handle(*row) for row in handles])
 
@@ -200,7 +238,11 @@ class Program:
         """What Python calls for the objects that there are of the program's classes, and what its library does where
         they stand for its own."""
         found = [value for kind, name, value in self.alive
-                 if name not in MADE_BY | OF_BLOCKS and (is_special(name) or self.is_override(kind, name))]
+                 if name not in MADE_BY | OF_BLOCKS and (is_special(name) or self.is_override(kind, name))
+                 or name == "__init__" and issubclass(kind, threading.local)]
+        modules = [module for name, module in list(sys.modules.items()) if not self.state.is_library_module(name)]
+        found += [self.state.attributes_of(module).get("__getattr__") for module in modules]
+        found += self.functions.get("__class_getitem__", [])
         return [each for value in found for each in (value, *self.state.wrapped_in(value))
                 if type(each) is types.FunctionType]
 
@@ -254,7 +296,28 @@ class Program:
             and not any(it.filters for it in holders) and logging._logRecordFactory is logging.LogRecord \
             and all(type(getattr(it, "formatter", None)) in (type(None), logging.Formatter) for it in holders) \
             and all(type(it) in (logging.Logger, logging.RootLogger) for it in loggers) \
-            and all(is_file(getattr(it, "stream", None)) for it in holders)
+            and all(is_file(getattr(it, "stream", None)) for it in holders) \
+            and all(issubclass(type(each), logging.Handler) for it in loggers for each in it.handlers) \
+            and not any(self.has_hook(it) or self.has_hook(getattr(it, "formatter", None)) for it in holders)
+
+    def has_hook(self, value):
+        """Whether one of the library's objects has something of its own in the place of a method."""
+        return any(callable(each) and not isinstance(each, (type, types.BuiltinFunctionType))
+                   for each in list(self.state.attributes_of(value).values()))
+
+    def encodes_plainly(self):
+        coder = getattr(sys.modules.get("json"), "_default_encoder", None)
+        return type(coder).__name__ == "JSONEncoder" and self.state.is_library(type(coder)) and not self.has_hook(coder)
+
+    def has_no_factories(self):
+        """Whether no table makes what it lacks by a function or a class of the program."""
+        tables = [each for each in gc.get_objects() if issubclass(type(each), collections.defaultdict)]
+        return all(self.makes_plainly(each.default_factory) for each in tables if each.default_factory is not None)
+
+    def makes_plainly(self, value):
+        if type(value) is functools.partial:
+            return all(map(self.makes_plainly, (value.func, *value.args)))
+        return self.state.is_library(value) if isinstance(value, type) else self.is_of_library(value)
 
     def prints_plainly(self):
         return is_file(sys.stdout) and is_file(sys.stderr)
@@ -266,7 +329,7 @@ class Program:
 
     def has_no_barriers(self):
         """Whether there is nothing that one ends others' waits at by waiting there too."""
-        return not any(type(each).__name__ == "Barrier" for each in gc.get_objects())
+        return not any(kind.__name__ == "Barrier" for each in gc.get_objects() for kind in type(each).__mro__)
 
     def may_run(self, value):
         for kind, name in SUSPENDED:
@@ -274,8 +337,9 @@ class Program:
                 frame = getattr(value, name)
                 return frame is not None and id(frame) not in self.there and not self.state.is_standard(
                     frame.f_code.co_filename)
-        return type(value) in ITERATORS or type(value).__name__ in ("ExitStack", "AsyncExitStack") and bool(
-            value._exit_callbacks)
+        is_kept = any(kind.__name__ in KEPT for kind in type(value).__mro__)
+        calls = self.state.attributes_of(value).get("_exit_callbacks", True) if is_kept else ()
+        return type(value) in ITERATORS or bool(calls)
 
 
 PATCHED = {"threading", "queue", "time", "logging", "socket", "os", "posixpath", "asyncio", "io", "json", "selectors",
@@ -294,7 +358,7 @@ def is_harmless(value):
 
 
 def is_file(value):
-    return value is None or type(value) is io.TextIOWrapper
+    return value is None or type(value) is io.TextIOWrapper and not any(map(callable, vars(value).values()))
 
 
 def names_of_special():
@@ -312,13 +376,20 @@ class Look:
         self.program, self.state = program, program.state
         self.todo, self.seen, self.flags = [], set(), set()
 
-    def begin(self, frames, called):
-        """Takes the frames of one, which have to be the program's own but for those that begin it or have it wait."""
+    def begin(self, frames, called, is_task=False):
+        """Takes the frames of one, which have to be the program's own but for those that begin it or have it wait. What
+        a task raises is logged."""
+        self.flags.update(["logs_plainly"] if is_task else ())
         require(all(is_set_method(each) or type(each) is set or type(each).__module__ == "_asyncio" or each is None
                     for each in called))
         rows = [(frame, name_of(frame)) for frame, _ in frames]
         while rows and rows[-1][1] in BEGINS:
             rows.pop()
+        for function in self.program.made_by_itself:
+            self.follow(function)
+        if rows and rows[-1][1] == SERVES and all(name.startswith("selectors.") for _, name in rows[:-1]):
+            self.serve(rows[-1][0].f_locals["self"])
+            return
         while rows and rows[0][1] in ENDS:
             rows.pop(0)
         require(rows)
@@ -326,9 +397,15 @@ class Look:
             code = frame.f_code
             require(not self.state.is_standard(code.co_filename) and not self.state.blocks_at(code, frame.f_lasti))
             require(not code.co_flags & 0x220 and not is_in_for(code, frame.f_lasti))  # (it is no generator)
+            require(not any(isinstance(value, SUSPENDING) for value in list(frame.f_locals.values())))
             self.todo.append((code, frame.f_globals, frame.f_locals))
-        for function in self.program.made_by_itself:
-            self.follow(function)
+
+    def serve(self, server):
+        """Takes a server of the library that waits for a request: all functions of the program that it has, or its
+        handlers."""
+        for kind in [*type(server).__mro__, *server.RequestHandlerClass.__mro__]:
+            for value in [] if self.state.is_library(kind) else list(kind.__dict__.values()):
+                self.load(getattr(value, "__func__", value))
 
     def handle(self, loop, handle):
         """Takes what an event loop calls: for a signal that is a premise, and of its own it wakes tasks, reads for
@@ -340,8 +417,8 @@ class Look:
         if type(callback) is types.FunctionType and not self.program.is_of_library(callback):
             self.follow(callback)
         elif name == "_accept_connection" and on is loop:
-            for each in self.state.accepted_by(handle):
-                self.load(each)
+            for each in self.state.inside_function(handle._args[0]):
+                self.load(each.__func__ if type(each) is types.MethodType else each)
         elif name in ("_read_ready", "_write_ready"):
             require(type(on._protocol) is self.stream_protocol())
             self.load(on._protocol._client_connected_cb)
@@ -386,6 +463,8 @@ class Look:
         for at, step in enumerate(steps):
             require(step.opname not in REFUSED)
             self.flags.update(["has_no_iterators"] if step.opname in TOUCHES else ())
+            self.flags.update(["has_no_factories"] if step.opname == "BINARY_SUBSCR" else ())
+            require(step.opname != "CALL_FUNCTION_EX" or not step.arg & 1)  # (what is called by which name isn't known)
             if step.opname == "IMPORT_NAME":
                 require(step.argval in sys.modules)
             elif step.opname in ("BEFORE_WITH", "GET_AWAITABLE"):
@@ -395,12 +474,12 @@ class Look:
             elif step.opname == "MAKE_FUNCTION":
                 require(steps[at + 1].opname not in CALLS)  # (a decorator)
             elif step.opname in ("LOAD_CONST", "KW_NAMES"):
-                self.read_constant(steps, at, names)
+                value = code.co_consts[step.arg] if step.opname == "KW_NAMES" else step.argval
+                self.read_constant(value, steps, at, names)
             else:
                 self.read_name(steps, at, names, places)
 
-    def read_constant(self, steps, at, names):
-        value = steps[at].argval
+    def read_constant(self, value, steps, at, names):
         if type(value) is types.CodeType:
             self.todo.append((value, names, {}))
         if type(value) is tuple and (steps[at].opname == "KW_NAMES" or steps[at + 1].opname == "CALL_KW"):
@@ -415,7 +494,7 @@ class Look:
             self.call_from(steps, at, names) if is_called else self.load(value)
         elif step.opname == "LOAD_METHOD" or step.opname in ("LOAD_ATTR", "LOAD_SUPER_ATTR") and has_mark \
                 and sys.version_info >= (3, 12):
-            self.call_method(step.argval, owner_of(steps, at, names, places))
+            self.call_method(step.argval, self.owner_of(steps, at, names, places))
         elif step.opname in ("LOAD_ATTR", "STORE_ATTR", "DELETE_ATTR", "LOAD_SUPER_ATTR"):
             require(step.argval not in DYNAMIC)
             for function in self.program.functions.get(step.argval, ()):
@@ -424,19 +503,24 @@ class Look:
             self.call_any(steps, at, names)
 
     def load(self, value):
-        """A function that is handed on may be called."""
+        """A function that is handed on may be called, and an error that is raised is made."""
+        if isinstance(value, type) and issubclass(value, BaseException):
+            require(value.__name__ not in ENDS_ALL)
+            self.make(value)
         if type(value) is types.FunctionType and not self.program.is_of_library(value):
             self.follow(value)
 
     def call_global(self, name, value):
+        require(name not in self.program.late)
         if value is vars(builtins).get(name, NotKnown):
-            is_error = isinstance(value, type) and issubclass(value, BaseException)
+            is_error = isinstance(value, type) and issubclass(value, Exception)
             require(name in OF_BUILTINS or name in ITERATING or is_error)
             self.flags.update(["has_no_iterators"] if name in ITERATING or name == "open" else ())
             self.flags.update(["prints_plainly"] if name == "print" else ())
         elif isinstance(value, type):
             self.make(value)
-        elif type(value) is types.FunctionType and not self.program.is_of_library(value):
+        elif type(value) is types.FunctionType and (
+                not self.program.is_of_library(value) or hasattr(value, "__wrapped__")):
             self.follow(value)
         else:
             require(type(value) in (types.FunctionType, types.BuiltinFunctionType) and value.__name__ in HARMLESS)
@@ -445,22 +529,25 @@ class Look:
     def make(self, kind):
         """An object of a class is made."""
         if self.state.is_library(kind):
-            require(kind.__name__ in HARMLESS or issubclass(kind, BaseException))
+            require(kind.__name__ in HARMLESS | MADE or issubclass(kind, BaseException))
+            self.flags.add("has_no_iterators")
             return
         require(self.state.is_library(type(kind)))
         for each in kind.__mro__:
             if self.state.is_library(each):
                 require(each in (object, tuple) or issubclass(each, BaseException))
                 continue
-            for name in MADE_BY - {"__call__"} | OF_BLOCKS | {"__del__"}:
-                value = each.__dict__.get(name)
-                if value is not None:
-                    self.follow(getattr(value, "__func__", value))
+            for name, value in list(each.__dict__.items()):
+                value = getattr(value, "__func__", value)
+                if name != "__call__" and type(value) is types.FunctionType and (
+                        is_special(name) or self.program.is_override(each, name)):
+                    self.follow(value)
 
     def call_method(self, name, owner):
         """A method is called, of an object, a class or a module, if that is known."""
         require(name not in DYNAMIC)
         if isinstance(owner, types.ModuleType):
+            require(name != "dumps" or owner.__name__ == "json")
             self.call_global(name, self.state.attributes_of(owner).get(name, NotKnown))
             return
         if type(owner) in PLAIN_OWNERS:
@@ -470,20 +557,25 @@ class Look:
         is_own = owner is not NotKnown and name in self.state.attributes_of(owner) and not isinstance(owner, type)
         require(not is_own and name not in self.program.stored and not (self.program.sets_any and owner is NotKnown))
         require(name not in self.program.hooked)
-        require(name in HARMLESS or functions and name not in self.program.special)
+        is_own = functions and name not in self.program.special and name not in self.program.inherited
+        require(name in HARMLESS and name != "dumps" or name in ("__setattr__", "__delattr__") or is_own)
         self.rest_on(name)
-        for function in functions:
-            self.follow(function)
+        for each in FILES if name in FILES else [name]:
+            for function in self.program.functions.get(each, ()):
+                self.follow(function)
 
     def rest_on(self, name):
+        self.flags.update(["encodes_plainly"] if name == "dumps" else ())
         self.flags.update(["logs_plainly"] if name in LOGS else ["prints_plainly"] if name in PRINTS else ())
         self.flags.update(["has_no_iterators"] if name in TOUCHING else ["has_no_barriers"] if name == "wait" else ())
 
     def call_any(self, steps, at, names):
         """What stands behind a mark for a call, or from Python 3.13 on before it, is called."""
         if sys.version_info >= (3, 13):
+            require(not steps[at].is_jump_target and not steps[at - 1].is_jump_target)
             self.call_by(steps, at - 1, names)
         else:
+            require(not (steps[at + 1].opname == "LOAD_GLOBAL" and steps[at + 1].arg & 1))  # (its result is called)
             self.call_from(steps, at + 1, names)
 
     def call_from(self, steps, at, names):
@@ -501,7 +593,23 @@ class Look:
             self.call_global(name, names.get(name, vars(builtins).get(name, NotKnown)))
         else:
             require(steps[at].opname == "LOAD_ATTR")
-            self.call_method(name, owner_of(steps, at, names, {}))
+            self.call_method(name, self.owner_of(steps, at, names, {}))
+
+    def owner_of(self, steps, at, names, places):
+        """The object whose method a step names, if the steps before it name that, no code has to run for it, and none
+        puts another one into its place."""
+        start = at
+        while start > 0 and steps[start - 1].opname == "LOAD_ATTR":
+            start -= 1
+        first, inner = steps[start - 1] if start else steps[at], [step.argval for step in steps[start:at]]
+        if not self.program.late.isdisjoint([first.argval, *inner]):
+            return NotKnown
+        if first.opname.startswith("LOAD_FAST") and type(first.argval) is str:
+            is_stored = any(step.opname.startswith("STORE_FAST") and first.argval in str(step.argval) for step in steps)
+            value = NotKnown if is_stored else places.get(first.argval, NotKnown)
+        else:
+            value = names.get(first.argval, NotKnown) if first.opname in ("LOAD_GLOBAL", "LOAD_NAME") else NotKnown
+        return functools.reduce(step_into, inner, value)
 
 
 def is_called_at_once(steps, at):
@@ -516,22 +624,6 @@ def is_called_at_once(steps, at):
         if height < 2:
             return step.opname in CALLS
     return False
-
-
-def owner_of(steps, at, names, places):
-    """The object whose method a step names, if the steps before it name that and no code has to run for it."""
-    start = at
-    while start > 0 and steps[start - 1].opname == "LOAD_ATTR":
-        start -= 1
-    first = steps[start - 1] if start else steps[at]
-    if first.opname.startswith("LOAD_FAST") and type(first.argval) is str:
-        is_stored = any(step.opname.startswith("STORE_FAST") and first.argval in str(step.argval) for step in steps)
-        value = NotKnown if is_stored else places.get(first.argval, NotKnown)
-    else:
-        value = names.get(first.argval, NotKnown) if first.opname in ("LOAD_GLOBAL", "LOAD_NAME") else NotKnown
-    for step in steps[start:at]:
-        value = step_into(value, step.argval)
-    return value
 
 
 def step_into(value, name):

@@ -125,6 +125,7 @@ SETTLE = 0.05  # seconds from the signal to the first look: the signal wakes the
 # What tells one object from a later one at its place: by place, a weak reference and a number.
 NUMBERS: "dict[int, tuple[weakref.ref, int]]" = {}
 NEXT = itertools.count(1)
+HEAP_TYPE = 1 << 9  # the flag of a class that code has made
 
 
 # What stands in a state of one value.
@@ -325,7 +326,7 @@ def attribute_of(value, name):
     found = next((kind.__dict__[name] for kind in kinds if name in kind.__dict__), Method)
     if type(found) is types.MemberDescriptorType:
         return found.__get__(value, type(value))
-    own = object.__getattribute__(value, "__dict__")
+    own = attributes_of(value)
     if name in own and not hasattr(type(found), "__set__"):
         return own[name]
     raise ValueError(name)
@@ -708,7 +709,9 @@ def stack_of(frame):
 
 def letters_of(coroutine):
     """How the attributes of a coroutine, a generator or an asynchronous generator begin, or nothing of others."""
-    return next((letters for letters in ("cr", "gi", "ag") if hasattr(coroutine, f"{letters}_frame")), "")
+    kinds = type.__dict__["__mro__"].__get__(type(coroutine))
+    names = {name for kind in kinds for name in ("cr_frame", "gi_frame", "ag_frame") if name in kind.__dict__}
+    return min(names)[:2] if names else ""
 
 
 def coroutines_of(coroutine):
@@ -831,7 +834,7 @@ def attributes_in(value):
     kinds = type.__dict__["__mro__"].__get__(value if isinstance(value, type) else type(value))
     found = []
     with contextlib.suppress(AttributeError, TypeError):
-        found += [] if isinstance(value, type) else object.__getattribute__(value, "__dict__").values()
+        found += [] if isinstance(value, type) else attributes_of(value).values()
     for each in [each for kind in kinds if kind is not object for each in list(kind.__dict__.values())]:
         if type(each) in (list, dict, set, tuple):
             found.append(each)
@@ -909,9 +912,10 @@ def kinds_of(values):
 
 
 def attributes_of(value):
-    """The attributes of a module or an object, if no code of the job has to run for it."""
+    """The attributes of a module or an object, if no code of the job has to run for it. What threads have each for
+    themselves would be made anew for this one."""
     try:
-        return object.__getattribute__(value, "__dict__")
+        return {} if issubclass(type(value), threading.local) else object.__getattribute__(value, "__dict__")
     except (AttributeError, TypeError):
         return {}
 
@@ -1310,20 +1314,25 @@ def functions_by_name():
 
 
 def is_library(kind):
-    """Whether a class is of Python's library."""
-    return is_library_module(kind.__module__)
+    """Whether a class is of Python's library. One that code without a module makes calls itself one of builtins."""
+    is_made = kind.__module__ == "builtins" and kind.__flags__ & HEAP_TYPE
+    return not is_made and is_library_module(kind.__module__)
 
 
 def is_library_module(name):
-    """Whether a module is of Python's library, or this one, or what this one asks."""
-    path = str(attributes_of(sys.modules.get(name)).get("__file__", "<frozen"))
-    return name != "__main__" and (is_standard(path) or path == __file__ or name == "cmh_quiet")
+    """Whether a module is of Python's library, or this one, or what this one asks. One that isn't known isn't."""
+    module = sys.modules.get(name)
+    path = attributes_of(module).get("__file__")
+    if path is None:
+        spec = attributes_of(module).get("__spec__")
+        return name in sys.builtin_module_names or name.startswith("typing.") or getattr(spec, "origin", "") == "frozen"
+    return name != "__main__" and (is_standard(str(path)) or path == __file__ or name == "cmh_quiet")
 
 
 def wrapped_in(value):
     """The functions in what stands for one in a class or a module."""
     if type(value) is property:
-        return [value.fget, value.fset]
+        return [value.fget, value.fset, value.fdel]
     if type(value) in (staticmethod, classmethod, types.MethodType):
         return [value.__func__]
     inner = attributes_of(value).get("__wrapped__", attributes_of(value).get("func"))

@@ -124,11 +124,14 @@ def bound_of(standing: Standing, at: Any) -> Optional[List[str]]:
 
 def ending_in(look: Look, name_of: Any) -> Optional[List[str]]:
     """The threads and tasks of an OS process that may end waits there, or None if others may too: all but those whose
-    code ends none, and threads that wait for the events of a loop, which calls nothing that does."""
+    code ends none, those that only wait for a signal to stop, and threads that wait for the events of a loop, which
+    calls nothing that does."""
     if look.quiet is None or look.head.get("others") != 0 or look.asked or not look.is_whole:
         return None
-    keys = [row.key for row in look.threads.values() if not is_idle_loop(row.frames)] + [*look.tasks]
-    names = [name_of(key) for key in keys if key not in look.quiet]
+    idle = [row.key for row in look.threads.values() if row.more.get("loop") is not None and is_idle_loop(row.frames)]
+    keys = [key for key in (*look.threads, *look.tasks) if key not in idle]
+    rows = {**look.threads, **look.tasks}
+    names = [name_of(key) for key in keys if key not in look.quiet and rows[key].more.get("at") not in look.stopped]
     return None if None in names or len(names) > MOST else names
 
 

@@ -1,15 +1,16 @@
 """Threads and tasks that only tick, by the names quiet_.., and others that do so too and then free somebody, frees_..
 
-usage: tickers.py [HOOK]
+usage: tickers.py HOOK FILE
 
-Prints the names of those that cmh_quiet takes for quiet, as JSON. HOOK is a name in HOOKS, which does something to the
-whole program beforehand.
+Writes the names of those that cmh_quiet takes for quiet into a file, as JSON. HOOK is a name in HOOKS, which does
+something to the whole program beforehand.
 """
 import asyncio
 import contextlib
 import dataclasses
 import functools
 import gc
+import http.server
 import json
 import logging
 import logging.handlers
@@ -106,7 +107,7 @@ def quiet_sleeper():
 
 def quiet_printer():
     while True:
-        print("alive", counts["done"], len(counts), file=sys.stderr)
+        print("alive", counts["done"], len(counts))
         time.sleep(1000)
 
 
@@ -150,6 +151,25 @@ def quiet_acceptor():
         client, _ = server.accept()
         with client:
             client.sendall(b"%d\n" % counts["done"])
+
+
+class Status(http.server.BaseHTTPRequestHandler):
+    def do_GET(self):
+        self.send_response(200)
+        self.end_headers()
+        self.wfile.write(stats.line().encode())
+
+    def log_message(self, *row):
+        pass
+
+
+class Control(http.server.BaseHTTPRequestHandler):
+    def do_POST(self):
+        box.put(self.path)
+
+
+def serve(handler):
+    return http.server.ThreadingHTTPServer(("127.0.0.1", 0), handler).serve_forever
 
 
 def frees_at_once():
@@ -202,6 +222,16 @@ def frees_by_argument(action=functools.partial(box.put, 1)):
 def frees_by_sorting():
     time.sleep(1000)
     return sorted([2, 1], key=lambda it: box.put(it) or it)
+
+
+def frees_by_a_key():
+    time.sleep(1000)
+    return sorted([2, 1], key=stats.callback)
+
+
+def frees_by_printing():
+    time.sleep(1000)
+    print("alive", file=stats.callback)
 
 
 def frees_by_mapping():
@@ -345,19 +375,21 @@ HOOKS = {
 
 
 def main():
-    HOOKS[sys.argv[1] if sys.argv[1:] else "none"]()
+    HOOKS[sys.argv[1]]()
     for name, each in list(globals().items()):
         if type(each) is types.FunctionType and name.startswith(("quiet_", "frees_")) and not each.__code__.co_flags & 0x80:
             threading.Thread(target=each, name=name, daemon=True).start()
     threading.Thread(target=lambda: asyncio.run(tasks()), name="loop", daemon=True).start()
+    for name, handler in (("quiet_status", Status), ("frees_on_request", Control)):
+        threading.Thread(target=serve(handler), name=name, daemon=True).start()
     threading.Event().wait(0.5)
     stacks = cmh_state.stacks_of_all()
     names = {each.ident: each.name for each in threading.enumerate()}
     names.update({hex(id(each)): each.get_name() for each in cmh_state.tasks_of_all()})
     row = cmh_quiet.quiet_row(stacks, cmh_state)
-    print(json.dumps({"quiet": sorted(names[key] for key in row["quiet"]), "loops": row["loops"],
-                      "all": sorted(names.values())}))
-    sys.stdout.flush()
+    with open(sys.argv[2], "w") as out:
+        json.dump({"quiet": sorted(names[key] for key in row["quiet"]), "loops": row["loops"],
+                   "all": sorted(names.values())}, out)
     os._exit(0)
 
 
