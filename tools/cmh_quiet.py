@@ -339,7 +339,7 @@ class Program:
                     frame.f_code.co_filename)
         is_kept = any(kind.__name__ in KEPT for kind in type(value).__mro__)
         calls = self.state.attributes_of(value).get("_exit_callbacks", True) if is_kept else ()
-        return type(value) in ITERATORS or bool(calls)
+        return bool(calls) or type(value) in ITERATORS and any(map(self.may_act, gc.get_referents(value)))
 
 
 PATCHED = {"threading", "queue", "time", "logging", "socket", "os", "posixpath", "asyncio", "io", "json", "selectors",

@@ -1323,6 +1323,8 @@ def is_library_module(name):
     """Whether a module is of Python's library, or this one, or what this one asks. One that isn't known isn't."""
     module = sys.modules.get(name)
     path = attributes_of(module).get("__file__")
+    if module is None:
+        return name.split(".")[0] in getattr(sys, "stdlib_module_names", ())
     if path is None:
         spec = attributes_of(module).get("__spec__")
         return name in sys.builtin_module_names or name.startswith("typing.") or getattr(spec, "origin", "") == "frozen"
@@ -1931,7 +1933,7 @@ def state(number=0):
     tasks = guarded(task_rows, loops, {} if "error" in tasks_before else tasks_before, holders, wakers)
     is_known = isinstance(wakers, Wakers)
     looks = (wakers.rows, wakers.shared_rows, wakers.sleepers, wakers.quiet_rows) if is_known else ()
-    waits = [*map(guarded, looks)]
+    waits = [guarded(each) for each in looks]
     waits.append(guarded(taken_rows))
     rows = [*threads, *(tasks if isinstance(tasks, list) else [tasks]), *children_rows(),
             *(row for some in waits if isinstance(some, list) for row in some)]
