@@ -146,15 +146,23 @@ class Program:
     def look_at_objects(self, codes):
         """Adds what the objects that there are have by names that no code shows, and what the library's bases have."""
         for value in gc.get_objects():
-            if not isinstance(value, (type, types.ModuleType)) and any(map(self.may_act, gc.get_referents(value))):
+            if not isinstance(value, (type, types.ModuleType)) and self.has_acting(value):
                 rows = list(self.state.attributes_of(value).items())
                 self.stored.update(name for name, each in rows if type(name) is str and self.may_act(each))
         self.late = {step.argval for code in self.own_codes(codes) for step in dis.get_instructions(code)
                      if step.opname == "STORE_GLOBAL" or step.opname == "STORE_ATTR" and code.co_name not in MADE_BY}
         bases = [each for kind in self.kinds.values() for each in kind.__mro__ if self.state.is_library(each)]
         self.inherited = {name for each in bases if each is not object for name in each.__dict__} - HARMLESS
-        self.sets_any |= any(name in ("__getattr__", "__getattribute__") and type(value) is not types.FunctionType
-                             for kind in self.kinds.values() for name, value in list(kind.__dict__.items()))
+        rows = [row for kind in self.kinds.values() for row in list(kind.__dict__.items())]
+        finders = [value for name, value in rows if name in ("__getattr__", "__getattribute__")]
+        is_odd = any(type(each) is not types.FunctionType for each in finders)
+        self.sets_any = self.sets_any or is_odd or "unittest.mock" in sys.modules
+
+    def has_acting(self, value):
+        """Whether an object has such a value in an attribute, which may stand in a table of its own."""
+        inner = gc.get_referents(value)
+        tables = [each for each in inner if type(each) is dict] if type(value).__dictoffset__ else []
+        return any(map(self.may_act, inner)) or any(self.may_act(it) for each in tables for it in list(each.values()))
 
     def may_act(self, value):
         """Whether a value is a function or the like of the program, or one that is bound to something."""
@@ -260,8 +268,10 @@ class Program:
         found = set()
         for value in gc.get_objects():
             kind = type(value)
-            if self.state.is_library(kind) and kind.__module__ != "builtins" and any(
-                    map(self.is_called_back, list(self.state.attributes_of(value).values()))):
+            inner = list(self.state.attributes_of(value).values()) if kind.__module__ != "builtins" else []
+            is_loop = kind.__module__.startswith("asyncio.")
+            is_duck = is_loop and not all(self.state.is_library(type(each)) for each in inner)
+            if self.state.is_library(kind) and (is_duck or any(map(self.is_called_back, inner))):
                 names = {f"{each.__module__}.{each.__qualname__}" for each in kind.__mro__}
                 found.update(name for each in kind.__mro__ if names.isdisjoint(KEEPING) for name in each.__dict__)
         return found
@@ -494,7 +504,7 @@ class Look:
             self.call_from(steps, at, names) if is_called else self.load(value)
         elif step.opname == "LOAD_METHOD" or step.opname in ("LOAD_ATTR", "LOAD_SUPER_ATTR") and has_mark \
                 and sys.version_info >= (3, 12):
-            self.call_method(step.argval, self.owner_of(steps, at, names, places))
+            self.call_method(step.argval, self.owner_of(steps, at, names, places), steps, at)
         elif step.opname in ("LOAD_ATTR", "STORE_ATTR", "DELETE_ATTR", "LOAD_SUPER_ATTR"):
             require(step.argval not in DYNAMIC)
             for function in self.program.functions.get(step.argval, ()):
@@ -543,7 +553,7 @@ class Look:
                         is_special(name) or self.program.is_override(each, name)):
                     self.follow(value)
 
-    def call_method(self, name, owner):
+    def call_method(self, name, owner, steps=(), at=0):
         """A method is called, of an object, a class or a module, if that is known."""
         require(name not in DYNAMIC)
         if isinstance(owner, types.ModuleType):
@@ -554,11 +564,13 @@ class Look:
             self.flags.add("has_no_iterators")
             return
         functions = self.program.functions.get(name, ())
-        is_own = owner is not NotKnown and name in self.state.attributes_of(owner) and not isinstance(owner, type)
+        is_own = owner is not NotKnown and not isinstance(owner, type) and (
+            name in self.state.attributes_of(owner) or not any(name in kind.__dict__ for kind in type(owner).__mro__))
         require(not is_own and name not in self.program.stored and not (self.program.sets_any and owner is NotKnown))
         require(name not in self.program.hooked)
         is_own = functions and name not in self.program.special and name not in self.program.inherited
         require(name in HARMLESS and name != "dumps" or name in ("__setattr__", "__delattr__") or is_own)
+        require(name not in ("encode", "decode") or arguments_after(steps, at) < 2)  # (a handler of errors is called)
         self.rest_on(name)
         for each in FILES if name in FILES else [name]:
             for function in self.program.functions.get(each, ()):
@@ -610,6 +622,11 @@ class Look:
         else:
             value = names.get(first.argval, NotKnown) if first.opname in ("LOAD_GLOBAL", "LOAD_NAME") else NotKnown
         return functools.reduce(step_into, inner, value)
+
+
+def arguments_after(steps, at):
+    """How many arguments the next call has, or nobody's if there is none."""
+    return next((step.arg for step in steps[at + 1:] if step.opname in ("CALL", "CALL_KW", "CALL_FUNCTION_EX")), 0)
 
 
 def is_called_at_once(steps, at):

@@ -286,9 +286,10 @@ class JvmRecorder(Recorder):
         reach = moment.heaps.reach_of(thread)
         if reach is not None and (LATCH.fullmatch(place.call) or not NEEDS_ALL.fullmatch(place.call)):
             bound, because = moment.heaps.bound_of(thread, place.has(OF_TASKS))
+            is_meant = not bound and (thread.name == "main" or not TASK.fullmatch(place.call))  # (as to wait for ever)
             return unknown(name, f"{what}: the heap shows who has a reference to it, and not who ends this wait",
                            candidates=[*moment.heaps.in_order([*reach, name]), COMPLETE],
-                           bound=None if moment.lacks else bound or None,
+                           bound=None if moment.lacks or is_meant else bound,
                            bound_by=list(map(premise, because)))
         workers = moment.workers if TASK.fullmatch(place.call) and not FUTURE.fullmatch(place.call) else []
         return unknown(name, f"{what}: the state doesn't show what ends this wait", candidates=workers)
@@ -304,7 +305,7 @@ class JvmRecorder(Recorder):
             return unknown(name, why, candidates=[*writers, COMPLETE])
         if len(writers) > 1:
             why = f"{what}: {len(writers)} wait to write with this lock, and the state doesn't show behind which"
-            return unknown(name, why, candidates=[*writers, COMPLETE])
+            return waits_for_any(name, writers, [premise(QUEUED), *frail], choice=(why, []), is_open=moment.lacks)
         return waits_for_any(name, writers, [premise(QUEUED), *frail], is_open=moment.lacks)
 
     def besides_of(self, thread: Thread, place: Place, moment: Threads) -> List[str]:

@@ -91,7 +91,7 @@ def by_names(standing: Standing) -> Wait:
     found = standing.sharers.get(shared_in(standing)) or found
     names = [name for name in dict.fromkeys(found) if name != standing.name_of(standing.row.key)]
     wait.likely = names if len(names) <= LIKELY and None not in names else []
-    wait.is_inside = at is not None
+    wait.is_inside = at is not None and not any(each.at.startswith("multiprocessing.") for each in standing.standard)
     wait.bound = bound_of(standing, at)
     is_stopped = is_main and (at in look.stopped or PAUSES.match(operation) is not None)
     if is_stopped or at in look.endless or operation == "Server.accepter":
