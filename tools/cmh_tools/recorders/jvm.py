@@ -26,8 +26,8 @@ from .jvm_dumps import read_dumps
 from .jvm_frames import (AGAIN, BARRIER, CLEANER, COMPUTES, CONDITION, FUTURE, HAS_TIMER, INTERRUPTIBLY, INTERRUPTS,
                          LATCH, LIMITED, LIMITS_FUTURES, LONG, MEETS, NEEDS_ALL, OF_ITEMS, OF_LOCKS, OF_QUEUES,
                          OF_TASKS, POOLED, POOLS_OWN, READS, READS_PIPE, REENTRANT, SLEEP, SOCKETS, TASK, WORKER,
-                         YIELDS, Place, caller_of, is_at_inbox, is_for_outside, is_in, is_like, is_of_jvm, looks_on,
-                         own_of, place_of, short, tries_again)
+                         YIELDS, Place, awaits_task, caller_of, is_at_inbox, is_for_outside, is_in, is_like, is_of_jvm,
+                         looks_on, own_of, place_of, short, tries_again)
 from .jvm_heap import Heap, Heaps, is_between, read_heap
 from .jvm_heap import PREMISES as OF_HEAPS
 from .jvm_locks import Locks, monitors_of, objects_of
@@ -286,7 +286,7 @@ class JvmRecorder(Recorder):
         reach = moment.heaps.reach_of(thread)
         if reach is not None and (LATCH.fullmatch(place.call) or not NEEDS_ALL.fullmatch(place.call)):
             bound, because = moment.heaps.bound_of(thread, place.has(OF_TASKS))
-            is_meant = not bound and (thread.name == "main" or not TASK.fullmatch(place.call))  # (as to wait for ever)
+            is_meant = not bound and not awaits_task(thread)  # (as to wait for ever)
             return unknown(name, f"{what}: the heap shows who has a reference to it, and not who ends this wait",
                            candidates=[*moment.heaps.in_order([*reach, name]), COMPLETE],
                            bound=None if moment.lacks or is_meant else bound,

@@ -214,6 +214,11 @@ def looks_on(thread: Thread) -> bool:
             or thread.is_daemon and own != [] and not named and not is_in(POOLED, stack_of(thread)))
 
 
+def awaits_task(thread: Thread) -> bool:
+    """Whether a thread waits for a task or a future, which nobody does for ever by intent, unless it is main."""
+    return thread.name != "main" and TASK.fullmatch(place_of(thread).call) is not None
+
+
 def is_at_inbox(place: Place) -> bool:
     """Whether one waits for its next message, at the function that it was started with."""
     return INBOX.fullmatch(place.call) is not None and all(map(NAMELESS.search, place.frames[1:]))

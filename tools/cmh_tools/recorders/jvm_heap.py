@@ -13,7 +13,7 @@ from ..files import Refusal, shown
 from ..sketch import COMPLETE, SYSTEM, Process, premise, unknown, waits_for_all, waits_for_any
 from .base import misfits
 from .jvm_code import CODE, Code
-from .jvm_frames import FINDS_THREADS, is_in, is_of_jvm
+from .jvm_frames import FINDS_THREADS, awaits_task, is_in, is_of_jvm
 from .jvm_locks import Locks
 from .jvm_rows import LABEL, Label, frames_of, key_of, label_of, plain, trees_in
 from .jvm_text import Dump, Thread, stack_of
@@ -150,9 +150,9 @@ class Heaps:
 
     def bound_of(self, thread: Thread, is_task: bool) -> Tuple[List[str], List[str]]:
         """Returns the names of all who may end the wait of a thread, and by which premises: who have a reference, but
-        for those at what nobody has but they, and those whose code ends none. One that joins another, or waits for a
-        task, goes on without a reference to it."""
-        some = [it for it in self.enders_of(thread) or () if not self.is_lost(it)]
+        for those at what nobody has but they, unless it is a task, and those whose code ends none. One that joins
+        another, or waits for a task, goes on without a reference to it."""
+        some = [it for it in self.enders_of(thread) or () if not self.is_lost(it) or awaits_task(it)]
         found = [it for it in some if not self.frees_nobody(it, is_task)]
         return [self.names[it.key] for it in found], [REACHES, *([CODE] if len(found) < len(some) else [])]
 
