@@ -83,7 +83,7 @@ WAKES = re.compile(r"java/util/concurrent/(?:locks/(?:AbstractQueued(?:Long)?Syn
                    r"|Phaser\$QNode|FutureTask\$WaitNode|CompletableFuture\$Signaller|ForkJoinTask\$Aux)"
                    r"\.(?:thread|waiter|parked)"
                    r"|java/lang/(?:ThreadGroup\.threads|Thread\.parkBlocker|ref/Reference\.discovered)")
-OWN = re.compile(r"java/lang/Thread\.(?:target|holder|threadLocals|inheritableThreadLocals"
+OWN = re.compile(r"java/lang/Thread\.(?:threadLocals|inheritableThreadLocals"
                  r"|inheritedAccessControlContext|blocker|scopedValueBindings)")
 BY_ANY, BY_ITSELF, UNUSED = range(3)
 REFERENT, PHANTOM = "java/lang/ref/Reference.referent", "java/lang/ref/PhantomReference"
