@@ -750,12 +750,13 @@ class Waits:
 
     def tasks_of(self, thread: Thread) -> Row:
         """Returns the methods that run what a thread has to do later, as 'Job$$Lambda$7+0x1f.run(LI)', with the kinds
-        of what a lambda has, if no class but the JDK's own calls them."""
+        of what a lambda has, if no class but the JDK's own calls them, and its pool begins no more threads."""
         is_timer, works = thread.top(TIMER), self.to_do(thread)
         runners = [] if is_timer else [self.heap.kinds[it] for it in (*works, *self.pools_of(thread))]
         calls = [(it, "run") if is_timer else (self.found[TASK][it][4], "call") for it in works]
         calls = [(self.found[ADAPTER][it][0], "run") if it in self.found[ADAPTER] else (it, name) for it, name in calls]
-        is_plain = all(self.heap.name_of(it).startswith(SCHEDULER) for it in runners)
+        is_plain = all(self.heap.name_of(it).startswith(SCHEDULER) for it in runners) and all(
+            it in self.found[POOL] and len(self.workers(it)) >= self.found[POOL][it][1] for it in self.pools_of(thread))
         if not is_plain or not 0 < len(calls) <= STEPS or {ADAPTER, TASK, TIMED, WORKER} & self.heap.over:
             return {}
         kinds = {(self.heap.kind_of(it or 0), name) for it, name in calls}
