@@ -13,7 +13,8 @@ import zipfile
 from typing import Any, Dict, Iterator, List, NamedTuple, Set, Tuple
 
 MOST_FILES = 30_000  # on the class path, with its folders
-ABOUT = "META-INF/MANIFEST.MF"
+ABOUT, INDEX = "META-INF/MANIFEST.MF", "META-INF/INDEX.LIST"
+FIRST_VERSION = 8  # of the JDK, of which an archive may have classes of their own
 SLACK = 0.05  # seconds by which a file may seem newer than the JVM's start, which is counted in hundredths
 # The loaders of the JDK's own.
 LOADER = re.compile(r'<bootstrap>|"(?:platform|app)", jdk\.internal\.loader\.ClassLoaders\$\w+'
@@ -326,24 +327,29 @@ class Path:
     def in_archive(self, path: str) -> Iterator[Tuple[str, bytes]]:
         with zipfile.ZipFile(path) as archive:
             names = archive.namelist()
-            about = archive.read(ABOUT).decode(errors="replace") if ABOUT in names else ""
-            about = re.sub(r"\r?\n ", "", about)
-            is_multiple = re.search(r"(?im)^Multi-Release: *true", about) is not None
+            heads = [name for name in names if name.upper() == ABOUT]
+            if len(set(names)) < len(names) or len(heads) > 1 or any(name.upper() == INDEX for name in names):
+                raise Fault(f"{path} has a file twice, or an index")
+            about = "".join(archive.read(name).decode(errors="replace") for name in heads)
+            about = re.sub(r"\r\n?", "\n", about).replace("\n ", "")
+            is_multiple = re.search(r"(?im)^Multi-Release: true$", about.partition("\n\n")[0]) is not None
+            if not is_multiple and re.search(r"(?i)Multi-Release\s*:\s*true", about):
+                raise Fault(f"{path} may have classes for some versions")
             rows = [(*version_of(name), name) for name in names if name.endswith(".class")]
             for version, short, name in sorted(rows, key=lambda row: -row[0]):
                 self.count()
-                if not version or is_multiple and version <= self.version:
+                if not version or is_multiple and FIRST_VERSION <= version <= self.version:
                     yield short, archive.read(name)
         more = re.search(r"(?im)^Class-Path: *(.*)", about)
-        if len(set(names)) < len(names) or more and re.search("[:%]", more[1]):
-            raise Fault(f"{path} has a file twice, or names others by an address")
+        if more and re.search("[:%]", more[1]):
+            raise Fault(f"{path} names others by an address")
         for it in more[1].split() if more else ():
             yield from self.files_at(os.path.join(os.path.dirname(path), it))
 
 
 def version_of(name: str) -> Tuple[int, str]:
     """Returns for which version of the JDK on a class of an archive is, or 0 if it is for all, and its own name."""
-    found = re.match(r"META-INF/versions/(\d+)/", name)
+    found = re.match(r"META-INF/versions/([1-9]\d*)/", name)
     return (int(found[1]), name[found.end():-6]) if found else (0, name[:-6])
 
 
