@@ -188,6 +188,10 @@ class ClassFile:
         interface, called = call.types.rpartition(")L")[2].rstrip(";"), self.handle(self.made(call)[1][1])
         return Lambda(call.name, interface, called, "".join(sorted(taken)))
 
+    def others(self) -> Iterator[str]:
+        """Yields all classes that the class names."""
+        return (self.text(index) for index, (tag, _) in enumerate(self.pool) if tag == 7)
+
     def named(self) -> Iterator[str]:
         """Yields all methods that the class names, as 'java/lang/System.exit'."""
         for index, (tag, _) in enumerate(self.pool):
@@ -274,6 +278,7 @@ class Path:
         self.here, self.entries = here, settings["java.class.path"].split(":")
         self.seen: Set[str] = set()
         self.number = 0
+        self.has_folder = False
 
     def files(self) -> Iterator[Tuple[str, bytes]]:
         """Yields all class files, in the order in which the JVM looks for them, each with the class that it has to have
@@ -314,6 +319,7 @@ class Path:
             raise Fault(f"its class path has more than {MOST_FILES:,} classes")
 
     def in_folder(self, path: str) -> Iterator[Tuple[str, bytes]]:
+        self.has_folder = True
         for folder, folders, names in os.walk(path):
             if any(os.path.islink(f"{folder}/{it}") for it in folders):
                 raise Fault(f"{folder} has a link to a folder")
@@ -353,12 +359,12 @@ def version_of(name: str) -> Tuple[int, str]:
     return (int(found[1]), name[found.end():-6]) if found else (0, name[:-6])
 
 
-def classes_of(pid: str) -> Iterator[Tuple[str, bytes]]:
-    """Yields the names and the class files of a process that runs no code but that of its class path."""
+def path_of(pid: str) -> Path:
+    """Returns the class path of a process that runs no code but that of it."""
     settings, here = settings_of(pid), os.readlink(f"/proc/{pid}/cwd")
     if os.path.realpath(settings["user.dir"]) != here:
         raise Fault("it isn't known in which folder it was started")
-    return Path(settings, here, start_of(pid)).files()
+    return Path(settings, here, start_of(pid))
 
 
 def loaded_by(pid: str) -> List[str]:

@@ -19,7 +19,7 @@ from typing import Any, Dict, Iterable, Iterator, List, NamedTuple, Optional, Se
 
 from cmh_classes import (AASTORE, BROKEN, CAST, DYNAMICALLY, GETFIELD, GETSTATIC, INTERFACE, IS_ABSTRACT, IS_NATIVE,
                          IS_STATIC, LAMBDAS, LENGTHS, NEW, PUTFIELD, PUTSTATIC, STATIC, TYPE, U2, VIRTUAL, Call,
-                         ClassFile, Fault, Lambda, Method, classes_of, loaded_by, steps)
+                         ClassFile, Fault, Lambda, Method, loaded_by, path_of, steps)
 
 MOST_METHODS = 5_000  # that one thread may come to
 # What the JDK's own classes are called.
@@ -29,7 +29,16 @@ DYNAMIC = re.compile(r"java/lang/reflect/Proxy\..*|java/lang/System\.set(?:Out|E
                      r"|.*\.define(?:Class|HiddenClass|AnonymousClass)\w*"
                      r"|java/lang/(?:ModuleLayer\..*|ClassLoader\.<init>)"
                      r"|java/(?:net/URL|security/Secure)ClassLoader\..*|java/util/ServiceLoader\..*"
-                     r"|java/lang/invoke/MethodHandleProxies\..*|javax/management/JMX\..*|java/(?:rmi|beans)/.*")
+                     r"|java/lang/invoke/MethodHandleProxies\..*|java/(?:rmi|beans)/.*"
+                     r"|javax/management/(?:JMX\..*|MBeanServerInvocationHandler\..*|loading/.*\.<init>)"
+                     r"|javax/tools/(?:\w*FileManager\.getClassLoader|ToolProvider\..*)")
+# Calls by which a class is found by its name: in a folder it may come to stand later.
+BY_NAME = re.compile(r".*\.(?:loadClass|findClass)|java/lang/(?:Class\.forName|ClassLoader\..*)"
+                     r"|java/io/ObjectInputStream\..*|java/util/ResourceBundle\.getBundle")
+# Calls that put what doesn't look so behind what is harmless else: a print wakes who reads from a pipe, the end of one
+# stream runs what it has for that, and a builder keeps what it is given as a function; a pool may begin other threads.
+PIPES, STREAMS = re.compile(r"java/io/Piped.*"), re.compile(r".*\.onClose|java/util/stream/Stream\$Builder.*")
+POOLS = re.compile(r".*\.(?:allowCoreThreadTimeOut|setCorePoolSize)")
 # Types of the JDK whose methods no method in HARMLESS calls, though the program has classes and lambdas of them.
 PASSIVE = re.compile(r"java/lang/(?:Object|Record|Enum|Runnable|Cloneable|AutoCloseable|Thread)"
                      r"|java/io/(?:Closeable|Serializable)|com/sun/net/httpserver/\w+"
@@ -106,7 +115,8 @@ MOST_FRAMES = 1000  # of a stack: jstack leaves out what is deeper than 1024
 
 class Program:
     """The classes of the class path. `by_call` has the methods that may be meant by a name and its types, `lambdas` by
-    the name of a method those that may be, and `kinds` of each class the types of the JDK from which it derives."""
+    the name of a method those that may be, `kinds` of each class the types of the JDK from which it derives, and
+    `named` all methods that they name."""
 
     def __init__(self, files: Iterable[Tuple[str, bytes]]) -> None:
         self.classes: Dict[str, ClassFile] = {}
@@ -117,13 +127,29 @@ class Program:
         self.by_call: Dict[Tuple[str, str], List[Method]] = defaultdict(list)
         self.lambdas: Dict[str, List[Lambda]] = defaultdict(list)
         self.kinds = {name: self.kinds_of(name) for name in self.classes}
+        self.named: Set[str] = set()
+        self.known: Dict[Any, bool] = {}
         for each in self.classes.values():
+            self.named.update(each.named())
             if any(map(DYNAMIC.fullmatch, each.named())):
                 raise Fault(f"{each.name} makes classes, proxies or streams of its own")
             for key, method in each.methods.items():
                 self.by_call[key] += [] if method.flags & IS_STATIC or key[0] == "<init>" else [method]
             for made in each.lambdas():
                 self.lambdas[made.name].append(made)
+
+    def names(self, some: "re.Pattern[str]") -> bool:
+        """Whether some class names a method of some."""
+        if some not in self.known:
+            self.known[some] = any(map(some.fullmatch, self.named))
+        return self.known[some]
+
+    def check_folders(self) -> None:
+        """Raises Fault if a class may be asked for that comes to stand in a folder later."""
+        others = {it for each in self.classes.values() for it in each.others() if it not in self.classes}
+        other = next((it for it in others if not JDK.fullmatch(it)), "")
+        if other or self.names(BY_NAME):
+            raise Fault(f"a class may come into a folder of its class path: {other or 'one that is found by its name'}")
 
     def lineage(self, name: str) -> List[str]:
         """Returns a class and all from which it derives, as far as the class path has them."""
@@ -342,7 +368,10 @@ class Reading:
 
 def program_of(pid: str) -> Program:
     """Returns the classes of a process, all of which come from its class path."""
-    program = Program(classes_of(pid))
+    path = path_of(pid)
+    program = Program(path.files())
+    if path.has_folder:
+        program.check_folders()
     for name in loaded_by(pid):
         is_known = JDK.fullmatch(name) or name.partition(BUILT)[0] in program.classes
         if not is_known or "$Proxy" in name:
