@@ -24,7 +24,7 @@ ELSEWHERE = re.compile(r"jdk\.module\.(?:path|main|patch\..*|upgrade\.path)|java
                        r"|jdk\.boot\.class\.path\.append|java\.(?:ext|endorsed)\.dirs")
 CHANGES = re.compile(r"-javaagent|-agent(?:lib|path)|-Xrun|-Xbootclasspath|--patch-module"
                      r"|-Djava\.security\.manager")
-LAMBDAS = "java/lang/invoke/LambdaMetafactory"
+LAMBDAS, ONE_INTERFACE = "java/lang/invoke/LambdaMetafactory", "metafactory"
 TYPE = re.compile(r"\[*(?:[BCDFIJSZV]|L[^;]+;)")
 # Sizes of constants by their tags, and the lengths of instructions; 0 where that stands in the instruction.
 SIZES = {3: 4, 4: 4, 5: 8, 6: 8, 7: 2, 8: 2, 9: 4, 10: 4, 11: 4, 12: 4, 15: 3, 16: 2, 17: 4, 18: 4, 19: 2, 20: 2}
@@ -60,8 +60,8 @@ class Call(NamedTuple):
 
 
 class Lambda(NamedTuple):
-    """A lambda that is made: the method of its interface, that interface, what it calls, and of which kinds the values
-    are that it takes with it, in the order of the alphabet: 'L' of a reference."""
+    """A lambda that is made: the method of its interface, that interface, or nothing if it may have others, what it
+    calls, and of which kinds the values are that it takes with it, in the order of the alphabet: 'L' of a reference."""
 
     name: str
     of: str
@@ -171,22 +171,23 @@ class ClassFile:
             raise Fault("a handle of a field")
         return self.call(BY_HANDLE[self.data[at]], self.u2(at + 1))
 
-    def made(self, call: Call) -> Tuple[str, List[int]]:
-        """Returns the class that makes what is called dynamically, and what that is given."""
+    def made(self, call: Call) -> Tuple[Call, List[int]]:
+        """Returns the method that makes what is called dynamically, and what that is given."""
         handle, given = self.makers[int(call.owner)]
-        return self.handle(handle).owner, given
+        return self.handle(handle), given
 
     def lambdas(self) -> Iterator[Lambda]:
         """Yields all lambdas that the class makes, whether some code of it does so or not."""
         for index, (tag, _) in enumerate(self.pool):
             call = self.call(DYNAMICALLY, index) if tag == 18 else None
-            if call is not None and self.made(call)[0] == LAMBDAS:
+            if call is not None and self.made(call)[0].owner == LAMBDAS:
                 yield self.lambda_of(call)
 
     def lambda_of(self, call: Call) -> Lambda:
         taken = [it[0].replace("[", "L") for it in TYPE.findall(call.types.partition(")")[0][1:])]
-        interface, called = call.types.rpartition(")L")[2].rstrip(";"), self.handle(self.made(call)[1][1])
-        return Lambda(call.name, interface, called, "".join(sorted(taken)))
+        maker, given = self.made(call)
+        interface = call.types.rpartition(")L")[2].rstrip(";") if maker.name == ONE_INTERFACE else ""
+        return Lambda(call.name, interface, self.handle(given[1]), "".join(sorted(taken)))
 
     def others(self) -> Iterator[str]:
         """Yields all classes that the class names."""

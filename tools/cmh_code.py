@@ -209,6 +209,8 @@ class Walk:
         self.passed: Set[Any] = set()
 
     def go(self) -> None:
+        if self.has_tasks and self.program.names(POOLS):
+            raise Fault("its pool may begin other threads")
         for name in AT_END:
             self.add(it for (other, _), some in self.program.by_call.items() if other == name for it in some)
             self.add_made(self.program.lambdas.get(name, ()))
@@ -356,7 +358,7 @@ class Reading:
         if call.how != DYNAMICALLY:
             self.walk.call(call)
             return
-        maker = self.file.made(call)[0]
+        maker = self.file.made(call)[0].owner
         if maker == LAMBDAS:
             self.walk.call(self.file.lambda_of(call).call)
         elif not MAKERS.fullmatch(maker):
@@ -423,17 +425,23 @@ def walk_of(program: Program, thread: Thread, tasks: List[str]) -> None:
 
 
 def methods_of(walk: Walk, name: str, method: str, letters: Optional[str] = None) -> List[Method]:
-    """Returns the methods of a name that a class has. One that is made has that of any lambda of its host that takes as
-    many values of these kinds with it, if it is known which."""
+    """Returns the methods of a name that a class has. One that is made has that of any lambda of its host, and where
+    letters say which values a task takes with it, any of those that take such values, by whatever name, and whatever
+    interfaces of the program do for it."""
     host, is_made, _ = name.partition(BUILT)
     classes = walk.program.classes
     if host not in classes:
         raise Fault(f"{name} isn't on the class path")
-    made = [it for it in classes[host].lambdas() if it.name == method and letters in (None, it.letters)]
-    found = [it for each in walk.program.lineage(name) if each in classes for it in classes[each].methods.values()
-             if it.name == method]
+    made = [it for it in classes[host].lambdas() if (it.name == method if letters is None else it.letters == letters)]
+    some = [it for it in classes if classes[it].is_interface] if is_made and letters is not None else \
+        walk.program.lineage(name)
+    found = [it for each in some if each in classes for it in classes[each].methods.values()
+             if it.name == method and (letters is None or it.types.startswith("()") and not it.flags & IS_STATIC)]
     if not (made if is_made else found):
         raise Fault(f"{name} has no such method")
+    types = "()V" if method == "run" else "()Ljava/lang/Object;"
+    if letters is not None and not is_made and walk.program.inherits(name, Call(VIRTUAL, name, method, types)):
+        raise Fault(f"{name} has its {method} from a class of the JDK")
     walk.add_made(made if is_made else ())
     return found
 
