@@ -92,7 +92,13 @@ OPEN = re.compile(
 OF_FUNCTIONS = re.compile(r"java/util/function/\w+\.(?:get|apply|accept|test)\w*")
 FUNCTIONS = re.compile(r"L(?:java/util/function/\w+|java/lang/Runnable|java/util/concurrent/Callable"
                        r"|java/util/Comparator);")
-# What is only printed, counted or compared: no wait is ended by what comes to have it.
+# Classes of the program whose methods those of QUIET may call: where the first may be meant, the second.
+KIN = ((re.compile(r"java/lang/Number\..*|java/util/concurrent/atomic/(?:\w+Adder\..*|\w+\.(?:\w+Value|toString))"),
+        re.compile(r"java/lang/Number|java/util/concurrent/atomic/.*")),
+       (re.compile(rf"java/util/concurrent/(?:locks/)?\w+\.{COUNTED}"),
+        re.compile(r"java/util/concurrent/(?!atomic/).*|java/util/\w*(?:Collection|List|Map|Set|Queue|Deque)")))
+# What is only printed, counted or compared: no wait is ended by what comes to have it. What may be written where others
+# find it has no lock that others know, either.
 PLAIN = re.compile(rf"\[*(?:[BCDFIJSZ]|Ljava/(?:lang/(?:{NUMBERS}|String)|util/concurrent/TimeUnit|time/Duration);)")
 COLLECTIONS = re.compile(r"java/util/(?!function/).*")
 OF_STREAMS, OF_ANY = re.compile(r"java/n?io/.*"), re.compile(r".*")
@@ -108,6 +114,9 @@ LIMITED = re.compile(r"\s+java\.lang\.Thread\.State: TIMED_WAITING\b")
 FRAME = re.compile(r"\s+at (?:[\w.@$-]*/{1,2}(?!0x))?([^()]*)\((?:.*/)?([^/:]*)(?::(\d+))?\)\s*")
 MARK = "# cmh heap "
 ITSELF, INTERRUPT = ("java/lang/Thread", "currentThread"), ("java/lang/Thread", "interrupt")
+GETTERS = re.compile(r"getName|getId|threadId|isInterrupted|isAlive|isDaemon|getState|getPriority|interrupt")
+ENUM, OF_ENUMS = "java/lang/Enum", ("java/lang/Enum.valueOf", "java/util/EnumMap.<init>")
+FINALIZE, NO_VALUES = ("finalize", "()V"), ("<init>", "()V")
 MOST_FRAMES = 1000  # of a stack: jstack leaves out what is deeper than 1024
 
 
@@ -162,14 +171,19 @@ class Program:
         return {it for it in self.lineage(name) if it not in self.classes}
 
     def called_back(self, types: "re.Pattern[str]") -> Iterator[Method | Lambda]:
-        """Yields what methods of the JDK may call: methods of classes that derive from its types, and lambdas."""
-        for name, kinds in self.kinds.items():
-            if any(types.fullmatch(it) and not PASSIVE.fullmatch(it) for it in kinds):
-                yield from (it for (method, _), it in self.classes[name].methods.items()
-                            if not method.startswith("<") and not it.flags & IS_STATIC)
-        for it in (it for some in self.lambdas.values() for it in some):
-            if it.of not in self.classes and types.fullmatch(it.of) and not PASSIVE.fullmatch(it.of):
-                yield it
+        """Yields what methods of the JDK may call: methods of classes that derive from its types, and lambdas. A class
+        may also be made by its name, by any of them."""
+        kin = {name for name, kinds in self.kinds.items() if self.has_kind(kinds, types)}
+        for name in {it for name in kin for it in self.lineage(name)} & self.classes.keys():
+            yield from (it for key, it in self.classes[name].methods.items()
+                        if not key[0].startswith("<") and not it.flags & IS_STATIC
+                        or types is OF_ANY and key in (BEGIN, NO_VALUES))
+        yield from (it for some in self.lambdas.values() for it in some
+                    if not it.of or it.of in kin or it.of not in self.classes and self.has_kind({it.of}, types))
+
+    def has_kind(self, kinds: Iterable[str], types: "re.Pattern[str]") -> bool:
+        """Whether methods of the JDK may call those of its types among some."""
+        return any(types.fullmatch(it) and not PASSIVE.fullmatch(it) for it in kinds)
 
     def find(self, call: Call) -> List[Method]:
         """Returns the methods that a class has of a name and types, or one from which it derives."""
@@ -248,7 +262,8 @@ class Walk:
         self.add(found)
         if not is_exact:
             self.add(self.program.by_call.get((call.name, call.types), ()))
-            self.add_made(self.program.lambdas.get(call.name, ()) if not COLLECTIONS.fullmatch(call.owner) else ())
+            self.add_made(it for it in self.program.lambdas.get(call.name, ()) if not COLLECTIONS.fullmatch(call.owner)
+                          or not it.of or it.of in self.program.classes or COLLECTIONS.fullmatch(it.of))
             self.call_inherited(call)
 
     def call_inherited(self, call: Call) -> None:
@@ -270,7 +285,8 @@ class Walk:
             for it in ["java/lang/Object"] if is_of_all else sorted(some):
                 self.call_jdk(call._replace(owner=it))
         elif is_quiet(what, given):
-            return
+            for meant, types in KIN:
+                self.add(self.own_of(types) if meant.fullmatch(what) else ())
         elif any(map(FUNCTIONS.fullmatch, given)):
             raise Fault(f"it may come to {what} with code of its own")
         elif PRINTS.fullmatch(what) and all(map(PLAIN.fullmatch, given)):
@@ -279,8 +295,13 @@ class Walk:
             self.call_back(OF_THROWABLES)
         elif any(it.fullmatch(what) for it in (PRINTS, THROWS, OPEN, OF_FUNCTIONS)):
             self.call_back(OF_ANY)
+            for it in (it for it, kinds in self.program.kinds.items() if ENUM in kinds and what in OF_ENUMS):
+                self.initialise(it)
         else:
             raise Fault(f"it may come to {what}")
+
+    def own_of(self, types: "re.Pattern[str]") -> List[Method]:
+        return [it for it in self.program.called_back(types) if isinstance(it, Method)]
 
     def call_back(self, types: "re.Pattern[str]") -> None:
         """Adds what the JDK may call of the program."""
@@ -290,7 +311,7 @@ class Walk:
         for it in list(self.program.called_back(types)):
             if isinstance(it, Lambda):
                 self.call(it.call)
-            else:
+            elif it.name != BEGIN[0] or it.owner not in self.begun:
                 self.add([it])
         for key in TEXTS if types is OF_ANY else ():
             self.add(self.program.by_call.get(key, ()))
