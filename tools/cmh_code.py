@@ -100,6 +100,7 @@ KIN = ((re.compile(r"java/lang/Number\..*|java/util/concurrent/atomic/(?:\w+Adde
 # What is only printed, counted or compared: no wait is ended by what comes to have it. What may be written where others
 # find it has no lock that others know, either.
 PLAIN = re.compile(rf"\[*(?:[BCDFIJSZ]|Ljava/(?:lang/(?:{NUMBERS}|String)|util/concurrent/TimeUnit|time/Duration);)")
+WRITTEN = re.compile(r"[BCDFIJSZ]|Ljava/lang/String;")
 COLLECTIONS = re.compile(r"java/util/(?!function/).*")
 OF_STREAMS, OF_ANY = re.compile(r"java/n?io/.*"), re.compile(r".*")
 OF_THROWABLES = re.compile(r"java/(?:\w+/)+\w*(?:Exception|Error|Throwable)")
@@ -213,10 +214,12 @@ def is_quiet(what: str, given: List[str]) -> bool:
 class Walk:
     """All code that a thread may come to from some methods. It raises Fault where that isn't known to be harmless.
     `has_tasks` says that it runs tasks for others, and `begun` has the classes that are initialised: those whose
-    methods it is in, and from which they derive."""
+    methods it is in, and from which they derive. `takes_itself` says that it asks who it is, and `shares` that it puts
+    something new where all find it."""
 
     def __init__(self, program: Program, has_tasks: bool) -> None:
         self.program, self.has_tasks = program, has_tasks
+        self.takes_itself, self.shares = False, False
         self.begun: Set[str] = set()
         self.todo: List[Method] = []
         self.seen: Set[int] = set()
@@ -232,6 +235,8 @@ class Walk:
             if method.flags & IS_NATIVE or len(self.todo) > MOST_METHODS:
                 raise Fault(f"{method.owner}.{method.name} is native, or the code is long")
             Reading(self, method).read()
+        if self.takes_itself and self.shares:
+            raise Fault("others may come to find itself")
 
     def add(self, some: Iterable[Method]) -> None:
         for it in some:
@@ -253,6 +258,7 @@ class Walk:
         if call in self.passed:
             return
         self.passed.add(call)
+        self.takes_itself = self.takes_itself or call[1:3] == ITSELF
         if call.how == STATIC or call.name == "<init>":
             self.initialise(call.owner)
         found = self.program.find(call)
@@ -327,7 +333,12 @@ class Reading:
         self.take(*TYPE.findall(method.types.partition(")")[0][1:]))
 
     def take(self, *types: str) -> None:
-        self.takes = self.takes or any(it.startswith("[") and not PLAIN.fullmatch(it) for it in types)
+        """Takes what others may have too, by its types. An exception may be thrown then, and the JDK prints it."""
+        for it in types:
+            name = it.lstrip("[")[1:-1] if it.endswith(";") else it
+            if any(map(OF_THROWABLES.fullmatch, self.walk.program.kinds.get(name, [name]))):
+                self.walk.call_back(OF_THROWABLES)
+        self.takes = self.takes or any(it.startswith("[") and not WRITTEN.fullmatch(it[1:]) for it in types)
 
     def read(self) -> None:
         code, before = self.method.code, Call(0, "", "", "")
@@ -342,8 +353,12 @@ class Reading:
             elif GETSTATIC <= what <= PUTFIELD:
                 self.use_field(what, self.file.call(what, index))
             call = self.file.call(what, index) if VIRTUAL <= what <= DYNAMICALLY else Call(what, "", "", "")
-            is_own = before[1:3] == ITSELF and call[1:3] == INTERRUPT and at not in targets
-            if call.name and not is_own:
+            is_got = call.owner == ITSELF[0] and GETTERS.fullmatch(call.name) is not None and at not in targets
+            is_own = before[1:3] == ITSELF and call[1:3] == INTERRUPT and is_got
+            self.walk.takes_itself = self.walk.takes_itself or before[1:3] == ITSELF and not is_got
+            if is_own:
+                self.walk.add(self.walk.program.by_call.get(call[2:], ()))
+            elif call.name and call[1:3] != ITSELF:
                 self.run(call)
             elif is_own:
                 self.walk.add(self.walk.program.by_call.get(call[2:], ()))
@@ -356,6 +371,9 @@ class Reading:
         kinds = self.walk.program.kinds.get(name, ()) if what == NEW and self.walk.has_tasks else ()
         if any(map(OF_THROWABLES.fullmatch, kinds)):
             raise Fault(f"{self.method.owner}.{self.method.name} may throw a {name} to others")
+        own = [self.walk.program.classes.get(it) for it in self.walk.program.lineage(name)] if what == NEW else []
+        if any(it and FINALIZE in it.methods for it in own):
+            raise Fault(f"{self.method.owner}.{self.method.name} makes a {name}, which is finalized")
         if what == NEW:
             self.walk.initialise(name)
         else:
@@ -371,7 +389,8 @@ class Reading:
         is_first = field.owner == self.method.owner and (
             what == PUTSTATIC and self.method.name == "<clinit>"
             or what == PUTFIELD and self.method.name == "<init>" and field.name in self.file.finals)
-        if not PLAIN.fullmatch(field.types) and not is_first:
+        self.walk.shares = self.walk.shares or is_first and what == PUTSTATIC and not WRITTEN.fullmatch(field.types)
+        if not WRITTEN.fullmatch(field.types) and not is_first:
             raise Fault(f"{self.method.owner}.{self.method.name} writes a reference to {field.name}")
 
     def run(self, call: Call) -> None:
