@@ -34,10 +34,13 @@ DYNAMIC = re.compile(r"java/lang/reflect/Proxy\..*|java/lang/System\.set(?:Out|E
                      r"|javax/tools/(?:\w*FileManager\.getClassLoader|ToolProvider\..*)")
 # Calls by which a class is found by its name: in a folder it may come to stand later.
 BY_NAME = re.compile(r".*\.(?:loadClass|findClass)|java/lang/(?:Class\.forName|ClassLoader\..*)"
-                     r"|java/io/ObjectInputStream\..*|java/util/ResourceBundle\.getBundle")
+                     r"|java/io/ObjectInputStream\..*|java/util/ResourceBundle\.getBundle"
+                     r"|javax/(?:management/\w+\.(?:createMBean|instantiate)|naming/.*)")
 # Calls that put what doesn't look so behind what is harmless else: a print wakes who reads from a pipe, the end of one
-# stream runs what it has for that, and a builder keeps what it is given as a function; a pool may begin other threads.
-PIPES, STREAMS = re.compile(r"java/io/Piped.*"), re.compile(r".*\.onClose|java/util/stream/Stream\$Builder.*")
+# stream runs what it has for that, builders and collectors keep what they are given as functions, and a pool may begin
+# other threads.
+PIPES, STREAMS = re.compile(r"java/io/Piped.*"), re.compile(
+    r".*\.onClose|java/util/stream/(?:Stream\$Builder|Collector)\..*")
 POOLS = re.compile(r".*\.(?:allowCoreThreadTimeOut|setCorePoolSize)")
 # Types of the JDK whose methods no method in HARMLESS calls, though the program has classes and lambdas of them.
 PASSIVE = re.compile(r"java/lang/(?:Object|Record|Enum|Runnable|Cloneable|AutoCloseable|Thread)"
@@ -102,8 +105,8 @@ KIN = ((re.compile(r"java/lang/Number\..*|java/util/concurrent/atomic/(?:\w+Adde
 PLAIN = re.compile(rf"\[*(?:[BCDFIJSZ]|Ljava/(?:lang/(?:{NUMBERS}|String)|util/concurrent/TimeUnit|time/Duration);)")
 WRITTEN = re.compile(r"[BCDFIJSZ]|Ljava/lang/String;")
 COLLECTIONS = re.compile(r"java/util/(?!function/).*")
-OF_STREAMS, OF_ANY = re.compile(r"java/n?io/.*"), re.compile(r".*")
-OF_THROWABLES = re.compile(r"java/(?:\w+/)+\w*(?:Exception|Error|Throwable)")
+OF_STREAMS, OF_ANY = re.compile(r"java/(?:n?io|util/(?:zip|jar)|security|net)/.*|javax/.*"), re.compile(r".*")
+OF_THROWABLES = re.compile(r"(?:\w+/)+[\w$]*(?:Exception|Error|Throwable|ThreadDeath|Warning|DataTruncation)")
 BEGIN = "<clinit>", "()V"
 TEXTS = (("toString", "()Ljava/lang/String;"), ("hashCode", "()I"), ("equals", "(Ljava/lang/Object;)Z"))
 AT_END = ("uncaughtException", "getUncaughtExceptionHandler")  # (which run once an exception ends a thread)
@@ -119,8 +122,6 @@ GETTERS = re.compile(r"getName|getId|threadId|isInterrupted|isAlive|isDaemon|get
 ENUM, OF_ENUMS = "java/lang/Enum", ("java/lang/Enum.valueOf", "java/util/EnumMap.<init>")
 FINALIZE, NO_VALUES = ("finalize", "()V"), ("<init>", "()V")
 MOST_FRAMES = 1000  # of a stack: jstack leaves out what is deeper than 1024
-
-
 
 
 class Program:
@@ -314,6 +315,9 @@ class Walk:
         if types in self.passed:
             return
         self.passed.add(types)
+        odd = {OF_STREAMS: [PIPES], OF_ANY: [PIPES, STREAMS]}.get(types, ())
+        if any(map(self.program.names, odd)):
+            raise Fault("it may print to a pipe, or come to the end of a stream or its beginning")
         for it in list(self.program.called_back(types)):
             if isinstance(it, Lambda):
                 self.call(it.call)
@@ -330,7 +334,7 @@ class Reading:
     def __init__(self, walk: Walk, method: Method) -> None:
         self.walk, self.method, self.file = walk, method, walk.program.classes[method.owner]
         self.stores, self.takes = False, False
-        self.take(*TYPE.findall(method.types.partition(")")[0][1:]))
+        self.take(method.owner, *TYPE.findall(method.types.partition(")")[0][1:]))
 
     def take(self, *types: str) -> None:
         """Takes what others may have too, by its types. An exception may be thrown then, and the JDK prints it."""
@@ -360,8 +364,6 @@ class Reading:
                 self.walk.add(self.walk.program.by_call.get(call[2:], ()))
             elif call.name and call[1:3] != ITSELF:
                 self.run(call)
-            elif is_own:
-                self.walk.add(self.walk.program.by_call.get(call[2:], ()))
             before = call
         if self.stores and self.takes:
             raise Fault(f"{self.method.owner}.{self.method.name} may put references where others find them")
