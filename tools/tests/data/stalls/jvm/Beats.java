@@ -6,6 +6,7 @@ import java.util.concurrent.LinkedBlockingQueue;
 import java.util.concurrent.Semaphore;
 import java.util.concurrent.TimeUnit;
 import java.util.concurrent.atomic.AtomicLong;
+import java.util.concurrent.atomic.LongAdder;
 import java.util.function.Supplier;
 
 /**
@@ -290,12 +291,110 @@ public class Beats {
         }
     }
 
+    static class Mark extends LongAdder {
+        @Override
+        public void add(long number) {
+            super.add(number);
+            PERMITS.release();
+        }
+    }
+
+    static class CallsAdder implements Runnable {
+        private final LongAdder beats;
+
+        CallsAdder(LongAdder beats) { this.beats = beats; }
+
+        public void run() {
+            try {
+                rest();
+            } catch (InterruptedException e) {
+                beats.increment();
+            }
+        }
+    }
+
+    static class Kept extends RuntimeException {
+        Kept() { super("kept", null, false, false); }
+
+        @Override
+        public String getMessage() {
+            PERMITS.release();
+            return "kept";
+        }
+    }
+
+    static class ThrowsKept implements Runnable {
+        private final Kept kept;
+
+        ThrowsKept(Kept kept) { this.kept = kept; }
+
+        public void run() {
+            try {
+                rest();
+            } catch (InterruptedException e) {
+                throw kept;
+            }
+        }
+    }
+
+    static class ShowsFrame implements Runnable {
+        private final byte[] own = new byte[1];
+        private byte[] frame;
+
+        public void run() {
+            try {
+                rest();
+            } catch (InterruptedException e) {
+                frame = own;
+            }
+        }
+    }
+
+    static class Registry {
+        static final Registry FIRST = new Registry();
+        final Thread owner = Thread.currentThread();
+        int size;
+    }
+
+    static class FindsItself implements Runnable {
+        public void run() {
+            try {
+                rest();
+            } catch (InterruptedException e) {
+                COUNT.addAndGet(Registry.FIRST.size);
+            }
+        }
+    }
+
+    static class Sample {
+        int size;
+
+        @Override
+        protected void finalize() { PERMITS.release(); }
+    }
+
+    static class MakesSample implements Runnable {
+        public void run() {
+            try {
+                rest();
+            } catch (InterruptedException e) {
+                COUNT.addAndGet(new Sample().size);
+            }
+        }
+    }
+
+    static void add(List<Runnable> works) {
+        works.addAll(List.of(new CallsAdder(new Mark()), new ThrowsKept(new Kept()), new ShowsFrame(),
+            new FindsItself(), new MakesSample()));
+    }
+
     public static void main(String[] args) {
         List<Runnable> works = new ArrayList<>(List.of(new PlainPrinter(), new PlainSwitch(), new Notifies(),
             new ReleasesAtLast(), new InterruptsEither(Thread.currentThread()), new HandsOn(), new HandsOnByArray(),
             new CallsGauge(QUEUE::size), new CallsGauge(() -> { PERMITS.release(); return 1; }), new CallsSink(),
             new CallsSupplier(QUEUE::poll), new JoinsText(), new LooksUp(), new Initialises(), new Fails(),
             new Native(), new Hidden(), new Other()));
+        add(works);
         for (Runnable work : works) {
             new Thread(work, work.getClass().getSimpleName()).start();
         }
