@@ -3,7 +3,7 @@ from __future__ import annotations
 
 from collections import defaultdict
 from dataclasses import replace
-from typing import Dict, List, Set
+from typing import Dict, List, Optional, Set
 
 from .facts import FREES, Fact, Facts
 from .files import shown
@@ -20,7 +20,7 @@ def take_bounds(sketch: Sketch, facts: Facts) -> None:
     found = {it.name: (it, used_for(it, facts)) for it in sketch.processes if is_bound(it, facts)}
     trial = [bounded(*found[it.name], facts) if it.name in found else it for it in sketch.processes]
     inside = stuck_names(replace(sketch, processes=trial)) if found else set()
-    inside -= resting([it for it in trial if it.name in inside], set(found))
+    inside -= resting([it for it in trial if it.name in inside], set(found), core_of(sketch, trial, set(found)))
     sketch.processes = [new if new.name in inside else old for old, new in zip(sketch.processes, trial)]
     for name, (_, used) in found.items():
         for fact in used if name in inside else ():
@@ -28,10 +28,18 @@ def take_bounds(sketch: Sketch, facts: Facts) -> None:
             fact.decided.append(name)
 
 
-def resting(stuck: List[Process], found: Set[str]) -> Set[str]:
+def core_of(sketch: Sketch, trial: List[Process], found: Set[str]) -> Optional[Set[str]]:
+    """Returns those who are stuck whatever becomes of those at rest, or None if nobody is said to be at rest."""
+    if not any(it.at_rest and it.name in found for it in trial):
+        return None
+    some = [old if old.at_rest else new for old, new in zip(sketch.processes, trial)]
+    return stuck_names(replace(sketch, processes=some))
+
+
+def resting(stuck: List[Process], found: Set[str], core: Optional[Set[str]]) -> Set[str]:
     """Returns those of the stuck who may wait for work that nobody has for them: who wait for their next message, if
     all for whom they wait, and all who wait for them, do so as well."""
-    rest = {it.name for it in stuck if it.name in found and is_receiver(it)}
+    rest = {it.name for it in stuck if it.name in found and is_receiver(it) or core is not None and it.name not in core}
     beside: Dict[str, Set[str]] = defaultdict(set)
     for name, other in ((it.name, other) for it in stuck if rest for other in it.whom):
         beside[name].add(other)

@@ -94,7 +94,7 @@ class Process:
     `scope` is the beginning of the names of those who alone can end its wait, if that is known, as of the threads of
     one process of the system: what stands before the '/'. `bound` has of one that is unknown all who may end its wait,
     by the premises `bound_by`, though some of them may not: it is stuck if all of these are. It is None where anybody
-    may.
+    may. `at_rest` says of such a one that it may have nothing to do.
     """
 
     name: str
@@ -131,6 +131,7 @@ class Process:
     is_fed: bool = False
     may_rest: bool = False
     is_likely: bool = False
+    at_rest: bool = False
 
     def copy(self) -> Process:
         """Returns one whose parts are the same. `dataclasses.replace` takes ten times as long."""

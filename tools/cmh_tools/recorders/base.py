@@ -122,7 +122,7 @@ class Recorder:
         sketch = Sketch([], system=self.NAME)
         for subject in self.processes(moment):
             process = self.wait_of(subject, moment)
-            for name in premises_in(tuple(process.bound_by)):
+            for name in premises_in(tuple(process.bound_by)) if process.bound is not None else ():
                 sketch.premises[name] = table[name].sentence
             for name in premises_in(tuple(process.because)):
                 sketch.premises[name] = table[name].sentence
