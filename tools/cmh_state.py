@@ -4,12 +4,12 @@ Import it first of all, in each process of the job:
 
     import cmh_state
 
-From then on `kill -USR2 PID` prints a state of that process, and five seconds later a second one, also while its main
+From then on `kill -RTMAX PID` prints a state of that process, and five seconds later a second one, also while its main
 thread or its event loop is blocked, for they are printed by a thread of its own. Four variables of the environment
-change that: CMH_STATE_SIGNAL, which is read at the import, names another signal, such as SIGUSR1; CMH_STATE_FILE names
-a file that states are added to, in place of standard error, where `%p` stands for the process id; CMH_STATE_PAUSE is
-the time from the first state to the second, or 0 for one alone; CMH_STATE_SECONDS is the time between the two looks
-that are taken for a state, which show who has moved.
+change that: CMH_STATE_SIGNAL, which is read at the import, names another signal, if a program has a handler for this
+one, as more have for SIGUSR2; CMH_STATE_FILE names a file that states are added to, in place of standard error, where
+`%p` stands for the process id; CMH_STATE_PAUSE is the time from the first state to the second, or 0 for one alone;
+CMH_STATE_SECONDS is the time between the two looks that are taken for a state, which show who has moved.
 
 A signal that no handler takes ends a program. So a process that answers has a file in memory of the name `cmh_state`
 open, with the signal's name in it, where Linux has such files. /proc/PID/fd shows it: send a signal to no other.
@@ -1079,6 +1079,9 @@ class Wakers:
         rows = [*self.targets.values(), *((value, None) for value in self.shared or ())]
         aliases = Aliases(rows, frames) if rows else None
         self.aliases, self.nameless = (aliases.found, aliases.nameless) if aliases else ({}, set())
+        began, found = time.monotonic(), guarded(self.look_at_all)
+        self.quiet = found if type(found) is tuple else ({"quiet": [], "loops": False}, {}, ())
+        self.end += time.monotonic() - began
 
     def of(self, key):
         """At what one waits, if that is known, and whether its code comes back to it."""
@@ -1118,10 +1121,23 @@ class Wakers:
                 for value in self.shared or () for operation, words in SHARED.items()
                 for some in [self.reaching(value, words)]]
 
+    def places(self):
+        """What is waited at, with the names by which that ends, by what tells such waits from others."""
+        return {self.place_of(*it): it for it in self.targets.values()}
+
     def quiet_rows(self):
-        """Who ends nobody's wait by all code that it may come to, where somebody waits."""
-        is_wanted = "cmh_quiet" in globals() and (self.targets or self.shared)
-        return [cmh_quiet.quiet_row(self.stacks, sys.modules[__name__])] if is_wanted else []
+        """Who ends nobody's wait by all code that it may come to, or none of some waits, where somebody waits."""
+        return [self.quiet[0]] if "cmh_quiet" in globals() and (self.targets or self.shared) else []
+
+    def look_at_all(self):
+        """The row of those, what is known of all whose code is, by their keys, and which calls of event loops are."""
+        tasks = any(type(key) is str and key != SIGNALLED for key in self.stacks)
+        is_wanted = "cmh_quiet" in globals() and (self.targets or self.shared or tasks)
+        return cmh_quiet.quiet_rows(self.stacks, sys.modules[__name__], self.places()) if is_wanted else ({}, {}, ())
+
+    def known(self, key):
+        """What a row says of one all of whose code is known."""
+        return self.quiet[1].get(key, {})
 
     def sleepers(self):
         """The words by which those who sleep or wait with a limit, again and again, may end waits of others. None for
@@ -1554,6 +1570,11 @@ def wait_of(wakers, key):
     return guarded(wakers.of, key) if isinstance(wakers, Wakers) else {}
 
 
+def known_of(wakers, key):
+    found = guarded(wakers.known, key) if isinstance(wakers, Wakers) else {}
+    return {} if "error" in found else found
+
+
 def thread_rows(before, spent, holders, wakers):
     """A row for each thread, and the loops that they run."""
     names, loops, rows = {each.ident: each for each in threading.enumerate()}, {}, []
@@ -1574,7 +1595,7 @@ def thread_rows(before, spent, holders, wakers):
             "ends": guarded(may_end, frames),
             "cancels": guarded(lambda frames, loop: may_cancel(frames, accepted_in(loop)), frames, loop),
             "loop": hex(id(loop)) if loop is not None else None, "call": call,
-            **guarded(inside_thread, frames), **wait_of(wakers, ident),
+            **guarded(inside_thread, frames), **wait_of(wakers, ident), **known_of(wakers, ident),
             "frames": shown})
     return rows, loops
 
@@ -1647,11 +1668,11 @@ def handles_of(loop):
     return found
 
 
-def callbacks_of(loop):
-    """The names of what timers of a loop will call, or sockets, that may cancel a task."""
-    found = {foreign_name(each._callback, True) for each in timers_of(loop)}
+def callbacks_of(loop, known=()):
+    """The names of what timers of a loop will call, or sockets, that may cancel a task, but for known ones."""
+    found = {foreign_name(each._callback, True) for each in timers_of(loop) if id(each) not in known}
     found |= {foreign_name(each._callback, False) or protocol_of(each._callback) or acceptor_of(each)
-              for each in readers_of(loop)}
+              for each in readers_of(loop) if id(each) not in known}
     return sorted(filter(None, found))
 
 
@@ -1789,6 +1810,7 @@ def task_row(task, timers, before, holders, wakers):
         "holds": guarded(holders.held, chain), "ends": guarded(may_end, chain),
         "cancels": guarded(may_cancel, chain, spread([each for each, _ in getattr(task, "_callbacks", None) or ()])),
         **guarded(inside_task, coroutine), **guarded(completed_in, coroutine), **wait_of(wakers, hex(id(task))),
+        **known_of(wakers, hex(id(task))),
         "frames": [guarded(frame_row, *each) for each in chain]}
 
 
@@ -1813,6 +1835,11 @@ def asked_of(loop):
     return rows
 
 
+def known_calls(wakers):
+    found = guarded(lambda: wakers.quiet[2])
+    return found if type(found) in (set, tuple) else ()
+
+
 def task_rows(loops, before, holders, wakers):
     """A row for each task, and for each loop with the task that has its thread."""
     tasks = [task for task in tasks_of_all() if not task.done()]
@@ -1825,7 +1852,7 @@ def task_rows(loops, before, holders, wakers):
         ident = ident or getattr(loop, "_thread_id", None)
         task = sys.modules["asyncio"].current_task(loop) if "asyncio" in sys.modules else None
         rows.append({"runs": hex(id(loop)), "thread": ident, "current": hex(id(task)) if task is not None else None,
-                     "callbacks": guarded(callbacks_of, loop),
+                     "callbacks": guarded(callbacks_of, loop, known_calls(wakers)),
                      "signals": guarded(handlers_of, loop)})
         rows += asked_of(loop)
     return rows
@@ -2029,7 +2056,7 @@ def show(name):
 
 
 def start():
-    name = os.environ.get("CMH_STATE_SIGNAL", "SIGUSR2")
+    name = os.environ.get("CMH_STATE_SIGNAL", "SIGRTMAX" if hasattr(signal, "SIGRTMAX") else "SIGUSR2")
     number = getattr(signal, name, None)
     if number is None or signal.getsignal(number) not in (signal.SIG_DFL, None):
         warnings.warn(f"cmh_state: {name} is taken or unknown: name another in CMH_STATE_SIGNAL", RuntimeWarning)
