@@ -196,7 +196,8 @@ class PythonRecorder(Recorder):
                        "that of this lock", release_of),
         DEAD: Premise("nobody gives back an RLock of a thread that has ended"),
         QUIET: Premise("whoever only ticks, prints, or shows numbers to who asks, by all code that it may come to, "
-                       "ends no wait at a lock, a queue, an event or a future, and no extension of Python's does"),
+                       "ends no wait at a lock, a queue, an event or a future, nor does who acts at others alone, "
+                       "neither fails but by a fault, and no extension of Python's ends one"),
         FUTURE: Premise("who has begun or keeps the work of a future ends it, and nobody else does"),
     }
 

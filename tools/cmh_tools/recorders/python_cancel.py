@@ -12,9 +12,9 @@ from __future__ import annotations
 from collections import defaultdict
 from typing import Any, Callable, Dict, List, Optional, Set
 
-from ..sketch import ALL, ANY
+from ..sketch import ALL, ANY, premise
 from .python_text import Frame, Look, Row
-from .python_waits import Wait, unsure
+from .python_waits import QUIET, Wait, unsure
 
 MOST = 50  # of one group; each is named in the list of each other one
 MANY = "another one of its group that fails may cancel it, and these are too many to name"
@@ -23,7 +23,8 @@ NOT_ONE_LIST = "it waits for all of several, and besides may be cancelled"
 
 class Cancellers:
     """Who may cancel the tasks of a look: `sure` has, by key of a task, the keys of those that do so by a limit or when
-    they are cancelled themselves, `failing` those that do so once they fail, `crowded` whose group is too large."""
+    they are cancelled themselves, `failing` those that do so once they fail, `crowded` whose group is too large,
+    and `spared` of whose group some won't fail."""
 
     def __init__(self, look: Look) -> None:
         self.look = look
@@ -31,6 +32,7 @@ class Cancellers:
         self.sure: Dict[str, Dict[str, None]] = defaultdict(dict)
         self.failing: Dict[str, Dict[str, None]] = defaultdict(dict)
         self.crowded: Set[Any] = set()
+        self.spared: Set[Any] = set()
         for parent, members in groups_of(look, "group").items():
             self.targets[parent] = [*self.targets.get(parent, ()), *members]
             self.add_group(parent, members)
@@ -41,12 +43,15 @@ class Cancellers:
         self.spread()
 
     def add_group(self, parent: Any, members: List[Any]) -> None:
+        """Lets each task of a group be cancelled by another one that fails, which a steady one doesn't."""
         if len(members) > MOST:
             self.crowded.update(it for it in members if it != parent)
             return
         for each in members:
             if each != parent:
-                self.failing[each].update(dict.fromkeys(it for it in members if it != each))
+                others = [it for it in members if it != each]
+                self.failing[each].update(dict.fromkeys(it for it in others if it not in self.look.steady))
+                self.spared.update([each] if not self.look.steady.isdisjoint(others) else ())
 
     def spread(self) -> None:
         """Adds whoever may be cancelled to those that may cancel what it awaits."""
@@ -67,6 +72,7 @@ class Cancellers:
             return unsure(MANY)
         sure, failing = ([name for name in map(name_of, some.get(key, ())) if name]
                          for some in (self.sure, self.failing))
+        wait.because = [*wait.because, *([premise(QUIET)] if key in self.spared else [])]
         wait.besides = [*wait.besides, *failing]
         if wait.kind not in (ANY, ALL):
             wait.besides = [*sure, *failing]

@@ -173,6 +173,8 @@ def task_wait(row: "Row", standing: Standing) -> Wait:
     if found is not None:
         return found
     for each in standing.standard:
+        if each.at == "asyncio.base_events.Server.serve_forever":
+            return limited("it serves")
         if each.at in ("asyncio.tasks.sleep", "asyncio.tasks.wait_for") and each.has.get("timeout", 0) is not None:
             return limited("it sleeps, or waits with a limit")
         if each.at.endswith("._wait_for_one") and isinstance(row.more.get("completes"), list):

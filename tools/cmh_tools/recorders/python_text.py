@@ -65,7 +65,8 @@ class Look:
     or wait with a limit the words in their code that may end others' waits. `semaphores` has the locks of
     multiprocessing that it has taken, and `queues` by a queue of multiprocessing and an operation the keys of those
     who are likely to end such a wait. `quiet` has the keys of those that end nobody's wait by their code, or is None
-    where others than threads and tasks may."""
+    where others than threads and tasks may, `apart` by a wait those besides that don't end this one, or None,
+    and `steady` the tasks that don't fail on purpose."""
 
     where: str
     process: str
@@ -84,6 +85,8 @@ class Look:
     semaphores: Set[str] = field(default_factory=set)
     queues: Dict[Tuple[Any, Any], Any] = field(default_factory=dict)
     quiet: Optional[Set[Any]] = None
+    apart: Dict[str, Any] = field(default_factory=dict)
+    steady: Set[Any] = field(default_factory=set)
     is_whole: bool = True
     by_faulthandler: bool = False
     shown_by: str = ""  # another tool, which shows places alone
@@ -221,6 +224,8 @@ def add_row(look: Look, row: Dict[str, Any], path: str, at: int) -> None:
             look.endless.update([str(row["wait"])] if row.get("nameless") is True else ())
         elif "quiet" in row:
             look.quiet = {*row["quiet"]} if row["loops"] is True else None
+            look.steady = {*row.get("steady", ())}
+            look.apart = {str(at): keys if keys is None else {*keys} for at, keys in row.get("apart", {}).items()}
         elif "queue" in row:
             look.queues[row["queue"], row["in"]] = row["by"]
         elif "semaphore" in row:

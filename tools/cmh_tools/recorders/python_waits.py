@@ -11,6 +11,7 @@ from .python_text import Frame, Look, is_number, last_word
 
 NEXT = re.compile(r"\w*Queue\.get")  # the operation of one that waits for its next message
 SHARED = re.compile(r"multiprocessing\.queues\.(?:Joinable)?Queue\.(put|get|join)$")
+FEED = "multiprocessing.queues.Queue._feed"
 SEMAPHORES = re.compile(r"multiprocessing\.synchronize\.\w+\.__enter__$")
 CHILDREN = re.compile(r"subprocess\.Popen\.(wait|_wait)$")
 WAITS = re.compile(r"(os|posix)\.(wait|waitpid|wait3|wait4|waitid)$")
@@ -114,24 +115,26 @@ def bound_of(standing: Standing, at: Any) -> Optional[List[str]]:
     multiprocessing those of all processes. None where that isn't known, and where a signal's handler is likely to.
     Where nobody may, it may have been made so, as the wait of a program's first task, or of a worker that has nothing
     to do."""
-    is_shared = shared_in(standing) is not None
-    names = standing.ending if is_shared else ending_in(standing.look, standing.name_of)
+    is_shared = shared_in(standing) is not None or feeds(standing)
+    names = standing.ending if is_shared else ending_in(standing.look, standing.name_of, at)
     if names is None or at is None and not is_shared or at in standing.look.stopped or at in standing.look.endless:
         return None
     found = [name for name in names if name != standing.name_of(standing.row.key)]
     return None if not found and (is_first(standing) or waits_for_next(standing)) else found
 
 
-def ending_in(look: Look, name_of: Any) -> Optional[List[str]]:
-    """The threads and tasks of an OS process that may end waits there, or None if others may too: all but those whose
-    code ends none, those that only wait for a signal to stop, and threads that wait for the events of a loop, which
-    calls nothing that does."""
-    if look.quiet is None or look.head.get("others") != 0 or look.asked or not look.is_whole:
+def ending_in(look: Look, name_of: Any, at: Any = None) -> Optional[List[str]]:
+    """The threads and tasks of an OS process that may end waits there, or the one at some place, or None if others may
+    too: all but those whose code ends none, those that only wait for a signal to stop, and threads that wait for the
+    events of a loop, which calls nothing that does."""
+    apart = look.apart.get(at, set())
+    if look.quiet is None or apart is None or look.head.get("others") != 0 or look.asked or not look.is_whole:
         return None
     idle = [row.key for row in look.threads.values() if row.more.get("loop") is not None and is_idle_loop(row.frames)]
     keys = [key for key in (*look.threads, *look.tasks) if key not in idle]
     rows = {**look.threads, **look.tasks}
-    names = [name_of(key) for key in keys if key not in look.quiet and rows[key].more.get("at") not in look.stopped]
+    keys = [key for key in keys if key not in look.quiet and key not in apart]
+    names = [name_of(key) for key in keys if rows[key].more.get("at") not in look.stopped]
     return None if None in names or len(names) > MOST else names
 
 
@@ -143,6 +146,14 @@ def shared_in(standing: Standing) -> Any:
         if found:
             return own.get("queue") if isinstance(own, dict) else None, found[1]
     return None
+
+
+def feeds(standing: Standing) -> bool:
+    """Whether one writes for a queue of multiprocessing: its pipe is full until somebody takes something out of the
+    queue, or another process writes."""
+    at = next((at for at, each in enumerate(standing.frames) if each.at == FEED), None)
+    is_library = at is not None and all(each.kind == "standard" for each in standing.frames[:at])
+    return is_library and standing.frames[0].at != "threading.Condition.wait"
 
 
 def waits_for_next(standing: Standing) -> bool:
@@ -431,11 +442,22 @@ def resolve(standing: Standing, value: Any) -> Optional[Wait]:
         name = standing.name_of(value.get("id"))
         return Wait(ANY, [name]) if name else None
     if value.get("type") == "gather":  # (the first that fails ends it, unless it gathers errors too)
-        return with_holders(standing, value, resolve_all(standing, value["all"], value.get("raises") is not False))
+        return with_holders(standing, value, resolve_gather(standing, value))
     if value.get("type") == "Future":
         return wait_for_work(standing, value.get("id"))
     inner = value.get("inner") or value.get("source")
     return with_holders(standing, value, resolve(standing, inner)) if inner else None
+
+
+def resolve_gather(standing: Standing, value: Dict[str, Any]) -> Optional[Wait]:
+    """The wait for a gather: the first that fails ends it, unless it gathers errors too. One that is steady doesn't."""
+    if value.get("raises") is False:
+        return resolve_all(standing, value["all"])
+    left = [each for each in value["all"] if not isinstance(each, dict) or each.get("id") not in standing.look.steady]
+    wait = resolve_all(standing, left or value["all"], True)
+    if wait is not None and len(left) < len(value["all"]):
+        wait.because = list(dict.fromkeys([*wait.because, premise(QUIET)]))
+    return wait
 
 
 def with_holders(standing: Standing, value: Dict[str, Any], wait: Optional[Wait]) -> Optional[Wait]:

@@ -7,9 +7,12 @@ something to the whole program beforehand.
 """
 import asyncio
 import contextlib
+import copy
+import csv
 import dataclasses
 import functools
 import gc
+import gzip
 import http.server
 import json
 import logging
@@ -18,10 +21,13 @@ import operator
 import os
 import queue
 import socket
+import sqlite3
+import subprocess
 import sys
 import threading
 import time
 import types
+import urllib.request
 import warnings
 import weakref
 
@@ -151,6 +157,35 @@ def quiet_acceptor():
         client, _ = server.accept()
         with client:
             client.sendall(b"%d\n" % counts["done"])
+
+
+def quiet_files():
+    while True:
+        time.sleep(1000)
+        with gzip.open(os.devnull, "wt") as out:
+            csv.writer(out).writerow([counts["done"]])
+
+
+def quiet_queries():
+    files = sqlite3.connect(":memory:")
+    while True:
+        time.sleep(1000)
+        with files:
+            files.execute("insert into rows values (?)", (counts["done"],))
+
+
+def quiet_asker():
+    while True:
+        time.sleep(1000)
+        with urllib.request.urlopen("http://127.0.0.1:1/", timeout=1) as answer:
+            answer.read()
+        subprocess.run(["true"], check=True)
+
+
+def quiet_copier():
+    while True:
+        time.sleep(1000)
+        counts.update(copy.deepcopy(counts))
 
 
 class Status(http.server.BaseHTTPRequestHandler):
@@ -377,7 +412,8 @@ HOOKS = {
 def main():
     HOOKS[sys.argv[1]]()
     for name, each in list(globals().items()):
-        if type(each) is types.FunctionType and name.startswith(("quiet_", "frees_")) and not each.__code__.co_flags & 0x80:
+        is_one = type(each) is types.FunctionType and name.startswith(("quiet_", "frees_"))
+        if is_one and not each.__code__.co_flags & 0x80:
             threading.Thread(target=each, name=name, daemon=True).start()
     threading.Thread(target=lambda: asyncio.run(tasks()), name="loop", daemon=True).start()
     for name, handler in (("quiet_status", Status), ("frees_on_request", Control)):

@@ -505,6 +505,20 @@ def try_locks():
     start("left", try_both, left, right).join()
 
 
+# The owner of the lock only sleeps.
+
+
+def take_and_sleep(lock):
+    with lock:
+        time.sleep(LONG)
+
+
+def lock_slowly():
+    left, right = threading.RLock(), threading.RLock()
+    start("right", take_and_sleep, right)
+    start("left", take_both, left, right).join()
+
+
 # Two threads take two plain locks in two orders, or the right one only sleeps with its own. In one of these another
 # thread gives the lock back that the right one has taken; in one a third has taken it and waits for a condition of it.
 
@@ -791,6 +805,7 @@ JOBS = {
     "held_permits_of_two_slow": lambda: asyncio.run(hold_of_two()),
     "interrupt": ask_with_timer,
     "tries": try_locks,
+    "locks_slow": lock_slowly,
     "kept": lambda: nest(False),
     "kept_cancelled": lambda: nest(True),
     "kept_closed": nest_closed,
