@@ -10,7 +10,7 @@ import struct
 import subprocess
 import time
 import zipfile
-from typing import Any, Dict, Iterator, List, NamedTuple, Set, Tuple
+from typing import Any, Callable, Dict, Iterable, Iterator, List, NamedTuple, Optional, Set, Tuple
 
 MOST_FILES = 30_000  # on the class path, with its folders
 ABOUT, INDEX = "META-INF/MANIFEST.MF", "META-INF/INDEX.LIST"
@@ -24,6 +24,8 @@ ELSEWHERE = re.compile(r"jdk\.module\.(?:path|main|patch\..*|upgrade\.path)|java
                        r"|jdk\.boot\.class\.path\.append|java\.(?:ext|endorsed)\.dirs")
 CHANGES = re.compile(r"-javaagent|-agent(?:lib|path)|-Xrun|-Xbootclasspath|--patch-module"
                      r"|-Djava\.security\.manager")
+THROWABLE = "java/lang/Throwable"
+HANDLES = "java/lang/invoke/"
 LAMBDAS, ONE_INTERFACE = "java/lang/invoke/LambdaMetafactory", "metafactory"
 TYPE = re.compile(r"\[*(?:[BCDFIJSZV]|L[^;]+;)")
 # Sizes of constants by their tags, and the lengths of instructions; 0 where that stands in the instruction.
@@ -39,6 +41,29 @@ AASTORE, GETSTATIC, PUTSTATIC, GETFIELD, PUTFIELD = 83, 178, 179, 180, 181
 VIRTUAL, SPECIAL, STATIC, INTERFACE, DYNAMICALLY, NEW, CAST = 182, 183, 184, 185, 186, 187, 192
 BY_HANDLE = {5: VIRTUAL, 6: STATIC, 7: SPECIAL, 8: SPECIAL, 9: INTERFACE}
 IS_STATIC, IS_FINAL, IS_NATIVE, IS_INTERFACE, IS_ABSTRACT = 8, 16, 0x100, 0x200, 0x400
+# What instructions take from the stack, in slots, and leave there. Those that aren't here have more to say of it.
+PLAINLY: Dict[int, Tuple[int, str]] = {}
+for _left, _taken, _codes in (
+        ("", 0, (0, *range(116, 120), 132, 167, 177, 200)), ("", 3, (79, 81, *range(83, 87))), ("", 4, (80, 82)),
+        ("", 1, (87, *range(153, 159), 170, 171, *range(172, 177), 179, 191, 194, 195, 198, 199)),
+        ("", 2, (88, *range(159, 167))), ("I", 0, (*range(2, 9), 16, 17)), ("J", 0, (9, 10)), ("F", 0, (11, 12, 13)),
+        ("D", 0, (14, 15)), ("N", 0, (1,)),
+        ("I", 1, (139, 145, 146, 147, 190, 193)), ("J", 1, (133, 140)), ("F", 1, (134,)), ("D", 1, (135, 141)),
+        ("I", 2, (46, *range(51, 54), 96, 100, 104, 108, 112, 120, 122, 124, 126, 128, 130, 136, 142, 149, 150)),
+        ("J", 2, (47, 143)), ("D", 2, (49, 138)), ("F", 2, (48, 98, 102, 106, 110, 114, 137, 144)),
+        ("J", 3, (121, 123, 125)), ("J", 4, (97, 101, 105, 109, 113, 127, 129, 131)),
+        ("D", 4, (99, 103, 107, 111, 115)), ("I", 4, (148, 151, 152))):
+    for _code in _codes:
+        PLAINLY[_code] = _taken, _left
+# Of those that copy slots, which from the top they leave, in their order: 1 is the top.
+COPIES = {89: (1, 1), 90: (1, 2, 1), 91: (1, 3, 2, 1), 92: (2, 1, 2, 1), 93: (2, 1, 3, 2, 1),
+          94: (2, 1, 4, 3, 2, 1), 95: (1, 2)}
+ENDS = {*range(172, 178), 191, 167, 170, 171, 200}  # after which the next instruction doesn't follow
+# A value of which nothing is known, and the signs before the type of one that this code has made itself, and of one
+# that is of no class that derives from this.
+ANY_VALUE, NEW_VALUE, NO_OTHER, RETURNS = "?", "+", "!", ">"  # the last before what a function returns
+CONSTANTS = {3: "I", 4: "F", 5: "J", 6: "D", 7: "Ljava/lang/Class;", 8: "Ljava/lang/String;"}
+ARRAYS = {4: "Z", 5: "C", 6: "F", 7: "D", 8: "B", 9: "S", 10: "I", 11: "J"}
 U2, U4, S2, S4 = (struct.Struct(it) for it in (">H", ">I", ">h", ">i"))
 
 
@@ -61,22 +86,25 @@ class Call(NamedTuple):
 
 class Lambda(NamedTuple):
     """A lambda that is made: the method of its interface, that interface, or nothing if it may have others, what it
-    calls, and of which kinds the values are that it takes with it, in the order of the alphabet: 'L' of a reference."""
+    calls, and of which kinds the values are that it takes with it, in the order of the alphabet: 'L' of a reference.
+    `taken` has their types."""
 
     name: str
     of: str
     call: Call
     letters: str
+    taken: Tuple[str, ...]
 
 
 class Method(NamedTuple):
-    """A method of the program's. One that is abstract or native has no code."""
+    """A method of the program's. One that is abstract or native has no code. `at` is where that stands in its file."""
 
     owner: str
     name: str
     types: str
     flags: int
     code: bytes
+    at: int
 
 
 class ClassFile:
@@ -92,7 +120,7 @@ class ClassFile:
             self.pool.append((tag, at + 1))
             self.pool += [(0, 0)] * (tag in (5, 6))
             at += 3 + self.u2(at + 1) if tag == 1 else 1 + SIZES[tag]
-        self.is_interface = bool(self.u2(at) & IS_INTERFACE)
+        self.is_interface, self.is_abstract = (bool(self.u2(at) & it) for it in (IS_INTERFACE, IS_ABSTRACT))
         self.name, above = self.text(self.u2(at + 2)), self.u2(at + 4)
         self.above = [self.text(it) for it in (above, *self.numbers(at + 6)) if it]
         at += 8 + 2 * self.u2(at + 6)
@@ -155,7 +183,7 @@ class ClassFile:
 
     def add_method(self, flags: int, name: str, types: str, at: int) -> None:
         length = U4.unpack_from(self.data, at + 4)[0] if at else 0
-        self.methods[name, types] = Method(self.name, name, types, flags, self.data[at + 8:at + 8 + length])
+        self.methods[name, types] = Method(self.name, name, types, flags, self.data[at + 8:at + 8 + length], at)
 
     def read_makers(self, at: int) -> None:
         number = self.u2(at)
@@ -163,6 +191,19 @@ class ClassFile:
         for _ in range(number):
             self.makers.append((self.u2(at), self.numbers(at + 2)))
             at += 4 + 2 * self.u2(at + 2)
+
+    def catches(self, method: Method) -> List[Tuple[int, int, int, str]]:
+        """Returns from where to where a method catches what is thrown, where it goes on then, and the type of that."""
+        at = method.at + 8 + len(method.code)
+        rows = [struct.unpack_from(">4H", self.data, at + 2 + 8 * it) for it in range(self.u2(at))]
+        return [(begin, end, there, f"L{self.text(it) if it else THROWABLE};") for begin, end, there, it in rows]
+
+    def lines(self, method: Method) -> List[Tuple[int, int]]:
+        """Returns where the code of each line begins, or nothing if the file doesn't say it."""
+        at = method.at + 8 + len(method.code)
+        some = [there for name, there in self.attributes(at + 2 + 8 * self.u2(at)) if name == "LineNumberTable"]
+        return sorted((self.u2(it + 2 + 4 * row), self.u2(it + 4 + 4 * row))
+                      for it in some for row in range(self.u2(it)))
 
     def handle(self, index: int) -> Call:
         """Returns what a handle calls."""
@@ -184,25 +225,57 @@ class ClassFile:
                 yield self.lambda_of(call)
 
     def lambda_of(self, call: Call) -> Lambda:
-        taken = [it[0].replace("[", "L") for it in TYPE.findall(call.types.partition(")")[0][1:])]
+        types = TYPE.findall(call.types.partition(")")[0][1:])
+        taken = [it[0].replace("[", "L") for it in types]
         maker, given = self.made(call)
         interface = call.types.rpartition(")L")[2].rstrip(";") if maker.name == ONE_INTERFACE else ""
-        return Lambda(call.name, interface, self.handle(given[1]), "".join(sorted(taken)))
+        return Lambda(call.name, interface, self.handle(given[1]), "".join(sorted(taken)), tuple(types))
+
+    def makes_alone(self, method: Method) -> Optional[Call]:
+        """Returns by what a method makes the object that it returns, if it does nothing else, and gives that nothing.
+        """
+        code, its = method.code, method.owner == self.name
+        is_alone = its and len(code) == 8 and (code[0], code[3], code[4], code[7]) == (NEW, 89, SPECIAL, 176)
+        return self.call(SPECIAL, U2.unpack_from(code, 5)[0]) if is_alone else None
+
+    def makes(self) -> Iterator[Lambda]:
+        """Yields the lambdas that the class makes, each as often as its code does so."""
+        for method in self.methods.values():
+            for at in (at for at, what, _ in steps(method.code) if what == DYNAMICALLY):
+                call = self.call(DYNAMICALLY, U2.unpack_from(method.code, at + 1)[0])
+                if self.made(call)[0].owner == LAMBDAS:
+                    yield self.lambda_of(call)
+
+    def dynamic_calls(self) -> List[List[Call]]:
+        """Returns what each method calls dynamically, in the order of its code, or nothing if the class calls handles,
+        which the JVM keeps with these."""
+        if any(it.startswith(("java/lang/invoke/MethodHandle.", "java/lang/invoke/VarHandle.")) for it in self.named()):
+            return []
+        return [some for some in ([self.call(DYNAMICALLY, U2.unpack_from(method.code, at + 1)[0])
+                                   for at, what, _ in steps(method.code) if what == DYNAMICALLY]
+                                  for method in self.methods.values()) if some]
 
     def others(self) -> Iterator[str]:
         """Yields all classes that the class names."""
         return (self.text(index) for index, (tag, _) in enumerate(self.pool) if tag == 7)
 
     def named(self) -> Iterator[str]:
-        """Yields all methods that the class names, as 'java/lang/System.exit'."""
+        """Yields all methods that the class names, as 'java/lang/System.exit', and again if they are given a Runnable.
+        """
         for index, (tag, _) in enumerate(self.pool):
             if tag in (10, 11):
                 call = self.call(0, index)
                 yield f"{call.owner}.{call.name}"
+                yield from [f"{call.owner}.{call.name} with Runnable"] if "Ljava/lang/Runnable;" in call.types else []
 
 
 def steps(code: bytes) -> Iterator[Tuple[int, int, List[int]]]:
     """Yields where each instruction stands, which it is, and to where it may jump."""
+    return ((at, what, targets) for at, what, targets, _ in sized(code))
+
+
+def sized(code: bytes) -> Iterator[Tuple[int, int, List[int], int]]:
+    """Yields where each instruction stands, which it is, to where it may jump, and its length."""
     at = 0
     while at < len(code):
         what = code[at]
@@ -215,7 +288,7 @@ def steps(code: bytes) -> Iterator[Tuple[int, int, List[int]]]:
             targets, length = switch(code, at) if what != 196 else ([], 6 if code[at + 1] == 132 else 4)
         if length <= 0:
             raise Fault("a switch has no length")
-        yield at, what, targets
+        yield at, what, targets, length
         at += length
 
 
@@ -226,6 +299,196 @@ def switch(code: bytes, at: int) -> Tuple[List[int], int]:
     first, width = (begin + 12, 4) if is_table else (begin + 8, 8)
     jumps = [begin, *(first + width * (it + 1) - 4 for it in range(high - low + 1))]
     return [at + S4.unpack_from(code, it)[0] for it in jumps], first + width * (high - low + 1) - at
+
+
+class Values(NamedTuple):
+    """What is known of the types of values before an instruction: those on the stack, and in variables, by slots."""
+
+    stack: Tuple[str, ...]
+    variables: Tuple[str, ...]
+
+
+def merged(one: Tuple[str, ...], other: Tuple[str, ...]) -> Tuple[str, ...]:
+    """Returns what is known where two ways meet."""
+    if one == other:
+        return one
+    size = max(len(one), len(other))
+    pairs = zip(*(it + (ANY_VALUE,) * (size - len(it)) for it in (one, other)))
+    return tuple(merged_types(*it) for it in pairs)
+
+
+def merged_types(one: str, other: str) -> str:
+    if one == other or other == "N":
+        return one
+    return other if one == "N" else bare(one) if bare(one) == bare(other) else ANY_VALUE
+
+
+def slots(types: Iterable[str]) -> List[str]:
+    return [slot for it in types for slot in ([it, ""] if it in ("J", "D") else [] if it == "V" else [it])]
+
+
+class Flow:
+    """What is known of the types of values before each instruction of a method. It has begun already if a line is
+    given, and goes on from there, or behind a call that it makes there to a method of the program of a name: `reached`
+    are the instructions to which it may come. What it has made before others
+    may have found since. `result` says of what type the value is that a call returns, by the object that it is of and
+    whether it is one of these."""
+
+    def __init__(self, file: ClassFile, method: Method, result: Callable[[Call, str, bool], str],
+                 line: Optional[int] = None, called: str = "") -> None:
+        self.file, self.method, self.code, self.result = file, method, method.code, result
+        self.after = {at: (at + size, what, some) for at, what, some, size in sized(method.code)}
+        self.catches = file.catches(method)
+        here = self.at_line(line) if line is not None else []
+        made = [(at, self.file.call(0, self.index(at))) for at in here if VIRTUAL <= self.code[at] <= INTERFACE]
+        has_handle = any(it.owner.startswith(HANDLES) for _, it in made)  # (which calls without a frame)
+        calls = [at for at, it in made if it.name == called and not has_handle]
+        behind = [there for at in calls for there in (*self.next_to(at), *(it for it, _ in self.caught_at(at)))]
+        self.reached = self.reached_from(behind if calls else here) if here else self.after.keys()
+        sign = NEW_VALUE if method.name == "<init>" and not here else ""
+        own = [] if method.flags & IS_STATIC else [f"{sign}L{method.owner};"]
+        self.before: Dict[int, Values] = {}
+        self.todo: List[int] = []
+        self.join(0, Values((), tuple(slots([*own, *TYPE.findall(method.types.partition(")")[0])]))))
+        while self.todo:
+            self.go_on(self.todo.pop())
+
+    def at_line(self, line: int) -> List[int]:
+        """Returns the instructions of a line."""
+        begins = self.file.lines(self.method)
+        ends = [*(it for it, _ in begins[1:]), len(self.code)]
+        return [at for (begin, it), end in zip(begins, ends) if it == line for at in self.after if begin <= at < end]
+
+    def join(self, at: int, values: Values) -> None:
+        """Takes to an instruction what is known on one more way to it."""
+        old = self.before.get(at, values)
+        new = Values(merged(old.stack, values.stack), merged(old.variables, values.variables))
+        if at not in self.before or new != old:
+            self.before[at] = new
+            self.todo.append(at)
+
+    def go_on(self, at: int) -> None:
+        values = self.before[at]
+        for there, type_ in self.caught_at(at):
+            self.join(there, Values((type_,), values.variables))
+        made = self.done(at, values)
+        for there in self.next_to(at):
+            self.join(there, made)
+
+    def caught_at(self, at: int) -> List[Tuple[int, str]]:
+        return [(there, type_) for begin, end, there, type_ in self.catches if begin <= at < end]
+
+    def next_to(self, at: int) -> List[int]:
+        """Returns which instructions may follow one, if nothing is thrown."""
+        following, what, targets = self.after[at]
+        return [*targets, *([] if what in ENDS else [following])]
+
+    def reached_from(self, some: Iterable[int]) -> Set[int]:
+        """Returns to which instructions one may come from some."""
+        todo = list(dict.fromkeys(some))
+        found = set(todo)
+        for at in todo:  # (which grows meanwhile)
+            new = {*self.next_to(at), *(it for it, _ in self.caught_at(at))} - found
+            found |= new
+            todo += new
+        return found
+
+    def index(self, at: int) -> int:
+        """Returns which constant or variable an instruction names."""
+        what = self.code[at]
+        if what == 196:
+            return self.u2(at + 2)
+        return self.code[at + 1] if LENGTHS[what] == 2 else self.u2(at + 1)
+
+    def u2(self, at: int) -> int:
+        number: int = U2.unpack_from(self.code, at)[0]
+        return number
+
+    def done(self, at: int, values: Values) -> Values:
+        """Returns what is known after an instruction, if that throws nothing."""
+        stack, variables = list(values.stack), values.variables
+        what = self.code[at + 1] if self.code[at] == 196 else self.code[at]
+        if what in PLAINLY:
+            taken, left = PLAINLY[what]
+            taken += what == 179 and self.file.call(what, self.index(at)).types in ("J", "D")
+            del stack[len(stack) - taken:]
+            stack += slots([left] if left else [])
+        elif what in COPIES:
+            some = [stack[-it] for it in COPIES[what]]
+            del stack[len(stack) - max(COPIES[what]):]
+            stack += some
+        elif 21 <= what <= 45:
+            number, kind = (self.index(at), what - 21) if what < 26 else ((what - 26) % 4, (what - 26) // 4)
+            value = variables[number] if number < len(variables) else ANY_VALUE
+            stack += slots(["IJFD"[kind] if kind < 4 else value])
+        elif 54 <= what <= 78:
+            number, kind = (self.index(at), what - 54) if what < 59 else ((what - 59) % 4, (what - 59) // 4)
+            variables = stored(variables, number, stack[-1 - (kind in (1, 3)):])
+            del stack[len(stack) - 1 - (kind in (1, 3)):]
+        else:
+            self.do_other(what, at, stack)
+        return Values(tuple(stack), variables)
+
+    def do_other(self, what: int, at: int, stack: List[str]) -> None:
+        """Changes the stack as an instruction does that names a constant, or makes something of a type."""
+        index = self.index(at) if what not in (50, 188) else 0
+        if what in (18, 19, 20):
+            stack += slots([CONSTANTS.get(self.file.pool[index][0], ANY_VALUE)])
+            return
+        if what == 50:
+            array_ = bare(stack[-2])
+            left, taken = array_[1:] if array_.startswith("[") else ANY_VALUE, 2
+        elif what in (178, 180, 181):
+            types = self.file.call(what, index).types
+            left, taken = ("V", 1 + len(slots([types]))) if what == 181 else (types, int(what == 180))
+        elif VIRTUAL <= what <= DYNAMICALLY:
+            call = self.file.call(what, index)
+            taken = taken_by(call)
+            left = self.result(call, stack[-taken] if taken else ANY_VALUE, at in self.reached)
+        elif what == 188:
+            left, taken = f"{self.sign(at)}[{ARRAYS[self.code[at + 1]]}", 1
+        elif what in (NEW, CAST, 189, 197):
+            left = self.made(at, what, self.file.text(index), stack[-1:])
+            taken = self.code[at + 3] if what == 197 else int(what != NEW)
+        else:
+            raise Fault(f"{self.method.owner}.{self.method.name} has an instruction {what}")
+        del stack[len(stack) - taken:]
+        stack += slots([left])
+
+    def made(self, at: int, what: int, name: str, top: List[str]) -> str:
+        """Returns the type of what is made, or taken for one."""
+        types = name if name.startswith("[") else f"L{name};"
+        if what == CAST:
+            is_known = bare(top[0]) == types or NO_OTHER in top[0][:2] or top[0] == "N"
+            return top[0] if is_known else types
+        return f"{self.sign(at)}{'[' if what == 189 else ''}{types}"
+
+    def sign(self, at: int) -> str:
+        return (NEW_VALUE if at in self.reached else "") + NO_OTHER
+
+    def taken(self, at: int, call: Call) -> List[str]:
+        """Returns what a call is given: the types of the values, first the object whose method it is."""
+        stack = self.before[at].stack
+        return [it for it in stack[len(stack) - taken_by(call):] if it]
+
+
+def taken_by(call: Call) -> int:
+    """Returns how many slots a call takes from the stack."""
+    return len(slots(TYPE.findall(call.types.partition(")")[0]))) + (call.how not in (STATIC, DYNAMICALLY))
+
+
+def bare(types: str) -> str:
+    """Returns a type without its signs."""
+    return types.lstrip(NEW_VALUE + NO_OTHER).partition(RETURNS)[0]
+
+
+def stored(variables: Tuple[str, ...], number: int, some: List[str]) -> Tuple[str, ...]:
+    """Returns variables with a new value in one of them."""
+    found = [*variables, *[ANY_VALUE] * (number + len(some) - len(variables))]
+    found[number:number + len(some)] = some
+    if number and found[number - 1] in ("J", "D"):
+        found[number - 1] = ANY_VALUE
+    return tuple(found)
 
 
 # What a process has

@@ -61,6 +61,8 @@ JOIN, AWAIT, GET = ("java.lang.Thread.join", "java.util.concurrent.FutureTask.aw
 POOL_ENDS, TIMER = "java.util.concurrent.ThreadPoolExecutor.awaitTermination", "java.util.TimerThread.mainLoop"
 SCHEDULER = "java/util/concurrent/ScheduledThreadPoolExecutor"
 SCHEDULES = "java.util.concurrent.ScheduledThreadPoolExecutor$DelayedWorkQueue.take"
+SERVES, DISPATCHER = "sun.net.httpserver.ServerImpl$Dispatcher.run", "sun/net/httpserver/ServerImpl$Dispatcher"
+DELEGATES = re.compile(r"java/util/concurrent/Executors\$\w*DelegatedExecutorService")
 LATCH = "java.util.concurrent.CountDownLatch.await"
 LOCKS = "java.util.concurrent.locks.ReentrantLock.lock"
 WRITES, READS = (f"java.util.concurrent.locks.ReentrantReadWriteLock${it}Lock.lock" for it in ("Write", "Read"))
@@ -77,16 +79,20 @@ WAITS, GETS_TASK, CLEANS = ("java.lang.Object.wait", "java.lang.Object.wait0"), 
     "java.util.concurrent.ThreadPoolExecutor.getTask", "java.lang.ref."
 TAKES = re.compile(r"java\.util\.concurrent\.(?!Scheduled)\w+(?:\$\w+)?\.take\w*")
 # Fields by which nobody comes to an object: nodes of those who wait, whom others only wake up; the list of all threads;
-# what a phantom refers to; and what the collector keeps for itself. A thread alone uses some fields of its own.
+# what a phantom refers to; what the collector keeps for itself; and a timer that ends once its owner is forgotten. A
+# thread alone uses some fields of its own.
 WAKES = re.compile(r"java/util/concurrent/(?:locks/(?:AbstractQueued(?:Long)?Synchronizer(?:\$Node)?"
                    r"|StampedLock\$W?Node)|SynchronousQueue\$\S+|LinkedTransferQueue\$Node|Exchanger\$Node"
                    r"|Phaser\$QNode|FutureTask\$WaitNode|CompletableFuture\$Signaller|ForkJoinTask\$Aux)"
                    r"\.(?:thread|waiter|parked)"
-                   r"|java/lang/(?:ThreadGroup\.threads|Thread\.parkBlocker|ref/Reference\.discovered)")
+                   r"|java/lang/(?:ThreadGroup\.threads|Thread\.parkBlocker|ref/Reference\.discovered)"
+                   r"|java/util/Timer\$ThreadReaper\.(?:queue|thread)")
 OWN = re.compile(r"java/lang/Thread\.(?:threadLocals|inheritableThreadLocals"
                  r"|inheritedAccessControlContext|blocker|scopedValueBindings)")
 BY_ANY, BY_ITSELF, UNUSED = range(3)
 REFERENT, PHANTOM = "java/lang/ref/Reference.referent", "java/lang/ref/PhantomReference"
+# The collector puts references into queues, from which others take them. One is for those that have none.
+REFERENCES, NO_QUEUE = "java/lang/ref/Reference", "java/lang/ref/ReferenceQueue$Null"
 # The owner of a lock of the JDK's, for whom only a class that derives from such a lock can ask.
 OWNER = "java/util/concurrent/locks/AbstractOwnableSynchronizer.exclusiveOwnerThread"
 ASKED = {"java/util/concurrent/locks/ReentrantLock", "java/util/concurrent/locks/ReentrantReadWriteLock"}
@@ -95,6 +101,8 @@ BEFORE_CALLS = re.compile(r".*\.(?:<clinit>|loadClass)|java\.lang\.invoke\.Metho
 # Classes without a name, of which no heap dump has the data: those of the JDK's own have none of the job's.
 HIDDEN, OF_THE_JDK = re.compile(r".*[+/.]0x[0-9a-f]+"), re.compile(
     r"(?:javax?|jdk|sun|com/sun)/.*|.*\$\$(?:Lambda|StringConcat|TypeSwitch)\b.*")
+MADE, BUILT = re.compile(r".*\$\$Lambda.*"), re.compile(r"(?<=[+/.])0x[0-9a-f]+$")
+LINKED, MOST_LINKED = "<resolved_references>", 2000  # of a class, for all that its code has made to call
 VIRTUAL, STRING, OF_THE_END = "java/lang/VirtualThread", "java/lang/String", "java/lang/ApplicationShutdownHooks"
 TEXT, LOADED, FRAME, TRACE, SEGMENTS, END = 0x01, 0x02, 0x04, 0x05, (0x0C, 0x1C), 0x2C
 LOCAL, OF_THREAD, CLASS, INSTANCE, OBJECTS, VALUES = 0x03, 0x08, 0x20, 0x21, 0x22, 0x23
@@ -172,7 +180,8 @@ class Heap:
     """What is kept of a heap dump: when it was taken, in seconds; by the identity of an object the values of its
     fields, for each group; of each thread, by its number in the file, its object, its trace, and which objects each of
     its frames has, or its natives. `of_all` are those that any thread may come to: in static fields, of the JVM, and of
-    these `hooks` is the map of the threads that are started once the JVM ends. `references` has the lower half of each
+    these `hooks` is the map of the threads that are started once the JVM ends. `linked` has of classes the arrays of
+    what their code has made to call. `references` has the lower half of each
     reference, in the order of the file, and `strides` where some of them begin there and here."""
 
     def __init__(self, data: mmap.mmap) -> None:
@@ -192,6 +201,7 @@ class Heap:
         self.natives: Dict[int, Set[int]] = defaultdict(set)
         self.of_all: Set[int] = set()
         self.hooks: Set[int] = set()
+        self.linked: Dict[int, int] = {}
         self.keeps_references = True
         self.references = array("I")
         self.strides: List[Tuple[int, int]] = []
@@ -315,6 +325,8 @@ class Heap:
             for _ in range(number):
                 if self.data[at + head] == REFERENCE:
                     of_all.append(IDENTITY.unpack_from(self.data, at + head + 1)[0])
+                    name = self.text(IDENTITY.unpack_from(self.data, at)[0]) if head == 8 else ""
+                    self.linked.update({kind: of_all[-1]} if name == LINKED else {})
                 at += head + 1 + WIDTHS[self.data[at + head]]
         self.of_all.update(of_all)
         self.hooks.update(of_all if self.name_of(kind) == OF_THE_END else ())
@@ -354,15 +366,58 @@ class Heap:
 
     def kind_of(self, identity: int) -> int:
         """Returns the class of an object, which is looked for if it isn't kept, or 0 if it isn't found."""
+        at = self.place_of(identity) if identity and identity not in self.kinds else -1
+        return int(HEAD.unpack_from(self.data, at)[1]) if at >= 0 else self.kinds.get(identity, 0)
+
+    def fields_of(self, identity: int) -> Dict[str, int]:
+        """Returns to what the fields of an object refer, by their names."""
+        at, found = self.place_of(identity), {}
+        for name, width in (it for each in self.lineage(self.kind_of(identity)) for it in self.classes[each][1]):
+            found.update({self.text(name): IDENTITY.unpack_from(self.data, at + 25)[0]} if width == REFERENCE else {})
+            at += WIDTHS[width]
+        return found
+
+    def array_of(self, identity: int) -> List[int]:
+        """Returns to what an array refers."""
+        at = self.data.find(bytes([OBJECTS]) + IDENTITY.pack(identity)) if identity else -1
+        number = NUMBER.unpack_from(self.data, at + 13)[0] if at >= 0 else 0
+        return list(struct.unpack_from(f">{number}Q", self.data, at + 25)) if number <= MOST_LINKED else []
+
+    def sites_of(self, host: int) -> List[str]:
+        """Returns what the code of a class has made to call, in the order in which the JVM keeps it: the address of the
+        class of a lambda, or nothing, and by which types it is made. An empty text is of what isn't made so."""
+        return [self.site_of(it) if it else "" for it in self.array_of(self.linked.get(host, 0))]
+
+    def site_of(self, handle: int) -> str:
+        its = self.fields_of(handle) if "MethodHandle" in self.name_of(self.kind_of(handle)) else {}
+        kinds = [its.get("instanceClass", 0), *(self.kind_of(its[it]) for it in its if it.startswith("argL"))]
+        address = next((it[0] for it in map(BUILT.search, map(self.name_of, kinds)) if it), "")
+        type_ = self.fields_of(its["type"]) if "type" in its else {}
+        given = [self.name_of(it) or "-" for it in self.array_of(type_.get("ptypes", 0))]
+        return f"{address}({','.join(given)}){self.name_of(type_.get('rtype', 0)) or '-'}" if type_ else ""
+
+    def place_of(self, identity: int) -> int:
+        """Returns where an object stands, or -1."""
         mark = bytes([INSTANCE]) + IDENTITY.pack(identity)
-        at = self.data.find(mark) if identity not in self.kinds else -1
+        at = self.data.find(mark)
         while 0 <= at <= len(self.data) - HEAD.size:
             _, kind, size = HEAD.unpack_from(self.data, at)
             if kind in self.classes and size == sum(
                     WIDTHS[width] for it in self.lineage(kind) for _, width in self.classes[it][1]):
-                return int(kind)
+                return at
             at = self.data.find(mark, at + 1)
-        return self.kinds.get(identity, 0)
+        return -1
+
+    def taken_by(self, identity: int, kind: int) -> List[int]:
+        """Returns what the fields of a lambda refer to, in the order in which it takes them, or 0 of a number."""
+        at = self.place_of(identity) + 25
+        found: Dict[int, int] = {}
+        for name, width in (it for each in self.lineage(kind) for it in self.classes[each][1]):
+            number = self.text(name).rpartition("$")[2]
+            is_one = number.isdigit() and width == REFERENCE
+            found[int(number) if number.isdigit() else -1] = IDENTITY.unpack_from(self.data, at)[0] if is_one else 0
+            at += WIDTHS[width]
+        return [found[it] for it in sorted(found)]
 
     def letters_of(self, kind: int) -> str:
         """Returns of which kinds the fields of a class are, in the order of the alphabet: 'L' of a reference."""
@@ -415,6 +470,8 @@ class Reach:
         self.unused: Set[int] = set()
         self.fields: Dict[int, List[Tuple[int, int]]] = {}
         self.known: Dict[int, Optional[Set[int]]] = {}
+        self.queues: Dict[int, bool] = {}  # whether the collector puts into one
+        self.new: Set[int] = set()  # of these
         self.asks: Optional[bool] = None  # whether a class of the job's derives from a lock that knows its owner
         for serial, rows in heap.locals.items():
             self.add_root(heap.roots.get(serial, (0, 0))[0], [it for _, it in rows])
@@ -451,6 +508,7 @@ class Reach:
             at, begin = strides[number]
             if not wanted.isdisjoint(references[begin:ends[number]]) and len(self.into) <= MOST_ON_PATHS:
                 found |= self.look_at(list(self.referring(at, ends[number] - begin)), wanted)
+        found, self.new = found | self.new, set()
         return found
 
     def look_at(self, rows: List[Referring], wanted: Set[int]) -> Set[int]:
@@ -496,8 +554,26 @@ class Reach:
                 self.into[other].add(row.identity)
                 is_new = is_new or row.identity not in self.into
         if is_new:
-            self.into[row.identity] = set()
+            self.into[row.identity] = {it for it in self.queues_of(row) if self.has_puts(it)}
+            self.new |= self.into[row.identity] - self.into.keys()
+            self.into.update((it, set()) for it in self.new - self.into.keys())
         return is_new
+
+    def queues_of(self, row: Referring) -> List[int]:
+        """Returns the queue into which the collector may put an object, if that is a reference of its own."""
+        if not row.kind or REFERENCES not in map(self.heap.name_of, self.heap.lineage(row.kind)):
+            return []
+        at, found = row.at, []
+        for name, width in (it for each in self.heap.lineage(row.kind) for it in self.heap.classes[each][1]):
+            is_queue = width == REFERENCE and self.heap.text(name) == "queue"
+            found += [IDENTITY.unpack_from(self.heap.data, at)[0]] if is_queue else []
+            at += WIDTHS[width]
+        return [it for it in found if it]
+
+    def has_puts(self, queue: int) -> bool:
+        if queue not in self.queues:
+            self.queues[queue] = self.heap.name_of(self.heap.kind_of(queue)) != NO_QUEUE
+        return self.queues[queue]
 
     def fields_of(self, row: Referring) -> Iterable[Tuple[int, int]]:
         """Returns where the references of an object stand, and who uses them."""
@@ -672,6 +748,8 @@ class Waits:
             return {"waits": "pool", "for": self.workers(*pools)} if len(pools) == 1 else {}
         if thread.top(TIMER) or thread.top(SCHEDULES):
             return {"waits": "timer", "for": [], **self.tasks_of(thread)} if self.is_periodic(thread) else {}
+        if any(name == SERVES for name, _ in thread.frames):
+            return self.server(thread)
         if thread.top(GET):
             futures = thread.objects_in(GET, self.found[FUTURE])
             return self.future(thread, next(iter(futures))) if len(futures) == 1 else {}
@@ -760,8 +838,39 @@ class Waits:
         if not is_plain or not 0 < len(calls) <= STEPS or {ADAPTER, TASK, TIMED, WORKER} & self.heap.over:
             return {}
         kinds = {(self.heap.kind_of(it or 0), name) for it, name in calls}
-        named = sorted(f"{self.heap.name_of(it)}.{name}({self.heap.letters_of(it)})" for it, name in kinds)
-        return {"tasks": named} if all(it for it, _ in kinds) else {}
+        named = {f"{self.heap.name_of(kind)}.{name}({self.heap.letters_of(kind)}){self.taken_by(it or 0, kind)}"
+                 for (it, name), kind in zip(calls, (self.heap.kind_of(it or 0) for it, _ in calls))}
+        hosts = {it.partition("$$Lambda")[0] for it in (self.heap.name_of(kind) for kind, _ in kinds)
+                 if MADE.fullmatch(it)}
+        sites = [f"{name} {it}" for host in self.heap.linked for name in [self.heap.name_of(host)] if name in hosts
+                 for it in self.heap.sites_of(host)]
+        return {"tasks": sorted(named), **({"sites": sites} if sites else {})} if all(it for it, _ in kinds) else {}
+
+    def taken_by(self, thing: int, kind: int) -> str:
+        """Returns the classes of what a lambda takes with it, in its order, with '-' for what isn't known."""
+        is_made = MADE.fullmatch(self.heap.name_of(kind)) is not None
+        some = self.heap.taken_by(thing, kind) if is_made else ()
+        return ",".join(self.heap.name_of(self.heap.kind_of(it)) or "-" for it in some)
+
+    def server(self, thread: Thread) -> Row:
+        """Returns the threads of the pool to which one that serves HTTP gives what it is asked, if it gives that to
+        nobody else: the pool begins no more threads, refuses no task by code of the job, and each of these is at work.
+        """
+        its = [held for depth, held in thread.locals if thread.frames[depth:depth + 1]
+               and thread.frames[depth][0] == SERVES and self.heap.name_of(self.heap.kind_of(held)) == DISPATCHER]
+        server = self.heap.fields_of(its[0]).get("this$0", 0) if its else 0
+        pool = self.heap.fields_of(server).get("executor", 0) if server else 0
+        is_behind = DELEGATES.fullmatch(self.heap.name_of(self.heap.kind_of(pool))) is not None
+        pool = self.heap.fields_of(pool).get("e", 0) if is_behind else pool
+        is_plain = pool in self.found[POOL] and self.heap.name_of(self.heap.kinds[pool]) == POOL and is_jdks(
+            self.heap.name_of(self.heap.kind_of(self.heap.fields_of(pool).get("handler", 0))))
+        queue, least, _ = self.found[POOL][pool] if is_plain else (0, 0, 0)
+        is_open = queue in self.found[QUEUE] and self.heap.name_of(self.heap.kinds[queue]) == QUEUE and (
+            self.found[QUEUE][queue][1] == UNBOUNDED)
+        some = [self.threads.get(it) for its, it in self.found[WORKER].values() if its == pool]
+        is_full = is_plain and is_open and 0 < least <= len(some) and not {WORKER, POOL, QUEUE} & self.heap.over
+        labels = [it.label for it in some if it is not None and not it.top(GETS_TASK)]
+        return {"waits": "server", "for": labels} if is_full and len(labels) == len(some) else {}
 
     def is_for_hook(self, at: int) -> bool:
         """Whether the work of a thread that is started once the JVM ends has a latch itself, so that it opens it."""

@@ -25,7 +25,7 @@ from .jvm_code import CODE, SENTENCE, Code, read_code
 from .jvm_dumps import read_dumps
 from .jvm_frames import (AGAIN, BARRIER, CLEANER, COMPUTES, CONDITION, FUTURE, HAS_TIMER, INTERRUPTIBLY, INTERRUPTS,
                          LATCH, LIMITED, LIMITS_FUTURES, LONG, MEETS, NEEDS_ALL, OF_ITEMS, OF_LOCKS, OF_QUEUES,
-                         OF_TASKS, POOLED, POOLS_OWN, READS, READS_PIPE, REENTRANT, SLEEP, SOCKETS, TASK, WORKER,
+                         POOLED, POOLS_OWN, READS, READS_PIPE, REENTRANT, SLEEP, SOCKETS, TASK, WORKER,
                          YIELDS, Place, awaits_task, caller_of, is_at_inbox, is_for_outside, is_in, is_like, is_of_jvm,
                          looks_on, own_of, place_of, short, tries_again)
 from .jvm_heap import Heap, Heaps, is_between, read_heap
@@ -146,6 +146,8 @@ class JvmRecorder(Recorder):
         if self.code and self.code.warning:
             self.dumps[0].warnings.append(f"{self.code.at}: {self.code.warning}")
         self.code = self.code if self.heap else None
+        if self.code:
+            self.code.begin(self.dumps[0].threads)
 
     def prepare(self, moment: Threads) -> None:
         moment.dump, = moment.rows()
@@ -284,11 +286,12 @@ class JvmRecorder(Recorder):
             return spoilt(name, f"{what}: it may have been signalled, and wait for whoever has the lock: only `jstack "
                           "-l` shows that")
         reach = moment.heaps.reach_of(thread)
-        if reach is not None and (LATCH.fullmatch(place.call) or not NEEDS_ALL.fullmatch(place.call)):
-            bound, because = moment.heaps.bound_of(thread, place.has(OF_TASKS))
+        if reach is not None:
+            bound, because = moment.heaps.bound_of(thread)
             is_meant = not bound and not awaits_task(thread)  # (as to wait for ever)
+            is_any = LATCH.fullmatch(place.call) or not NEEDS_ALL.fullmatch(place.call)
             return unknown(name, f"{what}: the heap shows who has a reference to it, and not who ends this wait",
-                           candidates=[*moment.heaps.in_order([*reach, name]), COMPLETE],
+                           candidates=[*moment.heaps.in_order([*reach, name]), COMPLETE] if is_any else [],
                            bound=None if moment.lacks or is_meant else bound,
                            bound_by=list(map(premise, because)))
         workers = moment.workers if TASK.fullmatch(place.call) and not FUTURE.fullmatch(place.call) else []

@@ -6,32 +6,71 @@ from __future__ import annotations
 
 import re
 from dataclasses import dataclass, field
-from typing import Dict, List, Optional, Tuple
+from typing import Dict, Iterable, List, Optional, Set, Tuple
 
 from ..files import Refusal, shown
 from .base import fits, misfits
 from .jvm_rows import LABEL, Label, frames_of, key_of, label_of, plain, trees_in
-from .jvm_text import Thread
+from .jvm_frames import CONDITION, FUTURE, JDK, OF_LOCKS, TASK, caller_of, is_in, place_of
+from .jvm_text import Thread, stack_of
 
-MARK, CODE, TASKS = "# cmh code ", "code", "tasks"
+MARK, CODE = "# cmh code ", "code"
+KINDS = TASKS, MONITORS, PERMITS, LATCHES, SIGNALS, ITEMS, ROOM, MEETINGS, REQUESTS = (
+    "tasks", "monitors", "permits", "latches", "signals", "items", "room", "meetings", "requests")
+# By which methods of the JDK one waits, and of which kinds what may end that is, of those that the code of others has.
+WAITS = re.compile(r"java\.lang\.Object\.wait0?")
+_QUEUE = r"java\.util\.concurrent\.(?:(?:Array|Linked|Priority)BlockingQueue|LinkedBlockingDeque)"
+NOTHING: Set[str] = set()
+ENDED_BY = [(re.compile(pattern), kinds) for pattern, kinds in (
+    (rf"{_QUEUE}\.(?:put|offer)\w*", {ROOM}), (rf"{_QUEUE}\.(?:take|poll)\w*", {ITEMS}),
+    (r"java\.util\.concurrent\.Semaphore\.acquire\w*", {PERMITS}),
+    (r"java\.util\.concurrent\.CountDownLatch\.await", {LATCHES}),
+    (r"java\.util\.concurrent\.(?:Phaser|CyclicBarrier|Exchanger)\.\w+", {MEETINGS}))]
 SENTENCE = "a thread does what its code on the class path does, and nothing in it ends a wait"
-HEAD, ROW = {"version": int, "warning?": str}, {"thread": LABEL, "frames": [str], "ends": [re.compile(TASKS)]}
+HEAD, ROW = {"version": int, "warning?": str}, {"thread": LABEL, "frames": [str], "ends": [re.compile("|".join(KINDS))]}
 
 
 @dataclass
 class Code:
-    """The frames of those whose code ends nobody's wait, and whether it may end that for a task. `warning` says why
-    the code isn't known, if it isn't."""
+    """The frames of those whose code ends nobody's wait, or waits of some KINDS alone, with these. `warning` says why
+    the code isn't known, if it isn't, and `ends` has the kinds of those who stood there in the first state: the code
+    is all that they may come to since."""
 
     at: str
     warning: str = ""
-    rows: Dict[Label, Tuple[List[str], bool]] = field(default_factory=dict)
+    rows: Dict[Label, Tuple[List[str], List[str]]] = field(default_factory=dict)
+    ends: Dict[Label, List[str]] = field(default_factory=dict)
 
-    def frees_nobody(self, thread: Thread, is_task: bool) -> bool:
-        """Whether a thread that stands where the code was read ends nobody's wait, or none but that for a task."""
+    def begin(self, threads: List[Thread]) -> None:
+        """Takes the first state."""
+        labels = [(label_of(it), frames_of(it)) for it in threads]
+        self.ends = {label: self.rows[label][1] for label, frames in labels
+                     if label and frames and self.rows.get(label, ([], []))[0] == frames}
+
+    def frees_nobody(self, thread: Thread, kinds: Optional[Iterable[str]]) -> bool:
+        """Whether a thread ends no wait of some kinds."""
         label = label_of(thread)
-        frames, has_tasks = self.rows.get(label, ([], False)) if label else ([], False)
-        return frames != [] and frames == frames_of(thread) and not (has_tasks and is_task)
+        return kinds is not None and label in self.ends and {*kinds, REQUESTS}.isdisjoint(self.ends[label])
+
+    def serves(self, thread: Thread) -> bool:
+        """Whether a thread does no more than to give requests to the threads of a pool."""
+        label = label_of(thread)
+        return label in self.ends and self.ends[label] == [REQUESTS]
+
+
+def kinds_of(thread: Thread) -> Optional[Set[str]]:
+    """Returns of which kinds what may end the wait of a thread without a limit is. Its own end ends a join. It is None
+    for a lock: whoever gives that back isn't seen to end a wait, as it is known by whom a lock is held."""
+    caller, stack = caller_of(thread), stack_of(thread)
+    found = next((kinds for pattern, kinds in ENDED_BY if pattern.fullmatch(caller)), None)
+    if TASK.fullmatch(place_of(thread).call):
+        return NOTHING if FUTURE.fullmatch(place_of(thread).call) else {TASKS}
+    if OF_LOCKS.fullmatch(caller):
+        return None
+    if is_in(WAITS, stack[:1]):
+        return set() if caller.startswith("java.lang.Thread.join") else {MONITORS}
+    is_own = not JDK.match(caller) and CONDITION in thread.parked_class
+    return {SIGNALS} if is_own else set(KINDS) if found is None else found
 
 
 def read_code(path: str, text: str) -> Optional[Code]:
@@ -48,5 +87,5 @@ def read_code(path: str, text: str) -> Optional[Code]:
         odd = next(misfits(row, ROW), None)
         if odd is not None:
             raise Refusal(f"{where}: this row of the code isn't understood at '{shown(odd)}'")
-        code.rows[key_of(row["thread"])] = list(map(plain, row["frames"])), TASKS in row["ends"]
+        code.rows[key_of(row["thread"])] = list(map(plain, row["frames"])), row["ends"]
     return code

@@ -7,12 +7,12 @@ from __future__ import annotations
 
 import re
 from dataclasses import dataclass, field
-from typing import Any, Dict, List, Optional, Set, Tuple
+from typing import Any, Dict, Iterable, List, Optional, Set, Tuple
 
 from ..files import Refusal, shown
 from ..sketch import COMPLETE, SYSTEM, Process, premise, unknown, waits_for_all, waits_for_any
 from .base import misfits
-from .jvm_code import CODE, Code
+from .jvm_code import CODE, KINDS as OF_CODE, Code, kinds_of
 from .jvm_frames import FINDS_THREADS, awaits_task, is_in, is_of_jvm
 from .jvm_locks import Locks
 from .jvm_rows import LABEL, Label, frames_of, key_of, label_of, plain, trees_in
@@ -20,11 +20,12 @@ from .jvm_text import Dump, Thread, stack_of
 
 MARK = "# cmh heap "
 WAITS, NAMED = re.compile(r"java\.lang\.Object\.wait0?"), re.compile(r"java\.lang\.(?:String|Class(?: for .*)?)")
-KINDS = TASK, QUEUED, READERS, JOIN, FUTURE, FUTURES, SUPPLIED, POOL, REACH, HOOK, TIMER, STREAM, LOST = (
+KINDS = TASK, QUEUED, READERS, JOIN, FUTURE, FUTURES, SUPPLIED, POOL, REACH, HOOK, TIMER, STREAM, LOST, SERVER = (
     "task", "queued", "readers", "join", "future", "futures", "supplied", "pool", "reach", "hook", "timer", "stream",
-    "lost")
+    "lost", "server")
 ROW = {"thread": LABEL, "frames": [str], "waits": re.compile("|".join(KINDS)), "for": [LABEL], "object?": str,
-       "is_full?": bool, "is_direct?": bool, "besides?": [LABEL], "reach?": [LABEL], "tasks?": [str]}
+       "is_full?": bool, "is_direct?": bool, "besides?": [LABEL], "reach?": [LABEL], "tasks?": [str],
+       "sites?": [str]}
 CANCELS, POOLS, COMPLETES, REACHES = "cancels", "pools", "completes", "reaches"
 PREMISES = {
     CANCELS: "nobody cancels a task for which a thread waits, nor interrupts a thread that waits for another one",
@@ -148,17 +149,18 @@ class Heaps:
         some = self.enders_of(thread)
         return None if some is None else [self.names[it.key] for it in some if self.labels_of(it) != []]
 
-    def bound_of(self, thread: Thread, is_task: bool) -> Tuple[List[str], List[str]]:
+    def bound_of(self, thread: Thread) -> Tuple[List[str], List[str]]:
         """Returns the names of all who may end the wait of a thread, and by which premises: who have a reference, but
         for those at what nobody has but they, unless it is a task, and those whose code ends none. One that joins
         another, or waits for a task, goes on without a reference to it."""
         some = [it for it in self.enders_of(thread) or () if not self.is_lost(it) or awaits_task(it)]
-        found = [it for it in some if not self.frees_nobody(it, is_task)]
+        found = [it for it in some if not self.frees_nobody(it, kinds_of(thread))]
+        found = found or [it for it in some if it.state == "WAITING"]  # (who may hang as well)
         return [self.names[it.key] for it in found], [REACHES, *([CODE] if len(found) < len(some) else [])]
 
-    def frees_nobody(self, thread: Thread, is_task: bool = True) -> bool:
-        """Whether the code of a thread ends nobody's wait, nor that for a task."""
-        return self.code is not None and self.code.frees_nobody(thread, is_task)
+    def frees_nobody(self, thread: Thread, kinds: Optional[Iterable[str]] = OF_CODE) -> bool:
+        """Whether the code of a thread ends nobody's wait, of some kinds."""
+        return self.code is not None and self.code.frees_nobody(thread, kinds)
 
     def is_lost(self, thread: Thread) -> bool:
         """Whether a thread waits without a limit at what nobody else has."""
@@ -173,7 +175,16 @@ class Heaps:
         is_known = wait is not None and (wait.kind == JOIN or not is_named(thread)) and None not in self.calling
         if wait is None or wait.reach is None or not is_known:
             return None
-        return list(dict.fromkeys([*wait.reach, *filter(None, self.calling)]))
+        some = [*wait.reach, *filter(None, self.calling)]
+        return list(dict.fromkeys(it for label in some for it in self.instead_of(label) if it != label_of(thread)))
+
+    def instead_of(self, label: Label) -> List[Label]:
+        """Returns a thread, or in place of one that serves those who are to do what is asked, if all of these are at
+        work."""
+        thread = self.there.get(label)
+        wait = self.heap.wait_of(thread) if self.heap and thread else None
+        is_server = self.code is not None and thread is not None and self.code.serves(thread)
+        return wait.whom if wait is not None and wait.kind == SERVER and is_server else [label]
 
     def is_alone(self, thread: Thread) -> bool:
         """Whether main waits for what nobody else has: that may be by intent, until the JVM ends."""
@@ -197,7 +208,7 @@ class Heaps:
             return unknown(name, "waits for the end of the JVM", is_idle=True)
         if wait is not None and wait.kind == LOST:
             return waits_for_any(name, [], [SYSTEM])
-        if wait is None or not wait.whom or wait.kind in (POOL, REACH):
+        if wait is None or not wait.whom or wait.kind in (POOL, REACH, SERVER):
             return None
         if not all(it in self.there for it in [*wait.whom, *wait.besides]):
             return unknown(name, "a thread that may end this wait by the heap dump isn't in this state")
@@ -216,9 +227,10 @@ class Heaps:
         waits = waits_for_all if wait.kind == FUTURES else waits_for_any
         enders = self.enders_of(thread)
         if enders is not None:
-            because += map(premise, [REACHES, *([CODE] if any(map(self.frees_nobody, enders)) else [])])
+            is_by_code = any(self.frees_nobody(it, kinds_of(thread)) for it in enders)
+            because += map(premise, [REACHES, *([CODE] if is_by_code else [])])
             self.bounded.add(name)
-        others = [self.names[it.key] for it in enders or () if not self.frees_nobody(it)]
+        others = [self.names[it.key] for it in enders or () if not self.frees_nobody(it, kinds_of(thread))]
         return waits(name, whom, because, besides=list(dict.fromkeys([*self.names_of(wait.besides), *others])))
 
     def stands(self, thread: Thread) -> bool:
