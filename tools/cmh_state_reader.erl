@@ -122,7 +122,7 @@ write(Visit, Reader, Which) ->
 %% The limits of the receives of some functions, as their code has them: a number, `infinity` if it has none, or `any`
 %% if it is computed.
 receives(Codes, Node) ->
-    Known = [{Module, Functions, Parts} || {Module, Functions, Code} <- Codes, Parts <- [parts(Module, Code)]],
+    Known = [{Module, Functions, parts(Module, File)} || {Module, Functions, File} <- Codes],
     Found = [{Module, Name, Arity, Instructions} || {Module, Functions, Parts} <- Known,
                                                     {{Name, Arity}, Instructions} <- Parts,
                                                     lists:member({is_in, Name, Arity}, Functions)],
@@ -133,8 +133,11 @@ receives(Codes, Node) ->
                 || {Module, Name, Arity, Instructions} <- Found],
     Asks = [{Module, Name, Arity, Asked} || {Module, Name, Arity, Instructions} <- Found,
                                             [_ | _] = Asked <- [asked_in(Instructions)]],
+    Code = [{{Module, Name, Arity}, Instructions} || {Module, _, Parts} <- Known,
+                                                     {{Name, Arity}, Instructions} <- Parts],
+    Ways = ways([Place || {_, Functions, _} <- Known, Place <- Functions], maps:from_list(Code)),
     [[io_lib:format("=~s ~b ~ts~n", [Word, length(Rows), Node]) | [io_lib:format("~0tp~n", [Row]) || Row <- Rows]]
-     || {Word, Rows} <- [{"receives", Receives}, {"asks", Asks}, {"quiet", Quiet}]].
+     || {Word, Rows} <- [{"receives", Receives}, {"asks", Asks}, {"quiet", Quiet} | Ways]].
 
 %% The names to which a function sends as the last thing before a receive of its own.
 asked_in(Instructions) -> lists:usort(asked_before(Instructions, [])).
@@ -162,7 +165,561 @@ is_send({call_ext, _, {extfunc, Module, Name, _}}) ->
     lists:member({Module, Name}, [{erlang, send}, {gen_server, cast}, {gen_statem, cast}, {'Elixir.GenServer', cast}]);
 is_send(_) -> false.
 
+%% What those may do next who stand at some places, by their code: `mute` who goes on for ever and sends nothing to
+%% which anybody does anything, as one that writes to a log now and then; `wakes` who may be woken by a timer of its own
+%% code, other than for such a thing; `deaf` a server that tells nobody anything by itself. And the modules whose timers
+%% tell the process that begins them a constant: they keep no reference. `stays` who sleeps as the last thing that it
+%% does, where all do so for ever.
+ways(Places, Code) ->
+    forget(), % (what holds for another node)
+    Names = maps:from_list([{Name, Server} || {named, Name, Server} <- Places]),
+    Done = [{Module, lists:append([effects(Function, #{}, Code) || {Of, _, _} = Function <- maps:keys(Code),
+                                                                   Of =:= Module])}
+            || Module <- lists:usort([Module || {Module, _, _} <- maps:keys(Code)])],
+    Told = [{Module, timers_in(Module, Found, Code)} || {Module, Found} <- Done],
+    Ticks = lists:usort([Message || {_, Found} <- Told, {tick, Message} <- Found]),
+    Known = {Code, Names, Ticks},
+    Stays = [stays || not lists:any(fun({_, Found}) -> lists:member(naps, Found) end, Done)],
+    Rows = [{Number, [Word || Word <- [mute, deaf, wakes], is_so(Word, Place, Known)]
+                     ++ [Word || Place =:= {frames, []}, Word <- Stays]}
+            || {place, Number, Place} <- lists:usort(Places), Place =/= none],
+    Plain = [{Module} || {Module, [_ | _] = Found} <- Told, lists:all(fun is_plain/1, Found)],
+    Outside = [{Module} || {Module, Found} <- Told, lists:member(aimed, Found)],
+    Grants = [{Module, list_to_atom(Tag)} || {Module, handle_call, 3} <- maps:keys(Code), Tag <- granted(Module, Code)],
+    [{"places", Rows}, {"ticks", Plain}, {"outside", Outside}, {"grants", Grants}].
+
+forget() -> [erase(Key) || {Key, _} <- get(), is_tuple(Key), element(1, Key) =:= ?MODULE].
+
+%% The one request of a server, as TAG/SIZE, for which it may begin to monitor somebody: as one that gives something
+%% away until that ends, or has another one do the work. None if it also monitors others without that, as its workers.
+granted(Module, Code) ->
+    Tags = [lists:concat([Tag, "/", Size]) || {Tag, Size, Value} <- requests({Module, handle_call, 3}, Code),
+                                              monitors({Module, handle_call, 3}, Value, Code) =:= alone],
+    Others = [Name || {Name, Arity} <- [{handle_cast, 2}, {handle_continue, 2}, {handle_info, 2}],
+                      {_, _, Value} <- requests({Module, Name, Arity}, Code),
+                      monitors({Module, Name, Arity}, Value, Code) =:= alone],
+    case {Tags, Others, monitors({Module, init, 1}, any, Code)} of
+        {[_], [], no} -> Tags;
+        _ -> []
+    end.
+
+requests(Function, Code) -> lists:usort(requests_in(maps:get(Function, Code, []), [])).
+
+%% Whether a function begins to monitor somebody, and has no caller answered that is kept.
+monitors(Function, Value, Code) ->
+    Effects = case is_map_key(Function, Code) of
+        true -> closure([{Function, set({x, 0}, Value, #{})}], Code);
+        false -> []
+    end,
+    Answers = [Each || {calls, {_, reply, _}} = Each <- Effects],
+    case lists:member(monitors, Effects) of
+        true when Answers =:= [] -> alone;
+        true -> beside;
+        false -> no
+    end.
+
+requests_in([], Found) -> Found;
+requests_in([{test, is_tagged_tuple, _, [_, Size, {atom, Tag}]} | Rest], Found) ->
+    requests_in(Rest, [{Tag, Size, {tuple, [{atom, Tag} | lists:duplicate(Size - 1, any)]}} | Found]);
+requests_in([{test, is_eq_exact, _, [_, {atom, Tag}]} | Rest], Found) ->
+    requests_in(Rest, [{Tag, 0, {atom, Tag}} | Found]);
+requests_in([{select_val, _, _, {list, Cases}} | Rest], Found) ->
+    requests_in(Rest, [{Tag, 0, {atom, Tag}} || {atom, Tag} <- Cases] ++ Found);
+requests_in([_ | Rest], Found) -> requests_in(Rest, Found).
+
+is_plain({tick, Message}) -> is_constant(Message);
+is_plain(aimed) -> false.
+
+is_constant({tuple, Parts}) -> lists:all(fun is_constant/1, Parts);
+is_constant({function, _}) -> false; % (which may have a reference among its terms)
+is_constant(Value) -> not lists:member(Value, [any, map, new, no_map]).
+
+%% The timers that a module begins: what they tell the process itself, or `aimed` for another one, and for what else has
+%% messages come that no process has sent: news of nodes, sockets, signals, or what others write to a log.
+-define(NEWS, [{net_kernel, monitor_nodes}, {erlang, monitor_node}, {erlang, system_monitor}, {erlang, system_profile},
+               {erlang, load_nif}, {erlang, trace}, {mnesia, subscribe}, {os, set_signal}, {'Elixir.Node', monitor},
+               {'Elixir.System', trap_signal}]).
+
+timers_in(Module, Done, Code) ->
+    Found = [Each || Each <- Done, is_timer(Each)],
+    Funs = [aimed || {{Of, _, _}, Instructions} <- maps:to_list(Code), Of =:= Module,
+                     mentions_timer(Instructions)],
+    lists:usort([case Each of {tick, _} -> Each; _ -> aimed end || Each <- Found] ++ Funs
+                ++ [aimed || Name <- [log, handle_event], is_map_key({Module, Name, 2}, Code)]).
+
+is_timer({tick, _}) -> true;
+is_timer({calls, {Module, Name, _}}) ->
+    Module =:= socket orelse Module =:= prim_inet orelse lists:member({Module, Name}, ?NEWS);
+is_timer(Each) -> Each =:= aimed.
+
+mentions_timer(Instructions) ->
+    Constants = [Constant || Each <- Instructions, is_tuple(Each), {literal, Constant} <- tuple_to_list(Each)],
+    lists:any(fun({Module, Name, _}) -> timer(Module, Name, [any, any, any, any]) =/= none end, funs_among(Constants)).
+
+%% What a timer does that a call begins.
+timer(erlang, send_after, [_, To, Message | _]) -> aimed_at(To, Message);
+timer(erlang, start_timer, [_, To, Message | _]) -> aimed_at(To, {tuple, [{atom, timeout}, new, Message]});
+timer('Elixir.Process', send_after, [To, Message | _]) -> aimed_at(To, Message);
+timer(timer, Name, [_, Message]) when Name =:= send_after; Name =:= send_interval -> {tick, Message};
+timer(timer, Name, [_, To, Message]) when Name =:= send_after; Name =:= send_interval -> aimed_at(To, Message);
+timer(timer, Name, _) ->
+    case lists:member(Name, [cancel, hours, hms, minutes, now_diff, seconds, sleep, tc]) of
+        true -> none;
+        false -> aimed
+    end;
+timer(_, _, _) -> none.
+
+%% Whether a call by names may begin a timer: by that of its function, or by one that isn't known.
+may_begin(Name, Arity) ->
+    Timers = [apply_after, apply_interval, apply_repeatedly, exit_after, kill_after, send_after, send_interval,
+              start_timer],
+    case Name of
+        {atom, Known} -> lists:member(Known, Timers);
+        _ -> lists:member(Arity, [2, 3, 4, any])
+    end.
+
+aimed_at(self, Message) -> {tick, Message};
+aimed_at(_, _) -> aimed.
+
+is_so(mute, {frames, Frames}, {Code, _, _} = Known) ->
+    lists:all(fun(Frame) -> is_map_key(Frame, Code) end, Frames) andalso Frames =/= [] andalso
+        is_endless(lists:last(Frames), Code) andalso is_harmless(closure([{Each, #{}} || Each <- Frames], Code), Known);
+is_so(deaf, {loop, Module, _}, {Code, _, _} = Known) ->
+    Own = [{Function, #{}} || {Of, Name, _} = Function <- maps:keys(Code), Of =:= Module,
+                              lists:member(Name, [handle_call, handle_cast, handle_continue, handle_info])],
+    Own =/= [] andalso is_harmless(closure(Own, Code), Known);
+is_so(wakes, {loop, Module, Limits}, {Code, _, Ticks} = Known) ->
+    Own = [{atom, timeout} || Limits =/= []] ++ Ticks,
+    not is_map_key({Module, module_info, 0}, Code)
+        orelse not lists:all(fun(Message) -> is_silent(Module, info, Message, Known, []) end, Own);
+is_so(wakes, {statem, Module}, {Code, _, _}) ->
+    %% (its callbacks may be another module's by now)
+    Own = [{Function, #{}} || is_map_key({Module, module_info, 0}, Code), {Of, _, _} = Function <- maps:keys(Code),
+                              is_map_key({Of, callback_mode, 0}, Code)],
+    Own =:= [] orelse lists:any(fun(Each) -> is_timer(Each) orelse Each =:= dynamic end, closure(Own, Code));
+is_so(wakes, {frames, [Top | _]}, {Code, _, Ticks}) ->
+    not is_map_key(Top, Code) orelse lists:any(fun(Message) -> takes(Top, Message, Code) end, Ticks);
+is_so(wakes, {told, Place}, Known) -> is_so(wakes, Place, Known);
+is_so(wakes, {frames, []}, _) -> true;
+is_so(_, _, _) -> false.
+
+%% Whether nothing of what is done tells anybody else something to which that does anything.
+is_harmless(Effects, Known) -> lists:all(fun(Each) -> is_harmless_one(Each, Known) end, Effects).
+
+is_harmless_one({sends, Kind, Name, Message}, {_, Names, _} = Known) ->
+    case Names of
+        #{Name := {Module, loop}} -> is_silent(Module, Kind, Message, Known, []);
+        #{Name := {Module, calls}} when Kind =/= call -> is_silent(Module, Kind, Message, Known, []);
+        _ -> false % (one in the middle of a callback may take it there, or be late with an answer)
+    end;
+is_harmless_one({tick, _}, _) -> true;
+is_harmless_one(Each, _) -> not lists:member(Each, [aimed, dynamic, loud]).
+
+%% Whether a server of a module that has this message tells nobody anything and goes on, but for an answer to who asks.
+is_silent(Module, Kind, Message, {Code, _, _} = Known, Seen) ->
+    {Name, Arity} = case Kind of call -> {handle_call, 3}; cast -> {handle_cast, 2}; info -> {handle_info, 2} end,
+    Function = {Module, Name, Arity},
+    Now = {Kind, Message},
+    lists:member(Now, Seen) orelse is_map_key(Function, Code) andalso begin
+        Effects = closure([{Function, #{{x, 0} => Message}}], Code),
+        Ends = ends(Function, #{{x, 0} => Message}, Code, []),
+        Told = case Ends of none -> [any]; _ -> lists:flatmap(fun wakes_by/1, Ends) end,
+        Next = Told ++ [It || {tick, It} <- Effects],
+        not lists:member(any, Next)
+            andalso lists:all(fun(Each) -> not is_sending(Each) andalso is_harmless_one(Each, Known) end, Effects)
+            andalso lists:all(fun(It) -> is_silent(Module, info, It, Known, [Now | Seen]) end, Next)
+    end.
+
+is_sending(Each) -> is_tuple(Each) andalso element(1, Each) =:= sends.
+
+%% What a server is told next by itself that has returned a value, `any` if it may stop.
+wakes_by({tuple, [{atom, noreply}, _]}) -> [];
+wakes_by({tuple, [{atom, noreply}, _, Limit]}) -> wakes_after(Limit);
+wakes_by({tuple, [{atom, reply}, _, _]}) -> [];
+wakes_by({tuple, [{atom, reply}, _, _, Limit]}) -> wakes_after(Limit);
+wakes_by(_) -> [any].
+
+wakes_after({atom, Word}) when Word =:= hibernate; Word =:= infinity -> [];
+wakes_after({integer, _}) -> [{atom, timeout}];
+wakes_after(_) -> [any].
+
+%% What a function returns, also by those that it calls as the last thing, or none if another module does that.
+ends(Function, Known, Code, Seen) ->
+    Own = [Each || Each <- effects(Function, Known, Code), is_end(Each)],
+    Further = [ends_by(Next, Code, [Function | Seen]) || {tail, Next} <- Own, not is_failure(Next)],
+    case lists:member(none, Further) of
+        true -> none;
+        false -> [Value || {returns, Value} <- Own] ++ lists:append(Further)
+    end.
+
+ends_by(Next, Code, Seen) ->
+    case {lists:member(Next, Seen), is_map_key(Next, Code)} of
+        {true, _} -> [];
+        {false, true} -> ends(Next, #{}, Code, Seen);
+        {false, false} -> none
+    end.
+
+is_end({Word, _}) -> Word =:= returns orelse Word =:= tail;
+is_end(_) -> false.
+
+is_failure({erlang, Name, _}) -> Name =:= error orelse Name =:= throw orelse Name =:= raise;
+is_failure(_) -> false.
+
+is_endless(Function, Code) -> ends(Function, #{}, Code, []) =:= [].
+
+%% Whether the receive of a function takes a message.
+takes(Function, Message, Code) ->
+    Instructions = [case Each of {loop_rec_end, _} -> if_end; remove_message -> taken; _ -> Each end
+                    || Each <- maps:get(Function, Code)],
+    Labels = parts_by_label(Instructions),
+    Begins = [{Rest, #{plain(Register) => Message}} || [{loop_rec, _, Register} | Rest] <- tails(Instructions)],
+    lists:any(fun(Begin) -> lists:member(taken, walked([Begin], Labels)) end, Begins).
+
+tails([]) -> [];
+tails([_ | Rest] = All) -> [All | tails(Rest)].
+
+%% All that some functions do, with those of the program that they call.
+closure(Entries, Code) -> closure(Entries, Code, #{}, []).
+
+closure([], _, _, Found) -> lists:usort(Found);
+closure([{Function, Known} | Rest], Code, Seen, Found) ->
+    case is_map_key({Function, Known}, Seen) of
+        true -> closure(Rest, Code, Seen, Found);
+        false ->
+            Effects = effects(Function, Known, Code),
+            Called = [{Other, #{}} || {Word, Other} <- Effects, Word =:= calls orelse Word =:= tail,
+                                      is_map_key(Other, Code)]
+                ++ [{Other, #{}} || lists:member(lazy, Effects), {_, _, _} = Other <- of_protocols(Code)],
+            Lost = [dynamic || lists:member(lazy, Effects), lists:member(dynamic, of_protocols(Code))]
+                ++ [loud || {calls, Other} <- Effects, not is_map_key(Other, Code)],
+            closure(Called ++ Rest, Code, Seen#{{Function, Known} => true}, Lost ++ Effects ++ Found)
+    end.
+
+%% The functions of the program that Elixir's own ones may call by a protocol, and `dynamic` if it has streams, which
+%% have funs.
+of_protocols(Code) ->
+    Key = {?MODULE, protocols},
+    case get(Key) of
+        undefined ->
+            Own = [Function || {Module, _, _} = Function <- maps:keys(Code),
+                               is_map_key({Module, '__impl__', 1}, Code)
+                                   orelse is_map_key({Module, get_and_update, 3}, Code)],
+            Streams = [dynamic || Instructions <- maps:values(Code), Each <- Instructions, is_of_stream(Each)],
+            put(Key, Own ++ lists:usort(Streams)),
+            get(Key);
+        Known -> Known
+    end.
+
+is_of_stream(Each) when is_tuple(Each) ->
+    lists:any(fun(Part) -> is_tuple(Part) andalso tuple_size(Part) > 1 andalso element(2, Part) =:= 'Elixir.Stream' end,
+              tuple_to_list(Each));
+is_of_stream(_) -> false.
+
+%% What a function does, where some registers have values that are known.
+effects(Function, Known, Code) when map_size(Known) =:= 0 ->
+    Key = {?MODULE, effects, Function},
+    case get(Key) of
+        undefined -> put(Key, effects_of(Function, Known, Code)), get(Key);
+        Effects -> Effects
+    end;
+effects(Function, Known, Code) -> effects_of(Function, Known, Code).
+
+effects_of(Function, Known, Code) ->
+    case maps:get(Function, Code, none) of
+        none -> [loud];
+        Instructions ->
+            Body = lists:dropwhile(fun(Each) -> not is_entry(Each) end, Instructions),
+            lists:usort(walked([{tl(Body), Known}], parts_by_label(Instructions)))
+    end.
+
+is_entry({func_info, _, _, _}) -> true;
+is_entry(_) -> false.
+
+parts_by_label(Instructions) -> maps:from_list([{Label, Rest} || [{label, Label} | Rest] <- tails(Instructions)]).
+
+%% Goes all paths from some places, with the values of the registers that are known there. At a label to which many lead
+%% nothing is known.
+-define(TIMES, 8).
+
+walked(Paths, Labels) -> walked(Paths, Labels, #{}, []).
+
+walked([], _, _, Found) -> Found;
+walked([{[{label, Label} | Rest], Known} | Paths], Labels, Seen, Found) ->
+    Before = maps:get(Label, Seen, []),
+    Now = case length(Before) < ?TIMES of true -> Known; false -> #{} end,
+    case lists:member(Now, Before) of
+        true -> walked(Paths, Labels, Seen, Found);
+        false -> walked([{Rest, Now} | Paths], Labels, Seen#{Label => [Now | Before]}, Found)
+    end;
+walked([{[], _} | Paths], Labels, Seen, Found) -> walked(Paths, Labels, Seen, Found);
+walked([{[Each | Rest], Known} | Paths], Labels, Seen, Found) ->
+    {Next, Jumps, Effects} = step(Each, Known),
+    Onward = [{Rest, Next} || Next =/= stop] ++ [{[{label, Label} | maps:get(Label, Labels)], After}
+                                                || {Label, After} <- Jumps, Label > 0],
+    walked(Onward ++ Paths, Labels, Seen, Effects ++ Found).
+
+%% What an instruction does: what is known behind it (`stop` if none follows), where it may jump, and its effects.
+step({test, is_map, {f, Other}, [Register]}, Known) ->
+    case value(Register, Known) of
+        any -> {Known, [{Other, set(Register, no_map, Known)}], []};
+        Value when Value =:= map; Value =:= new -> {Known, [{Other, Known}], []};
+        {constant, _} -> {Known, [{Other, Known}], []};
+        _ -> {stop, [{Other, Known}], []}
+    end;
+step({get_map_elements, {f, Other}, Register, {list, Parts}}, Known) ->
+    After = maps:without(parts_of(Parts), Known),
+    {After, [{Other, set(Register, map, After)}], []};
+step({test, Test, {f, Other}, [Register | More]}, Known) ->
+    case holds(Test, value(Register, Known), More) of
+        true -> {Known, [], []};
+        false -> {stop, [{Other, Known}], []};
+        unknown -> {Known, [{Other, Known}], []}
+    end;
+step({select_val, Register, {f, Other}, {list, Cases}}, Known) -> chosen(value(Register, Known), Other, Cases, Known);
+step({select_tuple_arity, Register, {f, Other}, {list, Cases}}, Known) ->
+    Size = case value(Register, Known) of {tuple, Parts} -> {integer, length(Parts)}; any -> any; _ -> none end,
+    chosen(Size, Other, [case Case of {f, _} -> Case; {integer, _} -> Case; _ -> {integer, Case} end || Case <- Cases],
+           Known);
+step({jump, {f, Label}}, Known) -> {stop, [{Label, Known}], []};
+step({wait, {f, Label}}, Known) -> {stop, [{Label, Known}], []};
+step({loop_rec_end, {f, Label}}, Known) -> {stop, [{Label, Known}], []};
+step({wait_timeout, {f, Label}, _}, Known) -> {Known, [{Label, Known}], []};
+step({loop_rec, {f, Label}, Register}, Known) -> {maps:remove(plain(Register), Known), [{Label, Known}], []};
+step({Try, _, {f, Label}}, Known) when Try =:= 'try'; Try =:= 'catch' -> {Known, [{Label, #{}}], []};
+step({move, From, To}, Known) -> {set(To, value(From, Known), Known), [], []};
+step({swap, One, Other}, Known) ->
+    {set(One, value(Other, Known), set(Other, value(One, Known), Known)), [], []};
+step({get_tuple_element, From, At, To}, Known) ->
+    Part = case value(From, Known) of
+        {tuple, Parts} when At < length(Parts) -> lists:nth(At + 1, Parts);
+        _ -> any
+    end,
+    {set(To, Part, Known), [], []};
+step({put_tuple2, To, {list, Parts}}, Known) ->
+    {set(To, {tuple, [value(Part, Known) || Part <- Parts]}, Known), [], []};
+step({Put, _, _, To, _, _}, Known) when Put =:= put_map_assoc; Put =:= put_map_exact -> {set(To, map, Known), [], []};
+step({bif, self, _, [], To}, Known) -> {set(To, self, Known), [], []};
+step({make_fun3, Function, _, _, To, _}, Known) -> {set(To, {function, Function}, Known), [], [{calls, Function}]};
+step({make_fun2, Function, _, _, _}, Known) -> {set({x, 0}, {function, Function}, Known), [], [{calls, Function}]};
+step({trim, Number, _}, Known) ->
+    Left = [{trimmed(Key, Number), Value} || {Key, Value} <- maps:to_list(Known), not is_trimmed(Key, Number)],
+    {maps:from_list(Left), [], []};
+step({Allocate, _, _}, Known) when Allocate =:= allocate; Allocate =:= allocate_heap -> {only(x, Known), [], []};
+step({allocate_heap, _, _, _}, Known) -> {only(x, Known), [], []};
+step({deallocate, _}, Known) -> {only(x, Known), [], []};
+step(return, Known) -> {stop, [], [{returns, value({x, 0}, Known)}]};
+step(taken, _) -> {stop, [], [taken]};
+step(send, Known) -> {only(y, Known), [], [sent(value({x, 0}, Known), value({x, 1}, Known))]};
+step({test_heap, _, _}, Known) -> {Known, [], []};
+step(Each, Known) -> step_of_call(Each, Known).
+
+step_of_call({call, Arity, Function}, Known) -> {only(y, Known), [], [{calls, Function} || Arity >= 0]};
+step_of_call({call_only, _, Function}, _) -> {stop, [], [{tail, Function}]};
+step_of_call({call_last, _, Function, _}, _) -> {stop, [], [{tail, Function}]};
+step_of_call({call_ext, _, Function}, Known) -> {only(y, Known), [], external(Function, Known)};
+step_of_call({call_ext_only, _, Function}, Known) -> {stop, [], last(Function, Known)};
+step_of_call({call_ext_last, _, Function, _}, Known) -> {stop, [], last(Function, Known)};
+step_of_call({apply, 0}, #{{x, 0} := no_map}) -> {stop, [], []}; % (as Elixir has it for `state.key` of what is no map)
+step_of_call({call_fun, _}, Known) -> {only(y, Known), [], [dynamic]};
+step_of_call({apply, Arity}, Known) -> {only(y, Known), [], applied(Arity, Known)};
+step_of_call({apply_last, Arity, _}, Known) -> {stop, [], [{returns, any} | applied(Arity, Known)]};
+step_of_call({call_fun2, _, _, Fun}, Known) ->
+    case value(Fun, Known) of
+        {function, Function} -> {only(y, Known), [], [{calls, Function}]};
+        _ -> {only(y, Known), [], [dynamic]}
+    end;
+step_of_call({Fails, _}, _) when Fails =:= badmatch; Fails =:= badrecord; Fails =:= case_end; Fails =:= try_case_end ->
+    {stop, [], []};
+step_of_call(Fails, _) when Fails =:= if_end; Fails =:= raw_raise -> {stop, [], []};
+step_of_call({func_info, _, _, _}, _) -> {stop, [], []};
+step_of_call(Each, Known) when is_tuple(Each) ->
+    Parts = parts_of(tuple_to_list(Each)),
+    {maps:without(Parts, Known), [{Label, maps:without(Parts, Known)} || {f, Label} <- Parts], []};
+step_of_call(_, Known) -> {Known, [], []}.
+
+applied(Arity, Known) -> [dynamic | [aimed || may_begin(value({x, Arity + 1}, Known), Arity)]].
+
+trimmed({y, At}, Number) -> {y, At - Number};
+trimmed(Register, _) -> Register.
+
+is_trimmed({y, At}, Number) -> At < Number;
+is_trimmed(_, _) -> false.
+
+%% The registers and labels in an instruction.
+parts_of([]) -> [];
+parts_of([[_ | _] = List | Rest]) -> parts_of(List) ++ parts_of(Rest);
+parts_of([{Word, At} | Rest]) when is_integer(At), Word =:= x orelse Word =:= y orelse Word =:= f ->
+    [{Word, At} | parts_of(Rest)];
+parts_of([{literal, _} | Rest]) -> parts_of(Rest);
+parts_of([Part | Rest]) when is_tuple(Part) -> parts_of(tuple_to_list(Part)) ++ parts_of(Rest);
+parts_of([_ | Rest]) -> parts_of(Rest).
+
+only(Word, Known) -> maps:filter(fun({Of, _}, _) -> Of =:= Word end, Known).
+
+plain({tr, Register, _}) -> Register;
+plain(Register) -> Register.
+
+set(Register, any, Known) -> maps:remove(plain(Register), Known);
+set(Register, Value, Known) -> Known#{plain(Register) => Value}.
+
+%% A value as it is known: {atom, A}, {integer, N}, {tuple, Values}, {constant, C}, {function, F}, `self`, `new` for a
+%% reference that is made, `map` or `no_map`, or `any`.
+value({Word, _} = Constant, _) when Word =:= atom; Word =:= integer -> Constant;
+value({literal, Term}, _) -> constant(Term);
+value(nil, _) -> {constant, []};
+value(Register, Known) -> maps:get(plain(Register), Known, any).
+
+constant(Term) when is_atom(Term) -> {atom, Term};
+constant(Term) when is_integer(Term) -> {integer, Term};
+constant(Term) when is_tuple(Term) -> {tuple, lists:map(fun constant/1, tuple_to_list(Term))};
+constant(Term) -> case funs_among([Term]) of [] -> {constant, Term}; _ -> any end.
+
+%% Whether a test on a value is known to hold.
+holds(_, any, _) -> unknown;
+holds(_, Value, _) when Value =:= new; Value =:= no_map -> unknown;
+holds(Test, map, _) when Test =:= is_atom; Test =:= is_tuple; Test =:= is_tagged_tuple; Test =:= is_list -> false;
+holds(_, map, _) -> unknown;
+holds(is_tagged_tuple, {tuple, [Tag | _] = Parts}, [Size, Wanted]) ->
+    case {length(Parts) =:= Size, Tag} of {false, _} -> false; {true, {atom, _}} -> Tag =:= Wanted; _ -> unknown end;
+holds(is_tagged_tuple, _, _) -> false;
+holds(is_tuple, Value, _) -> is_tuple(Value) andalso element(1, Value) =:= tuple;
+holds(is_atom, Value, _) -> is_tuple(Value) andalso element(1, Value) =:= atom;
+holds(test_arity, {tuple, Parts}, [Size]) -> length(Parts) =:= Size;
+holds(is_eq_exact, {Word, _} = Value, [{Other, _} = Wanted]) when Word =:= atom orelse Word =:= integer,
+                                                                  Other =:= atom orelse Other =:= integer ->
+    Value =:= Wanted;
+holds(is_eq_exact, {tuple, _}, [{Other, _}]) when Other =:= atom; Other =:= integer -> false;
+holds(_, _, _) -> unknown.
+
+chosen(any, Other, Cases, Known) -> {stop, [{Label, Known} || {f, Label} <- [{f, Other} | Cases]], []};
+chosen(Value, Other, Cases, Known) when Value =:= new; Value =:= map; Value =:= no_map ->
+    chosen(any, Other, Cases, Known);
+chosen(Value, Other, Cases, Known) -> {stop, [{case_of(Value, Other, Cases), Known}], []}.
+
+case_of(Value, _, [Value, {f, Label} | _]) -> Label;
+case_of(Value, Other, [_, _ | Cases]) -> case_of(Value, Other, Cases);
+case_of(_, Other, []) -> Other.
+
+sent({atom, Name}, Message) -> {sends, info, Name, Message};
+sent(self, Message) -> {tick, Message};
+sent(_, _) -> loud.
+
+%% What a call of a function of another module does.
+external({extfunc, Module, Name, Arity}, Known) ->
+    Given = [value({x, At}, Known) || At <- lists:seq(0, Arity - 1)],
+    case timer(Module, Name, Given) of
+        none -> [monitors || Name =:= monitor orelse Name =:= spawn_monitor] ++ outcome(Module, Name, Given);
+        Timer -> [Timer]
+    end.
+
+last({extfunc, Module, Name, Arity} = Function, Known) ->
+    Naps = [naps || Name =:= sleep, Arity =:= 1, value({x, 0}, Known) =/= {atom, infinity}],
+    [{tail, {Module, Name, Arity}} | Naps ++ external(Function, Known)].
+
+%% Those of Elixir's own that may call what a program has for one of its protocols.
+-define(LAZY, ['Elixir.Access', 'Elixir.Enum', 'Elixir.IO', 'Elixir.Inspect', 'Elixir.Keyword', 'Elixir.List',
+               'Elixir.Logger', 'Elixir.Map', 'Elixir.MapSet', 'Elixir.String', 'Elixir.String.Chars']).
+
+outcome(erlang, send, [To, Message | _]) -> [sent(To, Message)];
+outcome(erlang, apply, [_, Name, _]) -> [dynamic | [aimed || may_begin(Name, any)]];
+outcome(erlang, error, [{tuple, [{atom, Word} | _]} | _]) when Word =:= bad_filter; Word =:= bad_generator;
+                                                          Word =:= badkey; Word =:= badmap; Word =:= badrecord -> [];
+outcome(Server, call, [{atom, Name}, Request | _]) when Server =:= gen_server; Server =:= 'Elixir.GenServer' ->
+    [{sends, call, Name, Request}];
+outcome(Server, cast, [{atom, Name}, Request]) when Server =:= gen_server; Server =:= 'Elixir.GenServer' ->
+    [{sends, cast, Name, Request}];
+outcome(Module, Name, Given) ->
+    case is_mild(Module, Name, Given) of
+        true -> [lazy || lists:member(Module, ?LAZY)];
+        false -> [{calls, {Module, Name, length(Given)}}]
+    end.
+
+%% Modules of Erlang's and Elixir's own whose functions end nobody's wait, but for what a fun does that they are given.
+-define(PURE, [array, binary, calendar, counters, dict, gb_sets, gb_trees, io, io_lib, lists, logger, maps, math,
+               orddict, ordsets, proplists, queue, rand, sets, string, unicode, 'Elixir.Access', 'Elixir.DateTime',
+               'Elixir.Enum', 'Elixir.Float', 'Elixir.IO', 'Elixir.Inspect', 'Elixir.Integer', 'Elixir.Keyword',
+               'Elixir.List', 'Elixir.Logger', 'Elixir.Map', 'Elixir.MapSet', 'Elixir.String', 'Elixir.String.Chars',
+               'Elixir.System']).
+-define(MILD, [{erlang, Of} || Of <- ['++', '--', abs, atom_to_binary, atom_to_list, binary_to_list, byte_size,
+                                      convert_time_unit, demonitor, element, float_to_binary, float_to_list, get,
+                                      integer_to_binary, integer_to_list, iolist_to_binary, length, list_to_binary,
+                                      list_to_tuple, localtime, make_ref, map_size, max, memory, min, monitor,
+                                      monotonic_time, node, nodes, now, phash2, process_info, processes, put, round,
+                                      self, setelement, statistics, system_info, system_time, timestamp,
+                                      tuple_to_list, unique_integer, universaltime, whereis]]
+              ++ [{ets, Of} || Of <- [first, i, info, insert, insert_new, last, lookup, lookup_element, match,
+                                      match_object, member, new, next, prev, select, select_count, tab2list,
+                                      update_counter, update_element, whereis]]
+              ++ [{timer, sleep}, {os, system_time}, {os, timestamp}, {'Elixir.Process', info},
+                  {'Elixir.Process', demonitor}, {'Elixir.Process', monitor}, {'Elixir.Process', sleep},
+                  {'Elixir.Process', whereis}]
+              ++ [{Of, exception} || Of <- ['Elixir.ArgumentError', 'Elixir.KeyError', 'Elixir.RuntimeError']]).
+%% Of the pure ones, those that do more than their module.
+-define(WILD, [{'Elixir.System', Of} || Of <- [at_exit, cmd, halt, restart, shell, stop, trap_signal]]
+              ++ [{logger, Of} || Of <- [add_handler, add_handlers, add_primary_filter, add_handler_filter]]
+              ++ [{io, Of} || Of <- [fread, get_chars, get_line, read, scan_erl_exprs, parse_erl_exprs, request]]
+              ++ [{'Elixir.IO', Of} || Of <- [getn, gets, read]]).
+
+%% A fun of the function itself is looked at where it is made.
+is_mild(Module, Name, Given) -> is_named(Module, Name) andalso not lists:member(any, may_be_funs(Module, Name, Given)).
+
+is_named(Module, Name) ->
+    Called = {Module, Name},
+    lists:member(Called, ?MILD) orelse lists:member(Module, ?PURE) andalso not lists:member(Called, ?WILD).
+
+%% Those that a function is given in place of a fun that it calls.
+may_be_funs(lists, Name, [_]) when Name =:= sort; Name =:= usort; Name =:= merge -> [];
+may_be_funs(lists, Name, [_, _]) when Name =:= merge; Name =:= umerge -> [];
+may_be_funs(lists, Name, [Fun | _]) ->
+    [Fun || lists:member(Name, [all, any, dropwhile, filter, filtermap, flatmap, foldl, foldr, foreach, keymap, map,
+                                mapfoldl, mapfoldr, merge, partition, search, sort, splitwith, takewhile, umerge, uniq,
+                                usort, zf, zipwith, zipwith3])];
+may_be_funs(maps, Name, Given) ->
+    case lists:member(Name, [filter, filtermap, fold, foreach, groups_from_list, intersect_with, map, merge_with,
+                             update_with]) of
+        true -> lists:sublist(Given, 2);
+        false -> []
+    end;
+%% What is printed goes to a device, which may be a process of the program.
+may_be_funs(Module, Name, [Device | _] = Given) when Module =:= io; Module =:= 'Elixir.IO' ->
+    IsNamed = lists:member({Name, length(Given)}, [{format, 3}, {fwrite, 3}, {nl, 1}, {put_chars, 2}, {write, 2},
+                                                   {binwrite, 2}, {inspect, 3}, {puts, 2}]),
+    Plain = [{atom, Of} || Of <- [standard_error, standard_io, stderr, stdio, user]],
+    [any || IsNamed, not lists:member(Device, Plain)];
+may_be_funs(logger, _, [Text, _ | _]) -> [Text];
+may_be_funs(Module, Name, Given) when Module =:= dict; Module =:= gb_sets; Module =:= gb_trees; Module =:= orddict;
+                                      Module =:= ordsets; Module =:= queue; Module =:= sets; Module =:= array ->
+    [any || lists:member(Name, [all, any, delete_with, filter, filtermap, fold, foldl, foldr, map, merge, update]),
+            not lists:any(fun is_function_value/1, Given)];
+may_be_funs('Elixir.Enum', Name, [_]) when Name =/= 'into' -> [];
+may_be_funs('Elixir.Enum', Name, [_, _]) when Name =:= at; Name =:= concat; Name =:= join; Name =:= 'member?';
+                                              Name =:= take; Name =:= zip -> [];
+may_be_funs('Elixir.Enum', Name, [_ | Given]) ->
+    case lists:member(Name, [chunk_while, group_by, into, max_by, min_by, min_max_by, sort_by]) of
+        true -> Given;
+        false -> [lists:last([none | Given])]
+    end;
+may_be_funs(Module, Name, Given) when Module =:= 'Elixir.Map'; Module =:= 'Elixir.Keyword'; Module =:= 'Elixir.List';
+                                      Module =:= 'Elixir.MapSet'; Module =:= 'Elixir.Access' ->
+    case lists:member(Name, [delete, fetch, 'fetch!', get, 'has_key?', keys, 'member?', merge, new, put, size, to_list,
+                             values]) andalso length(Given) < 4 of
+        true when Name =/= merge, Name =/= new; length(Given) < 2; Name =:= merge, length(Given) < 3 -> [];
+        _ -> [lists:last([none | Given])]
+    end;
+may_be_funs(_, _, _) -> [].
+
+is_function_value({function, _}) -> true;
+is_function_value(_) -> false.
+
+%% A second reading has the same code.
 parts(Module, Code) ->
+    Key = {parts, Module, erlang:md5(Code)},
+    case get(Key) of
+        undefined -> put(Key, disassembled(Module, Code)), get(Key);
+        Known -> Known
+    end.
+
+disassembled(Module, Code) ->
     case catch beam_disasm:file(Code) of
         {beam_file, Module, _, _, _, Parts} ->
             [{{Name, Arity}, Instructions} || {function, Name, Arity, _, Instructions} <- Parts];
@@ -285,12 +842,12 @@ read({Modules, Nodes}, Caller, Host, Tag) ->
     Numbers = receive {first, Hosts} -> [number(Other) || Other <- Hosts, node(Other) =/= node()] end,
     Locks = {locks(), mnesia()}, % (who has a lock now and after all is read has had it all the time)
     {Taken, Left} = chosen(Modules, Apart),
-    tell(Caller, Tag, counts(Left, Modules, Nodes), fun first/1, Taken, fun() -> tables(Numbers, Locks) end),
+    tell(Caller, Tag, counts(Left, Modules, Nodes), fun first/1, Taken, fun() -> tables(Modules, Numbers, Locks) end),
     receive second -> ok end,
     Counts = maps:from_list([{P, count(P)} || P <- Taken]),
     {Again, LeftNow} = chosen(Modules, Apart),
     tell(Caller, Tag, counts(LeftNow, Modules, Nodes), fun(P) -> second(P, Counts) end, Again,
-         fun() -> tables(Numbers, {locks(), mnesia()}) end),
+         fun() -> tables(Modules, Numbers, {locks(), mnesia()}) end),
     receive never -> ok end.
 
 %% How many modules may keep a term where no process has it, how many processes are left out, how many nodes are
@@ -301,10 +858,13 @@ counts(Left, Modules, Nodes) ->
 
 %% How many of the modules that are asked for or loaded use tables, begin timers or make terms of bytes: by these the
 %% reference of a caller may come back that no process has meanwhile.
-keeps(Modules) ->
+keeps(Modules) -> length(keepers(Modules)).
+
+keepers(Modules) ->
     Loaded = [Module || {Module, _} <- code:all_loaded(), Module =/= ?MODULE, not is_tool(Module)],
-    Kinds = [calls_of_module(Module) || Module <- lists:usort(Modules ++ Loaded)],
-    length([Some || Some <- Kinds, [] =/= [Kind || Kind <- Some, lists:member(Kind, [bytes, tables, timers])]]).
+    [{Module, Kinds} || Module <- lists:usort(Modules ++ Loaded),
+                        [_ | _] = Kinds <- [[Kind || Kind <- calls_of_module(Module),
+                                                     lists:member(Kind, [bytes, tables, timers])]]].
 
 %% The number that the pids of another node have on this one.
 number(Other) ->
@@ -359,9 +919,10 @@ key(What) ->
         _ -> Text
     end.
 
-tables(Numbers, {Locks, Held}) ->
+tables(Modules, Numbers, {Locks, Held}) ->
+    Keepers = [io_lib:format("~0p~n", [Row]) || Row <- keepers(Modules)],
     [[io_lib:format("=~s ~b ~ts~n", [Word, length(Rows), node()]) | Rows]
-     || {Word, Rows} <- [{"numbers", Numbers}, {"locks", Locks}, {"mnesia", Held}]].
+     || {Word, Rows} <- [{"numbers", Numbers}, {"locks", Locks}, {"mnesia", Held}, {"keepers", Keepers}]].
 
 %% Sends the text of each process, how many are left out that aren't of the system, and how many are printed.
 tell(Caller, Tag, Others, Text, Taken, Tables) ->
@@ -372,12 +933,21 @@ tell(Caller, Tag, Others, Text, Taken, Tables) ->
     is_sent(Caller, Tag, [io_lib:format("=~s ~b ~ts~n", [Word, Number, node()]) || {Word, Number} <- Last]),
     Caller ! {Tag, done}.
 
-%% The code of the functions in which processes are, by module, if it is the one that is loaded.
+%% The code of the functions in which processes are, by module, if it is the one that is loaded, and that of all modules
+%% of the program, if these aren't too many, with the places at which processes are.
 codes(Calls) ->
-    Modules = lists:usort([Module || {_, Module, _, _} <- Calls, not is_of_otp(Module)]),
+    Own = [Module || {Module, _} <- code:all_loaded(), Module =/= ?MODULE, not is_of_otp(Module), not is_tool(Module)],
+    Named = lists:usort([Module || {_, Module, _, _} <- Calls, not is_of_otp(Module)]),
+    Whole = [Code || length(Own) =< ?MODULES, is_plain_log(), Code <- codes_of(Own, Calls)],
+    case length(Whole) =:= length(Own) of
+        true -> [{none, [Place || Place <- Calls, tuple_size(Place) =:= 3], <<>>} | Whole];
+        false -> codes_of(lists:sublist(Named, ?MODULES), Calls)
+    end.
+
+codes_of(Modules, Calls) ->
     [{Module, [{Word, Name, Arity} || {Word, Of, Name, Arity} <- Calls, Of =:= Module], Code}
-     || Module <- lists:sublist(Modules, ?MODULES), {_, Code, _} <- [code:get_object_code(Module)],
-        byte_size(Code) < ?BYTES, is_loaded(Module, Code), not erlang:check_old_code(Module)].
+     || Module <- Modules, {_, Code, _} <- [code:get_object_code(Module)], byte_size(Code) < ?BYTES,
+        is_loaded(Module, Code), not erlang:check_old_code(Module)].
 
 is_loaded(Module, Code) ->
     case beam_lib:md5(Code) of
@@ -396,7 +966,8 @@ is_sent(Caller, Tag, Text) ->
 %% read after all else at first, and before anything else later. If both are equal, the process has done nothing between.
 first(P) ->
     Info = info(P),
-    text(P, Info, "", settled(P, count(P), 9)).
+    Place = place_at(P, Info),
+    text(P, Info, Place, "", settled(P, count(P), 9)).
 
 %% The process answers before its reduction for that is added, so that one that still runs has it only later.
 settled(_, Count, 0) -> Count;
@@ -408,7 +979,8 @@ settled(P, Count, Tries) ->
 
 second(P, Counts) ->
     Count = maps:get(P, Counts, ""),
-    text(P, info(P), Count, "").
+    Info = info(P),
+    text(P, Info, place_at(P, Info), Count, "").
 
 count(P) ->
     case process_info(P, reductions) of
@@ -451,13 +1023,130 @@ is_loop({Module, Function, _}) ->
 
 is_short(Words, Memory) -> Words < ?WORDS andalso Words * min(Memory div 8, ?TERMS_OF_WORD) < ?TERMS.
 
-text(_, undefined, _, _) -> gone;
-text(P, Info, Before, After) ->
+text(_, undefined, _, _, _) -> gone;
+text(P, Info, Place, Before, After) ->
     Lines = [line(Key, lists:keyfind(Key, 1, Info), Info) || Key <- ?ITEMS],
-    More = io_lib:format("{references,~ts}~n{may_end,~ts}~n{closures,~p}~n{code,~0p}~n{strategies,~ts}~n~ts",
+    Number = number_of(Place),
+    More = io_lib:format("{references,~ts}~n{may_end,~ts}~n{closures,~p}~n{code,~0p}~n{strategies,~ts}~n~ts"
+                         "{place,~b}~n",
                          [list(references(Info)), list(may_end(Info)), closures(Info), code_of(Info),
-                          list(strategies(Info)), kept(Info)]),
-    {calls_of(Info), [io_lib:format("=process ~p ~ts~n", [P, node()]), Before, More, Lines, After]}.
+                          list(strategies(Info)), kept(Info), Number]),
+    {[{place, Number, Place} | named_of(Info)] ++ calls_of(Info),
+     [io_lib:format("=process ~p ~ts~n", [P, node()]), Before, More, Lines, After]}.
+
+%% Where a process is, for what it may do next: a server in its loop, with its limit if it has one, or the functions of
+%% the program that it is in, if its whole stack has no others between them and below them.
+place_of(Info) ->
+    {_, Stack} = lists:keyfind(current_stacktrace, 1, Info),
+    Frames = [{Module, Name, Arity} || {Module, Name, Arity, _} <- Stack],
+    case {Frames, start_of(Info)} of
+        {[{gen_server, loop, _} | _], [Module]} -> % (a server may have entered another one's loop)
+            case is_served_by(Module, Info) of
+                true -> {loop, Module, on_top(Info, "^y[(][0-9]+[)] +[0-9]+$")};
+                false -> none
+            end;
+        {[{gen_statem, loop_receive, _} | _], [Module]} ->
+            case on_stack(Info, "#{t0q=>\\[\\]}") of [_ | _] -> {statem, Module}; _ -> none end; % (it has no timer)
+        {_, Started} -> frames_of(Frames, Started, number_on_stack(Info, [<<"Program counter: ">>, <<"Return addr ">>]))
+    end.
+
+%% A number of a place. Thousands of processes may be at one place.
+number_of(Place) ->
+    Key = {?MODULE, place, Place},
+    case get(Key) of
+        undefined ->
+            put(Key, binary:decode_unsigned(binary:part(erlang:md5(term_to_binary(Place)), 0, 8))),
+            get(Key);
+        Known -> Known
+    end.
+
+%% One that may tell a process of the program what it prints is told apart. None is known of one whose end others hear
+%% of whom the text says nothing: who inherits its tables, or monitors it in the system.
+place_at(_, undefined) -> none;
+place_at(P, Info) -> untold(P, place_of(Info)).
+
+untold(P, {frames, []}) ->
+    case process_info(P, [monitored_by, initial_call]) of
+        [{_, []}, {_, {_, Name, _}}] when Name =/= sleep ->
+            case lists:member(P, leaving()) of true -> none; false -> {frames, []} end;
+        _ -> none
+    end;
+untold(P, {frames, _} = Place) ->
+    case process_info(P, group_leader) of
+        {_, Leader} -> case is_plain_leader(Leader) of true -> Place; false -> {told, Place} end;
+        undefined -> none
+    end;
+untold(_, Place) -> Place.
+
+%% Those whose tables have an heir.
+leaving() ->
+    Key = {?MODULE, leaving},
+    case get(Key) of
+        undefined -> put(Key, [ets:info(Table, owner) || Table <- ets:all(), is_pid(ets:info(Table, heir))]), get(Key);
+        Known -> Known
+    end.
+
+is_plain_leader(Leader) when node(Leader) =:= node() ->
+    Key = {?MODULE, leader, Leader},
+    case get(Key) of
+        undefined ->
+            Of = case process_info(Leader, current_function) of {_, {Module, _, _}} -> Module; _ -> none end,
+            put(Key, lists:member(Of, [application_master, group, user])), get(Key);
+        Known -> Known
+    end;
+is_plain_leader(_) -> false.
+
+%% Whether what the log runs for each of its events is Erlang's and Elixir's own.
+is_plain_log() ->
+    #{primary := Primary, handlers := Handlers} = logger:get_config(),
+    Filters = lists:append([maps:get(filters, Each, []) || Each <- [Primary | Handlers]]),
+    Formatters = [Module || #{formatter := {Module, _}} <- Handlers],
+    Own = [Module || {Module, _, _} <- funs_among(Filters)] ++ [Module || #{module := Module} <- Handlers],
+    lists:all(fun is_of_otp/1, Own ++ Formatters).
+
+frames_of(Frames, Started, Count) ->
+    Below = case lists:reverse(Frames) of
+        [{proc_lib, _, _} | Rest] when Started =/= [] -> lists:reverse(Rest);
+        _ -> Frames
+    end,
+    Own = lists:dropwhile(fun({Module, _, _}) -> is_known_of_otp(Module) end, Below),
+    IsWhole = Count =:= length(Frames) + 1
+        andalso not lists:any(fun({Module, _, _}) -> is_known_of_otp(Module) end, Own),
+    case IsWhole of true -> {frames, Own}; false -> none end.
+
+%% How often some words are on a stack.
+number_on_stack(Info, Words) ->
+    case lists:keyfind(backtrace, 1, Info) of
+        {_, Stack} -> length(binary:matches(Stack, Words));
+        false -> cut
+    end.
+
+%% The server of the code is asked once for each module.
+is_known_of_otp(Module) ->
+    Key = {?MODULE, otp, Module},
+    case get(Key) of
+        undefined -> put(Key, is_of_otp(Module)), get(Key);
+        Known -> Known
+    end.
+
+%% A server that has a name, as one that others may tell something by that.
+named_of(Info) ->
+    {_, Stack} = lists:keyfind(current_stacktrace, 1, Info),
+    case {lists:keyfind(registered_name, 1, Info), start_of(Info)} of
+        {{_, Name}, [Module]} when is_atom(Name), Stack =/= [] ->
+            case hd(Stack) of
+                {gen_server, loop, _, _} -> [{named, Name, {Module, loop}} || is_served_by(Module, Info)];
+                {gen, do_call, _, _} -> [{named, Name, {Module, calls}} || lists:keymember(gen_server, 1, tl(Stack))];
+                _ -> []
+            end;
+        _ -> []
+    end.
+
+%% Whether a server in its loop runs the module that it began in, as one that has entered the loop later need not.
+is_served_by(Module, Info) ->
+    Text = unicode:characters_to_binary(io_lib:format("~tp", [Module])),
+    on_top(Info, <<"^y[(][0-9]+[)] +", (re:replace(Text, "[.$]", "\\\\&", [global, {return, binary}]))/binary, "$">>)
+        =/= [].
 
 %% The function in which it is, and that from which it sleeps.
 calls_of(Info) ->
@@ -565,7 +1254,7 @@ calls(Module) ->
     Key = {?MODULE, Module},
     case get(Key) of
         undefined ->
-            put(Key, case is_of_otp(Module) of true -> {[], []}; false -> imports_of(Module) end),
+            put(Key, case is_known_of_otp(Module) of true -> {[], []}; false -> imports_of(Module) end),
             get(Key);
         Known -> Known
     end.
@@ -758,7 +1447,8 @@ characters(Stack) ->
 chosen(Modules, Apart) ->
     Own = [Module || Module <- Modules, not is_of_otp(Module)],
     {System, Others} = lists:partition(fun is_of_system/1, processes() -- Apart),
-    Found = [P || P <- System, is_of(Own, P)] ++ [P || P <- Others, is_of(?FOR_OTHERS ++ Modules, P)],
+    Found = [P || P <- System, is_of(Own, P) orelse is_beginning(P)]
+        ++ [P || P <- Others, is_of(?FOR_OTHERS ++ Modules, P)],
     Taken = with_callers(Found, Others -- Found),
     Left = length([P || P <- Others -- Taken, is_process_alive(P)]),
     {lists:sort(Taken), Left}.
@@ -779,8 +1469,15 @@ is_one_of(Applications, Module) ->
 is_below(Folder, Path) -> is_list(Folder) andalso lists:prefix(Folder ++ "/", Path).
 
 is_of_system(P) ->
-    P =< whereis(application_controller) orelse
+    P =< whereis(application_controller) orelse is_master(P) orelse
         lists:member(application:get_application(P), [{ok, Name} || Name <- ?SYSTEM]).
+
+%% Whether it is one of the two who have begun an application, and now only wait for its end.
+is_master(P) ->
+    case process_info(P, current_function) of
+        {_, {application_master, Function, _}} -> lists:member(Function, [main_loop, loop_it]);
+        _ -> false
+    end.
 
 %% Whether it began in one of the modules, is a server of one, or has a function of one on its stack.
 is_of(Modules, P) ->
@@ -791,6 +1488,15 @@ is_of(Modules, P) ->
             lists:any(fun(Module) -> lists:member(Module, Modules) end, Seen) orelse
                 not is_whole(Stack, Start) andalso is_short(Words, Memory) andalso is_on_stack(Modules, P)
     end.
+
+%% Whether it is the process that has begun the node, and still runs what its command line says.
+is_beginning(P) ->
+    P =< whereis(application_controller) andalso
+        case process_info(P, [initial_call, backtrace]) of
+            [{_, {erlang, apply, 2}}, {_, Stack}] ->
+                binary:match(Stack, [<<"(init:start_">>, <<"(erl_eval:">>]) =/= nomatch;
+            _ -> false
+        end.
 
 server(P, Memory) when Memory < ?MEMORY ->
     case process_info(P, dictionary) of

@@ -15,6 +15,7 @@ from ..moments import APART, PARTS, Reading
 from ..sketch import COMPLETE, LIMIT, REST, RUNS, SYSTEM, Process, Sketch, premise, runs, spoilt, unknown, waits_for_any
 from . import State
 from .base import Premise, Recorder
+from .erlang_acting import ALONE, GIVES_BACK, HARMLESS, besides_of, doubt_moving, look_at_acting
 from .erlang_calls import ANSWERS, LETS_GO, NO_MAIL, place_elsewhere, wait_of_call
 from .erlang_enders import add_enders, stoppers_of, two_of_each
 from .erlang_keepers import is_awake
@@ -59,6 +60,10 @@ class ErlangRecorder(Recorder):
                        "a lost connection of nodes"),
         TRANSACTIONS: Premise("a lock of Mnesia is free once each transaction that has it has ended, and not by an end "
                               "of Mnesia"),
+        ALONE: Premise("nobody who isn't in the state tells one that waits something, as from a shell or another node"),
+        HARMLESS: Premise("whoever only ticks, by all code that it may come to, and tells nobody more than what that "
+                          "notes down or answers at once, ends nobody's wait and doesn't fail"),
+        GIVES_BACK: Premise("whom a server monitors beside the callers that it keeps has what these wait for"),
         RESTARTS: Premise("a supervisor that restarts one child alone doesn't give up, as it does where children fail "
                           "again and again"),
         OWN_CHILD: Premise("a supervisor that starts or stops a child waits for that child alone"),
@@ -103,8 +108,9 @@ class ErlangRecorder(Recorder):
             if not all(keys.isdisjoint(block.items) for block in moment.rows()):
                 for block in moment.rows():
                     block.need(keys)
-        add_enders(moment)
         self.look_at_nodes(moment)
+        look_at_acting(moment)
+        add_enders(moment)
 
     def look_at_nodes(self, moment: Nodes) -> None:
         """Finds what holds for all calls of the nodes: what isn't seen of them, and the limits of receives."""
@@ -117,6 +123,7 @@ class ErlangRecorder(Recorder):
         moment.quiet = {(reading.source, name) for reading in nodes for name in reading.quiet}
         moment.locks = locks_of(nodes)
         moment.held, moment.wanted = (rows_of(nodes, moment, word) for word in ("has", "wants"))
+        moment.has_timers = {reading.source: has_timers(reading) for reading in nodes}
         places = map(place_elsewhere, nodes)
         moment.elsewhere = next(filter(None, places), "")
         moment.cut = {reading.source for reading in moment.readings if reading.extent == PARTS}
@@ -134,6 +141,7 @@ class ErlangRecorder(Recorder):
             for block in moment.rows():
                 names = moment.names(filter(None, moment.watched(block)))
                 groups[f"monitored:{moment.name(block)}"].update(dict.fromkeys(names))
+        doubt_moving(sketch, moments)
         there = {process.name for process in sketch.processes}
         polling = polling_names(moments)
         for process in sketch.processes:
@@ -150,10 +158,17 @@ class ErlangRecorder(Recorder):
         made = self.wait_of_block(subject, moment)
         if premise(LIMIT) in made.because:
             moment.limited[made.name] = made.frames[-1].split(" (")[0], made.count
+        if id(subject) in moment.quiet_ones and made.kind == RUNS:
+            made.proposal = "frees"
         if made.kind != RUNS:
             is_spared = (subject.node, subject.pid) in moment.spared
             made.because += [premise(OUTSIDE), *([premise(RESTARTS)] if is_spared else [])]
-        enders = [moment.name(it) for it in moment.enders[subject.node, subject.pid] if it is not subject]
+        found = [it for it in moment.enders[subject.node, subject.pid] if it is not subject]
+        acting = besides_of(found, moment)
+        enders = moment.names(acting)
+        if len(acting) < len(found) and made.kind != RUNS:
+            enders += moment.acting or []
+            made.because += [premise(ALONE), premise(HARMLESS)]
         if subject.node in moment.cut:
             enders.append(f"{self.labels[subject.node]}/{REST}")
         made.besides = list(dict.fromkeys([*made.besides, *enders]))
@@ -252,6 +267,12 @@ def child(block: Block, moment: Nodes, more: Dict[str, Any], pid: str, limit: st
     return waits_for_any(name, [moment.name(other)], [SYSTEM, premise(OWN_CHILD)], **more)
 
 
+def has_timers(reading: NodeReading) -> bool:
+    """Whether code of a node may begin timers that tell a reference, as far as the state says."""
+    timing = [module for module, kinds in reading.keepers.items() if "timers" in kinds]
+    return not timing or not set(timing) <= set(reading.ticks)
+
+
 def asked_by(block: Block, moment: Nodes) -> List[Block]:
     """Returns those to whose names it has sent before its receive, but for servers without a request."""
     names = moment.asks.get((block.node, *block.function), [])
@@ -291,4 +312,6 @@ def with_proposal(block: Block, moment: Nodes, more: Dict[str, Any]) -> Process:
         is_open = limits != ["infinity"] or block.is_stack_cut or "timers" in block.code()
         more["candidates"] += [COMPLETE] if is_open else []
     more["note"] = f"{more['operation']} in {block.frames()[0]}" if block.own else more["note"]
+    if receives and limits == ["infinity"] and len(block.frames()) > 1:
+        more.update(bound=moment.acting, bound_by=list(map(premise, [ALONE, HARMLESS])), at_rest=True)
     return unknown(moment.name(block), reason, **more)

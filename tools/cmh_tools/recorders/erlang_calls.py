@@ -6,6 +6,7 @@ from __future__ import annotations
 from typing import Any, Dict, List, Optional, Set, Tuple
 
 from ..sketch import LIMIT, SYSTEM, Process, premise, runs, unknown, waits_for_any
+from .erlang_acting import ALONE, GIVES_BACK, HARMLESS, has_owner
 from .erlang_keepers import who_may_answer
 from .erlang_nodes import Nodes
 from .erlang_text import Block, Call, Key, NodeReading, of_elixir
@@ -34,13 +35,20 @@ def place_elsewhere(reading: NodeReading) -> str:
         return "code of its node uses tables"
     if "keeps" not in reading.numbers:
         return "the state doesn't count what of its node begins timers or makes terms of bytes"
-    if reading.numbers["keeps"]:
+    if has_keepers(reading):
         return "code of its node uses tables, begins timers or makes terms of bytes"
     ports = [block.label for block in reading.rows if "#Port<" in (block.extra("links") or "")]
     if ports:
         return f"{ports[0]} has a port"
     registries = [block.label for block in reading.rows if block.start[0] == REGISTRY]
     return f"{registries[0]} keeps terms" if registries else ""
+
+
+def has_keepers(reading: NodeReading) -> bool:
+    """Whether code of a node may keep a term where no process has it. Timers that tell a constant keep none."""
+    if len(reading.keepers) != reading.numbers["keeps"]:
+        return reading.numbers["keeps"] > 0
+    return any(kinds != ["timers"] or module not in reading.ticks for module, kinds in reading.keepers.items())
 
 
 def keeps_elsewhere(server: Block, moment: Nodes, is_held: bool) -> str:
@@ -117,11 +125,15 @@ def wait_for_holders(block: Block, moment: Nodes, called: List[Block], more: Dic
         others = [it for it in having if it not in keepers]
         some = [who for it in keepers for who in who_may_answer(block, it, moment)]
         more["candidates"] = moment.names([*some, *others])
+        is_owed = any(has_owner(block, it, moment) for it in keepers)
+        more.update(bound=moment.acting, at_rest=not is_owed,
+                    bound_by=list(map(premise, [ALONE, HARMLESS, *([GIVES_BACK] if is_owed else [])])))
         return unknown(name, f"{moment.name(keepers[0])} keeps its call in its state, to answer it once something else "
                        "has come", **more)
     because = [SYSTEM, premise(ANSWERS), *([premise(LETS_GO)] if passed else [])]
     besides = [*moment.closures, *(other for it in passed for other in may_fail(it, moment))]
     fault = next(filter(None, (keeps_elsewhere(it, moment, bool(having)) for it in passed)), "")
     if fault:
+        more.update(bound=moment.acting, bound_by=list(map(premise, [ALONE, HARMLESS])), at_rest=True)
         return unknown(name, f"{moment.name(passed[0])} {fault}, so it isn't known who answers", **more)
     return waits_for_any(name, moment.names(having), because, is_open=True, besides=moment.names(besides), **more)

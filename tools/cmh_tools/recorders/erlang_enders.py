@@ -60,7 +60,7 @@ def add_enders(moment: Nodes) -> None:
         enders += stopping[block.node] if block in above else []
         enders += halting[block.node]
     moment.spared = {(block.node, block.pid) for block in above if is_spared(block, above, below)}
-    for block in moment.rows():
+    for block in (it for it in moment.rows() if id(it) not in moment.quiet_ones):
         for whom in filter(None, [moment.find((block.node, pid)) for pid in block.may_end()]):
             moment.enders[whom.node, whom.pid].append(block)
 
@@ -68,9 +68,11 @@ def add_enders(moment: Nodes) -> None:
 def by_code(moment: Nodes, word: str) -> DefaultDict[str, List[Block]]:
     """Those whose code has a word, by the node on which they may do so: their own, or any if it is `far`."""
     found: DefaultDict[str, List[Block]] = defaultdict(list)
-    far = two_of_each_fate([block for block in moment.rows() if {word, "far"} <= {*block.code()}])
+    far = two_of_each_fate([block for block in moment.rows() if {word, "far"} <= {*block.code()}
+                            and id(block) not in moment.quiet_ones])
     for reading in moment.readings:
-        own = two_of_each_fate([block for block in reading.rows if word in block.code()])
+        own = two_of_each_fate([block for block in reading.rows if word in block.code()
+                                and id(block) not in moment.quiet_ones])
         found[reading.source] = own + [it for it in far if it.node != reading.source]
     return found
 

@@ -43,6 +43,26 @@ def pids_in(group: Group, calls: Set[str]) -> Set[str]:
     return found
 
 
+def pids_beside(group: Group, calls: Set[str]) -> Set[str]:
+    """Returns the pids in a group without all those of callers who wait there, also as the keys of their calls."""
+    left: List[Group] = [group]
+    found: Set[str] = set()
+    while left:
+        some = left.pop()
+        if not is_waiting(some, calls):
+            found.update(it for it, after in zip(some, [*some[1:], ""]) if is_pid(it) and not (
+                isinstance(after, list) and it in callers_in(after, calls)))
+            left += [it for it in some if isinstance(it, list)]
+    return found
+
+
+def callers_in(group: Group, calls: Set[str]) -> Set[str]:
+    """Returns the pids of the callers who wait in a group."""
+    inside = [it for it in group if isinstance(it, list)]
+    own = {group[1]} if is_caller(group, calls) else set()
+    return own.union(*(callers_in(it, calls) for it in inside))
+
+
 def is_waiting(group: Group, calls: Set[str]) -> bool:
     """Whether a group is a caller that waits, perhaps with a reference of its monitor, and with its pid once more."""
     pids = {*filter(is_pid, group)}
@@ -81,10 +101,18 @@ def who_may_answer(block: Block, server: Block, moment: Nodes) -> List[Block]:
         if found:
             return found
     pids = [pid for group in around[1:2] for pid in pids_in(group, {*callers})]
-    pids += ANY_PID.findall(server.items.get("links", "")) if around else []
+    pids += besides_parents(server, moment) if around else []
     limited = [it for it in callers.values() if it.call and it.call.limit != "infinity"]
     watched = [it for it in moment.watched(server) if it is not None and is_awake(it)]
     return [it for it in dict.fromkeys([*awake(pids, server, moment), *watched]) if it not in limited]
+
+
+def besides_parents(server: Block, moment: Nodes) -> List[str]:
+    """Returns the pids to which a server is linked, without those that began it, if it is linked to others."""
+    linked = {pid: moment.find((server.node, pid)) for pid in ANY_PID.findall(server.items.get("links", ""))}
+    above = server.ancestors()
+    others = [pid for pid, it in linked.items() if it is not None and not {pid, it.role}.intersection(above)]
+    return others if others or server.monitored else [*linked]
 
 
 def awake(pids: Iterable[str], server: Block, moment: Nodes) -> List[Block]:

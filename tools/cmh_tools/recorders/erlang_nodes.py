@@ -15,7 +15,10 @@ class Nodes(Moment):
     reference; the receives in a function, by its node and its name, and whom it has asked before; the functions from
     which those sleep who end nobody's wait, by their node; where a reference may be that no process has, in words, or
     nothing; the nodes whose states aren't whole; nodes, by another one and the number that they have there; the locks
-    of a node, by it and by what is locked; and who has locks of Mnesia, or wants one."""
+    of a node, by it and by what is locked; who has locks of Mnesia, or wants one; on which
+    nodes code begins timers that may tell a reference; what the code says of each place, by the node and the number of
+    that, and for which requests a server monitors somebody, by its node and module; the ids of those who do what nobody
+    heeds, and of those who do nothing before others do; and the names of all others, or None."""
 
     by_key: Dict[Key, Block]
     has_tail: Dict[str, List[Block]]
@@ -34,6 +37,12 @@ class Nodes(Moment):
     locks: Dict[Tuple[str, str], Tuple[str, str]]
     held: List[Any]
     wanted: List[Any]
+    has_timers: Dict[str, bool]
+    words: Dict[Tuple[str, str], List[str]]
+    grants: Dict[Tuple[str, str], List[str]]
+    quiet_ones: Set[int]
+    reacting: Set[int]
+    acting: Optional[List[str]]
 
     def find(self, key: Key) -> Optional[Block]:
         """Returns a process by what another one knows it by: a pid of another node begins with the number of that."""

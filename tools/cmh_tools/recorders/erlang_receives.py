@@ -42,11 +42,16 @@ def wait_for_reference(block: Block, moment: Nodes, receive: Receives, more: Dic
         more.update(objects=[*moment.names(watched), found[1]], note=note)
         return waits_for_any(name, moment.names(watched), [SYSTEM, premise(DOWNS)], **more)
     having = holders(block, moment, {found[2]})
-    if not having or moment.elsewhere or "timers" in block.code():
+    if not having or moment.elsewhere or begins_timers(block, moment):
         return None
     more.update(objects=[*moment.names(having), found[1]], note=note)
     return waits_for_any(name, moment.names(having), [SYSTEM, premise(ANSWERS)], is_open=True,
                          besides=moment.names([*watched, *moment.closures]), **more)
+
+
+def begins_timers(block: Block, moment: Nodes) -> bool:
+    """Whether its code begins timers that may tell it a reference."""
+    return "timers" in block.code() and moment.has_timers[block.node]
 
 
 def wait_for_stop(block: Block, moment: Nodes, more: Dict[str, Any]) -> Process:

@@ -39,14 +39,19 @@ OF_SYSTEM = re.compile(r"gen(_server|_statem|_event|_tcp|_udp)?|global|erpc|inet
                        r"Agent|DynamicSupervisor|Enum|GenServer|Process|Registry|Stream|Supervisor|Task)(\.\w+)*'")
 LOOPS = re.compile(r"(gen_server:loop|gen_statem:loop_(receive|hibernate)|gen_event:fetch_msg|proc_lib:hibernate"
                    r"|proc_lib:wake_up|erlang:hibernate)/")
-FIRST = re.compile("=(process|asks|keeps|left out|locks|mnesia|nodes|numbers|quiet|receives|tables|timers|end) ")
+FIRST = re.compile("=(process|asks|grants|keepers|keeps|left out|locks|mnesia|nodes|numbers|outside|places|quiet|"
+                   "receives|tables|ticks|timers|end) ")
 MARK = re.compile(rf"\n{FIRST.pattern}")
 # The rows below lines of some words: the receives of a function, and whom it has sent to before; the number of another
-# node; who has a lock, or wants one of Mnesia.
+# node; who has a lock, or wants one of Mnesia; and what code may do: at the places of processes, and of each module.
 RECEIVES = re.compile(r"{(\w+|'[^']*'),(\w+|'[^']*'),(\d+),\[([\w,]*)\](?:,(\d+)((?:,\w+)*))?}")
 ASKS = re.compile(r"{(\w+|'[^']*'),(\w+|'[^']*'),(\d+),\[(.*)\]}")
 QUIET = re.compile(r"{(\w+|'[^']*'),(\w+|'[^']*'),(\d+)}")
-ROWS = {"receives": RECEIVES, "asks": ASKS, "quiet": QUIET, "numbers": re.compile(r"(\d+) (\S+)"),
+MODULE, WORDS = r"{(\w+|'[^']*')", r",\[([\w,]*)\]}"
+ROWS = {"receives": RECEIVES, "asks": ASKS, "quiet": QUIET, "ticks": re.compile(f"{MODULE}}}"),
+        "outside": re.compile(f"{MODULE}}}"), "keepers": re.compile(MODULE + WORDS),
+        "grants": re.compile(MODULE + r",'?([\w/+]+)'?}"), "places": re.compile(r"{(\d+)" + WORDS),
+        "numbers": re.compile(r"(\d+) (\S+)"),
         "locks": re.compile(r"{(.*),\[((?:{<[\d.]+>,#Ref<[\d.]+>},?)+)\]}"),
         "mnesia": re.compile(r"{(?P<word>has|wants),{(?P<what>.*)},(?P<kind>\w+),"
                               r"(?P<pid><[\d.]+>)(?:,(?P<owner><[\d.]+>))?}")}
@@ -356,6 +361,11 @@ class NodeReading(Reading):
         self.mnesia: List[re.Match[str]] = []
         self.asks: Dict[Tuple[str, ...], List[str]] = {}
         self.quiet: List[str] = []
+        self.places: Dict[str, List[str]] = {}
+        self.outside: List[str] = []
+        self.ticks: List[str] = []
+        self.grants: Dict[str, List[str]] = {}
+        self.keepers: Dict[str, List[str]] = {}
 
     @property
     def is_closed(self) -> bool:
@@ -382,6 +392,20 @@ class NodeReading(Reading):
             self.quiet += [function_name(*row.group(1, 2, 3)) for row in found]
         elif word == "mnesia":
             self.mnesia += found
+        else:
+            self.count_code(word, found)
+
+    def count_code(self, word: str, rows: List[re.Match[str]]) -> None:
+        """Takes what the code of the node may do: at the places of its processes, and by its modules."""
+        if word == "places":
+            self.places.update({row[1]: words_of(row[2]) for row in rows})
+        elif word == "keepers":
+            self.keepers.update({row[1]: words_of(row[2]) for row in rows})
+        elif word == "grants":
+            self.grants.update({row[1]: row[2].split("+") for row in rows})
+        elif word in ("outside", "ticks"):
+            found = self.outside if word == "outside" else self.ticks
+            found += [row[1] for row in rows]
 
     def close(self) -> None:
         """Says what the text lacks."""

@@ -1,0 +1,116 @@
+"""Erlang: who may do something next, of all who are there. Others wait for a message, or do what nobody heeds, as one
+that writes to a log each second. So whoever waits for one of all who are there waits for these alone.
+"""
+from __future__ import annotations
+
+import re
+from typing import Iterable, List, Optional
+
+from ..sketch import Sketch, premise
+from .erlang_keepers import groups_around, kept_callers, pids_beside
+from .erlang_nodes import Nodes
+from .erlang_text import Block, NodeReading
+
+ALONE, HARMLESS, GIVES_BACK = "alone", "harmless", "gives back"
+MOST = 500  # of those who may do something, or else a list is too long
+SLEEPS = ("timer:sleep", "Process.sleep")
+PORT = re.compile(r"#Port<|{port,")
+# Servers of Erlang's and Elixir's own that do nothing by themselves.
+OF_LIBRARY = ("supervisor", "'Elixir.Agent.Server'", "'Elixir.DynamicSupervisor'", "'Elixir.Registry.Partition'",
+              "'Elixir.Task.Supervisor'")
+
+
+def look_at_acting(moment: Nodes) -> None:
+    """Finds who may do something next, or that more may than are there: whom the state may lack, or a timer, a socket
+    or news of a node that tells somebody something."""
+    nodes = [reading for reading in moment.readings if isinstance(reading, NodeReading)]
+    moment.words = {(reading.source, number): words for reading in nodes for number, words in reading.places.items()}
+    moment.grants = {(reading.source, module): tags for reading in nodes for module, tags in reading.grants.items()}
+    is_known = all(reading.places and not reading.outside and not reading.missing for reading in nodes)
+    watched = {id(it) for block in moment.rows() for it in moment.watched(block)}
+    moment.quiet_ones = {id(it) for it in moment.rows() if is_known and id(it) not in watched and (
+        is_harmless(it, moment) or ends_quietly(it, moment))}
+    moment.reacting = {id(it) for it in moment.rows() if is_known and is_reacting(it, moment)}
+    found = [moment.name(it) for it in moment.rows() if id(it) not in moment.quiet_ones | moment.reacting]
+    moment.acting = found if is_known and len(found) <= MOST else None
+
+
+def words_of_place(block: Block, moment: Nodes) -> Optional[List[str]]:
+    """What the code says of the place at which a process is, or None."""
+    return moment.words.get((block.node, block.extra("place") or ""))
+
+
+def is_harmless(block: Block, moment: Nodes) -> bool:
+    """Whether a process goes on for ever, and tells nobody anything to which that does anything."""
+    return not block.fault and block.call is None and "mute" in (words_of_place(block, moment) or [])
+
+
+def ends_quietly(block: Block, moment: Nodes) -> bool:
+    """Whether one sleeps as the last thing that it does, and for ever, or nobody takes notice of its end: no
+    supervisor, which would begin it anew, or end with it."""
+    words = words_of_place(block, moment)
+    if len(block.stack) != 1 or block.top() not in SLEEPS or words is None:
+        return False
+    links = re.findall(r"<[\d.]+>|#Port<[\d.]+>", block.items.get("links", ""))
+    found = [moment.find((block.node, pid)) for pid in links]
+    return "stays" in words or all(it is not None and not it.is_supervisor() and it.extra("trap_exit") == "false"
+                                   for it in found)
+
+
+def is_reacting(block: Block, moment: Nodes) -> bool:
+    """Whether a process does nothing before another one sends it a message: nor a timer, nor a port."""
+    is_calm = not (block.fault or block.is_cut or PORT.search(block.items.get("links", "") + block.item("monitors")))
+    if not is_calm or block.extra("status") != "waiting" or block.lock or block.call is not None:
+        return False
+    words = words_of_place(block, moment)
+    if block.is_loop():
+        is_own = block.start[0] not in OF_LIBRARY
+        return block.messages == "[]" and not ("timers" in block.code() and not is_own) and (
+            not is_own or words is not None and "wakes" not in words)
+    receives = moment.receives.get((block.node, *block.function))
+    is_plain = receives is not None and receives.limits == ["infinity"] and not block.is_in_library()
+    return is_plain and words is not None and "wakes" not in words
+
+
+def besides_of(enders: Iterable[Block], moment: Nodes) -> List[Block]:
+    """Returns those who may end a process, without those who do nothing before another one does something."""
+    return [it for it in enders if moment.acting is None or id(it) not in moment.reacting]
+
+
+def doubt_moving(sketch: Sketch, moments: List[Nodes]) -> None:
+    """Leaves those unknown who wait for one of all who may do something, where others do something too: two who both
+    have had messages meanwhile may be at work on more than what ticks tell them."""
+    rows = [{(it.node, it.pid, it.start): it for it in moment.rows()} for moment in moments]
+    first, last = rows[0], rows[-1]
+    grown = [it for key, it in first.items() if id(it) in moments[0].reacting and key in last
+             and it.count != last[key].count and "deaf" not in (words_of_place(it, moments[0]) or [])]
+    if first.keys() == last.keys() and len(grown) <= 1:
+        return
+    for process in sketch.processes:
+        process.bound = None
+        if premise(ALONE) in process.because:
+            process.become_unknown("others who wait for messages have had some meanwhile, and may end its wait")
+
+
+def request_of(block: Block) -> str:
+    """The request of a call as TAG/SIZE, where a lone word has the size 0."""
+    text = block.call.request if block.call else ""
+    tag, depth, size = re.match(r"{?'?([\w.]+)'?(?=[,}]|$)", text), 0, 1
+    for sign in re.findall(r"\"(?:\\.|[^\"\\])*\"|'(?:\\.|[^'\\])*'|<<|>>|[{}\[\](),]", text):
+        depth += (sign in "{[(<<") - (sign in ")]}>>")
+        size += sign == "," and depth == 1
+    return f"{tag[1]}/{size if text.startswith('{') else 0}" if tag else ""
+
+
+def has_owner(block: Block, server: Block, moment: Nodes) -> bool:
+    """Whether a server that keeps a call knows others beside it, and monitors them, as it does for such a call: as the
+    owner of a lock. One that has it and waits for a message, as a leader for requests, may keep it for ever."""
+    if request_of(block) not in moment.grants.get((server.node, server.start[0]), []):
+        return False
+    callers = {*kept_callers(server, moment)}
+    for group in reversed(groups_around(server.extra("kept") or "", set(block.awaited))[1:]):
+        keys = [(server.node, pid) for pid in pids_beside(group, callers)]
+        owners = [moment.find(key) for key in keys if key in server.monitored]
+        if owners:
+            return all(it is not None and id(it) not in moment.reacting | moment.quiet_ones for it in owners)
+    return False
